@@ -1,0 +1,68 @@
+-- The one spelling of each item.
+use Rattle.std.specs.Prelude.{ℕ, ◌+◌, ◌*◌, ◌<◌, ◌^◌, List, [], ◌∷◌, ◌++◌, length}
+use Rattle.std.specs.List.{flat_map, All}
+use Rattle.page_fields.specs.Fields.{number_bytes}
+use Rattle.volume_model.specs.declared.lists.SlotRun.{SlotRun}
+use Rattle.descriptors.specs.declared.item.Item.{Item}
+use Rattle.descriptors.specs.declared.item.Item.TheVariants.{Rle, Xattr, Flags, InternalXattr, Unknown}
+
+abbrev pub run_bytes : SlotRun → List ℕ
+run_bytes r = number_bytes 4 r.cluster ++ number_bytes 4 r.length
+
+unfoldable pub pair_bytes : List ℕ → List ℕ → List ℕ
+pair_bytes name value = number_bytes 2 (length name) ++ (number_bytes 2 (length value) ++ (name ++ value))
+
+unfoldable pub flags_bytes : ℕ → ℕ → ℕ → List ℕ
+flags_bytes invalid data_ro md_ro = number_bytes 8 invalid ++ (number_bytes 8 data_ro ++ number_bytes 8 md_ro)
+
+abbrev pub kind_of : Item → ℕ
+kind_of (Rle runs) = 1
+kind_of (Xattr key value) = 2
+kind_of (Flags invalid data_ro md_ro) = 3
+kind_of (InternalXattr key value) = 4
+kind_of (Unknown kind) = kind
+
+-- the bytes after the head; those of an unknown type aren't known
+abbrev pub body_of : Item → List ℕ
+body_of (Rle runs) = flat_map run_bytes runs
+body_of (Xattr key value) = pair_bytes key value
+body_of (Flags invalid data_ro md_ro) = flags_bytes invalid data_ro md_ro
+body_of (InternalXattr key value) = pair_bytes key value
+body_of (Unknown kind) = []
+
+-- a head and its bytes
+abbrev pub framed : ℕ → List ℕ → List ℕ
+framed kind body = kind ∷ (number_bytes 4 (length body) ++ body)
+
+abbrev pub item_bytes : Item → List ℕ
+item_bytes item = framed (kind_of item) (body_of item)
+
+-- how many bytes it takes
+abbrev pub item_size : Item → ℕ
+item_size (Rle runs) = 5 + 8 * length runs
+item_size (Xattr key value) = 9 + length key + length value
+item_size (Flags invalid data_ro md_ro) = 29
+item_size (InternalXattr key value) = 9 + length key + length value
+item_size (Unknown kind) = 5
+
+abbrev pub spelling : List Item → List ℕ
+spelling items = flat_map item_bytes items
+
+-- The numbers are of the program's widths.
+abbrev pub RunFits : SlotRun → Type 0
+RunFits r = (r.cluster < 2 ^ 32) × (r.length < 2 ^ 32)
+
+abbrev pub ItemFits : Item → Type 0
+ItemFits (Rle runs) = All RunFits runs
+ItemFits (Xattr key value) = Unit {0}
+ItemFits (Flags invalid data_ro md_ro) = (invalid < 2 ^ 64) × (data_ro < 2 ^ 64) × (md_ro < 2 ^ 64)
+ItemFits (InternalXattr key value) = Unit {0}
+ItemFits (Unknown kind) = kind < 256
+
+-- what can be written
+abbrev pub IsWritable : Item → Type 0
+IsWritable (Rle runs) = 0 < length runs
+IsWritable (Xattr key value) = (length key < 2 ^ 16) × (length value < 2 ^ 16)
+IsWritable (Flags invalid data_ro md_ro) = Unit {0}
+IsWritable (InternalXattr key value) = (length key < 2 ^ 16) × (length value < 2 ^ 16)
+IsWritable (Unknown kind) = ⊥
