@@ -1,13 +1,17 @@
 //! Plain values that all layers of the store speak of.
 #![tactic(auto)]
 
+mod command;
 mod copy;
 mod lists;
 mod name;
+mod reply;
 mod text;
 
+pub use command::{Command, PageWord, VolumeRef};
 pub use copy::TryCopy;
 pub use lists::{ListOf, NumberList, Pair, PairList, PlaceList, RunList, SlotList, SlotRun};
 pub use name::Name;
 pub use out_of_memory::Memory;
+pub use reply::{Df, Entry, EntryList, Info, InfoList, Msg, MsgList, Reply};
 pub use text::{Blobtext, Xattr, XattrList};
