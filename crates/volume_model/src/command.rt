@@ -45,7 +45,10 @@ pub enum Command {
         word: PageWord,
     },
     /// Reads a page.
-    Read { volume: VolumeRef, page: u64 },
+    Read {
+        volume: VolumeRef,
+        page: u64,
+    },
     /// Makes what was answered before survive a crash.
     Flush,
     /// Sets an extended attribute, which is on disk only after a sync.
@@ -55,9 +58,15 @@ pub enum Command {
         value: Blobtext,
     },
     /// Removes an extended attribute; the removal is on disk only after a sync.
-    DelX { volume: VolumeRef, key: Blobtext },
+    DelX {
+        volume: VolumeRef,
+        key: Blobtext,
+    },
     /// Tells the value of an extended attribute.
-    GetX { volume: VolumeRef, key: Blobtext },
+    GetX {
+        volume: VolumeRef,
+        key: Blobtext,
+    },
     /// Sets an extended attribute and syncs.
     Put {
         volume: VolumeRef,
@@ -65,25 +74,49 @@ pub enum Command {
         value: Blobtext,
     },
     /// Brings the extended attributes to the disk.
-    Sync { volume: VolumeRef },
+    Sync {
+        volume: VolumeRef,
+    },
     /// Cuts the volume to so many slots, or adds slots.
-    Resize { volume: VolumeRef, slots: u64 },
+    Resize {
+        volume: VolumeRef,
+        slots: u64,
+    },
     /// Keeps the volume's present pages as a read-only volume of this name, its parent from then on.
-    Snapshot { volume: VolumeRef, name: Name },
+    Snapshot {
+        volume: VolumeRef,
+        name: Name,
+    },
     /// Makes a writable volume over a read-only one.
-    Clone { volume: VolumeRef, name: Name },
+    Clone {
+        volume: VolumeRef,
+        name: Name,
+    },
     /// Fills every empty slot, so that the volume needs no parent.
-    Inflate { volume: VolumeRef },
+    Inflate {
+        volume: VolumeRef,
+    },
     /// Takes over what the parent itself holds, so that the parent's parent serves in its place.
-    Decouple { volume: VolumeRef },
+    Decouple {
+        volume: VolumeRef,
+    },
     /// Removes the volume; a clone of it takes its clusters and its parent.
-    Delete { volume: VolumeRef },
+    Delete {
+        volume: VolumeRef,
+    },
     /// Gives the volume another name.
-    Rename { volume: VolumeRef, name: Name },
+    Rename {
+        volume: VolumeRef,
+        name: Name,
+    },
     /// Makes the volume read-only for good.
-    ReadOnly { volume: VolumeRef },
+    ReadOnly {
+        volume: VolumeRef,
+    },
     /// Tells what is known of the volume.
-    Info { volume: VolumeRef },
+    Info {
+        volume: VolumeRef,
+    },
     /// Tells what is known of every volume.
     List,
     /// Tells how many clusters and metadata pages are free.

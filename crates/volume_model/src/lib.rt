@@ -6,6 +6,7 @@ mod copy;
 mod lists;
 mod name;
 mod reply;
+mod script;
 mod text;
 
 pub use command::{Command, PageWord, VolumeRef};
@@ -14,4 +15,5 @@ pub use lists::{ListOf, NumberList, Pair, PairList, PlaceList, RunList, SlotList
 pub use name::Name;
 pub use out_of_memory::Memory;
 pub use reply::{Df, Entry, EntryList, Info, InfoList, Msg, MsgList, Reply};
+pub use script::Script;
 pub use text::{Blobtext, Xattr, XattrList};
