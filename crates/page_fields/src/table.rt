@@ -11,22 +11,11 @@
 ///
 /// `fields!(read TYPE page; ..)` is a `TYPE` with the value of each row, and `fields!(read TYPE page, more; ..)` also has
 /// the variable `more` as its field `more`. `fields!(write value page; ..)` writes the rows of `value` in their order.
-/// `fields!(rows; ..)` is the array of the rows' places and lengths, and `fields!(tiles; ..)` tells whether they follow
-/// one another from byte 0 to byte 4096.
+/// `fields!(rows; ..)` is the array of the rows' places and lengths, of which the law `tiling` speaks.
 #[macro_export]
 macro_rules! fields {
     (rows; $($name:ident $kind:ident $at:literal $len:literal),* $(,)?) => {
         [$(($at, $len)),*]
-    };
-
-    (tiles; $($rows:tt)*) => {
-        $crate::fields!(@tiles 0; $($rows)*)
-    };
-    (@tiles $from:expr;) => {
-        $from == 4096
-    };
-    (@tiles $from:expr; $name:ident $kind:ident $at:literal $len:literal $(, $($rows:tt)*)?) => {
-        $at == $from && $crate::fields!(@tiles $at + $len; $($($rows)*)?)
     };
 
     (read $type:ident $page:ident $(, $more:ident)*; $($rows:tt)*) => {
