@@ -1,3 +1,9 @@
 pub mod Names
 pub mod Copies
 pub mod Scripts
+pub mod Uuids
+pub mod Xattrs
+pub mod Volumes
+pub mod Refusals
+pub mod Steps
+pub mod Logs

@@ -3,11 +3,13 @@
 
 mod command;
 mod copy;
+pub mod laws;
 mod lists;
 mod name;
 mod reply;
 mod script;
 mod text;
+mod uuids;
 
 pub use command::{Command, PageWord, VolumeRef};
 pub use copy::TryCopy;
@@ -17,3 +19,4 @@ pub use out_of_memory::Memory;
 pub use reply::{Df, Entry, EntryList, Info, InfoList, Msg, MsgList, Reply};
 pub use script::Script;
 pub use text::{Blobtext, Xattr, XattrList};
+pub use uuids::uuid_for;
