@@ -1,22 +1,60 @@
-// The disk in memory is a disk.
-ghost use Rattle.std.specs.Prelude.{◌≡◌, ◌≤◌, ◌<◌, true, length, ℕ, IfOk, ◌↔◌, []};
-ghost use Rattle.page_disk.specs.Record.{base_image, read_after, LeavesFrom, LeftSince, zeros};
-ghost use Rattle.page_disk.specs.Disk.{Image, Only};
-ghost use Rattle.page_disk.specs.Recorded.{reads_one, since_end, counts_end};
+// A disk in memory: the pages with which it began, and a record of every write and flush since.
+ghost use Rattle.std.specs.Prelude.{◌≡◌, ◌≤◌, ◌<◌, ◌+◌, ◌++◌, ◌∷◌, true, length, ℕ, IfOk, IsOk, OnOk, OnErr, ◌↔◌, []};
+ghost use Rattle.std.specs.HashMap.{spare};
+ghost use Rattle.page_disk.specs.Record.{base_image, read_after, image_of, images_of, since_of, zeros, IsIndex, IsWrite, content_of};
+ghost use Rattle.page_disk.specs.Disk.{Only, Wrote, HasCause, RoseByOne, last_count};
+ghost use Rattle.page_disk.specs.declared.record.Call.TheVariants.{Write, Flush};
+ghost use Rattle.page_disk.specs.RecordLaws.{reads_one, since_end, counts_end};
 
-use crate::memory::{Call, MemDisk, Saved};
+use crate::record::Call;
 use crate::{DiskFault, Memory, Page, PageDisk, WriteKind};
-use std::alloc::{AllocError, Global};
+use std::alloc::Global;
+use std::collections::HashMap;
+use std::marker::Model;
+
+/// A disk in memory, which tells all: it keeps the image with which it began, and a record of every write and flush since.
+/// A page that was in neither reads as zeros. It has room for a number of writes and flushes, which it reserves when it
+/// is made; each one after these fails, and nothing else does.
+#[derive(Drop)]
+pub struct MemDisk {
+    pub(crate) alloc: Global,
+    pub(crate) pages: u64,
+    pub(crate) room: u32,
+    /// The pages of the image with which it began that were ever written.
+    pub(crate) base: HashMap<u64, Page>,
+    pub(crate) calls: Vec<Call>,
+    /// For each page in the record the place of its last write there.
+    newest: HashMap<u64, usize>,
+    read_faults: u64,
+    write_faults: u64,
+    reads: u64,
+}
+
+impl Model for MemDisk {
+    ghost use Rattle.std.specs.Prelude.{◌≤◌, ◌+◌, vec_len, vec_capacity};
+    ghost use Rattle.std.specs.HashMap.{spare};
+    ghost use Rattle.page_disk.specs.Record.{Recorded, IsIndex};
+
+    ghost Value = { Recorded };
+
+    ghost view = { λ m. record { pages = m.pages; room = m.room; base = m.base.entries; calls = m.calls.items; read_faults = m.read_faults; write_faults = m.write_faults; reads = m.reads } };
+
+    ghost invariant = { λ m. record {
+      within : vec_len m.calls ≤ m.room;
+      reserved : m.room ≤ vec_capacity m.calls;
+      spare_places : m.room ≤ vec_len m.calls + spare m.newest;
+      newest : IsIndex m.calls.items m.newest.entries;
+    } };
+}
 
 impl MemDisk {
-    /// A disk of zeros, with room for so many writes and flushes.
+    /// A disk of so many pages, all zeros, with room for so many writes and flushes.
     pub fn new(alloc: Global, pages: u64, room: u32) -> Result<MemDisk, Memory>
-        ensures pages { IfOk result (λ d. ⟦<MemDisk as PageDisk>⟧.pages d ≡ pages) }
-        ensures zeros { IfOk result (λ d. (p : ℕ) → ⟦<MemDisk as PageDisk>⟧.now d p ≡ zeros) }
-        ensures one { IfOk result (λ d. Only (⟦<MemDisk as PageDisk>⟧.now d) (⟦<MemDisk as PageDisk>⟧.images d)) }
-        ensures faults { IfOk result (λ d. (⟦<MemDisk as PageDisk>⟧.read_faults d ≡ 0) × (⟦<MemDisk as PageDisk>⟧.write_faults d ≡ 0)) }
+        ensures begun { IfOk result (λ d. d ≡ record { pages = pages; room = room; base = []; calls = []; read_faults = 0; write_faults = 0; reads = 0 }) }
+        ensures zeros { IfOk result (λ d. (p : ℕ) → image_of d p ≡ zeros) }
+        ensures one { IfOk result (λ d. Only (image_of d) (images_of d)) }
     {
-        let disk = MemDisk::over(alloc, pages, room, Vec::new(alloc))?;
+        let disk = MemDisk::over(alloc, pages, room, HashMap::new(alloc))?;
         Ok(disk)
     }
 
@@ -25,37 +63,55 @@ impl MemDisk {
         alloc: Global,
         pages: u64,
         room: u32,
-        base: Vec<Saved>,
-    ) -> Result<MemDisk, AllocError>
-        ensures pages { IfOk result (λ d. d.pages ≡ pages) }
-        ensures base { IfOk result (λ d. d.base.items ≡ base.items) }
-        ensures calls { IfOk result (λ d. d.calls.items ≡ []) }
-        ensures faults { IfOk result (λ d. (d.read_faults ≡ 0) × (d.write_faults ≡ 0)) }
+        base: HashMap<u64, Page>,
+    ) -> Result<MemDisk, Memory>
+        ensures { IfOk result (λ d. d ≡ record { pages = pages; room = room; base = base.entries; calls = []; read_faults = 0; write_faults = 0; reads = 0 }) }
     {
         let calls = Vec::with_capacity(alloc, room as usize)?;
+        let newest = HashMap::with_capacity(alloc, room as usize)?;
         Ok(MemDisk {
             alloc,
             pages,
             room,
             base,
             calls,
+            newest,
             read_faults: 0,
             write_faults: 0,
             reads: 0,
         })
+    }
+
+    /// Records the call, where there is room.
+    fn keep(&mut self, call: Call) -> Result<(), DiskFault>
+        ensures room { IsOk result ↔ (length self.old.calls < self.old.room) }
+        ensures kept { OnOk result (self.new ≡ record self.old { calls = self.old.calls ++ call ∷ [] }) }
+        ensures refused { OnErr result (self.new ≡ record self.old { write_faults = self.new.write_faults }) }
+        ensures counted { OnErr result (RoseByOne self.old.write_faults self.new.write_faults) }
+        ensures few { length self.old.calls < last_count }
+    {
+        if self.calls.len() >= self.room as usize {
+            self.write_faults = self.write_faults.saturating_add(1);
+            return Err(DiskFault);
+        }
+        note(&self.calls, &mut self.newest, &call);
+        if self.calls.push(call).is_err() {
+            unreachable!()
+        }
+        Ok(())
     }
 }
 
 impl PageDisk for MemDisk {
     ghost tells = { true };
 
-    ghost now = { λ m. read_after (base_image m.base.items) m.calls.items };
+    ghost now = { image_of };
 
-    ghost images = { λ m c. LeavesFrom (base_image m.base.items) m.calls.items c };
+    ghost images = { images_of };
 
-    ghost since = { λ m t c. LeftSince (base_image m.base.items) m.calls.items t c };
+    ghost since = { since_of };
 
-    ghost clock = { λ m. length m.calls.items };
+    ghost clock = { λ m. length m.calls };
 
     ghost pages = { λ m. m.pages };
 
@@ -73,72 +129,98 @@ impl PageDisk for MemDisk {
         self.calls.len() as u64
     }
 
-    fn read(&mut self, page: u64, into: &mut Page) -> Result<(), DiskFault> {
+    fn read(&mut self, page: u64, into: &mut Page) -> Result<(), DiskFault>
+        requires { page < self.old.pages }
+        ensures answers { IsOk result }
+        ensures content { into.new ≡ image_of self.old page }
+        ensures same { self.new ≡ record self.old { reads = self.new.reads } }
+        ensures reads { RoseByOne self.old.reads self.new.reads }
+    {
         self.reads = self.reads.saturating_add(1);
-        read_page(&self.base, &self.calls, page, into);
+        read_page(&self.base, &self.calls, &self.newest, page, into);
         Ok(())
     }
 
-    fn write(&mut self, page: u64, from: &Page, kind: WriteKind) -> Result<(), DiskFault> {
-        if self.calls.len() >= self.room as usize {
-            self.write_faults = self.write_faults.saturating_add(1);
-            return Err(DiskFault);
-        }
-        let call = Call::Write {
+    fn write(&mut self, page: u64, from: &Page, kind: WriteKind) -> Result<(), DiskFault>
+        requires { page < self.old.pages }
+        ensures room { IsOk result ↔ (length self.old.calls < self.old.room) }
+        ensures kept { OnOk result (self.new ≡ record self.old { calls = self.old.calls ++ Write page from.now kind ∷ [] }) }
+        ensures refused { OnErr result (self.new ≡ record self.old { write_faults = self.new.write_faults }) }
+        ensures ok { OnOk result (Wrote (image_of self.old) (image_of self.new) (images_of self.old) (images_of self.new) page kind from.now) }
+        ensures faults { HasCause self.old.write_faults self.new.write_faults result }
+        ensures before_last { length self.old.calls < last_count }
+    {
+        self.keep(Call::Write {
             page,
             content: *from,
             kind,
-        };
-        if self.calls.push(call).is_err() {
-            unreachable!()
-        }
+        })?;
         Ok(())
     }
 
-    fn flush(&mut self) -> Result<(), DiskFault> {
-        if self.calls.len() >= self.room as usize {
-            self.write_faults = self.write_faults.saturating_add(1);
-            return Err(DiskFault);
-        }
-        if self.calls.push(Call::Flush).is_err() {
-            unreachable!()
-        }
+    fn flush(&mut self) -> Result<(), DiskFault>
+        ensures room { IsOk result ↔ (length self.old.calls < self.old.room) }
+        ensures kept { OnOk result (self.new ≡ record self.old { calls = self.old.calls ++ Flush ∷ [] }) }
+        ensures refused { OnErr result (self.new ≡ record self.old { write_faults = self.new.write_faults }) }
+        ensures ok { OnOk result (Only (image_of self.old) (images_of self.new)) }
+        ensures now { image_of self.new ≡ image_of self.old }
+        ensures faults { HasCause self.old.write_faults self.new.write_faults result }
+        ensures before_last { length self.old.calls < last_count }
+    {
+        self.keep(Call::Flush)?;
         Ok(())
     }
 
     ghost telling = { λ told. record {
-      reads_an_image = λ m. reads_one (base_image m.base.items) m.calls.items;
-      since_now = λ m. since_end (base_image m.base.items) m.calls.items;
-      counts_now = λ m. counts_end (base_image m.base.items) m.calls.items;
+      reads_an_image = λ m. reads_one (base_image m.base) m.calls;
+      since_now = λ m. since_end (base_image m.base) m.calls;
+      counts_now = λ m. counts_end (base_image m.base) m.calls;
     } };
 }
 
 /// The page as it was written last.
-fn read_page(base: &[Saved], calls: &[Call], page: u64, into: &mut Page)
-    ensures { into.new ≡ read_after (base_image base.now) calls.now page }
+fn read_page(
+    base: &HashMap<u64, Page>,
+    calls: &[Call],
+    newest: &HashMap<u64, usize>,
+    page: u64,
+    into: &mut Page,
+)
+    requires { IsIndex calls.now newest.now.entries }
+    ensures { into.new ≡ read_after (base_image base.now.entries) calls.now page }
 {
-    clear(into);
-    for saved in base {
-        if saved.page == page {
-            *into = saved.content;
-        }
-    }
-    for call in calls {
-        if let Call::Write {
-            page: written,
-            content,
-            ..
-        } = call
-        {
-            if *written == page {
-                *into = *content;
-            }
-        }
+    match newest.get(&page) {
+        Some(place) => copy_content(&calls[*place], into),
+        None => match base.get(&page) {
+            Some(content) => *into = *content,
+            None => *into = [0; 4096],
+        },
     }
 }
 
-fn clear(page: &mut Page)
-    ensures { page.new ≡ zeros }
+/// What a write wrote.
+fn copy_content(call: &Call, into: &mut Page)
+    requires { IsWrite call.now }
+    ensures { into.new ≡ content_of call.now }
 {
-    *page = [0; 4096];
+    match call {
+        Call::Write { content, .. } => *into = *content,
+        Call::Flush => unreachable!(),
+    }
+}
+
+/// Keeps the index for a record that has this call more.
+fn note(calls: &[Call], newest: &mut HashMap<u64, usize>, call: &Call)
+    requires index { IsIndex calls.now newest.old.entries }
+    requires room { 0 < spare newest.old }
+    ensures index { IsIndex (calls.now ++ call.now ∷ []) newest.new.entries }
+    ensures room { spare newest.old ≤ spare newest.new + 1 }
+{
+    match call {
+        Call::Write { page, .. } => match newest.insert(*page, calls.len()) {
+            Ok(_) => {}
+            Err(_) => unreachable!(),
+        },
+        Call::Flush => {}
+    }
 }
