@@ -1,2 +1,5 @@
+mod Causes
 mod Refused
+mod Replayed
 mod Scripts
+mod Verbs

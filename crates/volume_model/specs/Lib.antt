@@ -7,3 +7,5 @@ pub mod Volumes
 pub mod Refusals
 pub mod Steps
 pub mod Logs
+pub mod Examples
+pub mod ExampleLogs

@@ -1,24 +1,52 @@
 //! What the definitions of steps and logs promise, as contracts of functions that do nothing.
 
-ghost use Rattle.std.specs.Prelude.{◌≡◌, ℕ, List};
-ghost use Rattle.volume_model.specs.declared.command.Command.{Command};
-ghost use Rattle.volume_model.specs.declared.reply.Reply.{Reply};
-ghost use Rattle.volume_model.specs.declared.reply.Entry.{Entry};
-ghost use Rattle.volume_model.specs.Volumes.{Fixed, Volumes};
-ghost use Rattle.volume_model.specs.Steps.{Step, IsRefusal};
+ghost use Rattle.std.specs.Prelude.{◌≡◌, ◌^◌, ℕ, List, length};
+ghost use Rattle.volume_model.specs.ExampleLogs.{NamesMove, SnapshotWithClone, Surviving, ThinVolume, TwoChannels};
+ghost use Rattle.volume_model.specs.Examples.{Refusals, Verbs};
 ghost use Rattle.volume_model.specs.Logs.{Replay};
+ghost use Rattle.volume_model.specs.Steps.{IsRefusal, Step};
+ghost use Rattle.volume_model.specs.Volumes.{Fixed, Page, Volumes};
+ghost use Rattle.volume_model.specs.Xattrs.{Text};
+ghost use Rattle.volume_model.specs.declared.command.Command.{Command};
+ghost use Rattle.volume_model.specs.declared.reply.Entry.{Entry};
+ghost use Rattle.volume_model.specs.declared.reply.Reply.{Reply};
 
 /// From volumes, a command and a reply there is at most one next state.
 pub fn at_most_one_next()
     ensures { (f : Fixed) (v : Volumes) (command : Command) (reply : Reply) (w u : Volumes) → Step f v command reply w → Step f v command reply u → (h : ℕ) → w h ≡ u h }
-{}
+{
+}
 
-/// Only a command that is done changes anything.
+/// A refusal changes nothing, nor does a fault.
 pub fn refusal_changes_nothing()
     ensures { (f : Fixed) (v : Volumes) (command : Command) (reply : Reply) (w : Volumes) → IsRefusal reply → Step f v command reply w → (h : ℕ) → w h ≡ v h }
-{}
+{
+}
 
 /// A log replays to at most one last state.
 pub fn at_most_one_replay()
     ensures { (f : Fixed) (first : Volumes) (log : List Entry) (w u : Volumes) → Replay f first log w → Replay f first log u → (h : ℕ) → w h ≡ u h }
-{}
+{
+}
+
+/// Each verb that is done changes what its row says and no other volume, over pages of any content.
+pub fn verbs_change_what_they_say()
+    ensures { (a b d e : Page) → Verbs a b d e }
+{
+}
+
+/// Each refusal stands at its place in its verb's row, over pages of any content.
+pub fn refusals_stand_in_order()
+    ensures { (a b d e : Page) (long : Text) (many : List Page) → length long ≡ 4063 → length many ≡ 2 ^ 25 → Refusals a b d e long many }
+{
+}
+
+/// Whole logs replay as a reader expects.
+pub fn example_logs_replay()
+    ensures thin { ThinVolume }
+    ensures snapshot { SnapshotWithClone }
+    ensures names { NamesMove }
+    ensures surviving { (a b d e : Page) → Surviving a b d e }
+    ensures channels { TwoChannels }
+{
+}
