@@ -1,5 +1,5 @@
 -- The logs replay as they are said to: the checker computes it.
-use Rattle.std.proofs.Common.{◌≡◌, ◌==◌, false, rules, Some, ap, sym, refl, lit<, zero, suc, ℕ}
+use Rattle.std.proofs.Common.{◌≡◌, ◌==◌, false, rules, Some, ap, sym, refl, lit<, zero, suc}
 use Rattle.volume_model.specs.Volumes.{Page}
 use Rattle.volume_model.specs.ExampleLogs.{ThinVolume, SnapshotWithClone, NamesMove, Surviving, TwoChannels}
 
@@ -8,9 +8,28 @@ thin_volume zeros sevens are_zeros are_sevens =
     ((refl, (lit< tt, refl)), ((refl, ap Some (sym are_zeros)), ((refl, tt), ((refl, ap Some (sym are_zeros)), ((refl, ap Some (sym are_sevens)), (refl, tt))))))
 
 pub snapshot_with_clone : SnapshotWithClone
-snapshot_with_clone fives sixes are_fives are_sixes =
-    ((refl, (lit< tt, refl)), ((refl, tt), ((refl, (lit< tt, refl)), ((refl, (lit< tt, refl)), ((refl, tt), ((refl, ap Some (sym are_sixes)), ((refl, ap Some (sym are_fives)),
-    (refl, ((refl, tt), ((refl, tt), ((refl, ap Some (sym are_fives)), (refl, tt))))))))))))
+snapshot_with_clone fives sixes are_fives are_sixes = (
+  (refl, (lit< tt, refl)),
+  (
+    (refl, tt),
+    (
+      (refl, (lit< tt, refl)),
+      (
+        (refl, (lit< tt, refl)),
+        (
+          (refl, tt),
+          (
+            (refl, ap Some (sym are_sixes)),
+            (
+              (refl, ap Some (sym are_fives)),
+              (refl, ((refl, tt), ((refl, tt), ((refl, ap Some (sym are_fives)), (refl, tt))))),
+            ),
+          ),
+        ),
+      ),
+    ),
+  ),
+)
 
 pub names_move : NamesMove
 names_move = ((refl, (lit< tt, refl)), ((refl, tt), (refl, (refl, ((refl, (lit< tt, refl)), ((refl, tt), ((refl, tt), (refl, tt))))))))

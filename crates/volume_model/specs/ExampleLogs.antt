@@ -1,12 +1,12 @@
 -- Whole logs on the small store.
-use Rattle.std.specs.Prelude.{◌≡◌, ℕ, Option, Some, None, true, false, List, [], ◌∷◌, codes}
+use Rattle.std.specs.Prelude.{◌≡◌, Some, None, true, false, List, [], ◌∷◌, codes}
 use Rattle.std.specs.Global.{Box}
 use Rattle.std.specs.Option.{option_map}
 use Rattle.volume_model.specs.Volumes.{Page, Volume, Volumes, zero_page, fill_page}
 use Rattle.volume_model.specs.Examples.{small, named, first}
 use Rattle.volume_model.specs.Logs.{replay, IsLegal, stable, is_unsettled, Interleaves}
 use Rattle.volume_model.specs.declared.command.VolumeRef.TheVariants.{Head, Named}
-use Rattle.volume_model.specs.declared.command.PageWord.TheVariants.{Fill, Full}
+use Rattle.volume_model.specs.declared.command.PageWord.TheVariants.{Fill}
 use Rattle.volume_model.specs.declared.command.Command.{Command}
 use Rattle.volume_model.specs.declared.command.Command.TheVariants as c
 use Rattle.volume_model.specs.declared.reply.Reply.{Reply}

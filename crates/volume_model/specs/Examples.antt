@@ -1,8 +1,7 @@
 -- A small store by which each row of the tables of verbs and refusals is tried: two pages in a slot, eight metadata pages, the super blob at head 0.
-use Rattle.std.specs.Prelude.{◌≡◌, ℕ, ◌+◌, ◌^◌, Option, Some, None, Bool, true, false, List, [], ◌∷◌, length, slice_get, codes}
+use Rattle.std.specs.Prelude.{◌≡◌, ℕ, ◌+◌, ◌^◌, Option, Some, None, Bool, true, false, List, [], ◌∷◌, slice_get, codes}
 use Rattle.std.specs.Global.{Box}
-use Rattle.volume_model.specs.Uuids.{uuid_text}
-use Rattle.volume_model.specs.Xattrs.{Text, Xattrs, with_nul, name_key, uuid_key}
+use Rattle.volume_model.specs.Xattrs.{Text, Xattrs, with_nul, name_key}
 use Rattle.volume_model.specs.Volumes.{Page, Volume, Volumes, Fixed, zero_page, fill_page, two_xattrs}
 use Rattle.volume_model.specs.Refusals.{refusal}
 use Rattle.volume_model.specs.Steps.{Allowed, change}
@@ -11,7 +10,6 @@ use Rattle.volume_model.specs.declared.command.VolumeRef.TheVariants.{Head, Name
 use Rattle.volume_model.specs.declared.command.PageWord.TheVariants.{Fill, Full}
 use Rattle.volume_model.specs.declared.command.Command.{Command}
 use Rattle.volume_model.specs.declared.command.Command.TheVariants as c
-use Rattle.volume_model.specs.declared.reply.Info.{Info}
 use Rattle.volume_model.specs.declared.reply.Df.{Df}
 use Rattle.volume_model.specs.declared.reply.Reply.{Reply}
 use Rattle.volume_model.specs.declared.reply.Reply.TheVariants as r
@@ -104,7 +102,7 @@ Passes volumes command = refusal small volumes command ≡ None
 module _ (a b d e : Page) where
   -- a family of which the second has one slot and the others two: a parent, its clone, and that one's clone; and one more clone of the first
   abbrev pub oldest : Volume
-  oldest = record (s a b d e) { pages = a ∷ b ∷ d ∷ e ∷ []; live = named (codes "oldest") []; }
+  oldest = record (s a b d e) { pages = a ∷ b ∷ d ∷ e ∷ []; live = named (codes "oldest") [] }
 
   abbrev pub middle : Volume
   middle = record (s a b d e) { live = named (codes "middle") []; parent = Some 1 }

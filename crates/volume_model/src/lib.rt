@@ -8,6 +8,8 @@ mod lists;
 mod name;
 mod reply;
 mod script;
+#[cfg(test)]
+mod tests;
 mod text;
 mod uuids;
 
