@@ -1,2 +1,5 @@
 pub mod Bits
+pub mod Fault
+pub mod Mask
+pub mod Reading
 pub mod Words
