@@ -1,0 +1,4 @@
+pub mod Passed
+pub mod Ends
+pub mod Pairs
+pub mod Again

@@ -1,0 +1,80 @@
+-- What the tests tell of a super block that passes them.
+use Rattle.std.proofs.Common.{◌≡◌, ℕ, ◌+◌, ◌*◌, ◌/◌, ◌%◌, ◌^◌, ◌<◌, ◌≤◌, Bool, true, false, List, [], ◌∷◌, Option, Some, None, refl, sym, ap, ◌∙◌, arith, eq-eqb}
+use Rattle.std.specs.Prelude.{◌==◌, ◌&&◌, cond}
+use Rattle.std.proofs.lemmas.Bool.{and_parts, ltb-true, leb-true, eqb-true}
+use Rattle.std.proofs.lemmas.Bool.Decides.{nat_tests}
+use Rattle.std.proofs.Math.Nat.{mul-div-mul_right}
+use Rattle.super_block.specs.declared.fault.SuperFault.{SuperFault}
+use Rattle.super_block.specs.declared.page.Super.{Super}
+use Rattle.super_block.specs.Numbers.{cluster_pages_of, clusters_of, mask_pages, page_mask, cluster_mask, blob_mask}
+use Rattle.super_block.specs.Faults.{first_fault, tests, unless, short, signature_fault, version_fault, checksum_fault, page_size_fault, cluster_size_fault, pages_fault, clusters_fault, size_fault, past_fault, mask_fault, overlap_fault, fault_of}
+
+pub holds : (test : Bool) (fault : SuperFault) → unless test fault ≡ None → test ≡ true
+holds true fault none = refl
+holds false fault none = cc
+
+AllPass : List (Option SuperFault) → Type 0
+AllPass [] = Unit {0}
+AllPass (fault ∷ rest) = (fault ≡ None) × AllPass rest
+
+all_pass : (faults : List (Option SuperFault)) → first_fault faults ≡ None → AllPass faults
+unfolding AllPass
+all_pass [] none = tt
+all_pass (None ∷ rest) none = (refl, all_pass rest none)
+all_pass (Some fault ∷ rest) none = absurd cc
+
+-- the tests on which others stand
+pub record Passed (s : Super) : Type 0 where
+  pub size : cluster_size_fault s ≡ None
+  pub pages : pages_fault s.md_len ≡ None
+  pub clusters : clusters_fault (clusters_of s) ≡ None
+  pub ends : past_fault s ≡ None
+  pub masks : mask_fault s ≡ None
+
+pub passed : (sound : Bool) (s : Super) → fault_of sound s ≡ None → Passed s
+unfolding fault_of tests AllPass
+passed sound s none =
+    let all = all_pass (tests sound s) none in
+    let from_size = all.1.1.1.1 in
+    let from_ends = from_size.1.1.1.1 in
+    record { size = from_size.0; pages = from_size.1.0; clusters = from_size.1.1.0; ends = from_ends.0; masks = from_ends.1.0 }
+
+pub size_is_whole : (s : Super) → cluster_size_fault s ≡ None → (0 < s.cluster_size) × (s.cluster_size % 4096 ≡ 0)
+unfolding cluster_size_fault
+size_is_whole s none =
+    let both = and_parts _ _ (holds _ _ none) in
+    (ltb-true _ _ both.0, eqb-true _ _ both.1)
+
+pub some_pages : (s : Super) → cluster_size_fault s ≡ None → 0 < cluster_pages_of s
+unfolding cluster_pages_of
+some_pages s none = let whole = size_is_whole s none in omega (arith, whole)
+
+pub few_pages : (pages : ℕ) → pages_fault pages ≡ None → pages ≤ 2 ^ 20
+unfolding pages_fault
+few_pages pages none = leb-true _ _ (holds _ _ none)
+
+pub few_clusters : (clusters : ℕ) → clusters_fault clusters ≡ None → clusters ≤ 2 ^ 24
+unfolding clusters_fault
+few_clusters clusters none = leb-true _ _ (holds _ _ none)
+
+-- a mask takes a page for its head alone
+pub mask_takes_page : (s : Super) → mask_fault s ≡ None → 0 < s.used_page_mask_len
+unfolding mask_fault mask_pages AllPass
+mask_takes_page s none =
+    let long : mask_pages s.md_len ≤ s.used_page_mask_len = leb-true _ _ (holds _ _ (all_pass (short (page_mask s) s.md_len ∷ short (cluster_mask s) (clusters_of s) ∷ short (blob_mask s) s.md_len ∷ []) none).0) in
+    omega arith
+
+-- the bytes of a device and of a cluster are 4096 times their pages
+pub clusters-of_device : (s : Super) → cluster_size_fault s ≡ None → s.size ≡ 0 → s.device_pages / cluster_pages_of s ≡ clusters_of s
+unfolding clusters_of cluster_pages_of
+clusters-of_device s none zero_size =
+    let whole = size_is_whole s none in
+    let is_zero : (s.size == 0) ≡ true = eq-eqb _ _ zero_size in
+    let bytes : s.cluster_size / 4096 * 4096 ≡ s.cluster_size = omega (arith, whole) in
+    sym (mul-div-mul_right {m = 4096} s.device_pages (s.cluster_size / 4096) (omega arith))
+    ∙ ap (λ (n : ℕ). s.device_pages * 4096 / n) bytes
+    ∙ ap (λ (b : Bool). cond b (s.device_pages * 4096) s.size / s.cluster_size) (sym is_zero)
+
+pub clusters-of_size : (s : Super) → (s.size ≡ 0 → ⊥) → s.size / s.cluster_size ≡ clusters_of s
+unfolding clusters_of
+clusters-of_size s some_size = grind (arith, nat_tests)

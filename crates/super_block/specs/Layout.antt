@@ -1,0 +1,49 @@
+-- The layout of a new store. Numbers are without bound.
+use Rattle.std.specs.Prelude.{ℕ, ◌+◌, ◌*◌, ◌/◌, ◌^◌, nat_lt, nat_le, ◌&&◌, List, [], ◌∷◌, Option, unwrap_or}
+use Rattle.std.specs.Int.{div_ceil}
+use Rattle.super_block.specs.declared.layout.Layout.{Layout}
+use Rattle.super_block.specs.declared.fault.SuperFault.{SuperFault}
+use Rattle.super_block.specs.declared.fault.SuperFault.TheVariants.{BadClusterSize, DeviceTooSmall}
+use Rattle.super_block.specs.Numbers.{mask_pages}
+use Rattle.super_block.specs.Faults.{first_fault, unless, in_u32, pages_fault, clusters_fault}
+
+-- The super block is page 0, and behind it stand the page mask, the cluster mask, the blob-id mask and the metadata region,
+-- each where the one before it ends. The clusters are the whole ones of the device. Those are fixed that hold a page before
+-- the metadata region's end.
+unfoldable pub layout_of : ℕ → ℕ → ℕ → Layout
+layout_of device_pages cluster_pages md_pages =
+    let clusters = device_pages / cluster_pages in
+    let page_len = mask_pages md_pages in
+    let cluster_len = mask_pages clusters in
+    let md_start = 1 + page_len + cluster_len + page_len in
+    record {
+      device_pages = device_pages;
+      cluster_pages = cluster_pages;
+      md_pages = md_pages;
+      page_mask_start = 1;
+      page_mask_len = page_len;
+      cluster_mask_start = 1 + page_len;
+      cluster_mask_len = cluster_len;
+      blob_mask_start = 1 + page_len + cluster_len;
+      blob_mask_len = page_len;
+      md_start = md_start;
+      clusters = clusters;
+      fixed_clusters = div_ceil (md_start + md_pages) cluster_pages;
+    }
+
+-- where no number of metadata pages is asked for, there are as many as clusters
+abbrev pub md_pages_of : ℕ → ℕ → Option ℕ → ℕ
+md_pages_of device_pages cluster_pages md_pages = unwrap_or md_pages (device_pages / cluster_pages)
+
+-- a cluster has at least one page, and its bytes are a number of 32 bits
+unfoldable pub cluster_pages_fault : ℕ → Option SuperFault
+cluster_pages_fault pages = unless (nat_lt 0 pages && nat_lt pages (2 ^ 20)) (BadClusterSize (in_u32 (pages * 4096)))
+
+-- the fixed clusters are on the device
+unfoldable pub room_fault : Layout → Option SuperFault
+room_fault plan = unless (nat_le plan.fixed_clusters plan.clusters) (DeviceTooSmall plan.device_pages (plan.fixed_clusters * plan.cluster_pages))
+
+-- the first fault of a plan
+unfoldable pub plan_fault : ℕ → ℕ → ℕ → Option SuperFault
+plan_fault device_pages cluster_pages md_pages =
+    first_fault (cluster_pages_fault cluster_pages ∷ pages_fault md_pages ∷ clusters_fault (device_pages / cluster_pages) ∷ room_fault (layout_of device_pages cluster_pages md_pages) ∷ [])

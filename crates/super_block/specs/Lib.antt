@@ -1,0 +1,5 @@
+pub mod Span
+pub mod Page
+pub mod Numbers
+pub mod Faults
+pub mod Layout

@@ -1,0 +1,14 @@
+//! The super block of a store, the numbers that follow from it, and the layout of a new store.
+#![tactic(auto)]
+
+mod checks;
+mod fault;
+mod layout;
+mod numbers;
+mod page;
+mod span;
+
+pub use fault::{Region, SuperFault};
+pub use layout::Layout;
+pub use page::{ROWS, Super, read_super, rows_tile, write_super};
+pub use span::Span;
