@@ -134,7 +134,7 @@ length-run_slots : (o : Option ℕ) (n : ℕ) → length (run_slots o n) ≡ n
 length-run_slots None n = length-replicate n None
 length-run_slots (Some c) n = length-filled c n
 
-length-slots : (runs : List SlotRun) → length (slots_in runs) ≡ slots_of_all runs
+pub length-slots : (runs : List SlotRun) → length (slots_in runs) ≡ slots_of_all runs
 length-slots [] = refl
 length-slots (r ∷ rs) =
     length-append (slots_of_run r) (slots_in rs)

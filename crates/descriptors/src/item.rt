@@ -10,7 +10,10 @@ pub enum Item {
     /// Runs of a map, at least one.
     Rle(RunList),
     /// An extended attribute.
-    Xattr { key: Blobtext, value: Blobtext },
+    Xattr {
+        key: Blobtext,
+        value: Blobtext,
+    },
     /// The three words of flags.
     Flags {
         invalid: u64,
@@ -18,9 +21,14 @@ pub enum Item {
         md_ro: u64,
     },
     /// An extended attribute that the store keeps for itself.
-    InternalXattr { key: Blobtext, value: Blobtext },
+    InternalXattr {
+        key: Blobtext,
+        value: Blobtext,
+    },
     /// A descriptor of another type, whose bytes are skipped.
-    Unknown { kind: u8 },
+    Unknown {
+        kind: u8,
+    },
 }
 
 /// The items of a body, in order.

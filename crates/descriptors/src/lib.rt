@@ -11,7 +11,7 @@ mod writing;
 
 pub use item::{Item, ItemFault, ItemList};
 pub use reading::{one_reading, read_items};
-pub use runs::{MapFault, runs_of, slots_of};
+pub use runs::{MapFault, runs_of, slot_count, slots_of};
 pub use slot_map::SlotMap;
 pub use writing::write_items;
 

@@ -7,8 +7,8 @@ ghost use Rattle.descriptors.specs.Answers.{Gives, RunsGive};
 use crate::item::Item;
 use crate::numbers::{u16_at, u32_at, u64_at};
 use out_of_memory::Memory;
-use volume_model::{Blobtext, RunList, SlotRun};
 use std::alloc::Global;
+use volume_model::{Blobtext, RunList, SlotRun};
 
 #[derive(Debug, Drop)]
 pub enum RowFault {

@@ -80,6 +80,13 @@ pub enum MapFault {
     Memory,
 }
 
+/// How many slots the runs have together, or 2^64 - 1 where they have more.
+pub fn slot_count(runs: &RunList) -> u64
+    ensures { result ≡ at_most (2 ^ 64 - 1) (length (slots_in runs.now)) }
+{
+    count_of(runs.as_slice())
+}
+
 fn count_of(runs: &[SlotRun]) -> u64
     ensures { result ≡ at_most (2 ^ 64 - 1) (slots_of_all runs.now) }
 {
@@ -115,12 +122,11 @@ pub fn slots_of(alloc: Global, runs: &RunList) -> Result<SlotMap, MapFault>
     ensures small { OnOk result (slots_of_all runs.now ≤ 2 ^ 20) }
     ensures fault { IfErr result (λ e. IsTooLarge runs.now e) }
 {
-    let runs = runs.as_slice();
-    let slots = count_of(runs);
+    let slots = count_of(runs.as_slice());
     if slots > 1 << 20 {
         return Err(MapFault::TooLarge { slots });
     }
-    match map_of(alloc, runs) {
+    match map_of(alloc, runs.as_slice()) {
         Ok(map) => Ok(map),
         Err(_) => Err(MapFault::Memory),
     }

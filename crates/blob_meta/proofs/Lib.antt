@@ -1,0 +1,4 @@
+pub mod Finite
+pub mod Outside
+pub mod Firsts
+pub mod Inverse

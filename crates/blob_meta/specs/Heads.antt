@@ -1,0 +1,13 @@
+-- The heads of a finite map, in order.
+use Rattle.std.specs.Prelude.{◌≡◌, ℕ, ◌≤◌, ◌<◌, IsSome, None}
+use Rattle.std.specs.Ordering.{nat_cmp}
+use Rattle.std.specs.FinMap as map
+
+-- the least head that isn't below this one
+pub record IsNextFrom {V : Type 0} (m : map.FinMap nat_cmp V) (head next : ℕ) : Type 0 where
+  pub there : IsSome (map.get m next)
+  pub above : head ≤ next
+  pub none_between : (h : ℕ) → head ≤ h → h < next → map.get m h ≡ None
+
+abbrev pub HasNoneFrom : {V : Type 0} → map.FinMap nat_cmp V → ℕ → Type 0
+HasNoneFrom m head = (h : ℕ) → head ≤ h → map.get m h ≡ None

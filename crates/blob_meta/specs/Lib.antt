@@ -1,0 +1,5 @@
+pub mod Heads
+pub mod Says
+pub mod Faults
+pub mod Items
+pub mod Find

@@ -1,0 +1,38 @@
+//! The metadata of one blob.
+
+use descriptors::SlotMap;
+use out_of_memory::Memory;
+use std::alloc::Global;
+use volume_model::{TryCopy, XattrList};
+
+/// The three words of a blob's flags. Bit 0 of `invalid` is thin provisioning, bit 1 stands on disk exactly where there is an
+/// internal attribute and is 0 here; bit 0 of `data_ro` is read-only; bits 0 and 1 of `md_ro` are the clear method, which is
+/// kept and has no effect.
+#[derive(Clone, Copy, Debug, PartialEq, Eq)]
+pub struct Flags {
+    pub invalid: u64,
+    pub data_ro: u64,
+    pub md_ro: u64,
+}
+
+/// What the chain of a blob says. `id` is 2^32 plus the head; `map` has a slot for each cluster of the blob.
+#[derive(Debug, Drop)]
+pub struct Meta {
+    pub id: u64,
+    pub flags: Flags,
+    pub xattrs: XattrList,
+    pub internal: XattrList,
+    pub map: SlotMap,
+}
+
+impl TryCopy for Meta {
+    fn try_copy(&self, alloc: Global) -> Result<Meta, Memory> {
+        Ok(Meta {
+            id: self.id,
+            flags: self.flags,
+            xattrs: self.xattrs.try_copy(alloc)?,
+            internal: self.internal.try_copy(alloc)?,
+            map: self.map.try_copy(alloc)?,
+        })
+    }
+}
