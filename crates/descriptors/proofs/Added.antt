@@ -32,7 +32,7 @@ longer_empty r c z e =
     ap (λ (o : Option ℕ). run_slots o (r.length + 1)) none ∙ sym (replicate_more r.length None)
     ∙ sym (ap (λ (o : Option ℕ). run_slots o r.length ++ cluster_of c ∷ []) none ∙ ap (λ (o : Option ℕ). replicate r.length None ++ o ∷ []) also)
 
-some_cluster : (c : ℕ) → c ≢ 0 → cluster_of c ≡ Some c
+pub some_cluster : (c : ℕ) → c ≢ 0 → cluster_of c ≡ Some c
 some_cluster c ne = let e : eqb c 0 ≡ false = ne_eqb c 0 ne in rw e refl
 
 longer_filled : (r : SlotRun) (c : ℕ) → r.cluster ≢ 0 → c ≡ r.cluster + r.length → slots_of_run (longer r) ≡ slots_of_run r ++ cluster_of c ∷ []

@@ -3,6 +3,7 @@ use Rattle.std.proofs.Common.{◌≡◌, ℕ, zero, suc, ◌+◌, ◌-◌, ◌*�
 use Rattle.std.specs.List.{flat_map, AllByRecursion}
 use Rattle.std.proofs.lemmas.Bool.{cases_lt, eq-eqb, ne_eqb, le-ltb}
 use Rattle.std.proofs.lemmas.List.{take_at, drop_at, drop-drop, append-nil, length-replicate, get_or-replicate, get_or_past, drop-replicate}
+use Rattle.std.proofs.lemmas.List.Sums.{sum_by-cons}
 use Rattle.std.proofs.lemmas.List.Elements.{recursion_from_All}
 use Rattle.byteorder.specs.Endian.{little_number, little_from}
 use Rattle.byteorder.specs.Numbers.{little_number-reads_back}
@@ -12,11 +13,11 @@ use Rattle.descriptors.specs.declared.item.Item.TheVariants.{Rle, Xattr, Flags, 
 use Rattle.descriptors.specs.Numbers.{number_from}
 use Rattle.descriptors.specs.Rows.{runs_in, rle, pair_in, flags, row, xattr_of, internal_of}
 use Rattle.descriptors.specs.Grammar.{Descriptor, Spells, short, ends, adds}
-use Rattle.descriptors.specs.Writing.{run_bytes, pair_bytes, flags_bytes, kind_of, body_of, framed, item_bytes, spelling, RunFits, ItemFits, IsWritable}
+use Rattle.descriptors.specs.Writing.{run_bytes, pair_bytes, flags_bytes, kind_of, body_of, framed, item_bytes, item_size, spelled_size, spelling, RunFits, ItemFits, IsWritable}
 use Rattle.page_fields.specs.Fields.{number, number_bytes}
 use Rattle.descriptors.proofs.Steps.{number_from-drop}
 use Rattle.page_fields.proofs.Laws.{len-number_bytes}
-use Rattle.descriptors.proofs.Lengths.{length-runs_bytes, length-framed}
+use Rattle.descriptors.proofs.Lengths.{length-runs_bytes, length-framed, length-item_bytes}
 
 -- ---- numbers
 
@@ -81,12 +82,12 @@ rle_again runs some fits =
     let again : runs_in (length runs) body ≡ runs = ap (runs_in (length runs)) (sym (append-nil body)) ∙ runs_again runs [] (recursion_from_All RunFits runs fits) in
     rw (not_empty, whole, count, again) refl
 
-row_again : (item : Item) → IsWritable item → ItemFits item → row (kind_of item) (body_of item) ≡ Some item
-row_again (Rle runs) w f = rle_again runs w f
-row_again (Xattr key value) w f = ap xattr_of (pair_again key value w.0 w.1)
-row_again (Flags a b c) w f = flags_again a b c f.0 f.1 f.2
-row_again (InternalXattr key value) w f = ap internal_of (pair_again key value w.0 w.1)
-row_again (Unknown kind) w f = absurd w
+row_again : (item : Item) → IsWritable item → ItemFits item → item_size item < 2 ^ 16 → row (kind_of item) (body_of item) ≡ Some item
+row_again (Rle runs) w f small = rle_again runs w f
+row_again (Xattr key value) w f small = ap xattr_of (pair_again key value (omega arith) (omega arith))
+row_again (Flags a b c) w f small = flags_again a b c f.0 f.1 f.2
+row_again (InternalXattr key value) w f small = ap internal_of (pair_again key value (omega arith) (omega arith))
+row_again (Unknown kind) w f small = absurd w
 
 kind_above : (item : Item) → IsWritable item → 0 < kind_of item
 kind_above (Rle runs) w = omega arith
@@ -149,21 +150,21 @@ zeros_end n =
       }) refl
     ]
 
-again : (items : List Item) (n : ℕ) → AllByRecursion IsWritable items → AllByRecursion ItemFits items → length (spelling items) < 2 ^ 32 → Spells (spelling items ++ zeros n) items
+again : (items : List Item) (n : ℕ) → AllByRecursion IsWritable items → AllByRecursion ItemFits items → spelled_size items < 2 ^ 16 → Spells (spelling items ++ zeros n) items
 again [] n w f lt = zeros_end n
 again (item ∷ items) n w f lt =
     let rest : List ℕ = spelling items ++ zeros n in
-    let whole : length (spelling (item ∷ items)) ≡ length (item_bytes item) + length (spelling items) = length-append (item_bytes item) (spelling items) in
-    let framed-len : length (item_bytes item) ≡ 5 + length (body_of item) = length-framed (kind_of item) (body_of item) in
+    let whole : spelled_size (item ∷ items) ≡ item_size item + spelled_size items = sum_by-cons item_size item items in
+    let sized : 5 + length (body_of item) ≡ item_size item = sym (length-framed (kind_of item) (body_of item)) ∙ length-item_bytes item in
     let d : Descriptor (framed (kind_of item) (body_of item) ++ rest) (kind_of item) (body_of item) rest = head_again (kind_of item) (body_of item) rest (omega arith) in
-    let s : Spells (item_bytes item ++ rest) (item ∷ items) = adds _ (kind_of item) (body_of item) rest item items d (kind_above item w.0) (row_again item w.0 f.0) (again items n w.1 f.1 (omega arith)) in
+    let s : Spells (item_bytes item ++ rest) (item ∷ items) = adds _ (kind_of item) (body_of item) rest item items d (kind_above item w.0) (row_again item w.0 f.0 (omega arith)) (again items n w.1 f.1 (omega arith)) in
     subst (λ (b : List ℕ). Spells b (item ∷ items)) (sym (append_assoc (item_bytes item) (spelling items) (zeros n))) s
 
-pub written_again : (items : List Item) (n : ℕ) → All IsWritable items → All ItemFits items → length (spelling items) < 2 ^ 32 → Spells (spelling items ++ zeros n) items
+pub written_again : (items : List Item) (n : ℕ) → All IsWritable items → All ItemFits items → spelled_size items < 2 ^ 16 → Spells (spelling items ++ zeros n) items
 written_again items n w f lt = again items n (recursion_from_All IsWritable items w) (recursion_from_All ItemFits items f) lt
 
 pub body_again : (items slice : List Item) (mid new : List ℕ) (n : ℕ) → slice ≡ items → mid ≡ spelling slice → new ≡ mid ++ zeros n
-    → All IsWritable items → All ItemFits slice → length (spelling items) ≤ 4072 → Spells new items
+    → All IsWritable items → All ItemFits slice → spelled_size items ≤ 4072 → Spells new items
 body_again items slice mid new n e-slice e-mid e-new w f le =
     let fits : All ItemFits items = subst (All ItemFits) e-slice f in
     let whole : new ≡ spelling items ++ zeros n = e-new ∙ ap (λ (t : List ℕ). t ++ zeros n) (e-mid ∙ ap spelling e-slice) in

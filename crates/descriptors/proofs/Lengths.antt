@@ -1,12 +1,13 @@
 -- How long a spelling is.
 use Rattle.std.proofs.Common.{◌≡◌, ℕ, zero, suc, refl, ◌+◌, ◌*◌, List, [], ◌∷◌, ◌++◌, length, sym, ap, ◌∙◌, arith, length-append, append_assoc, ◌<◌, ◌≤◌, take, drop, get_or}
 use Rattle.std.proofs.lemmas.List.{flat_map_more, take-append-drop, take_more}
+use Rattle.std.proofs.lemmas.List.Sums.{sum_by-cons}
 use Rattle.std.proofs.lemmas.List.Concat.{flat_map-append}
 use Rattle.descriptors.specs.declared.item.Item.{Item}
 use Rattle.std.specs.List.{flat_map}
 use Rattle.volume_model.specs.declared.lists.SlotRun.{SlotRun}
 use Rattle.descriptors.specs.declared.item.Item.TheVariants.{Rle, Xattr, Flags, InternalXattr, Unknown}
-use Rattle.descriptors.specs.Writing.{run_bytes, pair_bytes, flags_bytes, framed, item_bytes, item_size, spelling}
+use Rattle.descriptors.specs.Writing.{run_bytes, pair_bytes, flags_bytes, framed, item_bytes, item_size, spelled_size, spelling}
 use Rattle.page_fields.specs.Fields.{number_bytes}
 use Rattle.page_fields.proofs.Laws.{len-number_bytes}
 
@@ -66,3 +67,8 @@ length-more_items items i d lt =
     let whole : spelling (take (i + 1) items) ≡ spelling (take i items) ++ item_bytes (get_or items i d) =
     ap spelling (take_more items i d lt) ∙ sym (flat_map_more item_bytes [] (take i items) (get_or items i d)) in
     ap length whole ∙ length-append (spelling (take i items)) (item_bytes (get_or items i d)) ∙ ap (λ (n : ℕ). length (spelling (take i items)) + n) (length-item_bytes (get_or items i d))
+
+pub length-spelling : (items : List Item) → length (spelling items) ≡ spelled_size items
+length-spelling [] = refl
+length-spelling (item ∷ items) =
+    omega (arith, length-append (item_bytes item) (spelling items), length-item_bytes item, length-spelling items, sum_by-cons item_size item items)

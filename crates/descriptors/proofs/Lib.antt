@@ -1,4 +1,5 @@
 pub mod Steps
+pub mod OneMap
 pub mod OneReading
 pub mod Lengths
 pub mod Again

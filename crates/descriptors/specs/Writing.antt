@@ -1,6 +1,6 @@
 -- The one spelling of each item.
 use Rattle.std.specs.Prelude.{ℕ, ◌+◌, ◌*◌, ◌<◌, ◌^◌, List, [], ◌∷◌, ◌++◌, length}
-use Rattle.std.specs.List.{flat_map, All}
+use Rattle.std.specs.List.{flat_map, sum_by, All}
 use Rattle.page_fields.specs.Fields.{number_bytes}
 use Rattle.volume_model.specs.declared.lists.SlotRun.{SlotRun}
 use Rattle.descriptors.specs.declared.item.Item.{Item}
@@ -48,6 +48,9 @@ item_size (Unknown kind) = 5
 abbrev pub spelling : List Item → List ℕ
 spelling items = flat_map item_bytes items
 
+abbrev pub spelled_size : List Item → ℕ
+spelled_size items = sum_by item_size items
+
 -- The numbers are of the program's widths.
 abbrev pub RunFits : SlotRun → Type 0
 RunFits r = (r.cluster < 2 ^ 32) × (r.length < 2 ^ 32)
@@ -59,10 +62,10 @@ ItemFits (Flags invalid data_ro md_ro) = (invalid < 2 ^ 64) × (data_ro < 2 ^ 64
 ItemFits (InternalXattr key value) = Unit {0}
 ItemFits (Unknown kind) = kind < 256
 
--- what can be written
+-- what can be written: runs, if there is one, and anything else of a known type
 abbrev pub IsWritable : Item → Type 0
 IsWritable (Rle runs) = 0 < length runs
-IsWritable (Xattr key value) = (length key < 2 ^ 16) × (length value < 2 ^ 16)
+IsWritable (Xattr key value) = Unit {0}
 IsWritable (Flags invalid data_ro md_ro) = Unit {0}
-IsWritable (InternalXattr key value) = (length key < 2 ^ 16) × (length value < 2 ^ 16)
+IsWritable (InternalXattr key value) = Unit {0}
 IsWritable (Unknown kind) = ⊥

@@ -2,6 +2,7 @@
 #![tactic(auto)]
 
 mod item;
+mod longest;
 mod numbers;
 mod reading;
 mod rows;
@@ -10,6 +11,7 @@ mod slot_map;
 mod writing;
 
 pub use item::{Item, ItemFault, ItemList};
+pub use longest::longest_runs_are_one;
 pub use reading::{one_reading, read_items};
 pub use runs::{MapFault, runs_of, slot_count, slots_of};
 pub use slot_map::SlotMap;

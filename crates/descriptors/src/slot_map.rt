@@ -62,13 +62,15 @@ impl SlotMap {
         self.slots.as_slice()
     }
 
-    /// Puts a cluster other than 0 into a slot, or empties it.
-    pub fn set(&mut self, at: u32, slot: Option<u32>)
+    /// Puts a cluster other than 0 into a slot, or empties it. After `Memory` the map is as before.
+    pub fn set(&mut self, at: u32, cluster: Option<u32>) -> Result<(), Memory>
         requires within { at < length self.old }
-        requires slot { IsSlot slot }
-        ensures { self.new ≡ slice_set self.old at slot }
+        requires slot { IsSlot cluster }
+        ensures ok { OnOk result (self.new ≡ slice_set self.old at cluster) }
+        ensures memory { OnErr result (self.new ≡ self.old) }
     {
-        self.slots[at as usize] = slot;
+        self.slots[at as usize] = cluster;
+        Ok(())
     }
 
     /// Appends so many empty slots, or slots with consecutive clusters from one other than 0. After `Memory` the map is as
@@ -85,8 +87,9 @@ impl SlotMap {
         }
     }
 
-    /// Cuts the map to its first slots.
-    pub fn truncate(&mut self, len: u32)
+    /// Cuts the map to so many of its slots.
+    pub fn cut(&mut self, len: u32)
+        requires { len ≤ length self.old }
         ensures { self.new ≡ take len self.old }
     {
         self.slots.truncate(len as usize);

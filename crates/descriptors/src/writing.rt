@@ -3,7 +3,7 @@
 ghost use Rattle.std.specs.Prelude.{◌≡◌, ◌+◌, ◌*◌, ◌<◌, ◌≤◌, ◌^◌, ◌++◌, ◌∷◌, [], ◌-◌, length, take, drop, replicate};
 ghost use Rattle.std.specs.List.{flat_map, All};
 ghost use Rattle.descriptors.specs.Grammar.{Spells};
-ghost use Rattle.descriptors.specs.Writing.{run_bytes, pair_bytes, flags_bytes, item_bytes, item_size, spelling, IsWritable, RunFits, ItemFits, framed};
+ghost use Rattle.descriptors.specs.Writing.{run_bytes, pair_bytes, flags_bytes, item_bytes, item_size, spelled_size, spelling, IsWritable, RunFits, ItemFits, framed};
 ghost use Rattle.page_fields.specs.Fields.{number_bytes};
 
 use crate::item::{Item, ItemList};
@@ -73,8 +73,7 @@ fn put_runs(into: &mut [u8], at: usize, runs: &[SlotRun]) -> usize
 #[tactic(auto, unfolding(crate::specs::Writing::pair_bytes))]
 fn put_pair(into: &mut [u8], at: usize, name: &[u8], value: &[u8]) -> usize
     requires room { at + 4 + length name.now + length value.now ≤ length into.old }
-    requires name { length name.now < 2 ^ 16 }
-    requires value { length value.now < 2 ^ 16 }
+    requires small { length into.old < 2 ^ 16 }
     ensures end { result ≡ at + 4 + length name.now + length value.now }
     ensures bytes { take result into.new ≡ take at into.old ++ pair_bytes name.now value.now }
 {
@@ -106,7 +105,7 @@ fn put_head(into: &mut [u8], at: usize, kind: u8, size: u32) -> usize
 
 fn put_rle(into: &mut [u8], at: usize, runs: &[SlotRun]) -> usize
     requires room { at + 5 + 8 * length runs.now ≤ length into.old }
-    requires small { length into.old < 2 ^ 31 }
+    requires small { length into.old < 2 ^ 16 }
     ensures end { result ≡ at + 5 + 8 * length runs.now }
     ensures bytes { take result into.new ≡ take at into.old ++ framed 1 (flat_map run_bytes runs.now) }
     ensures fits { All RunFits runs.now }
@@ -117,9 +116,7 @@ fn put_rle(into: &mut [u8], at: usize, runs: &[SlotRun]) -> usize
 
 fn put_xattr(into: &mut [u8], at: usize, kind: u8, key: &[u8], value: &[u8]) -> usize
     requires room { at + 9 + length key.now + length value.now ≤ length into.old }
-    requires small { length into.old < 2 ^ 31 }
-    requires key { length key.now < 2 ^ 16 }
-    requires value { length value.now < 2 ^ 16 }
+    requires small { length into.old < 2 ^ 16 }
     ensures end { result ≡ at + 9 + length key.now + length value.now }
     ensures bytes { take result into.new ≡ take at into.old ++ framed kind (pair_bytes key.now value.now) }
 {
@@ -139,7 +136,7 @@ fn put_flags_item(into: &mut [u8], at: usize, invalid: u64, data_ro: u64, md_ro:
 
 fn put_item(into: &mut [u8], at: usize, item: &Item) -> usize
     requires room { at + item_size item.now ≤ length into.old }
-    requires small { length into.old < 2 ^ 31 }
+    requires small { length into.old < 2 ^ 16 }
     requires writable { IsWritable item.now }
     ensures end { result ≡ at + item_size item.now }
     ensures bytes { take result into.new ≡ take at into.old ++ item_bytes item.now }
@@ -160,7 +157,7 @@ fn put_item(into: &mut [u8], at: usize, item: &Item) -> usize
 
 fn put_items(into: &mut [u8], items: &[Item]) -> usize
     requires room { length (spelling items.now) ≤ length into.old }
-    requires small { length into.old < 2 ^ 31 }
+    requires small { length into.old < 2 ^ 16 }
     requires writable { All IsWritable items.now }
     ensures end { result ≡ length (spelling items.now) }
     ensures bytes { take result into.new ≡ spelling items.now }
@@ -182,11 +179,11 @@ fn clear_from(into: &mut [u8], from: usize)
     }
 }
 
-/// Writes the items, and zeros after them.
+/// Writes the items, which fit, and zeros after them. Each run-length item has a run, and none is of an unknown type.
 pub fn write_items(items: &ItemList, into: &mut [u8; 4072])
-    requires room { length (spelling items.now) ≤ 4072 }
+    requires room { spelled_size items.now ≤ 4072 }
     requires writable { All IsWritable items.now }
-    ensures bytes { into.new ≡ spelling items.now ++ replicate (4072 - length (spelling items.now)) 0 }
+    ensures bytes { into.new ≡ spelling items.now ++ replicate (4072 - spelled_size items.now) 0 }
     // What is written is read again.
     ensures again { Spells into.new items.now }
 {

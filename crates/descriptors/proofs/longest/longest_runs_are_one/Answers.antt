@@ -1,0 +1,5 @@
+use Rattle.descriptors.proofs.OneMap as runs
+use Rattle.descriptors.proofs.longest.longest_runs_are_one.Goals as goal
+
+pub returns : goal.returns
+returns c = runs.longest_runs_are_one
