@@ -4,12 +4,14 @@
 mod checks;
 mod fault;
 mod head_map;
+mod looking_up;
 mod meta;
 mod reading;
 mod writing;
 
 pub use fault::MetaFault;
 pub use head_map::{Chains, HeadMap, Metas};
+pub use looking_up::find;
 pub use meta::{Flags, Meta};
 pub use out_of_memory::Memory;
 pub use reading::from_items;
