@@ -1,0 +1,18 @@
+//! The laws of chains.
+
+ghost use Rattle.std.specs.Prelude.{◌≡◌, ℕ, List};
+ghost use Rattle.descriptors.specs.declared.item.Item.{Item};
+ghost use Rattle.md_chain.specs.declared.fault.ChainFault.{ChainFault};
+ghost use Rattle.md_chain.specs.Chain.{Look, Chain, IsBroken, Agree};
+
+/// A head has one chain, or one first fault, and not both. A chain is that of every image that has its pages.
+pub fn chains()
+    ensures one { (look : Look) (md_len head : ℕ) (xs ys : List Item) (ps qs : List ℕ) →
+        Chain look md_len head xs ps → Chain look md_len head ys qs → (xs ≡ ys) × (ps ≡ qs) }
+    ensures fault { (look : Look) (md_len head : ℕ) (f g : ChainFault) →
+        IsBroken look md_len head f → IsBroken look md_len head g → f ≡ g }
+    ensures either { (look : Look) (md_len head : ℕ) (xs : List Item) (ps : List ℕ) (f : ChainFault) →
+        Chain look md_len head xs ps → IsBroken look md_len head f → ⊥ }
+    ensures kept { (look other : Look) (md_len head : ℕ) (items : List Item) (pages : List ℕ) →
+        Agree look other pages → Chain look md_len head items pages → Chain other md_len head items pages }
+{}

@@ -1,0 +1,9 @@
+//! The chain of metadata pages of a blob.
+#![tactic(auto)]
+
+mod fault;
+mod laws;
+
+pub use fault::ChainFault;
+pub use laws::chains;
+pub use out_of_memory::Memory;
