@@ -1,6 +1,6 @@
 -- A count that has risen by one, or stands at its last number.
-use Rattle.std.proofs.Common.{◌≡◌, ◌⊎◌, ◌+◌, ◌<◌, ◌≤◌, ℕ, inl, inr, ⊎_elim, arith}
-use Rattle.page_disk.specs.Disk.{Rose, RoseByOne, last_count}
+use Rattle.std.proofs.Common.{◌≤◌, ℕ, inl, inr, arith}
+use Rattle.page_disk.specs.Disk.{Rose, RoseByOne}
 
 pub not_below : (before after : ℕ) → RoseByOne before after → before ≤ after
 not_below before after (inl one) = omega arith

@@ -1,11 +1,11 @@
 -- The index from pages to their last writes, as the record grows.
-use Rattle.std.proofs.Common.{◌≡◌, ◌⊎◌, ◌+◌, ◌<◌, ℕ, List, [], ◌∷◌, ◌++◌, length, get_or, refl, sym, ◌∙◌, ap, subst, ⊎_elim, arith, Option, Some, None, length-append}
+use Rattle.std.proofs.Common.{◌≡◌, ℕ, List, [], ◌∷◌, ◌++◌, length, refl, sym, ◌∙◌, ap, subst, ⊎_elim, arith, Some, length-append}
 use Rattle.std.specs.Prelude.{nat_eq}
 use Rattle.std.specs.Map.{lookup, update}
 use Rattle.std.proofs.lemmas.Map.{update_here, update_apart}
 use Rattle.std.proofs.lemmas.Bool.{cases_eq}
 use Rattle.std.proofs.lemmas.List.{get_or_push, get_or_append_left}
-use Rattle.page_disk.specs.Disk.{Image, with_page}
+use Rattle.page_disk.specs.Disk.{Image}
 use Rattle.page_disk.specs.Record.{read_after, IsNewest, IsIndex}
 use Rattle.page_disk.specs.RecordLaws.{read_after-write, read_after-flush}
 use Rattle.page_disk.proofs.Images.{with_page-here, with_page-elsewhere}

@@ -19,9 +19,7 @@ pub enum Remains {
     Old,
     New,
     /// The new page with these bits of its last byte turned, where the page may be torn and is then not sound.
-    Torn {
-        change: u8,
-    },
+    Torn { change: u8 },
 }
 
 impl MemDisk {
@@ -151,11 +149,7 @@ fn save_remains(
 }
 
 /// Saves the page unless it is sound.
-fn save_unsound(
-    left: &mut HashMap<u64, Page>,
-    page: u64,
-    content: &Page,
-) -> Result<(), AllocError>
+fn save_unsound(left: &mut HashMap<u64, Page>, page: u64, content: &Page) -> Result<(), AllocError>
     ensures left { OnOk result (base_image left.new.entries ≡ with_unsound (base_image left.old.entries) page content.now) }
     ensures took { OnOk result (TookUnsound page (base_image left.old.entries) (base_image left.new.entries)) }
 {

@@ -4,13 +4,19 @@
 mod crash;
 mod disk;
 mod fault;
+mod laws;
 mod memory_disk;
 mod record;
 mod replace;
+mod silent;
 
 pub use disk::{DiskFault, Page, PageDisk, WriteKind};
 pub use fault::{CallKind, Fail, FaultDisk};
+pub use laws::images_since;
 pub use memory_disk::MemDisk;
 pub use out_of_memory::Memory;
 pub use replace::replace_page;
+pub use silent::SilentDisk;
 
+#[cfg(test)]
+mod tests;

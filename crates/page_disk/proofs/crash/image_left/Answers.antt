@@ -1,7 +1,7 @@
-use Rattle.std.proofs.Common.{◌≡◌, ◌∙◌, ◌<◌, ap, sym, length, take, drop, List, [], get_or, arith}
-use Rattle.std.proofs.lemmas.List.{take_all, drop_all}
+use Rattle.std.proofs.Common.{◌∙◌, ap, sym, take, drop, [], get_or}
+use Rattle.std.proofs.lemmas.List.{drop_all}
 use Rattle.page_disk.specs.Disk.{Image}
-use Rattle.page_disk.specs.Record.{base_image, read_after, LeavesFrom}
+use Rattle.page_disk.specs.Record.{base_image, read_after}
 use Rattle.page_disk.specs.Crash.{left_after, left_of}
 use Rattle.page_disk.specs.declared.disk.WriteKind.TheVariants.{Whole}
 use Rattle.page_disk.specs.declared.record.Call.{Call}

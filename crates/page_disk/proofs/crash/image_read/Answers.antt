@@ -1,4 +1,4 @@
-use Rattle.std.proofs.Common.{◌≡◌, ◌∙◌, ap, sym, List, ◌∷◌, [], take, get_or}
+use Rattle.std.proofs.Common.{◌∙◌, ap, sym, List, ◌∷◌, [], get_or}
 use Rattle.std.proofs.lemmas.List.{take_all}
 use Rattle.page_disk.specs.Disk.{Image}
 use Rattle.page_disk.specs.Record.{base_image, read_after}

@@ -1,4 +1,4 @@
-use Rattle.std.proofs.Common.{◌≡◌, arith}
+use Rattle.std.proofs.Common.{arith}
 use Rattle.std.proofs.lemmas.Bool.Decides.{nat_tests}
 use Rattle.page_disk.specs.Crash.{remains_by}
 use Rattle.page_disk.proofs.crash.remains_of.Goals as goal

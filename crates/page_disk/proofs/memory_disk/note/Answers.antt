@@ -1,4 +1,4 @@
-use Rattle.std.proofs.Common.{◌≡◌, sym, subst, ◌++◌, ◌∷◌, [], List}
+use Rattle.std.proofs.Common.{sym, subst, ◌++◌, ◌∷◌, []}
 use Rattle.page_disk.specs.Record.{IsIndex}
 use Rattle.page_disk.specs.declared.record.Call.{Call}
 use Rattle.page_disk.proofs.Index.{after_write, after_flush}

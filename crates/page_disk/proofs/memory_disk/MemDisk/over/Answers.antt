@@ -1,5 +1,4 @@
-use Rattle.std.proofs.Common.{◌≡◌, ◌≤◌, ◌+◌, sym, subst, ap, [], List, ℕ, arith}
-use Rattle.page_disk.specs.Record.{IsIndex}
+use Rattle.std.proofs.Common.{arith}
 use Rattle.page_disk.proofs.Index.{of_no_calls}
 use Rattle.page_disk.proofs.memory_disk.MemDisk.over.Goals as goal
 
