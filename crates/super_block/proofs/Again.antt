@@ -1,5 +1,5 @@
 -- What is written is read as the same value, but for the sum.
-use Rattle.std.proofs.Common.{◌≡◌, ℕ, ◌^◌, ◌<◌, true, List, [], ◌++◌, Option, length, drop, refl, sym, ap, ◌∙◌, append_assoc, arith, length-append}
+use Rattle.std.proofs.Common.{◌≡◌, ℕ, ◌^◌, ◌<◌, true, List, [], length, refl, sym, ◌∙◌, append_assoc, arith, length-append}
 use Rattle.std.proofs.lemmas.List.{append-nil}
 use Rattle.crc32c.specs.Crc.{crc32c_of, is_sound}
 use Rattle.crc32c.proofs.Sealed.{is_sound-sealed}

@@ -2,3 +2,4 @@ pub mod Passed
 pub mod Ends
 pub mod Pairs
 pub mod Again
+pub mod Placed

@@ -1,5 +1,5 @@
 -- The pairs of regions, by the first one.
-use Rattle.std.proofs.Common.{◌≡◌, ℕ, ◌≤◌, List, [], ◌∷◌, length, drop, slice_index_or, refl, arith}
+use Rattle.std.proofs.Common.{◌≡◌, ◌≤◌, List, [], ◌∷◌, length, drop, slice_index_or, refl, arith}
 use Rattle.super_block.specs.declared.span.Span.{Span}
 use Rattle.super_block.specs.Faults.{first_fault, overlap, overlap_with}
 

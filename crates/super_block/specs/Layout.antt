@@ -1,10 +1,10 @@
 -- The layout of a new store. Numbers are without bound.
-use Rattle.std.specs.Prelude.{ℕ, ◌+◌, ◌*◌, ◌/◌, ◌^◌, nat_lt, nat_le, ◌&&◌, List, [], ◌∷◌, Option, unwrap_or}
+use Rattle.std.specs.Prelude.{ℕ, ◌+◌, ◌*◌, ◌/◌, ◌^◌, nat_lt, nat_le, ◌&&◌, [], ◌∷◌, Option, unwrap_or}
 use Rattle.std.specs.Int.{div_ceil}
+use Rattle.bit_array.specs.Mask.{mask_pages}
 use Rattle.super_block.specs.declared.layout.Layout.{Layout}
 use Rattle.super_block.specs.declared.fault.SuperFault.{SuperFault}
 use Rattle.super_block.specs.declared.fault.SuperFault.TheVariants.{BadClusterSize, DeviceTooSmall}
-use Rattle.super_block.specs.Numbers.{mask_pages}
 use Rattle.super_block.specs.Faults.{first_fault, unless, in_u32, pages_fault, clusters_fault}
 
 -- The super block is page 0, and behind it stand the page mask, the cluster mask, the blob-id mask and the metadata region,

@@ -3,3 +3,4 @@ pub mod Page
 pub mod Numbers
 pub mod Faults
 pub mod Layout
+pub mod Placed

@@ -1,7 +1,6 @@
 -- The numbers that follow from a super block. They are without bound, so no sum or product wraps.
-use Rattle.std.specs.Prelude.{ℕ, ◌+◌, ◌*◌, ◌/◌, ◌==◌, if◌then◌else◌, List, [], ◌∷◌}
+use Rattle.std.specs.Prelude.{ℕ, ◌*◌, ◌/◌, ◌==◌, if◌then◌else◌, List, [], ◌∷◌}
 use Rattle.std.specs.Int.{div_ceil}
-use Rattle.super_block.specs.declared.fault.Region.{Region}
 use Rattle.super_block.specs.declared.fault.Region.TheVariants.{SuperPage, PageMask, ClusterMask, BlobMask, Md}
 use Rattle.super_block.specs.declared.span.Span.{Span}
 use Rattle.super_block.specs.declared.page.Super.{Super}
@@ -18,10 +17,6 @@ size_of s = if s.size == 0 then s.device_pages * 4096 else s.size
 -- whole clusters of the store
 unfoldable pub clusters_of : Super → ℕ
 clusters_of s = size_of s / s.cluster_size
-
--- pages that a mask of so many bits takes: one byte for its type, four for its length, and the bits, eight a byte
-unfoldable pub mask_pages : ℕ → ℕ
-mask_pages bits = div_ceil (5 + div_ceil bits 8) 4096
 
 -- the five regions
 abbrev pub super_page : Span

@@ -1,6 +1,5 @@
 -- A region of the device as a run of pages. Numbers are without bound: an end may be past 2^32.
-use Rattle.std.specs.Prelude.{ℕ, ◌+◌, Bool, nat_lt, min, max, List, map, fold, find, Option}
-use Rattle.super_block.specs.declared.fault.Region.{Region}
+use Rattle.std.specs.Prelude.{ℕ, ◌+◌, Bool, nat_lt, min, max, List, map, fold}
 use Rattle.super_block.specs.declared.span.Span.{Span}
 
 -- the page behind the last one

@@ -6,9 +6,9 @@ ghost use Rattle.super_block.specs.Faults.{cluster_size_fault, clusters_fault, c
 ghost use Rattle.super_block.specs.Numbers.{clusters_of};
 
 use crate::fault::{Region, SuperFault};
-use crate::numbers::mask_len;
 use crate::page::Super;
 use crate::span::Span;
+use bit_array::mask_pages;
 
 const SIGNATURE: [u8; 8] = *b"SPDKBLOB";
 
@@ -179,7 +179,7 @@ pub(crate) fn in_u32(n: u64) -> u32
 fn check_mask(mask: &Span, bits: u32) -> Result<(), SuperFault>
     ensures { result_err result ≡ short mask.now bits }
 {
-    let wants = mask_len(bits);
+    let wants = mask_pages(bits);
     if wants <= mask.len {
         Ok(())
     } else {

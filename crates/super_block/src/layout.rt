@@ -6,7 +6,7 @@ ghost use Rattle.super_block.specs.Layout.{cluster_pages_fault, layout_of, md_pa
 
 use crate::checks::{check_clusters, check_pages, in_u32};
 use crate::fault::SuperFault;
-use crate::numbers::mask_len;
+use bit_array::mask_pages;
 
 /// Where the masks and the metadata region of a new store stand. Starts and lengths are in pages of 4096 bytes, from the
 /// beginning of the device.
@@ -39,9 +39,9 @@ impl Layout {
         cluster_pages: u32,
         md_pages: Option<u32>,
     ) -> Result<Layout, SuperFault>
-        ensures planned { IfOk result (λ l. l ≡ layout_of device_pages cluster_pages (md_pages_of device_pages cluster_pages md_pages)) }
-        ensures no_fault { IfOk result (λ _. plan_fault device_pages cluster_pages (md_pages_of device_pages cluster_pages md_pages) ≡ None) }
-        ensures fault { IfErr result (λ e. plan_fault device_pages cluster_pages (md_pages_of device_pages cluster_pages md_pages) ≡ Some e) }
+        ensures planned { let pages = md_pages_of device_pages cluster_pages md_pages in IfOk result (λ l. l ≡ layout_of device_pages cluster_pages pages) }
+        ensures no_fault { let pages = md_pages_of device_pages cluster_pages md_pages in IfOk result (λ _. plan_fault device_pages cluster_pages pages ≡ None) }
+        ensures fault { let pages = md_pages_of device_pages cluster_pages md_pages in IfErr result (λ e. plan_fault device_pages cluster_pages pages ≡ Some e) }
     {
         check_cluster_pages(cluster_pages)?;
         let clusters = device_pages / u64::from(cluster_pages);
@@ -64,8 +64,8 @@ impl Layout {
         ensures { result ≡ layout_of device_pages cluster_pages md_pages }
     {
         let clusters = (device_pages / u64::from(cluster_pages)) as u32;
-        let page_mask_len = mask_len(md_pages);
-        let cluster_mask_len = mask_len(clusters);
+        let page_mask_len = mask_pages(md_pages);
+        let cluster_mask_len = mask_pages(clusters);
         let blob_mask_start = 1 + page_mask_len + cluster_mask_len;
         let md_start = blob_mask_start + page_mask_len;
         Layout {

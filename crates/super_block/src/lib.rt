@@ -3,12 +3,19 @@
 
 mod checks;
 mod fault;
+mod laws;
 mod layout;
+mod masks;
 mod numbers;
 mod page;
 mod span;
 
 pub use fault::{Region, SuperFault};
+pub use laws::{regions_are_placed, shared_pages};
 pub use layout::Layout;
+pub use masks::Masks;
 pub use page::{ROWS, Super, read_super, rows_tile, write_super};
 pub use span::Span;
+
+#[cfg(test)]
+mod tests;

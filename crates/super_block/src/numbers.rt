@@ -2,7 +2,7 @@
 
 ghost use Rattle.std.specs.Prelude.{◌≡◌, ◌<◌, ◌≤◌, ◌^◌, None, ◌∷◌};
 ghost use Rattle.super_block.specs.Faults.{IsFaultless, cluster_size_fault};
-ghost use Rattle.super_block.specs.Numbers.{cluster_pages_of, clusters_of, fixed_clusters_of, mask_pages, placed, super_page};
+ghost use Rattle.super_block.specs.Numbers.{cluster_pages_of, clusters_of, fixed_clusters_of, placed, super_page};
 
 use crate::fault::Region;
 use crate::page::Super;
@@ -91,13 +91,4 @@ impl Super {
             },
         ]
     }
-}
-
-/// The pages that a mask of this many bits takes.
-#[tactic(auto, unfolding(crate::specs::Numbers::mask_pages))]
-pub(crate) fn mask_len(bits: u32) -> u32
-    ensures pages { result ≡ mask_pages bits }
-    ensures small { result < 2 ^ 18 }
-{
-    (5 + bits.div_ceil(8)).div_ceil(4096)
 }

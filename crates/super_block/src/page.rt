@@ -93,6 +93,7 @@ pub fn rows_tile()
 pub fn read_super(page: &Page, device_pages: u64) -> Result<Super, SuperFault>
     ensures found { IfOk result (λ s. s ≡ super_of page.now device_pages) }
     ensures no_fault { IfOk result (λ _. super_fault page.now device_pages ≡ None) }
+    ensures faultless { IfOk result IsFaultless }
     ensures fault { IfErr result (λ e. super_fault page.now device_pages ≡ Some e) }
 {
     let sup = fields_of(page, device_pages);

@@ -1,6 +1,5 @@
-use Rattle.std.proofs.Common.{◌≡◌, List, ℕ, Bool, true, None, IsTrue, subst, sym, ap, ◌∙◌}
+use Rattle.std.proofs.Common.{List, ℕ, Bool, true, ap, ◌∙◌}
 use Rattle.crc32c.specs.Crc.{crc32c_of, is_sound}
-use Rattle.super_block.specs.declared.page.Super.{Super}
 use Rattle.super_block.specs.Page.{super_front, super_of}
 use Rattle.super_block.specs.Faults.{fault_of}
 use Rattle.super_block.proofs.Again.{is_sound-written, super_of-written, fault_of-sum}

@@ -1,4 +1,4 @@
-use Rattle.std.proofs.Common.{arith, ℕ, ◌*◌, ◌≤◌, ◌^◌}
+use Rattle.std.proofs.Common.{arith, ◌≤◌, ◌^◌}
 use Rattle.std.proofs.Math.Nat.{mul-le-mul}
 use Rattle.super_block.specs.Numbers.{clusters_of}
 use Rattle.super_block.proofs.Passed.{few_clusters}

@@ -1,4 +1,4 @@
-use Rattle.std.proofs.Common.{ℕ, ◌/◌, arith, ap, ◌∙◌}
+use Rattle.std.proofs.Common.{arith}
 use Rattle.super_block.proofs.Passed.{size_is_whole, some_pages, clusters-of_device, clusters-of_size}
 use Rattle.super_block.proofs.page.Super.whole_clusters.Goals as goal
 
