@@ -1,5 +1,5 @@
 mod Causes
-mod Refused
+pub mod Refused
 mod Replayed
 mod Scripts
 mod Verbs

@@ -1,0 +1,8 @@
+use Rattle.store_model.proofs.Law.{run_more, turn_keeps}
+use Rattle.store_model.proofs.laws.turns.Goals as goal
+
+pub returns : goal.returns
+returns c = record {
+  keep = λ told s first commands p q kind facts turn. turn_keeps s first commands p facts told q kind turn;
+  go_on = run_more;
+}

@@ -1,0 +1,6 @@
+//! What a device says of a store, and how a store's state goes on: definitions and laws, without code.
+#![tactic(auto)]
+
+mod laws;
+
+pub use laws::{scans, turns};
