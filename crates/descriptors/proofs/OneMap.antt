@@ -1,10 +1,10 @@
 -- The longest runs of a map are one list.
-use Rattle.std.proofs.Common.{◌≡◌, ◌≢◌, ℕ, zero, suc, ◌+◌, ◌<◌, true, false, eqb, List, [], ◌∷◌, ◌++◌, Option, Some, None, replicate, refl, sym, ap, subst, ◌∙◌, arith, inl, inr, add-zero}
+use Rattle.std.proofs.Common.{◌≡◌, ℕ, zero, suc, ◌+◌, ◌<◌, true, false, eqb, List, [], ◌∷◌, ◌++◌, Option, Some, None, replicate, refl, sym, ap, subst, ◌∙◌, arith, inl, inr, add-zero}
 use Rattle.std.proofs.lemmas.Bool.{cases_eq, eq-eqb, ne_eqb, both_ways}
 use Rattle.std.proofs.lemmas.Option.{same_Some}
 use Rattle.volume_model.specs.declared.lists.SlotRun.{SlotRun}
 use Rattle.descriptors.specs.Slots.{run_slots, filled_slots}
-use Rattle.descriptors.specs.Runs.{cluster_of, slots_of_run, slots_in, goes_on, IsLongest}
+use Rattle.descriptors.specs.Runs.{cluster_of, slots_in, goes_on, IsLongest}
 use Rattle.descriptors.proofs.Added.{some_cluster}
 
 -- the slot with which a run would go on

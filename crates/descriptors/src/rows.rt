@@ -6,17 +6,32 @@ ghost use Rattle.descriptors.specs.Answers.{Gives, RunsGive};
 
 use crate::item::Item;
 use crate::numbers::{u16_at, u32_at, u64_at};
-use out_of_memory::Memory;
+use out_of_memory::Memory as NoMemory;
 use std::alloc::Global;
 use volume_model::{Blobtext, RunList, SlotRun};
 
+/// Why the bytes of a descriptor say no item.
 #[derive(Debug, Drop)]
 pub enum RowFault {
+    /// They don't fit their row.
     Bad,
+    /// Memory ran out.
     Memory,
 }
 
-fn runs_of_bytes(alloc: Global, count: usize, bytes: &[u8]) -> Result<RunList, Memory>
+impl From<NoMemory> for RowFault {
+    ghost use Rattle.std.specs.Prelude.{◌≡◌};
+    ghost use Rattle.descriptors.specs.declared.rows.RowFault.TheVariants.{Memory};
+
+    ghost from_gives = { λ _ e. e ≡ Memory };
+
+    fn from(_want: NoMemory) -> RowFault {
+        RowFault::Memory
+    }
+}
+
+/// So many runs, eight bytes each.
+fn runs_of_bytes(alloc: Global, count: usize, bytes: &[u8]) -> Result<RunList, NoMemory>
     requires { count * 8 ≤ length bytes.now }
     ensures { RunsGive result (runs_in count bytes.now) }
 {
@@ -33,6 +48,7 @@ fn runs_of_bytes(alloc: Global, count: usize, bytes: &[u8]) -> Result<RunList, M
     Ok(runs)
 }
 
+/// The runs that a descriptor of type 1 says.
 #[tactic(auto, unfolding(crate::specs::Rows::rle))]
 fn rle_of(alloc: Global, body: &[u8]) -> Result<Item, RowFault>
     ensures { Gives result (rle body.now) }
@@ -40,12 +56,10 @@ fn rle_of(alloc: Global, body: &[u8]) -> Result<Item, RowFault>
     if body.len() == 0 || body.len() % 8 != 0 {
         return Err(RowFault::Bad);
     }
-    match runs_of_bytes(alloc, body.len() / 8, body) {
-        Ok(runs) => Ok(Item::Rle(runs)),
-        Err(_) => Err(RowFault::Memory),
-    }
+    Ok(Item::Rle(runs_of_bytes(alloc, body.len() / 8, body)?))
 }
 
+/// The name and the value that a descriptor of type 2 or 4 says.
 #[tactic(auto, unfolding(crate::specs::Rows::pair_in))]
 fn pair_of(body: &[u8]) -> Option<(&[u8], &[u8])>
     ensures { option_map (λ p. (p.0.now, p.1.now)) result ≡ pair_in body.now }
@@ -61,6 +75,7 @@ fn pair_of(body: &[u8]) -> Option<(&[u8], &[u8])>
     Some(body[4..].split_at(name))
 }
 
+/// The three words that a descriptor of type 3 says.
 #[tactic(auto, unfolding(crate::specs::Rows::flags))]
 fn flags_of(body: &[u8]) -> Option<Item>
     ensures { result ≡ flags body.now }
@@ -75,38 +90,31 @@ fn flags_of(body: &[u8]) -> Option<Item>
     })
 }
 
-fn texts_of(alloc: Global, name: &[u8], value: &[u8]) -> Result<(Blobtext, Blobtext), Memory>
-    ensures { IfOk result (λ p. p ≡ (name.now, value.now)) }
+/// Copies of the two.
+fn texts_of(alloc: Global, body: &[u8]) -> Result<(Blobtext, Blobtext), RowFault>
+    ensures { Gives result (pair_in body.now) }
 {
-    let key = Blobtext::new(alloc, name)?;
-    let value = Blobtext::new(alloc, value)?;
-    Ok((key, value))
+    let Some((name, value)) = pair_of(body) else {
+        return Err(RowFault::Bad);
+    };
+    Ok((Blobtext::new(alloc, name)?, Blobtext::new(alloc, value)?))
 }
 
-/// The item that the bytes after the head say.
+/// The item that the bytes after the head of a descriptor say, or why they say none.
 pub fn item_of(alloc: Global, kind: u8, body: &[u8]) -> Result<Item, RowFault>
     ensures { Gives result (row kind body.now) }
 {
     match kind {
         1 => rle_of(alloc, body),
-        2 => match pair_of(body) {
-            None => Err(RowFault::Bad),
-            Some((name, value)) => match texts_of(alloc, name, value) {
-                Ok((key, value)) => Ok(Item::Xattr { key, value }),
-                Err(_) => Err(RowFault::Memory),
-            },
-        },
-        3 => match flags_of(body) {
-            None => Err(RowFault::Bad),
-            Some(item) => Ok(item),
-        },
-        4 => match pair_of(body) {
-            None => Err(RowFault::Bad),
-            Some((name, value)) => match texts_of(alloc, name, value) {
-                Ok((key, value)) => Ok(Item::InternalXattr { key, value }),
-                Err(_) => Err(RowFault::Memory),
-            },
-        },
+        2 => {
+            let (key, value) = texts_of(alloc, body)?;
+            Ok(Item::Xattr { key, value })
+        }
+        3 => flags_of(body).ok_or(RowFault::Bad),
+        4 => {
+            let (key, value) = texts_of(alloc, body)?;
+            Ok(Item::InternalXattr { key, value })
+        }
         kind => Ok(Item::Unknown { kind }),
     }
 }

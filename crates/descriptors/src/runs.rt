@@ -11,6 +11,7 @@ use std::alloc::Global;
 use thiserror::Error;
 use volume_model::{RunList, SlotRun};
 
+/// Whether a slot with this cluster, or an empty one at 0, goes on with the run.
 fn continues(run: SlotRun, cluster: u32) -> bool
     ensures { result ≡ goes_on run cluster }
 {
@@ -21,7 +22,7 @@ fn continues(run: SlotRun, cluster: u32) -> bool
     }
 }
 
-// The run that is open after one more slot, where `run` was.
+/// The run that is open after one more slot, where `run` was; a run that ends goes to the others.
 fn add_slot(runs: &mut RunList, run: SlotRun, cluster: u32) -> Result<SlotRun, Memory>
     requires { run.length < 2 ^ 31 }
     ensures goes_on { IfOk result (λ next. 0 < run.length → IsTrue (goes_on run cluster) → (next ≡ longer run) × (runs.new ≡ runs.old)) }
@@ -41,6 +42,7 @@ fn add_slot(runs: &mut RunList, run: SlotRun, cluster: u32) -> Result<SlotRun, M
     Ok(SlotRun { cluster, length: 1 })
 }
 
+/// The runs, one turn a slot; the last run is open until the end.
 fn runs_of_slots(alloc: Global, slots: &[Option<u32>]) -> Result<RunList, Memory>
     requires few { length slots.now ≤ 2 ^ 20 }
     requires filled { All IsSlot slots.now }
@@ -87,6 +89,7 @@ pub fn slot_count(runs: &RunList) -> u64
     count_of(runs.as_slice())
 }
 
+/// The slots of the runs together, up to the last number of 64 bits.
 fn count_of(runs: &[SlotRun]) -> u64
     ensures { result ≡ at_most (2 ^ 64 - 1) (slots_of_all runs.now) }
 {
@@ -97,6 +100,7 @@ fn count_of(runs: &[SlotRun]) -> u64
     total
 }
 
+/// The map of runs that have few slots.
 fn map_of(alloc: Global, runs: &[SlotRun]) -> Result<SlotMap, Memory>
     requires few { slots_of_all runs.now ≤ 2 ^ 20 }
     requires reaches { All Reaches runs.now }
