@@ -6,6 +6,7 @@ ghost use Rattle.super_block.specs.Layout.{cluster_pages_fault, layout_of, md_pa
 
 use crate::checks::{check_clusters, check_pages, in_u32};
 use crate::fault::SuperFault;
+use crate::numbers::clusters_before;
 use bit_array::mask_pages;
 
 /// Where the masks and the metadata region of a new store stand. Starts and lengths are in pages of 4096 bytes, from the
@@ -80,7 +81,7 @@ impl Layout {
             blob_mask_len: page_mask_len,
             md_start,
             clusters,
-            fixed_clusters: (md_start + md_pages).div_ceil(cluster_pages),
+            fixed_clusters: clusters_before(u64::from(md_start + md_pages), cluster_pages) as u32,
         }
     }
 

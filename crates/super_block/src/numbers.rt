@@ -1,6 +1,7 @@
 //! The numbers that follow from a super block.
 
 ghost use Rattle.std.specs.Prelude.{◌≡◌, ◌<◌, ◌≤◌, ◌^◌, None, ◌∷◌};
+ghost use Rattle.std.specs.Int.{div_ceil};
 ghost use Rattle.super_block.specs.Faults.{IsFaultless, cluster_size_fault};
 ghost use Rattle.super_block.specs.Numbers.{cluster_pages_of, clusters_of, fixed_clusters_of, placed, super_page};
 
@@ -35,8 +36,7 @@ impl Super {
         ensures value { result ≡ fixed_clusters_of self.now }
         ensures within { result ≤ clusters_of self.now }
     {
-        let end = greatest_end(&self.spans());
-        end.div_ceil(u64::from(self.pages_in_cluster())) as u32
+        clusters_before(greatest_end(&self.spans()), self.pages_in_cluster()) as u32
     }
 
     #[tactic(auto, unfolding(crate::specs::Numbers::cluster_pages_of))]
@@ -91,4 +91,12 @@ impl Super {
             },
         ]
     }
+}
+
+/// The clusters of `pages` pages each that hold a page before page `end`.
+pub(crate) fn clusters_before(end: u64, pages: u32) -> u64
+    requires { 0 < pages }
+    ensures { result ≡ div_ceil end pages }
+{
+    end.div_ceil(u64::from(pages))
 }

@@ -3,4 +3,4 @@ use Rattle.super_block.proofs.Passed.{faultless}
 use Rattle.super_block.proofs.page.read_super.Goals as goal
 
 pub returns-clause-faultless : goal.returns-clause-faultless
-returns-clause-faultless c = faultless c.page_ok.result c.fields_of-sup.result (sym c.in_ok-check.ensures)
+returns-clause-faultless c = faultless _ _ (sym c.in_ok-check.ensures)

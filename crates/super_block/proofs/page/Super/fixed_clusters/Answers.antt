@@ -4,8 +4,8 @@ use Rattle.super_block.proofs.Passed.{passed, few_clusters, some_pages}
 use Rattle.super_block.proofs.Ends.{fixed_within}
 use Rattle.super_block.proofs.page.Super.fixed_clusters.Goals as goal
 
-pub div_ceil-requires : goal.div_ceil-requires
-div_ceil-requires c =
+pub clusters_before-requires : goal.clusters_before-requires
+clusters_before-requires c =
     let tests = passed true c.args.self.now c.requires in
     omega (arith, some_pages c.args.self.now tests.size)
 
@@ -14,12 +14,12 @@ unfolding fixed_clusters_of
 overflow_cast-result c =
     let few = few_clusters (clusters_of c.args.self.now) (passed true c.args.self.now c.requires).clusters in
     let within = fixed_within true c.args.self.now c.requires in
-    let value : c.div_ceil.result ≡ fixed_clusters_of c.args.self.now = cc in
+    let value : c.clusters_before.result ≡ fixed_clusters_of c.args.self.now = cc in
     omega (arith, few, within)
 
 pub returns-clause-within : goal.returns-clause-within
 unfolding fixed_clusters_of
 returns-clause-within c =
     let within = fixed_within true c.args.self.now c.requires in
-    let value : c.div_ceil.result ≡ fixed_clusters_of c.args.self.now = cc in
+    let value : c.clusters_before.result ≡ fixed_clusters_of c.args.self.now = cc in
     omega (arith, within)
