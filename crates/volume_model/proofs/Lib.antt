@@ -1,5 +1,7 @@
 mod Causes
+mod Others
 pub mod Refused
 mod Replayed
+pub mod Replays
 mod Scripts
 mod Verbs

@@ -1,5 +1,5 @@
 -- One step: which replies a command may get in given volumes, and the volumes afterwards.
-use Rattle.std.specs.Prelude.{◌≡◌, ℕ, ◌<◌, ◌==◌, if◌then◌else◌, Option, Some, None, Bool, true, false, not, List, slice_get, slice_set, length}
+use Rattle.std.specs.Prelude.{◌⊎◌, ◌≡◌, ℕ, ◌<◌, ◌==◌, if◌then◌else◌, Option, Some, None, Bool, true, false, not, List, slice_get, slice_set, length}
 use Rattle.std.specs.List.{filter_map}
 use Rattle.std.specs.Option.{option_map, option_and_then}
 use Rattle.volume_model.specs.Xattrs.{Text, value_of, with_value, without, told, with_nul, name_key, uuid_key}
@@ -121,6 +121,38 @@ module _ (f : Fixed) (v : Volumes) where
   change (c.Rename volume name) r.Ok = edited volume (λ x. record x { live = with_value x.live name_key (with_nul name); synced = with_value x.synced name_key (with_nul name) })
   change (c.ReadOnly volume) r.Ok = edited volume (λ x. record x { synced = x.live; read_only = true })
   change _ _ = v
+
+  -- the head of the volume that a command names
+  abbrev pub named_head : Command → Option ℕ
+  named_head (c.Create name slots thick uuid) = None
+  named_head (c.Write volume page word) = head_of f v volume
+  named_head (c.Read volume page) = head_of f v volume
+  named_head c.Flush = None
+  named_head (c.SetX volume key value) = head_of f v volume
+  named_head (c.DelX volume key) = head_of f v volume
+  named_head (c.GetX volume key) = head_of f v volume
+  named_head (c.Put volume key value) = head_of f v volume
+  named_head (c.Sync volume) = head_of f v volume
+  named_head (c.Resize volume slots) = head_of f v volume
+  named_head (c.Snapshot volume name) = head_of f v volume
+  named_head (c.Clone volume name) = head_of f v volume
+  named_head (c.Inflate volume) = head_of f v volume
+  named_head (c.Decouple volume) = head_of f v volume
+  named_head (c.Delete volume) = head_of f v volume
+  named_head (c.Rename volume name) = head_of f v volume
+  named_head (c.ReadOnly volume) = head_of f v volume
+  named_head (c.Info volume) = head_of f v volume
+  named_head c.List = None
+  named_head c.Df = None
+
+  -- a clone of a volume that is deleted
+  abbrev pub IsOrphan : Command → ℕ → Type 0
+  IsOrphan (c.Delete volume) k = (h : ℕ) × (head_of f v volume ≡ Some h) × (option_and_then (λ x. x.parent) (v k) ≡ Some h)
+  IsOrphan _ k = ⊥
+
+  -- a step speaks of the volume that it names, of the one that it makes, and of the clones of one that it deletes
+  abbrev pub SpeaksOf : Command → Reply → ℕ → Type 0
+  SpeaksOf command reply k = (named_head command ≡ Some k) ⊎ ((reply ≡ r.Made k) ⊎ IsOrphan command k)
 
   -- verbs that claim clusters
   abbrev pub MayBeFull : Command → Type 0
