@@ -197,13 +197,13 @@ module _ (f : Fixed) (v : Volumes) where
   MayLackMemory c.Flush = ⊥
   MayLackMemory _ = Unit {0}
 
-  -- No cause of a refusal holds. A write, an inflate and a decouple go on over several turns, and what a later one meets is answered whatever
-  -- holds by then.
-  abbrev pub IsAsked : Command → Type 0
-  IsAsked (c.Write volume page word) = Unit {0}
-  IsAsked (c.Inflate volume) = Unit {0}
-  IsAsked (c.Decouple volume) = Unit {0}
-  IsAsked command = refusal f v command ≡ None
+  -- No cause of a refusal holds. A write, an inflate and a decouple go on over several turns and have asked at an earlier one: what a later turn
+  -- meets is answered whatever holds by then.
+  abbrev pub HasPassed : Command → Type 0
+  HasPassed (c.Write volume page word) = Unit {0}
+  HasPassed (c.Inflate volume) = Unit {0}
+  HasPassed (c.Decouple volume) = Unit {0}
+  HasPassed command = refusal f v command ≡ None
 
   -- the reply may come: the one of a verb that is done and the faults, each where it may, and else the first cause that holds
   abbrev pub Allowed : Command → Reply → Type 0
@@ -215,8 +215,8 @@ module _ (f : Fixed) (v : Volumes) where
   Allowed command (r.List list) = (refusal f v command ≡ None) × Done command (r.List list)
   Allowed command (r.Df df) = (refusal f v command ≡ None) × Done command (r.Df df)
   Allowed command r.Full = (refusal f v command ≡ None) × MayBeFull command
-  Allowed command r.NoPage = IsAsked command × MayLackPages command
-  Allowed command r.ReadFault = IsAsked command × MayMissRead command
+  Allowed command r.NoPage = HasPassed command × MayLackPages command
+  Allowed command r.ReadFault = HasPassed command × MayMissRead command
   Allowed command r.Fault = MayFail command
   Allowed command (r.Stopped at) = Unit {0}
   Allowed command r.Memory = MayLackMemory command
