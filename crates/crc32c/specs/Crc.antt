@@ -1,5 +1,5 @@
 -- CRC-32C, bit by bit, as the remainder of a division of polynomials over two elements.
-use Rattle.std.specs.Prelude.{ℕ, Bool, ◌/◌, ◌%◌, ◌==◌, if◌then◌else◌, List, [], ◌∷◌, take, drop, bit_xor}
+use Rattle.std.specs.Prelude.{ℕ, zero, suc, Bool, ◌+◌, ◌*◌, ◌/◌, ◌%◌, ◌==◌, if◌then◌else◌, List, [], ◌∷◌, take, drop, bit_xor}
 use Rattle.std.specs.Int.{from_le_bytes, w32}
 
 -- the divisor without its first coefficient, the lowest power first
@@ -22,6 +22,16 @@ after_byte remainder byte = eight_steps (bit_xor remainder byte)
 unfoldable pub remainder_of : ℕ → List ℕ → ℕ
 remainder_of remainder [] = remainder
 remainder_of remainder (byte ∷ bytes) = remainder_of (after_byte remainder byte) bytes
+
+-- the steps of so many bytes
+unfoldable pub byte_steps : ℕ → ℕ → ℕ
+byte_steps zero r = r
+byte_steps (suc n) r = byte_steps n (eight_steps r)
+
+-- the number that these bytes spell, the lowest first
+unfoldable pub number_of : List ℕ → ℕ
+number_of [] = 0
+number_of (byte ∷ bytes) = byte + 256 * number_of bytes
 
 -- the checksum of these bytes
 unfoldable pub crc32c_of : List ℕ → ℕ

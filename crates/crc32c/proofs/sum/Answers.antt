@@ -1,21 +1,15 @@
-use Rattle.std.proofs.Common.{◌∙◌, ap, sym, refl, take, get_or, List, ℕ}
+use Rattle.std.proofs.Common.{◌∙◌, ◌+◌, ◌-◌, ◌*◌, ◌/◌, ap, length, take, drop, List, ℕ, arith}
 use Rattle.std.specs.Prelude.{bit_xor}
-use Rattle.std.proofs.lemmas.List.{take_more, take_all}
-use Rattle.crc32c.specs.Crc.{remainder_of, crc32c_of, after_byte}
-use Rattle.crc32c.proofs.Division.{remainder_of-push}
+use Rattle.std.proofs.lemmas.List.{take_all}
+use Rattle.crc32c.specs.Crc.{crc32c_of, remainder_of}
+use Rattle.crc32c.proofs.Words.{remainder_of-parts}
 use Rattle.crc32c.proofs.sum.Goals as goal
-
-pub loop-byte-init : goal.loop-byte-init
-unfolding remainder_of
-loop-byte-init c = refl
-
-pub loop-byte-preserved : goal.loop-byte-preserved
-loop-byte-preserved c =
-    let i = c.loop-byte.byte-index in
-    let bytes = c.args.bytes.now in
-    c.divide_byte-remainder.ensures ∙ ap (λ r. after_byte r (get_or bytes i 0)) c.loop-byte.invariant
-    ∙ sym (ap (λ (l : List ℕ). remainder_of 0xFFFFFFFF l) (take_more bytes i 0 c.loop-byte-test.true) ∙ remainder_of-push 0xFFFFFFFF (take i bytes) (get_or bytes i 0))
 
 pub returns : goal.returns
 unfolding crc32c_of
-returns c = ap (λ r. bit_xor r 0xFFFFFFFF) (c.loop-byte.invariant ∙ ap (λ (l : List ℕ). remainder_of 0xFFFFFFFF l) (take_all c.loop-byte.byte-index c.args.bytes.now c.loop-byte-test.false))
+returns c =
+    let bytes = c.args.bytes.now in
+    let eights = length bytes / 8 * 8 in
+    ap (λ r. bit_xor r 0xFFFFFFFF)
+    (c.divide_bytes.ensures ∙ ap (λ r. remainder_of r (take (length bytes - eights) (drop eights bytes))) c.divide_eights-remainder.ensures ∙ remainder_of-parts 0xFFFFFFFF eights (length bytes - eights) bytes
+    ∙ ap (λ (l : List ℕ). remainder_of 0xFFFFFFFF l) (take_all (eights + (length bytes - eights)) bytes (omega arith)))
