@@ -3,3 +3,4 @@ pub mod Ends
 pub mod Pairs
 pub mod Again
 pub mod Placed
+pub mod Planned

@@ -1,7 +1,8 @@
 -- The layout of a new store. Numbers are without bound.
-use Rattle.std.specs.Prelude.{ℕ, ◌+◌, ◌*◌, ◌/◌, ◌^◌, nat_lt, nat_le, ◌&&◌, [], ◌∷◌, Option, unwrap_or}
+use Rattle.std.specs.Prelude.{List, ◌≡◌, None, codes, replicate, ℕ, ◌+◌, ◌*◌, ◌/◌, ◌^◌, nat_lt, nat_le, ◌&&◌, [], ◌∷◌, Option, unwrap_or}
 use Rattle.std.specs.Int.{div_ceil}
 use Rattle.bit_array.specs.Mask.{mask_pages}
+use Rattle.super_block.specs.declared.page.Super.{Super}
 use Rattle.super_block.specs.declared.layout.Layout.{Layout}
 use Rattle.super_block.specs.declared.fault.SuperFault.{SuperFault}
 use Rattle.super_block.specs.declared.fault.SuperFault.TheVariants.{BadClusterSize, DeviceTooSmall}
@@ -47,3 +48,34 @@ room_fault plan = unless (nat_le plan.fixed_clusters plan.clusters) (DeviceTooSm
 unfoldable pub plan_fault : ℕ → ℕ → ℕ → Option SuperFault
 plan_fault device_pages cluster_pages md_pages =
     first_fault (cluster_pages_fault cluster_pages ∷ pages_fault md_pages ∷ clusters_fault (device_pages / cluster_pages) ∷ room_fault (layout_of device_pages cluster_pages md_pages) ∷ [])
+
+-- a layout that was planned without a fault
+pub record IsPlanned (plan : Layout) : Type 0 where
+  pub value : plan ≡ layout_of plan.device_pages plan.cluster_pages plan.md_pages
+  pub no_fault : plan_fault plan.device_pages plan.cluster_pages plan.md_pages ≡ None
+
+-- the super block of a new store with this layout, for a super blob and a kind of store
+unfoldable pub new_super : Layout → ℕ → List ℕ → Super
+new_super plan super_blob bstype = record {
+  device_pages = plan.device_pages;
+  signature = codes "SPDKBLOB";
+  version = 3;
+  length = 4096;
+  clean = 1;
+  super_blob = super_blob;
+  cluster_size = plan.cluster_pages * 4096;
+  used_page_mask_start = plan.page_mask_start;
+  used_page_mask_len = plan.page_mask_len;
+  used_cluster_mask_start = plan.cluster_mask_start;
+  used_cluster_mask_len = plan.cluster_mask_len;
+  md_start = plan.md_start;
+  md_len = plan.md_pages;
+  bstype = bstype;
+  used_blobid_mask_start = plan.blob_mask_start;
+  used_blobid_mask_len = plan.blob_mask_len;
+  size = plan.device_pages * 4096;
+  io_unit_size = 4096;
+  md_page_size = 0;
+  rest = replicate 3996 0;
+  crc = 0;
+}

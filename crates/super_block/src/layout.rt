@@ -2,11 +2,13 @@
 
 ghost use Rattle.std.specs.Prelude.{◌≡◌, ◌≤◌, ◌<◌, ◌/◌, ◌*◌, ◌^◌, IfOk, IfErr, OnOk, Some, None};
 ghost use Rattle.std.specs.Result.{result_err};
-ghost use Rattle.super_block.specs.Layout.{cluster_pages_fault, layout_of, md_pages_of, plan_fault, room_fault};
+ghost use Rattle.super_block.specs.Faults.{IsFaultless};
+ghost use Rattle.super_block.specs.Layout.{IsPlanned, cluster_pages_fault, layout_of, md_pages_of, new_super, plan_fault, room_fault};
 
 use crate::checks::{check_clusters, check_pages, in_u32};
 use crate::fault::SuperFault;
 use crate::numbers::clusters_before;
+use crate::page::Super;
 use bit_array::mask_pages;
 
 /// Where the masks and the metadata region of a new store stand. Starts and lengths are in pages of 4096 bytes, from the
@@ -34,7 +36,7 @@ impl Layout {
     /// `md_pages` metadata pages, or as many as clusters. Where it has no place the answer is, in this order:
     /// `BadClusterSize` where `cluster_pages` is 0 or at least 2^20, `TooManyPages`, `TooManyClusters`, and
     /// `DeviceTooSmall` where not even the fixed clusters fit.
-    #[tactic(auto, unfolding(crate::specs::Layout::plan_fault))]
+    #[tactic(auto, using(crate::proofs::Planned::planned), unfolding(crate::specs::Layout::plan_fault))]
     pub fn plan(
         device_pages: u64,
         cluster_pages: u32,
@@ -43,6 +45,7 @@ impl Layout {
         ensures planned { let pages = md_pages_of device_pages cluster_pages md_pages in IfOk result (λ l. l ≡ layout_of device_pages cluster_pages pages) }
         ensures no_fault { let pages = md_pages_of device_pages cluster_pages md_pages in IfOk result (λ _. plan_fault device_pages cluster_pages pages ≡ None) }
         ensures fault { let pages = md_pages_of device_pages cluster_pages md_pages in IfErr result (λ e. plan_fault device_pages cluster_pages pages ≡ Some e) }
+        ensures is_planned { IfOk result IsPlanned }
     {
         check_cluster_pages(cluster_pages)?;
         let clusters = device_pages / u64::from(cluster_pages);
@@ -55,6 +58,39 @@ impl Layout {
         let layout = Layout::of(device_pages, cluster_pages, md_pages as u32);
         layout.check_room()?;
         Ok(layout)
+    }
+
+    /// The super block that a new store with this layout begins with. `super_blob` is the id of the super blob, or 2^64 - 1
+    /// where there is none, and `bstype` says what kind of store it is.
+    #[tactic(auto, unfolding(crate::specs::Layout::new_super))]
+    pub fn new_super(&self, super_blob: u64, bstype: [u8; 16]) -> Super
+        requires { IsPlanned self.now }
+        ensures value { result ≡ new_super self.now super_blob bstype }
+        ensures faultless { IsFaultless result }
+    {
+        Super {
+            device_pages: self.device_pages,
+            signature: *b"SPDKBLOB",
+            version: 3,
+            length: 4096,
+            clean: 1,
+            super_blob,
+            cluster_size: self.cluster_pages * 4096,
+            used_page_mask_start: self.page_mask_start,
+            used_page_mask_len: self.page_mask_len,
+            used_cluster_mask_start: self.cluster_mask_start,
+            used_cluster_mask_len: self.cluster_mask_len,
+            md_start: self.md_start,
+            md_len: self.md_pages,
+            bstype,
+            used_blobid_mask_start: self.blob_mask_start,
+            used_blobid_mask_len: self.blob_mask_len,
+            size: self.device_pages * 4096,
+            io_unit_size: 4096,
+            md_page_size: 0,
+            rest: [0; 3996],
+            crc: 0,
+        }
     }
 
     #[tactic(auto, unfolding(crate::specs::Layout::layout_of))]

@@ -255,7 +255,7 @@ fn the_first_test_that_fails_is_the_fault(rt: HostRuntime) {
 }
 
 #[test]
-fn plans(rt: HostRuntime) {
+fn stores_are_planned(rt: HostRuntime) -> Result<(), Fail> {
     let cases = [
         (
             (19, 4, Some(16)),
@@ -291,6 +291,15 @@ fn plans(rt: HostRuntime) {
         let found = planned.map(|layout| (layout.md_start, layout.clusters, layout.fixed_clusters));
         assert_eq!(rt; found, wanted, "at {device_pages}");
     }
+    let mut planned = [0; 4096];
+    write_super(
+        &Layout::plan(64, 4, Some(16))?.new_super(u64::MAX, [0; 16]),
+        &mut planned,
+    );
+    let mut wanted = [0; 4096];
+    write_super(&small(), &mut wanted);
+    assert!(rt; planned == wanted);
+    Ok(())
 }
 
 #[test]
