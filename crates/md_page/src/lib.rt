@@ -63,6 +63,7 @@ pub fn read(page: &Page) -> Result<MdPage, Unsound>
     Ok(fields_of(page))
 }
 
+/// The fields of a page, whatever its sum.
 #[tactic(auto, unfolding(crate::specs::Page::id_of, crate::specs::Page::sequence_of, crate::specs::Page::body_of, crate::specs::Page::next_of))]
 fn fields_of(page: &Page) -> MdPage
     ensures { IsMdPage page.now result }
@@ -81,6 +82,7 @@ pub fn write(md: &MdPage, into: &mut Page)
     put_page(md, into);
 }
 
+/// Writes the fields and their sum.
 #[tactic(auto, unfolding(crate::specs::Page::page_bytes))]
 fn put_page(md: &MdPage, into: &mut Page)
     ensures bytes { into.new ≡ page_bytes md.now }
@@ -92,6 +94,7 @@ fn put_page(md: &MdPage, into: &mut Page)
     Field::<4092, 4>::set(into, &bytes_of_u32(sum));
 }
 
+/// Writes the fields without their sum.
 fn put_front(md: &MdPage, into: &mut Page)
     ensures front { take 4092 into.new ≡ page_front md.now }
     ensures fits { FitsMdPage md.now }

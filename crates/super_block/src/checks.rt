@@ -10,16 +10,18 @@ use crate::page::Super;
 use crate::span::Span;
 use bit_array::mask_pages;
 
-const SIGNATURE: [u8; 8] = *b"SPDKBLOB";
+/// The first bytes of a super block.
+pub(crate) const SIGNATURE: [u8; 8] = *b"SPDKBLOB";
 
-const VERSION: u32 = 3;
+/// The version of the format.
+pub(crate) const VERSION: u32 = 3;
 
 const MOST_PAGES: u64 = 1 << 20;
 
 const MOST_CLUSTERS: u64 = 1 << 24;
 
 impl Super {
-    // The first fault, of a page that is sound or isn't.
+    /// The first fault of a super block whose page is sound or isn't. Each test has its fault alone.
     #[tactic(auto, unfolding(crate::specs::Faults::fault_of, crate::specs::Faults::tests))]
     pub(crate) fn check(&self, sound: bool) -> Result<(), SuperFault>
         ensures { result_err result ≡ fault_of sound self.now }
@@ -37,6 +39,7 @@ impl Super {
         self.check_overlaps()
     }
 
+    /// The page begins with the signature.
     #[tactic(auto, unfolding(crate::specs::Faults::signature_fault))]
     fn check_signature(&self) -> Result<(), SuperFault>
         ensures { result_err result ≡ signature_fault self.now }
@@ -48,6 +51,7 @@ impl Super {
         }
     }
 
+    /// The version is that of this format.
     #[tactic(auto, unfolding(crate::specs::Faults::version_fault))]
     fn check_version(&self) -> Result<(), SuperFault>
         ensures { result_err result ≡ version_fault self.now }
@@ -61,6 +65,7 @@ impl Super {
         }
     }
 
+    /// Metadata pages have 4096 bytes, for which 0 may stand.
     #[tactic(auto, unfolding(crate::specs::Faults::page_size_fault))]
     fn check_page_size(&self) -> Result<(), SuperFault>
         ensures { result_err result ≡ page_size_fault self.now }
@@ -71,6 +76,7 @@ impl Super {
         }
     }
 
+    /// A cluster is whole pages, and has at least one.
     #[tactic(auto, unfolding(crate::specs::Faults::cluster_size_fault))]
     fn check_cluster_size(&self) -> Result<(), SuperFault>
         ensures { result_err result ≡ cluster_size_fault self.now }
@@ -84,7 +90,7 @@ impl Super {
         }
     }
 
-    // The device's bytes may be more than a u64 counts: the store's pages are compared.
+    /// The store is no larger than the device. The device's bytes may be more than a u64 counts, so pages are compared.
     #[tactic(auto, unfolding(crate::specs::Faults::size_fault))]
     fn check_size(&self) -> Result<(), SuperFault>
         ensures { result_err result ≡ size_fault self.now }
@@ -98,6 +104,7 @@ impl Super {
         }
     }
 
+    /// The masks and the metadata region end with the last whole cluster, or before.
     #[tactic(auto, unfolding(crate::specs::Faults::past_fault, crate::specs::Numbers::placed))]
     fn check_ends(&self) -> Result<(), SuperFault>
         requires sized { cluster_size_fault self.now ≡ None }
@@ -113,6 +120,7 @@ impl Super {
         }
     }
 
+    /// Each mask has the pages that its bits take.
     #[tactic(auto, unfolding(crate::specs::Faults::mask_fault, crate::specs::Numbers::placed))]
     fn check_masks(&self) -> Result<(), SuperFault>
         requires sized { cluster_size_fault self.now ≡ None }
@@ -125,6 +133,7 @@ impl Super {
         check_mask(&blobs, self.md_len)
     }
 
+    /// No page is in two regions.
     #[tactic(auto, unfolding(crate::specs::Faults::overlap_fault))]
     fn check_overlaps(&self) -> Result<(), SuperFault>
         ensures { result_err result ≡ overlap_fault self.now }
@@ -133,6 +142,7 @@ impl Super {
     }
 }
 
+/// The page is sound.
 fn check_sum(sound: bool) -> Result<(), SuperFault>
     ensures { result_err result ≡ checksum_fault sound }
 {
@@ -143,6 +153,7 @@ fn check_sum(sound: bool) -> Result<(), SuperFault>
     }
 }
 
+/// There are at most 2^20 metadata pages.
 #[tactic(auto, unfolding(crate::specs::Faults::pages_fault))]
 pub(crate) fn check_pages(pages: u64) -> Result<(), SuperFault>
     ensures fault { result_err result ≡ pages_fault pages }
@@ -157,6 +168,7 @@ pub(crate) fn check_pages(pages: u64) -> Result<(), SuperFault>
     }
 }
 
+/// There are at most 2^24 clusters.
 #[tactic(auto, unfolding(crate::specs::Faults::clusters_fault))]
 pub(crate) fn check_clusters(clusters: u64) -> Result<(), SuperFault>
     ensures fault { result_err result ≡ clusters_fault clusters }
@@ -169,13 +181,14 @@ pub(crate) fn check_clusters(clusters: u64) -> Result<(), SuperFault>
     }
 }
 
-// A number for a field of 32 bits, or the greatest that it holds.
+/// A number for a field of 32 bits, or the greatest that it holds.
 pub(crate) fn in_u32(n: u64) -> u32
     ensures { result ≡ in_u32 n }
 {
     n.min(u64::from(u32::MAX)) as u32
 }
 
+/// The mask has the pages that so many bits take.
 fn check_mask(mask: &Span, bits: u32) -> Result<(), SuperFault>
     ensures { result_err result ≡ short mask.now bits }
 {
@@ -191,6 +204,7 @@ fn check_mask(mask: &Span, bits: u32) -> Result<(), SuperFault>
     }
 }
 
+/// No two of these regions have a page in common.
 #[tactic(auto, using(crate::proofs::Pairs::overlap_split))]
 fn check_pairs(spans: &[Span]) -> Result<(), SuperFault>
     ensures { result_err result ≡ overlap spans.now }
@@ -202,6 +216,7 @@ fn check_pairs(spans: &[Span]) -> Result<(), SuperFault>
     check_pairs(rest)
 }
 
+/// None of the other regions has a page of the first one.
 fn check_apart(first: &Span, rest: &[Span]) -> Result<(), SuperFault>
     ensures { result_err result ≡ overlap_with first.now rest.now }
 {

@@ -5,11 +5,17 @@ use thiserror::Error;
 /// The whole device, or one of the five regions at its front.
 #[derive(Clone, Copy, Debug, PartialEq, Eq)]
 pub enum Region {
+    /// The store as a whole.
     Whole,
+    /// Page 0, the super block.
     SuperPage,
+    /// The mask of used metadata pages.
     PageMask,
+    /// The mask of used clusters.
     ClusterMask,
+    /// The mask of heads: the metadata pages at which a blob begins.
     BlobMask,
+    /// The metadata pages.
     Md,
 }
 

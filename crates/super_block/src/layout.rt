@@ -5,7 +5,7 @@ ghost use Rattle.std.specs.Result.{result_err};
 ghost use Rattle.super_block.specs.Faults.{IsFaultless};
 ghost use Rattle.super_block.specs.Layout.{IsPlanned, cluster_pages_fault, layout_of, md_pages_of, new_super, plan_fault, room_fault};
 
-use crate::checks::{check_clusters, check_pages, in_u32};
+use crate::checks::{SIGNATURE, VERSION, check_clusters, check_pages, in_u32};
 use crate::fault::SuperFault;
 use crate::numbers::clusters_before;
 use crate::page::Super;
@@ -15,8 +15,11 @@ use bit_array::mask_pages;
 /// beginning of the device.
 #[derive(Clone, Copy, Debug, PartialEq, Eq)]
 pub struct Layout {
+    /// The pages of the device.
     pub device_pages: u64,
+    /// The pages of a cluster.
     pub cluster_pages: u32,
+    /// The pages of the metadata region, which begins at `md_start`.
     pub md_pages: u32,
     pub page_mask_start: u32,
     pub page_mask_len: u32,
@@ -70,8 +73,8 @@ impl Layout {
     {
         Super {
             device_pages: self.device_pages,
-            signature: *b"SPDKBLOB",
-            version: 3,
+            signature: SIGNATURE,
+            version: VERSION,
             length: 4096,
             clean: 1,
             super_blob,
@@ -93,6 +96,7 @@ impl Layout {
         }
     }
 
+    /// The layout for so many metadata pages.
     #[tactic(auto, unfolding(crate::specs::Layout::layout_of))]
     fn of(device_pages: u64, cluster_pages: u32, md_pages: u32) -> Layout
         requires some { 0 < cluster_pages }
@@ -121,6 +125,7 @@ impl Layout {
         }
     }
 
+    /// The fixed clusters are on the device.
     #[tactic(auto, unfolding(crate::specs::Layout::room_fault))]
     fn check_room(&self) -> Result<(), SuperFault>
         ensures { result_err result ≡ room_fault self.now }
@@ -137,6 +142,7 @@ impl Layout {
     }
 }
 
+/// A cluster has at least one page, and fewer than 2^20.
 #[tactic(auto, unfolding(crate::specs::Layout::cluster_pages_fault))]
 fn check_cluster_pages(pages: u32) -> Result<(), SuperFault>
     ensures fault { result_err result ≡ cluster_pages_fault pages }

@@ -39,6 +39,7 @@ impl Super {
         clusters_before(greatest_end(&self.spans()), self.pages_in_cluster()) as u32
     }
 
+    /// The pages of a cluster, 0 where it has fewer bytes than a page.
     #[tactic(auto, unfolding(crate::specs::Numbers::cluster_pages_of))]
     pub(crate) fn pages_in_cluster(&self) -> u32
         ensures { result ≡ cluster_pages_of self.now }
@@ -46,7 +47,7 @@ impl Super {
         self.cluster_size / 4096
     }
 
-    // A size of 0 is the device's, whose bytes may be more than a u64 counts.
+    /// The whole clusters of the store. A size of 0 is the device's, whose bytes may be more than a u64 counts.
     pub(crate) fn whole_clusters(&self) -> u64
         requires { cluster_size_fault self.now ≡ None }
         ensures { result ≡ clusters_of self.now }
@@ -58,7 +59,7 @@ impl Super {
         }
     }
 
-    // The five regions, in the order in which two of them are named.
+    /// The five regions, in the order in which two of them are named.
     #[tactic(auto, unfolding(crate::specs::Numbers::placed))]
     pub(crate) fn spans(&self) -> [Span; 5]
         ensures { result ≡ super_page ∷ placed self.now }

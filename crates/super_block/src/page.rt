@@ -31,14 +31,18 @@ pub struct Super {
     pub super_blob: u64,
     /// The bytes of a cluster.
     pub cluster_size: u32,
+    /// The mask of used metadata pages.
     pub used_page_mask_start: u32,
     pub used_page_mask_len: u32,
+    /// The mask of used clusters.
     pub used_cluster_mask_start: u32,
     pub used_cluster_mask_len: u32,
+    /// The metadata region.
     pub md_start: u32,
     pub md_len: u32,
     /// What kind of store it is: zeros, or `LVOLSTORE` and seven NULs.
     pub bstype: [u8; 16],
+    /// The mask of heads.
     pub used_blobid_mask_start: u32,
     pub used_blobid_mask_len: u32,
     /// The bytes of the store; 0 stands for those of the device.
@@ -101,6 +105,7 @@ pub fn read_super(page: &Page, device_pages: u64) -> Result<Super, SuperFault>
     Ok(sup)
 }
 
+/// The value of each row, and the number of the device's pages.
 #[tactic(auto, unfolding(crate::specs::Page::super_of))]
 fn fields_of(page: &Page, device_pages: u64) -> Super
     ensures { result ≡ super_of page.now device_pages }
@@ -120,6 +125,7 @@ pub fn write_super(sup: &Super, into: &mut Page)
     put_page(sup, into);
 }
 
+/// Writes the rows and their sum.
 #[tactic(auto, unfolding(crate::specs::Page::super_bytes))]
 fn put_page(sup: &Super, into: &mut Page)
     ensures bytes { into.new ≡ super_bytes sup.now }
@@ -131,6 +137,7 @@ fn put_page(sup: &Super, into: &mut Page)
     Field::<4092, 4>::set(into, &bytes_of_u32(sum));
 }
 
+/// Writes the rows without their sum.
 #[tactic(auto, unfolding(crate::specs::Page::super_front))]
 fn put_front(sup: &Super, into: &mut Page)
     ensures front { take 4092 into.new ≡ super_front sup.now }
@@ -141,7 +148,7 @@ fn put_front(sup: &Super, into: &mut Page)
     table!(write sup into);
 }
 
-// A read of a number behind a reference tells that it fits its type, for the first eight that a function reads.
+/// The first eight numbers fit their types. A function's proof knows that of eight numbers that it reads behind a reference.
 fn first_numbers_fit(sup: &Super)
     ensures version_row { sup.now.version < 2 ^ 32 }
     ensures length_row { sup.now.length < 2 ^ 32 }
@@ -162,6 +169,7 @@ fn first_numbers_fit(sup: &Super)
     let _used_cluster_mask_start = sup.used_cluster_mask_start;
 }
 
+/// The last eight numbers fit their types.
 fn last_numbers_fit(sup: &Super)
     ensures used_cluster_mask_len_row { sup.now.used_cluster_mask_len < 2 ^ 32 }
     ensures md_start_row { sup.now.md_start < 2 ^ 32 }

@@ -2,7 +2,7 @@ use crate::{Layout, Region, Super, SuperFault, read_super, write_super};
 use std::process::Abort;
 use std::test::Fail;
 
-// 64 pages with clusters of 4 pages and 16 metadata pages, as a new store has them.
+/// A store of 64 pages with clusters of 4 pages and 16 metadata pages, as it is when it is new.
 fn small() -> Super {
     Super {
         device_pages: 64,
@@ -29,7 +29,7 @@ fn small() -> Super {
     }
 }
 
-// The fault of the small store's page with some of its words changed and the sum taken anew.
+/// The fault of the small store's page with some of its words changed and the sum taken anew.
 fn fault(rt: &impl Abort, device_pages: u64, changes: &[(usize, u32)]) -> Option<SuperFault> {
     let mut page = [0; 4096];
     write_super(&small(), &mut page);
@@ -41,6 +41,7 @@ fn fault(rt: &impl Abort, device_pages: u64, changes: &[(usize, u32)]) -> Option
     read_super(&page, device_pages).err()
 }
 
+/// Puts the sum of the page at its end.
 fn seal(page: &mut [u8; 4096]) {
     let sum = crc32c::sum(&page[..4092]).to_le_bytes();
     page[4092..].copy_from_slice(&sum);
