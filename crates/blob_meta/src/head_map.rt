@@ -1,6 +1,6 @@
 //! Finite maps from the heads of blobs.
 
-ghost use Rattle.std.specs.Prelude.{◌≡◌, OnOk, OnErr, IfSome, IfNone, option_copied};
+ghost use Rattle.std.specs.Prelude.{◌≡◌, OnOk, OnErr, IfSome, IfNone, None, option_copied};
 ghost use Rattle.std.specs.FinMap as map;
 ghost use Rattle.blob_meta.specs.Heads.{IsNextFrom, HasNoneFrom};
 
@@ -46,13 +46,17 @@ impl<V: Drop> HeadMap<V> {
         self.entries.get(&head)
     }
 
-    /// Gives the head this value, whatever it had. After `Memory` the map is as before.
+    /// Gives the head this value, whatever it had. After `Memory`, which comes only for a head that the map doesn't have, the
+    /// map is as before.
     pub fn insert(&mut self, head: u32, value: V) -> Result<(), Memory>
         ensures ok { OnOk result (self.new ≡ map.insert self.old head value) }
+        ensures absent { OnErr result (map.get self.old head ≡ None) }
         ensures memory { OnErr result (self.new ≡ self.old) }
     {
-        self.entries.insert(head, value)?;
-        Ok(())
+        match self.entries.insert(head, value) {
+            Ok(_) => Ok(()),
+            Err(_) => Err(Memory),
+        }
     }
 
     /// Takes the head out, and gives what it had; `None` exactly where the map didn't have it.

@@ -1,2 +1,3 @@
 pub mod OneChain
 pub mod Links
+pub mod Written

@@ -4,9 +4,9 @@ use Rattle.std.proofs.lemmas.Bool.{cases_eq}
 use Rattle.std.proofs.lemmas.List.Elements.{All-push, All-weaker}
 use Rattle.std.proofs.Math.Path.{fun_ext}
 use Rattle.super_block.specs.declared.page.Super.{Super}
-use Rattle.volume_model.specs.Volumes.{Volume, Volumes, head_of}
+use Rattle.volume_model.specs.Volumes.{Fixed, Volume, Volumes, head_of}
 use Rattle.volume_model.specs.Refusals.{refusal}
-use Rattle.volume_model.specs.Steps.{IsRefusal, Allowed, MayFail, change, edited_at}
+use Rattle.volume_model.specs.Steps.{IsRefusal, Allowed, MayFail, Step, change, edited_at}
 use Rattle.volume_model.specs.Xattrs.{with_value}
 use Rattle.volume_model.specs.Logs.{replay}
 use Rattle.volume_model.specs.declared.command.Command.{Command}
@@ -14,15 +14,15 @@ use Rattle.volume_model.specs.declared.command.Command.TheVariants.{Put}
 use Rattle.volume_model.specs.declared.reply.Reply.{Reply}
 use Rattle.volume_model.specs.declared.reply.Reply.TheVariants as r
 use Rattle.volume_model.specs.declared.reply.Entry.{Entry}
-use Rattle.volume_model.proofs.Refused.{refused}
 use Rattle.blob_meta.specs.declared.meta.Meta.{Meta}
 use Rattle.store_model.specs.Maps.{Metas, given}
-use Rattle.store_model.specs.Shown.{fixed_of, shows}
+use Rattle.store_model.specs.Shown.{fixed_of, shows, plain_shows}
 use Rattle.store_model.specs.State.{Device, State, shown, logged, entry_of}
 use Rattle.store_model.specs.Turns.{Puts, IsRefused, Refuses, Commits, Fails, Stands, Kind, refuses, commits, fails, stands, Turn, Run}
 use Rattle.store_model.specs.Facts.{IsPlain, ArePlain, Facts}
-use Rattle.store_model.proofs.Replays.{replay-push, legal-push, numbered-push}
-use Rattle.store_model.proofs.Showing.{plain_shows, shows_plain, shows_put}
+use Rattle.volume_model.proofs.Replays.{replay_push, legal_push}
+use Rattle.store_model.proofs.Numbering.{numbered-push}
+use Rattle.store_model.proofs.Showing.{shows_plain, shows_put}
 use Rattle.store_model.proofs.Plain.{plain_put}
 use Rattle.store_model.proofs.Given.{given_here, given_elsewhere}
 
@@ -78,7 +78,11 @@ is_allowed p command r.NoValue why = why.1
 is_allowed p command r.TooLong why = why.1
 is_allowed p command r.TooLarge why = why.1
 
-module _ (s : Super) (first : Volumes) (commands : List Command) (p : State) (facts : Facts s first commands p) where
+-- no refusal changes a volume
+abbrev pub RefusalsChangeNothing : Type 0
+RefusalsChangeNothing = (f : Fixed) (v : Volumes) (command : Command) (reply : Reply) (w : Volumes) → IsRefusal reply → Step f v command reply w → (h : ℕ) → w h ≡ v h
+
+module _ (quiet : RefusalsChangeNothing) (s : Super) (first : Volumes) (commands : List Command) (p : State) (facts : Facts s first commands p) where
   -- what any turn that logs keeps
   log_keeps : (command : Command) (rest : List Command) (reply : Reply) (base : Metas) (st : Option ℕ) (d : Device) → p.left ≡ command ∷ rest → Allowed (fixed_of s) (replay (fixed_of s) first p.log) command reply
       → p.device.clock ≤ d.clock → ArePlain s base → (st ≡ None → plain_shows base ≡ change (fixed_of s) (replay (fixed_of s) first p.log) command reply)
@@ -90,9 +94,9 @@ module _ (s : Super) (first : Volumes) (commands : List Command) (p : State) (fa
       record {
         super = facts.super;
         plain = plain;
-        legal = legal-push f first p.log e facts.legal allowed;
+        legal = legal_push f first p.log e facts.legal allowed;
         replayed = λ runs.
-            ap (λ (x : Super). shows (fixed_of x) d.reads base) facts.super ∙ shows_plain f d.reads s base plain ∙ shows_it runs ∙ sym (replay-push f first p.log e);
+            ap (λ (x : Super). shows (fixed_of x) d.reads base) facts.super ∙ shows_plain f d.reads s base plain ∙ shows_it runs ∙ sym (replay_push f first p.log e);
         way = record {
           made = way.made ++ command ∷ [];
           numbered = numbered-push 0 p.log way.made e command way.numbered (omega arith) refl;
@@ -112,15 +116,19 @@ module _ (s : Super) (first : Volumes) (commands : List Command) (p : State) (fa
   allowed_here command reply runs allowed =
       subst (λ (v : Volumes). Allowed (fixed_of s) v command reply) (facts.replayed runs) (subst (λ (x : Super). Allowed (fixed_of x) (shown p) command reply) facts.super allowed)
 
-  same : (command : Command) (reply : Reply) → IsRefusal reply → change (fixed_of s) (replay (fixed_of s) first p.log) command reply ≡ replay (fixed_of s) first p.log
-  same command reply is = fun_ext (λ h. refused (fixed_of s) (replay (fixed_of s) first p.log) command reply is h)
+  same : (command : Command) (reply : Reply) → IsRefusal reply → Allowed (fixed_of s) (replay (fixed_of s) first p.log) command reply
+      → change (fixed_of s) (replay (fixed_of s) first p.log) command reply ≡ replay (fixed_of s) first p.log
+  same command reply is allowed =
+      let v = replay (fixed_of s) first p.log in
+      fun_ext (λ h. quiet (fixed_of s) v command reply (change (fixed_of s) v command reply) is (record { allowed = allowed; after = λ k. refl }) h)
 
   keeps_refused : (q : State) → Refuses p q → Facts s first commands q
   keeps_refused q t =
       let is = is_refusal p t.command t.reply t.why in
+      let allowed = allowed_here t.command t.reply t.runs (is_allowed p t.command t.reply t.why) in
       let kept : Facts s first commands (logged p t.command t.rest t.reply p.device) =
-      log_keeps t.command t.rest t.reply p.base p.stopped p.device t.row (allowed_here t.command t.reply t.runs (is_allowed p t.command t.reply t.why)) (omega arith) facts.plain
-      (λ runs. here runs ∙ sym (same t.command t.reply is)) (λ at stopped. absurd (let e = sym t.runs ∙ stopped in cc e)) in
+      log_keeps t.command t.rest t.reply p.base p.stopped p.device t.row allowed (omega arith) facts.plain
+      (λ runs. here runs ∙ sym (same t.command t.reply is allowed)) (λ at stopped. absurd (let e = sym t.runs ∙ stopped in cc e)) in
       subst (Facts s first commands) (sym t.next) kept
 
   keeps_stands : (q : State) → Stands p q → Facts s first commands q

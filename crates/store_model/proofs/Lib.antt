@@ -1,6 +1,6 @@
 pub mod Scanning
 pub mod One
-pub mod Replays
+pub mod Numbering
 pub mod Showing
 pub mod Plain
 pub mod Given

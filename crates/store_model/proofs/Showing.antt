@@ -4,31 +4,15 @@ use Rattle.std.specs.Option.{option_map}
 use Rattle.std.proofs.lemmas.Bool.{cases_Bool, eqb-true}
 use Rattle.std.proofs.Math.Path.{fun_ext}
 use Rattle.page_disk.specs.Disk.{Image}
-use Rattle.volume_model.specs.Volumes.{Volume, Volumes, Fixed}
+use Rattle.volume_model.specs.Volumes.{Fixed}
 use Rattle.volume_model.specs.Xattrs.{with_value}
 use Rattle.volume_model.specs.Steps.{edited_at}
 use Rattle.blob_meta.specs.declared.meta.Meta.{Meta}
-use Rattle.blob_meta.specs.Faults.{is_thin}
 use Rattle.super_block.specs.declared.page.Super.{Super}
 use Rattle.store_model.specs.Maps.{Metas, given}
-use Rattle.store_model.specs.Shown.{is_read_only, is_locked, parent_of, volume_of, shows}
+use Rattle.store_model.specs.Shown.{volume_of, shows, plain_volume, plain_shows}
 use Rattle.store_model.specs.Turns.{with_xattr}
 use Rattle.store_model.specs.Facts.{ArePlain}
-
--- a blob without slots
-abbrev pub plain_volume : Meta → Volume
-plain_volume m = record {
-  pages = [];
-  live = m.xattrs;
-  synced = m.xattrs;
-  thin = is_thin m.flags;
-  read_only = is_read_only m.flags;
-  locked = is_locked m.flags;
-  parent = parent_of m;
-}
-
-abbrev pub plain_shows : Metas → Volumes
-plain_shows metas head = option_map plain_volume (metas head)
 
 no_slots : (f : Fixed) (image : Image) (metas : Metas) (head : ℕ) (m : Meta) → m.map ≡ [] → volume_of f.cluster_pages image metas f.md_len m.xattrs head m ≡ plain_volume m
 no_slots f image metas head m none =

@@ -12,6 +12,8 @@ ghost use Rattle.store_model.specs.State.{State};
 ghost use Rattle.store_model.specs.Turns.{Kind, Turn, Run};
 ghost use Rattle.store_model.specs.Facts.{Facts};
 
+use volume_model::laws::refusal_changes_nothing;
+
 /// An image says one thing. No page is in two chains, and none that no chain has is a head. What is said doesn't depend on
 /// pages outside of the region, nor on a page in no chain that is changed to one that would be no head.
 pub fn scans()
@@ -32,4 +34,6 @@ pub fn turns()
     ensures keep { (told : Bool) (s : Super) (first : Volumes) (commands : List Command) (p q : State) (kind : Kind) →
         Facts s first commands p → Turn told p kind q → Facts s first commands q }
     ensures go_on { (told : Bool) (p q r : State) (kinds : List Kind) (kind : Kind) → Run told p kinds q → Turn told q kind r → Run told p (kinds ++ kind ∷ []) r }
-{}
+{
+    refusal_changes_nothing();
+}

@@ -1,5 +1,5 @@
 mod Causes
-mod Others
+pub mod Others
 pub mod Refused
 mod Replayed
 pub mod Replays

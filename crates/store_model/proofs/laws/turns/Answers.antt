@@ -3,6 +3,6 @@ use Rattle.store_model.proofs.laws.turns.Goals as goal
 
 pub returns : goal.returns
 returns c = record {
-  keep = λ told s first commands p q kind facts turn. turn_keeps s first commands p facts told q kind turn;
+  keep = λ told s first commands p q kind facts turn. turn_keeps c.refusal_changes_nothing.ensures s first commands p facts told q kind turn;
   go_on = run_more;
 }
