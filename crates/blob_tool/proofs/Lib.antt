@@ -1,0 +1,5 @@
+pub mod Writable
+pub mod Saying
+pub mod Putting
+pub mod Maps
+pub mod Turning

@@ -1,0 +1,107 @@
+-- An answer and its entry are one turn.
+use Rattle.std.proofs.Common.{◌≡◌, ◌⊎◌, ℕ, ◌+◌, List, [], ◌∷◌, ◌++◌, length, Option, Some, None, refl, sym, ap, subst, ◌∙◌, inl, inr}
+use Rattle.std.specs.FinMap as map
+use Rattle.std.specs.Ordering.{nat_cmp}
+use Rattle.std.proofs.Math.Path.{fun_ext}
+use Rattle.page_disk.specs.declared.disk.PageDisk.{Ghosts}
+use Rattle.volume_model.specs.declared.command.Command.{Command}
+use Rattle.volume_model.specs.declared.reply.Reply.{Reply}
+use Rattle.volume_model.specs.declared.reply.Reply.TheVariants as r
+use Rattle.volume_model.specs.declared.reply.Entry.{Entry}
+use Rattle.blob_meta.specs.declared.meta.Meta.{Meta}
+use Rattle.store_model.specs.Maps.{Metas, given}
+use Rattle.store_model.specs.State.{State, logged}
+use Rattle.store_model.specs.Turns.{Puts, IsRefused, Kind, refuses, commits, fails, stands, Turn}
+use Rattle.blob_tool.specs.Seen.{At, state_of, device_of}
+use Rattle.blob_tool.specs.Answers.{Answers}
+use Rattle.blob_tool.proofs.Maps.{insert_given}
+
+module _ {D : Type 0} (d : Ghosts D) where
+  -- a state with its next command taken out of its row
+  abbrev taken : At D → List Command → At D
+  taken p rest = record p { left = rest }
+
+  -- an entry and its mark
+  abbrev pub with_entry : At D → Command → Reply → At D
+  with_entry p command reply = record p { log = p.log ++ record { channel = 0; index = length p.log; command = command; reply = reply } ∷ []; marks = p.marks ++ d.clock p.disk ∷ [] }
+
+  puts_same : (p : At D) (rest : List Command) (command : Command) (head : ℕ) (new : Meta) → Puts (state_of d (taken p rest)) command head new → Puts (state_of d p) command head new
+  puts_same p rest command head new x = record {
+    volume = x.volume;
+    key = x.key;
+    value = x.value;
+    command_is = x.command_is;
+    asked = x.asked;
+    found = x.found;
+    old = x.old;
+    there = x.there;
+    new_is = x.new_is;
+  }
+
+  why_same : (p : At D) (rest : List Command) (command : Command) (reply : Reply) → IsRefused (state_of d (taken p rest)) command reply → IsRefused (state_of d p) command reply
+  why_same p rest command r.NoPage why = (why.0, why.1, puts_same p rest command why.0 why.1 why.2, why.3)
+  why_same p rest command _ why = why
+
+  pub stopped_turn : (p : At D) (command : Command) (rest : List Command) (at : ℕ) → p.left ≡ command ∷ rest → p.stopped ≡ Some at
+      → (kind : Kind) × Turn d.tells (state_of d p) kind (state_of d (with_entry (taken p rest) command (r.Stopped at)))
+  stopped_turn p command rest at row is = (stands, record { command = command; rest = rest; row = row; at = at; stands = is; next = refl })
+
+  pub answered_turn : (p : At D) (command : Command) (rest : List Command) (reply : Reply) (q : At D) → p.left ≡ command ∷ rest → p.stopped ≡ None → Answers d (taken p rest) command reply q
+      → (kind : Kind) × Turn d.tells (state_of d p) kind (state_of d (with_entry q command reply))
+  answered_turn p command rest reply q row runs (inl (inl x)) = (
+    refuses,
+    record {
+      command = command;
+      rest = rest;
+      row = row;
+      reply = reply;
+      runs = runs;
+      why = why_same p rest command reply x.why;
+      next = ap (λ (a : At D). state_of d (with_entry a command reply)) x.same;
+    },
+  )
+  answered_turn p command rest reply q row runs (inl (inr x)) = (
+    commits,
+    record {
+      command = command;
+      rest = rest;
+      row = row;
+      runs = runs;
+      head = x.head;
+      new = x.new;
+      put = puts_same p rest command x.head x.new x.put;
+      fits = x.fits;
+      page = x.page;
+      says = x.says;
+      device = device_of d q.disk;
+      replaces = x.replaces;
+      next =
+          ap (λ (a : At D). state_of d (with_entry a command reply)) x.next
+          ∙ ap (λ (base : Metas). logged (record (state_of d p) { base = base }) command rest reply (device_of d q.disk)) (insert_given p.metas x.head x.new)
+          ∙ ap (λ (said : Reply). logged (record (state_of d p) { base = given (map.get p.metas) x.head x.new }) command rest said (device_of d q.disk)) x.reply_is;
+    },
+  )
+  answered_turn p command rest reply q row runs (inr x) = (
+    fails,
+    record {
+      command = command;
+      rest = rest;
+      row = row;
+      runs = runs;
+      head = x.head;
+      new = x.new;
+      put = puts_same p rest command x.head x.new x.put;
+      fits = x.fits;
+      device = device_of d q.disk;
+      fails = x.fails;
+      next =
+          ap (λ (a : At D). state_of d (with_entry a command reply)) x.next
+          ∙ ap (λ (said : Reply). logged (record (state_of d p) { stopped = Some (length p.log) }) command rest said (device_of d q.disk)) x.reply_is;
+    },
+  )
+
+  -- an answer takes no command
+  pub left_same : (p : At D) (command : Command) (reply : Reply) (q : At D) → Answers d p command reply q → q.left ≡ p.left
+  left_same p command reply q (inl (inl x)) = ap (λ (a : At D). a.left) x.same
+  left_same p command reply q (inl (inr x)) = ap (λ (a : At D). a.left) x.next
+  left_same p command reply q (inr x) = ap (λ (a : At D). a.left) x.next

@@ -1,0 +1,18 @@
+//! The command line tool over any source, sink and device.
+#![tactic(auto)]
+
+mod head_page;
+mod list_sink;
+mod list_source;
+mod plan;
+mod put;
+mod refusal;
+mod running;
+mod sink;
+mod source;
+mod turn;
+
+pub use list_sink::ListSink;
+pub use list_source::ListSource;
+pub use sink::{Sink, SinkFault};
+pub use source::{Source, SourceFault};
