@@ -1,5 +1,5 @@
 mod Causes
-pub mod Others
+mod Others
 pub mod Refused
 mod Replayed
 pub mod Replays
