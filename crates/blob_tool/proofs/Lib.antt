@@ -3,3 +3,4 @@ pub mod Saying
 pub mod Putting
 pub mod Maps
 pub mod Turning
+pub mod Going

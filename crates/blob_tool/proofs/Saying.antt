@@ -1,5 +1,5 @@
 -- A page that was written for a blob says its metadata.
-use Rattle.std.proofs.Common.{◌≡◌, ℕ, ◌≤◌, List, [], ◌∷◌, sym}
+use Rattle.std.proofs.Common.{◌≡◌, ℕ, List, [], ◌∷◌, sym}
 use Rattle.super_block.specs.declared.page.Super.{Super}
 use Rattle.descriptors.specs.declared.item.Item.{Item}
 use Rattle.blob_meta.specs.declared.meta.Meta.{Meta}

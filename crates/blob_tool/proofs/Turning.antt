@@ -1,16 +1,13 @@
 -- An answer and its entry are one turn.
-use Rattle.std.proofs.Common.{◌≡◌, ◌⊎◌, ℕ, ◌+◌, List, [], ◌∷◌, ◌++◌, length, Option, Some, None, refl, sym, ap, subst, ◌∙◌, inl, inr}
+use Rattle.std.proofs.Common.{◌≡◌, ℕ, List, [], ◌∷◌, ◌++◌, length, Some, None, refl, ap, ◌∙◌, inl, inr}
 use Rattle.std.specs.FinMap as map
-use Rattle.std.specs.Ordering.{nat_cmp}
-use Rattle.std.proofs.Math.Path.{fun_ext}
 use Rattle.page_disk.specs.declared.disk.PageDisk.{Ghosts}
 use Rattle.volume_model.specs.declared.command.Command.{Command}
 use Rattle.volume_model.specs.declared.reply.Reply.{Reply}
 use Rattle.volume_model.specs.declared.reply.Reply.TheVariants as r
-use Rattle.volume_model.specs.declared.reply.Entry.{Entry}
 use Rattle.blob_meta.specs.declared.meta.Meta.{Meta}
 use Rattle.store_model.specs.Maps.{Metas, given}
-use Rattle.store_model.specs.State.{State, logged}
+use Rattle.store_model.specs.State.{logged}
 use Rattle.store_model.specs.Turns.{Puts, IsRefused, Kind, refuses, commits, fails, stands, Turn}
 use Rattle.blob_tool.specs.Seen.{At, state_of, device_of}
 use Rattle.blob_tool.specs.Answers.{Answers}

@@ -4,3 +4,4 @@ pub mod Pages
 pub mod Seen
 pub mod Running
 pub mod Answers
+pub mod Kept

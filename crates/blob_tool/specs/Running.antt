@@ -1,5 +1,5 @@
 -- The fields of a running store as contracts see them.
-use Rattle.std.specs.Prelude.{◌≡◌, ℕ, ◌+◌, ◌^◌, ◌<◌, ◌≤◌, length, vec_capacity}
+use Rattle.std.specs.Prelude.{◌≡◌, ◌+◌, ◌^◌, ◌<◌, ◌≤◌, length, vec_capacity}
 use Rattle.blob_tool.specs.declared.running.Running.{Running}
 use Rattle.blob_tool.specs.Seen.{At, Both}
 

@@ -1,5 +1,5 @@
 -- What one call of a source or a sink does to its bytes and to its count of faults.
-use Rattle.std.specs.Prelude.{◌≡◌, ◌⊎◌, ℕ, ◌<◌, ◌≤◌, List, [], ◌++◌, length, take, drop, Result, IsErr}
+use Rattle.std.specs.Prelude.{◌≡◌, ℕ, ◌<◌, ◌≤◌, List, [], ◌++◌, length, take, drop, Result, IsErr}
 use Rattle.page_disk.specs.Disk.{Rose}
 
 -- a fault has a cause: the count never falls, and a fault comes only where it rose

@@ -5,6 +5,7 @@ mod head_page;
 mod list_sink;
 mod list_source;
 mod plan;
+mod plant;
 mod put;
 mod refusal;
 mod running;
