@@ -16,3 +16,6 @@ pub use meta::{Flags, Meta};
 pub use out_of_memory::Memory;
 pub use reading::from_items;
 pub use writing::{items_say, to_items};
+
+#[cfg(test)]
+mod tests;
