@@ -1,6 +1,7 @@
 //! The command line tool over any source, sink and device.
 #![tactic(auto)]
 
+mod driver;
 mod head_page;
 mod list_sink;
 mod list_source;
