@@ -4,3 +4,6 @@ pub mod Putting
 pub mod Maps
 pub mod Turning
 pub mod Going
+pub mod Cuts
+pub mod Numbers
+pub mod ByLines

@@ -5,3 +5,5 @@ pub mod Seen
 pub mod Running
 pub mod Answers
 pub mod Kept
+pub mod Parts
+pub mod Script
