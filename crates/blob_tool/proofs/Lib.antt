@@ -7,3 +7,7 @@ pub mod Going
 pub mod Cuts
 pub mod Numbers
 pub mod ByLines
+pub mod ShortReplies
+pub mod Offering
+pub mod Lines
+pub mod Taken

@@ -7,3 +7,5 @@ pub mod Answers
 pub mod Kept
 pub mod Parts
 pub mod Script
+pub mod Text
+pub mod Taking
