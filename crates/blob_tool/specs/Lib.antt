@@ -9,3 +9,4 @@ pub mod Parts
 pub mod Script
 pub mod Text
 pub mod Taking
+pub mod Loaded

@@ -5,6 +5,7 @@ mod driver;
 mod head_page;
 mod list_sink;
 mod list_source;
+mod loader;
 mod parts;
 mod plan;
 mod plant;

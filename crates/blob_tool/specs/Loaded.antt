@@ -1,0 +1,89 @@
+-- What the loader reads of a device: which images are accepted, what the metadata of one is, and why another is refused.
+use Rattle.std.specs.Prelude.{◌≡◌, ◌⊎◌, ℕ, ◌+◌, ◌<◌, ◌≤◌, ◌==◌, Bool, true, false, IsTrue, List, [], ◌∷◌, Option, Some, None}
+use Rattle.std.specs.List.{list_all}
+use Rattle.std.specs.Option.{option_map}
+use Rattle.page_disk.specs.Disk.{Image, Alike, Rose}
+use Rattle.page_disk.specs.declared.disk.PageDisk.{Ghosts}
+use Rattle.super_block.specs.declared.page.Super.{Super}
+use Rattle.super_block.specs.declared.fault.SuperFault.TheVariants.{BadSignature}
+use Rattle.super_block.specs.Page.{super_of}
+use Rattle.super_block.specs.Faults.{IsFaultless, super_fault}
+use Rattle.md_page.specs.declared.MdPage.{MdPage}
+use Rattle.md_page.specs.Page.{IsMdPage, body_of, next_of}
+use Rattle.descriptors.specs.declared.item.Item.{Item}
+use Rattle.descriptors.specs.declared.item.Item.TheVariants as item
+use Rattle.descriptors.specs.Grammar.{Spells, Spoils}
+use Rattle.blob_meta.specs.declared.meta.Meta.{Meta}
+use Rattle.blob_meta.specs.declared.fault.MetaFault.{MetaFault}
+use Rattle.blob_meta.specs.Says.{meta_of}
+use Rattle.blob_meta.specs.Faults.{meta_fault}
+use Rattle.md_chain.specs.Chain.{chain_end}
+use Rattle.md_chain.specs.declared.fault.ChainFault.{ChainFault}
+use Rattle.md_chain.specs.declared.fault.ChainFault.TheVariants as chain
+use Rattle.store_model.specs.Maps.{Metas, Chains}
+use Rattle.store_model.specs.Regions.{region_of}
+use Rattle.store_model.specs.Scans.{is_head, Says}
+use Rattle.store_model.specs.Facts.{ArePlain}
+use Rattle.blob_tool.specs.declared.loader.LoadFault.{LoadFault}
+use Rattle.blob_tool.specs.declared.loader.LoadFault.TheVariants as fault
+
+-- the chain of each blob is its head alone
+abbrev pub one_page_chains : Metas → Chains
+one_page_chains metas head = option_map (λ _. head ∷ []) (metas head)
+
+-- flags and attributes, the items that are taken
+abbrev pub is_taken : Item → Bool
+is_taken (item.Flags invalid data_ro md_ro) = true
+is_taken (item.Xattr key value) = true
+is_taken _ = false
+
+-- the fault of the metadata that the items say of the blob at a head
+abbrev pub fault_in : Super → ℕ → List Item → Option MetaFault
+fault_in s head items = meta_fault (region_of s).fixed (region_of s).clusters (meta_of head items)
+
+-- The page is a head that ends its chain, and its items, which are all taken, say this metadata, which has no fault.
+pub record IsWholeHead (s : Super) (place : ℕ) (page : List ℕ) (m : Meta) : Type 0 where
+  pub head : is_head place page ≡ true
+  pub ends : next_of page ≡ chain_end
+  pub items : List Item
+  pub spells : Spells (body_of page) items
+  pub taken : list_all is_taken items ≡ true
+  pub meta_is : m ≡ meta_of place items
+  pub faultless : fault_in s place items ≡ None
+
+-- what the page says of a blob at its place
+abbrev pub HeadSays : Super → ℕ → List ℕ → Option Meta → Type 0
+HeadSays s place page None = is_head place page ≡ false
+HeadSays s place page (Some m) = IsWholeHead s place page m
+
+-- The page is a head with a fault in its items, with a fault in what they say, or with more than is taken: a second page in its
+-- chain, or an item of another kind.
+pub record BreaksOff (place : ℕ) (page : List ℕ) (why : ChainFault) : Type 0 where
+  pub head : is_head place page ≡ true
+  pub at : ℕ
+  pub kind : ℕ
+  pub spoils : Spoils (body_of page) at kind
+  pub is : why ≡ chain.BadItem place at kind
+
+pub record SaysWrong (s : Super) (place : ℕ) (page : List ℕ) (why : MetaFault) : Type 0 where
+  pub head : is_head place page ≡ true
+  pub items : List Item
+  pub spells : Spells (body_of page) items
+  pub is : fault_in s place items ≡ Some why
+
+pub record HasMore (place : ℕ) (page : List ℕ) : Type 0 where
+  pub head : is_head place page ≡ true
+  pub more : ((next_of page == chain_end) ≡ false) ⊎ ((items : List Item) × Spells (body_of page) items × (list_all is_taken items ≡ false))
+
+-- A page at this place is why a fault is answered; want of memory has no such cause.
+abbrev pub Refuses : Super → ℕ → List ℕ → LoadFault → Type 0
+Refuses s place page (fault.Chain head why) = (head ≡ place) × BreaksOff place page why
+Refuses s place page (fault.Meta head why) = (head ≡ place) × SaysWrong s place page why
+Refuses s place page (fault.NotYet head) = (head ≡ place) × HasMore place page
+Refuses s place page fault.Memory = Unit {0}
+Refuses s place page _ = ⊥
+
+-- the fields of a page, if it is a head
+abbrev pub IsHeadPage : ℕ → List ℕ → Option MdPage → Type 0
+IsHeadPage place page None = is_head place page ≡ false
+IsHeadPage place page (Some md) = (is_head place page ≡ true) × IsMdPage page md
