@@ -11,3 +11,4 @@ pub mod ShortReplies
 pub mod Offering
 pub mod Lines
 pub mod Taken
+pub mod Loading

@@ -87,3 +87,45 @@ Refuses s place page _ = ⊥
 abbrev pub IsHeadPage : ℕ → List ℕ → Option MdPage → Type 0
 IsHeadPage place page None = is_head place page ≡ false
 IsHeadPage place page (Some md) = (is_head place page ≡ true) × IsMdPage page md
+
+-- ---- the device, read and no more
+
+-- A device was read, and nothing else was done with it: what it holds and what a crash may leave stay the same.
+pub record OnlyRead {D : Type 0} (d : Ghosts D) (old new : D) : Type 0 where
+  pub now : IsTrue d.tells → d.now new ≡ d.now old
+  pub images : IsTrue d.tells → Alike (d.images new) (d.images old)
+  pub since : IsTrue d.tells → (t : ℕ) → Alike (d.since new t) (d.since old t)
+  pub clock : d.clock new ≡ d.clock old
+  pub pages : d.pages new ≡ d.pages old
+  pub read_faults : d.read_faults old ≤ d.read_faults new
+  pub write_faults : d.write_faults new ≡ d.write_faults old
+
+-- a page that was read at a place of the metadata region: the one that stands there, where the device tells
+abbrev pub WasRead : {D : Type 0} → Ghosts D → Super → D → ℕ → List ℕ → Type 0
+WasRead d s disk place page = IsTrue d.tells → page ≡ d.now disk (s.md_start + place)
+
+-- what the page at a place of the metadata region says
+pub record SaysAt {D : Type 0} (d : Ghosts D) (s : Super) (disk : D) (place : ℕ) (m : Option Meta) : Type 0 where
+  pub page : List ℕ
+  pub read : WasRead d s disk place page
+  pub says : HeadSays s place page m
+
+-- the fault that the page at a place has
+pub record RefusesAt {D : Type 0} (d : Ghosts D) (s : Super) (disk : D) (place : ℕ) (why : LoadFault) : Type 0 where
+  pub low : place < s.md_len
+  pub page : List ℕ
+  pub read : WasRead d s disk place page
+  pub refuses : Refuses s place page why
+
+-- a failed read, which the device counted; or a page with a fault
+abbrev pub IsCauseAt : {D : Type 0} → Ghosts D → Super → D → D → LoadFault → Type 0
+IsCauseAt d s old new fault.ReadFault = Rose (d.read_faults old) (d.read_faults new)
+IsCauseAt d s old new fault.Memory = Unit {0}
+IsCauseAt d s old new why = (place : ℕ) × RefusesAt d s old place why
+
+-- the metadata that the places below this one say, and no other
+abbrev pub SaidBelow : {D : Type 0} → Ghosts D → Super → D → Metas → ℕ → Type 0
+SaidBelow d s disk metas end = (place : ℕ) → place < end → SaysAt d s disk place (metas place)
+
+abbrev pub NoneFrom : Metas → ℕ → Type 0
+NoneFrom metas end = (place : ℕ) → end ≤ place → metas place ≡ None

@@ -1,16 +1,18 @@
 //! Loading a store from its device, by reading every metadata page.
 
-ghost use Rattle.std.specs.Prelude.{◌≡◌, ◌<◌, ◌≤◌, ◌+◌, IfOk, IfErr};
+ghost use Rattle.std.specs.Prelude.{◌≡◌, ◌<◌, ◌≤◌, ◌+◌, None, OnOk, IfOk, IfErr, IsErr};
 ghost use Rattle.std.specs.List.{list_all};
+ghost use Rattle.std.specs.FinMap as map;
+ghost use Rattle.store_model.specs.Maps.{given};
 ghost use Rattle.super_block.specs.Faults.{IsFaultless};
-ghost use Rattle.blob_tool.specs.Loaded.{is_taken as is_taken_said, HeadSays, IsHeadPage, Refuses};
+ghost use Rattle.blob_tool.specs.Loaded.{is_taken as is_taken_said, HeadSays, IsCauseAt, IsHeadPage, NoneFrom, OnlyRead, Refuses, SaidBelow, SaysAt};
 
-use blob_meta::{Meta, MetaFault, from_items};
+use blob_meta::{Meta, MetaFault, Metas, from_items};
 use descriptors::{Item, ItemFault, ItemList, read_items};
 use md_chain::ChainFault;
 use md_page::MdPage;
 use out_of_memory::Memory;
-use page_disk::Page;
+use page_disk::{Page, PageDisk};
 use std::alloc::Global;
 use super_block::{Super, SuperFault};
 use thiserror::Error;
@@ -118,4 +120,48 @@ fn head_meta(
         Err(MetaFault::Memory) => Err(LoadFault::Memory),
         Err(fault) => Err(LoadFault::Meta { head: place, fault }),
     }
+}
+
+/// The metadata that the page at a place of the metadata region says.
+fn meta_at<D: PageDisk>(
+    alloc: Global,
+    disk: &mut D,
+    sup: &Super,
+    place: u32,
+) -> Result<Option<Meta>, LoadFault>
+    requires faultless { IsFaultless sup.now }
+    requires low { place < sup.now.md_len }
+    requires inside { sup.now.md_start + sup.now.md_len ≤ D.pages disk.old }
+    ensures found { IfOk result (λ m. SaysAt D.PageDisk sup.now disk.old place m) }
+    ensures fault { IfErr result (λ e. IsCauseAt D.PageDisk sup.now disk.old disk.new e) }
+    ensures same { OnlyRead D.PageDisk disk.old disk.new }
+{
+    let mut page = [0; 4096];
+    let at = u64::from(sup.md_start) + u64::from(place);
+    if disk.read(at, &mut page).is_err() {
+        return Err(LoadFault::ReadFault);
+    }
+    head_meta(alloc, sup, place, &page)
+}
+
+/// The metadata that the whole metadata region says.
+fn metas_on<D: PageDisk>(
+    alloc: Global,
+    disk: &mut D,
+    sup: &Super,
+) -> Result<Metas, LoadFault>
+    requires faultless { IsFaultless sup.now }
+    requires inside { sup.now.md_start + sup.now.md_len ≤ D.pages disk.old }
+    ensures found { IfOk result (λ metas. SaidBelow D.PageDisk sup.now disk.old (map.get metas) sup.now.md_len) }
+    ensures no_other { IfOk result (λ metas. NoneFrom (map.get metas) sup.now.md_len) }
+    ensures fault { IfErr result (λ e. IsCauseAt D.PageDisk sup.now disk.old disk.new e) }
+    ensures same { OnlyRead D.PageDisk disk.old disk.new }
+{
+    let mut metas = Metas::new(alloc);
+    for place in 0..sup.md_len {
+        if let Some(meta) = meta_at(alloc, disk, sup, place)? {
+            metas.insert(place, meta)?;
+        }
+    }
+    Ok(metas)
 }
