@@ -12,3 +12,4 @@ pub mod Offering
 pub mod Lines
 pub mod Taken
 pub mod Loading
+pub mod WholeHead

@@ -1,18 +1,25 @@
 -- Reading a device place by place.
-use Rattle.std.proofs.Common.{◌≡◌, ℕ, ◌+◌, ◌<◌, ◌≤◌, cond, eqb, false, true, Option, Some, None, refl, sym, ap, subst, ◌∙◌, inl, inr, arith, below_more}
+use Rattle.std.proofs.Common.{◌≡◌, ℕ, ◌+◌, ◌<◌, eqb, false, true, List, [], ◌∷◌, Option, Some, None, refl, sym, ap, subst, ◌∙◌, inl, inr, arith, below_more}
 use Rattle.std.specs.Ordering.{nat_cmp}
 use Rattle.std.specs.FinMap as map
-use Rattle.std.proofs.lemmas.Bool.{eq-eqb}
+use Rattle.std.specs.Prelude.{IsTrue, nat_lt}
+use Rattle.std.specs.Option.{option_map}
+use Rattle.std.proofs.lemmas.Bool.{eq-eqb, cases_Bool, cases_lt, ltb-true}
 use Rattle.std.proofs.lemmas.Bool.Decides.{nat_tests}
-use Rattle.page_disk.specs.Disk.{Image, Images, Alike, Rose}
+use Rattle.page_disk.specs.Disk.{Image, Images, Alike}
 use Rattle.page_disk.specs.declared.disk.PageDisk.{Ghosts}
 use Rattle.super_block.specs.declared.page.Super.{Super}
 use Rattle.blob_meta.specs.declared.meta.Meta.{Meta}
+use Rattle.md_chain.specs.Chain.{Look}
 use Rattle.store_model.specs.Maps.{Metas, given}
+use Rattle.store_model.specs.Regions.{region_of, look_of}
+use Rattle.store_model.specs.Scans.{is_head, BlobAt, Says}
+use Rattle.store_model.specs.Facts.{ArePlain}
 use Rattle.blob_tool.specs.declared.loader.LoadFault.{LoadFault}
 use Rattle.blob_tool.specs.declared.loader.LoadFault.TheVariants as fault
-use Rattle.blob_tool.specs.Loaded.{OnlyRead, SaysAt, RefusesAt, IsCauseAt, SaidBelow, NoneFrom}
+use Rattle.blob_tool.specs.Loaded.{one_page_chains, IsWholeHead, Refuses, SuperAt, RefusedHead, IsCause, IsAccepted, IsImageFault, OnlyRead, SaysAt, RefusesAt, IsCauseAt, SaidBelow, NoneFrom}
 use Rattle.blob_tool.proofs.Maps.{insert_given}
+use Rattle.blob_tool.proofs.WholeHead.{whole_plain, whole_says, not_whole, not_memory, head_of}
 
 alike_two : (a b c : Images) → Alike b a → Alike c b → Alike c a
 alike_two a b c ba cb image = (λ x. (ba image).0 ((cb image).0 x), λ x. (cb image).1 ((ba image).1 x))
@@ -86,3 +93,96 @@ pub record Reading {D : Type 0} (d : Ghosts D) (s : Super) (first disk : D) (met
   pub same : OnlyRead d first disk
   pub said : SaidBelow d s first metas i
   pub none : NoneFrom metas i
+
+-- ---- what a device that was read through says
+
+module _ {D : Type 0} (d : Ghosts D) (s : Super) (disk : D) (metas : Metas) (below : SaidBelow d s disk metas s.md_len) (none : NoneFrom metas s.md_len) where
+  low_of : (head : ℕ) (m : Meta) → metas head ≡ Some m → head < s.md_len
+  low_of head m there = elim (cases_lt head s.md_len) [
+    | inl lt ↦ lt
+    | inr le ↦ let no = none head le in absurd (cc (no, there))
+  ]
+
+  whole_at : (head : ℕ) (m : Meta) (there : metas head ≡ Some m) → SaysAt d s disk head (Some m)
+  whole_at head m there = subst (λ (o : Option Meta). SaysAt d s disk head o) there (below head (low_of head m there))
+
+  pub all_plain : ArePlain s metas
+  all_plain head m there = let x = whole_at head m there in whole_plain s head x.page m (low_of head m there) x.says
+
+  module _ (told : IsTrue d.tells) where
+    abbrev look : Look
+    look = look_of (region_of s) (d.now disk)
+
+    whole_there : (head : ℕ) (m : Meta) → SaysAt d s disk head (Some m) → IsWholeHead s head (look head) m
+    whole_there head m x = subst (λ (page : List ℕ). IsWholeHead s head page m) (x.read told) x.says
+
+    blob_there : (head : ℕ) (o : Option Meta) → metas head ≡ o → BlobAt look (region_of s) head o (option_map (λ _. head ∷ []) o)
+    blob_there head (Some m) there = inl (record {
+      meta = m;
+      pages = head ∷ [];
+      says = whole_says look s head m (low_of head m there) (whole_there head m (whole_at head m there));
+      meta_is = refl;
+      pages_are = refl;
+    })
+    blob_there head None there = inr (record {
+      no_head = elim (cases_Bool (nat_lt head s.md_len)) [
+        | inl lt ↦ rw lt (no_head head (subst (λ (o : Option Meta). SaysAt d s disk head o) there (below head (ltb-true head s.md_len lt))))
+        | inr high ↦ rw high refl
+      ];
+      no_meta = refl;
+      no_chain = refl;
+    })
+      where
+        no_head : (head : ℕ) → SaysAt d s disk head None → is_head head (look head) ≡ false
+        no_head head x = subst (λ (page : List ℕ). is_head head page ≡ false) (x.read told) x.says
+
+    pub all_said : Says (region_of s) metas (one_page_chains metas) (d.now disk)
+    all_said head = blob_there head (metas head) refl
+
+    some_head : (head : ℕ) (o : Option Meta) → SaysAt d s disk head o → is_head head (look head) ≡ true → (m : Meta) × IsWholeHead s head (look head) m
+    some_head head (Some m) x is = (m, whole_there head m x)
+    some_head head None x is = let no : is_head head (look head) ≡ false = subst (λ (page : List ℕ). is_head head page ≡ false) (x.read told) x.says in absurd (cc (no, is))
+
+    heads_whole : (head : ℕ) → head < s.md_len → is_head head (look head) ≡ true → (m : Meta) × IsWholeHead s head (look head) m
+    heads_whole head lt is = some_head head (metas head) (below head lt) is
+
+    pub accepted : SuperAt (d.pages disk) (d.now disk) s → IsAccepted (d.pages disk) (d.now disk)
+    accepted sup = record {
+      some_pages = sup.some_pages;
+      faultless = sup.faultless;
+      heads = subst (λ (t : Super). (head : ℕ) → head < t.md_len → is_head head (d.now disk (t.md_start + head)) ≡ true → (m : Meta) × IsWholeHead t head (d.now disk (t.md_start + head)) m) sup.is heads_whole;
+    }
+
+-- ---- a device that is refused isn't accepted
+
+module _ {D : Type 0} (d : Ghosts D) (old new : D) (told : IsTrue d.tells) (accepted : IsAccepted (d.pages old) (d.now old)) where
+  refused_head : (why : LoadFault) → IsImageFault why → RefusedHead d old why → ⊥
+  refused_head why is x =
+      let sup = x.super_at told in
+      let r = x.refuses in
+      let heads : (head : ℕ) → head < x.sup.md_len → is_head head (d.now old (x.sup.md_start + head)) ≡ true → (m : Meta) × IsWholeHead x.sup head (d.now old (x.sup.md_start + head)) m =
+          subst (λ (t : Super). (head : ℕ) → head < t.md_len → is_head head (d.now old (t.md_start + head)) ≡ true → (m : Meta) × IsWholeHead t head (d.now old (t.md_start + head)) m) (sym sup.is) accepted.heads in
+      let refuses : Refuses x.sup x.place (d.now old (x.sup.md_start + x.place)) why = subst (λ (page : List ℕ). Refuses x.sup x.place page why) (r.read told) r.refuses in
+      let whole = heads x.place r.low (head_of x.sup x.place _ why is refuses) in
+      not_whole x.sup x.place _ whole.0 why refuses (not_memory why is) whole.1
+
+  pub refused : (why : LoadFault) → IsImageFault why → IsCause d old new why → ⊥
+  refused (fault.Super e) is x = elim (x told) [
+    | inl none ↦ let some = accepted.some_pages in absurd (omega (arith, some, none.0))
+    | inr bad ↦ let fine = accepted.faultless in absurd (cc (fine, bad.1))
+  ]
+  refused (fault.Chain head e) is x = refused_head (fault.Chain head e) is x
+  refused (fault.Meta head e) is x = refused_head (fault.Meta head e) is x
+  refused (fault.NotYet page) is x = refused_head (fault.NotYet page) is x
+  refused fault.ReadFault is x = is
+  refused fault.Memory is x = is
+
+-- a head's fault is the device's, after the super block was read
+pub whole_cause : {D : Type 0} (d : Ghosts D) (s : Super) (first disk new : D) (why : LoadFault) → OnlyRead d first disk → (IsTrue d.tells → SuperAt (d.pages first) (d.now first) s) → IsCauseAt d s disk new why
+    → IsCause d first new why
+whole_cause d s first disk new (fault.Super e) same sup x = absurd x.1.refuses
+whole_cause d s first disk new fault.ReadFault same sup x = cause_first d s first disk same new fault.ReadFault x
+whole_cause d s first disk new fault.Memory same sup x = tt
+whole_cause d s first disk new (fault.Chain head e) same sup x = record { sup = s; super_at = sup; place = x.0; refuses = refuses_first d s first disk same x.0 (fault.Chain head e) x.1 }
+whole_cause d s first disk new (fault.Meta head e) same sup x = record { sup = s; super_at = sup; place = x.0; refuses = refuses_first d s first disk same x.0 (fault.Meta head e) x.1 }
+whole_cause d s first disk new (fault.NotYet page) same sup x = record { sup = s; super_at = sup; place = x.0; refuses = refuses_first d s first disk same x.0 (fault.NotYet page) x.1 }

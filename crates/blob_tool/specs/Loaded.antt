@@ -5,9 +5,10 @@ use Rattle.std.specs.Option.{option_map}
 use Rattle.page_disk.specs.Disk.{Image, Alike, Rose}
 use Rattle.page_disk.specs.declared.disk.PageDisk.{Ghosts}
 use Rattle.super_block.specs.declared.page.Super.{Super}
+use Rattle.super_block.specs.declared.fault.SuperFault.{SuperFault}
 use Rattle.super_block.specs.declared.fault.SuperFault.TheVariants.{BadSignature}
 use Rattle.super_block.specs.Page.{super_of}
-use Rattle.super_block.specs.Faults.{IsFaultless, super_fault}
+use Rattle.super_block.specs.Faults.{super_fault}
 use Rattle.md_page.specs.declared.MdPage.{MdPage}
 use Rattle.md_page.specs.Page.{IsMdPage, body_of, next_of}
 use Rattle.descriptors.specs.declared.item.Item.{Item}
@@ -22,8 +23,7 @@ use Rattle.md_chain.specs.declared.fault.ChainFault.{ChainFault}
 use Rattle.md_chain.specs.declared.fault.ChainFault.TheVariants as chain
 use Rattle.store_model.specs.Maps.{Metas, Chains}
 use Rattle.store_model.specs.Regions.{region_of}
-use Rattle.store_model.specs.Scans.{is_head, Says}
-use Rattle.store_model.specs.Facts.{ArePlain}
+use Rattle.store_model.specs.Scans.{is_head}
 use Rattle.blob_tool.specs.declared.loader.LoadFault.{LoadFault}
 use Rattle.blob_tool.specs.declared.loader.LoadFault.TheVariants as fault
 
@@ -129,3 +129,48 @@ SaidBelow d s disk metas end = (place : ℕ) → place < end → SaysAt d s disk
 
 abbrev pub NoneFrom : Metas → ℕ → Type 0
 NoneFrom metas end = (place : ℕ) → end ≤ place → metas place ≡ None
+
+-- ---- a store is loaded, or isn't
+
+-- A device of so many pages is accepted: its super block has no fault, and each head is whole in itself.
+pub record IsAccepted (pages : ℕ) (image : Image) : Type 0 where
+  pub some_pages : 0 < pages
+  pub faultless : super_fault (image 0) pages ≡ None
+  pub heads : (head : ℕ) → head < (super_of (image 0) pages).md_len → is_head head (image ((super_of (image 0) pages).md_start + head)) ≡ true
+      → (m : Meta) × IsWholeHead (super_of (image 0) pages) head (image ((super_of (image 0) pages).md_start + head)) m
+
+-- the super block of a device, without fault
+pub record SuperAt (pages : ℕ) (image : Image) (s : Super) : Type 0 where
+  pub some_pages : 0 < pages
+  pub faultless : super_fault (image 0) pages ≡ None
+  pub is : s ≡ super_of (image 0) pages
+
+-- The super block has this fault; that of a device without pages has no signature.
+abbrev pub SuperFails : ℕ → Image → SuperFault → Type 0
+SuperFails pages image why = ((pages ≡ 0) × (why ≡ BadSignature)) ⊎ ((0 < pages) × (super_fault (image 0) pages ≡ Some why))
+
+-- what is wrong with a super block that isn't read
+abbrev pub IsSuperCause : {D : Type 0} → Ghosts D → D → D → LoadFault → Type 0
+IsSuperCause d old new (fault.Super why) = IsTrue d.tells → SuperFails (d.pages old) (d.now old) why
+IsSuperCause d old new fault.ReadFault = Rose (d.read_faults old) (d.read_faults new)
+IsSuperCause d old new _ = ⊥
+
+-- the page of a head has this fault, in a store whose super block has none
+pub record RefusedHead {D : Type 0} (d : Ghosts D) (disk : D) (why : LoadFault) : Type 0 where
+  pub sup : Super
+  pub super_at : IsTrue d.tells → SuperAt (d.pages disk) (d.now disk) sup
+  pub place : ℕ
+  pub refuses : RefusesAt d sup disk place why
+
+-- Why a device isn't loaded: its super block, a head, a failed read that it counted, or want of memory.
+abbrev pub IsCause : {D : Type 0} → Ghosts D → D → D → LoadFault → Type 0
+IsCause d old new (fault.Super why) = IsTrue d.tells → SuperFails (d.pages old) (d.now old) why
+IsCause d old new fault.ReadFault = Rose (d.read_faults old) (d.read_faults new)
+IsCause d old new fault.Memory = Unit {0}
+IsCause d old new why = RefusedHead d old why
+
+-- a fault of what the device holds
+abbrev pub IsImageFault : LoadFault → Type 0
+IsImageFault fault.ReadFault = ⊥
+IsImageFault fault.Memory = ⊥
+IsImageFault _ = Unit {0}

@@ -1,11 +1,14 @@
 //! Loading a store from its device, by reading every metadata page.
 
-ghost use Rattle.std.specs.Prelude.{◌≡◌, ◌<◌, ◌≤◌, ◌+◌, None, OnOk, IfOk, IfErr, IsErr};
+ghost use Rattle.std.specs.Prelude.{◌≡◌, ◌<◌, ◌≤◌, ◌+◌, IsTrue, IfOk, IfErr, MatchResult};
 ghost use Rattle.std.specs.List.{list_all};
 ghost use Rattle.std.specs.FinMap as map;
-ghost use Rattle.store_model.specs.Maps.{given};
+ghost use Rattle.super_block.specs.Page.{super_of};
+ghost use Rattle.store_model.specs.Facts.{ArePlain};
+ghost use Rattle.store_model.specs.Regions.{region_of};
+ghost use Rattle.store_model.specs.Scans.{Says};
 ghost use Rattle.super_block.specs.Faults.{IsFaultless};
-ghost use Rattle.blob_tool.specs.Loaded.{is_taken as is_taken_said, HeadSays, IsCauseAt, IsHeadPage, NoneFrom, OnlyRead, Refuses, SaidBelow, SaysAt};
+ghost use Rattle.blob_tool.specs.Loaded.{is_taken as is_taken_said, one_page_chains, HeadSays, IsAccepted, IsCause, IsCauseAt, IsHeadPage, IsImageFault, IsSuperCause, NoneFrom, OnlyRead, Refuses, SaidBelow, SaysAt, SuperAt};
 
 use blob_meta::{Meta, MetaFault, Metas, from_items};
 use descriptors::{Item, ItemFault, ItemList, read_items};
@@ -14,7 +17,7 @@ use md_page::MdPage;
 use out_of_memory::Memory;
 use page_disk::{Page, PageDisk};
 use std::alloc::Global;
-use super_block::{Super, SuperFault};
+use super_block::{Super, SuperFault, read_super, regions_are_placed};
 use thiserror::Error;
 
 /// Why a device has no store that this program runs. Heads and pages are places of the metadata region.
@@ -49,6 +52,14 @@ impl From<Memory> for LoadFault {
     fn from(_want: Memory) -> LoadFault {
         LoadFault::Memory
     }
+}
+
+/// A device with the store that was read from it: its super block, and the metadata of each blob by its head.
+#[derive(Drop)]
+pub struct Loaded<D> {
+    pub disk: D,
+    pub sup: Super,
+    pub metas: Metas,
 }
 
 /// The page's fields, where it is a head: sound, of sequence 0, with the id of its own place.
@@ -164,4 +175,61 @@ fn metas_on<D: PageDisk>(
         }
     }
     Ok(metas)
+}
+
+/// The super block of the device; one without pages has no signature.
+fn super_on<D: PageDisk>(disk: &mut D) -> Result<Super, LoadFault>
+    ensures found { IfOk result (λ sup. IsTrue D.tells → SuperAt (D.pages disk.old) (D.now disk.old) sup) }
+    ensures faultless { IfOk result IsFaultless }
+    ensures device { IfOk result (λ sup. sup.device_pages ≡ D.pages disk.old) }
+    ensures inside { IfOk result (λ sup. sup.md_start + sup.md_len ≤ D.pages disk.old) }
+    ensures fault { IfErr result (λ e. IsSuperCause D.PageDisk disk.old disk.new e) }
+    ensures same { OnlyRead D.PageDisk disk.old disk.new }
+{
+    regions_are_placed();
+    let pages = disk.pages();
+    if pages == 0 {
+        return Err(LoadFault::Super(SuperFault::BadSignature));
+    }
+    let mut page = [0; 4096];
+    if disk.read(0, &mut page).is_err() {
+        return Err(LoadFault::ReadFault);
+    }
+    match read_super(&page, pages) {
+        Ok(sup) => Ok(sup),
+        Err(fault) => Err(LoadFault::Super(fault)),
+    }
+}
+
+/// Reads a store: page 0 as its super block, and then each page of its metadata region. A page there is a head if it is sound,
+/// has sequence 0 and the id of its own place. The device is read and nothing else, and is handed back with a fault:
+/// `Super` where the super block fails a test, `Chain`, `Meta` and `NotYet` for the first head with such a fault, `ReadFault`
+/// where the device counted one.
+pub fn load<D: PageDisk>(alloc: Global, disk: D) -> Result<Loaded<D>, (D, LoadFault)>
+    // What is loaded is what the image says, and only an accepted one is loaded.
+    ensures found { IsTrue D.tells → IfOk result (λ l. Says (region_of l.sup) (map.get l.metas) (one_page_chains (map.get l.metas)) (D.now disk)) }
+    ensures super_block { IsTrue D.tells → IfOk result (λ l. l.sup ≡ super_of (D.now disk 0) (D.pages disk)) }
+    ensures accepted { IsTrue D.tells → IfOk result (λ _. IsAccepted (D.pages disk) (D.now disk)) }
+
+    // Whatever the device told, the store is in order.
+    ensures faultless { IfOk result (λ l. IsFaultless l.sup) }
+    ensures device_pages { IfOk result (λ l. l.sup.device_pages ≡ D.pages l.disk) }
+    ensures plain { IfOk result (λ l. ArePlain l.sup (map.get l.metas)) }
+    ensures inside { IfOk result (λ l. l.sup.md_start + l.sup.md_len ≤ D.pages l.disk) }
+
+    // A fault has its cause, and an accepted image has none.
+    ensures cause { IfErr result (λ e. IsCause D.PageDisk disk e.0 e.1) }
+    ensures refused { IsTrue D.tells → IfErr result (λ e. IsImageFault e.1 → IsAccepted (D.pages disk) (D.now disk) → ⊥) }
+
+    ensures same { MatchResult result (λ l. OnlyRead D.PageDisk disk l.disk) (λ e. OnlyRead D.PageDisk disk e.0) }
+{
+    let mut disk = disk;
+    let sup = match super_on(&mut disk) {
+        Ok(sup) => sup,
+        Err(fault) => return Err((disk, fault)),
+    };
+    match metas_on(alloc, &mut disk, &sup) {
+        Ok(metas) => Ok(Loaded { disk, sup, metas }),
+        Err(fault) => Err((disk, fault)),
+    }
 }

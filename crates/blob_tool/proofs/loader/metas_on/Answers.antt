@@ -1,9 +1,9 @@
-use Rattle.std.proofs.Common.{◌≡◌, ℕ, ◌+◌, Option, None, Some, refl, subst, ◌∙◌, arith}
+use Rattle.std.proofs.Common.{◌≡◌, Option, None, Some, subst, ◌∙◌, arith}
 use Rattle.std.specs.Ordering.{nat_cmp}
 use Rattle.std.specs.FinMap as map
 use Rattle.blob_meta.specs.declared.meta.Meta.{Meta}
 use Rattle.blob_tool.specs.Loaded.{SaysAt}
-use Rattle.blob_tool.proofs.Loading.{Reading, no_read, read_on, says_first, cause_first, none_there, none_after, inserted_said, inserted_after}
+use Rattle.blob_tool.proofs.Loading.{no_read, read_on, says_first, none_there, none_after, inserted_said, inserted_after}
 use Rattle.blob_tool.proofs.loader.metas_on.Goals as goal
 use Rattle.blob_tool.proofs.loader.metas_on.Goals.{in-Some+in_ok-insert, in_default}
 

@@ -1,5 +1,4 @@
 use Rattle.std.specs.FinMap as map
-use Rattle.blob_tool.specs.Loaded.{NoneFrom, OnlyRead, SaidBelow}
 use Rattle.blob_tool.proofs.Loading.{Reading}
 use Rattle.blob_tool.proofs.loader.metas_on.Given as goal
 

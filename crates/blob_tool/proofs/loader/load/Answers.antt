@@ -1,0 +1,27 @@
+use Rattle.std.specs.FinMap as map
+use Rattle.blob_tool.specs.Loaded.{SaidBelow}
+use Rattle.blob_tool.proofs.Loading.{says_first, all_plain, all_said, accepted, refused, whole_cause}
+use Rattle.blob_tool.proofs.loader.load.Goals as goal
+
+pub returns-in-Ok-metas_on-clause-found : goal.returns-in-Ok-metas_on-clause-found
+returns-in-Ok-metas_on-clause-found g c =
+    let d = g.D.PageDisk in
+    let s = c.in-Ok.sup in
+    let metas = map.get c.in-Ok-metas_on.metas in
+    let below : SaidBelow d s c.args.disk metas s.md_len = λ k lt. says_first d s c.args.disk c.super_on.new.disk c.in-Ok.ensures.same k (metas k) (c.in-Ok-metas_on.ensures.found k lt) in
+    λ told. all_said d s c.args.disk metas below c.in-Ok-metas_on.ensures.no_other told
+
+pub returns-in-Ok-metas_on-clause-accepted : goal.returns-in-Ok-metas_on-clause-accepted
+returns-in-Ok-metas_on-clause-accepted g c =
+    let d = g.D.PageDisk in
+    let s = c.in-Ok.sup in
+    let metas = map.get c.in-Ok-metas_on.metas in
+    let below : SaidBelow d s c.args.disk metas s.md_len = λ k lt. says_first d s c.args.disk c.super_on.new.disk c.in-Ok.ensures.same k (metas k) (c.in-Ok-metas_on.ensures.found k lt) in
+    λ told. accepted d s c.args.disk metas below c.in-Ok-metas_on.ensures.no_other told (c.in-Ok.ensures.found told)
+
+pub returns-in-Ok-metas_on-clause-plain : goal.returns-in-Ok-metas_on-clause-plain
+returns-in-Ok-metas_on-clause-plain g c = all_plain g.D.PageDisk c.in-Ok.sup c.super_on.new.disk (map.get c.in-Ok-metas_on.metas) c.in-Ok-metas_on.ensures.found c.in-Ok-metas_on.ensures.no_other
+
+pub returns-in-Err-metas_on-clause-refused : goal.returns-in-Err-metas_on-clause-refused
+returns-in-Err-metas_on-clause-refused g c =
+    λ told is image. refused g.D.PageDisk c.args.disk c.metas_on.new.disk told image c.in-Err-metas_on.fault is (whole_cause g.D.PageDisk c.in-Ok.sup c.args.disk c.super_on.new.disk c.metas_on.new.disk c.in-Err-metas_on.fault c.in-Ok.ensures.same c.in-Ok.ensures.found c.in-Err-metas_on.ensures.fault)
