@@ -6,7 +6,7 @@ use Rattle.std.specs.Prelude.{IsTrue, nat_lt}
 use Rattle.std.specs.Option.{option_map}
 use Rattle.std.proofs.lemmas.Bool.{eq-eqb, cases_Bool, cases_lt, ltb-true}
 use Rattle.std.proofs.lemmas.Bool.Decides.{nat_tests}
-use Rattle.page_disk.specs.Disk.{Image, Images, Alike}
+use Rattle.page_disk.specs.Disk.{Image, Images, Alike, Rose}
 use Rattle.page_disk.specs.declared.disk.PageDisk.{Ghosts}
 use Rattle.super_block.specs.declared.page.Super.{Super}
 use Rattle.blob_meta.specs.declared.meta.Meta.{Meta}
@@ -17,7 +17,7 @@ use Rattle.store_model.specs.Scans.{is_head, BlobAt, Says}
 use Rattle.store_model.specs.Facts.{ArePlain}
 use Rattle.blob_tool.specs.declared.loader.LoadFault.{LoadFault}
 use Rattle.blob_tool.specs.declared.loader.LoadFault.TheVariants as fault
-use Rattle.blob_tool.specs.Loaded.{one_page_chains, IsWholeHead, Refuses, SuperAt, RefusedHead, IsCause, IsAccepted, IsImageFault, OnlyRead, SaysAt, RefusesAt, IsCauseAt, SaidBelow, NoneFrom}
+use Rattle.blob_tool.specs.Loaded.{one_page_chains, IsWholeHead, Refuses, SuperAt, RefusedHead, IsCause, IsAccepted, IsImageFault, OnlyRead, SaysAt, RefusesAt, IsCauseAt, IsRegionCause, RefusesFirst, SaidBelow, NoneFrom}
 use Rattle.blob_tool.proofs.Maps.{insert_given}
 use Rattle.blob_tool.proofs.WholeHead.{whole_plain, whole_says, not_whole, not_memory, head_of}
 
@@ -54,14 +54,32 @@ module _ {D : Type 0} (d : Ghosts D) where
     refuses_first : (place : ℕ) (why : LoadFault) → RefusesAt d s disk place why → RefusesAt d s first place why
     refuses_first place why x = record { low = x.low; page = x.page; read = λ told. x.read told ∙ ap (λ (image : Image). image (s.md_start + place)) (same.now told); refuses = x.refuses }
 
-    pub cause_first : (new : D) (why : LoadFault) → IsCauseAt d s disk new why → IsCauseAt d s first new why
-    cause_first new fault.ReadFault (inl more) = inl (let x = same.read_faults in omega (arith, x, more))
-    cause_first new fault.ReadFault (inr last) = inr last
-    cause_first new fault.Memory x = tt
-    cause_first new (fault.Super e) x = (x.0, refuses_first x.0 (fault.Super e) x.1)
-    cause_first new (fault.Chain head e) x = (x.0, refuses_first x.0 (fault.Chain head e) x.1)
-    cause_first new (fault.Meta head e) x = (x.0, refuses_first x.0 (fault.Meta head e) x.1)
-    cause_first new (fault.NotYet page) x = (x.0, refuses_first x.0 (fault.NotYet page) x.1)
+    rose_first : (new : D) → Rose (d.read_faults disk) (d.read_faults new) → Rose (d.read_faults first) (d.read_faults new)
+    rose_first new (inl more) = inl (let x = same.read_faults in omega (arith, x, more))
+    rose_first new (inr last) = inr last
+
+    first_place : (place : ℕ) (why : LoadFault) (metas : Metas) → SaidBelow d s first metas place → RefusesAt d s disk place why → RefusesFirst d s first why
+    first_place place why metas below x = record { place = place; before = λ k lt. (metas k, below k lt); refuses = refuses_first place why x }
+
+    pub cause_first : (place : ℕ) (new : D) (why : LoadFault) (metas : Metas) → SaidBelow d s first metas place → IsCauseAt d s place disk new why → IsRegionCause d s first new why
+    cause_first place new fault.ReadFault metas below x = rose_first new x
+    cause_first place new fault.Memory metas below x = tt
+    cause_first place new (fault.Super e) metas below x = first_place place (fault.Super e) metas below x
+    cause_first place new (fault.Chain head e) metas below x = first_place place (fault.Chain head e) metas below x
+    cause_first place new (fault.Meta head e) metas below x = first_place place (fault.Meta head e) metas below x
+    cause_first place new (fault.NotYet page) metas below x = first_place place (fault.NotYet page) metas below x
+
+    refusal_first : (why : LoadFault) → RefusesFirst d s disk why → RefusesFirst d s first why
+    refusal_first why x = record { place = x.place; before = λ k lt. ((x.before k lt).0, says_first k (x.before k lt).0 (x.before k lt).1); refuses = refuses_first x.place why x.refuses }
+
+    -- a fault of the region is one of the device, whose super block has been read
+    pub whole_cause : (new : D) (why : LoadFault) → (IsTrue d.tells → SuperAt (d.pages first) (d.now first) s) → IsRegionCause d s disk new why → IsCause d first new why
+    whole_cause new (fault.Super e) sup x = absurd x.refuses.refuses
+    whole_cause new fault.ReadFault sup x = rose_first new x
+    whole_cause new fault.Memory sup x = tt
+    whole_cause new (fault.Chain head e) sup x = record { sup = s; super_at = sup; first = refusal_first (fault.Chain head e) x }
+    whole_cause new (fault.Meta head e) sup x = record { sup = s; super_at = sup; first = refusal_first (fault.Meta head e) x }
+    whole_cause new (fault.NotYet page) sup x = record { sup = s; super_at = sup; first = refusal_first (fault.NotYet page) x }
 
   module _ (s : Super) (disk : D) (metas : Metas) (i : ℕ) (below : SaidBelow d s disk metas i) (none : NoneFrom metas i) where
     pub none_there : SaysAt d s disk i None → SaidBelow d s disk metas (i + 1)
@@ -159,12 +177,12 @@ module _ {D : Type 0} (d : Ghosts D) (old new : D) (told : IsTrue d.tells) (acce
   refused_head : (why : LoadFault) → IsImageFault why → RefusedHead d old why → ⊥
   refused_head why is x =
       let sup = x.super_at told in
-      let r = x.refuses in
+      let r = x.first.refuses in let place = x.first.place in
       let heads : (head : ℕ) → head < x.sup.md_len → is_head head (d.now old (x.sup.md_start + head)) ≡ true → (m : Meta) × IsWholeHead x.sup head (d.now old (x.sup.md_start + head)) m =
           subst (λ (t : Super). (head : ℕ) → head < t.md_len → is_head head (d.now old (t.md_start + head)) ≡ true → (m : Meta) × IsWholeHead t head (d.now old (t.md_start + head)) m) (sym sup.is) accepted.heads in
-      let refuses : Refuses x.sup x.place (d.now old (x.sup.md_start + x.place)) why = subst (λ (page : List ℕ). Refuses x.sup x.place page why) (r.read told) r.refuses in
-      let whole = heads x.place r.low (head_of x.sup x.place _ why is refuses) in
-      not_whole x.sup x.place _ whole.0 why refuses (not_memory why is) whole.1
+      let refuses : Refuses x.sup place (d.now old (x.sup.md_start + place)) why = subst (λ (page : List ℕ). Refuses x.sup place page why) (r.read told) r.refuses in
+      let whole = heads place r.low (head_of x.sup place _ why is refuses) in
+      not_whole x.sup place _ whole.0 why refuses (not_memory why is) whole.1
 
   pub refused : (why : LoadFault) → IsImageFault why → IsCause d old new why → ⊥
   refused (fault.Super e) is x = elim (x told) [
@@ -176,13 +194,3 @@ module _ {D : Type 0} (d : Ghosts D) (old new : D) (told : IsTrue d.tells) (acce
   refused (fault.NotYet page) is x = refused_head (fault.NotYet page) is x
   refused fault.ReadFault is x = is
   refused fault.Memory is x = is
-
--- a head's fault is the device's, after the super block was read
-pub whole_cause : {D : Type 0} (d : Ghosts D) (s : Super) (first disk new : D) (why : LoadFault) → OnlyRead d first disk → (IsTrue d.tells → SuperAt (d.pages first) (d.now first) s) → IsCauseAt d s disk new why
-    → IsCause d first new why
-whole_cause d s first disk new (fault.Super e) same sup x = absurd x.1.refuses
-whole_cause d s first disk new fault.ReadFault same sup x = cause_first d s first disk same new fault.ReadFault x
-whole_cause d s first disk new fault.Memory same sup x = tt
-whole_cause d s first disk new (fault.Chain head e) same sup x = record { sup = s; super_at = sup; place = x.0; refuses = refuses_first d s first disk same x.0 (fault.Chain head e) x.1 }
-whole_cause d s first disk new (fault.Meta head e) same sup x = record { sup = s; super_at = sup; place = x.0; refuses = refuses_first d s first disk same x.0 (fault.Meta head e) x.1 }
-whole_cause d s first disk new (fault.NotYet page) same sup x = record { sup = s; super_at = sup; place = x.0; refuses = refuses_first d s first disk same x.0 (fault.NotYet page) x.1 }

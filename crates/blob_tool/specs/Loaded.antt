@@ -31,6 +31,11 @@ use Rattle.blob_tool.specs.declared.loader.LoadFault.TheVariants as fault
 abbrev pub one_page_chains : Metas → Chains
 one_page_chains metas head = option_map (λ _. head ∷ []) (metas head)
 
+-- the fields of a page, if it is a head
+abbrev pub IsHeadPage : ℕ → List ℕ → Option MdPage → Type 0
+IsHeadPage place page None = is_head place page ≡ false
+IsHeadPage place page (Some md) = (is_head place page ≡ true) × IsMdPage page md
+
 -- flags and attributes, the items that are taken
 abbrev pub is_taken : Item → Bool
 is_taken (item.Flags invalid data_ro md_ro) = true
@@ -56,8 +61,7 @@ abbrev pub HeadSays : Super → ℕ → List ℕ → Option Meta → Type 0
 HeadSays s place page None = is_head place page ≡ false
 HeadSays s place page (Some m) = IsWholeHead s place page m
 
--- The page is a head with a fault in its items, with a fault in what they say, or with more than is taken: a second page in its
--- chain, or an item of another kind.
+-- The page is a head, and this is the fault of its chain: the first bad descriptor in its body.
 pub record BreaksOff (place : ℕ) (page : List ℕ) (why : ChainFault) : Type 0 where
   pub head : is_head place page ≡ true
   pub at : ℕ
@@ -65,12 +69,14 @@ pub record BreaksOff (place : ℕ) (page : List ℕ) (why : ChainFault) : Type 0
   pub spoils : Spoils (body_of page) at kind
   pub is : why ≡ chain.BadItem place at kind
 
+-- The page is a head, and the metadata that its items say has this fault.
 pub record SaysWrong (s : Super) (place : ℕ) (page : List ℕ) (why : MetaFault) : Type 0 where
   pub head : is_head place page ≡ true
   pub items : List Item
   pub spells : Spells (body_of page) items
   pub is : fault_in s place items ≡ Some why
 
+-- The page is a head with more than is taken so far: a second page in its chain, or an item of another kind.
 pub record HasMore (place : ℕ) (page : List ℕ) : Type 0 where
   pub head : is_head place page ≡ true
   pub more : ((next_of page == chain_end) ≡ false) ⊎ ((items : List Item) × Spells (body_of page) items × (list_all is_taken items ≡ false))
@@ -82,11 +88,6 @@ Refuses s place page (fault.Meta head why) = (head ≡ place) × SaysWrong s pla
 Refuses s place page (fault.NotYet head) = (head ≡ place) × HasMore place page
 Refuses s place page fault.Memory = Unit {0}
 Refuses s place page _ = ⊥
-
--- the fields of a page, if it is a head
-abbrev pub IsHeadPage : ℕ → List ℕ → Option MdPage → Type 0
-IsHeadPage place page None = is_head place page ≡ false
-IsHeadPage place page (Some md) = (is_head place page ≡ true) × IsMdPage page md
 
 -- ---- the device, read and no more
 
@@ -117,11 +118,23 @@ pub record RefusesAt {D : Type 0} (d : Ghosts D) (s : Super) (disk : D) (place :
   pub read : WasRead d s disk place page
   pub refuses : Refuses s place page why
 
--- a failed read, which the device counted; or a page with a fault
-abbrev pub IsCauseAt : {D : Type 0} → Ghosts D → Super → D → D → LoadFault → Type 0
-IsCauseAt d s old new fault.ReadFault = Rose (d.read_faults old) (d.read_faults new)
-IsCauseAt d s old new fault.Memory = Unit {0}
-IsCauseAt d s old new why = (place : ℕ) × RefusesAt d s old place why
+-- a failed read, which the device counted; or the fault of the page at this place
+abbrev pub IsCauseAt : {D : Type 0} → Ghosts D → Super → ℕ → D → D → LoadFault → Type 0
+IsCauseAt d s place old new fault.ReadFault = Rose (d.read_faults old) (d.read_faults new)
+IsCauseAt d s place old new fault.Memory = Unit {0}
+IsCauseAt d s place old new why = RefusesAt d s old place why
+
+-- the first place of the metadata region whose page has a fault
+pub record RefusesFirst {D : Type 0} (d : Ghosts D) (s : Super) (disk : D) (why : LoadFault) : Type 0 where
+  pub place : ℕ
+  pub before : (k : ℕ) → k < place → (m : Option Meta) × SaysAt d s disk k m
+  pub refuses : RefusesAt d s disk place why
+
+-- a failed read, which the device counted; or the first fault of the region
+abbrev pub IsRegionCause : {D : Type 0} → Ghosts D → Super → D → D → LoadFault → Type 0
+IsRegionCause d s old new fault.ReadFault = Rose (d.read_faults old) (d.read_faults new)
+IsRegionCause d s old new fault.Memory = Unit {0}
+IsRegionCause d s old new why = RefusesFirst d s old why
 
 -- the metadata that the places below this one say, and no other
 abbrev pub SaidBelow : {D : Type 0} → Ghosts D → Super → D → Metas → ℕ → Type 0
@@ -155,12 +168,11 @@ IsSuperCause d old new (fault.Super why) = IsTrue d.tells → SuperFails (d.page
 IsSuperCause d old new fault.ReadFault = Rose (d.read_faults old) (d.read_faults new)
 IsSuperCause d old new _ = ⊥
 
--- the page of a head has this fault, in a store whose super block has none
+-- a store whose super block has no fault, and whose first head with a fault has this one
 pub record RefusedHead {D : Type 0} (d : Ghosts D) (disk : D) (why : LoadFault) : Type 0 where
   pub sup : Super
   pub super_at : IsTrue d.tells → SuperAt (d.pages disk) (d.now disk) sup
-  pub place : ℕ
-  pub refuses : RefusesAt d sup disk place why
+  pub first : RefusesFirst d sup disk why
 
 -- Why a device isn't loaded: its super block, a head, a failed read that it counted, or want of memory.
 abbrev pub IsCause : {D : Type 0} → Ghosts D → D → D → LoadFault → Type 0

@@ -8,7 +8,7 @@ ghost use Rattle.store_model.specs.Facts.{ArePlain};
 ghost use Rattle.store_model.specs.Regions.{region_of};
 ghost use Rattle.store_model.specs.Scans.{Says};
 ghost use Rattle.super_block.specs.Faults.{IsFaultless};
-ghost use Rattle.blob_tool.specs.Loaded.{is_taken as is_taken_said, one_page_chains, HeadSays, IsAccepted, IsCause, IsCauseAt, IsHeadPage, IsImageFault, IsSuperCause, NoneFrom, OnlyRead, Refuses, SaidBelow, SaysAt, SuperAt};
+ghost use Rattle.blob_tool.specs.Loaded.{is_taken as is_taken_said, one_page_chains, HeadSays, IsAccepted, IsCause, IsCauseAt, IsHeadPage, IsImageFault, IsRegionCause, IsSuperCause, NoneFrom, OnlyRead, Refuses, SaidBelow, SaysAt, SuperAt};
 
 use blob_meta::{Meta, MetaFault, Metas, from_items};
 use descriptors::{Item, ItemFault, ItemList, read_items};
@@ -144,7 +144,7 @@ fn meta_at<D: PageDisk>(
     requires low { place < sup.now.md_len }
     requires inside { sup.now.md_start + sup.now.md_len ≤ D.pages disk.old }
     ensures found { IfOk result (λ m. SaysAt D.PageDisk sup.now disk.old place m) }
-    ensures fault { IfErr result (λ e. IsCauseAt D.PageDisk sup.now disk.old disk.new e) }
+    ensures fault { IfErr result (λ e. IsCauseAt D.PageDisk sup.now place disk.old disk.new e) }
     ensures same { OnlyRead D.PageDisk disk.old disk.new }
 {
     let mut page = [0; 4096];
@@ -165,7 +165,7 @@ fn metas_on<D: PageDisk>(
     requires inside { sup.now.md_start + sup.now.md_len ≤ D.pages disk.old }
     ensures found { IfOk result (λ metas. SaidBelow D.PageDisk sup.now disk.old (map.get metas) sup.now.md_len) }
     ensures no_other { IfOk result (λ metas. NoneFrom (map.get metas) sup.now.md_len) }
-    ensures fault { IfErr result (λ e. IsCauseAt D.PageDisk sup.now disk.old disk.new e) }
+    ensures fault { IfErr result (λ e. IsRegionCause D.PageDisk sup.now disk.old disk.new e) }
     ensures same { OnlyRead D.PageDisk disk.old disk.new }
 {
     let mut metas = Metas::new(alloc);

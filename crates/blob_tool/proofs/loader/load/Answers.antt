@@ -22,6 +22,12 @@ returns-in-Ok-metas_on-clause-accepted g c =
 pub returns-in-Ok-metas_on-clause-plain : goal.returns-in-Ok-metas_on-clause-plain
 returns-in-Ok-metas_on-clause-plain g c = all_plain g.D.PageDisk c.in-Ok.sup c.super_on.new.disk (map.get c.in-Ok-metas_on.metas) c.in-Ok-metas_on.ensures.found c.in-Ok-metas_on.ensures.no_other
 
+cause : goal.returns-in-Err-metas_on-clause-cause
+cause g c = whole_cause g.D.PageDisk c.in-Ok.sup c.args.disk c.super_on.new.disk c.in-Ok.ensures.same c.metas_on.new.disk c.in-Err-metas_on.fault c.in-Ok.ensures.found c.in-Err-metas_on.ensures.fault
+
+pub returns-in-Err-metas_on-clause-cause : goal.returns-in-Err-metas_on-clause-cause
+returns-in-Err-metas_on-clause-cause g c = cause g c
+
 pub returns-in-Err-metas_on-clause-refused : goal.returns-in-Err-metas_on-clause-refused
 returns-in-Err-metas_on-clause-refused g c =
-    λ told is image. refused g.D.PageDisk c.args.disk c.metas_on.new.disk told image c.in-Err-metas_on.fault is (whole_cause g.D.PageDisk c.in-Ok.sup c.args.disk c.super_on.new.disk c.metas_on.new.disk c.in-Err-metas_on.fault c.in-Ok.ensures.same c.in-Ok.ensures.found c.in-Err-metas_on.ensures.fault)
+    λ told is image. refused g.D.PageDisk c.args.disk c.metas_on.new.disk told image c.in-Err-metas_on.fault is (cause g c)

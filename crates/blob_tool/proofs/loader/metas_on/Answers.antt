@@ -1,9 +1,9 @@
-use Rattle.std.proofs.Common.{◌≡◌, Option, None, Some, subst, ◌∙◌, arith}
+use Rattle.std.proofs.Common.{rules, ◌≡◌, Option, None, Some, subst, ◌∙◌, arith}
 use Rattle.std.specs.Ordering.{nat_cmp}
 use Rattle.std.specs.FinMap as map
 use Rattle.blob_meta.specs.declared.meta.Meta.{Meta}
-use Rattle.blob_tool.specs.Loaded.{SaysAt}
-use Rattle.blob_tool.proofs.Loading.{no_read, read_on, says_first, none_there, none_after, inserted_said, inserted_after}
+use Rattle.blob_tool.specs.Loaded.{IsRegionCause, SaysAt}
+use Rattle.blob_tool.proofs.Loading.{no_read, read_on, says_first, cause_first, none_there, none_after, inserted_said, inserted_after}
 use Rattle.blob_tool.proofs.loader.metas_on.Goals as goal
 use Rattle.blob_tool.proofs.loader.metas_on.Goals.{in-Some+in_ok-insert, in_default}
 
@@ -40,3 +40,11 @@ loop-place-preserved g c =
             none = none_after d s first (map.get c.loop-place.metas) i old.said old.none;
           })
     ]
+
+pub returns-in_err-meta-clause-fault : goal.returns-in_err-meta-clause-fault
+returns-in_err-meta-clause-fault g c =
+    let old = c.loop-place.invariant in
+    let why = c.in_err-meta.field-0.0 in
+    let cause : IsRegionCause g.D.PageDisk c.args.sup.now c.args.disk.now c.meta_at.new.disk why =
+        cause_first g.D.PageDisk c.args.sup.now c.args.disk.now c.loop-place.disk old.same c.loop-place.place c.meta_at.new.disk why (map.get c.loop-place.metas) old.said c.in_err-meta.ensures.fault in
+    search rules
