@@ -13,3 +13,5 @@ pub mod Lines
 pub mod Taken
 pub mod Loading
 pub mod WholeHead
+pub mod WholeRun
+pub mod Ending

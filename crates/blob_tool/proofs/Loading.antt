@@ -179,7 +179,7 @@ module _ {D : Type 0} (d : Ghosts D) (old new : D) (told : IsTrue d.tells) (acce
       let sup = x.super_at told in
       let r = x.first.refuses in let place = x.first.place in
       let heads : (head : ℕ) → head < x.sup.md_len → is_head head (d.now old (x.sup.md_start + head)) ≡ true → (m : Meta) × IsWholeHead x.sup head (d.now old (x.sup.md_start + head)) m =
-          subst (λ (t : Super). (head : ℕ) → head < t.md_len → is_head head (d.now old (t.md_start + head)) ≡ true → (m : Meta) × IsWholeHead t head (d.now old (t.md_start + head)) m) (sym sup.is) accepted.heads in
+      subst (λ (t : Super). (head : ℕ) → head < t.md_len → is_head head (d.now old (t.md_start + head)) ≡ true → (m : Meta) × IsWholeHead t head (d.now old (t.md_start + head)) m) (sym sup.is) accepted.heads in
       let refuses : Refuses x.sup place (d.now old (x.sup.md_start + place)) why = subst (λ (page : List ℕ). Refuses x.sup place page why) (r.read told) r.refuses in
       let whole = heads place r.low (head_of x.sup place _ why is refuses) in
       not_whole x.sup place _ whole.0 why refuses (not_memory why is) whole.1

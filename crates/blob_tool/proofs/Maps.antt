@@ -1,5 +1,5 @@
 -- A finite map with one entry given, as a function.
-use Rattle.std.proofs.Common.{◌≡◌, ℕ, cond, eqb, Option, Some, ap, ◌∙◌, arith}
+use Rattle.std.proofs.Common.{◌≡◌, ℕ, cond, eqb, Some, ap, ◌∙◌, arith}
 use Rattle.std.specs.Ordering.{nat_cmp, eq_by_cmp}
 use Rattle.std.specs.Cmp.{nat_cmp_total}
 use Rattle.std.specs.FinMap.{FinMap, get, insert, get-insert}

@@ -10,3 +10,5 @@ pub mod Script
 pub mod Text
 pub mod Taking
 pub mod Loaded
+pub mod Statuses
+pub mod Outcome

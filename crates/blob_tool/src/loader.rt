@@ -93,12 +93,7 @@ fn are_taken(items: &ItemList) -> bool
 }
 
 /// The metadata that a page says of the blob whose head it is; `None` exactly where it is no head.
-fn head_meta(
-    alloc: Global,
-    sup: &Super,
-    place: u32,
-    page: &Page,
-) -> Result<Option<Meta>, LoadFault>
+fn head_meta(alloc: Global, sup: &Super, place: u32, page: &Page) -> Result<Option<Meta>, LoadFault>
     requires { IsFaultless sup.now }
     ensures found { IfOk result (λ m. HeadSays sup.now place page.now m) }
     ensures fault { IfErr result (λ e. Refuses sup.now place page.now e) }
@@ -156,11 +151,7 @@ fn meta_at<D: PageDisk>(
 }
 
 /// The metadata that the whole metadata region says.
-fn metas_on<D: PageDisk>(
-    alloc: Global,
-    disk: &mut D,
-    sup: &Super,
-) -> Result<Metas, LoadFault>
+fn metas_on<D: PageDisk>(alloc: Global, disk: &mut D, sup: &Super) -> Result<Metas, LoadFault>
     requires faultless { IsFaultless sup.now }
     requires inside { sup.now.md_start + sup.now.md_len ≤ D.pages disk.old }
     ensures found { IfOk result (λ metas. SaidBelow D.PageDisk sup.now disk.old (map.get metas) sup.now.md_len) }

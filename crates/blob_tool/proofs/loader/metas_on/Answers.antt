@@ -46,5 +46,5 @@ returns-in_err-meta-clause-fault g c =
     let old = c.loop-place.invariant in
     let why = c.in_err-meta.field-0.0 in
     let cause : IsRegionCause g.D.PageDisk c.args.sup.now c.args.disk.now c.meta_at.new.disk why =
-        cause_first g.D.PageDisk c.args.sup.now c.args.disk.now c.loop-place.disk old.same c.loop-place.place c.meta_at.new.disk why (map.get c.loop-place.metas) old.said c.in_err-meta.ensures.fault in
+    cause_first g.D.PageDisk c.args.sup.now c.args.disk.now c.loop-place.disk old.same c.loop-place.place c.meta_at.new.disk why (map.get c.loop-place.metas) old.said c.in_err-meta.ensures.fault in
     search rules

@@ -1,0 +1,47 @@
+-- What a run came to, by what was printed of its log.
+use Rattle.std.proofs.Common.{◌≡◌, ℕ, ◌++◌, false, Option, Some, None, Result, Ok, Err, OnOk, IsTrue, refl, inl, inr}
+use Rattle.page_disk.specs.Disk.{Rose}
+use Rattle.page_disk.specs.declared.disk.PageDisk as disk
+use Rattle.blob_tool.specs.declared.source.Source as source
+use Rattle.blob_tool.specs.declared.sink.Sink as sink
+use Rattle.blob_tool.specs.declared.status.Status.{Status}
+use Rattle.blob_tool.specs.declared.status.Status.TheVariants as status
+use Rattle.blob_tool.specs.declared.printing.PrintFault.{PrintFault}
+use Rattle.blob_tool.specs.declared.printing.PrintFault.TheVariants as printing
+use Rattle.blob_tool.specs.Seen.{At}
+use Rattle.blob_tool.specs.Statuses.{is_usage, of_run}
+use Rattle.blob_tool.specs.Text.{log_text}
+use Rattle.blob_tool.specs.Outcome.{Ended, Outcome, Played, RanTo}
+
+module _ {D : Type 0} (d : disk.Ghosts D) {K : Type 0} (k : sink.Ghosts K) (out out_now : K) (back : D) (first : At D) where
+  pub ends : (p : Played d k out out_now back first) (stopped : Option ℕ) (printed : Result (Unit {0}) PrintFault) → p.last.stopped ≡ stopped
+      → (IsTrue k.tells → OnOk printed (k.written out_now ≡ k.written out ++ log_text p.last.log)) → (printed ≡ Err printing.Sink → Rose (k.faults out) (k.faults out_now))
+      → Ended d k out out_now back first (of_run stopped printed)
+  ends p stopped (Err printing.Memory) is whole rose = inl p
+  ends p None (Err printing.Sink) is whole rose = (p, is, rose refl)
+  ends p (Some at) (Err printing.Sink) is whole rose = (p, is, inr (rose refl))
+  ends p None (Ok done) is whole rose = (p, is, whole)
+  ends p (Some at) (Ok done) is whole rose = (p, is, inl whole)
+
+module _ {S : Type 0} (s : source.Ghosts S) (script script_now : S) {D : Type 0} (d : disk.Ghosts D) {K : Type 0} (k : sink.Ghosts K) (out out_now : K) (before back : D) where
+  -- what a run came to is the outcome of the call
+  pub of_a_run : (st : Status) → RanTo s script script_now d k out out_now before back st → Outcome s script script_now d k out out_now before back st
+  of_a_run status.Good ran = ran
+  of_a_run status.OutWrite ran = ran
+  of_a_run (status.Device at) ran = inl ran
+  of_a_run status.Memory ran = inl ran
+  of_a_run status.Usage ran = absurd ran.2
+  of_a_run (status.Script line kind) ran = absurd ran.2
+  of_a_run (status.Image fault) ran = absurd ran.2
+  of_a_run status.ScriptRead ran = absurd ran.2
+
+  -- a run is no usage fault
+  pub isnt_usage : (first : At D) (st : Status) → Ended d k out out_now back first st → is_usage st ≡ false
+  isnt_usage first status.Usage e = absurd e
+  isnt_usage first status.Good e = refl
+  isnt_usage first status.OutWrite e = refl
+  isnt_usage first (status.Device at) e = refl
+  isnt_usage first status.Memory e = refl
+  isnt_usage first (status.Script line kind) e = refl
+  isnt_usage first (status.Image fault) e = refl
+  isnt_usage first status.ScriptRead e = refl

@@ -1,0 +1,40 @@
+-- Which status comes of what.
+use Rattle.std.specs.Prelude.{ℕ, Option, Some, None, Result, Ok, Err, Bool, true, false}
+use Rattle.blob_tool.specs.declared.script.LineKind.TheVariants.{Limit}
+use Rattle.blob_tool.specs.declared.script.ScriptFault.{ScriptFault}
+use Rattle.blob_tool.specs.declared.script.ScriptFault.TheVariants as script
+use Rattle.blob_tool.specs.declared.reading.ReadFault.{ReadFault}
+use Rattle.blob_tool.specs.declared.reading.ReadFault.TheVariants as reading
+use Rattle.blob_tool.specs.declared.loader.LoadFault.{LoadFault}
+use Rattle.blob_tool.specs.declared.loader.LoadFault.TheVariants as loading
+use Rattle.blob_tool.specs.declared.printing.PrintFault.{PrintFault}
+use Rattle.blob_tool.specs.declared.printing.PrintFault.TheVariants as printing
+use Rattle.blob_tool.specs.declared.status.Status.{Status}
+use Rattle.blob_tool.specs.declared.status.Status.TheVariants as status
+
+abbrev pub of_script : ScriptFault → Status
+of_script (script.BadLine line kind) = status.Script line kind
+of_script script.TooBig = status.Script 0 Limit
+of_script script.Memory = status.Memory
+
+abbrev pub of_reading : ReadFault → Status
+of_reading reading.Source = status.ScriptRead
+of_reading reading.TooBig = status.Script 0 Limit
+of_reading reading.Memory = status.Memory
+
+-- a failed read is the device's fault, with nothing logged
+abbrev pub of_loading : LoadFault → Status
+of_loading loading.ReadFault = status.Device 0
+of_loading loading.Memory = status.Memory
+of_loading fault = status.Image fault
+
+-- a store that stopped comes before a sink that failed
+abbrev pub of_run : Option ℕ → Result (Unit {0}) PrintFault → Status
+of_run stopped (Err printing.Memory) = status.Memory
+of_run (Some at) printed = status.Device at
+of_run None (Err printing.Sink) = status.OutWrite
+of_run None (Ok done) = status.Good
+
+abbrev pub is_usage : Status → Bool
+is_usage status.Usage = true
+is_usage _ = false
