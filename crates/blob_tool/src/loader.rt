@@ -224,3 +224,126 @@ pub fn load<D: PageDisk>(alloc: Global, disk: D) -> Result<Loaded<D>, (D, LoadFa
         Err(fault) => Err((disk, fault)),
     }
 }
+
+#[cfg(test)]
+mod tests {
+    use super::load;
+    use blob_meta::Metas;
+    use md_page::MdPage;
+    use page_disk::{CallKind, Fail, FaultDisk, MemDisk, PageDisk, WriteKind};
+    use std::alloc::Global;
+    use std::test::Fail as TestFail;
+    use super_block::{Super, write_super};
+
+    /// The body of a blob with flags of zeros alone.
+    fn flags() -> [u8; 4072] {
+        let mut body = [0; 4072];
+        body[0] = 3;
+        body[1] = 24;
+        body
+    }
+
+    /// A device of 64 pages with a store, in which a blob with this body begins at place 0.
+    fn device(alloc: Global, body: [u8; 4072], next: u32) -> Result<MemDisk, TestFail> {
+        let mut disk = MemDisk::new(alloc, 64, 2)?;
+        let mut page = [0; 4096];
+        write_super(
+            &Super {
+                device_pages: 64,
+                signature: *b"SPDKBLOB",
+                version: 3,
+                length: 4096,
+                clean: 0,
+                super_blob: u64::MAX,
+                cluster_size: 16384,
+                used_page_mask_start: 1,
+                used_page_mask_len: 1,
+                used_cluster_mask_start: 2,
+                used_cluster_mask_len: 1,
+                md_start: 4,
+                md_len: 16,
+                bstype: [0; 16],
+                used_blobid_mask_start: 3,
+                used_blobid_mask_len: 1,
+                size: 262144,
+                io_unit_size: 4096,
+                md_page_size: 0,
+                rest: [0; 3996],
+                crc: 0,
+            },
+            &mut page,
+        );
+        disk.write(0, &page, WriteKind::Whole)?;
+        md_page::write(
+            &MdPage {
+                id: 0x1_0000_0000,
+                sequence: 0,
+                body,
+                next,
+            },
+            &mut page,
+        );
+        disk.write(4, &page, WriteKind::Whole)?;
+        Ok(disk)
+    }
+
+    fn id_at(metas: &Metas, head: u32) -> Option<u64> {
+        metas.get(head).map(|meta| meta.id)
+    }
+
+    /// The ids of the blobs at places 0 and 1.
+    fn first_ids(metas: &Metas) -> (Option<u64>, Option<u64>) {
+        (id_at(metas, 0), id_at(metas, 1))
+    }
+
+    /// What comes of loading a device: the first ids, or the fault's text.
+    fn outcome<D: PageDisk + Drop>(alloc: Global, disk: D) -> Result<String, TestFail> {
+        match load(alloc, disk) {
+            Ok(loaded) => {
+                let ids = first_ids(&loaded.metas);
+                Ok(format!(in alloc; "{ids:?}")?)
+            }
+            Err((_, fault)) => Ok(format!(in alloc; "{fault}")?),
+        }
+    }
+
+    #[test]
+    fn a_blob_of_one_page_is_loaded_and_faults_say_what_is_wrong(
+        rt: HostRuntime,
+    ) -> Result<(), TestFail> {
+        let more = "blob at page 0: only one page of flags and attributes is read so far";
+        let table = [
+            (0, 3, 0xFFFF_FFFF, "(Some(4294967296), None)"),
+            (0, 9, 0xFFFF_FFFF, more),
+            (0, 3, 5, more),
+            (
+                1,
+                23,
+                0xFFFF_FFFF,
+                "blob at page 0: page 0 has a bad descriptor of type 3 at byte 0",
+            ),
+            (5, 4, 0xFFFF_FFFF, "blob at page 0: unknown flags 0x4"),
+        ];
+        for (at, byte, next, text) in table {
+            let mut body = flags();
+            assert!(rt; at < 4072);
+            body[at] = byte;
+            let disk = device(rt.alloc(), body, next)?;
+            assert_eq!(rt; outcome(rt.alloc(), disk)?.as_str(), text);
+        }
+        let empty = MemDisk::new(rt.alloc(), 0, 0)?;
+        let unsigned = "super block: the signature isn't SPDKBLOB";
+        assert_eq!(rt; outcome(rt.alloc(), empty)?.as_str(), unsigned);
+        let second = Fail {
+            kind: CallKind::Read,
+            nth: 2,
+        };
+        let whole = device(rt.alloc(), flags(), 0xFFFF_FFFF)?;
+        let failing = FaultDisk::new(whole, vec![in rt.alloc(); second]?);
+        assert_eq!(rt;
+            outcome(rt.alloc(), failing)?.as_str(),
+            "a page could not be read"
+        );
+        Ok(())
+    }
+}
