@@ -1,0 +1,133 @@
+//! How the program ends: its exit status, and the line that it prints to standard error.
+
+use crate::{LineKind, Status};
+use std::fmt::{Display, Formatter, Result, Write};
+use std::io;
+
+/// How the program ends.
+#[derive(Debug, Drop)]
+pub enum Ending {
+    /// A command ended so.
+    Ran(Status),
+    /// The image could not be opened.
+    NotOpened(io::Error),
+}
+
+impl Ending {
+    /// The ending where the words could not be taken: they aren't UTF-8, and so no command, or there was no memory.
+    pub fn no_words(error: io::Error) -> Ending {
+        Ending::Ran(match error.kind() {
+            io::ErrorKind::OutOfMemory => Status::Memory,
+            _ => Status::Usage,
+        })
+    }
+
+    /// The exit status. An image that can't be opened counts as a device that fails.
+    pub fn code(&self) -> u8 {
+        match self {
+            Ending::Ran(Status::Good) => 0,
+            Ending::Ran(Status::Usage) => 1,
+            Ending::Ran(Status::Script { .. }) => 2,
+            Ending::Ran(Status::Image { .. }) => 3,
+            Ending::Ran(Status::ScriptRead) => 4,
+            Ending::Ran(Status::OutWrite) => 5,
+            Ending::Ran(Status::Device { .. }) | Ending::NotOpened(_) => 6,
+            Ending::Ran(Status::Memory) => 7,
+        }
+    }
+}
+
+/// What is wrong with a line, in words.
+fn wrong(kind: LineKind) -> &'static str {
+    match kind {
+        LineKind::Form => "not of the form CHANNEL VERB WORDS",
+        LineKind::Channel => "not such a channel",
+        LineKind::Verb => "not such a verb",
+        LineKind::Number => "not such a number",
+        LineKind::Volume => "not such a volume",
+        LineKind::KeyValue => "not such a key or value",
+        LineKind::Uuid => "not such a UUID",
+        LineKind::Limit => "more than a script may have",
+    }
+}
+
+impl Display for Ending {
+    fn fmt<W: Write>(&self, f: &mut Formatter<W>) -> Result {
+        match self {
+            Ending::Ran(Status::Good) => write!(f, "done"),
+            Ending::Ran(Status::Usage) => write!(f, "usage: blobtool run IMAGE"),
+            Ending::Ran(Status::Script { line: 0, .. }) => write!(f, "the script is too big"),
+            Ending::Ran(Status::Script { line, kind }) => {
+                write!(f, "line {line} of the script: {}", wrong(*kind))
+            }
+            Ending::Ran(Status::Image { fault }) => write!(f, "the image: {fault}"),
+            Ending::Ran(Status::ScriptRead) => write!(f, "standard input could not be read"),
+            Ending::Ran(Status::OutWrite) => write!(f, "standard output could not be written"),
+            Ending::Ran(Status::Device { at }) => {
+                write!(f, "the image failed after {at} commands")
+            }
+            Ending::Ran(Status::Memory) => write!(f, "no memory"),
+            Ending::NotOpened(error) => write!(f, "the image could not be opened: {error}"),
+        }
+    }
+}
+
+#[cfg(test)]
+mod tests {
+    use super::*;
+    use crate::LoadFault;
+    use std::test::Fail;
+
+    #[test]
+    fn each_ending_has_its_status_and_text(rt: HostRuntime) -> std::result::Result<(), Fail> {
+        let missing = io::Error::from(io::ErrorKind::NotFound);
+        let script = Status::Script {
+            line: 3,
+            kind: LineKind::Verb,
+        };
+        let big = Status::Script {
+            line: 0,
+            kind: LineKind::Limit,
+        };
+        let image = Status::Image {
+            fault: LoadFault::ReadFault,
+        };
+        let cases = [
+            (Ending::Ran(Status::Good), 0, "done"),
+            (Ending::Ran(Status::Usage), 1, "usage: blobtool run IMAGE"),
+            (
+                Ending::Ran(script),
+                2,
+                "line 3 of the script: not such a verb",
+            ),
+            (Ending::Ran(big), 2, "the script is too big"),
+            (Ending::Ran(image), 3, "the image: a page could not be read"),
+            (
+                Ending::Ran(Status::ScriptRead),
+                4,
+                "standard input could not be read",
+            ),
+            (
+                Ending::Ran(Status::OutWrite),
+                5,
+                "standard output could not be written",
+            ),
+            (
+                Ending::Ran(Status::Device { at: 7 }),
+                6,
+                "the image failed after 7 commands",
+            ),
+            (
+                Ending::NotOpened(missing),
+                6,
+                "the image could not be opened: entity not found",
+            ),
+            (Ending::Ran(Status::Memory), 7, "no memory"),
+        ];
+        for (ending, code, text) in &cases {
+            assert_eq!(rt; ending.code(), *code);
+            assert_eq!(rt; format!(in rt.alloc(); "{ending}")?.as_str(), *text);
+        }
+        Ok(())
+    }
+}

@@ -1,0 +1,65 @@
+//! Runs a script from standard input on the store in an image file, and prints its log to standard output. Any exit status
+//! other than 0 comes with one line on standard error.
+#![tactic(auto)]
+
+mod ending;
+mod file_disk;
+mod std_sink;
+mod std_source;
+mod top;
+
+use ending::Ending;
+use file_disk::FileDisk;
+use page_disk::{MemDisk, PageDisk};
+use std::fs::File;
+use std::process::ExitCode;
+use std::{env, io};
+use std_sink::StdSink;
+use std_source::StdSource;
+use top::{LineKind, LoadFault, Status, blobtool};
+
+/// The words after the program's name.
+fn words(rt: &HostRuntime) -> io::Result<Vec<String>> {
+    let mut words = Vec::new(rt.alloc());
+    for word in env::args(rt)?.skip(1) {
+        words.push(word)?;
+    }
+    Ok(words)
+}
+
+fn open(rt: &HostRuntime, image: &str) -> io::Result<FileDisk> {
+    FileDisk::new(File::options().read(true).write(true).open(rt, image)?)
+}
+
+/// Does what the words say over the standard streams and this device.
+fn perform<D: PageDisk + Drop + Send>(rt: &HostRuntime, words: &[String], disk: D) -> Ending {
+    let mut script = StdSource::new(rt.stdin());
+    let mut out = StdSink::new(rt.stdout());
+    let (status, _disk) = blobtool(rt.alloc(), words, &mut script, &mut out, disk);
+    Ending::Ran(status)
+}
+
+/// Opens the image that the second word names. Where there is no such word the device has no pages.
+fn start(rt: &HostRuntime, words: &[String]) -> Ending {
+    match words.get(1) {
+        Some(image) => match open(rt, image.as_str()) {
+            Ok(disk) => perform(rt, words, disk),
+            Err(error) => Ending::NotOpened(error),
+        },
+        None => match MemDisk::new(rt.alloc(), 0, 0) {
+            Ok(disk) => perform(rt, words, disk),
+            Err(_) => Ending::Ran(Status::Memory),
+        },
+    }
+}
+
+fn main(rt: HostRuntime) -> ExitCode {
+    let ending = match words(&rt) {
+        Ok(words) => start(&rt, words.as_slice()),
+        Err(error) => Ending::no_words(error),
+    };
+    if ending.code() != 0 {
+        let _ = eprintln!(rt; "blobtool: {ending}");
+    }
+    ExitCode::from(ending.code())
+}

@@ -1,0 +1,102 @@
+//! A source over a reader of the standard library.
+
+ghost use Rattle.std.specs.Prelude.{◌≤◌, IfOk, false, length, []};
+
+use blob_tool::{Source, SourceFault};
+use std::io::{ErrorKind, Read};
+
+/// The bytes that a reader gives. It tells nothing of them.
+#[derive(Drop)]
+pub struct StdSource<R: Read + Drop> {
+    reader: R,
+    faults: u64,
+}
+
+impl<R: Read + Drop> StdSource<R> {
+    pub fn new(reader: R) -> StdSource<R> {
+        StdSource { reader, faults: 0 }
+    }
+}
+
+impl<R: Read + Drop> Source for StdSource<R> {
+    ghost tells = { false };
+
+    ghost left = { λ _. [] };
+
+    ghost faults = { λ s. s.faults };
+
+    fn read(&mut self, into: &mut [u8]) -> Result<usize, SourceFault> {
+        let result = read_some(&mut self.reader, into);
+        if result.is_err() {
+            self.faults = self.faults.saturating_add(1);
+        }
+        result
+    }
+}
+
+/// Reads again where a signal cut the read off.
+fn read_some<R: Read>(reader: &mut R, into: &mut [u8]) -> Result<usize, SourceFault>
+    ensures { IfOk result (λ n. n ≤ length into.new) }
+{
+    for _ in 0..u64::MAX {
+        match reader.read(into) {
+            Ok(count) => return Ok(count),
+            Err(error) => {
+                if error.kind() != ErrorKind::Interrupted {
+                    return Err(SourceFault);
+                }
+            }
+        }
+    }
+    Err(SourceFault)
+}
+
+#[cfg(test)]
+mod tests {
+    use super::*;
+    use std::io;
+
+    /// Gives two bytes a read, after a read that a signal cut off, and fails at the fourth.
+    struct Faulty(u8);
+
+    impl Drop for Faulty {
+        fn drop(self) {
+            let Faulty(_) = self;
+        }
+    }
+
+    impl Read for Faulty {
+        fn read(&mut self, buf: &mut [u8]) -> io::Result<usize> {
+            self.0 = self.0.saturating_add(1);
+            match self.0 {
+                1 => Err(io::Error::from(ErrorKind::Interrupted)),
+                4 => Err(io::Error::from(ErrorKind::Other)),
+                _ => {
+                    let count = buf.len().min(2);
+                    buf[..count].fill(self.0);
+                    Ok(count)
+                }
+            }
+        }
+    }
+
+    #[test]
+    fn a_source_gives_what_its_reader_gives(rt: HostRuntime) {
+        let mut buffer = [0; 4];
+        let mut source = StdSource::new(b"abcde".as_slice());
+        assert_eq!(rt; source.read(&mut buffer), Ok(4));
+        assert_eq!(rt; buffer, *b"abcd");
+        assert_eq!(rt; source.read(&mut buffer), Ok(1));
+        assert_eq!(rt; source.read(&mut buffer), Ok(0));
+        assert_eq!(rt; source.faults, 0);
+
+        let mut source = StdSource::new(Faulty(0));
+        assert_eq!(rt; source.read(&mut buffer), Ok(2));
+        assert_eq!(rt; source.read(&mut buffer), Ok(2));
+        assert_eq!(rt;
+            (source.read(&mut buffer), source.faults),
+            (Err(SourceFault), 1)
+        );
+        assert_eq!(rt; source.read(&mut buffer), Ok(2));
+    }
+}
