@@ -9,24 +9,26 @@ use std::io;
 pub enum Ending {
     /// A command ended so.
     Ran(Status),
+    /// A word isn't UTF-8.
+    NotText,
     /// The image could not be opened.
     NotOpened(io::Error),
 }
 
 impl Ending {
-    /// The ending where the words could not be taken: they aren't UTF-8, and so no command, or there was no memory.
+    /// The ending where the words could not be taken: there was no memory for them, or they aren't UTF-8.
     pub fn no_words(error: io::Error) -> Ending {
-        Ending::Ran(match error.kind() {
-            io::ErrorKind::OutOfMemory => Status::Memory,
-            _ => Status::Usage,
-        })
+        match error.kind() {
+            io::ErrorKind::OutOfMemory => Ending::Ran(Status::Memory),
+            _ => Ending::NotText,
+        }
     }
 
-    /// The exit status. An image that can't be opened counts as a device that fails.
+    /// The exit status. Words that aren't UTF-8 are no command, and an image that can't be opened counts as a device that fails.
     pub fn code(&self) -> u8 {
         match self {
             Ending::Ran(Status::Good) => 0,
-            Ending::Ran(Status::Usage) => 1,
+            Ending::Ran(Status::Usage) | Ending::NotText => 1,
             Ending::Ran(Status::Script { .. }) => 2,
             Ending::Ran(Status::Image { .. }) => 3,
             Ending::Ran(Status::ScriptRead) => 4,
@@ -67,6 +69,7 @@ impl Display for Ending {
                 write!(f, "the image failed after {at} commands")
             }
             Ending::Ran(Status::Memory) => write!(f, "no memory"),
+            Ending::NotText => write!(f, "a word is not UTF-8"),
             Ending::NotOpened(error) => write!(f, "the image could not be opened: {error}"),
         }
     }
@@ -95,6 +98,7 @@ mod tests {
         let cases = [
             (Ending::Ran(Status::Good), 0, "done"),
             (Ending::Ran(Status::Usage), 1, "usage: blobtool run IMAGE"),
+            (Ending::NotText, 1, "a word is not UTF-8"),
             (
                 Ending::Ran(script),
                 2,
