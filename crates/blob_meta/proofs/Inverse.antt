@@ -1,6 +1,5 @@
 -- The items of metadata say that metadata.
-use Rattle.std.proofs.Common.{◌≡◌, ℕ, ◌+◌, ◌-◌, ◌*◌, ◌/◌, ◌%◌, ◌^◌, false, List, [], ◌∷◌, ◌++◌, refl, sym, ap, ◌∙◌, arith}
-use Rattle.std.specs.Prelude.{map, not}
+use Rattle.std.proofs.Common.{◌≡◌, ℕ, ◌+◌, ◌^◌, false, List, [], ◌∷◌, ◌++◌, refl, sym, ap, ◌∙◌, arith}
 use Rattle.std.specs.List.{AllByRecursion, filter_map, flat_map}
 use Rattle.std.specs.Str.{bytes_eq}
 use Rattle.std.proofs.lemmas.List.{append-nil}
@@ -10,7 +9,7 @@ use Rattle.descriptors.specs.declared.item.Item.{Item}
 use Rattle.descriptors.specs.Runs.{slots_in}
 use Rattle.blob_meta.specs.declared.meta.Flags.{Flags}
 use Rattle.blob_meta.specs.declared.meta.Meta.{Meta}
-use Rattle.blob_meta.specs.Says.{last_flags, without_bit_1, firsts, xattr_in, internal_in, runs_in, map_in, meta_of}
+use Rattle.blob_meta.specs.Says.{last_flags, without_bit_1, firsts, xattr_in, internal_in, runs_in, meta_of}
 use Rattle.blob_meta.specs.Items.{internal_bit, xattr_items, internal_items, run_items, items_of, IsItemsOf, HasDistinctNames}
 use Rattle.blob_meta.proofs.Firsts.{others, turned}
 

@@ -1,4 +1,4 @@
-use Rattle.std.proofs.Common.{rules, ◌≡◌, ◌≢◌, ◌≤◌, ◌<◌, ◌+◌, ℕ, zero, suc, Some, arith, sym, ap, ◌∙◌}
+use Rattle.std.proofs.Common.{rules, ◌≡◌, ◌≢◌, ◌<◌, ℕ, zero, suc, Some, arith, sym, ap, ◌∙◌}
 use Rattle.std.specs.Prelude.{max}
 use Rattle.descriptors.specs.Slots.{filled_slots}
 use Rattle.blob_meta.proofs.Outside.{first_outside, low, inside, past, empty_run, short_run, filled_run}

@@ -1,4 +1,4 @@
-use Rattle.std.proofs.Common.{below_more, ◌≡◌, ◌<◌, ◌+◌, length, drop, ℕ, Option, Some, None, arith, sym, ap, ◌∙◌}
+use Rattle.std.proofs.Common.{below_more, ◌+◌, drop, arith, sym, ap, ◌∙◌}
 use Rattle.std.specs.Option.{option_or}
 use Rattle.descriptors.specs.Runs.{slots_in}
 use Rattle.blob_meta.proofs.Outside.{first_outside, next_run}
