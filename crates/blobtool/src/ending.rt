@@ -1,6 +1,6 @@
 //! How the program ends: its exit status, and the line that it prints to standard error.
 
-use crate::{LineKind, Status};
+use blob_tool::{LineKind, Status};
 use std::fmt::{Display, Formatter, Result, Write};
 use std::io;
 
@@ -78,7 +78,7 @@ impl Display for Ending {
 #[cfg(test)]
 mod tests {
     use super::*;
-    use crate::LoadFault;
+    use blob_tool::LoadFault;
     use std::test::Fail;
 
     #[test]

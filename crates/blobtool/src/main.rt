@@ -6,8 +6,8 @@ mod ending;
 mod file_disk;
 mod std_sink;
 mod std_source;
-mod top;
 
+use blob_tool::{Status, blobtool};
 use ending::Ending;
 use file_disk::FileDisk;
 use page_disk::{MemDisk, PageDisk};
@@ -16,7 +16,6 @@ use std::process::ExitCode;
 use std::{env, io};
 use std_sink::StdSink;
 use std_source::StdSource;
-use top::{LineKind, LoadFault, Status, blobtool};
 
 /// The words after the program's name.
 fn words(rt: &HostRuntime) -> io::Result<Vec<String>> {
