@@ -20,6 +20,8 @@ mod source;
 mod status;
 mod text;
 mod top;
+#[cfg(test)]
+mod text_tests;
 mod turn;
 mod words;
 
