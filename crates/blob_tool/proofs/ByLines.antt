@@ -1,5 +1,5 @@
 -- A script that is read line by line.
-use Rattle.std.proofs.Common.{◌≡◌, ℕ, ◌+◌, ◌^◌, ◌<◌, ◌≤◌, List, [], ◌∷◌, ◌++◌, map, length, Option, Some, None, refl, sym, ap, ◌∙◌, arith, append_assoc}
+use Rattle.std.proofs.Common.{◌≡◌, ℕ, ◌+◌, ◌^◌, ◌<◌, ◌≤◌, List, [], ◌∷◌, ◌++◌, map, length, get_or, Option, Some, None, refl, sym, ap, ◌∙◌, arith, append_assoc}
 use Rattle.std.specs.List.{All}
 use Rattle.std.proofs.lemmas.List.Elements.{All-nil}
 use Rattle.std.proofs.lemmas.List.{length-map, map-append}
@@ -54,6 +54,13 @@ stuck text left line rest commands size r e bad = record {
   bad = bad;
   number_is = ap (λ n. n + 1) (sym (length-map commands Some) ∙ sym (ap length r.good) ∙ length-map r.before command_at);
 }
+
+pub of_that_line : (text : List ℕ) (left : List (List ℕ)) (line : List ℕ) (rest : List (List ℕ)) (commands : List Command) (size : ℕ)
+    → IsReading (lines text) left commands size → left ≡ line ∷ rest → get_or (lines text) (length commands) [] ≡ line
+of_that_line text left line rest commands size r e =
+    let count : length commands ≡ length r.before = sym (length-map commands Some) ∙ sym (ap length r.good) ∙ length-map r.before command_at in
+    let whole : lines text ≡ r.before ++ line ∷ rest = r.whole ∙ ap (λ ls. r.before ++ ls) e in
+    ap (λ ls. get_or ls (length commands) []) whole ∙ ap (λ n. get_or (r.before ++ line ∷ rest) n []) count ∙ grind (arith, common_steps)
 
 pub no_script : (text : List ℕ) (left : List (List ℕ)) (line : List ℕ) (rest : List (List ℕ)) (commands : List Command) (size : ℕ)
     → IsReading (lines text) left commands size → left ≡ line ∷ rest → command_at line ≡ None → reads text ≡ None

@@ -1,13 +1,15 @@
 -- What a script says.
-use Rattle.std.specs.Prelude.{◌≡◌, ℕ, ◌+◌, ◌-◌, ◌<◌, ◌^◌, ◌==◌, nat_lt, nat_le, ◌&&◌, if◌then◌else◌, List, [], ◌∷◌, ◌++◌, Bool, Option, Some, None, map, length, take, drop, slice_index, decimal, codes}
+use Rattle.std.specs.Prelude.{◌≡◌, ℕ, ◌+◌, ◌-◌, ◌<◌, ◌^◌, ◌==◌, nat_lt, nat_le, ◌&&◌, ◌||◌, not, if◌then◌else◌, List, [], ◌∷◌, ◌++◌, Bool, Option, Some, None, map, length, take, drop, slice_index, slice_index_or, decimal, codes}
 use Rattle.std.specs.List.{list_all}
-use Rattle.std.specs.Option.{option_map}
+use Rattle.std.specs.Option.{option_map, is_some}
 use Rattle.std.specs.Str.{bytes_eq}
 use Rattle.std.specs.Str.Parse.{digits_value}
 use Rattle.volume_model.specs.declared.command.VolumeRef.TheVariants.{Head}
 use Rattle.volume_model.specs.declared.command.Command.{Command}
 use Rattle.volume_model.specs.declared.command.Command.TheVariants.{Put}
 use Rattle.blob_tool.specs.Parts.{parts}
+use Rattle.blob_tool.specs.declared.script.LineKind.{LineKind}
+use Rattle.blob_tool.specs.declared.script.LineKind.TheVariants as kind
 use Rattle.blob_tool.specs.declared.script.ScriptFault.{ScriptFault}
 use Rattle.blob_tool.specs.declared.script.ScriptFault.TheVariants as fault
 
@@ -44,6 +46,36 @@ command_in _ = None
 -- the command of a line, whose words are separated by one space each
 abbrev pub command_at : List ℕ → Option Command
 command_at line = command_in (parts 32 (Some line))
+
+-- bytes from 0x20 to 0x7E
+abbrev pub is_printable : List ℕ → Bool
+is_printable line = list_all (λ b. nat_le 32 b && nat_le b 126) line
+
+abbrev pub are_words : List (List ℕ) → Bool
+are_words words = list_all (λ word. nat_lt 0 (length word)) words
+
+-- one space between any two words, and none at an end
+abbrev pub is_spaced : List ℕ → Bool
+is_spaced line = are_words (parts 32 (Some line))
+
+-- a line that begins with `#`
+abbrev pub is_comment : List ℕ → Bool
+is_comment line = slice_index line 0 == 35
+
+abbrev pub kind_of_operands : List (List ℕ) → LineKind
+kind_of_operands [] = kind.Volume
+kind_of_operands (volume ∷ operands) = if is_some (head_in volume) then kind.KeyValue else kind.Volume
+
+-- the first word at fault decides; the number of words counts only where the verb is known
+abbrev pub kind_of_words : List (List ℕ) → LineKind
+kind_of_words (channel ∷ verb ∷ operands) =
+    if bytes_eq verb (codes "put") && not (length operands == 3) then kind.Form
+    else (if not (bytes_eq channel (codes "0")) then kind.Channel else (if not (bytes_eq verb (codes "put")) then kind.Verb else kind_of_operands operands))
+kind_of_words _ = kind.Form
+
+-- what is wrong with a line that holds no command
+abbrev pub kind_at : List ℕ → LineKind
+kind_at line = if not (is_printable line) || not (is_spaced line) || is_comment line then kind.Form else kind_of_words (parts 32 (Some line))
 
 -- a text without one LF at its end
 abbrev pub ended : List ℕ → List ℕ
@@ -85,3 +117,9 @@ abbrev pub Refuses : List ℕ → ScriptFault → Type 0
 Refuses text (fault.BadLine line kind) = reads text ≡ None
 Refuses text fault.TooBig = 2 ^ 20 < length text
 Refuses text fault.Memory = Unit {0}
+
+-- what is wrong is what is wrong with the line of this number
+abbrev pub IsKindOfLine : List ℕ → ScriptFault → Type 0
+IsKindOfLine text (fault.BadLine number kind) = kind ≡ kind_at (slice_index_or (lines text) (number - 1) [])
+IsKindOfLine text fault.TooBig = Unit {0}
+IsKindOfLine text fault.Memory = Unit {0}

@@ -19,9 +19,9 @@ mod sink;
 mod source;
 mod status;
 mod text;
-mod top;
 #[cfg(test)]
 mod text_tests;
+mod top;
 mod turn;
 mod words;
 

@@ -1,6 +1,6 @@
 //! The parts of a text between separators.
 
-ghost use Rattle.std.specs.Prelude.{◌≡◌, ◌==◌, position, ◌∷◌, ◌<◌, ◌+◌, [], length, Some, IfSome, IfNone};
+ghost use Rattle.std.specs.Prelude.{◌≡◌, ◌==◌, ◌≤◌, position, count_by, ◌∷◌, ◌<◌, ◌+◌, [], length, Some, IfSome, IfNone};
 ghost use Rattle.std.specs.Option.{option_copied};
 ghost use Rattle.blob_tool.specs.Parts.{parts, size_left};
 
@@ -33,6 +33,31 @@ impl<'a> Parts<'a> {
         self.rest = rest;
         Some(part)
     }
+
+    /// How many parts are left.
+    pub fn count(&self) -> usize
+        ensures { result ≡ length (parts self.now.separator (option_copied self.now.rest)) }
+    {
+        match self.rest {
+            None => 0,
+            Some(text) => parts_in(text, self.separator),
+        }
+    }
+}
+
+/// How many separators a text has.
+fn separators(text: &[u8], separator: u8) -> usize
+    ensures count { result ≡ count_by (λ b. b == separator) text.now }
+    ensures within { result ≤ length text.now }
+{
+    text.iter().filter(|b| **b == separator).count()
+}
+
+/// How many parts a text has.
+fn parts_in(text: &[u8], separator: u8) -> usize
+    ensures { result ≡ length (parts separator (Some text.now)) }
+{
+    separators(text, separator) + 1
 }
 
 /// The bytes before the first separator, and those after it.

@@ -4,7 +4,7 @@ ghost use Rattle.std.specs.Prelude.{◌≡◌, ◌≤◌, ◌<◌, ◌+◌, ◌^
 ghost use Rattle.std.specs.List.{All};
 ghost use Rattle.std.specs.Option.{option_copied};
 ghost use Rattle.blob_tool.specs.Parts.{parts, size_left};
-ghost use Rattle.blob_tool.specs.Script.{lines as lines_said, reads, command_at as command_said, Why, Refuses};
+ghost use Rattle.blob_tool.specs.Script.{is_printable as printable_said, is_spaced as spaced_said, is_comment as comment_said, kind_at, lines as lines_said, reads, command_at as command_said, Why, Refuses, IsKindOfLine};
 ghost use Rattle.blob_tool.specs.Answers.{IsHeadPut};
 
 use crate::parts::Parts;
@@ -108,23 +108,51 @@ fn command_at(alloc: Global, line: &[u8]) -> Result<Option<Command>, Memory>
     }))
 }
 
-/// Whether a line is words of visible bytes, separated by one space each, and no comment.
-fn is_formed(line: &[u8]) -> bool {
-    let visible = line.iter().all(|b| *b >= 0x20 && *b <= 0x7e);
-    let spaced = line.split(|b| *b == b' ').all(|word| !word.is_empty());
-    visible && spaced && line.first() != Some(&b'#')
+fn is_printable(line: &[u8]) -> bool
+    ensures { result ≡ printable_said line.now }
+{
+    line.iter().all(|b| *b >= 0x20 && *b <= 0x7e)
+}
+
+/// Whether one space stands between any two words, and none at an end.
+fn is_spaced(line: &[u8]) -> bool
+    ensures { result ≡ spaced_said line.now }
+{
+    let mut words = Parts::of(line, b' ');
+    while let Some(word) = words.next_part() {
+        if word.is_empty() {
+            return false;
+        }
+    }
+    true
+}
+
+fn is_comment(line: &[u8]) -> bool
+    ensures { result ≡ comment_said line.now }
+{
+    match line {
+        [b'#', ..] => true,
+        _ => false,
+    }
 }
 
 /// What is wrong with a line that holds no command. The first word at fault decides, but the form comes before all words, and
 /// the number of words counts only where the verb is known.
-fn kind_of(line: &[u8]) -> LineKind {
+fn kind_of(line: &[u8]) -> LineKind
+    ensures { result ≡ kind_at line.now }
+{
+    if !is_printable(line) || !is_spaced(line) || is_comment(line) {
+        return LineKind::Form;
+    }
     let mut words = Parts::of(line, b' ');
-    let (Some(channel), Some(verb)) = (words.next_part(), words.next_part()) else {
+    let Some(channel) = words.next_part() else {
+        return LineKind::Form;
+    };
+    let Some(verb) = words.next_part() else {
         return LineKind::Form;
     };
     let is_put = verb == b"put".as_slice();
-    let spaces = line.iter().filter(|b| **b == b' ').count();
-    if !is_formed(line) || (is_put && spaces != 4) {
+    if is_put && words.count() != 3 {
         return LineKind::Form;
     }
     if channel != b"0".as_slice() {
@@ -163,6 +191,7 @@ pub fn parse(alloc: Global, text: &[u8]) -> Result<Vec<Command>, ScriptFault>
     ensures within { IfOk result (λ commands. length text.now ≤ 2 ^ 20) }
     ensures refused { IfErr result (Refuses text.now) }
     ensures why { IfErr result (Why text.now) }
+    ensures kind { IfErr result (IsKindOfLine text.now) }
 {
     if text.len() > MAX_BYTES {
         return Err(ScriptFault::TooBig);

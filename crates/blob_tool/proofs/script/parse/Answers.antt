@@ -1,10 +1,10 @@
-use Rattle.std.proofs.Common.{◌≡◌, ◌+◌, ℕ, List, Some, None, length, sym, subst, rules, arith}
+use Rattle.std.proofs.Common.{◌≡◌, ◌+◌, ◌-◌, ◌∙◌, ℕ, List, [], get_or, ap, Some, None, length, sym, subst, rules, arith}
 use Rattle.std.specs.Option.{option_copied}
 use Rattle.blob_tool.specs.Parts.{parts, size_left}
-use Rattle.blob_tool.specs.Script.{lines, command_at, IsFirstBad}
+use Rattle.blob_tool.specs.Script.{lines, command_at, IsFirstBad, kind_at}
 use Rattle.volume_model.specs.declared.command.Command.{Command}
 use Rattle.blob_tool.specs.Answers.{IsHeadPut}
-use Rattle.blob_tool.proofs.ByLines.{IsReading, begun, one_more, all_read, stuck, no_script}
+use Rattle.blob_tool.proofs.ByLines.{IsReading, begun, one_more, all_read, stuck, no_script, of_that_line}
 use Rattle.blob_tool.proofs.script.parse.Goals as goal
 
 pub loop-line-init : goal.loop-line-init
@@ -29,6 +29,12 @@ returns-in_default-2-clause-why c =
     let none : command_at c.in-Some.line.now ≡ None = search rules in
     let n : length c.loop-line.commands.items ≡ c.len.result = search rules in
     subst (λ (n : ℕ). IsFirstBad c.args.text.now (n + 1)) n (stuck c.args.text.now _ c.in-Some.line.now _ _ _ c.loop-line.invariant c.in-Some.ensures.some none)
+
+pub returns-in_default-2-clause-kind : goal.returns-in_default-2-clause-kind
+returns-in_default-2-clause-kind c =
+    let n : length c.loop-line.commands.items ≡ c.len.result + 1 - 1 = omega (arith, c.len.ensures) in
+    let line = of_that_line c.args.text.now _ c.in-Some.line.now _ _ _ c.loop-line.invariant c.in-Some.ensures.some in
+    c.kind_of.ensures ∙ ap kind_at (sym line) ∙ ap (λ n. kind_at (get_or (lines c.args.text.now) n [])) n
 
 pub loop-line-preserved : goal.loop-line-preserved
 loop-line-preserved c =
