@@ -3,6 +3,8 @@
 
 mod driver;
 mod head_page;
+#[cfg(test)]
+mod images;
 mod list_sink;
 mod list_source;
 mod loader;
@@ -22,6 +24,8 @@ mod text;
 #[cfg(test)]
 mod text_tests;
 mod top;
+#[cfg(test)]
+mod top_tests;
 mod turn;
 mod words;
 

@@ -228,64 +228,11 @@ pub fn load<D: PageDisk>(alloc: Global, disk: D) -> Result<Loaded<D>, (D, LoadFa
 #[cfg(test)]
 mod tests {
     use super::load;
+    use crate::images::{device, flags};
     use blob_meta::Metas;
-    use md_page::MdPage;
-    use page_disk::{CallKind, Fail, FaultDisk, MemDisk, PageDisk, WriteKind};
+    use page_disk::{CallKind, Fail, FaultDisk, MemDisk, PageDisk};
     use std::alloc::Global;
     use std::test::Fail as TestFail;
-    use super_block::{Super, write_super};
-
-    /// The body of a blob with flags of zeros alone.
-    fn flags() -> [u8; 4072] {
-        let mut body = [0; 4072];
-        body[0] = 3;
-        body[1] = 24;
-        body
-    }
-
-    /// A device of 64 pages with a store, in which a blob with this body begins at place 0.
-    fn device(alloc: Global, body: [u8; 4072], next: u32) -> Result<MemDisk, TestFail> {
-        let mut disk = MemDisk::new(alloc, 64, 2)?;
-        let mut page = [0; 4096];
-        write_super(
-            &Super {
-                device_pages: 64,
-                signature: *b"SPDKBLOB",
-                version: 3,
-                length: 4096,
-                clean: 0,
-                super_blob: u64::MAX,
-                cluster_size: 16384,
-                used_page_mask_start: 1,
-                used_page_mask_len: 1,
-                used_cluster_mask_start: 2,
-                used_cluster_mask_len: 1,
-                md_start: 4,
-                md_len: 16,
-                bstype: [0; 16],
-                used_blobid_mask_start: 3,
-                used_blobid_mask_len: 1,
-                size: 262144,
-                io_unit_size: 4096,
-                md_page_size: 0,
-                rest: [0; 3996],
-                crc: 0,
-            },
-            &mut page,
-        );
-        disk.write(0, &page, WriteKind::Whole)?;
-        md_page::write(
-            &MdPage {
-                id: 0x1_0000_0000,
-                sequence: 0,
-                body,
-                next,
-            },
-            &mut page,
-        );
-        disk.write(4, &page, WriteKind::Whole)?;
-        Ok(disk)
-    }
 
     fn id_at(metas: &Metas, head: u32) -> Option<u64> {
         metas.get(head).map(|meta| meta.id)
