@@ -5,3 +5,4 @@ pub mod Showing
 pub mod Plain
 pub mod Given
 pub mod Law
+pub mod Stopping

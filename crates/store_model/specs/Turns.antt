@@ -153,3 +153,11 @@ module _ (told : Bool) where
   abbrev pub Run : State → List Kind → State → Type 0
   Run p [] q = q ≡ p
   Run p (kind ∷ kinds) q = (mid : State) × Turn p kind mid × Run mid kinds q
+
+-- ---- what is logged while no write and no flush has failed
+
+-- the replies that speak of no failed write or flush
+abbrev pub IsQuiet : Reply → Type 0
+IsQuiet r.Fault = ⊥
+IsQuiet (r.Stopped at) = ⊥
+IsQuiet _ = Unit {0}

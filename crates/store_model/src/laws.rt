@@ -1,6 +1,7 @@
-//! The laws of what a scan of the metadata region says.
+//! The laws of what a scan of the metadata region says, and of the turns of a running store.
 
-ghost use Rattle.std.specs.Prelude.{◌≡◌, ◌≢◌, ◌<◌, ◌++◌, ◌∷◌, [], ℕ, Bool, List, Some, false, true};
+ghost use Rattle.std.specs.Prelude.{◌≡◌, ◌≢◌, ◌<◌, ◌++◌, ◌∷◌, [], ℕ, Bool, List, All, None, Some, false, true};
+ghost use Rattle.page_disk.specs.Disk.{Rose};
 ghost use Rattle.super_block.specs.declared.page.Super.{Super};
 ghost use Rattle.volume_model.specs.Volumes.{Volumes};
 ghost use Rattle.volume_model.specs.declared.command.Command.{Command};
@@ -9,7 +10,7 @@ ghost use Rattle.store_model.specs.Maps.{Metas, Chains};
 ghost use Rattle.store_model.specs.Regions.{Region};
 ghost use Rattle.store_model.specs.Scans.{head_at, is_head, Scanned, Unlinked};
 ghost use Rattle.store_model.specs.State.{State};
-ghost use Rattle.store_model.specs.Turns.{Kind, Turn, Run};
+ghost use Rattle.store_model.specs.Turns.{IsQuiet, Kind, Turn, Run};
 ghost use Rattle.store_model.specs.Facts.{Facts};
 
 use volume_model::laws::refusal_changes_nothing;
@@ -37,3 +38,12 @@ pub fn turns()
 {
     refusal_changes_nothing();
 }
+
+/// A store stops for a cause alone. A run that begins running and ends stopped has counted a failed write or flush, or the count
+/// stands at its last number. The log of a run that began with none has no `fault` and no `stopped` while the store isn't stopped.
+pub fn stops()
+    ensures counted { (told : Bool) (p q : State) (kinds : List Kind) (at : ℕ) → Run told p kinds q → p.stopped ≡ None → q.stopped ≡ Some at →
+        Rose p.device.write_faults q.device.write_faults }
+    ensures quiet { (told : Bool) (p q : State) (kinds : List Kind) → Run told p kinds q → p.log ≡ [] → q.stopped ≡ None →
+        All (λ e. IsQuiet e.reply) q.log }
+{}

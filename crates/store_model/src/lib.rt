@@ -3,4 +3,4 @@
 
 mod laws;
 
-pub use laws::{scans, turns};
+pub use laws::{scans, stops, turns};
