@@ -14,6 +14,9 @@ pub fn flags() -> [u8; 4072] {
     body
 }
 
+/// The number that stands for no next page.
+pub const LAST: u32 = 0xFFFF_FFFF;
+
 /// A device of 64 pages with a store of 16 metadata pages from page 4 on, in which a blob with this body begins at place 0.
 pub fn device(alloc: Global, body: [u8; 4072], next: u32) -> Result<MemDisk, Fail> {
     let mut disk = MemDisk::new(alloc, 64, 64)?;
@@ -30,4 +33,9 @@ pub fn device(alloc: Global, body: [u8; 4072], next: u32) -> Result<MemDisk, Fai
     md_page::write(&head, &mut page);
     disk.write(4, &page, WriteKind::Whole)?;
     Ok(disk)
+}
+
+/// The device whose only blob, at place 0, has flags of zeros and no attribute.
+pub fn store(alloc: Global) -> Result<MemDisk, Fail> {
+    device(alloc, flags(), LAST)
 }

@@ -1,6 +1,8 @@
 //! The command line tool over any source, sink and device.
 #![tactic(auto)]
 
+#[cfg(test)]
+mod cause_tests;
 mod driver;
 mod head_page;
 #[cfg(test)]

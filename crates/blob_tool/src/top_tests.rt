@@ -1,34 +1,43 @@
 //! Whole runs over a store in memory, as an administrator sees them.
 
-use crate::images::{device, flags};
+use crate::images::{LAST, device, flags, store};
 use crate::{LineKind, ListSink, ListSource, Status, blobtool};
 use page_disk::{CallKind, Fail, FaultDisk, MemDisk, PageDisk};
 use std::alloc::Global;
 use std::test::Fail as TestFail;
 
-const LAST: u32 = 0xFFFF_FFFF;
-
-fn store(alloc: Global) -> Result<MemDisk, TestFail> {
-    device(alloc, flags(), LAST)
-}
-
 /// A sink in memory of which the calls with these numbers fail.
-fn sink(alloc: Global, fails: Vec<u64>) -> Result<ListSink, TestFail> {
+pub fn sink(alloc: Global, fails: Vec<u64>) -> Result<ListSink, TestFail> {
     Ok(ListSink::new(alloc, 4096, fails)?)
 }
 
+/// A source of a script of which the reads with these numbers fail.
+pub fn source(alloc: Global, script: &[u8], fails: Vec<u64>) -> Result<ListSource, TestFail> {
+    let mut text = Vec::new(alloc);
+    text.extend_from_slice(script)?;
+    Ok(ListSource::new(text, fails))
+}
+
+/// The status of `run IMAGE` with the script of a source, and the device.
+pub fn run_from<D: PageDisk + Drop + Send>(
+    alloc: Global,
+    source: &mut ListSource,
+    out: &mut ListSink,
+    disk: D,
+) -> Result<(Status, D), TestFail> {
+    let words = vec![in alloc; format!(in alloc; "run")?, format!(in alloc; "store.img")?]?;
+    Ok(blobtool(alloc, &words, source, out, disk))
+}
+
 /// The status of `run IMAGE` with a script, and the device.
-fn run<D: PageDisk + Drop + Send>(
+pub fn run<D: PageDisk + Drop + Send>(
     alloc: Global,
     script: &[u8],
     out: &mut ListSink,
     disk: D,
 ) -> Result<(Status, D), TestFail> {
-    let words = vec![in alloc; format!(in alloc; "run")?, format!(in alloc; "store.img")?]?;
-    let mut text = Vec::new(alloc);
-    text.extend_from_slice(script)?;
-    let mut source = ListSource::new(text, Vec::new(alloc));
-    Ok(blobtool(alloc, &words, &mut source, out, disk))
+    let mut source = source(alloc, script, Vec::new(alloc))?;
+    run_from(alloc, &mut source, out, disk)
 }
 
 /// Appends a line that begins so and ends with a value of so many bytes.
