@@ -6,12 +6,15 @@ use Rattle.blob_tool.specs.declared.source.Source as source
 use Rattle.blob_tool.specs.declared.sink.Sink as sink
 use Rattle.blob_tool.specs.declared.status.Status.{Status}
 use Rattle.blob_tool.specs.declared.status.Status.TheVariants as status
+use Rattle.blob_tool.specs.declared.loader.LoadFault.{LoadFault}
+use Rattle.blob_tool.specs.declared.loader.LoadFault.TheVariants as loading
+use Rattle.blob_tool.specs.Loaded.{IsAccepted, IsCause, IsImageFault}
 use Rattle.blob_tool.specs.declared.printing.PrintFault.{PrintFault}
 use Rattle.blob_tool.specs.declared.printing.PrintFault.TheVariants as printing
 use Rattle.blob_tool.specs.Seen.{At}
-use Rattle.blob_tool.specs.Statuses.{is_usage, of_run}
+use Rattle.blob_tool.specs.Statuses.{is_usage, of_loading, of_run}
 use Rattle.blob_tool.specs.Text.{log_text}
-use Rattle.blob_tool.specs.Outcome.{Ended, Outcome, Played, RanTo}
+use Rattle.blob_tool.specs.Outcome.{Ended, HasScript, Outcome, Played, RanTo, Stays}
 
 module _ {D : Type 0} (d : disk.Ghosts D) {K : Type 0} (k : sink.Ghosts K) (out out_now : K) (back : D) (first : At D) where
   pub ends : (p : Played d k out out_now back first) (stopped : Option ℕ) (printed : Result (Unit {0}) PrintFault) → p.last.stopped ≡ stopped
@@ -45,3 +48,13 @@ module _ {S : Type 0} (s : source.Ghosts S) (script script_now : S) {D : Type 0}
   isnt_usage first (status.Script line kind) e = refl
   isnt_usage first (status.Image fault) e = refl
   isnt_usage first status.ScriptRead e = refl
+
+  -- a store that wasn't loaded
+  pub of_a_fault : (fault : LoadFault) → Stays s script script_now d k out out_now before back → HasScript s script script_now d k out out_now before back → IsCause d before back fault
+      → (IsTrue d.tells → IsImageFault fault → IsAccepted (d.pages before) (d.now before) → ⊥) → Outcome s script script_now d k out out_now before back (of_loading fault)
+  of_a_fault loading.ReadFault stays script cause refused = inr (stays, script, refl, cause)
+  of_a_fault loading.Memory stays script cause refused = inr stays
+  of_a_fault (loading.Super why) stays script cause refused = (stays, script, cause, tt, λ tells accepted. refused tells tt accepted)
+  of_a_fault (loading.Chain head why) stays script cause refused = (stays, script, cause, tt, λ tells accepted. refused tells tt accepted)
+  of_a_fault (loading.Meta head why) stays script cause refused = (stays, script, cause, tt, λ tells accepted. refused tells tt accepted)
+  of_a_fault (loading.NotYet head) stays script cause refused = (stays, script, cause, tt, λ tells accepted. refused tells tt accepted)

@@ -1,5 +1,6 @@
 -- What a call of the program did, by its status.
-use Rattle.std.specs.Prelude.{◌≡◌, ◌⊎◌, ℕ, ◌<◌, ◌^◌, List, [], ◌∷◌, ◌++◌, length, Some, None, Bool, false, IsTrue, codes, String, string_bytes}
+use Rattle.std.specs.Prelude.{◌≡◌, ◌⊎◌, ℕ, ◌<◌, ◌≤◌, ◌-◌, ◌^◌, List, [], ◌∷◌, ◌++◌, length, slice_index_or, Some, None, Bool, false, IsTrue, codes, String, string_bytes}
+use Rattle.std.specs.List.{All}
 use Rattle.std.specs.Str.{bytes_eq}
 use Rattle.std.specs.FinMap as map
 use Rattle.std.specs.declared.alloc.Global.{Global}
@@ -12,13 +13,14 @@ use Rattle.store_model.specs.Regions.{region_of}
 use Rattle.store_model.specs.Scans.{Says}
 use Rattle.store_model.specs.Shown.{fixed_of}
 use Rattle.store_model.specs.State.{Opens, shown}
-use Rattle.store_model.specs.Turns.{Kind, Run}
+use Rattle.store_model.specs.Turns.{IsQuiet, Kind, Run}
 use Rattle.blob_tool.specs.declared.source.Source as source
 use Rattle.blob_tool.specs.declared.sink.Sink as sink
 use Rattle.blob_tool.specs.declared.status.Status.{Status}
 use Rattle.blob_tool.specs.declared.status.Status.TheVariants as status
 use Rattle.blob_tool.specs.Seen.{At, state_of}
-use Rattle.blob_tool.specs.Script.{reads, IsFirstBad}
+use Rattle.blob_tool.specs.Script.{kind_at, lines, reads, IsFirstBad}
+use Rattle.blob_tool.specs.declared.script.LineKind.{LineKind}
 use Rattle.blob_tool.specs.Text.{log_text, IsPartOf}
 use Rattle.blob_tool.specs.Loaded.{IsAccepted, IsCause, IsImageFault, OnlyRead, one_page_chains}
 
@@ -36,6 +38,9 @@ module _ {D : Type 0} (d : disk.Ghosts D) where
     pub over : last.left ≡ []
     pub interleaves : Interleaves last.log (first.left ∷ [])
     pub legal : IsLegal (fixed_of first.super) (shown (state_of d first)) last.log
+    -- a store that stopped has counted a failed write or flush; else no entry is a fault or stopped
+    pub counted : (at : ℕ) → last.stopped ≡ Some at → Rose (d.write_faults first.disk) (d.write_faults last.disk)
+    pub quiet : last.stopped ≡ None → All (λ e. IsQuiet e.reply) last.log
     pub replayed : last.stopped ≡ None → shown (state_of d last) ≡ replay (fixed_of first.super) (shown (state_of d first)) last.log
 
   -- a store as the device says it
@@ -70,10 +75,18 @@ module _ {S : Type 0} (s : source.Ghosts S) (script script_now : S) where
     pub all : IsTrue s.tells → text ≡ s.left script
     pub rest : IsTrue s.tells → s.left script_now ≡ []
 
-  -- the source's text is no script: this line of it holds no command, or, as line 0, it is too long
-  abbrev pub IsNoScript : ℕ → Type 0
-  IsNoScript line =
-      ((text : List ℕ) × IsText text × IsFirstBad text line) ⊎ ((line ≡ 0) × (IsTrue s.tells → 2 ^ 20 < length (s.left script)))
+  -- the source's text is no script: this line of it is the first that holds no command, and this is wrong with it
+  pub record HasBadLine (line : ℕ) (kind : LineKind) : Type 0 where
+    pub text : List ℕ
+    pub is_text : IsText text
+    pub first : IsFirstBad text line
+    pub no_script : reads text ≡ None
+    pub kind_is : kind ≡ kind_at (slice_index_or (lines text) (line - 1) [])
+
+  -- it is too long, which is said as line 0
+  pub record IsTooLong (line : ℕ) : Type 0 where
+    pub line_is : line ≡ 0
+    pub long : IsTrue s.tells → 2 ^ 20 < length (s.left script)
 
   -- the whole text is a script of these commands
   pub record Reads (commands : List Command) : Type 0 where
@@ -84,7 +97,7 @@ module _ {S : Type 0} (s : source.Ghosts S) (script script_now : S) where
   -- why a script's commands weren't had
   abbrev pub HasNoCommands : Status → Type 0
   HasNoCommands status.Usage = script_now ≡ script
-  HasNoCommands (status.Script line kind) = IsNoScript line
+  HasNoCommands (status.Script line kind) = (HasBadLine line kind ⊎ IsTooLong line)
   HasNoCommands status.ScriptRead = Rose (s.faults script) (s.faults script_now)
   HasNoCommands status.Memory = Unit {0}
   HasNoCommands _ = ⊥
@@ -104,11 +117,29 @@ module _ {S : Type 0} (s : source.Ghosts S) (script script_now : S) where
       pub quiet : out_now ≡ out
       pub device : OnlyRead d before back
 
+    -- the text was a script, whatever the device holds
+    pub record HasScript : Type 0 where
+      pub commands : List Command
+      pub script_is : Reads commands
+
     abbrev pub Outcome : Status → Type 0
     Outcome status.Usage = Stays × (script_now ≡ script)
-    Outcome (status.Script line kind) = Stays × IsNoScript line
+    Outcome (status.Script line kind) = Stays × (HasBadLine line kind ⊎ IsTooLong line)
     Outcome status.ScriptRead = Stays × Rose (s.faults script) (s.faults script_now)
-    Outcome (status.Image fault) = Stays × IsCause d before back fault × IsImageFault fault × (IsTrue d.tells → IsAccepted (d.pages before) (d.now before) → ⊥)
-    Outcome (status.Device at) = RanTo (status.Device at) ⊎ (Stays × (at ≡ 0) × Rose (d.read_faults before) (d.read_faults back))
+    Outcome (status.Image fault) = Stays × HasScript × IsCause d before back fault × IsImageFault fault × (IsTrue d.tells → IsAccepted (d.pages before) (d.now before) → ⊥)
+    Outcome (status.Device at) = RanTo (status.Device at) ⊎ (Stays × HasScript × (at ≡ 0) × Rose (d.read_faults before) (d.read_faults back))
     Outcome status.Memory = RanTo status.Memory ⊎ Stays
     Outcome status = RanTo status
+
+    -- the source has a script and nothing else, the image is accepted, and no count of faults rose in the call
+    pub record NothingFails : Type 0 where
+      pub source_tells : IsTrue s.tells
+      pub commands : List Command
+      pub reads_as : reads (s.left script) ≡ Some commands
+      pub small : length (s.left script) ≤ 2 ^ 20
+      pub device_tells : IsTrue d.tells
+      pub accepted : IsAccepted (d.pages before) (d.now before)
+      pub source : Rose (s.faults script) (s.faults script_now) → ⊥
+      pub sink : Rose (k.faults out) (k.faults out_now) → ⊥
+      pub reading : Rose (d.read_faults before) (d.read_faults back) → ⊥
+      pub writing : Rose (d.write_faults before) (d.write_faults back) → ⊥

@@ -38,3 +38,9 @@ of_run None (Ok done) = status.Good
 abbrev pub is_usage : Status → Bool
 is_usage status.Usage = true
 is_usage _ = false
+
+-- a run that was printed whole, or want of memory
+abbrev pub IsDone : Status → Type 0
+IsDone status.Good = Unit {0}
+IsDone status.Memory = Unit {0}
+IsDone _ = ⊥

@@ -6,8 +6,9 @@ ghost use Rattle.std.specs.FinMap as map;
 ghost use Rattle.store_model.specs.Facts.{ArePlain};
 ghost use Rattle.blob_tool.specs.Answers.{IsHeadPut};
 ghost use Rattle.blob_tool.specs.Kept.{loaded_with};
-ghost use Rattle.blob_tool.specs.Outcome.{is_run as is_run_said, Ended, HasNoCommands, Outcome, Reads};
-ghost use Rattle.blob_tool.specs.Statuses.{is_usage};
+ghost use Rattle.blob_tool.specs.Outcome.{is_run as is_run_said, Ended, HasNoCommands, NothingFails, Outcome, Reads};
+ghost use Rattle.blob_tool.specs.Taking.{Takes};
+ghost use Rattle.blob_tool.specs.Statuses.{is_usage, IsDone};
 
 use crate::driver::run;
 use crate::loader::{Loaded, load};
@@ -20,6 +21,7 @@ use crate::source::Source;
 use crate::status::Status;
 use page_disk::PageDisk;
 use std::alloc::Global;
+use store_model::stops;
 use volume_model::Command;
 
 /// Whether the words are `run IMAGE`.
@@ -44,6 +46,7 @@ fn commands_of<S: Source>(
     ensures few { IfOk result (λ commands. length commands.items < 2 ^ 30) }
     ensures usage { IfErr result (λ status. is_usage status ≡ not (is_run_said words.now)) }
     ensures why { IfErr result (HasNoCommands S.Source script.old script.new) }
+    ensures taken { IsTrue S.tells → Takes (S.left script.old) (S.left script.new) (2 ^ 20 + 1) }
 {
     if !is_run(words) {
         return Err(Status::Usage);
@@ -65,6 +68,7 @@ fn play<K: Sink, D: PageDisk>(
     requires few { length commands.items < 2 ^ 30 }
     ensures { Ended D.PageDisk K.Sink out.old out.new result.1 (loaded_with D.PageDisk loaded.disk loaded.sup loaded.metas commands.items) result.0 }
 {
+    stops();
     let Loaded { disk, sup, metas } = loaded;
     let mut plant = match Plant::start(alloc, disk, sup, metas, commands) {
         Ok(plant) => plant,
@@ -85,8 +89,14 @@ pub fn blobtool<S: Source, K: Sink, D: PageDisk + Send>(
     out: &mut K,
     disk: D,
 ) -> (Status, D)
+    // Usage comes exactly where the words aren't `run IMAGE`.
     ensures usage { is_usage result.0 ≡ not (is_run_said words.now) }
+    // No more is taken from the source than a script may have, and one byte.
+    ensures taken { IsTrue S.tells → Takes (S.left script.old) (S.left script.new) (2 ^ 20 + 1) }
+    // What each status says.
     ensures outcome { Outcome S.Source script.old script.new D.PageDisk K.Sink out.old out.new disk result.1 result.0 }
+    // A script on an accepted image runs, unless a fault was counted.
+    ensures complete { is_run_said words.now ≡ true → NothingFails S.Source script.old script.new D.PageDisk K.Sink out.old out.new disk result.1 → IsDone result.0 }
 {
     let commands = match commands_of(alloc, words, script) {
         Ok(commands) => commands,

@@ -1,6 +1,9 @@
+use Rattle.std.proofs.Common.{refl, subst, sym}
 use Rattle.blob_tool.specs.Seen.{At}
 use Rattle.blob_tool.specs.Kept.{loaded_with}
-use Rattle.blob_tool.proofs.Ending.{of_a_run}
+use Rattle.blob_tool.proofs.Ending.{of_a_fault, of_a_run}
+use Rattle.blob_tool.specs.Outcome.{Outcome}
+use Rattle.blob_tool.specs.declared.status.Status.{Status}
 use Rattle.blob_tool.proofs.top.blobtool.Goals as goal
 
 pub returns-in-Ok-load-clause-outcome : goal.returns-in-Ok-load-clause-outcome
@@ -21,3 +24,11 @@ returns-in-Ok-load-clause-outcome g c =
       },
       c.play.ensures,
     )
+
+pub returns-in-Err-load-clause-outcome : goal.returns-in-Err-load-clause-outcome
+returns-in-Err-load-clause-outcome g c =
+    let d = g.D.PageDisk in
+    subst (λ (st : Status). Outcome g.S.Source c.args.script.now c.commands_of.new.script d g.K.Sink c.args.out.now c.args.out.now c.args.disk c.in-Err-load.disk st) (sym c.from.ensures)
+    (of_a_fault g.S.Source c.args.script.now c.commands_of.new.script d g.K.Sink c.args.out.now c.args.out.now c.args.disk c.in-Err-load.disk c.in-Err-load.fault
+    (record { quiet = refl; device = c.in-Err-load.ensures.same }) (record { commands = c.in-Ok.commands.items; script_is = c.in-Ok.ensures.text })
+    c.in-Err-load.ensures.cause c.in-Err-load.ensures.refused)
