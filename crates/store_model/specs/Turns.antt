@@ -53,7 +53,7 @@ pub record FitsOnePage (m : Meta) : Type 0 where
 -- A page is replaced, by a flush, a write and a flush.
 pub record Replaces (told : Bool) (old : Device) (place : ℕ) (page : List ℕ) (new : Device) : Type 0 where
   pub reads : IsTrue told → new.reads ≡ with_page old.reads place page
-  pub clock : old.clock < new.clock
+  pub clock : old.clock + 3 ≤ new.clock
   pub read_faults : new.read_faults ≡ old.read_faults
   pub write_faults : old.write_faults ≤ new.write_faults
   pub read_calls : new.read_calls ≡ old.read_calls
