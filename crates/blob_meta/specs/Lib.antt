@@ -3,3 +3,5 @@ pub mod Says
 pub mod Faults
 pub mod Items
 pub mod Find
+pub mod Parents
+pub mod Resolving

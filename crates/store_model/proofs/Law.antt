@@ -33,7 +33,7 @@ run_more told p q r (k ∷ kinds) kind run turn = (run.0, run.1, run_more told r
 
 -- ---- replies
 
-is_refusal : (p : State) (command : Command) (reply : Reply) → IsRefused p command reply → IsRefusal reply
+pub is_refusal : (p : State) (command : Command) (reply : Reply) → IsRefused p command reply → IsRefusal reply
 is_refusal p command r.Ok why = why.0
 is_refusal p command (r.Made head) why = why.0
 is_refusal p command (r.Content page) why = why.0
@@ -109,7 +109,7 @@ module _ (quiet : RefusalsChangeNothing) (s : Super) (first : Volumes) (commands
       }
 
   -- while the store runs, the replay is what is shown
-  here : p.stopped ≡ None → plain_shows p.base ≡ replay (fixed_of s) first p.log
+  pub here : p.stopped ≡ None → plain_shows p.base ≡ replay (fixed_of s) first p.log
   here runs = sym (shows_plain (fixed_of s) p.device.reads s p.base facts.plain) ∙ ap (λ (x : Super). shows (fixed_of x) p.device.reads p.base) (sym facts.super) ∙ facts.replayed runs
 
   allowed_here : (command : Command) (reply : Reply) → p.stopped ≡ None → Allowed (fixed_of p.super) (shown p) command reply → Allowed (fixed_of s) (replay (fixed_of s) first p.log) command reply
@@ -159,6 +159,9 @@ module _ (quiet : RefusalsChangeNothing) (s : Super) (first : Volumes) (commands
       ∙ ap (λ (w : Volumes). edited_at f w (Some head) set) (here runs) ∙ ap (λ o. edited_at f v o set) (sym found)
       ∙ ap (λ (c : Command). change f v c r.Ok) (sym put.command_is)
 
+  pub put_replayed : (command : Command) (head : ℕ) (new : Meta) → p.stopped ≡ None → Puts p command head new → replay (fixed_of s) first (p.log ++ entry_of p command r.Ok ∷ []) ≡ plain_shows (given p.base head new)
+  put_replayed command head new runs put = replay_push (fixed_of s) first p.log (entry_of p command r.Ok) ∙ sym (put_shown command head new runs put)
+
   put_allowed : (command : Command) (head : ℕ) (new : Meta) → Puts p command head new → Allowed (fixed_of p.super) (shown p) command r.Ok
   put_allowed command head new put =
       let f = fixed_of p.super in
@@ -174,13 +177,15 @@ module _ (quiet : RefusalsChangeNothing) (s : Super) (first : Volumes) (commands
     | inr ne ↦ facts.plain h m (sym (given_elsewhere p.base head new h ne) ∙ is)
   ]
 
+  pub plain_put_there : (command : Command) (head : ℕ) (new : Meta) → Puts p command head new → ArePlain s (given p.base head new)
+  plain_put_there command head new put = plain_given head new (plain_put s head put.old new put.key put.value (facts.plain head put.old put.there) put.new_is)
+
   keeps_committed : (told : Bool) (q : State) → Commits told p q → Facts s first commands q
   keeps_committed told q t =
       let put = t.put in
-      let plain : IsPlain s t.head t.new = plain_put s t.head put.old t.new put.key put.value (facts.plain t.head put.old put.there) put.new_is in
       let kept : Facts s first commands (logged (record p { base = given p.base t.head t.new }) t.command t.rest r.Ok t.device) =
       log_keeps t.command t.rest r.Ok (given p.base t.head t.new) p.stopped t.device t.row (allowed_here t.command r.Ok t.runs (put_allowed t.command t.head t.new put))
-      (let later = t.replaces.clock in omega (arith, later)) (plain_given t.head t.new plain)
+      (let later = t.replaces.clock in omega (arith, later)) (plain_put_there t.command t.head t.new put)
       (λ runs. put_shown t.command t.head t.new t.runs put) (λ at stopped. absurd (let e = sym t.runs ∙ stopped in cc e)) in
       subst (Facts s first commands) (sym t.next) kept
 

@@ -6,3 +6,5 @@ pub mod Plain
 pub mod Given
 pub mod Law
 pub mod Stopping
+pub mod Recovering
+pub mod Grown

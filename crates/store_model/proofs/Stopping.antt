@@ -1,5 +1,6 @@
--- A store stops by a failed write or flush alone, and stays stopped.
-use Rattle.std.proofs.Common.{◌≡◌, ℕ, ◌≤◌, Bool, List, [], ◌∷◌, ◌++◌, All, length, Some, None, sym, ◌∙◌, ap, subst, arith, inl, inr}
+-- A store stops by a failed write or flush alone, stays stopped, and has its fault where it stopped.
+use Rattle.std.proofs.Common.{◌≡◌, ◌⊎◌, ℕ, zero, suc, ◌≤◌, Bool, List, [], ◌∷◌, ◌++◌, All, length, Some, None, refl, sym, ◌∙◌, ap, subst, arith, inl, inr}
+use Rattle.std.specs.Prelude.{slice_get}
 use Rattle.std.proofs.lemmas.List.Elements.{All-nil, All-push}
 use Rattle.page_disk.specs.Disk.{Rose}
 use Rattle.volume_model.specs.declared.command.Command.{Command}
@@ -85,3 +86,47 @@ goes_on_quiet told p q (stands ∷ kinds) run so_far runs =
 
 pub run_quiet : (told : Bool) (p q : State) (kinds : List Kind) → Run told p kinds q → p.log ≡ [] → q.stopped ≡ None → AreQuiet q.log
 run_quiet told p q kinds run none runs = goes_on_quiet told p q kinds run (subst AreQuiet (sym none) (All-nil (λ (e : Entry). IsQuiet e.reply))) runs
+
+-- ---- where a fault stands
+
+-- a fault stands where the store stopped
+abbrev FaultsStop : State → Type 0
+FaultsStop p = (k : ℕ) (e : Entry) → slice_get p.log k ≡ Some e → e.reply ≡ r.Fault → p.stopped ≡ Some k
+
+old_or_new : (log : List Entry) (new : Entry) (k : ℕ) (e : Entry) → slice_get (log ++ new ∷ []) k ≡ Some e → (slice_get log k ≡ Some e) ⊎ ((k ≡ length log) × (e ≡ new))
+old_or_new [] new zero e is = inr (refl, cc is)
+old_or_new [] new (suc k) e is = absurd (cc is)
+old_or_new (x ∷ log) new zero e is = inl is
+old_or_new (x ∷ log) new (suc k) e is = elim (old_or_new log new k e is) [
+  | inl old ↦ inl old
+  | inr same ↦ inr (ap suc same.0, same.1)
+]
+
+faults_push : (p mid : State) (new : Entry) → FaultsStop p → mid.log ≡ p.log ++ new ∷ [] → ((k : ℕ) → p.stopped ≡ Some k → mid.stopped ≡ Some k) → (new.reply ≡ r.Fault → mid.stopped ≡ Some (length p.log)) → FaultsStop mid
+faults_push p mid new so_far is old here k e at fault = elim (old_or_new p.log new k e (subst (λ (l : List Entry). slice_get l k ≡ Some e) is at)) [
+  | inl before ↦ old k (so_far k e before fault)
+  | inr same ↦ here (sym (ap (λ (x : Entry). x.reply) same.1) ∙ fault) ∙ ap (λ (n : ℕ). Some n) (sym same.0)
+]
+
+not_quiet : (reply : Reply) → IsQuiet reply → reply ≡ r.Fault → ⊥
+not_quiet reply quiet is = subst IsQuiet is quiet
+
+goes_on_faults : (told : Bool) (p q : State) (kinds : List Kind) → Run told p kinds q → FaultsStop p → FaultsStop q
+goes_on_faults told p q [] run so_far = subst FaultsStop (sym run) so_far
+goes_on_faults told p q (refuses ∷ kinds) run so_far =
+    let t = run.1 in
+    goes_on_faults told run.0 q kinds run.2
+    (faults_push p run.0 (entry_of p t.command t.reply) so_far (ap (λ (s : State). s.log) t.next) (λ k is. stop t.next ∙ is) (λ fault. absurd (not_quiet t.reply (refused_quiet p t.command t.reply t.why) fault)))
+goes_on_faults told p q (commits ∷ kinds) run so_far =
+    let t = run.1 in
+    goes_on_faults told run.0 q kinds run.2 (faults_push p run.0 (entry_of p t.command r.Ok) so_far (ap (λ (s : State). s.log) t.next) (λ k is. stop t.next ∙ is) (λ fault. absurd (cc fault)))
+goes_on_faults told p q (fails ∷ kinds) run so_far =
+    let t = run.1 in
+    goes_on_faults told run.0 q kinds run.2
+    (faults_push p run.0 (entry_of p t.command r.Fault) so_far (ap (λ (s : State). s.log) t.next) (λ k is. absurd (not_both p k t.runs is)) (λ fault. stop t.next))
+goes_on_faults told p q (stands ∷ kinds) run so_far =
+    let t = run.1 in
+    goes_on_faults told run.0 q kinds run.2 (faults_push p run.0 (entry_of p t.command (r.Stopped t.at)) so_far (ap (λ (s : State). s.log) t.next) (λ k is. stop t.next ∙ is) (λ fault. absurd (cc fault)))
+
+pub run_faults : (told : Bool) (p q : State) (kinds : List Kind) → Run told p kinds q → p.log ≡ [] → (k : ℕ) (e : Entry) → slice_get q.log k ≡ Some e → e.reply ≡ r.Fault → q.stopped ≡ Some k
+run_faults told p q kinds run none = goes_on_faults told p q kinds run (λ k e at fault. let l : slice_get [] k ≡ Some e = subst (λ (l : List Entry). slice_get l k ≡ Some e) none at in absurd (cc l))

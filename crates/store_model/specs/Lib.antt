@@ -5,3 +5,5 @@ pub mod Shown
 pub mod State
 pub mod Turns
 pub mod Facts
+pub mod Recovers
+pub mod Laws

@@ -1,40 +1,20 @@
 -- The volumes that metadata and an image show.
-use Rattle.std.specs.Prelude.{ℕ, zero, suc, ◌+◌, ◌-◌, ◌*◌, ◌/◌, ◌%◌, ◌^◌, nat_lt, nat_le, if◌then◌else◌, Bool, ◌||◌, Option, Some, None, [], length, slice_get, map, codes}
+use Rattle.std.specs.Prelude.{ℕ, zero, suc, ◌+◌, ◌*◌, ◌/◌, ◌%◌, nat_lt, if◌then◌else◌, Option, Some, None, [], length, map}
 use Rattle.std.specs.List.{range_with_len}
-use Rattle.std.specs.Option.{option_map, option_and_then, option_map_or}
-use Rattle.page_fields.specs.Fields.{number}
+use Rattle.std.specs.Option.{option_map, option_map_or}
 use Rattle.page_disk.specs.Disk.{Image}
 use Rattle.super_block.specs.declared.page.Super.{Super}
 use Rattle.super_block.specs.Numbers.{cluster_pages_of}
 use Rattle.volume_model.specs.Volumes.{Page, Volume, Volumes, Fixed, zero_page}
-use Rattle.volume_model.specs.Xattrs.{Xattrs, value_of}
-use Rattle.blob_meta.specs.declared.meta.Flags.{Flags}
+use Rattle.volume_model.specs.Xattrs.{Xattrs}
 use Rattle.blob_meta.specs.declared.meta.Meta.{Meta}
 use Rattle.blob_meta.specs.Faults.{is_thin}
+use Rattle.blob_meta.specs.Parents.{head_of_id, parent_of, slot, is_read_only, is_locked}
 use Rattle.store_model.specs.Maps.{Metas}
-
--- the head that an id names
-abbrev pub head_of_id : ℕ → Option ℕ
-head_of_id id = if nat_lt id (2 ^ 32) then None else Some (id - 2 ^ 32)
 
 -- what a super block fixes for volumes
 abbrev pub fixed_of : Super → Fixed
 fixed_of s = record { cluster_pages = cluster_pages_of s; md_len = s.md_len; super_blob = head_of_id s.super_blob }
-
--- read-only by bit 0 of `data_ro`, or by a bit that isn't known; by such a bit it is locked too
-abbrev pub is_read_only : Flags → Bool
-is_read_only f = nat_le 1 f.data_ro || nat_le 4 f.md_ro
-
-abbrev pub is_locked : Flags → Bool
-is_locked f = nat_le 2 f.data_ro || nat_le 4 f.md_ro
-
--- the parent is named by its id, in the internal attribute SNAP
-abbrev pub parent_of : Meta → Option ℕ
-parent_of m = option_and_then (λ bytes. head_of_id (number 8 bytes)) (value_of m.internal (codes "SNAP"))
-
--- the cluster in a slot
-abbrev pub slot : Meta → ℕ → Option ℕ
-slot m i = option_and_then (λ s. s) (slice_get m.map i)
 
 module _ (cluster_pages : ℕ) (image : Image) (metas : Metas) where
   -- A page of a volume: that of the cluster in its slot; where the slot is empty the parent's, if the page is below the parent's

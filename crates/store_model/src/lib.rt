@@ -3,4 +3,4 @@
 
 mod laws;
 
-pub use laws::{scans, stops, turns};
+pub use laws::{growing, recoveries, scans, stops, turns};

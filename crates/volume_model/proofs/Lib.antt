@@ -1,4 +1,5 @@
 mod Causes
+mod Idle
 mod Others
 pub mod Refused
 mod Replayed

@@ -1,5 +1,5 @@
 -- Logs: what they replay to, what of it survives a crash, and how they stand to a script.
-use Rattle.std.specs.Prelude.{◌≡◌, ℕ, ◌+◌, ◌==◌, if◌then◌else◌, Bool, true, false, ◌&&◌, ◌||◌, List, [], ◌∷◌, slice_index_or}
+use Rattle.std.specs.Prelude.{◌≡◌, ℕ, ◌+◌, ◌==◌, if◌then◌else◌, Bool, true, false, ◌&&◌, ◌||◌, List, [], ◌∷◌, ◌++◌, slice_index_or}
 use Rattle.std.specs.List.{filter}
 use Rattle.std.specs.Option.{option_map}
 use Rattle.volume_model.specs.Volumes.{Volume, Volumes, Fixed, head_of, is_head}
@@ -72,6 +72,11 @@ module _ (f : Fixed) where
   pub record Stable (first : Volumes) (log : List Entry) (last : Volumes) : Type 0 where
     pub legal : IsLegal f first log
     pub after : (h : ℕ) → last h ≡ stable first log h
+
+-- Wherever it stands in a log, the entry changes nothing that survives, and settles no page.
+pub record SettlesNothing (e : Entry) : Type 0 where
+  pub survives : (f : Fixed) (first : Volumes) (log rest : List Entry) (h : ℕ) → stable f first (log ++ e ∷ rest) h ≡ stable f first (log ++ rest) h
+  pub settled : (f : Fixed) (first : Volumes) (log rest : List Entry) (h p : ℕ) → IsSettled f first (log ++ e ∷ rest) h p → IsSettled f first (log ++ rest) h p
 
 -- entries with the numbers from n on, and these commands
 abbrev pub Numbered : ℕ → List Entry → List Command → Type 0

@@ -3,7 +3,7 @@
 ghost use Rattle.std.specs.Prelude.{◌≡◌, ◌^◌, ℕ, List, length};
 ghost use Rattle.volume_model.specs.ExampleLogs.{NamesMove, SnapshotWithClone, Surviving, ThinVolume, TwoChannels};
 ghost use Rattle.volume_model.specs.Examples.{Refusals, Verbs};
-ghost use Rattle.volume_model.specs.Logs.{Replay};
+ghost use Rattle.volume_model.specs.Logs.{Replay, SettlesNothing};
 ghost use Rattle.volume_model.specs.Steps.{IsRefusal, SpeaksOf, Step};
 ghost use Rattle.volume_model.specs.Volumes.{Fixed, Page, Volumes};
 ghost use Rattle.volume_model.specs.Xattrs.{Text};
@@ -19,6 +19,11 @@ pub fn at_most_one_next()
 /// A refusal changes nothing, nor does a fault.
 pub fn refusal_changes_nothing()
     ensures { (f : Fixed) (v : Volumes) (command : Command) (reply : Reply) (w : Volumes) → IsRefusal reply → Step f v command reply w → (h : ℕ) → w h ≡ v h }
+{}
+
+/// A refusal changes nothing that survives a crash, nor does a fault; and neither settles a page.
+pub fn refusal_settles_nothing()
+    ensures { (e : Entry) → IsRefusal e.reply → SettlesNothing e }
 {}
 
 /// A step leaves alone every volume but the one that it names, the one that it makes and the clones of one that it deletes.
