@@ -1,0 +1,5 @@
+mod Found
+mod Edits
+mod States
+mod Seen
+mod Numbers
