@@ -1,5 +1,5 @@
 -- What a run came to, by what was printed of its log.
-use Rattle.std.proofs.Common.{◌≡◌, ℕ, ◌++◌, false, Option, Some, None, Result, Ok, Err, OnOk, IsTrue, refl, inl, inr}
+use Rattle.std.proofs.Common.{◌≡◌, ℕ, ◌++◌, false, Option, Some, None, Result, Ok, Err, OnOk, IsTrue, refl, sym, ◌∙◌, inl, inr}
 use Rattle.page_disk.specs.Disk.{Rose}
 use Rattle.page_disk.specs.declared.disk.PageDisk as disk
 use Rattle.blob_tool.specs.declared.source.Source as source
@@ -8,13 +8,20 @@ use Rattle.blob_tool.specs.declared.status.Status.{Status}
 use Rattle.blob_tool.specs.declared.status.Status.TheVariants as status
 use Rattle.blob_tool.specs.declared.loader.LoadFault.{LoadFault}
 use Rattle.blob_tool.specs.declared.loader.LoadFault.TheVariants as loading
-use Rattle.blob_tool.specs.Loaded.{IsAccepted, IsCause, IsImageFault}
+use Rattle.blob_tool.specs.Loaded.{IsAccepted, IsCause, IsImageFault, OnlyRead}
 use Rattle.blob_tool.specs.declared.printing.PrintFault.{PrintFault}
 use Rattle.blob_tool.specs.declared.printing.PrintFault.TheVariants as printing
 use Rattle.blob_tool.specs.Seen.{At}
 use Rattle.blob_tool.specs.Statuses.{is_usage, of_loading, of_run}
 use Rattle.blob_tool.specs.Text.{log_text}
-use Rattle.blob_tool.specs.Outcome.{Ended, HasScript, Outcome, Played, RanTo, Stays}
+use Rattle.blob_tool.specs.Surviving.{HasOneImage}
+use Rattle.blob_tool.specs.Runs.{Ended, Played}
+use Rattle.blob_tool.specs.Outcome.{HasScript, Outcome, RanTo, Stays}
+
+-- a device that was only read has one image still
+pub still_one : {D : Type 0} (d : disk.Ghosts D) (before after : D) → OnlyRead d before after → HasOneImage d before → HasOneImage d after
+still_one d before after same one =
+    (one.0, λ c. (λ held. (one.1 c).0 ((same.images one.0 c).0 held) ∙ sym (same.now one.0), λ is. (same.images one.0 c).1 ((one.1 c).1 (is ∙ same.now one.0))))
 
 module _ {D : Type 0} (d : disk.Ghosts D) {K : Type 0} (k : sink.Ghosts K) (out out_now : K) (back : D) (first : At D) where
   pub ends : (p : Played d k out out_now back first) (stopped : Option ℕ) (printed : Result (Unit {0}) PrintFault) → p.last.stopped ≡ stopped

@@ -3,6 +3,7 @@ pub mod Saying
 pub mod Putting
 pub mod Maps
 pub mod Turning
+pub mod Survived
 pub mod Going
 pub mod Cuts
 pub mod Numbers
@@ -13,5 +14,6 @@ pub mod Lines
 pub mod Taken
 pub mod Loading
 pub mod WholeHead
+pub mod Holding
 pub mod WholeRun
 pub mod Ending

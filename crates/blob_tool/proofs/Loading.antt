@@ -1,25 +1,23 @@
 -- Reading a device place by place.
-use Rattle.std.proofs.Common.{◌≡◌, ℕ, ◌+◌, ◌<◌, eqb, false, true, List, [], ◌∷◌, Option, Some, None, refl, sym, ap, subst, ◌∙◌, inl, inr, arith, below_more}
+use Rattle.std.proofs.Common.{◌≡◌, ℕ, ◌+◌, ◌<◌, eqb, false, true, List, Option, Some, None, refl, sym, ap, subst, ◌∙◌, inl, inr, arith, below_more}
 use Rattle.std.specs.Ordering.{nat_cmp}
 use Rattle.std.specs.FinMap as map
-use Rattle.std.specs.Prelude.{IsTrue, nat_lt}
-use Rattle.std.specs.Option.{option_map}
-use Rattle.std.proofs.lemmas.Bool.{eq-eqb, cases_Bool, cases_lt, ltb-true}
+use Rattle.std.specs.Prelude.{IsTrue}
+use Rattle.std.proofs.lemmas.Bool.{eq-eqb, cases_lt}
 use Rattle.std.proofs.lemmas.Bool.Decides.{nat_tests}
 use Rattle.page_disk.specs.Disk.{Image, Images, Alike, Rose}
 use Rattle.page_disk.specs.declared.disk.PageDisk.{Ghosts}
 use Rattle.super_block.specs.declared.page.Super.{Super}
 use Rattle.blob_meta.specs.declared.meta.Meta.{Meta}
-use Rattle.md_chain.specs.Chain.{Look}
 use Rattle.store_model.specs.Maps.{Metas, given}
-use Rattle.store_model.specs.Regions.{region_of, look_of}
-use Rattle.store_model.specs.Scans.{is_head, BlobAt, Says}
+use Rattle.store_model.specs.Scans.{is_head}
 use Rattle.store_model.specs.Facts.{ArePlain}
 use Rattle.blob_tool.specs.declared.loader.LoadFault.{LoadFault}
 use Rattle.blob_tool.specs.declared.loader.LoadFault.TheVariants as fault
-use Rattle.blob_tool.specs.Loaded.{one_page_chains, IsWholeHead, Refuses, SuperAt, RefusedHead, IsCause, IsAccepted, IsImageFault, OnlyRead, SaysAt, RefusesAt, IsCauseAt, IsRegionCause, RefusesFirst, SaidBelow, NoneFrom}
+use Rattle.blob_tool.specs.Loaded.{HeadSays, IsWholeHead, Refuses, SuperAt, RefusedHead, IsCause, IsAccepted, IsImageFault, OnlyRead, SaysAt, RefusesAt, IsCauseAt, IsRegionCause, RefusesFirst, SaidBelow, NoneFrom}
+use Rattle.blob_tool.specs.Holds.{Holds}
 use Rattle.blob_tool.proofs.Maps.{insert_given}
-use Rattle.blob_tool.proofs.WholeHead.{whole_plain, whole_says, not_whole, not_memory, head_of}
+use Rattle.blob_tool.proofs.WholeHead.{whole_plain, not_whole, not_memory, head_of}
 
 alike_two : (a b c : Images) → Alike b a → Alike c b → Alike c a
 alike_two a b c ba cb image = (λ x. (ba image).0 ((cb image).0 x), λ x. (cb image).1 ((ba image).1 x))
@@ -121,55 +119,18 @@ module _ {D : Type 0} (d : Ghosts D) (s : Super) (disk : D) (metas : Metas) (bel
     | inr le ↦ let no = none head le in absurd (cc (no, there))
   ]
 
-  whole_at : (head : ℕ) (m : Meta) (there : metas head ≡ Some m) → SaysAt d s disk head (Some m)
-  whole_at head m there = subst (λ (o : Option Meta). SaysAt d s disk head o) there (below head (low_of head m there))
-
   pub all_plain : ArePlain s metas
-  all_plain head m there = let x = whole_at head m there in whole_plain s head x.page m (low_of head m there) x.says
+  all_plain head m there =
+      let x : SaysAt d s disk head (Some m) = subst (λ (o : Option Meta). SaysAt d s disk head o) there (below head (low_of head m there)) in
+      whole_plain s head x.page m (low_of head m there) x.says
 
-  module _ (told : IsTrue d.tells) where
-    abbrev look : Look
-    look = look_of (region_of s) (d.now disk)
-
-    whole_there : (head : ℕ) (m : Meta) → SaysAt d s disk head (Some m) → IsWholeHead s head (look head) m
-    whole_there head m x = subst (λ (page : List ℕ). IsWholeHead s head page m) (x.read told) x.says
-
-    blob_there : (head : ℕ) (o : Option Meta) → metas head ≡ o → BlobAt look (region_of s) head o (option_map (λ _. head ∷ []) o)
-    blob_there head (Some m) there = inl (record {
-      meta = m;
-      pages = head ∷ [];
-      says = whole_says look s head m (low_of head m there) (whole_there head m (whole_at head m there));
-      meta_is = refl;
-      pages_are = refl;
-    })
-    blob_there head None there = inr (record {
-      no_head = elim (cases_Bool (nat_lt head s.md_len)) [
-        | inl lt ↦ rw lt (no_head head (subst (λ (o : Option Meta). SaysAt d s disk head o) there (below head (ltb-true head s.md_len lt))))
-        | inr high ↦ rw high refl
-      ];
-      no_meta = refl;
-      no_chain = refl;
-    })
-      where
-        no_head : (head : ℕ) → SaysAt d s disk head None → is_head head (look head) ≡ false
-        no_head head x = subst (λ (page : List ℕ). is_head head page ≡ false) (x.read told) x.says
-
-    pub all_said : Says (region_of s) metas (one_page_chains metas) (d.now disk)
-    all_said head = blob_there head (metas head) refl
-
-    some_head : (head : ℕ) (o : Option Meta) → SaysAt d s disk head o → is_head head (look head) ≡ true → (m : Meta) × IsWholeHead s head (look head) m
-    some_head head (Some m) x is = (m, whole_there head m x)
-    some_head head None x is = let no : is_head head (look head) ≡ false = subst (λ (page : List ℕ). is_head head page ≡ false) (x.read told) x.says in absurd (cc (no, is))
-
-    heads_whole : (head : ℕ) → head < s.md_len → is_head head (look head) ≡ true → (m : Meta) × IsWholeHead s head (look head) m
-    heads_whole head lt is = some_head head (metas head) (below head lt) is
-
-    pub accepted : SuperAt (d.pages disk) (d.now disk) s → IsAccepted (d.pages disk) (d.now disk)
-    accepted sup = record {
-      some_pages = sup.some_pages;
-      faultless = sup.faultless;
-      heads = subst (λ (t : Super). (head : ℕ) → head < t.md_len → is_head head (d.now disk (t.md_start + head)) ≡ true → (m : Meta) × IsWholeHead t head (d.now disk (t.md_start + head)) m) sup.is heads_whole;
-    }
+  -- where it tells, it holds the store
+  pub all_held : IsTrue d.tells → SuperAt s.device_pages (d.now disk) s → Holds s metas (d.now disk)
+  all_held told sup = record {
+    super_at = sup;
+    heads = λ place lt. subst (λ (page : List ℕ). HeadSays s place page (metas place)) ((below place lt).read told) (below place lt).says;
+    none = none;
+  }
 
 -- ---- a device that is refused isn't accepted
 

@@ -18,7 +18,7 @@ use Rattle.store_model.proofs.Showing.{shows_plain}
 use Rattle.store_model.proofs.Plain.{plain_put}
 use Rattle.blob_tool.specs.declared.plan.Plan.{Plan}
 use Rattle.blob_tool.specs.Seen.{At, state_of}
-use Rattle.blob_tool.specs.Answers.{CanAnswer, Planned, Replacing, Answers}
+use Rattle.blob_tool.specs.Answers.{Answers, CanAnswer, IsDurable, LeavesAtAnyMoment, Planned, Replacing, Touches}
 
 -- a put that nothing refuses means a blob that is there
 there_is : (f : Fixed) (metas : Metas) (h : ℕ) (key value : List ℕ) → refusal f (plain_shows metas) (Put (Head h) key value) ≡ None → (old : Meta) × (metas h ≡ Some old)
@@ -55,24 +55,33 @@ module _ {D : Type 0} (d : Ghosts D) (p : At D) (can : CanAnswer d p) (h : ℕ) 
       let old = there_is (fixed_of p.super) metas h key value asked in
       inl (inl (record { why = (h, with_xattr old.0 key value, puts asked old.0 old.1 (with_xattr old.0 key value) refl, planned old.0 old.1); same = refl }))
 
-  pub written : refusal (fixed_of p.super) (plain_shows metas) put ≡ None → (plan : Plan) → Planned metas h key value (Some plan) → (reply : Reply) (q : At D) → Replacing d p h plan reply q → Answers d p put reply q
-  written asked plan planned reply q (inl done) = inl (inr (record {
+  touched : (plan : Plan) → Planned metas h key value (Some plan) → (q : At D) → LeavesAtAnyMoment d p h plan q → Touches d p q h plan.meta plan.page
+  touched plan planned q moments =
+      let plain = plain_put p.super h planned.0 plan.meta key value (can.plain h planned.0 planned.1) planned.2 in
+      record { low = plain.low; whole = planned.3.1 p.super plain; any_moment = moments }
+
+  pub written : refusal (fixed_of p.super) (plain_shows metas) put ≡ None → (plan : Plan) → Planned metas h key value (Some plan) → (reply : Reply) (q : At D) → LeavesAtAnyMoment d p h plan q → IsDurable d p h plan reply q
+      → Replacing d p h plan reply q → Answers d p put reply q
+  written asked plan planned reply q moments durable (inl done) = inl (inr (record {
     reply_is = done.reply_is;
     head = h;
     new = plan.meta;
     put = puts asked planned.0 planned.1 plan.meta planned.2;
     fits = planned.3.0;
     page = plan.page;
-    says = planned.3.1 p.super (plain_put p.super h planned.0 plan.meta key value (can.plain h planned.0 planned.1) planned.2);
+    touches = touched plan planned q moments;
     replaces = done.replaces;
+    durable = λ told. durable told done.reply_is;
     next = done.next;
   }))
-  written asked plan planned reply q (inr failed) = inr (record {
+  written asked plan planned reply q moments durable (inr failed) = inr (record {
     reply_is = failed.reply_is;
     head = h;
     new = plan.meta;
     put = puts asked planned.0 planned.1 plan.meta planned.2;
     fits = planned.3.0;
+    page = plan.page;
+    touches = touched plan planned q moments;
     fails = failed.fails;
     next = failed.next;
   })

@@ -1,19 +1,18 @@
 -- A run to the end of its script.
-use Rattle.std.proofs.Common.{◌≡◌, ℕ, zero, suc, ◌+◌, ◌==◌, if◌then◌else◌, Bool, false, List, [], ◌∷◌, slice_index_or, None, Some, refl, sym, ap, subst, rules}
+use Rattle.std.proofs.Common.{◌≡◌, ℕ, zero, suc, ◌+◌, ◌==◌, if◌then◌else◌, Bool, false, List, [], ◌∷◌, slice_index_or, refl, sym, ap, subst, rules}
 use Rattle.std.specs.List.{All, AllByRecursion, filter}
 use Rattle.std.proofs.lemmas.List.Elements.{All-from_recursion, recursion_from_All}
 use Rattle.page_disk.specs.declared.disk.PageDisk.{Ghosts}
 use Rattle.volume_model.specs.Logs.{Interleaves, Numbered}
 use Rattle.volume_model.specs.declared.command.Command.{Command}
 use Rattle.volume_model.specs.declared.reply.Entry.{Entry}
-use Rattle.store_model.specs.State.{State, shown}
-use Rattle.store_model.specs.Turns.{IsQuiet, Kind, Run}
-use Rattle.page_disk.specs.Disk.{Rose}
+use Rattle.store_model.specs.State.{shown}
+use Rattle.store_model.specs.Laws.{StopLaws}
 use Rattle.store_model.specs.Shown.{fixed_of}
 use Rattle.blob_tool.specs.Seen.{Both, state_of}
 use Rattle.blob_tool.specs.Answers.{IsHeadPut}
 use Rattle.blob_tool.specs.Kept.{Kept}
-use Rattle.blob_tool.specs.Outcome.{IsRun}
+use Rattle.blob_tool.specs.Runs.{IsRun}
 use Rattle.blob_tool.specs.Text.{HasShortReply}
 use Rattle.blob_tool.proofs.ShortReplies.{AnswersHeadPut, puts_answered_shortly}
 
@@ -45,11 +44,6 @@ puts_logged n [] made numbered puts = tt
 puts_logged n (e ∷ es) [] numbered puts = absurd numbered
 puts_logged n (e ∷ es) (c ∷ cs) numbered puts = (subst IsHeadPut (sym numbered.1) puts.0, puts_logged (n + 1) es cs numbered.2 puts.1)
 
--- what stops a store
-pub record StopLaws : Type 0 where
-  pub counted : (told : Bool) (p q : State) (kinds : List Kind) (at : ℕ) → Run told p kinds q → p.stopped ≡ None → q.stopped ≡ Some at → Rose p.device.write_faults q.device.write_faults
-  pub quiet : (told : Bool) (p q : State) (kinds : List Kind) → Run told p kinds q → p.log ≡ [] → q.stopped ≡ None → All (λ e. IsQuiet e.reply) q.log
-
 module _ {D : Type 0} (d : Ghosts D) (p : Both D) (kept : Kept d p) (over : p.at.left ≡ []) where
   all_made : kept.facts.way.made ≡ p.opening.left
   all_made = search (rules, kept.facts.way.all, over)
@@ -62,8 +56,10 @@ module _ {D : Type 0} (d : Ghosts D) (p : Both D) (kept : Kept d p) (over : p.at
     interleaves = subst (λ (l : List Command). Interleaves p.at.log (l ∷ [])) all_made (interleaves_one p.at.log kept.facts.way.made (recursion_from_All IsOnFirst p.at.log kept.facts.way.channel) kept.facts.way.numbered);
     legal = kept.facts.legal;
     counted = λ at is. laws.counted d.tells (state_of d p.opening) (state_of d p.at) kept.run.0 at kept.run.1 kept.began.stopped is;
+    fault_at = laws.fault d.tells (state_of d p.opening) (state_of d p.at) kept.run.0 kept.run.1 kept.began.log;
     quiet = λ runs. laws.quiet d.tells (state_of d p.opening) (state_of d p.at) kept.run.0 kept.run.1 kept.began.log runs;
     replayed = kept.facts.replayed;
+    survives = kept.survives;
   }
 
   pub short_replies : All IsHeadPut p.opening.left → All HasShortReply p.at.log

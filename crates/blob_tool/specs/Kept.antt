@@ -5,6 +5,7 @@ use Rattle.std.specs.Ordering.{nat_cmp}
 use Rattle.std.specs.FinMap as map
 use Rattle.page_disk.specs.declared.disk.PageDisk.{Ghosts}
 use Rattle.super_block.specs.declared.page.Super.{Super}
+use Rattle.super_block.specs.Placed.{IsPlaced}
 use Rattle.volume_model.specs.declared.command.Command.{Command}
 use Rattle.blob_meta.specs.declared.meta.Meta.{Meta}
 use Rattle.store_model.specs.State.{Opens, shown}
@@ -12,6 +13,7 @@ use Rattle.store_model.specs.Turns.{Kind, Run}
 use Rattle.store_model.specs.Facts.{Facts}
 use Rattle.blob_tool.specs.Seen.{At, Both, state_of}
 use Rattle.blob_tool.specs.Answers.{IsHeadPut}
+use Rattle.blob_tool.specs.Surviving.{HasOneImage, Survives}
 
 -- It began with nothing logged, turns led from there to here, and the state has what every state of a run has.
 pub record Kept {D : Type 0} (d : Ghosts D) (p : Both D) : Type 0 where
@@ -20,6 +22,10 @@ pub record Kept {D : Type 0} (d : Ghosts D) (p : Both D) : Type 0 where
   pub facts : Facts p.opening.super (shown (state_of d p.opening)) p.opening.left (state_of d p.at)
   pub inside : p.at.super.md_start + p.at.super.md_len ≤ d.pages p.at.disk
   pub puts : All IsHeadPut p.at.left
+  -- the metadata region is apart from the super block
+  pub placed : IsPlaced p.at.super
+  -- and power may fail at any moment
+  pub survives : HasOneImage d p.opening.disk → Survives d p.opening.super (shown (state_of d p.opening)) p.at
 
 -- a store as it is loaded, with a script
 abbrev pub loaded_with : {D : Type 0} → Ghosts D → D → Super → map.FinMap nat_cmp Meta → List Command → At D

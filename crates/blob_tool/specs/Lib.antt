@@ -4,11 +4,15 @@ pub mod Pages
 pub mod Seen
 pub mod Running
 pub mod Answers
+pub mod Made
 pub mod Kept
 pub mod Parts
 pub mod Script
 pub mod Text
 pub mod Taking
 pub mod Loaded
+pub mod Holds
+pub mod Surviving
 pub mod Statuses
+pub mod Runs
 pub mod Outcome

@@ -1,73 +1,25 @@
 -- What a call of the program did, by its status.
-use Rattle.std.specs.Prelude.{◌≡◌, ◌⊎◌, ℕ, ◌<◌, ◌≤◌, ◌-◌, ◌^◌, List, [], ◌∷◌, ◌++◌, length, slice_index_or, Some, None, Bool, false, IsTrue, codes, String, string_bytes}
-use Rattle.std.specs.List.{All}
+use Rattle.std.specs.Prelude.{◌≡◌, ◌⊎◌, ℕ, ◌<◌, ◌≤◌, ◌-◌, ◌^◌, List, [], ◌∷◌, length, slice_index_or, Some, None, Bool, false, IsTrue, codes, String, string_bytes}
 use Rattle.std.specs.Str.{bytes_eq}
-use Rattle.std.specs.FinMap as map
 use Rattle.std.specs.declared.alloc.Global.{Global}
 use Rattle.page_disk.specs.Disk.{Rose}
 use Rattle.page_disk.specs.declared.disk.PageDisk as disk
-use Rattle.super_block.specs.Page.{super_of}
 use Rattle.volume_model.specs.declared.command.Command.{Command}
-use Rattle.volume_model.specs.Logs.{replay, IsLegal, Interleaves}
-use Rattle.store_model.specs.Regions.{region_of}
-use Rattle.store_model.specs.Scans.{Says}
-use Rattle.store_model.specs.Shown.{fixed_of}
-use Rattle.store_model.specs.State.{Opens, shown}
-use Rattle.store_model.specs.Turns.{IsQuiet, Kind, Run}
 use Rattle.blob_tool.specs.declared.source.Source as source
 use Rattle.blob_tool.specs.declared.sink.Sink as sink
 use Rattle.blob_tool.specs.declared.status.Status.{Status}
 use Rattle.blob_tool.specs.declared.status.Status.TheVariants as status
-use Rattle.blob_tool.specs.Seen.{At, state_of}
+use Rattle.blob_tool.specs.Seen.{At}
 use Rattle.blob_tool.specs.Script.{kind_at, lines, reads, IsFirstBad}
 use Rattle.blob_tool.specs.declared.script.LineKind.{LineKind}
-use Rattle.blob_tool.specs.Text.{log_text, IsPartOf}
-use Rattle.blob_tool.specs.Loaded.{IsAccepted, IsCause, IsImageFault, OnlyRead, one_page_chains}
+use Rattle.blob_tool.specs.declared.loader.LoadFault.{LoadFault}
+use Rattle.blob_tool.specs.Loaded.{IsAccepted, IsCause, IsImageFault, OnlyRead}
+use Rattle.blob_tool.specs.Runs.{Ended, IsLoaded}
 
 -- the words are `run` and an image
 abbrev pub is_run : List (String Global) → Bool
 is_run (verb ∷ image ∷ []) = bytes_eq (string_bytes verb) (codes "run")
 is_run _ = false
-
-module _ {D : Type 0} (d : disk.Ghosts D) where
-  -- A run leads from one state of the store to another, in which no command is left. Its log is a legal one of the script's
-  -- commands, and the volumes shown at the end are its replay, unless the store stopped.
-  pub record IsRun (first last : At D) : Type 0 where
-    pub opens : Opens (state_of d first)
-    pub turns : (kinds : List Kind) × Run d.tells (state_of d first) kinds (state_of d last)
-    pub over : last.left ≡ []
-    pub interleaves : Interleaves last.log (first.left ∷ [])
-    pub legal : IsLegal (fixed_of first.super) (shown (state_of d first)) last.log
-    -- a store that stopped has counted a failed write or flush; else no entry is a fault or stopped
-    pub counted : (at : ℕ) → last.stopped ≡ Some at → Rose (d.write_faults first.disk) (d.write_faults last.disk)
-    pub quiet : last.stopped ≡ None → All (λ e. IsQuiet e.reply) last.log
-    pub replayed : last.stopped ≡ None → shown (state_of d last) ≡ replay (fixed_of first.super) (shown (state_of d first)) last.log
-
-  -- a store as the device says it
-  pub record IsLoaded (before : D) (first : At D) : Type 0 where
-    pub super : IsTrue d.tells → first.super ≡ super_of (d.now before 0) (d.pages before)
-    pub says : IsTrue d.tells → Says (region_of first.super) (map.get first.metas) (one_page_chains (map.get first.metas)) (d.now before)
-    pub accepted : IsTrue d.tells → IsAccepted (d.pages before) (d.now before)
-    pub same : OnlyRead d before first.disk
-
-  module _ {K : Type 0} (k : sink.Ghosts K) (out out_now : K) (back : D) where
-    -- a run from this state, on the device that is handed back, and of the text of its log as much as was printed
-    pub record Played (first : At D) : Type 0 where
-      pub last : At D
-      pub run : IsRun first last
-      pub device : back ≡ last.disk
-      pub printed : IsTrue k.tells → IsPartOf (k.written out) (k.written out_now) (log_text last.log)
-
-    abbrev pub IsPrinted : {first : At D} → Played first → Type 0
-    IsPrinted p = IsTrue k.tells → k.written out_now ≡ k.written out ++ log_text p.last.log
-
-    -- what a run came to
-    abbrev pub Ended : At D → Status → Type 0
-    Ended first status.Good = (p : Played first) × (p.last.stopped ≡ None) × IsPrinted p
-    Ended first status.OutWrite = (p : Played first) × (p.last.stopped ≡ None) × Rose (k.faults out) (k.faults out_now)
-    Ended first (status.Device at) = (p : Played first) × (p.last.stopped ≡ Some at) × (IsPrinted p ⊎ Rose (k.faults out) (k.faults out_now))
-    Ended first status.Memory = Played first ⊎ ((out_now ≡ out) × (back ≡ first.disk))
-    Ended first _ = ⊥
 
 module _ {S : Type 0} (s : source.Ghosts S) (script script_now : S) where
   -- the script's text: all that the source had
@@ -96,7 +48,6 @@ module _ {S : Type 0} (s : source.Ghosts S) (script script_now : S) where
 
   -- why a script's commands weren't had
   abbrev pub HasNoCommands : Status → Type 0
-  HasNoCommands status.Usage = script_now ≡ script
   HasNoCommands (status.Script line kind) = (HasBadLine line kind ⊎ IsTooLong line)
   HasNoCommands status.ScriptRead = Rose (s.faults script) (s.faults script_now)
   HasNoCommands status.Memory = Unit {0}
@@ -122,14 +73,30 @@ module _ {S : Type 0} (s : source.Ghosts S) (script script_now : S) where
       pub commands : List Command
       pub script_is : Reads commands
 
+    -- the script is none, or can't be read
+    abbrev pub IsBadScript : ℕ → LineKind → Type 0
+    IsBadScript line kind = Stays × (HasBadLine line kind ⊎ IsTooLong line)
+
+    abbrev pub IsUnread : Type 0
+    IsUnread = Stays × Rose (s.faults script) (s.faults script_now)
+
+    -- the image has this fault, or can't be read
+    abbrev pub IsBadImage : LoadFault → Type 0
+    IsBadImage fault = Stays × HasScript × IsCause d before back fault × IsImageFault fault × (IsTrue d.tells → IsAccepted (d.pages before) (d.now before) → ⊥)
+
+    abbrev pub IsUnloaded : ℕ → Type 0
+    IsUnloaded at = Stays × HasScript × (at ≡ 0) × Rose (d.read_faults before) (d.read_faults back)
+
+    -- what each status says
     abbrev pub Outcome : Status → Type 0
+    Outcome status.Good = RanTo status.Good
     Outcome status.Usage = Stays × (script_now ≡ script)
-    Outcome (status.Script line kind) = Stays × (HasBadLine line kind ⊎ IsTooLong line)
-    Outcome status.ScriptRead = Stays × Rose (s.faults script) (s.faults script_now)
-    Outcome (status.Image fault) = Stays × HasScript × IsCause d before back fault × IsImageFault fault × (IsTrue d.tells → IsAccepted (d.pages before) (d.now before) → ⊥)
-    Outcome (status.Device at) = RanTo (status.Device at) ⊎ (Stays × HasScript × (at ≡ 0) × Rose (d.read_faults before) (d.read_faults back))
+    Outcome (status.Script line kind) = IsBadScript line kind
+    Outcome (status.Image fault) = IsBadImage fault
+    Outcome status.ScriptRead = IsUnread
+    Outcome status.OutWrite = RanTo status.OutWrite
+    Outcome (status.Device at) = RanTo (status.Device at) ⊎ IsUnloaded at
     Outcome status.Memory = RanTo status.Memory ⊎ Stays
-    Outcome status = RanTo status
 
     -- the source has a script and nothing else, the image is accepted, and no count of faults rose in the call
     pub record NothingFails : Type 0 where

@@ -1,5 +1,5 @@
 -- The one page by which a blob's metadata is written.
-use Rattle.std.specs.Prelude.{◌≡◌, IsTrue, ℕ, List, [], ◌∷◌, Option, Some, None}
+use Rattle.std.specs.Prelude.{◌≡◌, IsTrue, ℕ, List, Option, Some, None}
 use Rattle.super_block.specs.declared.page.Super.{Super}
 use Rattle.crc32c.specs.Crc.{is_sound}
 use Rattle.md_page.specs.Page.{IsMdPage}
@@ -8,15 +8,14 @@ use Rattle.descriptors.specs.Grammar.{Spells}
 use Rattle.descriptors.specs.declared.item.Item.{Item}
 use Rattle.md_chain.specs.Chain.{blob_id, chain_end}
 use Rattle.blob_meta.specs.declared.meta.Meta.{Meta}
-use Rattle.store_model.specs.Regions.{region_of}
-use Rattle.store_model.specs.Scans.{MetaAt}
 use Rattle.store_model.specs.Turns.{SpillsOver, FitsOnePage}
 use Rattle.store_model.specs.Facts.{IsPlain}
+use Rattle.blob_tool.specs.Loaded.{IsWholeHead}
 
--- a page at its head that says the metadata, or none since one page isn't enough
+-- a page that is a whole head with the metadata, or none since one page isn't enough
 abbrev pub IsPageFor : ℕ → Meta → Option (List ℕ) → Type 0
 IsPageFor head m None = SpillsOver m
-IsPageFor head m (Some page) = FitsOnePage m × ((s : Super) → IsPlain s head m → MetaAt (λ place. page) (region_of s) head m (head ∷ []))
+IsPageFor head m (Some page) = FitsOnePage m × ((s : Super) → IsPlain s head m → IsWholeHead s head page m)
 
 -- a sound page that is a whole chain, whose body spells the items
 pub record IsPageOf (head : ℕ) (items : List Item) (page : List ℕ) : Type 0 where

@@ -1,16 +1,13 @@
 //! What a run says, prints and leaves on the device when one call of the device, the source or the sink fails.
 
 use crate::Status;
-use crate::images::store;
+use crate::images::{store, value as first_value};
 use crate::top_tests::{run, run_from, sink, source};
-use page_disk::{CallKind, Fail, FaultDisk, PageDisk};
+use page_disk::{CallKind, Fail, FaultDisk};
 use std::test::Fail as TestFail;
 
 /// Three puts of one attribute. Each makes a flush, a write and a flush.
 const PUTS: &[u8] = b"0 put @0 owner t:1\n0 put @0 owner t:2\n0 put @0 owner t:3\n";
-
-/// Where the value of the first attribute stands in a page, after the flags.
-const VALUE: usize = 59;
 
 /// How many entries the log had when the device failed, if it did.
 fn device_fault(status: &Status) -> Option<u32> {
@@ -47,11 +44,7 @@ fn a_failed_call_of_the_device_stops_the_store_there(rt: HostRuntime) -> Result<
         let (status, failing) = run(alloc, PUTS, &mut out, failing)?;
         assert_eq!(rt; device_fault(&status), Some(at));
         assert_eq!(rt; out.bytes(), printed);
-        let mut disk = failing.into_inner();
-        let mut page = [0; 4096];
-        assert!(rt; 4 < disk.pages());
-        disk.read(4, &mut page)?;
-        assert_eq!(rt; page[VALUE], value);
+        assert_eq!(rt; first_value(&rt, &mut failing.into_inner())?, value);
     }
     Ok(())
 }

@@ -7,7 +7,7 @@ ghost use Rattle.blob_meta.specs.declared.meta.Meta.{Meta as AMeta};
 ghost use Rattle.blob_tool.specs.Pages.{IsPageFor, IsPageOf};
 
 use blob_meta::{Meta, to_items};
-use descriptors::{ItemList, write_items};
+use descriptors::{ItemList, longest_runs_are_one, write_items};
 use md_chain::fits_body;
 use md_page::MdPage;
 use out_of_memory::Memory;
@@ -18,6 +18,7 @@ use std::alloc::Global;
 pub fn head_page(alloc: Global, head: u32, meta: &Meta) -> Result<Option<Page>, Memory>
     ensures { IfOk result (λ page. IsPageFor head meta.now page) }
 {
+    longest_runs_are_one();
     let items = to_items(alloc, meta)?;
     if !fits_body(&items) {
         return Ok(None);

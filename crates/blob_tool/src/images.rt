@@ -3,6 +3,7 @@
 use md_page::MdPage;
 use page_disk::{MemDisk, PageDisk, WriteKind};
 use std::alloc::Global;
+use std::process::Abort;
 use std::test::Fail;
 use super_block::{Layout, write_super};
 
@@ -38,4 +39,15 @@ pub fn device(alloc: Global, body: [u8; 4072], next: u32) -> Result<MemDisk, Fai
 /// The device whose only blob, at place 0, has flags of zeros and no attribute.
 pub fn store(alloc: Global) -> Result<MemDisk, Fail> {
     device(alloc, flags(), LAST)
+}
+
+/// Where the value of the first attribute stands in the head's page, after the flags.
+const VALUE: usize = 59;
+
+/// The first byte of the value of the blob's only attribute, named `owner`.
+pub fn value(rt: &impl Abort, disk: &mut MemDisk) -> Result<u8, Fail> {
+    let mut page = [0; 4096];
+    assert!(rt; 4 < disk.pages());
+    disk.read(4, &mut page)?;
+    Ok(page[VALUE])
 }

@@ -3,6 +3,8 @@
 
 #[cfg(test)]
 mod cause_tests;
+#[cfg(test)]
+mod crash_tests;
 mod driver;
 mod head_page;
 #[cfg(test)]

@@ -8,6 +8,7 @@ ghost use Rattle.store_model.specs.Facts.{ArePlain};
 ghost use Rattle.store_model.specs.Regions.{region_of};
 ghost use Rattle.store_model.specs.Scans.{Says};
 ghost use Rattle.super_block.specs.Faults.{IsFaultless};
+ghost use Rattle.blob_tool.specs.Holds.{Holds};
 ghost use Rattle.blob_tool.specs.Loaded.{is_taken as is_taken_said, one_page_chains, HeadSays, IsAccepted, IsCause, IsCauseAt, IsHeadPage, IsImageFault, IsRegionCause, IsSuperCause, NoneFrom, OnlyRead, Refuses, SaidBelow, SaysAt, SuperAt};
 
 use blob_meta::{Meta, MetaFault, Metas, from_items};
@@ -201,6 +202,7 @@ pub fn load<D: PageDisk>(alloc: Global, disk: D) -> Result<Loaded<D>, (D, LoadFa
     ensures found { IsTrue D.tells → IfOk result (λ l. Says (region_of l.sup) (map.get l.metas) (one_page_chains (map.get l.metas)) (D.now disk)) }
     ensures super_block { IsTrue D.tells → IfOk result (λ l. l.sup ≡ super_of (D.now disk 0) (D.pages disk)) }
     ensures accepted { IsTrue D.tells → IfOk result (λ _. IsAccepted (D.pages disk) (D.now disk)) }
+    ensures holds { IsTrue D.tells → IfOk result (λ l. Holds l.sup (map.get l.metas) (D.now disk)) }
 
     // Whatever the device told, the store is in order.
     ensures faultless { IfOk result (λ l. IsFaultless l.sup) }

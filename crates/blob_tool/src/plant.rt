@@ -8,8 +8,8 @@ use std::alloc::Global;
 use std::collections::VecDeque;
 use std::marker::Model;
 use std::snapshot::Snapshot;
-use store_model::turns;
-use super_block::Super;
+use store_model::{growing, recoveries, turns};
+use super_block::{Super, regions_are_placed};
 use volume_model::{Command, Entry};
 
 /// A running store on a device. Contracts see its state and how it began; the latter takes no memory.
@@ -34,13 +34,15 @@ impl<D: PageDisk> Model for Plant<D> {
 }
 
 impl<D: PageDisk> Plant<D> {
-    ghost use Rattle.std.specs.Prelude.{◌≡◌, ◌≤◌, ◌<◌, ◌+◌, ◌^◌, ◌==◌, length, Some, IfOk, IfErr};
+    ghost use Rattle.std.specs.Prelude.{◌≡◌, ◌≤◌, ◌<◌, ◌+◌, ◌^◌, ◌==◌, length, Some, IsTrue, IfOk, IfErr};
     ghost use Rattle.std.specs.List.{All};
     ghost use Rattle.std.specs.FinMap as map;
+    ghost use Rattle.super_block.specs.Faults.{IsFaultless};
     ghost use Rattle.store_model.specs.Facts.{ArePlain};
-    ghost use Rattle.store_model.specs.Turns.{Kind, Turn};
-    ghost use Rattle.blob_tool.specs.Seen.{state_of};
+    ghost use Rattle.store_model.specs.Turns.{Kind};
+    ghost use Rattle.blob_tool.specs.Made.{Made};
     ghost use Rattle.blob_tool.specs.Answers.{IsHeadPut};
+    ghost use Rattle.blob_tool.specs.Holds.{Holds};
     ghost use Rattle.blob_tool.specs.Kept.{Kept, loaded_with};
 
     /// A store with nothing logged, on what was loaded of the device. It reserves the log. `Err` is want of memory, and gives
@@ -53,6 +55,8 @@ impl<D: PageDisk> Plant<D> {
         commands: Vec<Command>,
     ) -> Result<Plant<D>, D>
         requires plain { ArePlain sup (map.get metas) }
+        requires faultless { IsFaultless sup }
+        requires holds { IsTrue D.tells → Holds sup (map.get metas) (D.now disk) }
         requires inside { sup.md_start + sup.md_len ≤ D.pages disk }
         requires puts { All IsHeadPut commands.items }
         requires few { length commands.items < 2 ^ 30 }
@@ -60,6 +64,10 @@ impl<D: PageDisk> Plant<D> {
         ensures opening { IfOk result (λ plant. plant.opening ≡ plant.at) }
         ensures memory { IfErr result (λ back. back ≡ disk) }
     {
+        turns();
+        recoveries();
+        growing();
+        regions_are_placed();
         let room = commands.len();
         let Ok(entries) = Vec::with_capacity(alloc, room) else {
             return Err(disk);
@@ -100,11 +108,13 @@ impl<D: PageDisk> Plant<D> {
     /// One turn: the next command is answered and logged.
     pub fn turn(&mut self)
         requires left { 0 < length self.old.at.left }
-        ensures case { (kind : Kind) × Turn D.tells (state_of D.PageDisk self.old.at) kind (state_of D.PageDisk self.new.at) }
+        ensures case { (kind : Kind) × Made D.PageDisk self.old.at self.new.at kind }
         ensures opening { self.new.opening ≡ self.old.opening }
         ensures shorter { length self.new.at.left + 1 ≡ length self.old.at.left }
     {
         turns();
+        recoveries();
+        growing();
         turn(&mut self.running)
     }
 

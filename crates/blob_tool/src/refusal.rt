@@ -9,7 +9,8 @@ ghost use Rattle.volume_model.specs.declared.command.Command.TheVariants.{Put};
 ghost use Rattle.volume_model.specs.declared.reply.Reply.TheVariants as r;
 ghost use Rattle.store_model.specs.Turns.{IsCaused};
 ghost use Rattle.blob_tool.specs.Answers.{first_cause};
-ghost use Rattle.store_model.specs.Shown.{fixed_of, is_read_only as read_only_said, plain_shows};
+ghost use Rattle.blob_meta.specs.Parents.{is_read_only as read_only_said};
+ghost use Rattle.store_model.specs.Shown.{fixed_of, plain_shows};
 
 use blob_meta::{Flags, Meta, Metas};
 use super_block::Super;

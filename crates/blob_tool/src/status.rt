@@ -79,7 +79,7 @@ impl Status {
     ghost use Rattle.blob_tool.specs.Statuses.{of_run};
 
     /// How a run ended that stopped there, if it stopped, and whose log was printed so.
-    pub fn of_run(stopped: Option<u32>, printed: Result<(), PrintFault>) -> Status
+    pub(crate) fn of_run(stopped: Option<u32>, printed: Result<(), PrintFault>) -> Status
         ensures { result ≡ of_run stopped printed }
     {
         let ended = match printed {

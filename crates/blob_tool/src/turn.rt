@@ -7,11 +7,10 @@ ghost use Rattle.volume_model.specs.declared.command.VolumeRef.TheVariants.{Head
 ghost use Rattle.volume_model.specs.declared.command.Command.TheVariants.{Put};
 ghost use Rattle.blob_meta.specs.declared.meta.Meta.{Meta as AMeta};
 ghost use Rattle.store_model.specs.Facts.{ArePlain};
-ghost use Rattle.store_model.specs.Turns.{Kind, Turn, with_xattr as with_xattr_said};
+ghost use Rattle.store_model.specs.Turns.{Kind};
 ghost use Rattle.blob_tool.specs.Running.{at_of, HasRoom, SameRoom};
-ghost use Rattle.blob_tool.specs.Seen.{state_of};
-ghost use Rattle.blob_tool.specs.Pages.{IsPageFor};
-ghost use Rattle.blob_tool.specs.Answers.{Answers, IsHeadPut, CanAnswer, Planned, Replacing};
+ghost use Rattle.blob_tool.specs.Made.{Made};
+ghost use Rattle.blob_tool.specs.Answers.{Answers, IsHeadPut, CanAnswer, IsDurable, LeavesAtAnyMoment, Planned, Replacing};
 
 use crate::head_page::head_page;
 use crate::plan::Plan;
@@ -50,6 +49,8 @@ fn commit<D: PageDisk>(running: &mut Running<D>, head: u32, plan: Plan) -> Reply
     requires there { (m : AMeta) × (map.get running.old.metas head ≡ Some m) }
     requires few { length running.old.entries.items < 2 ^ 32 }
     ensures replacing { Replacing D.PageDisk (at_of running.old) head plan result (at_of running.new) }
+    ensures any_moment { LeavesAtAnyMoment D.PageDisk (at_of running.old) head plan (at_of running.new) }
+    ensures durable { IsDurable D.PageDisk (at_of running.old) head plan result (at_of running.new) }
     ensures pages { D.pages running.new.disk ≡ D.pages running.old.disk }
     ensures room { SameRoom running.old running.new }
 {
@@ -107,8 +108,9 @@ fn log<D: PageDisk>(running: &mut Running<D>, command: Command, reply: Reply)
     requires few { length running.old.entries.items < 2 ^ 32 }
     ensures logged { at_of running.new ≡ record (at_of running.old) {
       log = running.old.entries.items ++ record { channel = 0; index = length running.old.entries.items; command = command; reply = reply } ∷ [];
-      marks = running.old.marks.items ++ D.clock running.old.disk ∷ [];
+      marks = running.new.marks.items;
     } }
+    ensures marked { running.new.marks.items ≡ running.old.marks.items ++ D.clock running.new.disk ∷ [] }
     ensures room { SameRoom running.old running.new }
 {
     let index = running.entries.len() as u32;
@@ -128,7 +130,7 @@ pub fn turn<D: PageDisk>(running: &mut Running<D>)
     requires room { HasRoom running.old }
     requires can { CanAnswer D.PageDisk (at_of running.old) }
     requires puts { All IsHeadPut running.old.left.items }
-    ensures case { (kind : Kind) × Turn D.tells (state_of D.PageDisk (at_of running.old)) kind (state_of D.PageDisk (at_of running.new)) }
+    ensures case { (kind : Kind) × Made D.PageDisk (at_of running.old) (at_of running.new) kind }
     ensures room { HasRoom running.new }
     ensures puts { All IsHeadPut running.new.left.items }
     ensures shorter { length running.new.left.items + 1 ≡ length running.old.left.items }

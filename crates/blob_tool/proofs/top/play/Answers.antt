@@ -6,7 +6,7 @@ use Rattle.blob_tool.specs.Answers.{IsHeadPut}
 use Rattle.blob_tool.specs.Seen.{At}
 use Rattle.blob_tool.specs.Kept.{loaded_with}
 use Rattle.blob_tool.specs.Text.{HasShortReply, IsPartOf, log_text}
-use Rattle.blob_tool.specs.Outcome.{Ended, IsRun, Played}
+use Rattle.blob_tool.specs.Runs.{Ended, IsRun, Played}
 use Rattle.blob_tool.specs.declared.status.Status.{Status}
 use Rattle.blob_tool.proofs.Ending.{ends}
 use Rattle.blob_tool.proofs.WholeRun.{is_run, short_replies}
@@ -27,7 +27,7 @@ returns g c =
     let loaded : At g.row.D.Denot = loaded_with d c.args.loaded.disk c.args.loaded.sup c.args.loaded.metas c.args.commands.items in
     let last : At g.row.D.Denot = c.run.new.plant.at in
     let first : c.run.new.plant.opening ≡ loaded = c.run.ensures.opening ∙ c.in-Ok.ensures.opening ∙ c.in-Ok.ensures.at in
-    let whole : IsRun d c.run.new.plant.opening last = is_run d c.run.new.plant c.into_parts-log.ensures.kept c.run.ensures.over (record { counted = c.stops.ensures.counted; quiet = c.stops.ensures.quiet }) in
+    let whole : IsRun d c.run.new.plant.opening last = is_run d c.run.new.plant c.into_parts-log.ensures.kept c.run.ensures.over c.stops.ensures in
     let entries : c.deref.result.now ≡ last.log = c.deref.ensures.value ∙ c.into_parts-log.ensures.entries in
     let played : Played d k c.args.out.now c.print.new.sink c.into_parts-log.result.1 loaded = record {
       last = last;

@@ -2,11 +2,12 @@ use Rattle.std.proofs.Common.{◌≡◌, suc, List, ◌∷◌, length, get_or, s
 use Rattle.std.specs.List.{All}
 use Rattle.volume_model.specs.declared.command.Command.{Command}
 use Rattle.volume_model.specs.declared.reply.Reply.{Reply}
-use Rattle.store_model.specs.Turns.{Kind, Turn}
+use Rattle.store_model.specs.Turns.{Kind}
 use Rattle.blob_tool.specs.Running.{at_of}
-use Rattle.blob_tool.specs.Seen.{At, state_of}
+use Rattle.blob_tool.specs.Seen.{At}
+use Rattle.blob_tool.specs.Made.{Made}
 use Rattle.blob_tool.specs.Answers.{IsHeadPut}
-use Rattle.blob_tool.proofs.Turning.{with_entry, stopped_turn, answered_turn, left_same}
+use Rattle.blob_tool.proofs.Turning.{with_entry, logged_at, stopped_turn, answered_turn, left_same}
 use Rattle.blob_tool.proofs.turn.turn.Goals as goal
 use Rattle.blob_tool.proofs.turn.turn.Goals.{in-Some-stopped, in-None}
 
@@ -17,14 +18,15 @@ returns-clause-case g c =
     let command = c.in-Some.command in
     let rest = c.pop_front.new.self.items in
     let row : p.left ≡ command ∷ rest = c.in-Some.ensures.items in
+    let logged = logged_at d (at_of c.match-running.running) (at_of c.log.new.running) command c.match-running.reply c.log.new.running.marks.items c.log.ensures.logged c.log.ensures.marked in
     elim c.match-running.branch [
       | in-Some-stopped w ↦
-          let e = c.log.ensures.logged ∙ ap (λ x. with_entry d (at_of x) command c.match-running.reply) w.running-is ∙ ap (λ (said : Reply). with_entry d (record p { left = rest }) command said) w.reply-is in
-          subst (λ (a : At g.row.D.Denot). (kind : Kind) × Turn d.tells (state_of d p) kind (state_of d a)) (sym e) (stopped_turn d p command rest w.in-Some-stopped.at row w.in-Some-stopped.is)
+          let e = logged ∙ ap (λ x. with_entry d (at_of x) command c.match-running.reply) w.running-is ∙ ap (λ (said : Reply). with_entry d (record p { left = rest }) command said) w.reply-is in
+          subst (λ (a : At g.row.D.Denot). (kind : Kind) × Made d p a kind) (sym e) (stopped_turn d p command rest w.in-Some-stopped.at row w.in-Some-stopped.is)
       | in-None w ↦
           let q = at_of w.answer-reply.new.running in
-          let e = c.log.ensures.logged ∙ ap (λ x. with_entry d (at_of x) command c.match-running.reply) w.running-is ∙ ap (λ (said : Reply). with_entry d q command said) w.reply-is in
-          subst (λ (a : At g.row.D.Denot). (kind : Kind) × Turn d.tells (state_of d p) kind (state_of d a)) (sym e) (answered_turn d p command rest w.answer-reply.result q row w.in-None.is w.answer-reply.ensures.answers)
+          let e = logged ∙ ap (λ x. with_entry d (at_of x) command c.match-running.reply) w.running-is ∙ ap (λ (said : Reply). with_entry d q command said) w.reply-is in
+          subst (λ (a : At g.row.D.Denot). (kind : Kind) × Made d p a kind) (sym e) (answered_turn d p command rest w.answer-reply.result q row w.in-None.is w.answer-reply.ensures.answers)
     ]
 
 all_rest : (command : Command) (rest all : List Command) → all ≡ command ∷ rest → All IsHeadPut all → All IsHeadPut rest

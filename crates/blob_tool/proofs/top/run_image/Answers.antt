@@ -1,10 +1,10 @@
 use Rattle.std.proofs.Common.{refl, subst, sym}
 use Rattle.blob_tool.specs.Seen.{At}
 use Rattle.blob_tool.specs.Kept.{loaded_with}
-use Rattle.blob_tool.proofs.Ending.{of_a_fault, of_a_run}
+use Rattle.blob_tool.proofs.Ending.{of_a_fault, of_a_run, still_one}
 use Rattle.blob_tool.specs.Outcome.{Outcome}
 use Rattle.blob_tool.specs.declared.status.Status.{Status}
-use Rattle.blob_tool.proofs.top.blobtool.Goals as goal
+use Rattle.blob_tool.proofs.top.run_image.Goals as goal
 
 pub returns-in-Ok-load-clause-outcome : goal.returns-in-Ok-load-clause-outcome
 returns-in-Ok-load-clause-outcome g c =
@@ -20,6 +20,7 @@ returns-in-Ok-load-clause-outcome g c =
           says = c.in-Ok-load.ensures.found;
           accepted = c.in-Ok-load.ensures.accepted;
           same = c.in-Ok-load.ensures.same;
+          one_image = still_one d c.args.disk store.disk c.in-Ok-load.ensures.same;
         };
       },
       c.play.ensures,
