@@ -1,5 +1,6 @@
 //! Why a head has no chain.
 
+use out_of_memory::Memory as NoMemory;
 use thiserror::Error;
 
 /// The first test that fails, at the first place of the chain that fails one. Places are those of the metadata region.
@@ -29,4 +30,15 @@ pub enum ChainFault {
     /// Memory ran out.
     #[error("no memory")]
     Memory,
+}
+
+impl From<NoMemory> for ChainFault {
+    ghost use Rattle.std.specs.Prelude.{◌≡◌};
+    ghost use Rattle.md_chain.specs.declared.fault.ChainFault.TheVariants as fault;
+
+    ghost from_gives = { λ _ e. e ≡ fault.Memory };
+
+    fn from(_want: NoMemory) -> ChainFault {
+        ChainFault::Memory
+    }
 }
