@@ -1,0 +1,10 @@
+use Rattle.std.proofs.Common.{ℕ}
+use Rattle.md_chain.proofs.Walking.{unseen}
+use Rattle.md_chain.proofs.Walks.{Walking}
+use Rattle.md_chain.proofs.reading.read_chain.Given as goal
+
+abbrev pub invariant-chain : goal.invariant-chain
+invariant-chain g l = Walking g.D.PageDisk l.sup l.fn.disk l.disk l.head l.pages l.items l.before l.place
+
+abbrev pub decreases-chain : goal.decreases-chain
+decreases-chain g l = unseen l.sup.md_len l.pages
