@@ -4,6 +4,7 @@
 mod copying;
 mod fault;
 mod laws;
+mod packing;
 mod reading;
 mod size;
 

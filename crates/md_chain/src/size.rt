@@ -6,7 +6,7 @@ ghost use Rattle.descriptors.specs.Writing.{item_size, spelled_size};
 use descriptors::{Item, ItemList};
 
 /// How many bytes an item takes, its type and its length among them, or 2^64 - 1 where it takes more.
-fn size_of(item: &Item) -> u64
+pub fn size_of(item: &Item) -> u64
     ensures exact { result ≤ 4072 → result ≡ item_size item.now }
     ensures small { item_size item.now ≤ 4072 → result ≡ item_size item.now }
 {
