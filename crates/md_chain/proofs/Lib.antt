@@ -3,3 +3,7 @@ pub mod Links
 pub mod Written
 pub mod Walking
 pub mod Walks
+pub mod Pieces
+pub mod Plannable
+pub mod Fitting
+pub mod Chained

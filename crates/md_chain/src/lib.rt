@@ -5,11 +5,15 @@ mod copying;
 mod fault;
 mod laws;
 mod packing;
+mod plan;
+mod planning;
 mod reading;
 mod size;
 
 pub use fault::ChainFault;
 pub use laws::chains;
 pub use out_of_memory::Memory;
+pub use plan::{Plan, PlannedPage};
+pub use planning::plan_chain;
 pub use reading::{Chain, read_chain};
-pub use size::fits_body;
+pub use size::{chain_len, fits_body};

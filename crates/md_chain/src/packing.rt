@@ -6,21 +6,12 @@ ghost use Rattle.md_chain.specs.Packing.{ArePlannable, parts_from, parts_of as p
 ghost use Rattle.md_chain.specs.Laid.{CanPack, IsRuns, laid};
 
 use crate::copying::copy_of;
-use crate::size::size_of;
+use crate::size::{BODY, BODY_RUNS, ONE_RUN, size_of};
 use descriptors::{Item, ItemList};
 use out_of_memory::Memory;
 use std::alloc::Global;
 use std::mem;
 use volume_model::{ListOf, RunList, SlotRun};
-
-/// The bytes of a page's body.
-const BODY: u64 = 4072;
-
-/// The runs that a body takes in one descriptor.
-const BODY_RUNS: usize = 508;
-
-/// A descriptor of runs with one run.
-const ONE_RUN: u64 = 13;
 
 /// The items of each page.
 pub type PartList = ListOf<ItemList>;

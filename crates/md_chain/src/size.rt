@@ -1,9 +1,20 @@
 //! How many bytes items take in the body of a page.
 
-ghost use Rattle.std.specs.Prelude.{◌≡◌, ◌≤◌, nat_le, length};
+ghost use Rattle.std.specs.Prelude.{◌≡◌, ◌≤◌, ◌<◌, ◌+◌, ◌^◌, List, nat_le, length};
 ghost use Rattle.descriptors.specs.Writing.{item_size, spelled_size};
+ghost use Rattle.volume_model.specs.declared.lists.SlotRun.{SlotRun};
+ghost use Rattle.md_chain.specs.Packing.{ArePlannable, AreFew, parts_of, run_parts};
 
 use descriptors::{Item, ItemList};
+
+/// The bytes of a page's body.
+pub const BODY: u64 = 4072;
+
+/// The runs that a body takes in one descriptor.
+pub const BODY_RUNS: usize = 508;
+
+/// A descriptor of runs with one run.
+pub const ONE_RUN: u64 = 13;
 
 /// How many bytes an item takes, its type and its length among them, or 2^64 - 1 where it takes more.
 pub fn size_of(item: &Item) -> u64
@@ -35,4 +46,40 @@ pub fn fits_body(items: &ItemList) -> bool
         room -= size;
     }
     true
+}
+
+/// How many pages runs take besides the current one, in which so many bytes are left.
+fn more_pages(room: u64, runs: usize) -> usize
+    requires { runs < 2 ^ 32 }
+    ensures { (rs : List SlotRun) → length rs ≡ runs → length (run_parts room rs) ≡ result + 1 }
+{
+    let (turned, fit) = if room < ONE_RUN {
+        (1, BODY_RUNS)
+    } else {
+        (0, ((room - 5) / 8) as usize)
+    };
+    turned + runs.saturating_sub(fit).div_ceil(BODY_RUNS)
+}
+
+/// How many pages the chain has in which these items are written.
+pub fn chain_len(items: &ItemList) -> u32
+    requires plannable { ArePlannable items.now }
+    requires few { AreFew items.now }
+    ensures { result ≡ length (parts_of items.now) }
+{
+    let mut pages = 1;
+    let mut room = BODY;
+    for item in items.as_slice() {
+        if let Item::Rle(runs) = item {
+            pages += more_pages(room, runs.len()) as u32;
+            continue;
+        }
+        let size = size_of(item);
+        if size > room {
+            pages += 1;
+            room = BODY;
+        }
+        room -= size;
+    }
+    pages
 }

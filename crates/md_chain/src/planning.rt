@@ -1,0 +1,86 @@
+//! Planning the pages of a chain.
+
+ghost use Rattle.std.specs.Prelude.{◌≡◌, ◌+◌, ◌<◌, ◌≤◌, ◌^◌, ◌∷◌, ℕ, List, drop, length, nat_eq, IfOk};
+ghost use Rattle.std.specs.List.{All, IsDistinct};
+ghost use Rattle.descriptors.specs.Writing.{spelled_size, IsWritable};
+ghost use Rattle.md_chain.specs.Chain.{Look, Chain};
+ghost use Rattle.md_chain.specs.Packing.{ArePlannable, AreFew, parts_of as parts_said};
+ghost use Rattle.md_chain.specs.Planned.{page_written, next_in, chain_pages, written_items, IsPlanned, ArePlanned};
+
+use crate::packing::parts_of;
+use crate::plan::{Plan, PlannedPage};
+use descriptors::{ItemList, write_items};
+use md_page::MdPage;
+use out_of_memory::Memory;
+use page_disk::Page;
+use std::alloc::Global;
+use volume_model::PlaceList;
+
+/// The number that ends a chain.
+const CHAIN_END: u32 = 0xFFFF_FFFF;
+
+/// The page with this sequence in the chain of `head`, with these items and this next place.
+fn page_of(head: u32, sequence: u32, items: &ItemList, next: u32) -> Page
+    requires room { spelled_size items.now ≤ 4072 }
+    requires writable { All IsWritable items.now }
+    ensures bytes { result ≡ page_written head sequence items.now next }
+    ensures planned { IsPlanned head sequence items.now next result }
+{
+    let mut body = [0; 4072];
+    write_items(items, &mut body);
+    let mut page = [0; 4096];
+    md_page::write(
+        &MdPage {
+            id: (1 << 32) + u64::from(head),
+            sequence,
+            body,
+            next,
+        },
+        &mut page,
+    );
+    page
+}
+
+/// The place that follows so many fresh ones.
+fn next_place(fresh: &PlaceList, passed: usize) -> u32
+    ensures { result ≡ next_in (drop passed fresh.now) }
+{
+    match fresh.get(passed) {
+        Some(place) => *place,
+        None => CHAIN_END,
+    }
+}
+
+/// The pages by which the items are written as the chain of `head`, which goes on at the fresh places.
+pub fn plan_chain(
+    alloc: Global,
+    items: &ItemList,
+    head: u32,
+    fresh: &PlaceList,
+) -> Result<Plan, Memory>
+    requires plannable { ArePlannable items.now }
+    requires few { AreFew items.now }
+    requires places { length fresh.now + 1 ≡ length (parts_said items.now) }
+
+    // The plan is this list, with one page for each place.
+    ensures exact { IfOk result (λ plan. plan ≡ chain_pages items.now head fresh.now) }
+    ensures count { IfOk result (λ plan. length plan ≡ length (head ∷ fresh.now)) }
+
+    // Each page of the list is read as that page of the chain.
+    ensures planned { IfOk result (λ _. ArePlanned head 0 fresh.now (parts_said items.now)) }
+
+    // At distinct places of the metadata region the pages are a chain of the head.
+    ensures chain { IfOk result (λ plan. (look : Look) (md_len : ℕ) → md_len < 2 ^ 32 → IsDistinct nat_eq (head ∷ fresh.now) → All (λ p. p < md_len) (head ∷ fresh.now) →
+        All (λ p. look p.place ≡ p.page) plan → Chain look md_len head (written_items items.now) (head ∷ fresh.now)) }
+{
+    let parts = parts_of(alloc, items)?;
+    let mut plan = Plan::new(alloc);
+    let mut place = head;
+    for (n, part) in parts.as_slice().iter().enumerate() {
+        let next = next_place(fresh, n);
+        let page = page_of(head, n as u32, part, next);
+        plan.push(PlannedPage { place, page })?;
+        place = next;
+    }
+    Ok(plan)
+}
