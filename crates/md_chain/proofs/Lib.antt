@@ -7,3 +7,4 @@ pub mod Pieces
 pub mod Plannable
 pub mod Fitting
 pub mod Chained
+pub mod Saying

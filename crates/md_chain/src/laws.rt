@@ -3,7 +3,10 @@
 ghost use Rattle.std.specs.Prelude.{◌≡◌, ℕ, List};
 ghost use Rattle.descriptors.specs.declared.item.Item.{Item};
 ghost use Rattle.md_chain.specs.declared.fault.ChainFault.{ChainFault};
+ghost use Rattle.blob_meta.specs.Says.{meta_of};
 ghost use Rattle.md_chain.specs.Chain.{Look, Chain, IsBroken, Agree};
+ghost use Rattle.md_chain.specs.Packing.{ArePlannable};
+ghost use Rattle.md_chain.specs.Planned.{written_items};
 
 /// A head has one chain, or one first fault, and not both. A chain is that of every image that has its pages.
 pub fn chains()
@@ -15,4 +18,9 @@ pub fn chains()
         Chain look md_len head xs ps → IsBroken look md_len head f → ⊥ }
     ensures kept { (look other : Look) (md_len head : ℕ) (items : List Item) (pages : List ℕ) →
         Agree look other pages → Chain look md_len head items pages → Chain other md_len head items pages }
+{}
+
+/// The items that stand in the planned pages say the metadata that was planned, though its runs may have several descriptors.
+pub fn written_items_say()
+    ensures { (head : ℕ) (items : List Item) → ArePlannable items → meta_of head (written_items items) ≡ meta_of head items }
 {}

@@ -11,7 +11,7 @@ mod reading;
 mod size;
 
 pub use fault::ChainFault;
-pub use laws::chains;
+pub use laws::{chains, written_items_say};
 pub use out_of_memory::Memory;
 pub use plan::{Plan, PlannedPage};
 pub use planning::plan_chain;

@@ -1,0 +1,6 @@
+use Rattle.std.proofs.Common.{◌≡◌, ◌+◌, length, drop}
+use Rattle.md_chain.specs.Packing.{parts_from}
+use Rattle.md_chain.proofs.size.chain_len.Given as goal
+
+abbrev pub invariant-loop-item : goal.invariant-loop-item
+invariant-loop-item l = l.pages + length (parts_from l.room (drop l.item-index l.items)) ≡ length (parts_from 4072 l.items) + 1
