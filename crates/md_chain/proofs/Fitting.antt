@@ -2,13 +2,14 @@
 use Rattle.std.proofs.Common.{inl, inr, ◌≡◌, ℕ, zero, suc, ◌+◌, ◌-◌, ◌*◌, ◌/◌, ◌<◌, ◌≤◌, Bool, true, false, cond, List, [], ◌∷◌, ◌++◌, length, map, take, drop, refl, sym, ap, subst, ◌∙◌, arith, length-append}
 use Rattle.std.specs.Prelude.{nat_le, nat_lt}
 use Rattle.std.specs.List.{All, AllByRecursion, flat_map}
-use Rattle.std.proofs.lemmas.Bool.{le-leb, lt-ltb, le-ltb, leb-true, cases_lt, cases_Bool}
+use Rattle.std.proofs.lemmas.Bool.{le-leb, lt-leb, lt-ltb, le-ltb, leb-true, cases_lt, cases_Bool}
 use Rattle.std.proofs.lemmas.List.Elements.{All-from_recursion}
 use Rattle.std.proofs.lemmas.List.Sums.{sum_by-cons}
 use Rattle.volume_model.specs.declared.lists.SlotRun.{SlotRun}
 use Rattle.descriptors.specs.declared.item.Item.{Item}
 use Rattle.descriptors.specs.declared.item.Item.TheVariants.{Rle, Xattr, Flags, InternalXattr, Unknown}
 use Rattle.descriptors.specs.Writing.{item_size, spelled_size, IsWritable}
+use Rattle.md_chain.specs.Laid.{CanPack, IsRuns}
 use Rattle.md_chain.specs.Packing.{AreAttributes, ArePlannable, AreFew, runs_in, with_run, pieces, on_page, run_parts, on_first, parts_from, parts_of}
 
 -- ---- each page's items fit
@@ -176,3 +177,33 @@ some_parts room items = (few_from room items).0
 pub few_parts : (items : List Item) → AreFew items → length (parts_of items) ≤ 2147483648
 unfolding Few
 few_parts items few = let f = (few_from 4072 items).1 in omega (arith, f, few)
+
+-- ---- one item more is counted
+
+module _ (rest : List Item) where
+  kept_on : (room size : ℕ) (x : Item) → size ≤ room → length (cond (nat_le size room) (on_first (x ∷ []) (parts_from (room - size) rest)) ([] ∷ on_first (x ∷ []) (parts_from (4072 - size) rest))) ≡ length (parts_from (room - size) rest)
+  kept_on room size x le = rw (le-leb size room le) (length-on_first x (parts_from (room - size) rest) (some_parts (room - size) rest))
+
+  turned_to : (room size : ℕ) (x : Item) → room < size → length (cond (nat_le size room) (on_first (x ∷ []) (parts_from (room - size) rest)) ([] ∷ on_first (x ∷ []) (parts_from (4072 - size) rest))) ≡ 1 + length (parts_from (4072 - size) rest)
+  turned_to room size x lt = rw (lt-leb size room lt) (omega (arith, length-on_first x (parts_from (4072 - size) rest) (some_parts (4072 - size) rest)))
+
+  pub length-kept : (room : ℕ) (x : Item) → CanPack x → (IsRuns x → ⊥) → item_size x ≤ room → length (parts_from room (x ∷ rest)) ≡ length (parts_from (room - item_size x) rest)
+  length-kept room (Rle runs) can whole le = absurd (whole tt)
+  length-kept room (Xattr key value) can whole le = kept_on room (item_size (Xattr key value)) (Xattr key value) le
+  length-kept room (InternalXattr key value) can whole le = kept_on room (item_size (InternalXattr key value)) (InternalXattr key value) le
+  length-kept room (Flags x y z) can whole le = kept_on room 29 (Flags x y z) le
+  length-kept room (Unknown kind) can whole le = absurd can
+
+  pub length-turned : (room : ℕ) (x : Item) → CanPack x → (IsRuns x → ⊥) → room < item_size x → length (parts_from room (x ∷ rest)) ≡ 1 + length (parts_from (4072 - item_size x) rest)
+  length-turned room (Rle runs) can whole lt = absurd (whole tt)
+  length-turned room (Xattr key value) can whole lt = turned_to room (item_size (Xattr key value)) (Xattr key value) lt
+  length-turned room (InternalXattr key value) can whole lt = turned_to room (item_size (InternalXattr key value)) (InternalXattr key value) lt
+  length-turned room (Flags x y z) can whole lt = turned_to room 29 (Flags x y z) lt
+  length-turned room (Unknown kind) can whole lt = absurd can
+
+pub can_size : (x : Item) → CanPack x → (IsRuns x → ⊥) → item_size x ≤ 4072
+can_size (Rle runs) can whole = absurd (whole tt)
+can_size (Xattr key value) can whole = omega (arith, can)
+can_size (InternalXattr key value) can whole = omega (arith, can)
+can_size (Flags x y z) can whole = omega arith
+can_size (Unknown kind) can whole = absurd can

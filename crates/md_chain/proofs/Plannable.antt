@@ -1,17 +1,17 @@
 -- What items that can be planned are, one by one.
-use Rattle.std.proofs.Common.{◌≡◌, ℕ, zero, suc, ◌+◌, ◌<◌, ◌≤◌, List, [], ◌∷◌, ◌++◌, length, drop, get_or, refl, sym, ap, subst, ◌∙◌, arith}
-use Rattle.std.specs.List.{All, AllByRecursion}
+use Rattle.std.proofs.Common.{◌≡◌, ℕ, zero, suc, ◌+◌, ◌<◌, ◌≤◌, List, [], ◌∷◌, ◌++◌, length, drop, get_or, refl, sym, ap, subst, ◌∙◌, arith, length-append}
+use Rattle.std.specs.List.{All, AllByRecursion, flat_map}
 use Rattle.std.proofs.lemmas.List.Elements.{All-from_recursion}
 use Rattle.std.proofs.Math.Seq.{drop-cons}
 use Rattle.std.proofs.lemmas.List.{drop_all}
 use Rattle.descriptors.specs.declared.item.Item.{Item}
 use Rattle.descriptors.specs.declared.item.Item.TheVariants.{Rle, Xattr, Flags, InternalXattr, Unknown}
-use Rattle.md_chain.specs.Packing.{AreAttributes, ArePlannable, parts_from, on_first}
-use Rattle.md_chain.specs.Laid.{CanPack, IsRuns, laid}
+use Rattle.md_chain.specs.Packing.{AreAttributes, ArePlannable, runs_in}
+use Rattle.md_chain.specs.Laid.{CanPack, IsRuns}
 
 attributes : (items : List Item) → AreAttributes items → AllByRecursion CanPack items
 attributes [] a = tt
-attributes (Rle runs ∷ []) a = (tt, tt)
+attributes (Rle runs ∷ []) a = (a, tt)
 attributes (Rle runs ∷ x ∷ items) a = absurd a
 attributes (Xattr key value ∷ items) a = (a.0, attributes items a.1)
 attributes (InternalXattr key value ∷ items) a = (a.0, attributes items a.1)
@@ -49,3 +49,9 @@ runs_last (Unknown kind ∷ items) k d a lt r = absurd a
 
 pub drop_one : {X : Type 0} (xs : List X) (i : ℕ) (d : X) → i < length xs → drop i xs ≡ get_or xs i d ∷ drop (i + 1) xs
 drop_one xs i d lt = drop-cons xs i d lt ∙ ap (λ (n : ℕ). get_or xs i d ∷ drop n xs) (let e : suc i ≡ i + 1 = omega arith in e)
+
+-- an item has no more runs than all have together
+pub few_runs : (items : List Item) (k : ℕ) (d : Item) → k < length items → length (runs_in (get_or items k d)) ≤ length (flat_map runs_in items)
+few_runs [] k d lt = absurd (omega arith)
+few_runs (x ∷ items) zero d lt = omega (arith, length-append (runs_in x) (flat_map runs_in items))
+few_runs (x ∷ items) (suc k) d lt = let rest = few_runs items k d (omega (arith, lt)) in omega (arith, rest, length-append (runs_in x) (flat_map runs_in items))

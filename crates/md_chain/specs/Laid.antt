@@ -1,5 +1,5 @@
 -- Laying items on pages one by one.
-use Rattle.std.specs.Prelude.{◌≤◌, ◌+◌, ℕ, List, [], ◌∷◌, ◌++◌, length}
+use Rattle.std.specs.Prelude.{◌<◌, ◌≤◌, ◌+◌, ℕ, List, [], ◌∷◌, ◌++◌, length}
 use Rattle.descriptors.specs.declared.item.Item.{Item}
 use Rattle.descriptors.specs.declared.item.Item.TheVariants as item
 use Rattle.md_chain.specs.Packing.{on_first}
@@ -8,9 +8,9 @@ abbrev pub IsRuns : Item → Type 0
 IsRuns (item.Rle runs) = Unit {0}
 IsRuns _ = ⊥
 
--- flags or runs, or an attribute that one page takes
+-- flags, some runs, or an attribute that one page takes
 abbrev pub CanPack : Item → Type 0
-CanPack (item.Rle runs) = Unit {0}
+CanPack (item.Rle runs) = 0 < length runs
 CanPack (item.Flags invalid data_ro md_ro) = Unit {0}
 CanPack (item.Xattr key value) = length key + length value ≤ 4063
 CanPack (item.InternalXattr key value) = length key + length value ≤ 4063

@@ -1,9 +1,11 @@
 //! How many bytes items take in the body of a page.
 
-ghost use Rattle.std.specs.Prelude.{◌≡◌, ◌≤◌, ◌<◌, ◌+◌, ◌^◌, List, nat_le, length};
+ghost use Rattle.std.specs.Prelude.{◌≡◌, ◌≤◌, ◌<◌, ◌+◌, ◌^◌, ◌∷◌, [], List, nat_le, length};
 ghost use Rattle.descriptors.specs.Writing.{item_size, spelled_size};
 ghost use Rattle.volume_model.specs.declared.lists.SlotRun.{SlotRun};
-ghost use Rattle.md_chain.specs.Packing.{ArePlannable, AreFew, parts_of, run_parts};
+ghost use Rattle.descriptors.specs.declared.item.Item.{Item as AnItem};
+ghost use Rattle.md_chain.specs.Packing.{ArePlannable, AreFew, runs_in, parts_from, parts_of, run_parts};
+ghost use Rattle.md_chain.specs.Laid.{CanPack, IsRuns};
 
 use descriptors::{Item, ItemList};
 
@@ -50,15 +52,63 @@ pub fn fits_body(items: &ItemList) -> bool
 
 /// How many pages runs take besides the current one, in which so many bytes are left.
 fn more_pages(room: u64, runs: usize) -> usize
-    requires { runs < 2 ^ 32 }
-    ensures { (rs : List SlotRun) → length rs ≡ runs → length (run_parts room rs) ≡ result + 1 }
+    requires { 0 < runs }
+    ensures pages { (rs : List SlotRun) → length rs ≡ runs → length (run_parts room rs) ≡ result + 1 }
+    ensures few { result ≤ runs }
 {
-    let (turned, fit) = if room < ONE_RUN {
-        (1, BODY_RUNS)
+    let fit = if room < ONE_RUN {
+        0
     } else {
-        (0, ((room - 5) / 8) as usize)
+        ((room - 5) / 8) as usize
     };
-    turned + runs.saturating_sub(fit).div_ceil(BODY_RUNS)
+    runs.saturating_sub(fit).div_ceil(BODY_RUNS)
+}
+
+/// How many pages are begun, and how many bytes are left in the last.
+#[derive(Drop)]
+struct PageCount {
+    pages: u32,
+    room: u64,
+}
+
+impl PageCount {
+    /// Counts an attribute or flags.
+    fn add_whole(&mut self, item: &Item)
+        requires can { CanPack item.now }
+        requires whole { IsRuns item.now → ⊥ }
+        requires few { self.old.pages ≤ 2 ^ 31 }
+        ensures { (rest : List AnItem) → self.new.pages + length (parts_from self.new.room rest) ≡ self.old.pages + length (parts_from self.old.room (item.now ∷ rest)) }
+    {
+        let size = size_of(item);
+        if size > self.room {
+            self.pages += 1;
+            self.room = BODY;
+        }
+        self.room -= size;
+    }
+
+    /// Counts so many runs.
+    fn add_runs(&mut self, runs: usize)
+        requires some { 0 < runs }
+        requires small { runs < 2 ^ 31 }
+        requires few { self.old.pages ≤ 2 ^ 31 }
+        ensures { (rs : List SlotRun) → length rs ≡ runs → self.new.pages + 1 ≡ self.old.pages + length (run_parts self.old.room rs) }
+    {
+        self.pages += more_pages(self.room, runs) as u32;
+    }
+
+    /// Counts one item more. Nothing follows runs.
+    fn add(&mut self, item: &Item)
+        requires can { CanPack item.now }
+        requires small { length (runs_in item.now) < 2 ^ 31 }
+        requires few { self.old.pages ≤ 2 ^ 31 }
+        ensures { (rest : List AnItem) → (IsRuns item.now → rest ≡ []) → self.new.pages + length (parts_from self.new.room rest) ≡ self.old.pages + length (parts_from self.old.room (item.now ∷ rest)) }
+    {
+        match item {
+            Item::Rle(runs) => self.add_runs(runs.len()),
+            _ => self.add_whole(item),
+        }
+    }
 }
 
 /// How many pages the chain has in which these items are written.
@@ -67,19 +117,12 @@ pub fn chain_len(items: &ItemList) -> u32
     requires few { AreFew items.now }
     ensures { result ≡ length (parts_of items.now) }
 {
-    let mut pages = 1;
-    let mut room = BODY;
+    let mut count = PageCount {
+        pages: 1,
+        room: BODY,
+    };
     for item in items.as_slice() {
-        if let Item::Rle(runs) = item {
-            pages += more_pages(room, runs.len()) as u32;
-            continue;
-        }
-        let size = size_of(item);
-        if size > room {
-            pages += 1;
-            room = BODY;
-        }
-        room -= size;
+        count.add(item);
     }
-    pages
+    count.pages
 }
