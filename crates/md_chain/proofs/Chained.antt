@@ -12,7 +12,7 @@ use Rattle.md_page.specs.Page.{id_of, sequence_of, body_of, next_of}
 use Rattle.md_chain.specs.declared.plan.PlannedPage.{PlannedPage}
 use Rattle.md_chain.specs.Chain.{Look, link_fault, chain_end, is_among, Links, last, more, Chain}
 use Rattle.md_chain.specs.Packing.{parts_of}
-use Rattle.md_chain.specs.Planned.{page_written, next_in, pages_from, chain_pages, written_items, IsPlanned, ArePlanned}
+use Rattle.md_chain.specs.Planned.{page_written, next_in, pages_from, chain_pages, written_items, IsPlanned, IsPageOf}
 use Rattle.md_chain.proofs.Plannable.{drop_one}
 
 pub next_at : (xs : List ℕ) (k : ℕ) → next_in (drop k xs) ≡ unwrap_or (slice_get xs k) chain_end
@@ -20,6 +20,11 @@ next_at [] zero = refl
 next_at [] (suc k) = refl
 next_at (x ∷ xs) zero = refl
 next_at (x ∷ xs) (suc k) = next_at xs k
+
+-- the pages from the nth on are read as what they are
+abbrev pub ArePlanned : ℕ → ℕ → List ℕ → List (List Item) → Type 0
+ArePlanned head n fresh [] = Unit {0}
+ArePlanned head n fresh (part ∷ parts) = IsPlanned head n part (next_in fresh) (page_written head n part (next_in fresh)) × ArePlanned head (suc n) (drop 1 fresh) parts
 
 passes : (page : List ℕ) (md_len head n : ℕ) (seen : List ℕ) (before p : ℕ) (part : List Item) (next : ℕ) → p < md_len → is_among p seen ≡ false → IsPlanned head n part next page → link_fault page md_len head n seen before p ≡ None
 unfolding link_fault
@@ -107,3 +112,42 @@ all_planned head fresh parts n place plan le all = sym (append-nil plan) ∙ ap 
 
 pub all_read : (head : ℕ) (fresh : List ℕ) (parts : List (List Item)) (n : ℕ) → length parts ≤ n → Planning head fresh parts n → ArePlanned head 0 fresh parts
 all_read head fresh parts n le all = all (subst (λ (ps : List (List Item)). ArePlanned head n (drop n fresh) ps) (sym (drop_all n parts le)) tt)
+
+-- ---- each page of the plan
+
+behind : (place : ℕ) (fresh : List ℕ) (i : ℕ) → get_or (next_in fresh ∷ drop 1 fresh) i chain_end ≡ get_or (place ∷ fresh) (suc i) chain_end
+behind place [] zero = refl
+behind place [] (suc i) = refl
+behind place (q ∷ fresh) i = refl
+
+module _ (head : ℕ) where
+  each_page : (n place : ℕ) (fresh : List ℕ) (parts : List (List Item)) → ArePlanned head n fresh parts → (i : ℕ) (d : PlannedPage) → i < length parts
+      → let p = get_or (pages_from head n place fresh parts) i d in (p.place ≡ get_or (place ∷ fresh) i chain_end) × IsPlanned head (n + i) (get_or parts i []) (get_or (place ∷ fresh) (suc i) chain_end) p.page
+  each_page n place fresh [] are i d lt = absurd (omega arith)
+  each_page n place fresh (part ∷ parts) are zero d lt = (refl, first (next_at fresh 0))
+    where
+      first : next_in (drop 0 fresh) ≡ unwrap_or (slice_get fresh 0) chain_end → IsPlanned head (n + 0) part (get_or fresh 0 chain_end) (page_written head n part (next_in fresh))
+      first e = subst (λ (k : ℕ). IsPlanned head k part (get_or fresh 0 chain_end) (page_written head n part (next_in fresh))) (let z : n ≡ n + 0 = omega arith in z)
+          (subst (λ (k : ℕ). IsPlanned head n part k (page_written head n part (next_in fresh))) (head_next fresh) are.0)
+        where
+          head_next : (xs : List ℕ) → next_in xs ≡ get_or xs 0 chain_end
+          head_next [] = refl
+          head_next (x ∷ xs) = refl
+  each_page n place fresh (part ∷ parts) are (suc i) d lt =
+      let rest = each_page (suc n) (next_in fresh) (drop 1 fresh) parts are.1 i d (omega (arith, lt)) in
+      let up : suc n + i ≡ n + suc i = omega arith in
+      let q = get_or (pages_from head (suc n) (next_in fresh) (drop 1 fresh) parts) i d in
+      (rest.0 ∙ behind place fresh i,
+       subst (λ (k : ℕ). IsPlanned head k (get_or parts i []) (get_or (place ∷ fresh) (suc (suc i)) chain_end) q.page) up
+       (subst (λ (k : ℕ). IsPlanned head (suc n + i) (get_or parts i []) k q.page) (behind place fresh (suc i)) rest.1))
+
+  pub page_at : (fresh : List ℕ) (parts : List (List Item)) → ArePlanned head 0 fresh parts → (i : ℕ) (d : PlannedPage) → i < length parts → IsPageOf head (head ∷ fresh) parts i (get_or (pages_from head 0 head fresh parts) i d)
+  page_at fresh parts are i d lt =
+      let p = get_or (pages_from head 0 head fresh parts) i d in
+      let at = each_page 0 head fresh parts are i d lt in
+      let zero_on : 0 + i ≡ i = omega arith in
+      let up : suc i ≡ i + 1 = omega arith in
+      record {
+        place = at.0;
+        page = subst (λ (k : ℕ). IsPlanned head i (get_or parts i []) (get_or (head ∷ fresh) k chain_end) p.page) up (subst (λ (k : ℕ). IsPlanned head k (get_or parts i []) (get_or (head ∷ fresh) (suc i) chain_end) p.page) zero_on at.1);
+      }

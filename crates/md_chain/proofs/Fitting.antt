@@ -1,5 +1,5 @@
 -- Each page's items fit its body and can be written, and the pages are few.
-use Rattle.std.proofs.Common.{inl, inr, ◌≡◌, ℕ, zero, suc, ◌+◌, ◌-◌, ◌*◌, ◌/◌, ◌<◌, ◌≤◌, Bool, true, false, cond, List, [], ◌∷◌, ◌++◌, length, map, take, drop, refl, sym, ap, subst, ◌∙◌, arith, length-append}
+use Rattle.std.proofs.Common.{inl, inr, ◌≡◌, ℕ, zero, suc, ◌+◌, ◌-◌, ◌*◌, ◌/◌, ◌^◌, ◌<◌, ◌≤◌, Bool, true, false, cond, List, [], ◌∷◌, ◌++◌, length, map, take, drop, refl, sym, ap, subst, ◌∙◌, arith, length-append}
 use Rattle.std.specs.Prelude.{nat_le, nat_lt}
 use Rattle.std.specs.List.{All, AllByRecursion, flat_map}
 use Rattle.std.proofs.lemmas.Bool.{le-leb, lt-leb, lt-ltb, le-ltb, leb-true, cases_lt, cases_Bool}
@@ -174,7 +174,7 @@ pub some_parts : (room : ℕ) (items : List Item) → 0 < length (parts_from roo
 unfolding Few
 some_parts room items = (few_from room items).0
 
-pub few_parts : (items : List Item) → AreFew items → length (parts_of items) ≤ 2147483648
+pub few_parts : (items : List Item) → AreFew items → length (parts_of items) ≤ 2 ^ 31
 unfolding Few
 few_parts items few = let f = (few_from 4072 items).1 in omega (arith, f, few)
 

@@ -1,5 +1,5 @@
 -- How items are laid on the pages of a chain: a list of items for each page's body.
-use Rattle.std.specs.Prelude.{◌≡◌, ℕ, zero, suc, ◌+◌, ◌-◌, ◌/◌, ◌<◌, ◌≤◌, nat_lt, nat_le, if◌then◌else◌, List, [], ◌∷◌, ◌++◌, length, map}
+use Rattle.std.specs.Prelude.{◌≡◌, ℕ, zero, suc, ◌+◌, ◌-◌, ◌/◌, ◌^◌, ◌<◌, ◌≤◌, nat_lt, nat_le, if◌then◌else◌, List, [], ◌∷◌, ◌++◌, length, map}
 use Rattle.std.specs.List.{flat_map}
 use Rattle.volume_model.specs.declared.lists.SlotRun.{SlotRun}
 use Rattle.descriptors.specs.declared.item.Item.{Item}
@@ -27,7 +27,7 @@ runs_in _ = []
 
 -- the items and the runs in them are few together
 abbrev pub AreFew : List Item → Type 0
-AreFew items = length items + length (flat_map runs_in items) < 2147483648
+AreFew items = length items + length (flat_map runs_in items) < 2 ^ 31
 
 -- ---- the pages
 

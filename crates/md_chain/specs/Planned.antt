@@ -1,5 +1,5 @@
 -- The pages by which items are written as a chain.
-use Rattle.std.specs.Prelude.{◌≡◌, ℕ, suc, ◌-◌, IsTrue, List, [], ◌∷◌, ◌++◌, drop, replicate}
+use Rattle.std.specs.Prelude.{◌≡◌, ℕ, suc, ◌+◌, ◌-◌, IsTrue, List, [], ◌∷◌, ◌++◌, drop, replicate, slice_index_or}
 use Rattle.std.specs.List.{flat_map}
 use Rattle.crc32c.specs.Crc.{is_sound}
 use Rattle.descriptors.specs.declared.item.Item.{Item}
@@ -40,7 +40,7 @@ pub record IsPlanned (head n : ℕ) (part : List Item) (next : ℕ) (page : List
   pub spells : Spells (body_of page) part
   pub next_is : next_of page ≡ next
 
--- the pages from the nth on are read so
-abbrev pub ArePlanned : ℕ → ℕ → List ℕ → List (List Item) → Type 0
-ArePlanned head n fresh [] = Unit {0}
-ArePlanned head n fresh (part ∷ parts) = IsPlanned head n part (next_in fresh) (page_written head n part (next_in fresh)) × ArePlanned head (suc n) (drop 1 fresh) parts
+-- The ith page of a plan stands at the ith of these places, and is read as the ith of the head's chain.
+pub record IsPageOf (head : ℕ) (places : List ℕ) (parts : List (List Item)) (i : ℕ) (p : PlannedPage) : Type 0 where
+  pub place : p.place ≡ slice_index_or places i chain_end
+  pub page : IsPlanned head i (slice_index_or parts i []) (slice_index_or places (i + 1) chain_end) p.page

@@ -1,12 +1,14 @@
 //! Planning the pages of a chain.
 
-ghost use Rattle.std.specs.Prelude.{◌≡◌, ◌+◌, ◌<◌, ◌≤◌, ◌^◌, ◌∷◌, ℕ, List, drop, length, nat_eq, IfOk};
+ghost use Rattle.std.specs.Prelude.{◌≡◌, ◌+◌, ◌<◌, ◌≤◌, ◌^◌, ◌∷◌, ℕ, List, drop, length, nat_eq, slice_index_or, IfOk};
 ghost use Rattle.std.specs.List.{All, IsDistinct};
 ghost use Rattle.descriptors.specs.Writing.{spelled_size, IsWritable};
 ghost use Rattle.md_chain.specs.Chain.{Look, Chain};
 ghost use Rattle.md_chain.specs.Packing.{ArePlannable, AreFew, parts_of as parts_said};
-ghost use Rattle.md_chain.specs.Planned.{page_written, next_in, chain_pages, written_items, IsPlanned, ArePlanned};
+ghost use Rattle.md_chain.specs.Planned.{page_written, next_in, chain_pages, written_items, IsPlanned, IsPageOf};
+ghost use Rattle.md_chain.specs.declared.plan.PlannedPage.{PlannedPage as APlannedPage};
 
+use crate::chain::CHAIN_END;
 use crate::packing::parts_of;
 use crate::plan::{Plan, PlannedPage};
 use descriptors::{ItemList, write_items};
@@ -15,9 +17,6 @@ use out_of_memory::Memory;
 use page_disk::Page;
 use std::alloc::Global;
 use volume_model::PlaceList;
-
-/// The number that ends a chain.
-const CHAIN_END: u32 = 0xFFFF_FFFF;
 
 /// The page with this sequence in the chain of `head`, with these items and this next place.
 fn page_of(head: u32, sequence: u32, items: &ItemList, next: u32) -> Page
@@ -66,8 +65,8 @@ pub fn plan_chain(
     ensures exact { IfOk result (λ plan. plan ≡ chain_pages items.now head fresh.now) }
     ensures count { IfOk result (λ plan. length plan ≡ length (head ∷ fresh.now)) }
 
-    // Each page of the list is read as that page of the chain.
-    ensures planned { IfOk result (λ _. ArePlanned head 0 fresh.now (parts_said items.now)) }
+    // The ith page is sound, and is read as the ith of the chain, with its items and the place that follows.
+    ensures pages { IfOk result (λ plan. (i : ℕ) (d : APlannedPage) → i < length plan → IsPageOf head (head ∷ fresh.now) (parts_said items.now) i (slice_index_or plan i d)) }
 
     // At distinct places of the metadata region the pages are a chain of the head.
     ensures chain { IfOk result (λ plan. (look : Look) (md_len : ℕ) → md_len < 2 ^ 32 → IsDistinct nat_eq (head ∷ fresh.now) → All (λ p. p < md_len) (head ∷ fresh.now) →

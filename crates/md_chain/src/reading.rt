@@ -10,6 +10,7 @@ ghost use Rattle.md_chain.specs.Chain.{Chain as IsChain, IsBroken};
 ghost use Rattle.md_chain.specs.Fetching.{place_fault, page_fault, IsFetchFault, IsPageFault};
 ghost use Rattle.md_chain.specs.Reading.{OnlyRead, GaveChain, IsChainCause, IsPagesFault, NoReadFailed, RoseBy, region_look};
 
+use crate::chain::{CHAIN_END, Chain};
 use crate::copying::copy_of;
 use crate::fault::ChainFault;
 use descriptors::{ItemFault, ItemList, read_items};
@@ -18,16 +19,6 @@ use page_disk::{Page, PageDisk};
 use std::alloc::Global;
 use super_block::{Super, regions_are_placed};
 use volume_model::PlaceList;
-
-/// The number that ends a chain.
-const CHAIN_END: u32 = 0xFFFF_FFFF;
-
-/// A blob's chain: the places of its pages in the metadata region, from the head on, and the items of all their bodies.
-#[derive(Drop)]
-pub struct Chain {
-    pub pages: PlaceList,
-    pub items: ItemList,
-}
 
 /// What one page of a chain says: the items of its body, and the place of the next page.
 #[derive(Drop)]

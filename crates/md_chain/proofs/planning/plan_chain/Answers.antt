@@ -5,9 +5,9 @@ use Rattle.descriptors.specs.Writing.{spelled_size, IsWritable}
 use Rattle.md_chain.specs.declared.plan.PlannedPage.{PlannedPage}
 use Rattle.md_chain.specs.Chain.{Look, Chain}
 use Rattle.md_chain.specs.Packing.{parts_of}
-use Rattle.md_chain.specs.Planned.{page_written, pages_from, IsPlanned, ArePlanned}
+use Rattle.md_chain.specs.Planned.{page_written, pages_from, IsPlanned, IsPageOf}
 use Rattle.md_chain.proofs.Fitting.{FitsIn, parts_fit, few_parts}
-use Rattle.md_chain.proofs.Chained.{Completes, Planning, one_page_more, one_planned_more, all_planned, all_read, whole_chain, length-pages}
+use Rattle.md_chain.proofs.Chained.{ArePlanned, page_at, Completes, Planning, one_page_more, one_planned_more, all_planned, all_read, whole_chain, length-pages}
 use Rattle.md_chain.proofs.planning.plan_chain.Goals as goal
 
 pub overflow_cast-n : goal.overflow_cast-n
@@ -67,14 +67,16 @@ whole c =
 pub returns-clause-exact : goal.returns-clause-exact
 returns-clause-exact c = whole c
 
-read : goal.returns-clause-planned
-read c =
+pub returns-clause-pages : goal.returns-clause-pages
+returns-clause-pages c = λ i d lt.
+    let head = c.args.head in
+    let fresh = c.args.fresh.now in
     let parts = c.as_slice-part-items.result.now in
     let same : parts ≡ parts_of c.args.items.now = c.as_slice-part-items.ensures ∙ c.in_ok-parts.ensures in
-    subst (λ (ps : List (List Item)). ArePlanned c.args.head 0 c.args.fresh.now ps) same (all_read c.args.head c.args.fresh.now parts c.loop-n.n (omega (arith, c.loop-n-test.false)) c.loop-n.invariant.planned)
-
-pub returns-clause-planned : goal.returns-clause-planned
-returns-clause-planned c = read c
+    let read : ArePlanned head 0 fresh (parts_of c.args.items.now) = subst (λ (ps : List (List Item)). ArePlanned head 0 fresh ps) same (all_read head fresh parts c.loop-n.n (omega (arith, c.loop-n-test.false)) c.loop-n.invariant.planned) in
+    let long = ap (λ (ps : List PlannedPage). length ps) (whole c) in
+    let within : i < length (parts_of c.args.items.now) = omega (arith, long, length-pages head 0 head fresh (parts_of c.args.items.now), lt) in
+    subst (λ (ps : List PlannedPage). IsPageOf head (head ∷ fresh) (parts_of c.args.items.now) i (get_or ps i d)) (sym (whole c)) (page_at head fresh (parts_of c.args.items.now) read i d within)
 
 pub returns-clause-count : goal.returns-clause-count
 returns-clause-count c =
@@ -84,4 +86,9 @@ returns-clause-count c =
 
 pub returns-clause-chain : goal.returns-clause-chain
 returns-clause-chain c = λ look md_len small once low there.
-    whole_chain look md_len c.args.head small c.args.fresh.now (parts_of c.args.items.now) c.requires.places once low (read c) (subst (λ (ps : List PlannedPage). All (λ p. look p.place ≡ p.page) ps) (whole c) there)
+    let head = c.args.head in
+    let fresh = c.args.fresh.now in
+    let parts = c.as_slice-part-items.result.now in
+    let same : parts ≡ parts_of c.args.items.now = c.as_slice-part-items.ensures ∙ c.in_ok-parts.ensures in
+    let read : ArePlanned head 0 fresh (parts_of c.args.items.now) = subst (λ (ps : List (List Item)). ArePlanned head 0 fresh ps) same (all_read head fresh parts c.loop-n.n (omega (arith, c.loop-n-test.false)) c.loop-n.invariant.planned) in
+    whole_chain look md_len head small fresh (parts_of c.args.items.now) c.requires.places once low read (subst (λ (ps : List PlannedPage). All (λ p. look p.place ≡ p.page) ps) (whole c) there)
