@@ -136,10 +136,11 @@ module _ (head : ℕ) where
   each_page n place fresh (part ∷ parts) are (suc i) d lt =
       let rest = each_page (suc n) (next_in fresh) (drop 1 fresh) parts are.1 i d (omega (arith, lt)) in
       let up : suc n + i ≡ n + suc i = omega arith in
-      let q = get_or (pages_from head (suc n) (next_in fresh) (drop 1 fresh) parts) i d in
-      (rest.0 ∙ behind place fresh i,
-       subst (λ (k : ℕ). IsPlanned head k (get_or parts i []) (get_or (place ∷ fresh) (suc (suc i)) chain_end) q.page) up
-       (subst (λ (k : ℕ). IsPlanned head (suc n + i) (get_or parts i []) k q.page) (behind place fresh (suc i)) rest.1))
+      let q = get_or (pages_from head (suc n) (next_in fresh) (drop 1 fresh) parts) i d in (
+        rest.0 ∙ behind place fresh i,
+        subst (λ (k : ℕ). IsPlanned head k (get_or parts i []) (get_or (place ∷ fresh) (suc (suc i)) chain_end) q.page) up
+            (subst (λ (k : ℕ). IsPlanned head (suc n + i) (get_or parts i []) k q.page) (behind place fresh (suc i)) rest.1),
+      )
 
   pub page_at : (fresh : List ℕ) (parts : List (List Item)) → ArePlanned head 0 fresh parts → (i : ℕ) (d : PlannedPage) → i < length parts → IsPageOf head (head ∷ fresh) parts i (get_or (pages_from head 0 head fresh parts) i d)
   page_at fresh parts are i d lt =

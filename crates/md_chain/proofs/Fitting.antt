@@ -152,7 +152,7 @@ Few room items = (0 < length (parts_from room items)) × (length (parts_from roo
 
 few_whole : (room : ℕ) (x : Item) (items : List Item) → ((r : ℕ) → Few r items)
     → (0 < length (cond (nat_le (item_size x) room) (on_first (x ∷ []) (parts_from (room - item_size x) items)) ([] ∷ on_first (x ∷ []) (parts_from (4072 - item_size x) items))))
-      × (length (cond (nat_le (item_size x) room) (on_first (x ∷ []) (parts_from (room - item_size x) items)) ([] ∷ on_first (x ∷ []) (parts_from (4072 - item_size x) items))) ≤ 2 + length items + length (flat_map runs_in items))
+    × (length (cond (nat_le (item_size x) room) (on_first (x ∷ []) (parts_from (room - item_size x) items)) ([] ∷ on_first (x ∷ []) (parts_from (4072 - item_size x) items))) ≤ 2 + length items + length (flat_map runs_in items))
 unfolding Few
 few_whole room x items rest = go (nat_le (item_size x) room)
   where

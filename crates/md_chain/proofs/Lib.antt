@@ -8,3 +8,4 @@ pub mod Plannable
 pub mod Fitting
 pub mod Chained
 pub mod Saying
+pub mod OfMeta

@@ -104,7 +104,7 @@ module _ {D : Type 0} (d : Ghosts D) where
         passes p = place_passes page s.md_len head (length pages) before place w.behind pages (w.are place) free ∙ p
 
         module _ (pass : page_fault page head (length pages) place ≡ None) (new : D) (same : OnlyRead d disk new) (quiet : d.read_faults new ≡ d.read_faults disk) (once : RoseByOne (d.reads disk) (d.reads new)) (is : List Item) (spells : Spells (body_of page) is)
-          (next : ℕ) (next_is : next ≡ next_of page) where
+            (next : ℕ) (next_is : next ≡ next_of page) where
           more_room : length (pages ++ place ∷ []) + unseen s.md_len (pages ++ place ∷ []) ≤ s.md_len
           more_room = let n = new_place s.md_len before place pages free in let less = unseen-new s.md_len place pages n.0 n.1 in let r = w.room in omega (arith, length-append pages (place ∷ []), less, r)
 
@@ -125,7 +125,7 @@ module _ {D : Type 0} (d : Ghosts D) where
             behind = place ∷ w.behind;
             are = λ q. or_turned (place == q) (is_among q w.behind) (is_among q pages) (w.are q) ∙ sym (among-more q place pages);
             way = subst (λ (n : ℕ). Way (with_page w.look place page) s.md_len head n (place ∷ w.behind) place next (items ++ is) (pages ++ place ∷ [])) (sym longer)
-            (goes_on w.look s.md_len head (length pages) w.behind before place items pages w.way page (new_place s.md_len before place pages free).1 (passes pass) is spells next next_is ne);
+                (goes_on w.look s.md_len head (length pages) w.behind before place items pages w.way page (new_place s.md_len before place pages free).1 (passes pass) is spells next next_is ne);
           }
 
           pub gave : next ≡ chain_end → GaveChain d s first head (pages ++ place ∷ []) (items ++ is)
@@ -140,7 +140,7 @@ module _ {D : Type 0} (d : Ghosts D) where
           look = with_page w.look place page;
           seen = there;
           broken = fails w.look s.md_len head (length pages) w.behind before place items pages w.way page (new_place s.md_len before place pages free).1 f
-          (place_passes page s.md_len head (length pages) before place w.behind pages (w.are place) free ∙ e);
+              (place_passes page s.md_len head (length pages) before place w.behind pages (w.are place) free ∙ e);
         }
 
         spoilt : (p at kind : ℕ) → p ≡ place → page_fault page head (length pages) place ≡ None → Spoils (body_of page) at kind → GaveFault d s first head (faults.BadItem p at kind)
@@ -148,7 +148,7 @@ module _ {D : Type 0} (d : Ghosts D) where
           look = with_page w.look place page;
           seen = there;
           broken = subst (λ (q : ℕ). IsBroken (with_page w.look place page) s.md_len head (faults.BadItem q at kind)) (sym is)
-          (spoils w.look s.md_len head (length pages) w.behind before place items pages w.way page (new_place s.md_len before place pages free).1 at kind (passes pass) x);
+              (spoils w.look s.md_len head (length pages) w.behind before place items pages w.way page (new_place s.md_len before place pages free).1 at kind (passes pass) x);
         }
 
         -- its fault is the chain's

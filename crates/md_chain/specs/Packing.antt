@@ -2,6 +2,7 @@
 use Rattle.std.specs.Prelude.{◌≡◌, ℕ, zero, suc, ◌+◌, ◌-◌, ◌/◌, ◌^◌, ◌<◌, ◌≤◌, nat_lt, nat_le, if◌then◌else◌, List, [], ◌∷◌, ◌++◌, length, map}
 use Rattle.std.specs.List.{flat_map}
 use Rattle.volume_model.specs.declared.lists.SlotRun.{SlotRun}
+use Rattle.volume_model.specs.declared.text.Xattr.{Xattr}
 use Rattle.descriptors.specs.declared.item.Item.{Item}
 use Rattle.descriptors.specs.declared.item.Item.TheVariants as item
 use Rattle.descriptors.specs.Writing.{item_size}
@@ -20,6 +21,10 @@ AreAttributes _ = ⊥
 abbrev pub ArePlannable : List Item → Type 0
 ArePlannable (item.Flags invalid data_ro md_ro ∷ items) = AreAttributes items
 ArePlannable _ = ⊥
+
+-- one page takes the attribute
+abbrev pub FitsPage : Xattr → Type 0
+FitsPage x = length x.key + length x.value ≤ 4063
 
 abbrev pub runs_in : Item → List SlotRun
 runs_in (item.Rle runs) = runs

@@ -1,11 +1,14 @@
 //! The laws of chains.
 
-ghost use Rattle.std.specs.Prelude.{◌≡◌, ℕ, List};
+ghost use Rattle.std.specs.Prelude.{◌≡◌, ◌+◌, ◌<◌, ◌^◌, ℕ, List, length};
+ghost use Rattle.std.specs.List.{All};
 ghost use Rattle.descriptors.specs.declared.item.Item.{Item};
 ghost use Rattle.md_chain.specs.declared.fault.ChainFault.{ChainFault};
+ghost use Rattle.blob_meta.specs.declared.meta.Meta.{Meta};
+ghost use Rattle.blob_meta.specs.Items.{IsItemsOf};
 ghost use Rattle.blob_meta.specs.Says.{meta_of};
 ghost use Rattle.md_chain.specs.Chain.{Look, Chain, IsBroken, Agree};
-ghost use Rattle.md_chain.specs.Packing.{ArePlannable};
+ghost use Rattle.md_chain.specs.Packing.{ArePlannable, AreFew, FitsPage};
 ghost use Rattle.md_chain.specs.Planned.{written_items};
 
 /// A head has one chain, or one first fault, and not both. A chain is that of every image that has its pages.
@@ -23,4 +26,10 @@ pub fn chains()
 /// The items that stand in the planned pages say the metadata that was planned, though its runs may have several descriptors.
 pub fn written_items_say()
     ensures { (head : ℕ) (items : List Item) → ArePlannable items → meta_of head (written_items items) ≡ meta_of head items }
+{}
+
+/// The items of metadata can be planned, where one page takes each attribute.
+pub fn metadata_is_plannable()
+    ensures plannable { (m : Meta) (items : List Item) → IsItemsOf m items → All FitsPage m.xattrs → All FitsPage m.internal → ArePlannable items }
+    ensures few { (m : Meta) (items : List Item) → IsItemsOf m items → length m.xattrs + length m.internal + length m.map + 2 < 2 ^ 31 → AreFew items }
 {}

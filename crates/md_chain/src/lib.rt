@@ -13,7 +13,7 @@ mod size;
 
 pub use chain::Chain;
 pub use fault::ChainFault;
-pub use laws::{chains, written_items_say};
+pub use laws::{chains, metadata_is_plannable, written_items_say};
 pub use out_of_memory::Memory;
 pub use plan::{Plan, PlannedPage};
 pub use planning::plan_chain;

@@ -117,7 +117,9 @@ impl Packing {
         ensures { IfOk result (λ parts. parts ≡ self.full ++ self.current ∷ []) }
     {
         let Packing {
-            mut full, current, ..
+            mut full,
+            current,
+            ..
         } = self;
         full.push(current)?;
         Ok(full)
