@@ -19,3 +19,6 @@ pub use plan::{Plan, PlannedPage};
 pub use planning::plan_chain;
 pub use reading::read_chain;
 pub use size::{chain_len, fits_body};
+
+#[cfg(test)]
+mod tests;
