@@ -1,5 +1,6 @@
 ghost use Rattle.std.specs.Prelude.{◌≡◌, IfOk};
 ghost use Rattle.descriptors.specs.declared.item.Item.TheVariants.{Xattr};
+ghost use Rattle.super_block.specs.Faults.{IsFaultless};
 ghost use Rattle.md_chain.specs.Packing.{ArePlannable, AreFew};
 
 use crate::{ChainFault, Memory, chain_len, plan_chain, read_chain};
@@ -66,6 +67,11 @@ fn page_with(front: &[u8], rest: u8, next: [u8; 4]) -> Page {
     page
 }
 
+/// Whether the pages have the same bytes before their sums.
+fn bytes_agree(page: &Page, wanted: &Page) -> bool {
+    page[..4092] == wanted[..4092]
+}
+
 #[test]
 fn a_volume_with_a_full_attribute_and_a_map_takes_three_pages(
     rt: HostRuntime,
@@ -98,14 +104,16 @@ fn a_volume_with_a_full_attribute_and_a_map_takes_three_pages(
     assert_eq!(rt; plan.len(), 3);
     for (planned, (place, page)) in plan.as_slice().iter().zip(wanted) {
         assert_eq!(rt; planned.place, place);
-        assert!(rt; planned.page[..4092] == page[..4092]);
+        assert!(rt; bytes_agree(&planned.page, &page));
         assert!(rt; page_ok(&planned.page));
     }
     Ok(())
 }
 
 /// The super block of a store of 64 pages, with 16 metadata pages from page 4 on.
-fn small() -> Result<Super, TestFail> {
+fn small() -> Result<Super, TestFail>
+    ensures { IfOk result IsFaultless }
+{
     Ok(Layout::plan(64, 4, Some(16))?.new_super(u64::MAX, [0; 16]))
 }
 
