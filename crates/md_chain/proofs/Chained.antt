@@ -1,18 +1,16 @@
 -- Planned pages form a chain.
-use Rattle.std.proofs.Common.{◌≡◌, ℕ, zero, suc, ◌+◌, ◌-◌, ◌^◌, ◌<◌, ◌≤◌, Bool, true, false, eqb, List, [], ◌∷◌, ◌++◌, length, take, drop, get_or, None, refl, sym, ap, subst, ◌∙◌, append-nil, append_assoc, arith}
+use Rattle.std.proofs.Common.{◌≡◌, ℕ, zero, suc, ◌+◌, ◌^◌, ◌<◌, ◌≤◌, Bool, true, false, List, [], ◌∷◌, ◌++◌, length, drop, get_or, None, refl, sym, ap, subst, ◌∙◌, append-nil, append_assoc, arith}
 use Rattle.std.specs.Prelude.{unwrap_or, slice_get, nat_eq, ◌==◌, ◌||◌}
 use Rattle.std.specs.List.{All, AllByRecursion, IsDistinct, flat_map}
 use Rattle.std.proofs.lemmas.Bool.{lt-ltb, eq-eqb, ne_eqb}
 use Rattle.std.proofs.lemmas.List.{drop-drop, drop_all}
 use Rattle.std.proofs.lemmas.List.Elements.{recursion_from_All}
 use Rattle.descriptors.specs.declared.item.Item.{Item}
-use Rattle.descriptors.specs.Grammar.{Spells}
 use Rattle.crc32c.specs.Crc.{is_sound}
-use Rattle.md_page.specs.Page.{id_of, sequence_of, body_of, next_of}
+use Rattle.md_page.specs.Page.{next_of}
 use Rattle.md_chain.specs.declared.plan.PlannedPage.{PlannedPage}
 use Rattle.md_chain.specs.Chain.{Look, link_fault, chain_end, is_among, Links, last, more, Chain}
-use Rattle.md_chain.specs.Packing.{parts_of}
-use Rattle.md_chain.specs.Planned.{page_written, next_in, pages_from, chain_pages, written_items, IsPlanned, IsPageOf}
+use Rattle.md_chain.specs.Planned.{page_written, next_in, pages_from, IsPlanned, IsPageOf}
 use Rattle.md_chain.proofs.Plannable.{drop_one}
 
 pub next_at : (xs : List ℕ) (k : ℕ) → next_in (drop k xs) ≡ unwrap_or (slice_get xs k) chain_end

@@ -1,7 +1,7 @@
 -- What the links of a chain say of its pages.
 use Rattle.std.proofs.Common.{◌≡◌, ℕ, suc, ◌+◌, ◌^◌, ◌<◌, ◌≤◌, Bool, true, false, cond, List, [], ◌∷◌, Option, Some, None, refl, subst, inl, inr, arith}
 use Rattle.std.specs.Prelude.{◌==◌}
-use Rattle.std.proofs.lemmas.Bool.{not-false, ltb-true, eqb-true, eq-eqb, lt-ltb, and_from, or_cases}
+use Rattle.std.proofs.lemmas.Bool.{not-false, ltb-true, eqb-true, eq-eqb, or_cases}
 use Rattle.descriptors.specs.declared.item.Item.{Item}
 use Rattle.crc32c.specs.Crc.{is_sound}
 use Rattle.md_page.specs.Page.{id_of, sequence_of}

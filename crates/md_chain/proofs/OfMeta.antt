@@ -1,16 +1,15 @@
 -- The items of metadata can be planned.
-use Rattle.std.proofs.Common.{◌≡◌, ℕ, ◌+◌, ◌^◌, ◌<◌, ◌≤◌, List, [], ◌∷◌, ◌++◌, length, map, refl, sym, ap, subst, ◌∙◌, arith, length-append}
-use Rattle.std.specs.List.{All, AllByRecursion, flat_map, sum_by}
+use Rattle.std.proofs.Common.{◌≡◌, ℕ, ◌+◌, ◌^◌, ◌<◌, ◌≤◌, List, [], ◌∷◌, ◌++◌, length, sym, ap, subst, arith, length-append}
+use Rattle.std.specs.List.{All, AllByRecursion, flat_map}
 use Rattle.std.proofs.lemmas.List.Elements.{recursion_from_All}
 use Rattle.std.proofs.lemmas.List.Sums.{sum_by-cons}
 use Rattle.volume_model.specs.declared.lists.SlotRun.{SlotRun}
 use Rattle.volume_model.specs.declared.text.Xattr.{Xattr as AnXattr}
 use Rattle.descriptors.specs.declared.item.Item.{Item}
-use Rattle.descriptors.specs.declared.item.Item.TheVariants.{Rle, Xattr, Flags, InternalXattr, Unknown}
-use Rattle.descriptors.specs.Runs.{slots_in, slots_of_all, IsLongest}
+use Rattle.descriptors.specs.Runs.{slots_of_all, IsLongest}
 use Rattle.descriptors.proofs.Added.{length-slots}
 use Rattle.blob_meta.specs.declared.meta.Meta.{Meta}
-use Rattle.blob_meta.specs.Items.{IsItemsOf, xattr_items, internal_items, run_items, items_of, flags_item}
+use Rattle.blob_meta.specs.Items.{IsItemsOf, xattr_items, internal_items, run_items, items_of}
 use Rattle.md_chain.specs.Packing.{AreAttributes, ArePlannable, AreFew, FitsPage, runs_in}
 
 xattrs_first : (xs : List AnXattr) (rest : List Item) → AllByRecursion FitsPage xs → AreAttributes rest → AreAttributes (xattr_items xs ++ rest)

@@ -1,13 +1,12 @@
 -- Runs in pieces, and pages that are laid one by one.
-use Rattle.std.proofs.Common.{◌≡◌, ℕ, zero, suc, ◌+◌, ◌-◌, ◌/◌, ◌*◌, ◌<◌, ◌≤◌, Bool, true, false, cond, List, [], ◌∷◌, ◌++◌, length, take, drop, map, get_or, refl, sym, ap, subst, ◌∙◌, arith, inl, inr, append_assoc, append-nil}
-use Rattle.std.specs.Prelude.{◌⊎◌, nat_lt, min}
+use Rattle.std.proofs.Common.{◌≡◌, ℕ, zero, suc, ◌-◌, ◌/◌, ◌<◌, ◌≤◌, List, [], ◌∷◌, ◌++◌, length, take, drop, map, refl, sym, ap, ◌∙◌, arith, inl, inr, append_assoc, append-nil}
+use Rattle.std.specs.Prelude.{min}
 use Rattle.std.proofs.lemmas.Bool.{lt-ltb, le-ltb, cases_lt}
 use Rattle.std.proofs.lemmas.List.{take_all, drop_all}
 use Rattle.volume_model.specs.declared.lists.SlotRun.{SlotRun}
 use Rattle.descriptors.specs.declared.item.Item.{Item}
-use Rattle.descriptors.specs.declared.item.Item.TheVariants as item
-use Rattle.md_chain.specs.Packing.{with_run, pieces, on_page, run_parts, on_first, parts_from}
-use Rattle.md_chain.specs.Laid.{laid, IsRuns}
+use Rattle.md_chain.specs.Packing.{with_run, pieces, on_page, run_parts, on_first}
+use Rattle.md_chain.specs.Laid.{laid}
 
 -- the pieces after the first one
 pub later : List SlotRun → List (List SlotRun)

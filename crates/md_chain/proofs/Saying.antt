@@ -1,18 +1,14 @@
 -- The items in the pages say what the planned ones say.
-use Rattle.std.proofs.Common.{◌≡◌, ℕ, zero, suc, ◌+◌, ◌-◌, ◌*◌, ◌/◌, ◌%◌, ◌^◌, ◌<◌, ◌≤◌, Bool, true, false, cond, inl, inr, List, [], ◌∷◌, ◌++◌, length, map, refl, sym, ap, subst, ◌∙◌, arith, append_assoc, append-nil}
-use Rattle.std.specs.Prelude.{nat_le, nat_lt, Some, None}
-use Rattle.std.specs.List.{flat_map, filter_map, cons_option}
-use Rattle.std.proofs.lemmas.Bool.{lt-ltb, le-ltb, cases_lt}
+use Rattle.std.proofs.Common.{◌≡◌, ℕ, zero, suc, ◌-◌, ◌/◌, Bool, true, false, cond, List, [], ◌∷◌, ◌++◌, map, refl, sym, ap, subst, ◌∙◌, append-nil}
+use Rattle.std.specs.Prelude.{nat_le, nat_lt}
+use Rattle.std.specs.List.{flat_map, filter_map}
 use Rattle.volume_model.specs.declared.lists.SlotRun.{SlotRun}
-use Rattle.volume_model.specs.declared.text.Xattr.{Xattr as AnXattr}
 use Rattle.descriptors.specs.declared.item.Item.{Item}
 use Rattle.descriptors.specs.declared.item.Item.TheVariants.{Rle, Xattr, Flags, InternalXattr, Unknown}
 use Rattle.descriptors.specs.Writing.{item_size}
-use Rattle.descriptors.specs.Runs.{slots_in}
 use Rattle.blob_meta.specs.declared.meta.Flags.{Flags as TheFlags}
-use Rattle.blob_meta.specs.declared.meta.Meta.{Meta}
-use Rattle.blob_meta.specs.Says.{last_flags, flags_in, without_bit_1, firsts, xattr_in, internal_in, map_in, meta_of, runs_in}
-use Rattle.md_chain.specs.Packing.{AreAttributes, ArePlannable, with_run, pieces, on_page, run_parts, on_first, parts_from, parts_of}
+use Rattle.blob_meta.specs.Says.{last_flags, xattr_in, internal_in, meta_of, runs_in}
+use Rattle.md_chain.specs.Packing.{AreAttributes, ArePlannable, with_run, pieces, on_page, run_parts, on_first, parts_from}
 use Rattle.md_chain.specs.Planned.{written_items}
 
 abbrev together : List (List Item) → List Item

@@ -1,22 +1,17 @@
 -- Walking along a chain, page by page.
-use Rattle.std.proofs.Common.{◌≡◌, ℕ, zero, suc, ◌+◌, ◌<◌, ◌≤◌, Bool, true, false, eqb, ltb, cond, List, [], ◌∷◌, ◌++◌, length, Option, Some, None, refl, sym, ap, subst, ◌∙◌, inl, inr, arith, append_assoc, length-append}
-use Rattle.std.specs.Prelude.{IsTrue, not, ◌==◌, nat_lt, ◌||◌, if◌then◌else◌}
-use Rattle.std.specs.List.{list_any}
+use Rattle.std.proofs.Common.{◌≡◌, ℕ, zero, suc, ◌+◌, ◌<◌, ◌≤◌, Bool, true, false, cond, List, [], ◌∷◌, ◌++◌, Some, None, refl, sym, ap, subst, ◌∙◌, inl, inr, arith, append_assoc}
+use Rattle.std.specs.Prelude.{not, ◌==◌, nat_lt, ◌||◌}
 use Rattle.std.proofs.Math.Path.{fun_ext}
 use Rattle.std.proofs.lemmas.List.Folds.{list_any-append}
-use Rattle.std.proofs.lemmas.Bool.{not-false, ltb-true, eqb-true, eq-eqb, lt-ltb, ne_eqb, cases_eq, cases_Bool, or_cases, both_ways}
-use Rattle.crc32c.specs.Crc.{is_sound}
-use Rattle.page_disk.specs.Disk.{Image, Images, Alike, Rose, RoseByOne, last_count, with_page}
-use Rattle.page_disk.specs.declared.disk.PageDisk.{Ghosts}
-use Rattle.super_block.specs.declared.page.Super.{Super}
+use Rattle.std.proofs.lemmas.Bool.{ltb-true, eqb-true, eq-eqb, ne_eqb, cases_eq, cases_Bool, both_ways}
+use Rattle.page_disk.specs.Disk.{with_page}
 use Rattle.descriptors.specs.declared.item.Item.{Item}
 use Rattle.descriptors.specs.Grammar.{Spells, Spoils}
-use Rattle.md_page.specs.Page.{id_of, sequence_of, body_of, next_of}
+use Rattle.md_page.specs.Page.{body_of, next_of}
 use Rattle.md_chain.specs.declared.fault.ChainFault.{ChainFault}
 use Rattle.md_chain.specs.declared.fault.ChainFault.TheVariants as faults
-use Rattle.md_chain.specs.Chain.{Look, link_fault, blob_id, chain_end, is_among, Links, last, more, Broken, at_link, at_item, later, Chain, IsBroken}
-use Rattle.md_chain.specs.Fetching.{place_fault, page_fault, IsFetchFault, IsPageFault}
-use Rattle.md_chain.specs.Reading.{OnlyRead, region_look, WasSeen, GaveChain, GaveFault, IsChainCause, RoseBy}
+use Rattle.md_chain.specs.Chain.{Look, link_fault, chain_end, is_among, Links, last, more, Broken, at_link, at_item, later, Chain, IsBroken}
+use Rattle.md_chain.specs.Fetching.{place_fault, page_fault}
 
 -- ---- the tests of a page are those of its place, and then its own
 

@@ -1,8 +1,8 @@
 -- What reading a device page by page leaves of it, and what is known while a chain is read.
-use Rattle.std.proofs.Common.{◌≡◌, ℕ, suc, ◌+◌, ◌<◌, ◌≤◌, Bool, true, false, cond, List, [], ◌∷◌, ◌++◌, length, Option, Some, None, refl, sym, ap, subst, ◌∙◌, inl, inr, arith, length-append}
+use Rattle.std.proofs.Common.{◌≡◌, ℕ, suc, ◌+◌, ◌≤◌, Bool, true, false, cond, List, [], ◌∷◌, ◌++◌, length, Option, Some, None, refl, sym, ap, subst, ◌∙◌, inl, inr, arith, length-append}
 use Rattle.std.specs.Prelude.{IsTrue, ◌==◌, ◌||◌, not}
 use Rattle.crc32c.specs.Crc.{is_sound}
-use Rattle.page_disk.specs.Disk.{Image, Images, Alike, Rose, RoseByOne, last_count, with_page}
+use Rattle.page_disk.specs.Disk.{Image, Images, Alike, Rose, RoseByOne, with_page}
 use Rattle.page_disk.specs.declared.disk.PageDisk.{Ghosts}
 use Rattle.super_block.specs.declared.page.Super.{Super}
 use Rattle.descriptors.specs.declared.item.Item.{Item}

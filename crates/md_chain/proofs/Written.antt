@@ -1,5 +1,5 @@
 -- A page that was written as the only one of a chain is that chain.
-use Rattle.std.proofs.Common.{◌≡◌, ℕ, ◌+◌, ◌^◌, ◌<◌, true, List, [], ◌∷◌, None, refl, sym, subst, ◌∙◌}
+use Rattle.std.proofs.Common.{◌≡◌, ℕ, ◌<◌, true, List, [], ◌∷◌, None, refl, sym, subst, ◌∙◌}
 use Rattle.std.proofs.lemmas.Bool.{lt-ltb, eq-eqb}
 use Rattle.crc32c.specs.Crc.{is_sound}
 use Rattle.descriptors.specs.declared.item.Item.{Item}

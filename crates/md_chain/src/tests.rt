@@ -47,11 +47,7 @@ fn volume(alloc: Global) -> Result<ItemList, Memory>
         md_ro: 0,
     })?;
     items.push(attribute(alloc, b"name", b"v\0")?)?;
-    items.push(attribute(
-        alloc,
-        b"uuid",
-        b"11223344-5566-4788-99aa-bbccddeeff00\0",
-    )?)?;
+    items.push(attribute(alloc, b"uuid", b"11223344-5566-4788-99aa-bbccddeeff00\0")?)?;
     items.push(attribute(alloc, b"k", &[b'x'; 4062])?)?;
     items.push(Item::Rle(runs))?;
     Ok(items)

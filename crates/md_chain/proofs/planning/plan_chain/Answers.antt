@@ -1,13 +1,12 @@
-use Rattle.std.proofs.Common.{◌≡◌, ℕ, ◌+◌, ◌∷◌, ◌++◌, ◌<◌, ◌≤◌, [], List, length, get_or, All, subst, sym, ap, ◌∙◌, arith}
+use Rattle.std.proofs.Common.{◌≡◌, ℕ, ◌+◌, ◌∷◌, ◌++◌, ◌<◌, [], List, length, get_or, All, subst, sym, ap, ◌∙◌, arith}
 use Rattle.std.proofs.lemmas.List.Elements.{All-from_recursion}
 use Rattle.descriptors.specs.declared.item.Item.{Item}
-use Rattle.descriptors.specs.Writing.{spelled_size, IsWritable}
+use Rattle.descriptors.specs.Writing.{IsWritable}
 use Rattle.md_chain.specs.declared.plan.PlannedPage.{PlannedPage}
-use Rattle.md_chain.specs.Chain.{Look, Chain}
 use Rattle.md_chain.specs.Packing.{parts_of}
 use Rattle.md_chain.specs.Planned.{page_written, pages_from, IsPlanned, IsPageOf}
 use Rattle.md_chain.proofs.Fitting.{FitsIn, parts_fit, few_parts}
-use Rattle.md_chain.proofs.Chained.{ArePlanned, page_at, Completes, Planning, one_page_more, one_planned_more, all_planned, all_read, whole_chain, length-pages}
+use Rattle.md_chain.proofs.Chained.{ArePlanned, page_at, Completes, one_page_more, one_planned_more, all_planned, all_read, whole_chain, length-pages}
 use Rattle.md_chain.proofs.planning.plan_chain.Goals as goal
 
 pub overflow_cast-n : goal.overflow_cast-n

@@ -1,4 +1,3 @@
-use Rattle.std.proofs.Common.{◌≡◌}
 use Rattle.md_chain.proofs.Chained.{Completes, Planning}
 use Rattle.md_chain.proofs.planning.plan_chain.Given as goal
 

@@ -1,4 +1,3 @@
-use Rattle.std.proofs.Common.{ℕ}
 use Rattle.md_chain.proofs.Walking.{unseen}
 use Rattle.md_chain.proofs.Walks.{Walking}
 use Rattle.md_chain.proofs.reading.read_chain.Given as goal

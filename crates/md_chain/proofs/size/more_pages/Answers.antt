@@ -1,4 +1,4 @@
-use Rattle.std.proofs.Common.{◌≡◌, ℕ, ◌+◌, ◌-◌, ◌/◌, ◌%◌, arith}
+use Rattle.std.proofs.Common.{arith}
 use Rattle.md_chain.proofs.Fitting.{length-full_runs, length-run_parts}
 use Rattle.md_chain.proofs.size.more_pages.Goals as goal
 use Rattle.md_chain.proofs.size.more_pages.Goals.{then-room-lt-ONE_RUN, else-room-lt-ONE_RUN}

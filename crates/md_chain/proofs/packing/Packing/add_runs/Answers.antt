@@ -1,4 +1,4 @@
-use Rattle.std.proofs.Common.{◌≡◌, ◌++◌, ◌∷◌, [], ◌-◌, ◌/◌, map, subst, sym, ap, ◌∙◌}
+use Rattle.std.proofs.Common.{◌≡◌, ◌++◌, ◌∷◌, [], ◌-◌, ◌/◌, map, subst, ap, ◌∙◌}
 use Rattle.std.specs.Prelude.{List, ℕ, OnOk}
 use Rattle.descriptors.specs.declared.item.Item.{Item}
 use Rattle.md_chain.specs.declared.packing.Packing.{Packing}

@@ -1,4 +1,4 @@
-use Rattle.std.proofs.Common.{◌≡◌, ℕ, ◌++◌, ◌∷◌, [], ◌-◌, ◌/◌, ◌<◌, List, length, take, drop, sym, ap, ◌∙◌, arith}
+use Rattle.std.proofs.Common.{◌≡◌, ℕ, ◌++◌, ◌∷◌, ◌-◌, ◌/◌, ◌<◌, List, length, take, drop, sym, ap, ◌∙◌, arith}
 use Rattle.volume_model.specs.declared.lists.SlotRun.{SlotRun}
 use Rattle.descriptors.specs.declared.item.Item.{Item}
 use Rattle.md_chain.specs.Packing.{on_page}

@@ -1,5 +1,4 @@
-use Rattle.std.proofs.Common.{◌≡◌, ℕ, ◌+◌, ◌-◌, ◌≤◌, ◌<◌, List, length, ap, subst, sym, ◌∙◌, arith}
-use Rattle.descriptors.specs.declared.item.Item.{Item}
+use Rattle.std.proofs.Common.{◌≡◌, ℕ, ◌+◌, ◌-◌, ◌≤◌, ◌<◌, length, ap, subst, sym, ◌∙◌, arith}
 use Rattle.descriptors.specs.Writing.{item_size}
 use Rattle.md_chain.specs.declared.size.PageCount.{PageCount}
 use Rattle.md_chain.specs.Packing.{parts_from}
