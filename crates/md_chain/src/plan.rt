@@ -6,7 +6,9 @@ use volume_model::ListOf;
 /// A page that is to be written at a place of the metadata region.
 #[derive(Clone, Copy)]
 pub struct PlannedPage {
+    /// Where it stands, counted from the region's first page.
     pub place: u32,
+    /// Its bytes, with the sum at their end.
     pub page: Page,
 }
 

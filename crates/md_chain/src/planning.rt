@@ -50,7 +50,10 @@ fn next_place(fresh: &PlaceList, passed: usize) -> u32
     }
 }
 
-/// The pages by which the items are written as the chain of `head`, which goes on at the fresh places.
+/// The pages by which the items are written as the chain of `head`, which goes on at the fresh places: one place less than
+/// `chain_len` says. The items are flags, then attributes with at most 4063 bytes of name and value, then at most one item of
+/// runs. An attribute that doesn't fit what is left of a page begins a new one; runs fill the page from 13 bytes on. Each
+/// page has its sum. `Memory` comes where memory ran out, and for no other cause.
 pub fn plan_chain(
     alloc: Global,
     items: &ItemList,

@@ -115,7 +115,8 @@ fn append(alloc: Global, items: &mut ItemList, more: &ItemList) -> Result<(), Me
 }
 
 /// Reads the chain at a head of the metadata region. Each page of it is read once. A fault is that of the first test that
-/// fails, at the first place that fails one; `ReadFault` comes where the device counted a failed read.
+/// fails, at the first place that fails one; `ReadFault` comes where the device counted a failed read, and `Memory` where
+/// memory ran out.
 pub fn read_chain<D: PageDisk>(
     alloc: Global,
     disk: &mut D,

@@ -111,7 +111,7 @@ impl PageCount {
     }
 }
 
-/// How many pages the chain has in which these items are written.
+/// How many pages the chain has in which these items are written: as many as `plan_chain` plans, and at least one.
 pub fn chain_len(items: &ItemList) -> u32
     requires plannable { ArePlannable items.now }
     requires few { AreFew items.now }
