@@ -17,3 +17,4 @@ pub mod WholeHead
 pub mod Holding
 pub mod WholeRun
 pub mod Ending
+pub mod Filling

@@ -3,9 +3,12 @@
 
 #[cfg(test)]
 mod cause_tests;
+mod content;
 #[cfg(test)]
 mod crash_tests;
 mod driver;
+mod format_words;
+mod formatting;
 mod head_page;
 #[cfg(test)]
 mod images;
