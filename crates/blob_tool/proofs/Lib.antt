@@ -18,3 +18,4 @@ pub mod Holding
 pub mod WholeRun
 pub mod Ending
 pub mod Filling
+pub mod NewStore
