@@ -82,9 +82,9 @@ module _ (content : Content) (start count index : ℕ) (low : index < count) (pl
         was.0,
         was.1,
         ⊎_elim
-        (λ (kept : image ≡ w.before). λ p out. ap (λ (i : Image). i p) kept ∙ was.2 p out)
-        (λ (put : (image ≡ with_page w.before place w.page) × Puts kind page w.page). still_others was.0 w.before image (λ p other. ap (λ (i : Image). i p) put.0 ∙ with_page-elsewhere w.before place w.page p other) was.2)
-        w.kept_or_put,
+            (λ (kept : image ≡ w.before). λ p out. ap (λ (i : Image). i p) kept ∙ was.2 p out)
+            (λ (put : (image ≡ with_page w.before place w.page) × Puts kind page w.page). still_others was.0 w.before image (λ p other. ap (λ (i : Image). i p) put.0 ∙ with_page-elsewhere w.before place w.page p other) was.2)
+            w.kept_or_put,
       )
 
 -- one page more, whether its write succeeds or not

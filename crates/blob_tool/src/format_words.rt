@@ -1,7 +1,7 @@
 //! The words of `format`.
 
-ghost use Rattle.std.specs.Prelude.{◌≡◌, ◌^◌, string_bytes};
-ghost use Rattle.std.specs.Option.{option_map};
+ghost use Rattle.std.specs.Prelude.{◌≡◌, map, string_bytes};
+ghost use Rattle.std.specs.Option.{option_copied};
 ghost use Rattle.blob_tool.specs.Format.{cluster_in, md_pages_in, of_options as of_options_said, options_in, format_in as format_said};
 
 use crate::words::number_below;
@@ -19,8 +19,8 @@ pub struct Format {
 const DEFAULT_CLUSTER_PAGES: u32 = (1 << 20) / 4096;
 
 /// The pages of a cluster of so many bytes, a multiple of 4096 above 0.
-fn cluster_pages(bytes: &String) -> Option<u32>
-    ensures { result ≡ cluster_in (string_bytes bytes.now) }
+fn cluster_pages(bytes: &str) -> Option<u32>
+    ensures { result ≡ cluster_in bytes.now }
 {
     match number_below(1 << 44, bytes.as_bytes()) {
         Some(bytes) if bytes > 0 && bytes % 4096 == 0 => Some((bytes / 4096) as u32),
@@ -29,8 +29,8 @@ fn cluster_pages(bytes: &String) -> Option<u32>
 }
 
 /// A number of metadata pages, at least one.
-fn md_pages(pages: &String) -> Option<u32>
-    ensures { result ≡ md_pages_in (string_bytes pages.now) }
+fn md_pages(pages: &str) -> Option<u32>
+    ensures { result ≡ md_pages_in pages.now }
 {
     match number_below(1 << 32, pages.as_bytes()) {
         Some(pages) if pages > 0 => Some(pages as u32),
@@ -39,8 +39,8 @@ fn md_pages(pages: &String) -> Option<u32>
 }
 
 /// What the options ask for, of which each may be missing.
-fn of_options(cluster: Option<&String>, pages: Option<&String>) -> Option<Format>
-    ensures { result ≡ of_options_said (option_map (λ word. word.now) cluster.entry) (option_map (λ word. word.now) pages.entry) }
+fn of_options(cluster: Option<&str>, pages: Option<&str>) -> Option<Format>
+    ensures { result ≡ of_options_said (option_copied cluster.entry) (option_copied pages.entry) }
 {
     let cluster_pages = match cluster {
         Some(bytes) => cluster_pages(bytes)?,
@@ -58,21 +58,17 @@ fn of_options(cluster: Option<&String>, pages: Option<&String>) -> Option<Format
 
 /// What the options behind the image ask for: they stand in any order, each at most once.
 fn options(words: &[String]) -> Option<Format>
-    ensures { result ≡ options_in words.now }
+    ensures { result ≡ options_in (map string_bytes words.now) }
 {
     match words {
         [] => of_options(None, None),
-        [name, x] if name.as_str() == "--cluster" => of_options(Some(x), None),
-        [name, x] if name.as_str() == "--md-pages" => of_options(None, Some(x)),
-        [first, x, second, y]
-            if first.as_str() == "--cluster" && second.as_str() == "--md-pages" =>
-        {
-            of_options(Some(x), Some(y))
+        [name, x] if name.as_str() == "--cluster" => of_options(Some(x.as_str()), None),
+        [name, x] if name.as_str() == "--md-pages" => of_options(None, Some(x.as_str())),
+        [a, x, b, y] if a.as_str() == "--cluster" && b.as_str() == "--md-pages" => {
+            of_options(Some(x.as_str()), Some(y.as_str()))
         }
-        [first, x, second, y]
-            if first.as_str() == "--md-pages" && second.as_str() == "--cluster" =>
-        {
-            of_options(Some(y), Some(x))
+        [a, x, b, y] if a.as_str() == "--md-pages" && b.as_str() == "--cluster" => {
+            of_options(Some(y.as_str()), Some(x.as_str()))
         }
         _ => None,
     }

@@ -34,11 +34,7 @@ fn write_pages<D: PageDisk>(
 }
 
 /// Writes zeros to all metadata pages, and then the masks.
-fn write_regions<D: PageDisk>(
-    disk: &mut D,
-    layout: &Layout,
-    masks: Masks,
-) -> Result<(), DiskFault>
+fn write_regions<D: PageDisk>(disk: &mut D, layout: &Layout, masks: Masks) -> Result<(), DiskFault>
     requires planned { IsPlanned layout.now }
     requires masks { masks ≡ new_masks layout.now }
     requires device { D.pages disk.old ≡ layout.now.device_pages }

@@ -7,6 +7,8 @@ mod content;
 #[cfg(test)]
 mod crash_tests;
 mod driver;
+#[cfg(test)]
+mod format_tests;
 mod format_words;
 mod formatting;
 mod head_page;
