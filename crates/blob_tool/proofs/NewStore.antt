@@ -1,8 +1,8 @@
 -- A new store is written, and what is loaded of it.
-use Rattle.std.proofs.Common.{◌≡◌, ◌≢◌, ℕ, ◌+◌, ◌<◌, ◌≤◌, false, List, Option, Some, None, refl, sym, ap, subst, ◌∙◌, inl, inr, ⊎_elim, arith, IsTrue}
+use Rattle.std.proofs.Common.{◌≡◌, ◌≢◌, ℕ, ◌+◌, ◌<◌, false, List, Option, Some, None, refl, sym, ap, subst, ◌∙◌, inl, inr, arith, IsTrue}
 use Rattle.std.proofs.lemmas.Bool.{cases_lt}
 use Rattle.crc32c.proofs.Zeros.{is_sound-zeros}
-use Rattle.page_disk.specs.Disk.{Image, Images, Telling, with_page}
+use Rattle.page_disk.specs.Disk.{Image, Telling, with_page}
 use Rattle.page_disk.specs.Moments.{IsReplaced, LeavesOnly}
 use Rattle.page_disk.specs.declared.disk.PageDisk.{Ghosts}
 use Rattle.page_disk.proofs.Images.{with_page-here, with_page-elsewhere}
@@ -16,10 +16,10 @@ use Rattle.super_block.specs.declared.page.Super.{Super}
 use Rattle.blob_meta.specs.declared.meta.Meta.{Meta}
 use Rattle.store_model.specs.Maps.{Metas}
 use Rattle.store_model.specs.Scans.{is_head}
-use Rattle.blob_tool.specs.Filling.{IsAnyBut, IsOutside, SameBut, WritesOnly}
+use Rattle.blob_tool.specs.Filling.{SameBut, WritesOnly}
 use Rattle.blob_tool.specs.Formatted.{end_of, first_super, no_blob, zero_page, HasNewRegions, IsNewStore, IsUnderWay, LoadsEmpty, Writes}
 use Rattle.blob_tool.specs.Holds.{Holds}
-use Rattle.blob_tool.specs.Loaded.{HeadSays, IsAccepted, SuperAt}
+use Rattle.blob_tool.specs.Loaded.{HeadSays, IsAccepted}
 use Rattle.blob_tool.proofs.Holding.{holds_accepted}
 
 -- ---- the super block's page

@@ -1,10 +1,9 @@
 -- What a new store is on its device, and what `format` came to, by its status.
-use Rattle.std.specs.Prelude.{◌≡◌, ◌⊎◌, ℕ, ◌+◌, ◌-◌, ◌^◌, ◌<◌, ◌≤◌, List, ◌++◌, Option, Some, None, replicate, IsTrue}
+use Rattle.std.specs.Prelude.{◌≡◌, ◌⊎◌, ℕ, ◌+◌, ◌-◌, ◌^◌, ◌<◌, List, ◌++◌, Option, Some, None, replicate, IsTrue}
 use Rattle.bit_array.specs.Mask.{mask_text, page_of}
 use Rattle.page_disk.specs.Disk.{Image, Images, Only, Rose}
 use Rattle.page_disk.specs.Moments.{LeavesOnly}
 use Rattle.page_disk.specs.declared.disk.PageDisk as disk
-use Rattle.super_block.specs.Faults.{first_fault}
 use Rattle.super_block.specs.Layout.{layout_of, md_pages_of, new_masks, new_super, plan_fault}
 use Rattle.super_block.specs.Page.{super_bytes, super_of}
 use Rattle.super_block.specs.declared.layout.Layout.{Layout}

@@ -10,7 +10,7 @@ use std::test::Fail as TestFail;
 /// The status of `format IMAGE` with these options, and the device.
 fn format<D: PageDisk + Drop + Send>(
     alloc: Global,
-    options: &[&str],
+    options: &str,
     out: &mut ListSink,
     disk: D,
 ) -> Result<(Status, D), TestFail> {
@@ -18,7 +18,7 @@ fn format<D: PageDisk + Drop + Send>(
         format!(in alloc; "format")?,
         format!(in alloc; "store.img")?,
     ]?;
-    for option in options {
+    for option in options.split_whitespace() {
         words.push(format!(in alloc; "{option}")?)?;
     }
     let mut script = source(alloc, b"no script", Vec::new(alloc))?;
@@ -42,54 +42,49 @@ fn number(status: &Status) -> u8 {
 #[test]
 fn options_decide_the_layout(rt: HostRuntime) -> Result<(), TestFail> {
     let alloc = rt.alloc();
-    let table: [(u64, &[&str], u8, &[u8]); 22] = [
+    let table: [(u64, &str, u8, &[u8]); 22] = [
         (
             64,
-            &["--cluster", "16384"],
+            "--cluster 16384",
             0,
             b"clusters 16 free 11 pages 16 free 16\n",
         ),
         (
             20,
-            &["--cluster", "16384", "--md-pages", "16"],
+            "--cluster 16384 --md-pages 16",
             0,
             b"clusters 5 free 0 pages 16 free 16\n",
         ),
         (
             20,
-            &["--md-pages", "16", "--cluster", "16384"],
+            "--md-pages 16 --cluster 16384",
             0,
             b"clusters 5 free 0 pages 16 free 16\n",
         ),
-        (1024, &[], 0, b"clusters 4 free 3 pages 4 free 4\n"),
+        (1024, "", 0, b"clusters 4 free 3 pages 4 free 4\n"),
         (
             512,
-            &["--md-pages", "300"],
+            "--md-pages 300",
             0,
             b"clusters 2 free 0 pages 300 free 300\n",
         ),
-        (19, &["--cluster", "16384", "--md-pages", "16"], 3, b""),
-        (0, &[], 3, b""),
-        (64, &["--cluster", "17592186040320"], 3, b""),
-        (64, &["--cluster", "17592186044416"], 1, b""),
-        (64, &["--md-pages", "4294967295"], 3, b""),
-        (64, &["--md-pages", "4294967296"], 1, b""),
-        (64, &["--cluster", "4097"], 1, b""),
-        (64, &["--cluster", "0"], 1, b""),
-        (64, &["--md-pages", "0"], 1, b""),
-        (64, &["--cluster", "016384"], 1, b""),
-        (64, &["--md-pages", "+16"], 1, b""),
-        (64, &["--cluster", "16384", "--cluster", "16384"], 1, b""),
-        (64, &["--md-pages", "16", "--md-pages", "16"], 1, b""),
-        (64, &["--cluster"], 1, b""),
-        (64, &["--clusters", "16384"], 1, b""),
-        (64, &["--cluster", "16384", "--md-pages"], 1, b""),
-        (
-            64,
-            &["--cluster", "16384", "--md-pages", "16", "16"],
-            1,
-            b"",
-        ),
+        (19, "--cluster 16384 --md-pages 16", 3, b""),
+        (0, "", 3, b""),
+        (64, "--cluster 17592186040320", 3, b""),
+        (64, "--cluster 17592186044416", 1, b""),
+        (64, "--md-pages 4294967295", 3, b""),
+        (64, "--md-pages 4294967296", 1, b""),
+        (64, "--cluster 4097", 1, b""),
+        (64, "--cluster 0", 1, b""),
+        (64, "--md-pages 0", 1, b""),
+        (64, "--cluster 016384", 1, b""),
+        (64, "--md-pages +16", 1, b""),
+        (64, "--cluster 16384 --cluster 16384", 1, b""),
+        (64, "--md-pages 16 --md-pages 16", 1, b""),
+        (64, "--cluster", 1, b""),
+        (64, "--clusters 16384", 1, b""),
+        (64, "--cluster 16384 --md-pages", 1, b""),
+        (64, "--cluster 16384 --md-pages 16 16", 1, b""),
     ];
     for (pages, options, answered, printed) in table {
         let mut out = sink(alloc, Vec::new(alloc))?;
@@ -106,7 +101,7 @@ fn options_decide_the_layout(rt: HostRuntime) -> Result<(), TestFail> {
 fn a_new_store_is_empty_and_is_loaded_without_a_write(rt: HostRuntime) -> Result<(), TestFail> {
     let alloc = rt.alloc();
     let mut out = sink(alloc, Vec::new(alloc))?;
-    let (_, mut disk) = format(alloc, &["--cluster", "16384"], &mut out, store(alloc)?)?;
+    let (_, mut disk) = format(alloc, "--cluster 16384", &mut out, store(alloc)?)?;
     let mut page = [0; 4096];
     assert!(rt; 3 < disk.pages());
     disk.read(0, &mut page)?;
@@ -137,7 +132,7 @@ fn a_new_store_is_empty_and_is_loaded_without_a_write(rt: HostRuntime) -> Result
 #[test]
 fn a_failed_call_has_its_status(rt: HostRuntime) -> Result<(), TestFail> {
     let alloc = rt.alloc();
-    let options = ["--cluster", "16384"];
+    let options = "--cluster 16384";
     let table = [
         (CallKind::Write, 1, 6),
         (CallKind::Write, 19, 6),
@@ -151,12 +146,12 @@ fn a_failed_call_has_its_status(rt: HostRuntime) -> Result<(), TestFail> {
     for (kind, nth, answered) in table {
         let failing = FaultDisk::new(store(alloc)?, vec![in alloc; Fail { kind, nth }]?);
         let mut out = sink(alloc, Vec::new(alloc))?;
-        let (status, _) = format(alloc, &options, &mut out, failing)?;
+        let (status, _) = format(alloc, options, &mut out, failing)?;
         assert_eq!(rt; number(&status), answered);
         assert_eq!(rt; out.bytes().is_empty(), answered != 0);
     }
     let mut closed = sink(alloc, vec![in alloc; 1]?)?;
-    let (unprinted, disk) = format(alloc, &options, &mut closed, store(alloc)?)?;
+    let (unprinted, disk) = format(alloc, options, &mut closed, store(alloc)?)?;
     assert_eq!(rt; number(&unprinted), 5);
     let mut out = sink(alloc, Vec::new(alloc))?;
     let (status, _) = run(alloc, b"", &mut out, disk)?;
@@ -168,8 +163,8 @@ fn a_failed_call_has_its_status(rt: HostRuntime) -> Result<(), TestFail> {
 fn a_store_without_place_says_why(rt: HostRuntime) -> Result<(), TestFail> {
     let alloc = rt.alloc();
     let mut out = sink(alloc, Vec::new(alloc))?;
-    let options = ["--cluster", "16384", "--md-pages", "16"];
-    let (status, disk) = format(alloc, &options, &mut out, MemDisk::new(alloc, 19, 64)?)?;
+    let options = "--cluster 16384 --md-pages 16";
+    let (status, disk) = format(alloc, options, &mut out, MemDisk::new(alloc, 19, 64)?)?;
     let fault = match &status {
         Status::Image { fault } => format!(in alloc; "{fault}")?,
         _ => format!(in alloc; "no fault of the image")?,

@@ -1,5 +1,4 @@
-use Rattle.std.proofs.Common.{◌≡◌, ◌+◌, ◌≤◌, arith}
-use Rattle.super_block.specs.Placed.{IsLaidOut}
+use Rattle.std.proofs.Common.{◌+◌, arith}
 use Rattle.blob_tool.specs.Filling.{WritesOnly}
 use Rattle.blob_tool.specs.Formatted.{end_of}
 use Rattle.blob_tool.proofs.Filling.{none_written, written_after}

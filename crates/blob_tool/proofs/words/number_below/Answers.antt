@@ -1,4 +1,4 @@
-use Rattle.std.proofs.Common.{◌≡◌, ◌<◌, ◌≤◌, ◌^◌, List, ℕ, None, Ok, sym, subst, rules, arith, decimal}
+use Rattle.std.proofs.Common.{◌≡◌, ◌<◌, List, ℕ, None, Ok, sym, subst, rules, arith, decimal}
 use Rattle.std.specs.Str.Parse.{ParsesUnsigned}
 use Rattle.std.specs.declared.num.ParseIntError.{ParseIntError}
 use Rattle.blob_tool.specs.Script.{number_below}
