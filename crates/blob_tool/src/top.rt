@@ -1,6 +1,6 @@
 //! The whole program, over any source, sink and device.
 
-ghost use Rattle.std.specs.Prelude.{◌≡◌, ◌≤◌, ◌<◌, ◌+◌, ◌^◌, ◌⊎◌, ◌||◌, ℕ, [], length, not, true, false, Some, is_some, IfOk, IfErr, IsTrue};
+ghost use Rattle.std.specs.Prelude.{◌≡◌, ◌≤◌, ◌<◌, ◌+◌, ◌^◌, ◌⊎◌, ◌||◌, ℕ, length, not, true, false, Some, is_some, IfOk, IfErr, IsTrue};
 ghost use Rattle.std.specs.List.{All};
 ghost use Rattle.std.specs.FinMap as map;
 ghost use Rattle.super_block.specs.Faults.{IsFaultless};
