@@ -1,7 +1,7 @@
 //! A set of numbers below a length.
 
-ghost use Rattle.std.specs.Prelude.{◌≡◌, ◌<◌, ◌↔◌, true, false, length, replicate, slice_set, IfOk, IfSome, IsNone};
-ghost use Rattle.bit_array.specs.Bits.{is_in, member_count, IsFull, IsLeastClear};
+ghost use Rattle.std.specs.Prelude.{◌≡◌, ◌≤◌, ◌<◌, ◌↔◌, true, false, length, replicate, slice_set, IfOk, IfSome, IsNone};
+ghost use Rattle.bit_array.specs.Bits.{first_of, is_in, member_count, IsFull, IsLeastClear};
 
 use out_of_memory::Memory;
 use std::alloc::Global;
@@ -38,6 +38,19 @@ impl Bits {
             len,
             count: 0,
         })
+    }
+
+    /// The set of the first `count` numbers below `len`.
+    #[tactic(auto, using(crate::proofs::Firsts::first_of_next))]
+    pub fn of_first(alloc: Global, len: u32, count: u32) -> Result<Bits, Memory>
+        requires { count ≤ len }
+        ensures { IfOk result (λ bits. bits ≡ first_of count len) }
+    {
+        let mut bits = Bits::new(alloc, len)?;
+        for at in 0..count {
+            bits.set(at);
+        }
+        Ok(bits)
     }
 
     /// How many numbers the set can hold: those below this one.

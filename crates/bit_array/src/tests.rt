@@ -18,6 +18,16 @@ fn least_clear_number(rt: HostRuntime) -> Result<(), Fail> {
     Ok(())
 }
 
+#[test]
+fn first_numbers(rt: HostRuntime) -> Result<(), Fail> {
+    let bits = Bits::of_first(rt.alloc(), 16, 5)?;
+    assert_eq!(rt;
+        (bits.len(), bits.count(), bits.first_clear()),
+        (16, 5, Some(5))
+    );
+    Ok(())
+}
+
 /// A set of numbers below `len` with these three.
 fn with(alloc: Global, len: u32, a: u32, b: u32, c: u32) -> Result<Bits, Memory>
     requires a_in { a < len }

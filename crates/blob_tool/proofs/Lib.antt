@@ -17,3 +17,5 @@ pub mod WholeHead
 pub mod Holding
 pub mod WholeRun
 pub mod Ending
+pub mod Filling
+pub mod NewStore

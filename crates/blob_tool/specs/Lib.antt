@@ -8,6 +8,7 @@ pub mod Made
 pub mod Kept
 pub mod Parts
 pub mod Script
+pub mod Format
 pub mod Text
 pub mod Taking
 pub mod Loaded
@@ -16,3 +17,5 @@ pub mod Surviving
 pub mod Statuses
 pub mod Runs
 pub mod Outcome
+pub mod Filling
+pub mod Formatted

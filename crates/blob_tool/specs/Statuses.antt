@@ -44,3 +44,12 @@ abbrev pub IsDone : Status → Type 0
 IsDone status.Good = Unit {0}
 IsDone status.Memory = Unit {0}
 IsDone _ = ⊥
+
+-- those that are answered to `format`
+abbrev pub comes_of_format : Status → Bool
+comes_of_format status.Good = true
+comes_of_format status.OutWrite = true
+comes_of_format (status.Image fault) = true
+comes_of_format (status.Device at) = true
+comes_of_format status.Memory = true
+comes_of_format _ = false

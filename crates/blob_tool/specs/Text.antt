@@ -1,6 +1,7 @@
--- The printed text of a log.
-use Rattle.std.specs.Prelude.{◌≡◌, ℕ, List, [], ◌++◌, Option, Some, None, decimal, codes}
+-- The printed text of a log, and of a new store.
+use Rattle.std.specs.Prelude.{◌≡◌, ℕ, ◌-◌, List, [], ◌++◌, Option, Some, None, decimal, codes}
 use Rattle.std.specs.List.{flat_map}
+use Rattle.super_block.specs.declared.layout.Layout.{Layout}
 use Rattle.volume_model.specs.declared.reply.Reply.{Reply}
 use Rattle.volume_model.specs.declared.reply.Reply.TheVariants as r
 use Rattle.volume_model.specs.declared.reply.Entry.{Entry}
@@ -44,6 +45,11 @@ entry_text entry = decimal entry.channel ++ codes " " ++ decimal entry.index ++ 
 
 abbrev pub log_text : List Entry → List ℕ
 log_text entries = flat_map entry_text entries
+
+-- the clusters and the metadata pages of a new store, how many there are and how many of them are free, and LF
+abbrev pub new_store_text : Layout → List ℕ
+new_store_text plan =
+    codes "clusters " ++ decimal plan.clusters ++ codes " free " ++ decimal (plan.clusters - plan.fixed_clusters) ++ codes " pages " ++ decimal plan.md_pages ++ codes " free " ++ decimal plan.md_pages ++ codes "\n"
 
 -- what follows a word: a number, or nothing
 abbrev pub number_text : Option ℕ → List ℕ

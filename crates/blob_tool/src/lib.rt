@@ -3,9 +3,14 @@
 
 #[cfg(test)]
 mod cause_tests;
+mod content;
 #[cfg(test)]
 mod crash_tests;
 mod driver;
+#[cfg(test)]
+mod format_tests;
+mod format_words;
+mod formatting;
 mod head_page;
 #[cfg(test)]
 mod images;

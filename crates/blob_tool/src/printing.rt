@@ -1,4 +1,4 @@
-//! Printing a log.
+//! Printing a log, or another text.
 
 ghost use Rattle.std.specs.Prelude.{◌≡◌, ◌≤◌, ◌++◌, IsTrue, OnOk, Err};
 ghost use Rattle.std.specs.List.{All};
@@ -47,7 +47,7 @@ impl From<SinkFault> for PrintFault {
 }
 
 /// Offers the sink a text until it has taken all of it, and each time what it has left.
-fn offer<K: Sink>(text: &[u8], sink: &mut K) -> Result<(), SinkFault>
+pub fn offer<K: Sink>(text: &[u8], sink: &mut K) -> Result<(), SinkFault>
     ensures whole { IsTrue K.tells → OnOk result (K.written sink.new ≡ K.written sink.old ++ text.now) }
     ensures part { IsTrue K.tells → IsPartOf (K.written sink.old) (K.written sink.new) text.now }
     ensures faults { Caused (K.faults sink.old) (K.faults sink.new) result }

@@ -14,13 +14,13 @@ pub enum Status {
     Usage,
     /// The first line of the script, from 1, that holds no command; line 0 is a script of more than 1,048,576 bytes.
     Script { line: u32, kind: LineKind },
-    /// The image has no store that this program runs.
+    /// The image has no store that this program runs, or no place for the new store.
     Image { fault: LoadFault },
     /// The script could not be read.
     ScriptRead,
-    /// The log could not be printed.
+    /// The log, or the line of the new store, could not be printed.
     OutWrite,
-    /// The device failed, when the log had so many entries.
+    /// The device failed, when the log had so many entries; there is no log of a new store.
     Device { at: u32 },
     /// Memory ran out.
     Memory,

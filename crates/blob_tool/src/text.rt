@@ -1,10 +1,12 @@
-//! The printed text of a log's entries.
+//! The printed text of a log's entries, and of a new store.
 
 ghost use Rattle.std.specs.Prelude.{◌≡◌, ◌++◌, length, take, decimal, OnOk, OnErr};
-ghost use Rattle.blob_tool.specs.Text.{IsShort, reply_text, number_text, entry_text};
+ghost use Rattle.blob_tool.specs.Text.{IsShort, reply_text, number_text, entry_text, new_store_text};
+ghost use Rattle.super_block.specs.Layout.{IsPlanned};
 
 use itoa::Buffer;
 use out_of_memory::Memory;
+use super_block::Layout;
 use volume_model::{Entry, Reply};
 
 /// The words of a short reply, and the number that follows them.
@@ -74,6 +76,27 @@ pub fn render_entry(entry: &Entry, into: &mut Vec<u8>) -> Result<(), Memory>
     push_number(entry.index, into)?;
     into.push(b' ')?;
     render_reply(&entry.reply, into)?;
+    into.push(b'\n')?;
+    Ok(())
+}
+
+/// Appends words and a number.
+fn push_count(words: &[u8], number: u32, into: &mut Vec<u8>) -> Result<(), Memory>
+    ensures { OnOk result (into.new.items ≡ into.old.items ++ words.now ++ decimal number) }
+{
+    into.extend_from_slice(words)?;
+    push_number(number, into)
+}
+
+/// Appends the line of a new store: its clusters and its metadata pages, how many there are and how many of them are free.
+pub fn render_new_store(layout: &Layout, into: &mut Vec<u8>) -> Result<(), Memory>
+    requires { IsPlanned layout.now }
+    ensures { OnOk result (into.new.items ≡ into.old.items ++ new_store_text layout.now) }
+{
+    push_count(b"clusters ", layout.clusters, into)?;
+    push_count(b" free ", layout.free_clusters(), into)?;
+    push_count(b" pages ", layout.md_pages, into)?;
+    push_count(b" free ", layout.md_pages, into)?;
     into.push(b'\n')?;
     Ok(())
 }

@@ -1,8 +1,8 @@
-//! The words of a script.
+//! The words of a script, and numbers.
 
-ghost use Rattle.std.specs.Prelude.{◌≡◌, IfOk, IfSome};
+ghost use Rattle.std.specs.Prelude.{◌≡◌, ◌<◌, IfOk, IfSome};
 ghost use Rattle.std.specs.Option.{option_copied};
-ghost use Rattle.blob_tool.specs.Script.{number_in, head_in, is_visible as visible_said, key_in, value_in, command_at as command_said};
+ghost use Rattle.blob_tool.specs.Script.{number_below as number_below_said, number_in, head_in, is_visible as visible_said, key_in, value_in, command_at as command_said};
 ghost use Rattle.blob_tool.specs.Answers.{IsHeadPut};
 
 use crate::parts::Parts;
@@ -11,20 +11,31 @@ use out_of_memory::Memory;
 use std::alloc::Global;
 use volume_model::{Blobtext, Command, VolumeRef};
 
-/// A number below 2^32, in decimal without sign or leading zero.
-fn number(word: &[u8]) -> Option<u32>
-    ensures { result ≡ number_in word.now }
+/// A number below a limit, in decimal without sign or leading zero.
+pub fn number_below(limit: u64, word: &[u8]) -> Option<u64>
+    ensures number { result ≡ number_below_said limit word.now }
+    ensures below { IfSome result (λ number. number < limit) }
 {
     let Ok(text) = str::from_utf8(word) else {
         return None;
     };
-    let Ok(number) = text.parse::<u32>() else {
+    let Ok(number) = text.parse::<u64>() else {
         return None;
     };
-    if Buffer::new().format(number).as_bytes() == word {
+    if number < limit && Buffer::new().format(number).as_bytes() == word {
         Some(number)
     } else {
         None
+    }
+}
+
+/// A number below 2^32.
+fn number(word: &[u8]) -> Option<u32>
+    ensures { result ≡ number_in word.now }
+{
+    match number_below(1 << 32, word) {
+        Some(number) => Some(number as u32),
+        None => None,
     }
 }
 

@@ -39,6 +39,10 @@ impl Ending {
     }
 }
 
+/// The commands.
+const USAGE: &str =
+    "usage: blobtool run IMAGE, or blobtool format IMAGE [--cluster BYTES] [--md-pages N]";
+
 /// What is wrong with a line, in words.
 fn wrong(kind: LineKind) -> &'static str {
     match kind {
@@ -57,7 +61,7 @@ impl Display for Ending {
     fn fmt<W: Write>(&self, f: &mut Formatter<W>) -> Result {
         match self {
             Ending::Ran(Status::Good) => write!(f, "done"),
-            Ending::Ran(Status::Usage) => write!(f, "usage: blobtool run IMAGE"),
+            Ending::Ran(Status::Usage) => write!(f, "{USAGE}"),
             Ending::Ran(Status::Script { line: 0, .. }) => write!(f, "the script is too big"),
             Ending::Ran(Status::Script { line, kind }) => {
                 write!(f, "line {line} of the script: {}", wrong(*kind))
@@ -97,7 +101,11 @@ mod tests {
         };
         let cases = [
             (Ending::Ran(Status::Good), 0, "done"),
-            (Ending::Ran(Status::Usage), 1, "usage: blobtool run IMAGE"),
+            (
+                Ending::Ran(Status::Usage),
+                1,
+                "usage: blobtool run IMAGE, or blobtool format IMAGE [--cluster BYTES] [--md-pages N]",
+            ),
             (Ending::NotText, 1, "a word is not UTF-8"),
             (
                 Ending::Ran(script),

@@ -4,7 +4,7 @@ use Rattle.std.specs.Prelude.{cond, find, option_map, nat_lt, ◌==◌, ◌&&◌
 use Rattle.std.proofs.lemmas.Bool.{lt-ltb, le-leb, leb-true, ltb-true, and_parts}
 use Rattle.std.proofs.lemmas.Bool.Decides.{nat_tests}
 use Rattle.std.proofs.lemmas.Grind.{div_ceil_times}
-use Rattle.std.proofs.Math.Nat.{mul-div-mul_right, mul-div_cancel, mul-le-mul, mul-le-mul_right, lt-div-mul-add}
+use Rattle.std.proofs.Math.Nat.{mul-div-mul_right, mul-div_cancel, mul-le-mul, mul-le-mul_right, lt-div-mul-add, div-mul-le_self}
 use Rattle.super_block.specs.declared.fault.SuperFault.{SuperFault}
 use Rattle.super_block.specs.declared.fault.SuperFault.TheVariants.{PastEnd, Overlap}
 use Rattle.super_block.specs.declared.layout.Layout.{Layout}
@@ -13,6 +13,7 @@ use Rattle.super_block.specs.Span.{end_of, shares}
 use Rattle.super_block.specs.Numbers.{cluster_pages_of, clusters_of, super_page, page_mask, cluster_mask, blob_mask, md_region, placed}
 use Rattle.super_block.specs.Faults.{first_fault, tests, fault_of, unless, past, short, overlap, overlap_with, signature_fault, version_fault, page_size_fault, cluster_size_fault, pages_fault, clusters_fault, size_fault, past_fault, mask_fault, overlap_fault}
 use Rattle.super_block.specs.Layout.{layout_of, cluster_pages_fault, room_fault, plan_fault, IsPlanned, new_super}
+use Rattle.super_block.specs.Placed.{IsLaidOut}
 use Rattle.super_block.proofs.Passed.{AllPass, all_pass, holds, few_clusters}
 
 passes : (test : Bool) (fault : SuperFault) → test ≡ true → unless test fault ≡ None
@@ -146,3 +147,24 @@ few_bytes plan is =
     let k : plan.cluster_pages ≤ 2 ^ 20 = let lt = p.few_pages in omega arith in
     let whole : plan.device_pages < plan.device_pages / plan.cluster_pages * plan.cluster_pages + plan.cluster_pages = lt-div-mul-add p.some_pages in
     (p.few_pages, omega (arith, whole, mul-le-mul few k))
+
+laid_out-new : (d k md : ℕ) → plan_fault d k md ≡ None → IsLaidOut (layout_of d k md)
+unfolding layout_of
+laid_out-new d k md none =
+    let p = plans d k md none in
+    let room = room-new d k md p in
+    let device = div-mul-le_self d k in
+    record {
+      page_mask_start = refl;
+      page_mask_len = refl;
+      cluster_mask_start = refl;
+      cluster_mask_len = refl;
+      blob_mask_start = refl;
+      blob_mask_len = refl;
+      md_start = refl;
+      inside = omega (arith, room, device);
+      fixed_clusters = p.room;
+    }
+
+pub laid_out : (plan : Layout) → IsPlanned plan → IsLaidOut plan
+laid_out plan is = subst IsLaidOut (sym is.value) (laid_out-new plan.device_pages plan.cluster_pages plan.md_pages is.no_fault)

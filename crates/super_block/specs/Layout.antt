@@ -1,9 +1,11 @@
 -- The layout of a new store. Numbers are without bound.
-use Rattle.std.specs.Prelude.{List, ◌≡◌, None, codes, replicate, ℕ, ◌+◌, ◌*◌, ◌/◌, ◌^◌, nat_lt, nat_le, ◌&&◌, [], ◌∷◌, Option, unwrap_or}
+use Rattle.std.specs.Prelude.{List, ◌≡◌, false, None, codes, replicate, ℕ, ◌+◌, ◌*◌, ◌/◌, ◌^◌, nat_lt, nat_le, ◌&&◌, [], ◌∷◌, Option, unwrap_or}
 use Rattle.std.specs.Int.{div_ceil}
+use Rattle.bit_array.specs.Bits.{first_of}
 use Rattle.bit_array.specs.Mask.{mask_pages}
 use Rattle.super_block.specs.declared.page.Super.{Super}
 use Rattle.super_block.specs.declared.layout.Layout.{Layout}
+use Rattle.super_block.specs.declared.masks.Masks.{Masks}
 use Rattle.super_block.specs.declared.fault.SuperFault.{SuperFault}
 use Rattle.super_block.specs.declared.fault.SuperFault.TheVariants.{BadClusterSize, DeviceTooSmall}
 use Rattle.super_block.specs.Faults.{first_fault, unless, in_u32, pages_fault, clusters_fault}
@@ -78,4 +80,12 @@ new_super plan super_blob bstype = record {
   md_page_size = 0;
   rest = replicate 3996 0;
   crc = 0;
+}
+
+-- the masks of a new store: the fixed clusters are used, every metadata page is free, and no blob begins anywhere
+abbrev pub new_masks : Layout → Masks
+new_masks plan = record {
+  pages = replicate plan.md_pages false;
+  clusters = first_of plan.fixed_clusters plan.clusters;
+  blobs = replicate plan.md_pages false;
 }

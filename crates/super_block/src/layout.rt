@@ -1,12 +1,13 @@
 //! The layout of a new store.
 
-ghost use Rattle.std.specs.Prelude.{◌≡◌, ◌≤◌, ◌<◌, ◌/◌, ◌*◌, ◌^◌, IfOk, IfErr, OnOk, Some, None};
+ghost use Rattle.std.specs.Prelude.{◌≡◌, ◌≤◌, ◌<◌, ◌-◌, ◌/◌, ◌*◌, ◌^◌, IfOk, IfErr, OnOk, Some, None};
 ghost use Rattle.std.specs.Result.{result_err};
 ghost use Rattle.super_block.specs.Faults.{IsFaultless};
 ghost use Rattle.super_block.specs.Layout.{IsPlanned, cluster_pages_fault, layout_of, md_pages_of, new_super, plan_fault, room_fault};
 
 use crate::checks::{SIGNATURE, VERSION, check_clusters, check_pages, in_u32};
 use crate::fault::SuperFault;
+use crate::laws::layouts_are_placed;
 use crate::numbers::clusters_before;
 use crate::page::Super;
 use bit_array::mask_pages;
@@ -61,6 +62,15 @@ impl Layout {
         let layout = Layout::of(device_pages, cluster_pages, md_pages as u32);
         layout.check_room()?;
         Ok(layout)
+    }
+
+    /// The clusters of a new store that are free: all but the fixed ones.
+    pub fn free_clusters(&self) -> u32
+        requires { IsPlanned self.now }
+        ensures { result ≡ self.now.clusters - self.now.fixed_clusters }
+    {
+        layouts_are_placed();
+        self.clusters - self.fixed_clusters
     }
 
     /// The super block that a new store with this layout begins with. `super_blob` is the id of the super blob, or 2^64 - 1

@@ -11,7 +11,7 @@ mod page;
 mod span;
 
 pub use fault::{Region, SuperFault};
-pub use laws::{regions_are_placed, shared_pages};
+pub use laws::{layouts_are_placed, regions_are_placed, shared_pages};
 pub use layout::Layout;
 pub use masks::Masks;
 pub use page::{ROWS, Super, read_super, rows_tile, write_super};

@@ -1,4 +1,4 @@
-use crate::{Layout, Region, Super, SuperFault, read_super, write_super};
+use crate::{Layout, Masks, Region, Super, SuperFault, read_super, write_super};
 use std::process::Abort;
 use std::test::Fail;
 
@@ -300,6 +300,18 @@ fn stores_are_planned(rt: HostRuntime) -> Result<(), Fail> {
     let mut wanted = [0; 4096];
     write_super(&small(), &mut wanted);
     assert!(rt; planned == wanted);
+    Ok(())
+}
+
+#[test]
+fn the_fixed_clusters_of_a_new_store_are_used(rt: HostRuntime) -> Result<(), Fail> {
+    let layout = Layout::plan(64, 4, Some(16))?;
+    let masks = Masks::new(rt.alloc(), &layout)?;
+    assert_eq!(rt; (masks.clusters.len(), masks.clusters.count()), (16, 5));
+    assert_eq!(rt; masks.clusters.first_clear(), Some(5));
+    assert_eq!(rt; (masks.pages.len(), masks.pages.count()), (16, 0));
+    assert_eq!(rt; (masks.blobs.len(), masks.blobs.count()), (16, 0));
+    assert_eq!(rt; layout.free_clusters(), 11);
     Ok(())
 }
 
