@@ -1,6 +1,9 @@
 //! The plain slow machine: volumes as whole lists of pages, by which tests judge what a store answers.
 
+mod attributes;
 mod looking;
+mod pages;
+mod refusals;
 mod rows;
 
 use rows::Volume;

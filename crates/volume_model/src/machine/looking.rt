@@ -1,6 +1,6 @@
 //! Which volume is meant, and what the volumes say together.
 
-ghost use Rattle.std.specs.Prelude.{◌≡◌, ◌≤◌, ℕ, Some, None, false, IsSome, IfSome, IfOk, IfErr, length};
+ghost use Rattle.std.specs.Prelude.{◌≡◌, ◌<◌, ◌^◌, ℕ, Some, None, false, IsSome, IfSome, IfOk, IfErr, length};
 ghost use Rattle.std.specs.Option.{option_map_or};
 ghost use Rattle.volume_model.specs.Machine.{volumes_in};
 ghost use Rattle.volume_model.specs.Plain.{volume_of};
@@ -114,7 +114,7 @@ impl Volumes {
     /// The heads of the volumes whose parent this is.
     pub(super) fn clones(&self, alloc: Global, head: u32) -> Result<Vec<u32>, Memory>
         ensures heads { IfOk result (λ clones. clones.items ≡ v.clones self.now.fixed (volumes_in self.now) head) }
-        ensures few { IfOk result (λ clones. length clones.items ≤ self.now.fixed.md_len) }
+        ensures few { IfOk result (λ clones. length clones.items < 2 ^ 32) }
     {
         Ok((0..self.md_len)
             .filter(|clone| self.is_clone_of(*clone, head))

@@ -35,6 +35,17 @@ impl Volumes {
         }
     }
 
+    /// The volume at a head that is in use.
+    pub(super) fn at(&self, head: u32) -> &Volume
+        requires { IsSome (volumes_in self.now head) }
+        ensures { volumes_in self.now head ≡ Some (volume_of result.now) }
+    {
+        match self.get(head) {
+            Some(volume) => volume,
+            None => unreachable!(),
+        }
+    }
+
     /// The lowest head that isn't in use.
     pub(super) fn free_head(&self) -> Result<u32, Memory>
         ensures least { IfOk result (λ h. IsLeastFree (volumes_in self.now) h) }
