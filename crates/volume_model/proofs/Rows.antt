@@ -9,7 +9,7 @@ use Rattle.std.proofs.lemmas.Bool.{cases_lt, false≢true}
 use Rattle.std.proofs.lemmas.Option.{slice_get_past}
 use Rattle.volume_model.specs.Volumes.{Volume, Volumes, Fixed}
 use Rattle.volume_model.specs.Machine.{Machine, volumes_in, IsPut, IsLeastFree}
-use Rattle.volume_model.specs.Plain.{volume_of}
+use Rattle.volume_model.specs.Plain.{volume_of, adopted, adopted_row}
 use Rattle.volume_model.specs.declared.machine.rows.Volume as row
 use Rattle.volume_model.proofs.Others.{differs}
 
@@ -46,6 +46,14 @@ either {A} xs ys h o same other k = elim (eqb_tells k h) [
   | inr apart ↦ rw apart.0 (ap flat (other k apart.1))
 ]
 
+one_adopted : (h : ℕ) (parent : Option ℕ) (o : Option row.Volume) → option_map volume_of (option_map (adopted_row h parent) o) ≡ option_map (adopted h parent) (option_map volume_of o)
+one_adopted h parent None = refl
+one_adopted h parent (Some x) = refl
+
+all_adopted : (h : ℕ) (parent : Option ℕ) (rows : List (Option row.Volume)) → map (option_map volume_of) (map (option_map (adopted_row h parent)) rows) ≡ map (option_map (adopted h parent)) (map (option_map volume_of) rows)
+all_adopted h parent [] = refl
+all_adopted h parent (o ∷ rows) = ap (λ x. x ∷ map (option_map volume_of) (map (option_map (adopted_row h parent)) rows)) (one_adopted h parent o) ∙ ap (λ xs. option_map (adopted h parent) (option_map volume_of o) ∷ xs) (all_adopted h parent rows)
+
 abbrev pub holding : Fixed → List (Option row.Volume) → Machine
 holding fixed rows = record { fixed = fixed; rows = map (option_map volume_of) rows }
 
@@ -80,3 +88,6 @@ module _ (fixed : Fixed) (rows : List (Option row.Volume)) (m : Machine) (is : h
       let done = either mapped (mapped ++ o ∷ []) h o same (λ k ne. get_push_other mapped k o (λ e. ne (e ∙ sym at_end))) in
       let P : Machine → Type 0 = λ y. IsPut y h (Some (volume_of x)) (holding fixed (rows ++ Some x ∷ [])) in
       subst P is (record { fixed = refl; after = λ k. rw map-append (done k) })
+
+  pub adopt_all : (h : ℕ) (parent : Option ℕ) → map (option_map volume_of) (map (option_map (adopted_row h parent)) rows) ≡ map (option_map (adopted h parent)) m.rows
+  adopt_all h parent = all_adopted h parent rows ∙ ap (λ (x : Machine). map (option_map (adopted h parent)) x.rows) is

@@ -1,6 +1,6 @@
 //! Which volume is meant, and what the volumes say together.
 
-ghost use Rattle.std.specs.Prelude.{◌≡◌, ◌<◌, ◌^◌, ℕ, Some, None, false, IsSome, IfSome, IfOk, IfErr, length};
+ghost use Rattle.std.specs.Prelude.{◌≡◌, ◌<◌, ◌≤◌, ◌^◌, ◌*◌, ℕ, Some, None, false, IsSome, IfSome, IfOk, IfErr, length};
 ghost use Rattle.std.specs.Option.{option_map_or};
 ghost use Rattle.volume_model.specs.Machine.{volumes_in};
 ghost use Rattle.volume_model.specs.Plain.{volume_of};
@@ -79,6 +79,14 @@ impl Volumes {
         ensures { result ≡ v.slots_of self.now.fixed (volume_of volume.now) }
     {
         volume.pages.len() as u64 / u64::from(self.cluster_pages)
+    }
+
+    /// How many pages so many slots have.
+    pub(super) fn pages_in(&self, slots: u64) -> u64
+        requires { slots ≤ 2 ^ 20 }
+        ensures { result ≡ slots * self.now.fixed.cluster_pages }
+    {
+        slots * u64::from(self.cluster_pages)
     }
 
     /// How many slots the volume at a head has; 0 where there is none.

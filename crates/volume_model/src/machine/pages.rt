@@ -88,7 +88,7 @@ impl Volumes {
         ensures { Answers self.old (c.Resize volume.now slots) result self.new }
     {
         let head = self.may_resize(volume, slots)?;
-        let count = slots * u64::from(self.cluster_pages);
+        let count = self.pages_in(slots);
         let pages = resized(alloc, self.at(head).pages.as_slice(), count)?;
         let mut x = self.take(head);
         x.pages = pages;
