@@ -6,6 +6,7 @@ use Rattle.volume_model.specs.Refusals.{refusal}
 use Rattle.volume_model.specs.Steps.{Step}
 use Rattle.volume_model.specs.declared.command.VolumeRef.{VolumeRef}
 use Rattle.volume_model.specs.declared.command.Command.{Command}
+use Rattle.volume_model.specs.declared.command.Command.TheVariants as c
 use Rattle.volume_model.specs.declared.reply.Reply.{Reply}
 use Rattle.volume_model.specs.declared.reply.Reply.TheVariants as r
 
@@ -36,6 +37,26 @@ IsPlain r.ReadFault = ⊥
 IsPlain r.Fault = ⊥
 IsPlain (r.Stopped at) = ⊥
 IsPlain _ = Unit {0}
+
+-- the reply of a verb that is done
+abbrev pub IsDone : Reply → Type 0
+IsDone r.Ok = Unit {0}
+IsDone (r.Made h) = Unit {0}
+IsDone (r.Content page) = Unit {0}
+IsDone (r.Value value) = Unit {0}
+IsDone (r.Info info) = Unit {0}
+IsDone (r.List list) = Unit {0}
+IsDone (r.Df df) = Unit {0}
+IsDone _ = ⊥
+
+-- the machine does these where it is, and makes nothing that it has to find room for
+abbrev pub TakesNoMemory : Command → Type 0
+TakesNoMemory (c.Write volume page word) = Unit {0}
+TakesNoMemory c.Flush = Unit {0}
+TakesNoMemory (c.Inflate volume) = Unit {0}
+TakesNoMemory (c.Decouple volume) = Unit {0}
+TakesNoMemory c.Df = Unit {0}
+TakesNoMemory _ = ⊥
 
 -- the reply of a cause
 abbrev pub IsCause : Reply → Type 0
@@ -77,7 +98,7 @@ pub record Does (m : Machine) (command : Command) (reply : Reply) (n : Machine) 
   pub fixed : n.fixed ≡ m.fixed
   pub step : Step m.fixed (volumes_in m) command reply (volumes_in n)
   pub least : IsMadeAtLeast (volumes_in m) reply
-  pub plain : IsPlain reply
+  pub answered : IsDone reply
 
 -- a verb's answer: the reply of what is done, or the reply for which nothing is
 abbrev pub Answers : Machine → Command → Result Reply Reply → Machine → Type 0

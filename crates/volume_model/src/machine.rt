@@ -41,8 +41,8 @@ impl Model for Volumes {
 }
 
 impl Volumes {
-    ghost use Rattle.std.specs.Prelude.{◌⊎◌, ◌≡◌, ◌<◌, ℕ, []};
-    ghost use Rattle.volume_model.specs.Machine.{volumes_in, Answers, IsLeastFree, IsPlain};
+    ghost use Rattle.std.specs.Prelude.{◌⊎◌, ◌≡◌, ◌≢◌, ◌<◌, ℕ, [], IfErr};
+    ghost use Rattle.volume_model.specs.Machine.{volumes_in, Answers, IsCause, IsLeastFree, IsPlain, TakesNoMemory};
     ghost use Rattle.volume_model.specs.Steps.{Step};
     ghost use Rattle.volume_model.specs.declared.reply.Reply.TheVariants as r;
 
@@ -63,12 +63,14 @@ impl Volumes {
 
     /// Does one command. The reply and what the volumes are then is a step, or the reply is `Memory` and nothing has
     /// changed: where memory is wanting, or a new volume where every head is in use. A new volume gets the lowest head
-    /// that isn't in use. `Full`, `NoPage` and the faults never come.
+    /// that isn't in use. `Full`, `NoPage` and the faults never come, and `Memory` never to a write, a flush, an inflate, a
+    /// decouple or a df.
     pub fn apply(&mut self, alloc: Global, command: &Command) -> Reply
         ensures step { Step self.old.fixed (volumes_in self.old) command.now result (volumes_in self.new) ⊎ ((result ≡ r.Memory) × (self.new ≡ self.old)) }
         ensures fixed { self.new.fixed ≡ self.old.fixed }
         ensures least { (h : ℕ) → result ≡ r.Made h → IsLeastFree (volumes_in self.old) h }
         ensures plain { IsPlain result }
+        ensures memory { TakesNoMemory command.now → result ≢ r.Memory }
     {
         match self.answer(alloc, command) {
             Ok(reply) | Err(reply) => reply,
@@ -77,7 +79,8 @@ impl Volumes {
 
     /// The reply of a verb that is done, or the one for which nothing is.
     fn answer(&mut self, alloc: Global, command: &Command) -> Result<Reply, Reply>
-        ensures { Answers self.old command.now result self.new }
+        ensures answer { Answers self.old command.now result self.new }
+        ensures refused { TakesNoMemory command.now → IfErr result IsCause }
     {
         match command {
             Command::Create {

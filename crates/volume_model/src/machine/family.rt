@@ -1,8 +1,8 @@
 //! Parents and clones of volumes: filled up, cut loose and deleted.
 
-ghost use Rattle.std.specs.Prelude.{◌≡◌, ℕ, Option, None, map, if◌then◌else◌};
+ghost use Rattle.std.specs.Prelude.{◌≡◌, ℕ, Option, None, IfErr, map, if◌then◌else◌};
 ghost use Rattle.std.specs.Option.{option_map, option_and_then};
-ghost use Rattle.volume_model.specs.Machine.{volumes_in, Answers};
+ghost use Rattle.volume_model.specs.Machine.{volumes_in, Answers, IsCause};
 ghost use Rattle.volume_model.specs.Plain.{adopted, adopted_row};
 ghost use Rattle.volume_model.specs.declared.command.Command.TheVariants as c;
 
@@ -46,7 +46,8 @@ impl Volumes {
     }
 
     pub(super) fn inflate(&mut self, volume: &VolumeRef) -> Result<Reply, Reply>
-        ensures { Answers self.old (c.Inflate volume.now) result self.new }
+        ensures answer { Answers self.old (c.Inflate volume.now) result self.new }
+        ensures refused { IfErr result IsCause }
     {
         let head = self.may_change(volume)?;
         let mut x = self.take(head);
@@ -57,7 +58,8 @@ impl Volumes {
     }
 
     pub(super) fn decouple(&mut self, volume: &VolumeRef) -> Result<Reply, Reply>
-        ensures { Answers self.old (c.Decouple volume.now) result self.new }
+        ensures answer { Answers self.old (c.Decouple volume.now) result self.new }
+        ensures refused { IfErr result IsCause }
     {
         let head = self.may_decouple(volume)?;
         let parent = self.parent_at(self.at(head).parent);

@@ -1,7 +1,7 @@
 //! Pages of volumes: written, read, and more or fewer of them.
 
-ghost use Rattle.std.specs.Prelude.{◌≡◌, ◌+◌, ◌-◌, ◌++◌, IfOk, OnOk, length, take, replicate};
-ghost use Rattle.volume_model.specs.Machine.{Answers};
+ghost use Rattle.std.specs.Prelude.{◌≡◌, ◌+◌, ◌-◌, ◌++◌, IfOk, IfErr, OnOk, length, take, replicate};
+ghost use Rattle.volume_model.specs.Machine.{Answers, IsCause};
 ghost use Rattle.volume_model.specs.Volumes as v;
 ghost use Rattle.volume_model.specs.declared.command.Command.TheVariants as c;
 
@@ -67,7 +67,8 @@ fn resized(alloc: Global, pages: &[Page], count: u64) -> Result<Vec<Page>, Memor
 
 impl Volumes {
     pub(super) fn write(&mut self, volume: &VolumeRef, page: u64, word: &PageWord) -> Result<Reply, Reply>
-        ensures { Answers self.old (c.Write volume.now page word.now) result self.new }
+        ensures answer { Answers self.old (c.Write volume.now page word.now) result self.new }
+        ensures refused { IfErr result IsCause }
     {
         let head = self.may_write(volume, page)?;
         let mut x = self.take(head);

@@ -83,6 +83,7 @@ impl Volumes {
     pub(super) fn may_write(&self, volume: &VolumeRef, page: u64) -> Result<u32, Reply>
         ensures cause { (word : PageWord) → MayBeDone self.now volume.now (c.Write volume.now page word) result }
         ensures within { IfOk result (λ h. option_map_or (λ x. nat_lt page (length x.pages)) (volumes_in self.now h) false ≡ true) }
+        ensures refused { IfErr result IsCause }
     {
         let (head, x) = self.find(volume)?;
         if self.is_super(head) {
@@ -144,6 +145,7 @@ impl Volumes {
         ensures sync { MayBeDone self.now volume.now (c.Sync volume.now) result }
         ensures inflate { MayBeDone self.now volume.now (c.Inflate volume.now) result }
         ensures readonly { MayBeDone self.now volume.now (c.ReadOnly volume.now) result }
+        ensures refused { IfErr result IsCause }
     {
         let (head, x) = self.find(volume)?;
         if self.is_super(head) {
@@ -219,7 +221,8 @@ impl Volumes {
     }
 
     pub(super) fn may_decouple(&self, volume: &VolumeRef) -> Result<u32, Reply>
-        ensures { MayBeDone self.now volume.now (c.Decouple volume.now) result }
+        ensures cause { MayBeDone self.now volume.now (c.Decouple volume.now) result }
+        ensures refused { IfErr result IsCause }
     {
         let (head, x) = self.find(volume)?;
         if self.is_super(head) {

@@ -14,5 +14,5 @@ returns c =
       fixed = put.fixed;
       step = record { allowed = (c.in_ok-may_create.ensures.ok c.args.thick c.args.uuid, (c.in_ok-made.ensures.below, c.in_ok-made.ensures.least.free)); after = λ k. put.after k ∙ rw (c.in_ok-zeros.ensures, c.pages_in.ensures, c.in_ok-two_xattrs.ensures, c.in_ok-two_xattrs-2.ensures) refl };
       least = c.in_ok-made.ensures.least;
-      plain = tt;
+      answered = tt;
     }
