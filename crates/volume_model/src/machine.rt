@@ -8,6 +8,8 @@ mod pages;
 mod refusals;
 mod rows;
 mod telling;
+#[cfg(test)]
+mod tests;
 
 use crate::command::Command;
 use crate::reply::Reply;
@@ -33,8 +35,8 @@ impl Model for Volumes {
     ghost Value = { Machine };
 
     ghost view = { λ a. record {
-        fixed = record { cluster_pages = a.cluster_pages; md_len = a.md_len; super_blob = a.super_blob };
-        rows = map (option_map volume_of) a.rows.items;
+      fixed = record { cluster_pages = a.cluster_pages; md_len = a.md_len; super_blob = a.super_blob };
+      rows = map (option_map volume_of) a.rows.items;
     } };
 
     ghost invariant = { λ a. 0 < a.cluster_pages };

@@ -24,18 +24,32 @@ pub(super) fn with_nul(alloc: Global, text: &[u8]) -> Result<Vec<u8>, Memory>
 }
 
 impl Volumes {
-    pub(super) fn set_x(&mut self, alloc: Global, volume: &VolumeRef, key: &Blobtext, value: &Blobtext) -> Result<Reply, Reply>
+    pub(super) fn set_x(
+        &mut self,
+        alloc: Global,
+        volume: &VolumeRef,
+        key: &Blobtext,
+        value: &Blobtext,
+    ) -> Result<Reply, Reply>
         ensures { Answers self.old (c.SetX volume.now key.now value.now) result self.new }
     {
         let head = self.may_set(volume, key, value)?;
-        let live = self.at(head).live.with_value(alloc, key.bytes(), value.bytes())?;
+        let live = self
+            .at(head)
+            .live
+            .with_value(alloc, key.bytes(), value.bytes())?;
         let mut x = self.take(head);
         x.live = live;
         self.put(head, x);
         Ok(Reply::Ok)
     }
 
-    pub(super) fn del_x(&mut self, alloc: Global, volume: &VolumeRef, key: &Blobtext) -> Result<Reply, Reply>
+    pub(super) fn del_x(
+        &mut self,
+        alloc: Global,
+        volume: &VolumeRef,
+        key: &Blobtext,
+    ) -> Result<Reply, Reply>
         ensures { Answers self.old (c.DelX volume.now key.now) result self.new }
     {
         let head = self.may_remove(volume, key)?;
@@ -46,7 +60,12 @@ impl Volumes {
         Ok(Reply::Ok)
     }
 
-    pub(super) fn get_x(&self, alloc: Global, volume: &VolumeRef, key: &Blobtext) -> Result<Reply, Reply>
+    pub(super) fn get_x(
+        &self,
+        alloc: Global,
+        volume: &VolumeRef,
+        key: &Blobtext,
+    ) -> Result<Reply, Reply>
         ensures { Answers self.now (c.GetX volume.now key.now) result self.now }
     {
         let (_, x) = self.find(volume)?;
@@ -56,11 +75,20 @@ impl Volumes {
         }
     }
 
-    pub(super) fn put_x(&mut self, alloc: Global, volume: &VolumeRef, key: &Blobtext, value: &Blobtext) -> Result<Reply, Reply>
+    pub(super) fn put_x(
+        &mut self,
+        alloc: Global,
+        volume: &VolumeRef,
+        key: &Blobtext,
+        value: &Blobtext,
+    ) -> Result<Reply, Reply>
         ensures { Answers self.old (c.Put volume.now key.now value.now) result self.new }
     {
         let head = self.may_set(volume, key, value)?;
-        let live = self.at(head).live.with_value(alloc, key.bytes(), value.bytes())?;
+        let live = self
+            .at(head)
+            .live
+            .with_value(alloc, key.bytes(), value.bytes())?;
         let synced = live.try_copy(alloc)?;
         let mut x = self.take(head);
         x.live = live;
@@ -80,13 +108,24 @@ impl Volumes {
         Ok(Reply::Ok)
     }
 
-    pub(super) fn rename(&mut self, alloc: Global, volume: &VolumeRef, name: &Name) -> Result<Reply, Reply>
+    pub(super) fn rename(
+        &mut self,
+        alloc: Global,
+        volume: &VolumeRef,
+        name: &Name,
+    ) -> Result<Reply, Reply>
         ensures { Answers self.old (c.Rename volume.now name.now) result self.new }
     {
         let head = self.may_rename(volume, name)?;
         let value = with_nul(alloc, name.bytes())?;
-        let live = self.at(head).live.with_value(alloc, b"name", value.as_slice())?;
-        let synced = self.at(head).synced.with_value(alloc, b"name", value.as_slice())?;
+        let live = self
+            .at(head)
+            .live
+            .with_value(alloc, b"name", value.as_slice())?;
+        let synced = self
+            .at(head)
+            .synced
+            .with_value(alloc, b"name", value.as_slice())?;
         let mut x = self.take(head);
         x.live = live;
         x.synced = synced;

@@ -124,8 +124,10 @@ impl Volumes {
         ensures heads { IfOk result (λ clones. clones.items ≡ v.clones self.now.fixed (volumes_in self.now) head) }
         ensures few { IfOk result (λ clones. length clones.items < 2 ^ 32) }
     {
-        Ok((0..self.md_len)
-            .filter(|clone| self.is_clone_of(*clone, head))
-            .collect(alloc)?)
+        Ok(
+            (0..self.md_len)
+                .filter(|clone| self.is_clone_of(*clone, head))
+                .collect(alloc)?,
+        )
     }
 }

@@ -34,7 +34,12 @@ impl Volumes {
     }
 
     /// The attributes of a new volume.
-    fn two_xattrs(&self, alloc: Global, name: &Name, uuid: Option<[u8; 16]>) -> Result<XattrList, Memory>
+    fn two_xattrs(
+        &self,
+        alloc: Global,
+        name: &Name,
+        uuid: Option<[u8; 16]>,
+    ) -> Result<XattrList, Memory>
         ensures { IfOk result (λ xattrs. xattrs ≡ v.two_xattrs self.now.fixed (volumes_in self.now) name.now uuid) }
     {
         let uuid = match uuid {
@@ -48,7 +53,14 @@ impl Volumes {
         Ok(xattrs)
     }
 
-    pub(super) fn create(&mut self, alloc: Global, name: &Name, slots: u64, thick: bool, uuid: Option<[u8; 16]>) -> Result<Reply, Reply>
+    pub(super) fn create(
+        &mut self,
+        alloc: Global,
+        name: &Name,
+        slots: u64,
+        thick: bool,
+        uuid: Option<[u8; 16]>,
+    ) -> Result<Reply, Reply>
         ensures { Answers self.old (c.Create name.now slots thick uuid) result self.new }
     {
         self.may_create(name, slots)?;
@@ -66,7 +78,12 @@ impl Volumes {
         Ok(Reply::Made(made))
     }
 
-    pub(super) fn snapshot(&mut self, alloc: Global, volume: &VolumeRef, name: &Name) -> Result<Reply, Reply>
+    pub(super) fn snapshot(
+        &mut self,
+        alloc: Global,
+        volume: &VolumeRef,
+        name: &Name,
+    ) -> Result<Reply, Reply>
         ensures { Answers self.old (c.Snapshot volume.now name.now) result self.new }
     {
         let head = self.may_snapshot(volume, name)?;
@@ -89,7 +106,12 @@ impl Volumes {
         Ok(Reply::Made(made))
     }
 
-    pub(super) fn clone(&mut self, alloc: Global, volume: &VolumeRef, name: &Name) -> Result<Reply, Reply>
+    pub(super) fn clone(
+        &mut self,
+        alloc: Global,
+        volume: &VolumeRef,
+        name: &Name,
+    ) -> Result<Reply, Reply>
         ensures { Answers self.old (c.Clone volume.now name.now) result self.new }
     {
         let head = self.may_clone(volume, name)?;

@@ -66,7 +66,12 @@ fn resized(alloc: Global, pages: &[Page], count: u64) -> Result<Vec<Page>, Memor
 }
 
 impl Volumes {
-    pub(super) fn write(&mut self, volume: &VolumeRef, page: u64, word: &PageWord) -> Result<Reply, Reply>
+    pub(super) fn write(
+        &mut self,
+        volume: &VolumeRef,
+        page: u64,
+        word: &PageWord,
+    ) -> Result<Reply, Reply>
         ensures answer { Answers self.old (c.Write volume.now page word.now) result self.new }
         ensures refused { IfErr result IsCause }
     {
@@ -85,7 +90,12 @@ impl Volumes {
         Ok(Reply::Content(Box::new(alloc, content).map_err(Memory::from)?))
     }
 
-    pub(super) fn resize(&mut self, alloc: Global, volume: &VolumeRef, slots: u64) -> Result<Reply, Reply>
+    pub(super) fn resize(
+        &mut self,
+        alloc: Global,
+        volume: &VolumeRef,
+        slots: u64,
+    ) -> Result<Reply, Reply>
         ensures { Answers self.old (c.Resize volume.now slots) result self.new }
     {
         let head = self.may_resize(volume, slots)?;

@@ -109,7 +109,12 @@ impl Volumes {
         }
     }
 
-    pub(super) fn may_set(&self, volume: &VolumeRef, key: &Blobtext, value: &Blobtext) -> Result<u32, Reply>
+    pub(super) fn may_set(
+        &self,
+        volume: &VolumeRef,
+        key: &Blobtext,
+        value: &Blobtext,
+    ) -> Result<u32, Reply>
         ensures setx { MayBeDone self.now volume.now (c.SetX volume.now key.now value.now) result }
         ensures put { MayBeDone self.now volume.now (c.Put volume.now key.now value.now) result }
     {
@@ -286,11 +291,13 @@ impl Volumes {
         ensures { MayBeDone self.now volume.now (c.Rename volume.now name.now) result }
     {
         let (head, x) = self.find(volume)?;
+        // The volume itself counts.
+        let named = self.head_named(name.bytes());
         if self.is_super(head) {
             Err(Reply::Reserved)
         } else if x.read_only {
             Err(Reply::ReadOnly)
-        } else if self.is_taken(name) {
+        } else if named.is_some() {
             Err(Reply::NameTaken)
         } else {
             Ok(head)
