@@ -1,14 +1,11 @@
 -- A volume is taken out, changed and put back.
-use Rattle.std.proofs.Common.{◌≡◌, ℕ, ◌==◌, Bool, true, false, if◌then◌else◌, Option, Some, None, refl, sym, ap, ◌∙◌, inl, inr}
+use Rattle.std.proofs.Common.{◌≡◌, ℕ, ◌==◌, if◌then◌else◌, Option, Some, None, refl, sym, ap, ◌∙◌, inl, inr}
 use Rattle.std.specs.Option.{option_map}
 use Rattle.std.proofs.lemmas.Bool.Decides.{eqb_tells}
 use Rattle.volume_model.specs.Volumes.{Volume, Volumes, head_of}
-use Rattle.volume_model.specs.Refusals.{refusal}
 use Rattle.volume_model.specs.Steps as step
-use Rattle.volume_model.specs.Machine.{Machine, volumes_in, IsPut, IsOpen, Does}
+use Rattle.volume_model.specs.Machine.{Machine, volumes_in, IsPut}
 use Rattle.volume_model.specs.declared.command.VolumeRef.{VolumeRef}
-use Rattle.volume_model.specs.declared.command.Command.{Command}
-use Rattle.volume_model.specs.declared.reply.Reply.TheVariants as r
 
 -- what the steps' change of one volume does, seen at each head
 pub edited_at : (v : Volumes) (f : _) (o : Option ℕ) (h : ℕ) (x y : Volume) (change : Volume → Volume) → o ≡ Some h → v h ≡ Some x → y ≡ change x

@@ -1,5 +1,5 @@
 -- What stands at each head after one of them is set.
-use Rattle.std.proofs.Common.{◌≡◌, ◌≢◌, inl, inr, ℕ, zero, suc, ◌+◌, ◌<◌, ◌≤◌, ◌==◌, Bool, if◌then◌else◌, Option, Some, None, IsSome, List, [], ◌∷◌, ◌++◌, length, map, refl, sym, ap, subst, ◌∙◌, arith, length-set}
+use Rattle.std.proofs.Common.{◌≡◌, ◌≢◌, inl, inr, ℕ, zero, suc, ◌<◌, ◌≤◌, ◌==◌, if◌then◌else◌, Option, Some, None, IsSome, List, [], ◌∷◌, ◌++◌, length, map, refl, sym, ap, subst, ◌∙◌, arith, length-set}
 use Rattle.std.proofs.Math.ListN.{set}
 use Rattle.std.specs.List.{slice_get}
 use Rattle.std.specs.Option.{option_map, option_and_then}
@@ -7,11 +7,10 @@ use Rattle.std.proofs.lemmas.Bool.Decides.{eqb_tells}
 use Rattle.std.proofs.lemmas.List.{map-set, map-append, length-map}
 use Rattle.std.proofs.lemmas.Bool.{cases_lt, false≢true}
 use Rattle.std.proofs.lemmas.Option.{slice_get_past}
-use Rattle.volume_model.specs.Volumes.{Volume, Volumes, Fixed}
-use Rattle.volume_model.specs.Machine.{Machine, volumes_in, IsPut, IsLeastFree}
+use Rattle.volume_model.specs.Volumes.{Volume, Fixed}
+use Rattle.volume_model.specs.Machine.{Machine, volumes_in, IsPut}
 use Rattle.volume_model.specs.Plain.{volume_of, adopted, adopted_row}
 use Rattle.volume_model.specs.declared.machine.rows.Volume as row
-use Rattle.volume_model.proofs.Others.{differs}
 
 abbrev pub flat : {A : Type 0} → Option (Option A) → Option A
 flat o = option_and_then (λ x. x) o

@@ -1,5 +1,4 @@
-use Rattle.std.proofs.Common.{◌≡◌, ◌+◌, arith}
-use Rattle.std.specs.List.{sum_by, range_with_len}
+use Rattle.std.proofs.Common.{arith}
 use Rattle.volume_model.specs.Machine.{volumes_in}
 use Rattle.volume_model.specs.Volumes.{slots_at}
 use Rattle.volume_model.proofs.Heads.{sum_more}

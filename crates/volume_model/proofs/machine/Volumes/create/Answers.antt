@@ -1,7 +1,5 @@
-use Rattle.std.proofs.Common.{◌≡◌, ap, refl, inl, ◌∙◌, if◌then◌else◌, ◌==◌, Some}
+use Rattle.std.proofs.Common.{refl, inl, ◌∙◌}
 use Rattle.std.proofs.lemmas.Result.{err_from_is_err_and}
-use Rattle.volume_model.specs.Machine.{volumes_in}
-use Rattle.volume_model.specs.Plain.{volume_of}
 use Rattle.volume_model.proofs.machine.Volumes.create.Goals as goal
 
 pub returns-in_err-may_create : goal.returns-in_err-may_create

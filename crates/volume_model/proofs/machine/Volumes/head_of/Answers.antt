@@ -1,6 +1,5 @@
 use Rattle.std.proofs.Common.{◌≡◌, Option, ℕ, Some, None, IfSome, IsSome, refl, sym, ◌∙◌}
 use Rattle.volume_model.specs.Machine.{volumes_in}
-use Rattle.volume_model.specs.Volumes.{head_named}
 use Rattle.volume_model.proofs.Heads.{named_there}
 use Rattle.volume_model.proofs.machine.Volumes.head_of.Goals as goal
 

@@ -1,6 +1,5 @@
-use Rattle.std.proofs.Common.{◌≡◌, Option, None, length}
+use Rattle.std.proofs.Common.{◌≡◌, None}
 use Rattle.volume_model.proofs.Rows.{set_rows, set_length, in_use}
-use Rattle.volume_model.specs.declared.machine.rows.Volume as row
 use Rattle.volume_model.proofs.machine.Volumes.take.Goals as goal
 
 pub returns-clause-rest : goal.returns-clause-rest

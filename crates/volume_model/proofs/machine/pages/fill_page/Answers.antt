@@ -1,4 +1,4 @@
-use Rattle.std.proofs.Common.{◌≡◌, ◌<◌, length, arith, refl, ap, sym, ◌∙◌}
+use Rattle.std.proofs.Common.{◌≡◌, length, arith, ap, ◌∙◌}
 use Rattle.std.specs.List.{repeat}
 use Rattle.volume_model.specs.Volumes.{fill_page}
 use Rattle.volume_model.proofs.Pages.{all_repeat}

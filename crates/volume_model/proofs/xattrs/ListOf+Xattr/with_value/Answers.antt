@@ -1,4 +1,4 @@
-use Rattle.std.proofs.Common.{◌≡◌, ◌++◌, ◌∷◌, [], true, false, rules, drop, arith}
+use Rattle.std.proofs.Common.{◌≡◌, ◌++◌, ◌∷◌, [], true, false, rules, drop}
 use Rattle.std.specs.Str.{bytes_eq}
 use Rattle.volume_model.specs.Xattrs.{with_value}
 use Rattle.volume_model.proofs.Attributes.{set_here, passed, copied}
