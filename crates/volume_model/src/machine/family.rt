@@ -1,6 +1,6 @@
 //! Parents and clones of volumes: filled up, cut loose and deleted.
 
-ghost use Rattle.std.specs.Prelude.{◌≡◌, ℕ, Option, None, IfErr, map, if◌then◌else◌};
+ghost use Rattle.std.specs.Prelude.{◌≡◌, IfErr, map};
 ghost use Rattle.std.specs.Option.{option_map, option_and_then};
 ghost use Rattle.volume_model.specs.Machine.{volumes_in, Answers, IsCause};
 ghost use Rattle.volume_model.specs.Plain.{adopted, adopted_row};

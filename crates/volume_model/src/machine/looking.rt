@@ -1,6 +1,6 @@
 //! Which volume is meant, and what the volumes say together.
 
-ghost use Rattle.std.specs.Prelude.{◌≡◌, ◌<◌, ◌≤◌, ◌^◌, ◌*◌, ℕ, Some, None, false, IsSome, IfSome, IfOk, IfErr, length};
+ghost use Rattle.std.specs.Prelude.{◌≡◌, ◌<◌, ◌≤◌, ◌^◌, ◌*◌, Some, None, false, IsSome, IfSome, IfOk, IfErr, length};
 ghost use Rattle.std.specs.Option.{option_map_or};
 ghost use Rattle.volume_model.specs.Machine.{volumes_in};
 ghost use Rattle.volume_model.specs.Plain.{volume_of};

@@ -1,8 +1,7 @@
 //! Volumes that come: new ones, snapshots and clones.
 
-ghost use Rattle.std.specs.Prelude.{◌≡◌, List, ℕ, Option, IfOk};
+ghost use Rattle.std.specs.Prelude.{◌≡◌, IfOk};
 ghost use Rattle.volume_model.specs.Machine.{volumes_in, Answers};
-ghost use Rattle.volume_model.specs.Uuids as u;
 ghost use Rattle.volume_model.specs.Volumes as v;
 ghost use Rattle.volume_model.specs.declared.command.Command.TheVariants as c;
 

@@ -1,11 +1,10 @@
 //! Why a command is refused: one test a verb, its causes in their order.
 
-ghost use Rattle.std.specs.Prelude.{◌≡◌, ◌<◌, ◌≤◌, ℕ, Some, None, false, true, Option, List, Bool, IfOk, IfErr, OnOk, OnErr, nat_lt, ◌+◌, ◌^◌, length, if◌then◌else◌};
+ghost use Rattle.std.specs.Prelude.{◌≡◌, ◌≤◌, ℕ, None, false, true, Option, List, Bool, IfOk, IfErr, OnOk, nat_lt, ◌+◌, ◌^◌, length};
 ghost use Rattle.std.specs.Option.{option_map_or};
 ghost use Rattle.volume_model.specs.Machine.{volumes_in, MayBeDone, IsRefused, IsCause};
 ghost use Rattle.volume_model.specs.Plain.{volume_of};
 ghost use Rattle.volume_model.specs.Refusals as f;
-ghost use Rattle.volume_model.specs.Volumes as v;
 ghost use Rattle.volume_model.specs.declared.command.Command.TheVariants as c;
 ghost use Rattle.volume_model.specs.declared.command.PageWord.{PageWord};
 

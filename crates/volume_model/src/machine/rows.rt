@@ -1,6 +1,6 @@
 //! What stands at each head.
 
-ghost use Rattle.std.specs.Prelude.{◌≡◌, ◌≤◌, ◌<◌, ℕ, Some, None, IsSome, IfOk, IfErr, OnOk, OnErr, length, option_copied};
+ghost use Rattle.std.specs.Prelude.{◌≡◌, ◌≤◌, ◌<◌, Some, None, IsSome, IfOk, OnOk, OnErr, length, option_copied};
 ghost use Rattle.std.specs.Option.{option_map};
 ghost use Rattle.volume_model.specs.Machine.{volumes_in, IsLeastFree, IsPut};
 ghost use Rattle.volume_model.specs.Plain.{volume_of};

@@ -1,6 +1,6 @@
 //! What is known of volumes.
 
-ghost use Rattle.std.specs.Prelude.{◌≡◌, ◌<◌, ◌^◌, ℕ, None, IfOk, if◌then◌else◌};
+ghost use Rattle.std.specs.Prelude.{◌≡◌, None, IfOk, if◌then◌else◌};
 ghost use Rattle.std.specs.List.{filter_map};
 ghost use Rattle.volume_model.specs.Machine.{volumes_in, Answers};
 ghost use Rattle.volume_model.specs.Plain.{volume_of, info_of};
