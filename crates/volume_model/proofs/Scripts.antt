@@ -1,5 +1,5 @@
 -- One more command of a channel is one more in all.
-use Rattle.std.proofs.Common.{◌≡◌, ℕ, zero, suc, ◌+◌, ◌<◌, List, [], ◌∷◌, ◌++◌, length, slice_set, slice_index_or, arith, length-append}
+use Rattle.std.proofs.Common.{◌≡◌, ℕ, zero, suc, ◌+◌, ◌<◌, ◌≤◌, List, [], ◌∷◌, ◌++◌, length, slice_set, slice_index_or, arith, length-append}
 use Rattle.volume_model.specs.Scripts.{commands_in}
 use Rattle.volume_model.specs.declared.command.Command.{Command}
 
@@ -8,3 +8,9 @@ pub commands_in_push : (lists : List (List Command)) (channel : ℕ) (command : 
 commands_in_push [] channel command d h = absurd (omega (arith, h))
 commands_in_push (commands ∷ more) zero command d h = omega (arith, length-append commands (command ∷ []))
 commands_in_push (commands ∷ more) (suc channel) command d h = omega (arith, commands_in_push more channel command d (omega (arith, h)))
+
+-- without the commands of one channel there are no more in all
+pub commands_in_take : (lists : List (List Command)) (channel : ℕ) → commands_in (slice_set lists channel []) ≤ commands_in lists
+commands_in_take [] channel = omega arith
+commands_in_take (commands ∷ more) zero = omega arith
+commands_in_take (commands ∷ more) (suc channel) = omega (arith, commands_in_take more channel)

@@ -6,6 +6,8 @@ pub mod Xattrs
 pub mod Volumes
 pub mod Refusals
 pub mod Steps
+pub mod Machine
+pub mod Plain
 pub mod Logs
 pub mod Examples
 pub mod ExampleLogs

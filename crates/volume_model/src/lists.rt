@@ -7,6 +7,7 @@ use crate::copy::TryCopy;
 use out_of_memory::Memory;
 use std::alloc::Global;
 use std::marker::Model;
+use std::mem;
 
 /// A list that grows at its end. Contracts see it as the list of its items.
 #[derive(Debug, Drop)]
@@ -30,6 +31,28 @@ impl<T: Drop> ListOf<T> {
         ListOf {
             items: Vec::new(alloc),
         }
+    }
+
+    /// The list of these items.
+    pub fn from_vec(items: Vec<T>) -> ListOf<T>
+        ensures { result ≡ items.items }
+    {
+        ListOf { items }
+    }
+
+    /// The items, in order.
+    pub fn into_vec(self) -> Vec<T>
+        ensures { result.items ≡ self }
+    {
+        self.items
+    }
+
+    /// Takes all items out, in order.
+    pub fn take_all(&mut self, alloc: Global) -> Vec<T>
+        ensures taken { result.items ≡ self.old }
+        ensures left { self.new ≡ [] }
+    {
+        mem::replace(&mut self.items, Vec::new(alloc))
     }
 
     /// Appends an item. After `Memory` the list is as before.

@@ -120,6 +120,17 @@ impl TryCopy for Df {
     }
 }
 
+impl From<Memory> for Reply {
+    ghost use Rattle.std.specs.Prelude.{◌≡◌};
+    ghost use Rattle.volume_model.specs.declared.reply.Reply.TheVariants as r;
+
+    ghost from_gives = { λ _ reply. reply ≡ r.Memory };
+
+    fn from(_memory: Memory) -> Reply {
+        Reply::Memory
+    }
+}
+
 impl Reply {
     /// A copy, equal in every part, boxed pages by their bytes.
     pub fn try_copy(&self, alloc: Global) -> Result<Reply, Memory>

@@ -90,4 +90,13 @@ impl Script {
             None => &[],
         }
     }
+
+    /// Takes the commands of a channel out, in order.
+    pub fn take(&mut self, alloc: Global, channel: u8) -> Vec<Command>
+        requires { channel < 16 }
+        ensures taken { result.items ≡ slice_index_or self.old channel [] }
+        ensures left { self.new ≡ slice_set self.old channel [] }
+    {
+        self.lists[channel as usize].take_all(alloc)
+    }
 }

@@ -53,6 +53,18 @@ pub struct Xattr {
     pub value: Blobtext,
 }
 
+impl Xattr {
+    /// The attribute of these bytes, copied.
+    pub fn new(alloc: Global, key: &[u8], value: &[u8]) -> Result<Xattr, Memory>
+        ensures { IfOk result (λ xattr. xattr ≡ record { key = key.now; value = value.now }) }
+    {
+        Ok(Xattr {
+            key: Blobtext::new(alloc, key)?,
+            value: Blobtext::new(alloc, value)?,
+        })
+    }
+}
+
 impl TryCopy for Xattr {
     fn try_copy(&self, alloc: Global) -> Result<Xattr, Memory> {
         Ok(Xattr {

@@ -1,0 +1,147 @@
+//! Extended attributes of volumes, as they are read and as they survive a crash.
+
+ghost use Rattle.std.specs.Prelude.{◌≡◌, IfOk};
+ghost use Rattle.volume_model.specs.Machine.{Answers};
+ghost use Rattle.volume_model.specs.Xattrs as x;
+ghost use Rattle.volume_model.specs.declared.command.Command.TheVariants as c;
+
+use crate::command::VolumeRef;
+use crate::copy::TryCopy;
+use crate::machine::Volumes;
+use crate::name::Name;
+use crate::reply::Reply;
+use crate::text::Blobtext;
+use out_of_memory::Memory;
+use std::alloc::Global;
+
+/// A text and one NUL.
+pub(super) fn with_nul(alloc: Global, text: &[u8]) -> Result<Vec<u8>, Memory>
+    ensures { IfOk result (λ value. value.items ≡ x.with_nul text.now) }
+{
+    let mut value = Vec::from_slice(alloc, text)?;
+    value.push(0)?;
+    Ok(value)
+}
+
+impl Volumes {
+    pub(super) fn set_x(
+        &mut self,
+        alloc: Global,
+        volume: &VolumeRef,
+        key: &Blobtext,
+        value: &Blobtext,
+    ) -> Result<Reply, Reply>
+        ensures { Answers self.old (c.SetX volume.now key.now value.now) result self.new }
+    {
+        let head = self.may_set(volume, key, value)?;
+        let live = self
+            .at(head)
+            .live
+            .with_value(alloc, key.bytes(), value.bytes())?;
+        let mut x = self.take(head);
+        x.live = live;
+        self.put(head, x);
+        Ok(Reply::Ok)
+    }
+
+    pub(super) fn del_x(
+        &mut self,
+        alloc: Global,
+        volume: &VolumeRef,
+        key: &Blobtext,
+    ) -> Result<Reply, Reply>
+        ensures { Answers self.old (c.DelX volume.now key.now) result self.new }
+    {
+        let head = self.may_remove(volume, key)?;
+        let live = self.at(head).live.without(alloc, key.bytes())?;
+        let mut x = self.take(head);
+        x.live = live;
+        self.put(head, x);
+        Ok(Reply::Ok)
+    }
+
+    pub(super) fn get_x(
+        &self,
+        alloc: Global,
+        volume: &VolumeRef,
+        key: &Blobtext,
+    ) -> Result<Reply, Reply>
+        ensures { Answers self.now (c.GetX volume.now key.now) result self.now }
+    {
+        let (_, x) = self.find(volume)?;
+        match x.live.value_of(key.bytes()) {
+            Some(value) => Ok(Reply::Value(value.try_copy(alloc)?)),
+            None => Err(Reply::NoValue),
+        }
+    }
+
+    pub(super) fn put_x(
+        &mut self,
+        alloc: Global,
+        volume: &VolumeRef,
+        key: &Blobtext,
+        value: &Blobtext,
+    ) -> Result<Reply, Reply>
+        ensures { Answers self.old (c.Put volume.now key.now value.now) result self.new }
+    {
+        let head = self.may_set(volume, key, value)?;
+        let live = self
+            .at(head)
+            .live
+            .with_value(alloc, key.bytes(), value.bytes())?;
+        let synced = live.try_copy(alloc)?;
+        let mut x = self.take(head);
+        x.live = live;
+        x.synced = synced;
+        self.put(head, x);
+        Ok(Reply::Ok)
+    }
+
+    pub(super) fn sync(&mut self, alloc: Global, volume: &VolumeRef) -> Result<Reply, Reply>
+        ensures { Answers self.old (c.Sync volume.now) result self.new }
+    {
+        let head = self.may_change(volume)?;
+        let synced = self.at(head).live.try_copy(alloc)?;
+        let mut x = self.take(head);
+        x.synced = synced;
+        self.put(head, x);
+        Ok(Reply::Ok)
+    }
+
+    pub(super) fn rename(
+        &mut self,
+        alloc: Global,
+        volume: &VolumeRef,
+        name: &Name,
+    ) -> Result<Reply, Reply>
+        ensures { Answers self.old (c.Rename volume.now name.now) result self.new }
+    {
+        let head = self.may_rename(volume, name)?;
+        let value = with_nul(alloc, name.bytes())?;
+        let live = self
+            .at(head)
+            .live
+            .with_value(alloc, b"name", value.as_slice())?;
+        let synced = self
+            .at(head)
+            .synced
+            .with_value(alloc, b"name", value.as_slice())?;
+        let mut x = self.take(head);
+        x.live = live;
+        x.synced = synced;
+        self.put(head, x);
+        Ok(Reply::Ok)
+    }
+
+    pub(super) fn read_only(&mut self, alloc: Global, volume: &VolumeRef) -> Result<Reply, Reply>
+        ensures { Answers self.old (c.ReadOnly volume.now) result self.new }
+    {
+        let head = self.may_change(volume)?;
+        let synced = self.at(head).live.try_copy(alloc)?;
+        let mut x = self.take(head);
+        x.synced = synced;
+        x.read_only = true;
+        self.put(head, x);
+        Ok(Reply::Ok)
+    }
+}
