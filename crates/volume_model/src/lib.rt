@@ -12,6 +12,7 @@ mod script;
 mod tests;
 mod text;
 mod uuids;
+mod xattrs;
 
 pub use command::{Command, PageWord, VolumeRef};
 pub use copy::TryCopy;
