@@ -5,3 +5,5 @@ pub mod Items
 pub mod Find
 pub mod Parents
 pub mod Resolving
+pub mod Jobs
+pub mod Asked

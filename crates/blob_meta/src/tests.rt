@@ -3,7 +3,7 @@
 ghost use Rattle.std.specs.Prelude.{IfOk};
 ghost use Rattle.super_block.specs.Faults.{IsFaultless};
 
-use crate::{Flags, HeadMap, Meta, Metas, find, from_items, items_say, to_items};
+use crate::{Flags, HeadMap, Job, Meta, Metas, find, from_items, items_say, to_items};
 use descriptors::{Item, ItemList, SlotMap};
 use std::alloc::Global;
 use std::test::Fail;
@@ -212,5 +212,14 @@ fn a_map_from_heads_keeps_what_it_is_given(rt: HostRuntime) -> Result<(), Fail> 
     );
     assert_eq!(rt; (map.remove(3), map.remove(3)), (Some(2), None));
     assert_eq!(rt; map.next_from(0), Some(7));
+    Ok(())
+}
+
+#[test]
+fn a_job_of_one_replacement_is_its_commit(rt: HostRuntime) -> Result<(), Fail> {
+    let alloc = rt.alloc();
+    let job = Job::of_one(alloc, 7, named(alloc, 7, b"a")?)?;
+    assert_eq!(rt; (job.list.len(), job.commit), (1, 1));
+    assert_eq!(rt; (job.zero.len(), job.freeze), (0, None));
     Ok(())
 }
