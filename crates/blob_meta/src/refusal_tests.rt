@@ -70,7 +70,7 @@ fn asked(
     key: &[u8],
 ) -> Result<Option<Reply>, Memory> {
     let owner = Blobtext::new(alloc, b"owner")?;
-    let live = XattrList::new(alloc).with_value(alloc, &owner, &owner)?;
+    let live = XattrList::new(alloc).with_value(alloc, owner.bytes(), owner.bytes())?;
     let command = command(alloc, verb, head, Blobtext::new(alloc, key)?)?;
     match metas.get(head) {
         Some(_) => Ok(refusal_of(metas, sup, Some(&live), &command)),

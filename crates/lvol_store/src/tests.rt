@@ -87,7 +87,7 @@ fn metas(alloc: Global) -> Result<Metas, Memory> {
 fn live(alloc: Global) -> Result<XattrList, Memory> {
     let owner = Blobtext::new(alloc, b"owner")?;
     let me = Blobtext::new(alloc, b"me")?;
-    XattrList::new(alloc).with_value(alloc, &owner, &me)
+    XattrList::new(alloc).with_value(alloc, owner.bytes(), me.bytes())
 }
 
 fn planned_put(
