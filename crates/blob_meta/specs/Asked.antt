@@ -5,7 +5,7 @@ use Rattle.std.specs.Option.{option_map, option_and_then}
 use Rattle.std.specs.Ordering.{nat_cmp}
 use Rattle.std.specs.FinMap as map
 use Rattle.super_block.specs.declared.page.Super.{Super}
-use Rattle.volume_model.specs.Xattrs.{Xattrs}
+use Rattle.volume_model.specs.Xattrs.{Xattrs, value_of}
 use Rattle.volume_model.specs.Volumes.{Volume, Volumes, Fixed}
 use Rattle.volume_model.specs.Refusals.{Causes, refusal}
 use Rattle.volume_model.specs.declared.command.VolumeRef.TheVariants.{Head}
@@ -36,6 +36,11 @@ IsCause r.ReadOnly = Unit {0}
 IsCause r.TooLong = Unit {0}
 IsCause r.NoValue = Unit {0}
 IsCause _ = ⊥
+
+-- what is asked for is there
+abbrev pub HasValue : Option Xattrs → Command → Type 0
+HasValue (Some live) (c.GetX volume key) = IsSome (value_of live key)
+HasValue _ _ = Unit {0}
 
 -- of causes, the first that holds
 abbrev pub first_of : Causes → Option Reply

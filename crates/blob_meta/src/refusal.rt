@@ -5,7 +5,7 @@ ghost use Rattle.volume_model.specs.Volumes.{is_head};
 ghost use Rattle.volume_model.specs.Xattrs.{value_of};
 ghost use Rattle.volume_model.specs.Refusals.{is_reserved as reserved_said};
 ghost use Rattle.volume_model.specs.declared.reply.Reply.TheVariants as r;
-ghost use Rattle.blob_meta.specs.Asked.{head_in as head_said, blob_named, first_of, IsOnHead, IsCause, IsLiveOf, IsFirstCause};
+ghost use Rattle.blob_meta.specs.Asked.{head_in as head_said, blob_named, first_of, HasValue, IsOnHead, IsCause, IsLiveOf, IsFirstCause};
 ghost use Rattle.blob_meta.specs.Parents.{head_of_id, is_read_only as read_only_said};
 
 use crate::head_map::Metas;
@@ -13,8 +13,8 @@ use crate::meta::Flags;
 use super_block::Super;
 use volume_model::{Blobtext, Command, Reply, VolumeRef, XattrList};
 
-/// The head by which the command names its volume.
-fn head_in(command: &Command) -> u32
+/// The head by which an attribute command names its volume.
+pub fn head_in(command: &Command) -> u32
     requires { IsOnHead command.now }
     ensures { head_said command.now ≡ Some result }
 {
@@ -122,6 +122,7 @@ fn refusal_of_removal(
 fn refusal_of_look(live: &XattrList, key: &Blobtext) -> Option<Reply>
     ensures caused { IfSome result IsCause }
     ensures first { result ≡ first_of ((is_none (value_of live.now key.now), r.NoValue) ∷ []) }
+    ensures value { IfNone result (IsSome (value_of live.now key.now)) }
 {
     if live.value_of(key.bytes()).is_none() {
         Some(Reply::NoValue)
@@ -145,6 +146,7 @@ pub fn refusal_of(
     requires live { IsLiveOf metas.now (option_copied live) command.now }
     ensures caused { IfSome result IsCause }
     ensures there { IfNone result (IsSome (blob_named metas.now command.now)) }
+    ensures value { IfNone result (HasValue (option_copied live.entry) command.now) }
     ensures first { IsFirstCause metas.now (option_copied live.entry) command.now sup.now result }
 {
     let head = head_in(command);
