@@ -9,6 +9,7 @@ mod memory_disk;
 mod record;
 mod replace;
 mod silent;
+mod writing;
 
 pub use disk::{DiskFault, Page, PageDisk, WriteKind};
 pub use fault::{CallKind, Fail, FaultDisk};
@@ -17,6 +18,7 @@ pub use memory_disk::MemDisk;
 pub use out_of_memory::Memory;
 pub use replace::replace_page;
 pub use silent::SilentDisk;
+pub use writing::{write_and_flush, write_page};
 
 #[cfg(test)]
 mod tests;

@@ -39,7 +39,7 @@ stays told p q (stands ∷ kinds) at run stopped =
 
 -- ---- what a run that stops has counted
 
-rose_since : (before between after : ℕ) → before ≤ between → Rose between after → Rose before after
+pub rose_since : (before between after : ℕ) → before ≤ between → Rose between after → Rose before after
 rose_since before between after le (inl lt) = inl (omega (arith, le, lt))
 rose_since before between after le (inr last) = inr last
 
@@ -93,7 +93,7 @@ run_quiet told p q kinds run none runs = goes_on_quiet told p q kinds run (subst
 abbrev FaultsStop : State → Type 0
 FaultsStop p = (k : ℕ) (e : Entry) → slice_get p.log k ≡ Some e → e.reply ≡ r.Fault → p.stopped ≡ Some k
 
-old_or_new : (log : List Entry) (new : Entry) (k : ℕ) (e : Entry) → slice_get (log ++ new ∷ []) k ≡ Some e → (slice_get log k ≡ Some e) ⊎ ((k ≡ length log) × (e ≡ new))
+pub old_or_new : (log : List Entry) (new : Entry) (k : ℕ) (e : Entry) → slice_get (log ++ new ∷ []) k ≡ Some e → (slice_get log k ≡ Some e) ⊎ ((k ≡ length log) × (e ≡ new))
 old_or_new [] new zero e is = inr (refl, cc is)
 old_or_new [] new (suc k) e is = absurd (cc is)
 old_or_new (x ∷ log) new zero e is = inl is

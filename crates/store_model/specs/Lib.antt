@@ -7,3 +7,10 @@ pub mod Turns
 pub mod Facts
 pub mod Recovers
 pub mod Laws
+pub mod Rows
+pub mod Plants
+pub mod Places
+pub mod Jobs
+pub mod Cases
+pub mod Standing
+pub mod PlantLaws

@@ -1,6 +1,7 @@
 //! The laws of the definitions, as contracts of functions that do nothing.
 
 ghost use Rattle.store_model.specs.Laws.{GrowthLaws, RecoveryLaws, ScanLaws, StopLaws, TurnLaws};
+ghost use Rattle.store_model.specs.PlantLaws.{JobLaws, PlantLaws, PlantStopLaws};
 
 use volume_model::laws::{refusal_changes_nothing, refusal_settles_nothing};
 
@@ -36,3 +37,22 @@ pub fn growing()
 {
     refusal_settles_nothing();
 }
+
+/// Each turn of a store with jobs keeps what every state of a run has, and the volumes that it shows while it runs are the
+/// replay of its log; an image that says its metadata recovers that log.
+pub fn plant_turns()
+    ensures { PlantLaws }
+{
+    refusal_changes_nothing();
+}
+
+/// The same of a store with jobs as `stops` says of one without.
+pub fn plant_stops()
+    ensures { PlantStopLaws }
+{}
+
+/// The pages that a job writes before its head are no heads, nor is a torn page or one of zeros; and once the head is written, an
+/// image says the new metadata.
+pub fn job_pages()
+    ensures { JobLaws }
+{}

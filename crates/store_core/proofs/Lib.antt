@@ -1,0 +1,10 @@
+pub mod Moving
+pub mod Counting
+pub mod Holding
+pub mod Survived
+pub mod JobSurvives
+pub mod HeadSurvives
+pub mod CrashProof
+pub mod Maps
+pub mod Rowing
+pub mod Answered

@@ -1,0 +1,44 @@
+use Rattle.std.proofs.Common.{◌≡◌, ◌+◌, ◌<◌, ℕ, List, length, length-append, slice_index_or, slice_set, refl, sym, ◌∙◌, ap, subst, arith}
+use Rattle.std.proofs.lemmas.List.{length-set}
+use Rattle.volume_model.specs.declared.command.Command.{Command}
+use Rattle.volume_model.specs.declared.reply.Entry.{Entry}
+use Rattle.store_model.specs.Rows.{Row, entries_of}
+use Rattle.store_core.proofs.Counting.{few_of, left_less, counted_more}
+use Rattle.store_core.proofs.logging.log.Goals as goal
+
+pub overflow_add-running : goal.overflow_add-running
+overflow_add-running g c =
+    let order = c.requires.order in
+    let few = few_of c.args.channel c.args.running.now.entries.items in
+    let is = order.counted c.args.channel c.requires.channel in
+    let small = order.few in
+    omega (arith, few, is, small)
+
+pub returns-clause-order : goal.returns-clause-order
+returns-clause-order g c =
+    let order = c.requires.order in
+    let old = c.args.running.now in
+    let low : c.args.channel < length old.rows.items = omega (arith, c.requires.channel, order.sixteen) in
+    let took = c.in-Some.ensures.some in
+    let row = c.index_mut.result.now in
+    let value = c.index_mut.ensures.value in
+    let less = left_less old.rows.items c.args.channel c.take.new.self row low (ap (λ (r : Row). length r.left) (sym value) ∙ ap (λ (l : List Command). length l) took ∙ omega arith) in
+    let items = c.push_reserved.ensures.items in
+    let marks = c.push_reserved-2.ensures.items in
+    let longer = ap (λ (l : List Entry). length l) items ∙ length-append old.entries.items _ in
+    let marked = ap (λ (l : List ℕ). length l) marks ∙ length-append old.marks.items _ in
+    let room = c.push_reserved.ensures.capacity in
+    let mark_room = c.push_reserved-2.ensures.capacity in
+    record {
+      inside = order.inside;
+      sixteen = length-set old.rows.items c.args.channel c.take.new.self ∙ order.sixteen;
+      entries = omega (arith, order.entries, less, longer, room);
+      marks = omega (arith, order.marks, less, marked, mark_room);
+      few = omega (arith, order.few, less, longer);
+      counted = λ k lt. subst (λ l. slice_index_or (slice_set old.logged c.args.channel (slice_index_or old.logged c.args.channel 0 + 1)) k 0 ≡ length (entries_of k l)) (sym items)
+          (counted_more old.logged old.entries.items (record { channel = c.args.channel; index = slice_index_or old.logged c.args.channel 0; command = c.in-Some.command; reply = c.args.reply }) 16 (sym order.counts) c.requires.channel order.counted k lt);
+      counts = length-set old.logged c.args.channel _ ∙ order.counts;
+      no_page = order.no_page;
+      no_cluster = order.no_cluster;
+      headed = order.headed;
+    }

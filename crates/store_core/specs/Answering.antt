@@ -1,0 +1,36 @@
+-- What a command comes to that is answered in memory.
+use Rattle.std.specs.Prelude.{◌≡◌, ◌⊎◌, ℕ, Option, Some, None}
+use Rattle.std.specs.Ordering.{nat_cmp}
+use Rattle.std.specs.FinMap as map
+use Rattle.super_block.specs.declared.page.Super.{Super}
+use Rattle.volume_model.specs.Xattrs.{Xattrs, value_of, with_value, without}
+use Rattle.volume_model.specs.declared.command.VolumeRef.TheVariants.{Head}
+use Rattle.volume_model.specs.declared.command.Command.{Command}
+use Rattle.volume_model.specs.declared.command.Command.TheVariants as c
+use Rattle.volume_model.specs.declared.reply.Reply.{Reply}
+use Rattle.volume_model.specs.declared.reply.Reply.TheVariants as r
+use Rattle.blob_meta.specs.declared.meta.Meta.{Meta}
+use Rattle.blob_meta.specs.Asked.{IsCause, IsFirstCause}
+use Rattle.store_core.specs.declared.answering.Effect.{Effect}
+use Rattle.store_core.specs.declared.answering.NewLive.{NewLive}
+
+-- a command that nothing refuses, with its reply and new live attributes
+abbrev pub Does : Option Xattrs → Command → Reply → Option NewLive → Type 0
+Does (Some live) (c.SetX (Head head) key value) reply new = (reply ≡ r.Ok) × (new ≡ Some (record { head = head; xattrs = with_value live key value }))
+Does (Some live) (c.DelX (Head head) key) reply new = (reply ≡ r.Ok) × (new ≡ Some (record { head = head; xattrs = without live key }))
+Does (Some live) (c.GetX (Head head) key) reply new = (new ≡ None) × ((value : _) × (reply ≡ r.Value value) × (value_of live key ≡ Some value))
+Does live command reply new = ⊥
+
+module _ (metas : map.FinMap nat_cmp Meta) (live : Option Xattrs) (command : Command) (sup : Super) (e : Effect) where
+  -- the first cause that holds, and nothing else
+  pub record IsRefused : Type 0 where
+    pub cause : IsCause e.reply
+    pub first : IsFirstCause metas live command sup (Some e.reply)
+    pub none : e.live ≡ None
+
+  pub record IsDone : Type 0 where
+    pub none : IsFirstCause metas live command sup None
+    pub does : Does live command e.reply e.live
+
+  abbrev pub ComesTo : Type 0
+  ComesTo = IsRefused ⊎ IsDone

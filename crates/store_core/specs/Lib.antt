@@ -1,0 +1,10 @@
+pub mod Whole
+pub mod Stages
+pub mod Jobs
+pub mod Seen
+pub mod Running
+pub mod Steps
+pub mod Made
+pub mod Surviving
+pub mod Kept
+pub mod Answering

@@ -1,0 +1,47 @@
+-- The fields of a running store as contracts see them, and how they are kept in order.
+use Rattle.std.specs.Prelude.{◌≡◌, ℕ, ◌+◌, ◌^◌, ◌<◌, ◌≤◌, [], length, vec_capacity, slice_index_or, IfSome, List}
+use Rattle.std.specs.List.{sum_by}
+use Rattle.std.specs.Option.{option_map}
+use Rattle.page_disk.specs.declared.disk.PageDisk.{Ghosts}
+use Rattle.store_model.specs.Rows.{Row, entries_of}
+use Rattle.store_core.specs.Jobs.{job_seen, IsHeaded}
+use Rattle.store_core.specs.declared.running.Running.{Running}
+use Rattle.store_core.specs.Seen.{At, Both}
+
+abbrev pub at_of : {D : Type 0} → Running D → At D
+at_of running = record {
+  disk = running.disk;
+  super = running.sup;
+  metas = running.metas;
+  chains = running.chains;
+  live = running.live;
+  pages = running.pages.bits;
+  clusters = running.clusters.bits;
+  rows = running.rows.items;
+  job = option_map job_seen running.job;
+  serial = running.serial;
+  log = running.entries.items;
+  marks = running.marks.items;
+  stopped = running.stopped;
+}
+
+abbrev pub both : {D : Type 0} → Running D → Running D → Both D
+both running opening = record { at = at_of running; opening = at_of opening }
+
+-- how many commands are left in all rows
+abbrev pub left_in : List Row → ℕ
+left_in rows = sum_by (λ r. length r.left) rows
+
+-- There are sixteen rows; the log and the marks have room for all that is left; the entries of each channel are counted; no
+-- place is claimed; the metadata region lies on the device.
+pub record InOrder {D : Type 0} (d : Ghosts D) (running : Running D) : Type 0 where
+  pub inside : running.sup.md_start + running.sup.md_len ≤ d.pages running.disk
+  pub sixteen : length running.rows.items ≡ 16
+  pub entries : length running.entries.items + left_in running.rows.items ≤ vec_capacity running.entries
+  pub marks : length running.marks.items + left_in running.rows.items ≤ vec_capacity running.marks
+  pub few : length running.entries.items + left_in running.rows.items < 2 ^ 31
+  pub counts : length running.logged ≡ 16
+  pub counted : (channel : ℕ) → channel < 16 → slice_index_or running.logged channel 0 ≡ length (entries_of channel running.entries.items)
+  pub no_page : running.pages.claims ≡ []
+  pub no_cluster : running.clusters.claims ≡ []
+  pub headed : IfSome running.job IsHeaded

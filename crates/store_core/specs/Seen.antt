@@ -1,0 +1,82 @@
+-- What contracts see of a running store: the device itself, and the rest as plain data; and the state that follows.
+use Rattle.std.specs.Prelude.{ℕ, Bool, List, [], Option, refl, if◌then◌else◌, slice_index_or}
+use Rattle.std.specs.Ordering.{nat_cmp}
+use Rattle.std.specs.FinMap as map
+use Rattle.std.specs.Coded.{Coded, code_by, coded×, coded_ℕ, coded_bool, coded_option, coded_list}
+use Rattle.page_disk.specs.Disk.{Image}
+use Rattle.page_disk.specs.declared.disk.PageDisk.{Ghosts}
+use Rattle.super_block.specs.declared.page.Super.{Super}
+use Rattle.super_block.specs.contracts.page.Super as super_block
+use Rattle.volume_model.specs.Volumes.{zero_page}
+use Rattle.volume_model.specs.Xattrs.{Xattrs}
+use Rattle.volume_model.specs.contracts.text.Xattr as xattr
+use Rattle.volume_model.specs.declared.reply.Entry.{Entry}
+use Rattle.volume_model.specs.contracts.reply.Entry as entry
+use Rattle.blob_meta.specs.declared.meta.Meta.{Meta}
+use Rattle.blob_meta.specs.contracts.meta.Meta as meta
+use Rattle.store_model.specs.State.{Device}
+use Rattle.store_model.specs.Rows.{Row, Rows, Ended}
+use Rattle.store_model.specs.Plants.{Job, Plant}
+use Rattle.store_core.specs.Stages.{row_code}
+use Rattle.store_core.specs.Jobs.{job_code}
+
+pub record At (D : Type 0) : Type 0 where
+  pub disk : D
+  pub super : Super
+  pub metas : map.FinMap nat_cmp Meta
+  pub chains : map.FinMap nat_cmp (List ℕ)
+  pub live : map.FinMap nat_cmp Xattrs
+  pub pages : List Bool
+  pub clusters : List Bool
+  pub rows : List Row
+  pub job : Option Job
+  pub serial : ℕ
+  pub log : List Entry
+  pub marks : List ℕ
+  pub stopped : Option ℕ
+
+-- a store now, and as it began
+pub record Both (D : Type 0) : Type 0 where
+  pub at : At D
+  pub opening : At D
+
+abbrev pub at_code : {D : Type 0} → Coded D → Coded (At D)
+at_code {D} d =
+    code_by
+    (D × (Super × (map.FinMap nat_cmp Meta × (map.FinMap nat_cmp (List ℕ) × (map.FinMap nat_cmp Xattrs × (List Bool × (List Bool × (List Row × (Option Job × (ℕ × (List Entry × (List ℕ × Option ℕ))))))))))))
+    (coded× d (coded× super_block.the_row.coded (coded× (map.code coded_ℕ meta.the_row.coded) (coded× (map.code coded_ℕ (coded_list coded_ℕ)) (coded× (map.code coded_ℕ (coded_list xattr.the_row.coded)) (coded× (coded_list coded_bool) (coded× (coded_list coded_bool)
+    (coded× (coded_list row_code) (coded× (coded_option job_code) (coded× coded_ℕ (coded× (coded_list entry.the_row.coded) (coded× (coded_list coded_ℕ) (coded_option coded_ℕ)))))))))))))
+    (λ a. (a.disk, (a.super, (a.metas, (a.chains, (a.live, (a.pages, (a.clusters, (a.rows, (a.job, (a.serial, (a.log, (a.marks, a.stopped)))))))))))))
+    (λ p. record { disk = p.0; super = p.1.0; metas = p.1.1.0; chains = p.1.1.1.0; live = p.1.1.1.1.0; pages = p.1.1.1.1.1.0; clusters = p.1.1.1.1.1.1.0; rows = p.1.1.1.1.1.1.1.0; job = p.1.1.1.1.1.1.1.1.0; serial = p.1.1.1.1.1.1.1.1.1.0; log = p.1.1.1.1.1.1.1.1.1.1.0; marks = p.1.1.1.1.1.1.1.1.1.1.1.0; stopped = p.1.1.1.1.1.1.1.1.1.1.1.1 })
+    (λ _. refl)
+
+abbrev pub both_code : {D : Type 0} → Coded D → Coded (Both D)
+both_code {D} d = code_by (At D × At D) (coded× (at_code d) (at_code d)) (λ b. (b.at, b.opening)) (λ p. record { at = p.0; opening = p.1 }) (λ _. refl)
+
+-- what the device reads; of one that doesn't tell, zeros stand for it
+abbrev pub read_now : {D : Type 0} → Ghosts D → D → Image
+read_now d disk = if d.tells then d.now disk else (λ page. zero_page)
+
+abbrev pub device_of : {D : Type 0} → Ghosts D → D → Device
+device_of d disk = record { reads = read_now d disk; clock = d.clock disk; read_faults = d.read_faults disk; write_faults = d.write_faults disk; read_calls = d.reads disk }
+
+-- the rows by channels: a number past the sixteenth has ended
+abbrev pub rows_of : List Row → Rows
+rows_of rows channel = slice_index_or rows channel (record { left = []; stage = Ended })
+
+abbrev pub state_of : {D : Type 0} → Ghosts D → At D → Plant
+state_of d at = record {
+  super = at.super;
+  base = map.get at.metas;
+  chains = map.get at.chains;
+  live = map.get at.live;
+  pages = at.pages;
+  clusters = at.clusters;
+  rows = rows_of at.rows;
+  job = at.job;
+  serial = at.serial;
+  log = at.log;
+  marks = at.marks;
+  stopped = at.stopped;
+  device = device_of d at.disk;
+}

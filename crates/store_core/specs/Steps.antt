@@ -1,0 +1,38 @@
+-- What turns make of the rows, the log and the marks.
+use Rattle.std.specs.Prelude.{◌≡◌, ℕ, ◌<◌, List, [], ◌∷◌, ◌++◌, length, slice_set}
+use Rattle.volume_model.specs.declared.command.Command.{Command}
+use Rattle.volume_model.specs.declared.reply.Reply.{Reply}
+use Rattle.store_model.specs.Rows.{Row, Stage, Decided, Posted, entry_of}
+use Rattle.store_core.specs.Seen.{At, rows_of}
+
+-- one row is another
+abbrev pub with_row_at : {D : Type 0} → At D → ℕ → Row → At D
+with_row_at p channel row = record p { rows = slice_set p.rows channel row }
+
+-- a channel, and its row
+pub record HasRow {D : Type 0} (p : At D) (channel : ℕ) (row : Row) : Type 0 where
+  pub low : channel < length p.rows
+  pub is : rows_of p.rows channel ≡ row
+
+-- an entry is logged, with its mark
+abbrev pub logged_at : {D : Type 0} → At D → ℕ → Command → List Command → Reply → ℕ → At D
+logged_at p channel command rest reply mark = record p {
+  rows = slice_set p.rows channel (record { left = rest; stage = Decided });
+  log = p.log ++ entry_of p.log channel command reply ∷ [];
+  marks = p.marks ++ mark ∷ [];
+}
+
+-- a channel whose first command is at this stage
+pub record Waits {D : Type 0} (p : At D) (channel : ℕ) (stage : Stage) : Type 0 where
+  pub command : Command
+  pub rest : List Command
+  pub row : rows_of p.rows channel ≡ record { left = command ∷ rest; stage = stage }
+
+-- the command of a channel that is posted
+pub record IsPostedAt {D : Type 0} (p : At D) (channel : ℕ) : Type 0 where
+  pub serial : ℕ
+  pub waits : Waits p channel (Posted serial)
+
+-- the first command of a channel has this
+abbrev pub Asks : {D : Type 0} → At D → ℕ → (Command → Type 0) → Type 0
+Asks p channel P = (command : Command) (rest : List Command) → (rows_of p.rows channel).left ≡ command ∷ rest → P command

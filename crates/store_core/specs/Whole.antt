@@ -1,0 +1,28 @@
+-- When what was loaded of a store is whole in itself, whatever the device tells.
+use Rattle.std.specs.Prelude.{◌≡◌, ◌↔◌, ◌<◌, ℕ, [], length, true, false, IsSome}
+use Rattle.std.specs.FinMap as map
+use Rattle.bit_array.specs.Bits.{is_in}
+use Rattle.super_block.specs.declared.page.Super.{Super}
+use Rattle.super_block.specs.declared.masks.Masks.{Masks}
+use Rattle.blob_meta.specs.Resolving.{IsLawful}
+use Rattle.store_model.specs.Maps.{Metas, Chains}
+use Rattle.store_model.specs.Places.{UsedClusters, UsedPages}
+use Rattle.store_model.specs.Standing.{AreRoots, HaveChains}
+use Rattle.store_core.specs.declared.loaded.Loaded.{Loaded}
+
+-- The masks are what the chains and the maps claim: pages, clusters and heads.
+pub record AreMasks (s : Super) (metas : Metas) (chains : Chains) (masks : Masks) : Type 0 where
+  pub pages : UsedPages s.md_len masks.pages chains []
+  pub clusters : UsedClusters s masks.clusters metas
+  pub count : length masks.blobs ≡ s.md_len
+  pub blobs : (head : ℕ) → head < s.md_len → (is_in masks.blobs head ≡ true) ↔ IsSome (metas head)
+
+-- The metadata is that of roots and lawful; each blob has its chain; and nothing is left to recover.
+pub record IsWhole {D : Type 0} (loaded : Loaded D) : Type 0 where
+  pub roots : AreRoots loaded.sup (map.get loaded.metas)
+  pub lawful : IsLawful loaded.sup.md_len (map.get loaded.metas)
+  pub chains : HaveChains loaded.sup (map.get loaded.metas) (map.get loaded.chains)
+  pub masks : AreMasks loaded.sup (map.get loaded.metas) (map.get loaded.chains) loaded.masks
+  pub none_removed : loaded.removed ≡ map.empty
+  pub no_repairs : loaded.repairs ≡ []
+  pub read_whole : loaded.quick ≡ false

@@ -1,0 +1,140 @@
+//! Commands that are answered in memory.
+
+ghost use Rattle.std.specs.Prelude.{◌≡◌, ◌<◌, Some, None, option_copied, IfOk, IfSome, IsSome};
+ghost use Rattle.std.specs.FinMap as map;
+ghost use Rattle.blob_meta.specs.Asked.{HasValue, IsOnHead, IsLiveOf};
+ghost use Rattle.store_model.specs.Cases.{IsInMemory};
+ghost use Rattle.store_model.specs.Cases as kind;
+ghost use Rattle.store_core.specs.Answering.{ComesTo, Does};
+ghost use Rattle.store_core.specs.Kept.{IsRunning};
+ghost use Rattle.store_core.specs.Made.{Made};
+ghost use Rattle.store_core.specs.Running.{at_of, InOrder};
+ghost use Rattle.store_core.specs.Seen.{state_of};
+ghost use Rattle.store_core.specs.Steps.{Asks, IsPostedAt};
+
+use crate::logging::log;
+use crate::running::Running;
+use blob_meta::{HeadMap, Metas, head_in, refusal_of};
+use out_of_memory::Memory;
+use page_disk::PageDisk;
+use std::alloc::Global;
+use super_block::Super;
+use volume_model::{Command, Reply, TryCopy, VolumeRef, XattrList};
+
+/// New live attributes of the blob at a head.
+#[derive(Drop)]
+pub(crate) struct NewLive {
+    pub(crate) head: u32,
+    pub(crate) xattrs: XattrList,
+}
+
+/// A reply, and what changes in memory with it.
+#[derive(Drop)]
+pub(crate) struct Effect {
+    pub(crate) reply: Reply,
+    pub(crate) live: Option<NewLive>,
+}
+
+/// The effect of a command that nothing refuses.
+fn done(alloc: Global, live: &XattrList, command: &Command) -> Result<Effect, Memory>
+    requires on_head { IsOnHead command.now }
+    requires in_memory { IsInMemory command.now }
+    requires found { HasValue (Some live.now) command.now }
+    ensures { IfOk result (λ e. Does (Some live.now) command.now e.reply e.live) }
+{
+    match command {
+        Command::SetX {
+            volume: VolumeRef::Head(head),
+            key,
+            value,
+        } => Ok(Effect {
+            reply: Reply::Ok,
+            live: Some(NewLive {
+                head: *head,
+                xattrs: live.with_value(alloc, key.bytes(), value.bytes())?,
+            }),
+        }),
+        Command::DelX {
+            volume: VolumeRef::Head(head),
+            key,
+        } => Ok(Effect {
+            reply: Reply::Ok,
+            live: Some(NewLive {
+                head: *head,
+                xattrs: live.without(alloc, key.bytes())?,
+            }),
+        }),
+        Command::GetX {
+            volume: VolumeRef::Head(_),
+            key,
+        } => match live.value_of(key.bytes()) {
+            Some(value) => Ok(Effect {
+                reply: Reply::Value(value.try_copy(alloc)?),
+                live: None,
+            }),
+            None => unreachable!(),
+        },
+        _ => unreachable!(),
+    }
+}
+
+/// What a command on the attributes of a blob comes to, that is answered in memory.
+pub(crate) fn effect_of(
+    alloc: Global,
+    metas: &Metas,
+    sup: &Super,
+    live: Option<&XattrList>,
+    command: &Command,
+) -> Result<Effect, Memory>
+    requires on_head { IsOnHead command.now }
+    requires in_memory { IsInMemory command.now }
+    requires live { IsLiveOf metas.now (option_copied live) command.now }
+    ensures { IfOk result (ComesTo metas.now (option_copied live.entry) command.now sup.now) }
+{
+    if let Some(reply) = refusal_of(metas, sup, live, command) {
+        return Ok(Effect { reply, live: None });
+    }
+    match live {
+        Some(live) => done(alloc, live, command),
+        None => unreachable!(),
+    }
+}
+
+/// Keeps new live attributes of a blob that is there.
+fn keep_live(live: &mut HeadMap<XattrList>, new: Option<NewLive>)
+    requires there { IfSome new (λ n. IsSome (map.get live.old n.head)) }
+    ensures none { new ≡ None → live.new ≡ live.old }
+    ensures some { IfSome new (λ n. live.new ≡ map.insert live.old n.head n.xattrs) }
+{
+    if let Some(NewLive { head, xattrs }) = new {
+        match live.insert(head, xattrs) {
+            Ok(()) => {}
+            Err(Memory) => unreachable!(),
+        }
+    }
+}
+
+/// Answers the posted command of a channel in memory: its reply is logged, and new live attributes are kept.
+pub(crate) fn answer<D: PageDisk>(running: &mut Running<D>, channel: u8)
+    requires order { InOrder D.PageDisk running.old }
+    requires channel { channel < 16 }
+    requires posted { IsPostedAt (at_of running.old) channel }
+    requires in_memory { Asks (at_of running.old) channel (λ command. IsOnHead command × IsInMemory command) }
+    requires running { IsRunning (state_of D.PageDisk (at_of running.old)) }
+    requires runs { running.old.stopped ≡ None }
+    requires no_job { running.old.job ≡ None }
+    ensures case { Made D.PageDisk (at_of running.old) (at_of running.new) kind.answers }
+    ensures order { InOrder D.PageDisk running.new }
+{
+    let Some(command) = running.rows[channel as usize].first() else {
+        unreachable!()
+    };
+    let live = running.live.get(head_in(command));
+    match effect_of(running.alloc, &running.metas, &running.sup, live, command) {
+        Ok(Effect { reply, live }) => {
+            keep_live(&mut running.live, live);
+            log(running, channel, reply);
+        }
+        Err(Memory) => log(running, channel, Reply::Memory),
+    }
+}

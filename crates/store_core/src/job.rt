@@ -1,0 +1,33 @@
+//! The running job.
+
+use blob_meta::Meta;
+use md_chain::Plan;
+use std::snapshot::Snapshot;
+use volume_model::{PlaceList, XattrList};
+
+/// What a job writes: new metadata of the blob at a head, as a chain of pages.
+pub(crate) struct Planned {
+    /// The channel whose command the job serves.
+    pub(crate) channel: u8,
+    pub(crate) head: u32,
+    pub(crate) new: Meta,
+    /// The attributes of the new metadata once more, as they are read from the commit on.
+    pub(crate) live: XattrList,
+    /// The places of the chain, the head first, and their pages.
+    pub(crate) chain: PlaceList,
+    pub(crate) pages: Plan,
+}
+
+/// How far a job has come. Once the head is written, what was planned is known to contracts alone, and takes no bytes.
+pub(crate) enum Work {
+    /// So many of the pages behind the head are written.
+    Writing { planned: Planned, written: usize },
+    /// So many of the old pages are overwritten.
+    Erasing { did: Snapshot<Planned>, erased: usize },
+}
+
+/// The running job, with the places that stood behind the head before it.
+pub(crate) struct RunningJob {
+    pub(crate) work: Work,
+    pub(crate) old: PlaceList,
+}

@@ -1,0 +1,36 @@
+//! Entries of the log.
+
+ghost use Rattle.std.specs.Prelude.{◌≡◌, ◌<◌, ◌∷◌, List, length};
+ghost use Rattle.volume_model.specs.declared.command.Command.{Command as ACommand};
+ghost use Rattle.store_model.specs.Rows.{Stage as AStage};
+ghost use Rattle.store_core.specs.Running.{at_of, InOrder};
+ghost use Rattle.store_core.specs.Seen.{rows_of};
+ghost use Rattle.store_core.specs.Steps.{logged_at};
+
+use crate::running::Running;
+use page_disk::PageDisk;
+use volume_model::{Entry, Reply};
+
+/// Logs a reply to the first command of a channel, which leaves its row; the clock is the entry's mark.
+pub(crate) fn log<D: PageDisk>(running: &mut Running<D>, channel: u8, reply: Reply)
+    requires order { InOrder D.PageDisk running.old }
+    requires channel { channel < 16 }
+    requires left { 0 < length (rows_of running.old.rows.items channel).left }
+    ensures logged { (command : ACommand) (rest : List ACommand) → (rows_of running.old.rows.items channel).left ≡ command ∷ rest →
+        at_of running.new ≡ logged_at (at_of running.old) channel command rest reply (D.clock running.new.disk) }
+    ensures order { InOrder D.PageDisk running.new }
+{
+    let Some(command) = running.rows[channel as usize].take() else {
+        return;
+    };
+    let index = running.logged[channel as usize];
+    running.logged[channel as usize] += 1;
+    running.entries.push_reserved(Entry {
+        channel,
+        index,
+        command,
+        reply,
+    });
+    let mark = running.disk.clock();
+    running.marks.push_reserved(mark);
+}

@@ -1,0 +1,135 @@
+//! The rows of the channels.
+
+use std::alloc::Global;
+use std::collections::VecDeque;
+use std::marker::Model;
+use volume_model::{Command, Msg};
+
+/// What a channel's row waits for.
+pub enum RowStage {
+    /// The first command is one for the metadata thread, and is to be posted.
+    Meta,
+    /// It is posted by this message.
+    Posted(Msg),
+    /// The running job serves it.
+    InJob,
+    /// A command has been logged, and the channel is to settle.
+    Decided,
+    /// No command is left.
+    Over,
+    /// The channel has ended.
+    Ended,
+}
+
+/// How far the first command of a row has come.
+#[derive(Clone, Copy)]
+pub(crate) enum Stage {
+    Idle,
+    Posted(u64),
+    InJob,
+    Decided,
+    Ended,
+}
+
+/// What a channel has left of its commands, and how far the first of them has come. Contracts see both.
+pub(crate) struct Row {
+    pub(crate) left: VecDeque<Command>,
+    pub(crate) stage: Stage,
+}
+
+impl Model for Row {
+    ghost use Rattle.store_model.specs.Rows.{Row};
+    ghost use Rattle.store_core.specs.Stages.{row_code, stage_seen};
+
+    ghost Value = { Row };
+
+    ghost coded = { row_code };
+
+    ghost view = { λ r. record { left = r.left.items; stage = stage_seen r.stage } };
+}
+
+impl Row {
+    ghost use Rattle.std.specs.Prelude.{◌≡◌, ◌∷◌, [], option_copied, slice_get, IfSome, IfNone};
+    ghost use Rattle.store_model.specs.Rows.{Idle, Posted, InJob, Decided, Ended};
+    ghost use Rattle.store_core.specs.Stages.{is_stage};
+
+    /// The row of a channel with these commands, of which none is posted.
+    pub(crate) fn new(commands: Vec<Command>) -> Row
+        ensures { result ≡ record { left = commands.items; stage = Idle } }
+    {
+        Row {
+            left: VecDeque::from_vec(commands),
+            stage: Stage::Idle,
+        }
+    }
+
+    /// The row of a number that is no channel of the script.
+    pub(crate) fn ended(alloc: Global) -> Row
+        ensures { result ≡ record { left = []; stage = Ended } }
+    {
+        Row {
+            left: VecDeque::new(alloc),
+            stage: Stage::Ended,
+        }
+    }
+
+    /// What the row of this channel waits for.
+    pub(crate) fn stage(&self, channel: u8) -> RowStage
+        ensures { result ≡ is_stage self.now channel }
+    {
+        match self.stage {
+            Stage::Idle if self.left.is_empty() => RowStage::Over,
+            Stage::Idle => RowStage::Meta,
+            Stage::Posted(serial) => RowStage::Posted(Msg { channel, serial }),
+            Stage::InJob => RowStage::InJob,
+            Stage::Decided => RowStage::Decided,
+            Stage::Ended => RowStage::Ended,
+        }
+    }
+
+    /// The first command.
+    pub(crate) fn first(&self) -> Option<&Command>
+        ensures { option_copied result ≡ slice_get self.now.left 0 }
+    {
+        self.left.front()
+    }
+
+    /// The first command is posted under a number.
+    pub(crate) fn post(&mut self, serial: u64)
+        ensures { self.new ≡ record self.old { stage = Posted serial } }
+    {
+        self.stage = Stage::Posted(serial);
+    }
+
+    /// The running job serves the first command.
+    pub(crate) fn serve(&mut self)
+        ensures { self.new ≡ record self.old { stage = InJob } }
+    {
+        self.stage = Stage::InJob;
+    }
+
+    /// Takes out the first command, which is logged.
+    pub(crate) fn take(&mut self) -> Option<Command>
+        ensures some { IfSome result (λ command. self.old.left ≡ command ∷ self.new.left) }
+        ensures decided { IfSome result (λ _. self.new.stage ≡ Decided) }
+        ensures none { IfNone result ((self.old.left ≡ []) × (self.new ≡ self.old)) }
+    {
+        let command = self.left.pop_front()?;
+        self.stage = Stage::Decided;
+        Some(command)
+    }
+
+    /// The channel has the word that its command is logged.
+    pub(crate) fn settle(&mut self)
+        ensures { self.new ≡ record self.old { stage = Idle } }
+    {
+        self.stage = Stage::Idle;
+    }
+
+    /// The channel ends.
+    pub(crate) fn end(&mut self)
+        ensures { self.new ≡ record self.old { stage = Ended } }
+    {
+        self.stage = Stage::Ended;
+    }
+}

@@ -1,0 +1,50 @@
+//! Turns that change a row, and no more.
+
+ghost use Rattle.std.specs.Prelude.{◌≡◌, ◌<◌, [], IfSome, IsErr};
+ghost use Rattle.store_model.specs.Cases as kind;
+ghost use Rattle.store_model.specs.Rows.{Idle, Decided};
+ghost use Rattle.store_core.specs.Running.{at_of, InOrder};
+ghost use Rattle.store_core.specs.Seen.{rows_of};
+ghost use Rattle.store_core.specs.Made.{Made};
+ghost use Rattle.store_core.specs.Steps.{Waits};
+
+use crate::running::Running;
+use page_disk::PageDisk;
+use volume_model::Msg;
+
+/// Posts the first command of a channel under the next number.
+pub(crate) fn post<D: PageDisk>(running: &mut Running<D>, channel: u8) -> Msg
+    requires order { InOrder D.PageDisk running.old }
+    requires channel { channel < 16 }
+    requires waits { Waits (at_of running.old) channel Idle }
+    ensures case { Made D.PageDisk (at_of running.old) (at_of running.new) kind.posts }
+    ensures message { result ≡ record { channel = channel; serial = running.old.serial } }
+    ensures order { InOrder D.PageDisk running.new }
+{
+    let serial = running.serial;
+    running.rows[channel as usize].post(serial);
+    running.serial = serial.wrapping_add(1);
+    Msg { channel, serial }
+}
+
+/// A channel has the word that its command is logged.
+pub(crate) fn settle<D: PageDisk>(running: &mut Running<D>, channel: u8)
+    requires order { InOrder D.PageDisk running.old }
+    requires channel { channel < 16 }
+    requires decided { (rows_of running.old.rows.items channel).stage ≡ Decided }
+    ensures case { Made D.PageDisk (at_of running.old) (at_of running.new) kind.settles }
+    ensures order { InOrder D.PageDisk running.new }
+{
+    running.rows[channel as usize].settle();
+}
+
+/// A channel without commands ends.
+pub(crate) fn end<D: PageDisk>(running: &mut Running<D>, channel: u8)
+    requires order { InOrder D.PageDisk running.old }
+    requires channel { channel < 16 }
+    requires over { rows_of running.old.rows.items channel ≡ record { left = []; stage = Idle } }
+    ensures case { Made D.PageDisk (at_of running.old) (at_of running.new) kind.ends }
+    ensures order { InOrder D.PageDisk running.new }
+{
+    running.rows[channel as usize].end();
+}

@@ -1,0 +1,99 @@
+-- How rows stand to the job, when one row changes.
+use Rattle.std.proofs.Common.{◌≡◌, ◌≢◌, ℕ, ◌<◌, ◌≤◌, ◌+◌, List, [], ◌∷◌, Option, Some, None, refl, sym, ◌∙◌, ap, subst, inl, inr}
+use Rattle.std.proofs.lemmas.Bool.{cases_eq}
+use Rattle.volume_model.specs.declared.command.Command.{Command}
+use Rattle.store_model.specs.Rows.{Row, Rows, Stage, Idle, Posted, InJob, Decided, Ended, with_row}
+use Rattle.store_model.specs.Plants.{Job, Phase, Writing, Erasing, Plant}
+use Rattle.store_model.specs.Standing.{IsShaped}
+use Rattle.store_model.proofs.RowsKept.{row_here, row_other}
+
+-- the job that serves a channel
+pub record Serves (p : Plant) (channel : ℕ) : Type 0 where
+  pub job : Job
+  pub written : ℕ
+  pub is : p.job ≡ Some job
+  pub channel_is : job.channel ≡ channel
+  pub phase : job.phase ≡ Writing written
+
+pub serves : (p : Plant) → IsShaped p → (channel : ℕ) → (p.rows channel).stage ≡ InJob → Serves p channel
+serves p shaped channel is = let x = shaped.in_job channel is in record { job = x.0; written = x.1; is = x.2; channel_is = x.3; phase = x.4 }
+
+-- no channel is in a job that has committed
+pub none_erasing : (p : Plant) → IsShaped p → (job : Job) (erased : ℕ) → p.job ≡ Some job → job.phase ≡ Erasing erased → (channel : ℕ) → (p.rows channel).stage ≡ InJob → ⊥
+none_erasing p shaped job erased is phase channel in_job =
+    let x = serves p shaped channel in_job in
+    let same : x.job ≡ job = let both = sym x.is ∙ is in cc both in
+    let bad : Writing x.written ≡ Erasing erased = sym x.phase ∙ ap (λ (j : Job). j.phase) same ∙ phase in
+    cc bad
+
+pub none_without : (p : Plant) → IsShaped p → p.job ≡ None → (channel : ℕ) → (p.rows channel).stage ≡ InJob → ⊥
+none_without p shaped none channel in_job = let x = serves p shaped channel in_job in let bad = sym x.is ∙ none in cc bad
+
+-- the row of a job's channel is the one in the job
+pub only_served : (p : Plant) → IsShaped p → (job : Job) → p.job ≡ Some job → (channel : ℕ) → (p.rows channel).stage ≡ InJob → channel ≡ job.channel
+only_served p shaped job is channel in_job =
+    let x = serves p shaped channel in_job in
+    let same : x.job ≡ job = let both = sym x.is ∙ is in cc both in
+    sym x.channel_is ∙ ap (λ (j : Job). j.channel) same
+
+-- what a row may be
+pub record MayBe (p : Plant) (channel : ℕ) (row : Row) : Type 0 where
+  pub posted : (serial : ℕ) → row.stage ≡ Posted serial → row.left ≢ []
+  pub in_job : row.stage ≡ InJob → Serves p channel
+  pub ended : row.stage ≡ Ended → row.left ≡ []
+
+module _ (p : Plant) (shaped : IsShaped p) (q : Plant) (channel : ℕ) (row : Row) (rows : q.rows ≡ with_row p.rows channel row)
+    (others : (c : ℕ) → c ≢ channel → (p.rows c).stage ≡ InJob → Serves q c) where
+  here : (c : ℕ) → c ≡ channel → q.rows c ≡ row
+  here c e = ap (λ (r : Rows). r c) rows ∙ row_here p.rows channel row c e
+
+  there : (c : ℕ) → c ≢ channel → q.rows c ≡ p.rows c
+  there c ne = ap (λ (r : Rows). r c) rows ∙ row_other p.rows channel row c ne
+
+  given_back : (c : ℕ) → Serves q c → (job : Job) × (written : ℕ) × (q.job ≡ Some job) × (job.channel ≡ c) × (job.phase ≡ Writing written)
+  given_back c x = (x.job, x.written, x.is, x.channel_is, x.phase)
+
+  pub shaped_with : MayBe q channel row → IsShaped q
+  shaped_with may = record {
+    posted = λ c serial is. elim (cases_eq c channel) [
+      | inl e ↦ subst (λ (r : Row). r.left ≢ []) (sym (here c e)) (may.posted serial (sym (ap (λ (r : Row). r.stage) (here c e)) ∙ is))
+      | inr ne ↦ subst (λ (r : Row). r.left ≢ []) (sym (there c ne)) (shaped.posted c serial (sym (ap (λ (r : Row). r.stage) (there c ne)) ∙ is))
+    ];
+    in_job = λ c is. elim (cases_eq c channel) [
+      | inl e ↦ given_back c (subst (Serves q) (sym e) (may.in_job (sym (ap (λ (r : Row). r.stage) (here c e)) ∙ is)))
+      | inr ne ↦ given_back c (others c ne (sym (ap (λ (r : Row). r.stage) (there c ne)) ∙ is))
+    ];
+    ended = λ c is. elim (cases_eq c channel) [
+      | inl e ↦ ap (λ (r : Row). r.left) (here c e) ∙ may.ended (sym (ap (λ (r : Row). r.stage) (here c e)) ∙ is)
+      | inr ne ↦ ap (λ (r : Row). r.left) (there c ne) ∙ shaped.ended c (sym (ap (λ (r : Row). r.stage) (there c ne)) ∙ is)
+    ];
+  }
+
+-- with the rows as they were
+pub shaped_same : (p q : Plant) → IsShaped p → q.rows ≡ p.rows → ((c : ℕ) → (p.rows c).stage ≡ InJob → Serves q c) → IsShaped q
+shaped_same p q shaped rows served = record {
+  posted = λ c serial is. subst (λ (r : Rows). (r c).left ≢ []) (sym rows) (shaped.posted c serial (sym (ap (λ (r : Rows). (r c).stage) rows) ∙ is));
+  in_job = λ c is. let x = served c (sym (ap (λ (r : Rows). (r c).stage) rows) ∙ is) in (x.job, x.written, x.is, x.channel_is, x.phase);
+  ended = λ c is. ap (λ (r : Rows). (r c).left) rows ∙ shaped.ended c (sym (ap (λ (r : Rows). (r c).stage) rows) ∙ is);
+}
+
+-- the same job serves
+pub serves_same : (p q : Plant) → q.job ≡ p.job → (channel : ℕ) → Serves p channel → Serves q channel
+serves_same p q job channel x = record { job = x.job; written = x.written; is = job ∙ x.is; channel_is = x.channel_is; phase = x.phase }
+
+-- ---- rows of one stage
+
+pub idle_may : (p : Plant) (channel : ℕ) (left : List Command) → MayBe p channel (record { left = left; stage = Idle })
+idle_may p channel left = record { posted = λ serial is. absurd (cc is); in_job = λ is. absurd (cc is); ended = λ is. absurd (cc is) }
+
+pub decided_may : (p : Plant) (channel : ℕ) (left : List Command) → MayBe p channel (record { left = left; stage = Decided })
+decided_may p channel left = record { posted = λ serial is. absurd (cc is); in_job = λ is. absurd (cc is); ended = λ is. absurd (cc is) }
+
+pub ended_may : (p : Plant) (channel : ℕ) → MayBe p channel (record { left = []; stage = Ended })
+ended_may p channel = record { posted = λ serial is. absurd (cc is); in_job = λ is. absurd (cc is); ended = λ is. refl }
+
+pub posted_may : (p : Plant) (channel serial : ℕ) (command : Command) (rest : List Command) → MayBe p channel (record { left = command ∷ rest; stage = Posted serial })
+posted_may p channel serial command rest = record { posted = λ n is none. cc none; in_job = λ is. absurd (cc is); ended = λ is. absurd (cc is) }
+
+pub in_job_may : (p : Plant) (channel : ℕ) (command : Command) (rest : List Command) → Serves p channel → MayBe p channel (record { left = command ∷ rest; stage = InJob })
+in_job_may p channel command rest x = record { posted = λ serial is. absurd (cc is); in_job = λ is. x; ended = λ is. absurd (cc is) }

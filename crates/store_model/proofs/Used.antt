@@ -1,0 +1,157 @@
+-- Which pages are in use when a job begins, commits and ends.
+use Rattle.std.proofs.Common.{◌≡◌, ◌≢◌, ◌⊎◌, ℕ, ◌<◌, Bool, true, false, List, [], ◌∷◌, length, Option, Some, None, refl, sym, ◌∙◌, ap, subst, arith, inl, inr}
+use Rattle.std.proofs.lemmas.Bool.{cases_Bool, cases_eq, cases_lt, both_ways}
+use Rattle.std.proofs.Math.ListN.{get_or-eq_default}
+use Rattle.bit_array.specs.Bits.{is_in}
+use Rattle.super_block.specs.declared.page.Super.{Super}
+use Rattle.blob_meta.specs.declared.meta.Meta.{Meta}
+use Rattle.md_chain.specs.Chain.{is_among}
+use Rattle.store_model.specs.Maps.{Metas, Chains, given}
+use Rattle.store_model.specs.Places.{all_set, AreLeastClear, AreDistinct, IsLinked, UsedPages}
+use Rattle.store_model.specs.Standing.{HaveChains}
+use Rattle.store_model.proofs.Given.{given_here, given_elsewhere}
+use Rattle.store_model.proofs.Sets.{all_set_in, all_set_out, among_either, among_first, among_later, are_distinct, length_all_set, not_first, were_clear, AllBelow}
+
+pub within : (bits : List Bool) (x : ℕ) → is_in bits x ≡ true → x < length bits
+within bits x is = elim (cases_lt x (length bits)) [ | inl lt ↦ lt | inr ge ↦ absurd (both_ways (is_in bits x) (get_or-eq_default bits false ge) is) ]
+
+not_among_none : (x : ℕ) → is_among x [] ≡ true → ⊥
+not_among_none x is = cc is
+
+module _ (md_len : ℕ) (bits : List Bool) (chains : Chains) where
+  -- the least clear pages are taken
+  pub used_begun : (fresh : List ℕ) → UsedPages md_len bits chains [] → AreLeastClear bits fresh → UsedPages md_len (all_set bits fresh true) chains fresh
+  used_begun fresh u least =
+      let low : AllBelow (length bits) fresh = λ x is. (were_clear bits fresh least x is).below in
+      let keeps : (x : ℕ) → is_in bits x ≡ true → is_in (all_set bits fresh true) x ≡ true = λ x is. elim (cases_Bool (is_among x fresh)) [
+        | inl among ↦ all_set_in bits fresh true x low among
+        | inr out ↦ all_set_out bits fresh true x out ∙ is
+      ] in
+      record {
+        count = length_all_set bits fresh true ∙ u.count;
+        linked = λ x l. keeps x (u.linked x l);
+        held_too = λ x among. all_set_in bits fresh true x low among;
+        no_other = λ x is. elim (cases_Bool (is_among x fresh)) [
+          | inl among ↦ inr among
+          | inr out ↦ elim (u.no_other x (sym (all_set_out bits fresh true x out) ∙ is)) [ | inl l ↦ inl l | inr none ↦ absurd (not_among_none x none) ]
+        ];
+        apart = λ x among l. both_ways (is_in bits x) (were_clear bits fresh least x among).clear (u.linked x l);
+      }
+
+  -- the pages that are held are clear again
+  pub used_freed : (old : List ℕ) → UsedPages md_len bits chains old → UsedPages md_len (all_set bits old false) chains []
+  used_freed old u =
+      let low : AllBelow (length bits) old = λ x is. within bits x (u.held_too x is) in
+      let out : (x : ℕ) → IsLinked chains x → is_among x old ≡ false = λ x l. elim (cases_Bool (is_among x old)) [ | inl among ↦ absurd (u.apart x among l) | inr apart ↦ apart ] in
+      record {
+        count = length_all_set bits old false ∙ u.count;
+        linked = λ x l. all_set_out bits old false x (out x l) ∙ u.linked x l;
+        held_too = λ x is. absurd (not_among_none x is);
+        no_other = λ x is. elim (cases_Bool (is_among x old)) [
+          | inl among ↦ absurd (both_ways (is_in (all_set bits old false) x) (all_set_in bits old false x low among) is)
+          | inr apart ↦ elim (u.no_other x (sym (all_set_out bits old false x apart) ∙ is)) [ | inl l ↦ inl l | inr among ↦ absurd (both_ways (is_among x old) apart among) ]
+        ];
+        apart = λ x is l. not_among_none x is;
+      }
+
+-- a head's chain is another, of fresh pages
+module _ (s : Super) (metas : Metas) (chains : Chains) (have : HaveChains s metas chains) (bits : List Bool) (head : ℕ) (old fresh : List ℕ) (there : chains head ≡ Some (head ∷ old))
+    (u : UsedPages s.md_len bits chains fresh) where
+  abbrev now : Chains
+  now = given chains head (head ∷ fresh)
+
+  linked_new : (x : ℕ) → is_among x (head ∷ fresh) ≡ true → IsLinked now x
+  linked_new x among = record { head = head; pages = head ∷ fresh; chain = given_here chains head (head ∷ fresh) head refl; among = among }
+
+  linked_head : IsLinked chains head
+  linked_head = record { head = head; pages = head ∷ old; chain = there; among = among_first head old }
+
+  -- what was linked is linked still, or is one of the old pages
+  still_linked : (x : ℕ) → IsLinked chains x → IsLinked now x ⊎ (is_among x old ≡ true)
+  still_linked x l = elim (cases_eq l.head head) [
+    | inl e ↦
+        let same : l.pages ≡ head ∷ old = let both = sym l.chain ∙ ap chains e ∙ there in cc both in
+        elim (among_either x head old (subst (λ ps. is_among x ps ≡ true) same l.among)) [
+          | inl first ↦ inl (linked_new x (subst (λ y. is_among y (head ∷ fresh) ≡ true) (sym first) (among_first head fresh)))
+          | inr later ↦ inr later
+        ]
+    | inr ne ↦ inl (record { head = l.head; pages = l.pages; chain = given_elsewhere chains head (head ∷ fresh) l.head ne ∙ l.chain; among = l.among })
+  ]
+
+  -- what is linked was, or is one of the fresh pages
+  was_linked : (x : ℕ) → IsLinked now x → IsLinked chains x ⊎ (is_among x fresh ≡ true)
+  was_linked x l = elim (cases_eq l.head head) [
+    | inl e ↦
+        let same : l.pages ≡ head ∷ fresh = let both = sym l.chain ∙ given_here chains head (head ∷ fresh) l.head e in cc both in
+        elim (among_either x head fresh (subst (λ ps. is_among x ps ≡ true) same l.among)) [
+          | inl first ↦ inl (subst (IsLinked chains) (sym first) linked_head)
+          | inr later ↦ inr later
+        ]
+    | inr ne ↦ inl (record { head = l.head; pages = l.pages; chain = sym (given_elsewhere chains head (head ∷ fresh) l.head ne) ∙ l.chain; among = l.among })
+  ]
+
+  old_linked : (x : ℕ) → is_among x old ≡ true → IsLinked chains x
+  old_linked x among = record { head = head; pages = head ∷ old; chain = there; among = among_later x head old among }
+
+  old_apart : (x : ℕ) → is_among x old ≡ true → IsLinked now x → ⊥
+  old_apart x among l = elim (cases_eq l.head head) [
+    | inl e ↦
+        let same : l.pages ≡ head ∷ fresh = let both = sym l.chain ∙ given_here chains head (head ∷ fresh) l.head e in cc both in
+        elim (among_either x head fresh (subst (λ ps. is_among x ps ≡ true) same l.among)) [
+          | inl first ↦ both_ways (is_among head old) (have.differ head (head ∷ old) there).0 (subst (λ y. is_among y old ≡ true) first among)
+          | inr later ↦ u.apart x later (old_linked x among)
+        ]
+    | inr ne ↦ ne (have.apart l.head head x l.pages (head ∷ old) (sym (given_elsewhere chains head (head ∷ fresh) l.head ne) ∙ l.chain) there l.among (among_later x head old among))
+  ]
+
+  pub used_committed : UsedPages s.md_len bits now old
+  used_committed = record {
+    count = u.count;
+    linked = λ x l. elim (was_linked x l) [ | inl was ↦ u.linked x was | inr f ↦ u.held_too x f ];
+    held_too = λ x among. u.linked x (old_linked x among);
+    no_other = λ x is. elim (u.no_other x is) [ | inl l ↦ still_linked x l | inr f ↦ inl (linked_new x (among_later x head fresh f)) ];
+    apart = old_apart;
+  }
+
+  fresh_apart : (h x : ℕ) (pages : List ℕ) → h ≢ head → now h ≡ Some pages → is_among x pages ≡ true → is_among x (head ∷ fresh) ≡ true → ⊥
+  fresh_apart h x pages ne chain among here =
+      let was : chains h ≡ Some pages = sym (given_elsewhere chains head (head ∷ fresh) h ne) ∙ chain in
+      elim (among_either x head fresh here) [
+        | inl first ↦ ne (have.apart h head x pages (head ∷ old) was there among (subst (λ y. is_among y (head ∷ old) ≡ true) (sym first) (among_first head old)))
+        | inr later ↦ u.apart x later (record { head = h; pages = pages; chain = was; among = among })
+      ]
+
+  pub chains_committed : (new : Meta) → AreDistinct fresh → AllBelow s.md_len (head ∷ fresh) → HaveChains s (given metas head new) now
+  chains_committed new distinct low =
+      let clear : is_among head fresh ≡ false = elim (cases_Bool (is_among head fresh)) [ | inl among ↦ absurd (u.apart head among linked_head) | inr apart ↦ apart ] in
+      let pages_here : (h : ℕ) (pages : List ℕ) → h ≡ head → now h ≡ Some pages → pages ≡ head ∷ fresh =
+      λ h pages e chain. let both = sym chain ∙ given_here chains head (head ∷ fresh) h e in cc both in
+      let was : (h : ℕ) → h ≢ head → now h ≡ chains h = λ h ne. given_elsewhere chains head (head ∷ fresh) h ne in
+      record {
+        chain = λ h m is. elim (cases_eq h head) [
+          | inl e ↦ (fresh, given_here chains head (head ∷ fresh) h e ∙ ap (λ k. Some (k ∷ fresh)) (sym e))
+          | inr ne ↦ let c = have.chain h m (sym (given_elsewhere metas head new h ne) ∙ is) in (c.0, was h ne ∙ c.1)
+        ];
+        none = λ h is. elim (cases_eq h head) [
+          | inl e ↦ absurd (let both = sym (given_here metas head new h e) ∙ is in cc both)
+          | inr ne ↦ was h ne ∙ have.none h (sym (given_elsewhere metas head new h ne) ∙ is)
+        ];
+        low = λ h x pages chain among. elim (cases_eq h head) [
+          | inl e ↦ low x (subst (λ ps. is_among x ps ≡ true) (pages_here h pages e chain) among)
+          | inr ne ↦ have.low h x pages (sym (was h ne) ∙ chain) among
+        ];
+        apart = λ h k x ps qs hp kq hx kx. elim (cases_eq h head) [
+          | inl e ↦ elim (cases_eq k head) [
+            | inl f ↦ e ∙ sym f
+            | inr nf ↦ absurd (fresh_apart k x qs nf kq kx (subst (λ l. is_among x l ≡ true) (pages_here h ps e hp) hx))
+          ]
+          | inr ne ↦ elim (cases_eq k head) [
+            | inl f ↦ absurd (fresh_apart h x ps ne hp hx (subst (λ l. is_among x l ≡ true) (pages_here k qs f kq) kx))
+            | inr nf ↦ have.apart h k x ps qs (sym (was h ne) ∙ hp) (sym (was k nf) ∙ kq) hx kx
+          ]
+        ];
+        differ = λ h pages chain. elim (cases_eq h head) [
+          | inl e ↦ subst AreDistinct (sym (pages_here h pages e chain)) (clear, distinct)
+          | inr ne ↦ have.differ h pages (sym (was h ne) ∙ chain)
+        ];
+      }

@@ -1,0 +1,12 @@
+use Rattle.store_model.proofs.PlantBegins.{begins_well, run_more, turn_keeps, writable_root}
+use Rattle.store_model.proofs.PlantRecovers.{recovers}
+use Rattle.store_model.proofs.laws.plant_turns.Goals as goal
+
+pub returns : goal.returns
+returns c = record {
+  begin = begins_well;
+  keep = turn_keeps c.refusal_changes_nothing.ensures;
+  go_on = run_more;
+  writable = writable_root;
+  recovers = λ s first script p image placed facts runs store says same. recovers s placed first script p facts runs image store says same;
+}

@@ -1,0 +1,64 @@
+-- Which metadata pages and which clusters are in use, and which places a job takes.
+use Rattle.std.specs.Prelude.{◌≡◌, ◌⊎◌, ℕ, ◌<◌, Bool, true, false, List, [], ◌∷◌, length, slice_set, Option, Some, None}
+use Rattle.bit_array.specs.Bits.{is_in, IsLeastClear}
+use Rattle.super_block.specs.declared.page.Super.{Super}
+use Rattle.super_block.specs.Numbers.{clusters_of, fixed_clusters_of}
+use Rattle.blob_meta.specs.declared.meta.Meta.{Meta}
+use Rattle.blob_meta.specs.Parents.{slot}
+use Rattle.md_chain.specs.Chain.{is_among}
+use Rattle.store_model.specs.Maps.{Metas, Chains}
+use Rattle.store_model.specs.Plants.{Job, Phase, Writing, Erasing}
+
+-- these places are set, or cleared, one after another
+abbrev pub all_set : List Bool → List ℕ → Bool → List Bool
+all_set bits [] to = bits
+all_set bits (p ∷ ps) to = all_set (slice_set bits p to) ps to
+
+-- no place stands twice
+abbrev pub AreDistinct : List ℕ → Type 0
+AreDistinct [] = Unit {0}
+AreDistinct (p ∷ ps) = (is_among p ps ≡ false) × AreDistinct ps
+
+-- Each is the least clear one after those before it are taken.
+abbrev pub AreLeastClear : List Bool → List ℕ → Type 0
+AreLeastClear bits [] = Unit {0}
+AreLeastClear bits (p ∷ ps) = IsLeastClear bits p × AreLeastClear (slice_set bits p true) ps
+
+-- the places that a job holds: fresh pages that no chain has yet, or old ones that aren't erased yet
+abbrev pub held_by : Option Job → List ℕ
+held_by None = []
+held_by (Some j) = held j.phase
+  where
+    held : Phase → List ℕ
+    held (Writing written) = j.fresh
+    held (Erasing erased) = j.old
+
+-- some chain has the place
+pub record IsLinked (chains : Chains) (place : ℕ) : Type 0 where
+  pub head : ℕ
+  pub pages : List ℕ
+  pub chain : chains head ≡ Some pages
+  pub among : is_among place pages ≡ true
+
+-- The pages in use, of so many, are those of the chains and those that a job holds, which no chain has.
+pub record UsedPages (md_len : ℕ) (bits : List Bool) (chains : Chains) (held : List ℕ) : Type 0 where
+  pub count : length bits ≡ md_len
+  pub linked : (place : ℕ) → IsLinked chains place → is_in bits place ≡ true
+  pub held_too : (place : ℕ) → is_among place held ≡ true → is_in bits place ≡ true
+  pub no_other : (place : ℕ) → is_in bits place ≡ true → IsLinked chains place ⊎ (is_among place held ≡ true)
+  pub apart : (place : ℕ) → is_among place held ≡ true → IsLinked chains place → ⊥
+
+-- some slot of some map has the cluster
+pub record IsMapped (metas : Metas) (cluster : ℕ) : Type 0 where
+  pub head : ℕ
+  pub meta : Meta
+  pub there : metas head ≡ Some meta
+  pub place : ℕ
+  pub in_slot : slot meta place ≡ Some cluster
+
+-- The clusters in use are the fixed ones and those of the maps.
+pub record UsedClusters (s : Super) (bits : List Bool) (metas : Metas) : Type 0 where
+  pub count : length bits ≡ clusters_of s
+  pub fixed : (cluster : ℕ) → cluster < fixed_clusters_of s → cluster < clusters_of s → is_in bits cluster ≡ true
+  pub mapped : (cluster : ℕ) → IsMapped metas cluster → is_in bits cluster ≡ true
+  pub no_other : (cluster : ℕ) → is_in bits cluster ≡ true → (cluster < fixed_clusters_of s) ⊎ IsMapped metas cluster

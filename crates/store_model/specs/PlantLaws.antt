@@ -1,0 +1,69 @@
+-- The laws of the turns of a running store, and of what an image recovers of it.
+use Rattle.std.specs.Prelude.{◌≡◌, ◌≢◌, ◌⊎◌, ℕ, true, false, ◌+◌, ◌*◌, ◌<◌, ◌≤◌, ◌++◌, ◌∷◌, [], Bool, List, All, length, slice_get, Option, Some, None}
+use Rattle.page_disk.specs.Disk.{Image, Rose}
+use Rattle.super_block.specs.declared.page.Super.{Super}
+use Rattle.super_block.specs.Numbers.{cluster_pages_of, fixed_clusters_of}
+use Rattle.super_block.specs.Placed.{IsPlaced}
+use Rattle.crc32c.specs.Crc.{is_sound}
+use Rattle.md_chain.specs.Chain.{Look, is_among}
+use Rattle.volume_model.specs.Volumes.{Volumes, zero_page}
+use Rattle.volume_model.specs.declared.command.Command.{Command}
+use Rattle.volume_model.specs.declared.reply.Reply.TheVariants as r
+use Rattle.volume_model.specs.declared.reply.Entry.{Entry}
+use Rattle.blob_meta.specs.declared.meta.Meta.{Meta}
+use Rattle.blob_meta.specs.Resolving.{IsLawful}
+use Rattle.store_model.specs.Maps.{given, Map, Metas, Chains}
+use Rattle.store_model.specs.Regions.{region_of, Region}
+use Rattle.store_model.specs.Scans.{is_head, MetaAt, Says, Scanned}
+use Rattle.store_model.specs.Turns.{IsQuiet}
+use Rattle.store_model.specs.Plants.{Job, Opens, Plant, shown}
+use Rattle.store_model.specs.Places.{UsedClusters, UsedPages}
+use Rattle.store_model.specs.Jobs.{AsksFor}
+use Rattle.store_model.specs.Cases.{Kind, Run, Turn}
+use Rattle.store_model.specs.Standing.{AreRoots, Facts, HaveChains, IsRoot}
+use Rattle.store_model.specs.Recovers.{HasStore, Recovers}
+
+-- what a store is loaded with: nothing of a job, and each attribute is live as it is synced
+pub record IsLoadedWith (s : Super) (p : Plant) : Type 0 where
+  pub super : p.super ≡ s
+  pub roots : AreRoots s p.base
+  pub lawful : IsLawful s.md_len p.base
+  pub chains : HaveChains s p.base p.chains
+  pub pages : UsedPages s.md_len p.pages p.chains []
+  pub clusters : UsedClusters s p.clusters p.base
+  pub live : (head : ℕ) (m : Meta) → p.base head ≡ Some m → p.live head ≡ Some m.xattrs
+  pub no_live : (head : ℕ) → p.base head ≡ None → p.live head ≡ None
+
+-- the two images are the same behind the fixed clusters
+abbrev pub IsSameBehind : Super → Image → Image → Type 0
+IsSameBehind s image other = (page : ℕ) → fixed_clusters_of s * cluster_pages_of s ≤ page → other page ≡ image page
+
+pub record PlantLaws : Type 0 where
+  -- a loaded store has what every state of a run has
+  pub begin : (s : Super) (p : Plant) → IsLoadedWith s p → Opens p → Facts s (shown p) (λ channel. (p.rows channel).left) p
+  -- each turn keeps it, and is one more of the run
+  pub keep : (told : Bool) (s : Super) (first : Volumes) (script : ℕ → List Command) (p q : Plant) (kind : Kind) → IsPlaced s → Facts s first script p → Turn told p kind q → Facts s first script q
+  pub go_on : (told : Bool) (p q r : Plant) (kinds : List Kind) (kind : Kind) → Run told p kinds q → Turn told q kind r → Run told p (kinds ++ kind ∷ []) r
+  -- the metadata that a job is to write can be written
+  pub writable : (s : Super) (first : Volumes) (script : ℕ → List Command) (p : Plant) (command : Command) (head : ℕ) (new : Meta) → Facts s first script p → p.stopped ≡ None → AsksFor p command head new → IsRoot s head new
+  -- An image with this store, which says the metadata that the store has, recovers the whole log.
+  pub recovers : (s : Super) (first : Volumes) (script : ℕ → List Command) (p : Plant) (image : Image) → IsPlaced s → Facts s first script p → p.stopped ≡ None
+      → HasStore s image → Says (region_of s) p.base p.chains image → IsSameBehind s p.device.reads image → Recovers s first p.log image
+
+-- what one turn does to a store that stops
+pub record PlantStopLaws : Type 0 where
+  -- a run that begins running and ends stopped has counted a failed write or flush, or the count stands at its last number
+  pub counted : (told : Bool) (p q : Plant) (kinds : List Kind) (at : ℕ) → Run told p kinds q → p.stopped ≡ None → q.stopped ≡ Some at → Rose p.device.write_faults q.device.write_faults
+  -- a run's log has no `fault` and no `stopped` while the store runs, and then one `fault` at most, where the store stopped
+  pub quiet : (told : Bool) (p q : Plant) (kinds : List Kind) → Run told p kinds q → p.log ≡ [] → q.stopped ≡ None → All (λ e. IsQuiet e.reply) q.log
+  pub fault : (told : Bool) (p q : Plant) (kinds : List Kind) → Run told p kinds q → p.log ≡ [] → (k : ℕ) (e : Entry) → slice_get q.log k ≡ Some e → e.reply ≡ r.Fault → q.stopped ≡ Some k
+
+-- the pages that a job writes
+pub record JobLaws : Type 0 where
+  -- a torn page, a page of zeros and a fresh page of a planned chain are no heads
+  pub torn : (place : ℕ) (page : List ℕ) → is_sound page ≡ false → is_head place page ≡ false
+  pub zeros : (place : ℕ) → is_head place zero_page ≡ false
+  pub fresh : (planned : Look) (r : Region) (head : ℕ) (new : Meta) (fresh : List ℕ) (place : ℕ) → MetaAt planned r head new (head ∷ fresh) → is_among place fresh ≡ true → is_head place (planned place) ≡ false
+  -- Where the fresh pages are read as planned, and the head's page is the planned one, the metadata and the chain are the new ones.
+  pub replaced : (look other planned : Look) (r : Region) (metas : Metas) (chains : Chains) (head : ℕ) (new : Meta) (fresh old : List ℕ) → Scanned look r metas chains → MetaAt planned r head new (head ∷ fresh) → chains head ≡ Some (head ∷ old)
+      → ((place : ℕ) → is_among place fresh ≡ true → look place ≡ planned place) → other head ≡ planned head → ((place : ℕ) → place ≢ head → other place ≡ look place) → Scanned other r (given metas head new) (given chains head (head ∷ fresh))

@@ -1,0 +1,87 @@
+-- What every state of a run has: plain data alone, whatever the device may leave after a crash.
+use Rattle.std.specs.Prelude.{◌≡◌, ◌≢◌, ℕ, ◌+◌, ◌<◌, ◌≤◌, List, [], ◌∷◌, ◌++◌, length, Some, None, All, codes, true}
+use Rattle.std.specs.List.{AllByRecursion}
+use Rattle.volume_model.specs.Volumes.{Volumes}
+use Rattle.volume_model.specs.Xattrs.{Xattrs, value_of}
+use Rattle.volume_model.specs.declared.text.Xattr.{Xattr}
+use Rattle.volume_model.specs.Logs.{replay, IsLegal, Numbered}
+use Rattle.volume_model.specs.declared.command.Command.{Command}
+use Rattle.super_block.specs.declared.page.Super.{Super}
+use Rattle.blob_meta.specs.declared.meta.Meta.{Meta}
+use Rattle.blob_meta.specs.Says.{without_bit_1}
+use Rattle.blob_meta.specs.Faults.{meta_fault}
+use Rattle.blob_meta.specs.Items.{HasDistinctNames}
+use Rattle.blob_meta.specs.Resolving.{IsLawful}
+use Rattle.md_chain.specs.Chain.{blob_id, is_among}
+use Rattle.store_model.specs.Maps.{Metas, Chains}
+use Rattle.store_model.specs.Regions.{region_of}
+use Rattle.store_model.specs.Shown.{fixed_of}
+use Rattle.store_model.specs.Rows.{Rows, entries_of, InJob, Posted, Ended}
+use Rattle.store_model.specs.Plants.{Job, Phase, Writing, Plant, shown}
+use Rattle.store_model.specs.Places.{AreDistinct, held_by, UsedPages, UsedClusters}
+use Rattle.store_model.specs.Jobs.{JobStands}
+
+-- attributes that can be written: no two of one name, and each fits the body of a page
+pub record CanBeWritten (xattrs : Xattrs) : Type 0 where
+  pub names : HasDistinctNames xattrs
+  pub short : AllByRecursion (λ (x : Xattr). length x.key + length x.value ≤ 4063) xattrs
+
+-- the metadata of a blob that the store can hold now: in the region, without fault, with no parent and no mark
+pub record IsRoot (s : Super) (head : ℕ) (m : Meta) : Type 0 where
+  pub low : head < s.md_len
+  pub id : m.id ≡ blob_id head
+  pub clear : without_bit_1 m.flags.invalid ≡ m.flags.invalid
+  pub xattrs : CanBeWritten m.xattrs
+  pub internal : CanBeWritten m.internal
+  pub no_parent : value_of m.internal (codes "SNAP") ≡ None
+  pub not_made : value_of m.internal (codes "SNAPTMP") ≡ None
+  pub not_removed : value_of m.internal (codes "SNAPRM") ≡ None
+  pub faultless : meta_fault (region_of s).fixed (region_of s).clusters m ≡ None
+
+abbrev pub AreRoots : Super → Metas → Type 0
+AreRoots s metas = (head : ℕ) (m : Meta) → metas head ≡ Some m → IsRoot s head m
+
+-- Each blob has a chain, which begins with its head; no place stands in two chains, or twice in one; each is of the region.
+pub record HaveChains (s : Super) (metas : Metas) (chains : Chains) : Type 0 where
+  pub chain : (head : ℕ) (m : Meta) → metas head ≡ Some m → (rest : List ℕ) × (chains head ≡ Some (head ∷ rest))
+  pub none : (head : ℕ) → metas head ≡ None → chains head ≡ None
+  pub low : (head place : ℕ) (pages : List ℕ) → chains head ≡ Some pages → is_among place pages ≡ true → place < s.md_len
+  pub apart : (h k place : ℕ) (ps qs : List ℕ) → chains h ≡ Some ps → chains k ≡ Some qs → is_among place ps ≡ true → is_among place qs ≡ true → h ≡ k
+  pub differ : (head : ℕ) (pages : List ℕ) → chains head ≡ Some pages → AreDistinct pages
+
+-- Of each channel, the commands so far, numbered in the log, and those that are left are all of the script's.
+pub record OnItsWay (p : Plant) (script : ℕ → List Command) (channel : ℕ) : Type 0 where
+  pub made : List Command
+  pub numbered : Numbered 0 (entries_of channel p.log) made
+  pub all : made ++ (p.rows channel).left ≡ script channel
+
+-- how rows stand to the job
+pub record IsShaped (p : Plant) : Type 0 where
+  -- what is posted or in the job is a command, and an ended channel has none left
+  pub posted : (channel serial : ℕ) → (p.rows channel).stage ≡ Posted serial → (p.rows channel).left ≢ []
+  pub in_job : (channel : ℕ) → (p.rows channel).stage ≡ InJob → (job : Job) × (written : ℕ) × (p.job ≡ Some job) × (job.channel ≡ channel) × (job.phase ≡ Writing written)
+  pub ended : (channel : ℕ) → (p.rows channel).stage ≡ Ended → (p.rows channel).left ≡ []
+
+-- while the store runs: what it has in memory is what the device says, and the volumes shown are the log's replay
+pub record RunsWell (first : Volumes) (p : Plant) : Type 0 where
+  pub chains : HaveChains p.super p.base p.chains
+  pub live : (head : ℕ) (m : Meta) → p.base head ≡ Some m → (xattrs : Xattrs) × (p.live head ≡ Some xattrs) × CanBeWritten xattrs
+  pub no_live : (head : ℕ) → p.base head ≡ None → p.live head ≡ None
+  pub pages : UsedPages p.super.md_len p.pages p.chains (held_by p.job)
+  pub clusters : UsedClusters p.super p.clusters p.base
+  pub job : (job : Job) → p.job ≡ Some job → JobStands p job
+  pub replayed : shown p ≡ replay (fixed_of p.super) first p.log
+
+pub record Facts (s : Super) (first : Volumes) (script : ℕ → List Command) (p : Plant) : Type 0 where
+  pub super : p.super ≡ s
+  pub roots : AreRoots s p.base
+  pub lawful : IsLawful s.md_len p.base
+  pub legal : IsLegal (fixed_of s) first p.log
+  pub well : p.stopped ≡ None → RunsWell first p
+  pub way : (channel : ℕ) → OnItsWay p script channel
+  pub shaped : IsShaped p
+  -- one mark for the loading and one for each entry, none of the future
+  pub counted : length p.marks ≡ length p.log + 1
+  pub past : All (λ t. t ≤ p.device.clock) p.marks
+  -- a store stops with its job, after some entries
+  pub halted : (at : ℕ) → p.stopped ≡ Some at → (at ≤ length p.log) × (p.job ≡ None)
