@@ -145,3 +145,32 @@ module _ (f : Fixed) (v : Volumes) where
         let whole : Answered f v live (c.GetX (Head h) key) (r.Value value) None = record { allowed = (none, at); quiet = tt; live_is = sym same } in
         subst (λ (x : Reply). Answered f v live (c.GetX (Head h) key) x new) (sym does.1.1) (subst (λ (n : Option NewLive). Answered f v live (c.GetX (Head h) key) (r.Value value) n) (sym does.0) whole)
     done _ reply new named none does = absurd does
+
+-- ---- an effect in the volumes that are shown
+
+pub answered_by : (first : Volumes) (p : Plant) (metas : map.FinMap nat_cmp Meta) (command : Command) (head : ℕ) (e : Effect) → RunsWell first p → p.base ≡ map.get metas → head_in command ≡ Some head → IsInMemory command
+    → ComesTo metas (p.live head) command p.super e → Answered (fixed_of p.super) (shown p) p.live command e.reply e.live
+answered_by first p metas command head e well base named in_memory (inl x) =
+    let f = fixed_of p.super in
+    let is = x.first f (shown p) refl (shows_blob first p well metas command head base named) in
+    let allowed = refused_allowed f (shown p) command e.reply x.cause is in
+    record {
+      allowed = allowed.0;
+      quiet = allowed.1;
+      live_is = ap (live_after p.live) x.none ∙ sym (live_same first p well) ∙ ap live_of (sym (refused_same f (shown p) command e.reply in_memory x.cause));
+    }
+answered_by first p metas command head e well base named in_memory (inr x) = by (p.live head) refl x.does
+  where
+    none : refusal (fixed_of p.super) (shown p) command ≡ None
+    none = x.none (fixed_of p.super) (shown p) refl (shows_blob first p well metas command head base named)
+
+    by : (o : Option Xattrs) → p.live head ≡ o → Does o command e.reply e.live → Answered (fixed_of p.super) (shown p) p.live command e.reply e.live
+    by None is does = absurd does
+    by (Some mine) is does = done (fixed_of p.super) (shown p) p.live (live_same first p well) head mine is command e.reply e.live named none does
+
+-- want of memory answers a command in memory
+pub answered_memory : (first : Volumes) (p : Plant) (command : Command) → RunsWell first p → IsInMemory command → Answered (fixed_of p.super) (shown p) p.live command r.Memory None
+answered_memory first p (c.SetX volume key value) well is = record { allowed = tt; quiet = tt; live_is = sym (live_same first p well) }
+answered_memory first p (c.DelX volume key) well is = record { allowed = tt; quiet = tt; live_is = sym (live_same first p well) }
+answered_memory first p (c.GetX volume key) well is = record { allowed = tt; quiet = tt; live_is = sym (live_same first p well) }
+answered_memory first p _ well is = absurd is

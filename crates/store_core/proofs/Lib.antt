@@ -8,3 +8,4 @@ pub mod CrashProof
 pub mod Maps
 pub mod Rowing
 pub mod Answered
+pub mod Entered

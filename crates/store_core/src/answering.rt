@@ -13,6 +13,7 @@ ghost use Rattle.store_core.specs.Seen.{state_of};
 ghost use Rattle.store_core.specs.Steps.{Asks, IsPostedAt};
 
 use crate::logging::log;
+use crate::rows::first_of;
 use crate::running::Running;
 use blob_meta::{HeadMap, Metas, head_in, refusal_of};
 use out_of_memory::Memory;
@@ -126,9 +127,7 @@ pub(crate) fn answer<D: PageDisk>(running: &mut Running<D>, channel: u8)
     ensures case { Made D.PageDisk (at_of running.old) (at_of running.new) kind.answers }
     ensures order { InOrder D.PageDisk running.new }
 {
-    let Some(command) = running.rows[channel as usize].first() else {
-        unreachable!()
-    };
+    let command = first_of(&running.rows, channel);
     let live = running.live.get(head_in(command));
     match effect_of(running.alloc, &running.metas, &running.sup, live, command) {
         Ok(Effect { reply, live }) => {

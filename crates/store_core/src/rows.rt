@@ -1,5 +1,9 @@
 //! The rows of the channels.
 
+ghost use Rattle.std.specs.Prelude.{◌≡◌, ◌<◌, ◌∷◌, List, length};
+ghost use Rattle.volume_model.specs.declared.command.Command.{Command as ACommand};
+ghost use Rattle.store_core.specs.Seen.{rows_of};
+
 use std::alloc::Global;
 use std::collections::VecDeque;
 use std::marker::Model;
@@ -131,5 +135,17 @@ impl Row {
         ensures { self.new ≡ record self.old { stage = Ended } }
     {
         self.stage = Stage::Ended;
+    }
+}
+
+/// The first command of a channel that has one.
+pub(crate) fn first_of(rows: &[Row], channel: u8) -> &Command
+    requires low { channel < length rows.now }
+    requires left { 0 < length (rows_of rows.now channel).left }
+    ensures { (command : ACommand) (rest : List ACommand) → (rows_of rows.now channel).left ≡ command ∷ rest → result.now ≡ command }
+{
+    match rows[channel as usize].first() {
+        Some(command) => command,
+        None => unreachable!(),
     }
 }
