@@ -75,7 +75,12 @@ fn put(
                 value,
             },
             Some(live),
-        ) => give_xattrs(alloc, metas, *head, live.with_value(alloc, key.bytes(), value.bytes())?),
+        ) => give_xattrs(
+            alloc,
+            metas,
+            *head,
+            live.with_value(alloc, key.bytes(), value.bytes())?,
+        ),
         _ => unreachable!(),
     }
 }

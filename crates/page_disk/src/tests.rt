@@ -1,5 +1,6 @@
 use crate::{
     CallKind, DiskFault, Fail, FaultDisk, MemDisk, PageDisk, SilentDisk, WriteKind, replace_page,
+    write_and_flush, write_page,
 };
 use std::test::Fail as TestFail;
 
@@ -23,6 +24,22 @@ fn picks_show_the_old_page_the_new_one_and_a_torn_one(rt: HostRuntime) -> Result
         after.read(3, &mut page)?;
         assert_eq!(rt; (page[0], page[4095]), left);
     }
+    Ok(())
+}
+
+#[test]
+fn a_page_lasts_once_it_is_flushed(rt: HostRuntime) -> Result<(), TestFail> {
+    let mut disk = MemDisk::new(rt.alloc(), 8, 100)?;
+    write_page(&mut disk, 3, &[7; 4096])?;
+    let mut page = [1; 4096];
+    disk.crash(0)?.read(3, &mut page)?;
+    assert_eq!(rt; page[9], 0);
+    write_and_flush(&mut disk, 4, &[8; 4096])?;
+    let mut after = disk.crash(0)?;
+    after.read(3, &mut page)?;
+    assert_eq!(rt; page[9], 7);
+    after.read(4, &mut page)?;
+    assert_eq!(rt; page[9], 8);
     Ok(())
 }
 

@@ -25,11 +25,7 @@ pub fn write_page<D: PageDisk>(disk: &mut D, place: u64, page: &Page) -> Result<
 }
 
 /// Writes a page by a plain write, and makes it lasting by a flush.
-pub fn write_and_flush<D: PageDisk>(
-    disk: &mut D,
-    place: u64,
-    page: &Page,
-) -> Result<(), DiskFault>
+pub fn write_and_flush<D: PageDisk>(disk: &mut D, place: u64, page: &Page) -> Result<(), DiskFault>
     requires { place < D.pages disk.old }
 
     // A crash at any moment leaves one of the images from before, with or without what the write puts there.

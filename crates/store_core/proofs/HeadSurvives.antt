@@ -244,5 +244,5 @@ module _ {D : Type 0} (d : Ghosts D) (laws : CrashLaws) (told : IsTrue d.tells) 
       | inr head ↦
           let t = made.case in
           by_way (IsReplaced (d.images p.disk) (d.now p.disk) (s.md_start + job.head) (planned_at job job.head)) (head_run t.running.runs job t.written t.running.is t.running.in_phase head.0 head.1)
-          (λ c is. elim is [ | inl held ↦ from_old c (from_before d laws told law s placed first script p q old facts after c held) | inr new ↦ from_new head.0 c new ])
+          (λ c is. elim is [ inl held ↦ from_old c (from_before d laws told law s placed first script p q old facts after c held) | inr new ↦ from_new head.0 c new ])
     ]

@@ -12,11 +12,7 @@ use page_disk::{DiskFault, Page, PageDisk, replace_page, write_and_flush, write_
 
 /// Writes a page, in one device call.
 #[tactic(auto, using(crate::proofs::Moving::moves, crate::proofs::Moving::fails))]
-pub(crate) fn write_one<D: PageDisk>(
-    disk: &mut D,
-    place: u64,
-    page: &Page,
-) -> Result<(), DiskFault>
+pub(crate) fn write_one<D: PageDisk>(disk: &mut D, place: u64, page: &Page) -> Result<(), DiskFault>
     requires { place < D.pages disk.old }
     ensures moves { OnOk result (Moves D.tells (device_of D.PageDisk disk.old) place page.now 1 (device_of D.PageDisk disk.new)) }
     ensures fails { OnErr result (FailsToReplace (device_of D.PageDisk disk.old) (device_of D.PageDisk disk.new)) }
@@ -45,11 +41,7 @@ pub(crate) fn write_last<D: PageDisk>(
 
 /// Replaces a page between two flushes, in three device calls.
 #[tactic(auto, using(crate::proofs::Moving::moves, crate::proofs::Moving::fails))]
-pub(crate) fn replace<D: PageDisk>(
-    disk: &mut D,
-    place: u64,
-    page: &Page,
-) -> Result<(), DiskFault>
+pub(crate) fn replace<D: PageDisk>(disk: &mut D, place: u64, page: &Page) -> Result<(), DiskFault>
     requires { place < D.pages disk.old }
     ensures moves { OnOk result (Moves D.tells (device_of D.PageDisk disk.old) place page.now 3 (device_of D.PageDisk disk.new)) }
     ensures fails { OnErr result (FailsToReplace (device_of D.PageDisk disk.old) (device_of D.PageDisk disk.new)) }

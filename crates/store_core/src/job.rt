@@ -21,9 +21,15 @@ pub(crate) struct Planned {
 /// How far a job has come. Once the head is written, what was planned is known to contracts alone, and takes no bytes.
 pub(crate) enum Work {
     /// So many of the pages behind the head are written.
-    Writing { planned: Planned, written: usize },
+    Writing {
+        planned: Planned,
+        written: usize,
+    },
     /// So many of the old pages are overwritten.
-    Erasing { did: Snapshot<Planned>, erased: usize },
+    Erasing {
+        did: Snapshot<Planned>,
+        erased: usize,
+    },
 }
 
 /// The running job, with the places that stood behind the head before it.

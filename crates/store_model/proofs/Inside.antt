@@ -1,17 +1,13 @@
 -- The clusters of a map without fault are clusters of the store behind the fixed ones.
-use Rattle.std.proofs.Common.{◌≡◌, ℕ, zero, suc, ◌<◌, ◌≤◌, Bool, true, false, List, [], ◌∷◌, Option, Some, None, refl, sym, ◌∙◌, ap, subst, arith, inl, inr}
+use Rattle.std.proofs.Common.{◌≡◌, ℕ, zero, suc, ◌<◌, ◌≤◌, Bool, false, List, [], ◌∷◌, Option, Some, None, refl, ap, subst, arith, inl, inr}
 use Rattle.std.specs.Prelude.{find, slice_get, if◌then◌else◌}
 use Rattle.std.specs.Option.{option_map, option_and_then}
 use Rattle.std.proofs.lemmas.Bool.{cases_Bool}
 use Rattle.std.proofs.lemmas.Bool.Decides.{nat_tests}
-use Rattle.super_block.specs.declared.page.Super.{Super}
 use Rattle.blob_meta.specs.declared.meta.Meta.{Meta}
-use Rattle.blob_meta.specs.declared.fault.MetaFault.{MetaFault}
 use Rattle.blob_meta.specs.declared.fault.MetaFault.TheVariants as faults
 use Rattle.blob_meta.specs.Faults.{first_some, unknown_flag, too_large, cluster_outside, map_fault, hole_in_thick, bad_mark, meta_fault, is_outside, clusters_of}
 use Rattle.blob_meta.specs.Parents.{slot}
-use Rattle.store_model.specs.Regions.{region_of}
-use Rattle.store_model.specs.Standing.{IsRoot}
 
 pub record IsInside (fixed clusters cluster : ℕ) : Type 0 where
   pub behind : fixed ≤ cluster

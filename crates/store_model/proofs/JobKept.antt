@@ -1,7 +1,7 @@
 -- Each turn of a job keeps what every state of a run has.
-use Rattle.std.proofs.Common.{◌≡◌, ◌≢◌, ℕ, zero, suc, ◌≤◌, ◌<◌, ◌+◌, Bool, true, false, List, [], ◌∷◌, ◌++◌, length, Option, Some, None, refl, sym, ◌∙◌, ap, subst, arith, length-append, inl, inr}
+use Rattle.std.proofs.Common.{◌≡◌, ◌≢◌, ℕ, zero, suc, ◌≤◌, ◌<◌, ◌+◌, Bool, true, false, List, [], ◌∷◌, length, Some, None, refl, sym, ◌∙◌, ap, subst, arith, length-append, inl, inr}
 use Rattle.std.specs.Prelude.{All, slice_get}
-use Rattle.std.proofs.lemmas.Bool.{cases_eq, both_ways}
+use Rattle.std.proofs.lemmas.Bool.{cases_eq}
 use Rattle.std.proofs.lemmas.List.Elements.{All-weaker}
 use Rattle.std.proofs.lemmas.Option.{slice_get_within}
 use Rattle.super_block.specs.declared.page.Super.{Super}
@@ -17,28 +17,28 @@ use Rattle.volume_model.specs.declared.reply.Reply.TheVariants as r
 use Rattle.blob_meta.specs.declared.meta.Meta.{Meta}
 use Rattle.blob_meta.specs.Resolving.{IsLawful}
 use Rattle.md_chain.specs.Chain.{is_among}
-use Rattle.store_model.specs.Maps.{Map, given}
+use Rattle.store_model.specs.Maps.{given}
 use Rattle.store_model.specs.Regions.{region_of}
 use Rattle.store_model.specs.Scans.{MetaAt}
 use Rattle.store_model.specs.Shown.{fixed_of, volume_of}
 use Rattle.store_model.specs.State.{Device}
-use Rattle.store_model.specs.Rows.{Row, Rows, Posted, InJob, with_row, entry_of}
-use Rattle.store_model.specs.Plants.{Job, Phase, Writing, Erasing, Plant, planned_at, shown, logged}
+use Rattle.store_model.specs.Rows.{Row, Rows, InJob, with_row, entry_of}
+use Rattle.store_model.specs.Plants.{Job, Writing, Erasing, Plant, planned_at, shown, logged}
 use Rattle.store_model.specs.Places.{all_set, held_by, UsedClusters, UsedPages}
-use Rattle.store_model.specs.Jobs.{AsksFor, IsServed, JobStands, StandsAt}
-use Rattle.store_model.specs.Cases.{after_commit, Begins, BreaksOff, Commits, Erases, Fails, Frees, live_of, Moves, page_of_place, read_after, Runs, WritesFresh}
+use Rattle.store_model.specs.Jobs.{AsksFor, JobStands, StandsAt}
+use Rattle.store_model.specs.Cases.{after_commit, Begins, BreaksOff, Commits, Erases, Fails, Frees, live_of, Moves, page_of_place, read_after, WritesFresh}
 use Rattle.store_model.specs.Standing.{CanBeWritten, Facts, HaveChains, IsRoot, AreRoots, IsShaped, RunsWell}
-use Rattle.store_model.proofs.Given.{given_here, given_elsewhere}
+use Rattle.store_model.proofs.Given.{given_here}
 use Rattle.store_model.proofs.Law.{RefusalsChangeNothing}
 use Rattle.store_model.proofs.RowsKept.{row_here, row_other, way_kept}
-use Rattle.store_model.proofs.Shaped.{Serves, serves, serves_same, shaped_same, shaped_with, decided_may, in_job_may, none_erasing, none_without, only_served}
+use Rattle.store_model.proofs.Shaped.{Serves, serves, shaped_same, shaped_with, decided_may, in_job_may, none_erasing, none_without, only_served}
 use Rattle.store_model.proofs.Shows.{behind_region, or_empty, shown_written}
 use Rattle.store_model.proofs.Sets.{among_either, among_first, among_later, are_distinct, AllBelow}
 use Rattle.store_model.proofs.Used.{used_begun, used_committed, used_freed, chains_committed, within}
 use Rattle.store_model.proofs.Synced.{shown_synced, syncs_to}
 use Rattle.store_model.proofs.Replaced.{lawful_given, mapped_still, mapped_was, new_root, roots_given, synced_written}
-use Rattle.store_model.proofs.Moved.{all_writable, asks_same, clusters_same, erased_by, served_by, served_same, stands_same}
-use Rattle.store_model.proofs.PlantKept.{allowed_here, asks_may, log_kept, replay_more, runs_here, LogKept}
+use Rattle.store_model.proofs.Moved.{all_writable, asks_same, clusters_same, erased_by, served_by, served_same}
+use Rattle.store_model.proofs.PlantKept.{allowed_here, asks_may, log_kept, replay_more, LogKept}
 
 -- ---- which places a job holds
 

@@ -1,7 +1,7 @@
 -- The pages that a job writes, and what an image says once its head is written.
-use Rattle.std.proofs.Common.{◌≡◌, ◌≢◌, ℕ, ◌+◌, ◌^◌, ◌≤◌, true, false, List, [], ◌∷◌, Some, refl, sym, ap, subst, ◌∙◌, inl, inr, arith}
+use Rattle.std.proofs.Common.{◌≡◌, ◌≢◌, ℕ, ◌≤◌, true, false, List, [], ◌∷◌, Some, refl, sym, subst, ◌∙◌, inl, inr, arith}
 use Rattle.std.specs.Prelude.{◌==◌, ◌&&◌}
-use Rattle.std.proofs.lemmas.Bool.{cases_eq, false_from_ne_true, ne_eqb, and_left, and_right, or_cases, eqb-true}
+use Rattle.std.proofs.lemmas.Bool.{cases_eq, false_from_ne_true, ne_eqb, and_left, and_right}
 use Rattle.page_fields.specs.Fields.{field, number}
 use Rattle.crc32c.specs.Crc.{is_sound}
 use Rattle.md_page.specs.Page.{id_of, sequence_of}
@@ -39,7 +39,7 @@ head_written look other planned r metas chains head new fresh old said says ther
     (λ k ps ne is. false_from_ne_true _ (λ t. ne (sym (heads_apart look r metas chains said head k (head ∷ old) ps there is t)))) elsewhere (given metas head new) (given chains head (head ∷ fresh)) new (head ∷ fresh)
     (meta_kept planned other r head new (head ∷ fresh) (agree_by planned other (head ∷ fresh) (λ q among. elim (cases_eq q head) [
       | inl e ↦ subst (λ k. other k ≡ planned k) (sym e) here
-      | inr ne ↦ elsewhere q ne ∙ written q (elim (among_either q head fresh among) [ | inl e ↦ absurd (ne e) | inr later ↦ later ])
+      | inr ne ↦ elsewhere q ne ∙ written q (elim (among_either q head fresh among) [ inl e ↦ absurd (ne e) | inr later ↦ later ])
     ])) says)
     (record { here = given_here metas head new head refl; elsewhere = λ q ne. given_elsewhere metas head new q ne })
     (record { here = given_here chains head (head ∷ fresh) head refl; elsewhere = λ q ne. given_elsewhere chains head (head ∷ fresh) q ne })

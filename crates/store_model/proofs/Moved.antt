@@ -1,5 +1,5 @@
 -- What is known of a job and of used places, on a state with the same parts.
-use Rattle.std.proofs.Common.{◌≡◌, ◌≢◌, ℕ, ◌<◌, ◌≤◌, ◌+◌, Bool, true, List, [], ◌∷◌, length, Option, Some, None, refl, sym, ◌∙◌, ap, subst, arith, inl, inr}
+use Rattle.std.proofs.Common.{◌≡◌, ℕ, ◌<◌, ◌≤◌, Bool, List, ◌∷◌, length, Option, Some, None, refl, sym, ◌∙◌, ap, subst, inl, inr}
 use Rattle.std.specs.Option.{option_map}
 use Rattle.std.proofs.Math.Path.{fun_ext}
 use Rattle.volume_model.specs.Volumes.{Volume, Volumes}
@@ -68,7 +68,7 @@ clusters_same s bits metas others there back u = record {
   count = u.count;
   fixed = u.fixed;
   mapped = λ c is. u.mapped c (back c is);
-  no_other = λ c is. elim (u.no_other c is) [ | inl low ↦ inl low | inr mapped ↦ inr (there c mapped) ];
+  no_other = λ c is. elim (u.no_other c is) [ inl low ↦ inl low | inr mapped ↦ inr (there c mapped) ];
 }
 
 -- ---- live attributes

@@ -1,5 +1,5 @@
 -- A loaded store has what every state of a run has; a run goes on by one turn; all turns together.
-use Rattle.std.proofs.Common.{◌≡◌, ◌≢◌, ◌⊎◌, ℕ, ◌≤◌, ◌+◌, Bool, List, [], ◌∷◌, ◌++◌, length, Some, None, refl, sym, ◌∙◌, ap, subst, arith, inl, inr}
+use Rattle.std.proofs.Common.{◌≡◌, ◌⊎◌, ℕ, ◌≤◌, ◌+◌, Bool, List, [], ◌∷◌, ◌++◌, length, None, refl, sym, ◌∙◌, ap, subst, arith, inl, inr}
 use Rattle.std.specs.Prelude.{All}
 use Rattle.std.proofs.lemmas.List.Elements.{All-cons, All-nil}
 use Rattle.super_block.specs.declared.page.Super.{Super}
@@ -9,13 +9,13 @@ use Rattle.volume_model.specs.Logs.{replay, IsLegal, Numbered}
 use Rattle.volume_model.specs.declared.command.Command.{Command}
 use Rattle.blob_meta.specs.declared.meta.Meta.{Meta}
 use Rattle.store_model.specs.Shown.{fixed_of}
-use Rattle.store_model.specs.Rows.{entries_of, Row, Stage, Idle, Posted, InJob, Ended}
+use Rattle.store_model.specs.Rows.{entries_of, Row, Idle, Posted, InJob, Ended}
 use Rattle.store_model.specs.Plants.{Opens, Plant, shown}
 use Rattle.store_model.specs.Places.{held_by, UsedClusters, UsedPages}
 use Rattle.store_model.specs.Jobs.{AsksFor}
 use Rattle.store_model.specs.Cases.{Kind, Run, Turn}
 use Rattle.store_model.specs.Cases as k
-use Rattle.store_model.specs.Standing.{AreRoots, Facts, HaveChains, IsRoot, IsShaped}
+use Rattle.store_model.specs.Standing.{Facts, HaveChains, IsRoot, IsShaped}
 use Rattle.store_model.specs.PlantLaws.{IsLoadedWith}
 use Rattle.store_model.proofs.Law.{RefusalsChangeNothing}
 use Rattle.store_model.proofs.Moved.{all_writable}
@@ -27,7 +27,7 @@ opens_shaped : (p : Plant) → Opens p → IsShaped p
 opens_shaped p opens = record {
   posted = λ channel serial is. absurd (not_posted channel serial (opens.waits channel) is);
   in_job = λ channel is. absurd (not_in_job channel (opens.waits channel) is);
-  ended = λ channel is. elim (opens.waits channel) [ | inl idle ↦ absurd (let bad = sym idle ∙ is in cc bad) | inr over ↦ ap (λ (r : Row). r.left) over ];
+  ended = λ channel is. elim (opens.waits channel) [ inl idle ↦ absurd (let bad = sym idle ∙ is in cc bad) | inr over ↦ ap (λ (r : Row). r.left) over ];
 }
   where
     not_posted : (channel serial : ℕ) → ((p.rows channel).stage ≡ Idle) ⊎ (p.rows channel ≡ record { left = []; stage = Ended }) → (p.rows channel).stage ≡ Posted serial → ⊥

@@ -1,15 +1,13 @@
 -- Each turn keeps what every state of a run has.
-use Rattle.std.proofs.Common.{◌≡◌, ◌≢◌, ℕ, suc, ◌≤◌, ◌<◌, ◌+◌, Bool, true, List, [], ◌∷◌, ◌++◌, length, Option, Some, None, refl, sym, ◌∙◌, ap, subst, arith, length-append, inl, inr}
-use Rattle.std.specs.Prelude.{All, slice_get}
-use Rattle.std.proofs.lemmas.Bool.{cases_eq, both_ways}
+use Rattle.std.proofs.Common.{◌≡◌, ℕ, ◌≤◌, ◌+◌, List, [], ◌∷◌, ◌++◌, length, Some, None, refl, sym, ◌∙◌, ap, subst, arith, length-append, inl, inr}
+use Rattle.std.specs.Prelude.{All}
+use Rattle.std.proofs.lemmas.Bool.{cases_eq}
 use Rattle.std.proofs.lemmas.List.Elements.{All-push, All-weaker}
-use Rattle.std.proofs.lemmas.Option.{slice_get_within}
 use Rattle.std.proofs.Math.Path.{fun_ext}
 use Rattle.super_block.specs.declared.page.Super.{Super}
-use Rattle.super_block.specs.Placed.{IsPlaced}
-use Rattle.volume_model.specs.Volumes.{Fixed, Volume, Volumes}
+use Rattle.volume_model.specs.Volumes.{Fixed, Volumes}
 use Rattle.volume_model.specs.Refusals.{refusal}
-use Rattle.volume_model.specs.Steps.{IsRefusal, Allowed, MayFail, Step, change}
+use Rattle.volume_model.specs.Steps.{IsRefusal, Allowed, change}
 use Rattle.volume_model.specs.Logs.{replay, IsLegal}
 use Rattle.volume_model.specs.declared.command.Command.{Command}
 use Rattle.volume_model.specs.declared.command.Command.TheVariants as c
@@ -23,10 +21,10 @@ use Rattle.store_model.specs.Rows.{Row, Rows, Stage, Idle, Posted, InJob, Decide
 use Rattle.store_model.specs.Plants.{Plant, shown, logged}
 use Rattle.store_model.specs.Jobs.{AsksFor, IsSyncing}
 use Rattle.store_model.specs.Cases.{Posts, Answers, Refuses, Halts, Settles, Ends, IsRefusedBy, live_of}
-use Rattle.store_model.specs.Standing.{Facts, IsShaped, OnItsWay, RunsWell}
+use Rattle.store_model.specs.Standing.{Facts, OnItsWay, RunsWell}
 use Rattle.store_model.proofs.Law.{RefusalsChangeNothing}
 use Rattle.store_model.proofs.RowsKept.{row_here, row_other, way_kept, way_logged}
-use Rattle.store_model.proofs.Shaped.{Serves, serves, serves_same, shaped_with, MayBe, decided_may, ended_may, idle_may, posted_may}
+use Rattle.store_model.proofs.Shaped.{serves, serves_same, shaped_with, MayBe, decided_may, ended_may, idle_may, posted_may}
 use Rattle.store_model.proofs.Moved.{all_writable, live_now, no_live_now, row_in_job, shown_live, stands_same}
 use Rattle.store_model.proofs.Writable.{in_memory}
 

@@ -1,17 +1,16 @@
 -- What an image recovers that says the metadata of a running store.
-use Rattle.std.proofs.Common.{◌≡◌, ℕ, ◌+◌, ◌*◌, ◌^◌, ◌≤◌, List, [], ◌∷◌, length, Option, Some, None, refl, sym, ◌∙◌, ap, subst, arith}
-use Rattle.std.specs.Prelude.{slice_get, codes}
-use Rattle.std.specs.Option.{option_map, option_map_or}
+use Rattle.std.proofs.Common.{◌≡◌, ℕ, List, [], length, Option, Some, None, refl, sym, ◌∙◌, ap, subst}
+use Rattle.std.specs.Prelude.{slice_get}
+use Rattle.std.specs.Option.{option_map}
 use Rattle.std.proofs.Math.Path.{fun_ext}
 use Rattle.page_disk.specs.Disk.{Image}
 use Rattle.super_block.specs.declared.page.Super.{Super}
 use Rattle.super_block.specs.Numbers.{cluster_pages_of}
 use Rattle.super_block.specs.Placed.{IsPlaced}
 use Rattle.volume_model.specs.Volumes.{Volume, Volumes}
-use Rattle.volume_model.specs.Xattrs.{Xattrs, value_of}
+use Rattle.volume_model.specs.Xattrs.{Xattrs}
 use Rattle.volume_model.specs.Logs.{stable, IsSettled}
 use Rattle.volume_model.specs.declared.command.Command.{Command}
-use Rattle.volume_model.specs.declared.reply.Entry.{Entry}
 use Rattle.blob_meta.specs.declared.meta.Meta.{Meta}
 use Rattle.blob_meta.specs.Resolving.{IsLawful, mark_of, resolved}
 use Rattle.store_model.specs.Maps.{Map, Metas}
@@ -19,7 +18,7 @@ use Rattle.store_model.specs.Regions.{region_of}
 use Rattle.store_model.specs.Scans.{Says}
 use Rattle.store_model.specs.Shown.{fixed_of, shows, volume_of}
 use Rattle.store_model.specs.Recovers.{AgreeAt, AreSynced, HasStore, Recovers}
-use Rattle.store_model.specs.Plants.{Plant, shown}
+use Rattle.store_model.specs.Plants.{Plant}
 use Rattle.store_model.specs.Standing.{AreRoots, Facts, IsRoot}
 use Rattle.store_model.specs.PlantLaws.{IsSameBehind}
 use Rattle.store_model.proofs.Roots.{no_parent, root_volume, volume_root}

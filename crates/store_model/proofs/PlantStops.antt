@@ -1,5 +1,5 @@
 -- A store stops by a failed write or flush alone, stays stopped, and has its fault where it stopped.
-use Rattle.std.proofs.Common.{◌≡◌, ◌⊎◌, ℕ, ◌≤◌, ◌+◌, Bool, List, [], ◌∷◌, ◌++◌, length, Some, None, refl, sym, ◌∙◌, ap, subst, arith, inl, inr}
+use Rattle.std.proofs.Common.{◌≡◌, ℕ, ◌≤◌, Bool, List, [], ◌∷◌, ◌++◌, length, Some, None, refl, sym, ◌∙◌, ap, subst, arith, inl, inr}
 use Rattle.std.specs.Prelude.{All, slice_get}
 use Rattle.std.proofs.lemmas.List.Elements.{All-nil, All-push}
 use Rattle.page_disk.specs.Disk.{Rose}
@@ -10,7 +10,7 @@ use Rattle.volume_model.specs.declared.reply.Entry.{Entry}
 use Rattle.store_model.specs.Turns.{IsQuiet}
 use Rattle.store_model.specs.State.{Device}
 use Rattle.store_model.specs.Rows.{entry_of}
-use Rattle.store_model.specs.Plants.{Plant, logged}
+use Rattle.store_model.specs.Plants.{Plant}
 use Rattle.store_model.specs.Cases.{IsRefusedBy, Kind, Run, Turn}
 use Rattle.store_model.specs.Cases as k
 use Rattle.store_model.proofs.Stopping.{old_or_new, rose_since}

@@ -1,31 +1,26 @@
 -- The metadata with one blob's attributes replaced: it is that of roots still, lawful, and has the same clusters.
-use Rattle.std.proofs.Common.{◌≡◌, ◌≢◌, ℕ, ◌+◌, ◌≤◌, ◌<◌, ◌^◌, Bool, true, List, [], ◌∷◌, length, Option, Some, None, refl, sym, ◌∙◌, ap, subst, inl, inr}
+use Rattle.std.proofs.Common.{◌≡◌, ℕ, ◌≤◌, ◌^◌, length, Option, Some, None, refl, sym, ◌∙◌, ap, subst, inl, inr}
 use Rattle.std.specs.List.{range_with_len, sum_by}
 use Rattle.std.specs.Prelude.{codes}
 use Rattle.std.specs.Option.{option_map, option_map_or, option_and_then}
 use Rattle.std.proofs.lemmas.Bool.{cases_eq}
 use Rattle.std.proofs.Math.Path.{fun_ext}
 use Rattle.super_block.specs.declared.page.Super.{Super}
-use Rattle.super_block.specs.Numbers.{cluster_pages_of}
 use Rattle.volume_model.specs.Volumes.{Fixed, Volume, Volumes}
 use Rattle.volume_model.specs.Xattrs.{Xattrs, value_of, with_value}
 use Rattle.volume_model.specs.Refusals.{refusal}
-use Rattle.volume_model.specs.Steps.{change, edited_at, named_head}
+use Rattle.volume_model.specs.Steps.{change, named_head}
 use Rattle.volume_model.specs.declared.command.Command.{Command}
 use Rattle.volume_model.specs.declared.command.Command.TheVariants as c
 use Rattle.volume_model.specs.declared.reply.Reply.TheVariants as r
 use Rattle.blob_meta.specs.declared.meta.Meta.{Meta}
 use Rattle.blob_meta.specs.Parents.{named_in, slot, parent_of, is_read_only}
 use Rattle.blob_meta.specs.Resolving.{IsLawful, slots_together}
-use Rattle.store_model.specs.Maps.{Map, Metas, given}
-use Rattle.store_model.specs.Shown.{fixed_of}
-use Rattle.store_model.specs.Plants.{Plant, shown}
+use Rattle.store_model.specs.Maps.{Metas, given}
 use Rattle.store_model.specs.Places.{IsMapped}
-use Rattle.store_model.specs.Jobs.{AsksFor, IsSyncing}
+use Rattle.store_model.specs.Jobs.{IsSyncing}
 use Rattle.store_model.specs.Standing.{CanBeWritten, IsRoot, AreRoots}
 use Rattle.store_model.proofs.Given.{given_here, given_elsewhere}
-use Rattle.store_model.proofs.Roots.{no_parent, root_volume}
-use Rattle.store_model.proofs.Shows.{or_empty, shown_as_roots}
 use Rattle.store_model.proofs.Synced.{edited_here}
 use Rattle.store_model.proofs.Writable.{AllWritable, written_with, put_within}
 

@@ -1,13 +1,12 @@
 -- What blobs without parents show: pages of their own clusters, which no write to the metadata region changes.
-use Rattle.std.proofs.Common.{◌≡◌, ◌≢◌, ℕ, suc, ◌+◌, ◌*◌, ◌/◌, ◌%◌, ◌<◌, ◌≤◌, Bool, true, false, List, [], ◌∷◌, length, map, Option, Some, None, refl, sym, ◌∙◌, ap, subst, arith, inl, inr}
-use Rattle.std.specs.Prelude.{codes}
+use Rattle.std.proofs.Common.{◌≡◌, ℕ, suc, ◌+◌, ◌*◌, ◌/◌, ◌%◌, length, map, Option, Some, None, refl, ◌∙◌, ap}
 use Rattle.std.specs.List.{range_with_len}
-use Rattle.std.specs.Option.{option_map, option_map_or}
+use Rattle.std.specs.Option.{option_map_or}
 use Rattle.std.proofs.Math.Path.{fun_ext}
-use Rattle.page_disk.specs.Disk.{Image, with_page}
+use Rattle.page_disk.specs.Disk.{Image}
 use Rattle.super_block.specs.declared.page.Super.{Super}
 use Rattle.volume_model.specs.Volumes.{Page, Volume, zero_page}
-use Rattle.volume_model.specs.Xattrs.{Xattrs, value_of}
+use Rattle.volume_model.specs.Xattrs.{Xattrs}
 use Rattle.blob_meta.specs.declared.meta.Meta.{Meta}
 use Rattle.blob_meta.specs.Faults.{is_thin}
 use Rattle.blob_meta.specs.Parents.{parent_of, slot, is_read_only, is_locked}

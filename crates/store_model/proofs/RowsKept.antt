@@ -1,5 +1,5 @@
 -- Rows that change, and the commands of a channel while the log grows.
-use Rattle.std.proofs.Common.{◌≡◌, ◌≢◌, ℕ, ◌+◌, eqb, Bool, List, [], ◌∷◌, ◌++◌, length, refl, sym, ◌∙◌, ap, subst, arith, append_assoc, inl, inr}
+use Rattle.std.proofs.Common.{◌≡◌, ◌≢◌, ℕ, eqb, List, [], ◌∷◌, ◌++◌, refl, sym, ◌∙◌, ap, subst, arith, append_assoc, inl, inr}
 use Rattle.std.proofs.lemmas.Bool.{cases_eq, eq-eqb, ne_eqb}
 use Rattle.std.proofs.lemmas.List.{append-nil}
 use Rattle.std.proofs.lemmas.List.Elements.{filter-append}
@@ -41,7 +41,6 @@ module _ (script : ℕ → List Command) (p : Plant) (way : (c : ℕ) → OnItsW
       (row : p.rows channel ≡ record { left = command ∷ rest; stage = before })
       (rows : q.rows ≡ with_row p.rows channel (record { left = rest; stage = after }))
       (log : q.log ≡ p.log ++ entry_of p.log channel command reply ∷ []) where
-
     abbrev new : Entry
     new = entry_of p.log channel command reply
 

@@ -1,14 +1,14 @@
 -- Sets of places of which some are set or cleared.
-use Rattle.std.proofs.Common.{◌≡◌, ◌≢◌, ◌⊎◌, ℕ, ◌<◌, Bool, true, false, eqb, List, [], ◌∷◌, length, refl, sym, ◌∙◌, ap, subst, arith, inl, inr}
+use Rattle.std.proofs.Common.{◌≡◌, ◌≢◌, ◌⊎◌, ℕ, ◌<◌, Bool, true, false, eqb, List, [], ◌∷◌, length, refl, sym, ◌∙◌, ap, subst, inl, inr}
 use Rattle.std.specs.Prelude.{slice_set, ◌||◌}
-use Rattle.std.proofs.lemmas.Bool.{cases_Bool, cases_eq, both_ways, eq-eqb, ne_eqb, eqb-true}
+use Rattle.std.proofs.lemmas.Bool.{cases_Bool, both_ways, eq-eqb, eqb-true}
 use Rattle.std.proofs.lemmas.List.{get_or-set_same, get_or-set_other, length-set}
-use Rattle.bit_array.specs.Bits.{is_in, IsLeastClear}
+use Rattle.bit_array.specs.Bits.{is_in}
 use Rattle.md_chain.specs.Chain.{is_among}
 use Rattle.store_model.specs.Places.{all_set, AreLeastClear, AreDistinct}
 
 pub among_later : (x p : ℕ) (ps : List ℕ) → is_among x ps ≡ true → is_among x (p ∷ ps) ≡ true
-among_later x p ps is = elim (cases_Bool (eqb p x)) [ | inl e ↦ rw e refl | inr ne ↦ rw ne is ]
+among_later x p ps is = elim (cases_Bool (eqb p x)) [ inl e ↦ rw e refl | inr ne ↦ rw ne is ]
 
 pub among_first : (x : ℕ) (ps : List ℕ) → is_among x (x ∷ ps) ≡ true
 among_first x ps = rw (eq-eqb x x refl) refl

@@ -1,9 +1,9 @@
 -- How rows stand to the job, when one row changes.
-use Rattle.std.proofs.Common.{◌≡◌, ◌≢◌, ℕ, ◌<◌, ◌≤◌, ◌+◌, List, [], ◌∷◌, Option, Some, None, refl, sym, ◌∙◌, ap, subst, inl, inr}
+use Rattle.std.proofs.Common.{◌≡◌, ◌≢◌, ℕ, List, [], ◌∷◌, Some, None, refl, sym, ◌∙◌, ap, subst, inl, inr}
 use Rattle.std.proofs.lemmas.Bool.{cases_eq}
 use Rattle.volume_model.specs.declared.command.Command.{Command}
-use Rattle.store_model.specs.Rows.{Row, Rows, Stage, Idle, Posted, InJob, Decided, Ended, with_row}
-use Rattle.store_model.specs.Plants.{Job, Phase, Writing, Erasing, Plant}
+use Rattle.store_model.specs.Rows.{Row, Rows, Idle, Posted, InJob, Decided, Ended, with_row}
+use Rattle.store_model.specs.Plants.{Job, Writing, Erasing, Plant}
 use Rattle.store_model.specs.Standing.{IsShaped}
 use Rattle.store_model.proofs.RowsKept.{row_here, row_other}
 

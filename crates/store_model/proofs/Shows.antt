@@ -1,5 +1,5 @@
 -- What a running store shows, blob by blob, and what of it a write to the metadata region changes: nothing.
-use Rattle.std.proofs.Common.{◌≡◌, ◌≢◌, ℕ, suc, ◌+◌, ◌*◌, ◌/◌, ◌%◌, ◌<◌, ◌≤◌, Bool, true, false, List, [], ◌∷◌, length, map, Option, Some, None, refl, sym, ◌∙◌, ap, subst, arith, inl, inr}
+use Rattle.std.proofs.Common.{◌≡◌, ◌≢◌, ℕ, ◌+◌, ◌*◌, ◌/◌, ◌%◌, ◌<◌, ◌≤◌, Bool, true, false, List, [], length, map, Option, Some, None, refl, sym, ◌∙◌, ap, arith}
 use Rattle.std.specs.List.{range_with_len}
 use Rattle.std.specs.Option.{option_map, option_map_or}
 use Rattle.std.proofs.lemmas.Bool.{ne_eqb}
@@ -9,7 +9,7 @@ use Rattle.page_disk.specs.Disk.{Image, with_page}
 use Rattle.super_block.specs.declared.page.Super.{Super}
 use Rattle.super_block.specs.Numbers.{cluster_pages_of, fixed_clusters_of}
 use Rattle.super_block.specs.Placed.{IsPlaced}
-use Rattle.volume_model.specs.Volumes.{Volume, Volumes, zero_page}
+use Rattle.volume_model.specs.Volumes.{Volumes, zero_page}
 use Rattle.volume_model.specs.Xattrs.{Xattrs}
 use Rattle.blob_meta.specs.declared.meta.Meta.{Meta}
 use Rattle.blob_meta.specs.Parents.{slot}
@@ -19,7 +19,7 @@ use Rattle.store_model.specs.State.{Device}
 use Rattle.store_model.specs.Plants.{Plant, shown}
 use Rattle.store_model.specs.Cases.{read_after}
 use Rattle.store_model.specs.Standing.{IsRoot, AreRoots}
-use Rattle.store_model.proofs.Inside.{IsInside, inside_slot}
+use Rattle.store_model.proofs.Inside.{inside_slot}
 use Rattle.store_model.proofs.Roots.{root_page, root_volume, volume_root, no_parent}
 
 abbrev pub or_empty : Option Xattrs → Xattrs

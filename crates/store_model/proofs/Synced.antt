@@ -1,12 +1,10 @@
 -- The blob whose attributes a command syncs, in the volumes and in the metadata.
-use Rattle.std.proofs.Common.{◌≡◌, ◌≢◌, ℕ, Bool, List, [], ◌*◌, ◌<◌, ◌≤◌, Option, Some, None, refl, sym, ◌∙◌, ap, subst, inl, inr}
+use Rattle.std.proofs.Common.{◌≡◌, ◌≢◌, ℕ, ◌*◌, ◌<◌, ◌≤◌, Option, Some, None, refl, sym, ◌∙◌, ap, subst, inl, inr}
 use Rattle.std.specs.Option.{option_map}
 use Rattle.std.proofs.lemmas.Bool.{cases_eq, eq-eqb, ne_eqb}
 use Rattle.std.proofs.Math.Path.{fun_ext}
-use Rattle.page_disk.specs.Disk.{Image}
 use Rattle.super_block.specs.declared.page.Super.{Super}
 use Rattle.super_block.specs.Numbers.{cluster_pages_of, fixed_clusters_of}
-use Rattle.super_block.specs.Placed.{IsPlaced}
 use Rattle.volume_model.specs.Volumes.{Fixed, Volume, Volumes}
 use Rattle.volume_model.specs.Xattrs.{Xattrs, with_value}
 use Rattle.volume_model.specs.Steps.{change, edited_at, named_head}
@@ -14,7 +12,7 @@ use Rattle.volume_model.specs.declared.command.Command.{Command}
 use Rattle.volume_model.specs.declared.command.Command.TheVariants as c
 use Rattle.volume_model.specs.declared.reply.Reply.TheVariants as r
 use Rattle.blob_meta.specs.declared.meta.Meta.{Meta}
-use Rattle.store_model.specs.Maps.{Map, Metas, given}
+use Rattle.store_model.specs.Maps.{Map, given}
 use Rattle.store_model.specs.Shown.{fixed_of}
 use Rattle.store_model.specs.Plants.{Plant, shown}
 use Rattle.store_model.specs.Jobs.{AsksFor, IsSyncing}

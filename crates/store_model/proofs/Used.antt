@@ -1,5 +1,5 @@
 -- Which pages are in use when a job begins, commits and ends.
-use Rattle.std.proofs.Common.{◌≡◌, ◌≢◌, ◌⊎◌, ℕ, ◌<◌, Bool, true, false, List, [], ◌∷◌, length, Option, Some, None, refl, sym, ◌∙◌, ap, subst, arith, inl, inr}
+use Rattle.std.proofs.Common.{◌≡◌, ◌≢◌, ◌⊎◌, ℕ, ◌<◌, Bool, true, false, List, [], ◌∷◌, length, Some, refl, sym, ◌∙◌, ap, subst, inl, inr}
 use Rattle.std.proofs.lemmas.Bool.{cases_Bool, cases_eq, cases_lt, both_ways}
 use Rattle.std.proofs.Math.ListN.{get_or-eq_default}
 use Rattle.bit_array.specs.Bits.{is_in}
@@ -10,10 +10,10 @@ use Rattle.store_model.specs.Maps.{Metas, Chains, given}
 use Rattle.store_model.specs.Places.{all_set, AreLeastClear, AreDistinct, IsLinked, UsedPages}
 use Rattle.store_model.specs.Standing.{HaveChains}
 use Rattle.store_model.proofs.Given.{given_here, given_elsewhere}
-use Rattle.store_model.proofs.Sets.{all_set_in, all_set_out, among_either, among_first, among_later, are_distinct, length_all_set, not_first, were_clear, AllBelow}
+use Rattle.store_model.proofs.Sets.{all_set_in, all_set_out, among_either, among_first, among_later, length_all_set, were_clear, AllBelow}
 
 pub within : (bits : List Bool) (x : ℕ) → is_in bits x ≡ true → x < length bits
-within bits x is = elim (cases_lt x (length bits)) [ | inl lt ↦ lt | inr ge ↦ absurd (both_ways (is_in bits x) (get_or-eq_default bits false ge) is) ]
+within bits x is = elim (cases_lt x (length bits)) [ inl lt ↦ lt | inr ge ↦ absurd (both_ways (is_in bits x) (get_or-eq_default bits false ge) is) ]
 
 not_among_none : (x : ℕ) → is_among x [] ≡ true → ⊥
 not_among_none x is = cc is
@@ -33,7 +33,7 @@ module _ (md_len : ℕ) (bits : List Bool) (chains : Chains) where
         held_too = λ x among. all_set_in bits fresh true x low among;
         no_other = λ x is. elim (cases_Bool (is_among x fresh)) [
           | inl among ↦ inr among
-          | inr out ↦ elim (u.no_other x (sym (all_set_out bits fresh true x out) ∙ is)) [ | inl l ↦ inl l | inr none ↦ absurd (not_among_none x none) ]
+          | inr out ↦ elim (u.no_other x (sym (all_set_out bits fresh true x out) ∙ is)) [ inl l ↦ inl l | inr none ↦ absurd (not_among_none x none) ]
         ];
         apart = λ x among l. both_ways (is_in bits x) (were_clear bits fresh least x among).clear (u.linked x l);
       }
@@ -42,14 +42,14 @@ module _ (md_len : ℕ) (bits : List Bool) (chains : Chains) where
   pub used_freed : (old : List ℕ) → UsedPages md_len bits chains old → UsedPages md_len (all_set bits old false) chains []
   used_freed old u =
       let low : AllBelow (length bits) old = λ x is. within bits x (u.held_too x is) in
-      let out : (x : ℕ) → IsLinked chains x → is_among x old ≡ false = λ x l. elim (cases_Bool (is_among x old)) [ | inl among ↦ absurd (u.apart x among l) | inr apart ↦ apart ] in
+      let out : (x : ℕ) → IsLinked chains x → is_among x old ≡ false = λ x l. elim (cases_Bool (is_among x old)) [ inl among ↦ absurd (u.apart x among l) | inr apart ↦ apart ] in
       record {
         count = length_all_set bits old false ∙ u.count;
         linked = λ x l. all_set_out bits old false x (out x l) ∙ u.linked x l;
         held_too = λ x is. absurd (not_among_none x is);
         no_other = λ x is. elim (cases_Bool (is_among x old)) [
           | inl among ↦ absurd (both_ways (is_in (all_set bits old false) x) (all_set_in bits old false x low among) is)
-          | inr apart ↦ elim (u.no_other x (sym (all_set_out bits old false x apart) ∙ is)) [ | inl l ↦ inl l | inr among ↦ absurd (both_ways (is_among x old) apart among) ]
+          | inr apart ↦ elim (u.no_other x (sym (all_set_out bits old false x apart) ∙ is)) [ inl l ↦ inl l | inr among ↦ absurd (both_ways (is_among x old) apart among) ]
         ];
         apart = λ x is l. not_among_none x is;
       }
@@ -107,9 +107,9 @@ module _ (s : Super) (metas : Metas) (chains : Chains) (have : HaveChains s meta
   pub used_committed : UsedPages s.md_len bits now old
   used_committed = record {
     count = u.count;
-    linked = λ x l. elim (was_linked x l) [ | inl was ↦ u.linked x was | inr f ↦ u.held_too x f ];
+    linked = λ x l. elim (was_linked x l) [ inl was ↦ u.linked x was | inr f ↦ u.held_too x f ];
     held_too = λ x among. u.linked x (old_linked x among);
-    no_other = λ x is. elim (u.no_other x is) [ | inl l ↦ still_linked x l | inr f ↦ inl (linked_new x (among_later x head fresh f)) ];
+    no_other = λ x is. elim (u.no_other x is) [ inl l ↦ still_linked x l | inr f ↦ inl (linked_new x (among_later x head fresh f)) ];
     apart = old_apart;
   }
 
@@ -123,7 +123,7 @@ module _ (s : Super) (metas : Metas) (chains : Chains) (have : HaveChains s meta
 
   pub chains_committed : (new : Meta) → AreDistinct fresh → AllBelow s.md_len (head ∷ fresh) → HaveChains s (given metas head new) now
   chains_committed new distinct low =
-      let clear : is_among head fresh ≡ false = elim (cases_Bool (is_among head fresh)) [ | inl among ↦ absurd (u.apart head among linked_head) | inr apart ↦ apart ] in
+      let clear : is_among head fresh ≡ false = elim (cases_Bool (is_among head fresh)) [ inl among ↦ absurd (u.apart head among linked_head) | inr apart ↦ apart ] in
       let pages_here : (h : ℕ) (pages : List ℕ) → h ≡ head → now h ≡ Some pages → pages ≡ head ∷ fresh =
       λ h pages e chain. let both = sym chain ∙ given_here chains head (head ∷ fresh) h e in cc both in
       let was : (h : ℕ) → h ≢ head → now h ≡ chains h = λ h ne. given_elsewhere chains head (head ∷ fresh) h ne in

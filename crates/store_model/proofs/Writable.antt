@@ -1,7 +1,7 @@
 -- Attributes that can be written, when one is set or removed; and what a command that is answered in memory changes.
 use Rattle.std.proofs.Common.{◌≡◌, ◌≢◌, ℕ, ◌+◌, ◌≤◌, Bool, true, false, List, [], ◌∷◌, length, Option, Some, None, refl, sym, ◌∙◌, ap, subst, arith, inl, inr}
 use Rattle.std.specs.Prelude.{nat_lt, ◌||◌}
-use Rattle.std.specs.List.{AllByRecursion, find, filter}
+use Rattle.std.specs.List.{AllByRecursion, find}
 use Rattle.std.specs.Option.{option_map}
 use Rattle.std.specs.Str.{bytes_eq}
 use Rattle.std.proofs.lemmas.Bool.{cases_Bool, cases_eq}
@@ -10,7 +10,7 @@ use Rattle.std.proofs.lemmas.Slice.Eq.{bytes_eq-Decides}
 use Rattle.volume_model.specs.Volumes.{Fixed, Volume, Volumes, head_of, is_super}
 use Rattle.volume_model.specs.Xattrs.{Xattrs, with_value, without}
 use Rattle.volume_model.specs.Refusals.{is_reserved, refusal}
-use Rattle.volume_model.specs.Steps.{Allowed, change, edited_at, IsRefusal, Step}
+use Rattle.volume_model.specs.Steps.{Allowed, change, edited_at, IsRefusal}
 use Rattle.volume_model.specs.declared.text.Xattr.{Xattr}
 use Rattle.volume_model.specs.declared.command.VolumeRef.{VolumeRef}
 use Rattle.volume_model.specs.declared.command.Command.{Command}

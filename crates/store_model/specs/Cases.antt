@@ -1,8 +1,7 @@
 -- The turns of a running store, by cases, and runs of them. What a case doesn't name stays as it is.
-use Rattle.std.specs.Prelude.{◌≡◌, ◌⊎◌, ℕ, suc, ◌+◌, ◌<◌, ◌≤◌, if◌then◌else◌, List, [], ◌∷◌, length, slice_get, Option, Some, None, Bool, true, false, replicate}
+use Rattle.std.specs.Prelude.{◌≡◌, ℕ, suc, ◌+◌, ◌<◌, ◌≤◌, if◌then◌else◌, List, [], ◌∷◌, length, slice_get, Option, Some, None, Bool, true, false}
 use Rattle.std.specs.Option.{option_map}
-use Rattle.page_disk.specs.Disk.{Image, Rose, with_page}
-use Rattle.bit_array.specs.Bits.{is_in}
+use Rattle.page_disk.specs.Disk.{Image, with_page}
 use Rattle.pools.specs.Pool.{clear_in}
 use Rattle.volume_model.specs.Volumes.{Volumes, zero_page}
 use Rattle.volume_model.specs.Xattrs.{Xattrs}
@@ -16,7 +15,7 @@ use Rattle.blob_meta.specs.declared.meta.Meta.{Meta}
 use Rattle.store_model.specs.Maps.{Map, given}
 use Rattle.store_model.specs.Shown.{fixed_of}
 use Rattle.store_model.specs.State.{Device}
-use Rattle.store_model.specs.Rows.{Row, Stage, Idle, Posted, InJob, Decided, Ended, with_row}
+use Rattle.store_model.specs.Rows.{Idle, Posted, InJob, Decided, Ended, with_row}
 use Rattle.store_model.specs.Plants.{Job, Phase, Writing, Erasing, Plant, planned_at, shown, logged, next_serial}
 use Rattle.store_model.specs.Places.{all_set, AreLeastClear}
 use Rattle.store_model.specs.Jobs.{AsksFor, Needs, IsPlanned, places_of}

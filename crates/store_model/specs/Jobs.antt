@@ -1,5 +1,5 @@
 -- What a command asks a job to do, and what is known of a job while it runs.
-use Rattle.std.specs.Prelude.{◌≡◌, ℕ, ◌+◌, ◌<◌, ◌≤◌, List, [], ◌∷◌, length, map, Option, Some, None}
+use Rattle.std.specs.Prelude.{◌≡◌, ℕ, ◌+◌, ◌<◌, ◌≤◌, List, ◌∷◌, length, map, Some, None}
 use Rattle.descriptors.specs.declared.item.Item.{Item}
 use Rattle.volume_model.specs.Volumes.{Volume}
 use Rattle.volume_model.specs.Steps.{change, named_head}
@@ -14,7 +14,7 @@ use Rattle.md_chain.specs.declared.plan.PlannedPage.{PlannedPage}
 use Rattle.store_model.specs.Regions.{region_of}
 use Rattle.store_model.specs.Scans.{MetaAt}
 use Rattle.store_model.specs.Shown.{fixed_of}
-use Rattle.store_model.specs.Rows.{Row, Stage, InJob}
+use Rattle.store_model.specs.Rows.{InJob}
 use Rattle.store_model.specs.Places.{AreDistinct}
 use Rattle.store_model.specs.Plants.{Job, Phase, Writing, Erasing, Plant, planned_at, shown}
 

@@ -1,5 +1,5 @@
 -- The laws of the turns of a running store, and of what an image recovers of it.
-use Rattle.std.specs.Prelude.{◌≡◌, ◌≢◌, ◌⊎◌, ℕ, true, false, ◌+◌, ◌*◌, ◌<◌, ◌≤◌, ◌++◌, ◌∷◌, [], Bool, List, All, length, slice_get, Option, Some, None}
+use Rattle.std.specs.Prelude.{◌≡◌, ◌≢◌, ℕ, true, false, ◌*◌, ◌≤◌, ◌++◌, ◌∷◌, [], Bool, List, All, slice_get, Some, None}
 use Rattle.page_disk.specs.Disk.{Image, Rose}
 use Rattle.super_block.specs.declared.page.Super.{Super}
 use Rattle.super_block.specs.Numbers.{cluster_pages_of, fixed_clusters_of}
@@ -12,11 +12,11 @@ use Rattle.volume_model.specs.declared.reply.Reply.TheVariants as r
 use Rattle.volume_model.specs.declared.reply.Entry.{Entry}
 use Rattle.blob_meta.specs.declared.meta.Meta.{Meta}
 use Rattle.blob_meta.specs.Resolving.{IsLawful}
-use Rattle.store_model.specs.Maps.{given, Map, Metas, Chains}
+use Rattle.store_model.specs.Maps.{given, Metas, Chains}
 use Rattle.store_model.specs.Regions.{region_of, Region}
 use Rattle.store_model.specs.Scans.{is_head, MetaAt, Says, Scanned}
 use Rattle.store_model.specs.Turns.{IsQuiet}
-use Rattle.store_model.specs.Plants.{Job, Opens, Plant, shown}
+use Rattle.store_model.specs.Plants.{Opens, Plant, shown}
 use Rattle.store_model.specs.Places.{UsedClusters, UsedPages}
 use Rattle.store_model.specs.Jobs.{AsksFor}
 use Rattle.store_model.specs.Cases.{Kind, Run, Turn}

@@ -1,5 +1,5 @@
 -- The state of a running store, as plain data. Contracts compute it from what they see of the program's value.
-use Rattle.std.specs.Prelude.{◌≡◌, ◌⊎◌, ℕ, ◌+◌, ◌%◌, ◌^◌, ◌==◌, if◌then◌else◌, Bool, List, [], ◌∷◌, ◌++◌, length, Option, None}
+use Rattle.std.specs.Prelude.{◌≡◌, ◌⊎◌, ℕ, ◌+◌, ◌%◌, ◌^◌, ◌==◌, if◌then◌else◌, Bool, List, [], ◌∷◌, ◌++◌, Option, None}
 use Rattle.std.specs.Option.{option_map, option_map_or}
 use Rattle.super_block.specs.declared.page.Super.{Super}
 use Rattle.volume_model.specs.Volumes.{Volumes}
@@ -13,7 +13,7 @@ use Rattle.md_chain.specs.declared.plan.PlannedPage.{PlannedPage}
 use Rattle.store_model.specs.Maps.{Map, Metas, Chains}
 use Rattle.store_model.specs.Shown.{fixed_of, volume_of}
 use Rattle.store_model.specs.State.{Device}
-use Rattle.store_model.specs.Rows.{Rows, with_row, entry_of, Stage, Idle, Decided, Ended}
+use Rattle.store_model.specs.Rows.{Rows, with_row, entry_of, Idle, Decided, Ended}
 
 -- How far a job has come: so many of its fresh pages are written; or its head is, and so many of the old pages are overwritten.
 pub data Phase : Type 0 where

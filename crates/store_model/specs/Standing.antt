@@ -16,8 +16,8 @@ use Rattle.md_chain.specs.Chain.{blob_id, is_among}
 use Rattle.store_model.specs.Maps.{Metas, Chains}
 use Rattle.store_model.specs.Regions.{region_of}
 use Rattle.store_model.specs.Shown.{fixed_of}
-use Rattle.store_model.specs.Rows.{Rows, entries_of, InJob, Posted, Ended}
-use Rattle.store_model.specs.Plants.{Job, Phase, Writing, Plant, shown}
+use Rattle.store_model.specs.Rows.{entries_of, InJob, Posted, Ended}
+use Rattle.store_model.specs.Plants.{Job, Writing, Plant, shown}
 use Rattle.store_model.specs.Places.{AreDistinct, held_by, UsedPages, UsedClusters}
 use Rattle.store_model.specs.Jobs.{JobStands}
 
