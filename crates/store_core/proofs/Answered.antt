@@ -1,6 +1,6 @@
 -- What an answer in memory is in the volumes that are shown.
 use Rattle.std.proofs.Common.{◌≡◌, ◌≢◌, ℕ, Bool, true, List, [], Option, Some, None, refl, sym, ap, subst, ◌∙◌, inl, inr}
-use Rattle.std.specs.Prelude.{is_some, if◌then◌else◌}
+use Rattle.std.specs.Prelude.{IfSome}
 use Rattle.std.specs.Option.{option_map, option_and_then}
 use Rattle.std.specs.Ordering.{nat_cmp}
 use Rattle.std.specs.FinMap as map
@@ -31,6 +31,7 @@ use Rattle.store_model.proofs.Shows.{or_empty}
 use Rattle.store_model.proofs.Synced.{edited_here, edited_there}
 use Rattle.store_core.specs.declared.answering.Effect.{Effect}
 use Rattle.store_core.specs.declared.answering.NewLive.{NewLive}
+use Rattle.store_core.proofs.Maps.{insert_given}
 use Rattle.store_core.specs.Answering.{ComesTo, Does, IsDone, IsRefused}
 
 -- ---- what a running store shows of a blob
@@ -174,3 +175,8 @@ answered_memory first p (c.SetX volume key value) well is = record { allowed = t
 answered_memory first p (c.DelX volume key) well is = record { allowed = tt; quiet = tt; live_is = sym (live_same first p well) }
 answered_memory first p (c.GetX volume key) well is = record { allowed = tt; quiet = tt; live_is = sym (live_same first p well) }
 answered_memory first p _ well is = absurd is
+
+-- the map of live attributes, once the new ones are kept
+pub live_kept : (old new : map.FinMap nat_cmp Xattrs) (o : Option NewLive) → (o ≡ None → new ≡ old) → IfSome o (λ n. new ≡ map.insert old n.head n.xattrs) → map.get new ≡ live_after (map.get old) o
+live_kept old new None none some = ap map.get (none refl)
+live_kept old new (Some n) none some = ap map.get some ∙ insert_given old n.head n.xattrs
