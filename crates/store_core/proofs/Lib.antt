@@ -9,3 +9,4 @@ pub mod Maps
 pub mod Rowing
 pub mod Answered
 pub mod Entered
+pub mod Cleared

@@ -1,10 +1,20 @@
 -- The rows of the channels with one row set, as a function.
-use Rattle.std.proofs.Common.{◌≡◌, ◌≢◌, ℕ, ◌<◌, eqb, List, [], length, slice_index_or, slice_set, refl, sym, ◌∙◌, ap, inl, inr}
+use Rattle.std.proofs.Common.{◌≡◌, ◌≢◌, ℕ, ◌<◌, eqb, List, [], ◌∷◌, ◌++◌, length, slice_index_or, slice_set, refl, sym, ◌∙◌, ap, arith, inl, inr}
 use Rattle.std.proofs.lemmas.Bool.{cases_eq, eq-eqb, ne_eqb}
 use Rattle.std.proofs.lemmas.List.{get_or-set_same, get_or-set_other}
 use Rattle.std.proofs.Math.Path.{fun_ext}
-use Rattle.store_model.specs.Rows.{Row, Ended, with_row}
-use Rattle.store_core.specs.Seen.{rows_of}
+use Rattle.page_disk.specs.declared.disk.PageDisk.{Ghosts}
+use Rattle.volume_model.specs.declared.command.Command.{Command}
+use Rattle.volume_model.specs.declared.reply.Reply.{Reply}
+use Rattle.store_model.specs.Rows.{Row, Rows, Decided, Ended, with_row, entry_of}
+use Rattle.store_model.specs.Plants.{logged}
+use Rattle.store_core.specs.Seen.{At, device_of, rows_of, state_of}
+use Rattle.store_core.specs.Steps.{logged_at}
+
+-- a list with an item has a first one
+pub first_of : {A : Type 0} (l : List A) → 0 < length l → (x : A) × (rest : List A) × (l ≡ x ∷ rest)
+first_of [] some = absurd (omega (arith, some))
+first_of (x ∷ rest) some = (x, rest, refl)
 
 module _ (rows : List Row) (channel : ℕ) (row : Row) (low : channel < length rows) where
   row_at : (c : ℕ) → rows_of (slice_set rows channel row) c ≡ with_row (rows_of rows) channel row c
@@ -15,3 +25,10 @@ module _ (rows : List Row) (channel : ℕ) (row : Row) (low : channel < length r
 
   pub rows_set : rows_of (slice_set rows channel row) ≡ with_row (rows_of rows) channel row
   rows_set = fun_ext row_at
+
+-- with an entry logged, the state is the one in which it is
+pub state_logged : {D : Type 0} (d : Ghosts D) (p : At D) (channel : ℕ) (command : Command) (rest : List Command) (reply : Reply) → channel < length p.rows
+    → state_of d (logged_at p channel command rest reply (d.clock p.disk)) ≡ logged (state_of d p) channel command rest reply (device_of d p.disk)
+state_logged d p channel command rest reply low =
+    ap (λ (rows : Rows). record (state_of d p) { rows = rows; log = p.log ++ entry_of p.log channel command reply ∷ []; marks = p.marks ++ d.clock p.disk ∷ [] })
+    (rows_set p.rows channel (record { left = rest; stage = Decided }) low)

@@ -8,3 +8,4 @@ pub mod Made
 pub mod Surviving
 pub mod Kept
 pub mod Answering
+pub mod JobTurns

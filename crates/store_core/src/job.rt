@@ -6,6 +6,7 @@ use std::snapshot::Snapshot;
 use volume_model::{PlaceList, XattrList};
 
 /// What a job writes: new metadata of the blob at a head, as a chain of pages.
+#[derive(Drop)]
 pub(crate) struct Planned {
     /// The channel whose command the job serves.
     pub(crate) channel: u8,
@@ -19,6 +20,7 @@ pub(crate) struct Planned {
 }
 
 /// How far a job has come. Once the head is written, what was planned is known to contracts alone, and takes no bytes.
+#[derive(Drop)]
 pub(crate) enum Work {
     /// So many of the pages behind the head are written.
     Writing {
@@ -33,6 +35,7 @@ pub(crate) enum Work {
 }
 
 /// The running job, with the places that stood behind the head before it.
+#[derive(Drop)]
 pub(crate) struct RunningJob {
     pub(crate) work: Work,
     pub(crate) old: PlaceList,

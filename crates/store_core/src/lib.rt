@@ -2,13 +2,16 @@
 #![tactic(auto)]
 
 mod answering;
+mod clearing;
 mod device;
 mod job;
+mod job_turn;
 mod loaded;
 mod logging;
 mod rows;
 mod running;
 mod turns;
 
+pub use job_turn::JobTurn;
 pub use loaded::Loaded;
 pub use rows::RowStage;
