@@ -10,3 +10,5 @@ pub mod Rowing
 pub mod Answered
 pub mod Entered
 pub mod Cleared
+pub mod AtWork
+pub mod JobTurned

@@ -1,11 +1,9 @@
 -- The turns of the running job: which cases they are, what they start from, and what they answer.
-use Rattle.std.specs.Prelude.{◌≡◌, ℕ, Option, Some, None, length, ◌∷◌}
-use Rattle.std.specs.FinMap as map
+use Rattle.std.specs.Prelude.{◌≡◌, ℕ, Option, Some, None, length}
 use Rattle.page_disk.specs.declared.disk.PageDisk.{Ghosts}
 use Rattle.store_model.specs.Plants.{Job}
 use Rattle.store_model.specs.Cases.{Kind}
 use Rattle.store_model.specs.Cases as kind
-use Rattle.store_core.specs.declared.job.Planned.{Planned}
 use Rattle.store_core.specs.declared.job_turn.JobTurn.{JobTurn}
 use Rattle.store_core.specs.declared.job_turn.JobTurn.TheVariants as turn
 use Rattle.store_core.specs.Seen.{At, state_of}
@@ -50,7 +48,3 @@ pub record IsAtWork {D : Type 0} (d : Ghosts D) (p : At D) (j : Job) : Type 0 wh
   pub taken : p.job ≡ None
   pub not_stopped : p.stopped ≡ None
   pub running : IsRunning (state_of d (with_job p j))
-
--- The blob of this plan has what was planned from now on.
-abbrev pub adopted : {D : Type 0} → At D → Planned → At D
-adopted p plan = record p { metas = map.insert p.metas plan.head plan.new; chains = map.insert p.chains plan.head plan.chain; live = map.insert p.live plan.head plan.live }

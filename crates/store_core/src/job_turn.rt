@@ -6,7 +6,7 @@ ghost use Rattle.volume_model.specs.declared.command.Command.{Command as AComman
 ghost use Rattle.volume_model.specs.declared.reply.Reply.TheVariants.{Fault};
 ghost use Rattle.store_model.specs.Plants.{Writing, Erasing};
 ghost use Rattle.store_core.specs.Jobs.{job_of, IsMatched};
-ghost use Rattle.store_core.specs.JobTurns.{adopted, answer_of, stopped_at, with_job, IsAtWork, TurnsJob};
+ghost use Rattle.store_core.specs.JobTurns.{answer_of, stopped_at, with_job, IsAtWork, TurnsJob};
 ghost use Rattle.store_core.specs.Kept.{IsRunning};
 ghost use Rattle.store_core.specs.Running.{at_of, InOrder};
 ghost use Rattle.store_core.specs.Seen.{rows_of, state_of};
