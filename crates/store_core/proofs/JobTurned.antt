@@ -1,6 +1,6 @@
 -- What a turn of the running job makes of the store, by cases.
-use Rattle.std.proofs.Common.{◌≡◌, ℕ, zero, suc, ◌+◌, ◌<◌, ◌≤◌, Bool, true, false, List, [], ◌∷◌, length, get_or, Result, Ok, Err, Option, Some, None, refl, sym, ◌∙◌, ap, subst, arith, add-one, inl, inr, IsTrue}
-use Rattle.std.specs.Prelude.{OnOk, OnErr, slice_get}
+use Rattle.std.proofs.Common.{◌≡◌, ℕ, zero, suc, ◌+◌, ◌<◌, ◌≤◌, Bool, true, false, All, List, [], ◌∷◌, length, get_or, Result, Ok, Err, Option, Some, None, refl, sym, ◌∙◌, ap, subst, arith, add-one, inl, inr, IsTrue}
+use Rattle.std.specs.Prelude.{OnOk, OnErr, slice_get, replicate}
 use Rattle.std.specs.Result.{is_err}
 use Rattle.std.specs.Ordering.{nat_cmp}
 use Rattle.std.specs.FinMap as map
@@ -8,6 +8,7 @@ use Rattle.std.specs.Option.{option_map}
 use Rattle.std.proofs.lemmas.Bool.{cases_lt, cases_eq}
 use Rattle.std.proofs.Math.ListN.{get_or-eq_default}
 use Rattle.std.proofs.Math.Path.{fun_ext}
+use Rattle.bit_array.specs.Bits.{is_in}
 use Rattle.page_disk.specs.Disk.{Only, Written}
 use Rattle.page_disk.specs.Moments.{IsReplaced, LeavesOnly}
 use Rattle.page_disk.specs.declared.disk.PageDisk.{Ghosts}
@@ -23,18 +24,19 @@ use Rattle.store_model.specs.Maps.{Map, given}
 use Rattle.store_model.specs.Shown.{fixed_of, volume_of}
 use Rattle.store_model.specs.Rows.{Row, InJob}
 use Rattle.store_model.specs.Plants.{Job, Phase, Writing, Erasing, Plant, planned_at, shown, logged}
-use Rattle.store_model.specs.Places.{all_set}
+use Rattle.store_model.specs.Places.{all_set, AreDistinct}
 use Rattle.store_model.specs.Cases.{after_commit, live_of, Moves, Runs}
 use Rattle.store_model.specs.Cases as kind
 use Rattle.store_model.specs.Turns.{FailsToReplace}
 use Rattle.store_model.specs.Standing.{CanBeWritten, RunsWell}
+use Rattle.store_model.proofs.JobKept.{among_at}
 use Rattle.store_model.proofs.Shows.{or_empty}
 use Rattle.store_model.proofs.Synced.{syncs_to}
 use Rattle.store_core.specs.Seen.{At, device_of, rows_of, state_of}
 use Rattle.store_core.specs.Steps.{logged_at}
 use Rattle.store_core.specs.Made.{Made}
 use Rattle.store_core.specs.JobTurns.{stopped_at, with_job, IsAtWork, TurnsJob}
-use Rattle.store_core.proofs.AtWork.{head_low, head_page, next_low, next_page, next_place, served, stands, well}
+use Rattle.store_core.proofs.AtWork.{head_low, head_page, next_low, next_page, next_place, old_in_use, old_low, served, stands, well}
 use Rattle.store_core.proofs.Maps.{insert_given}
 use Rattle.store_core.proofs.Rowing.{state_logged}
 
@@ -52,6 +54,10 @@ pub got : {A : Type 0} (l : List A) (k : ℕ) (d : A) → k < length l → slice
 got [] k d lt = absurd (omega (arith, lt))
 got (x ∷ xs) zero d lt = refl
 got (x ∷ xs) (suc k) d lt = got xs k d (omega (arith, lt))
+
+pub zeros : replicate 4096 0 ≡ zero_page
+unfolding zero_page
+zeros = refl
 
 module _ {D : Type 0} (d : Ghosts D) (p : At D) (j : Job) (w : IsAtWork d p j) where
   abbrev s : Plant
@@ -152,6 +158,15 @@ module _ {D : Type 0} (d : Ghosts D) (p : At D) (j : Job) (w : IsAtWork d p j) w
         }
 
   -- ---- behind the commit
+
+  pub old_below : (erased place : ℕ) → j.phase ≡ Erasing erased → slice_get j.old erased ≡ Some place → place < p.super.md_len
+  old_below erased place phase next = old_low s w.running w.not_stopped j refl erased phase place (among_at j.old erased place next)
+
+  pub old_distinct : AreDistinct j.old
+  old_distinct = (stands s w.running w.not_stopped j refl).old
+
+  pub old_used : (erased : ℕ) → j.phase ≡ Erasing erased → All (λ x. is_in p.pages x ≡ true) j.old
+  old_used erased phase = old_in_use s w.running w.not_stopped j refl erased phase
 
   module _ (erased : ℕ) (phase : j.phase ≡ Erasing erased) (disk : D) (place at : ℕ) (at_is : at ≡ p.super.md_start + place) (next : slice_get j.old erased ≡ Some place)
       (touches : LeavesOnly d p.disk disk (Written (d.images p.disk) at Plain zero_page)) where
