@@ -36,7 +36,7 @@ use Rattle.store_core.specs.Seen.{At, device_of, rows_of, state_of}
 use Rattle.store_core.specs.Steps.{logged_at}
 use Rattle.store_core.specs.Made.{Made}
 use Rattle.store_core.specs.JobTurns.{stopped_at, with_job, IsAtWork, TurnsJob}
-use Rattle.store_core.proofs.AtWork.{head_low, head_page, next_low, next_page, next_place, old_in_use, old_low, served, stands, well}
+use Rattle.store_core.proofs.AtWork.{head_low, head_page, next_low, next_page, next_place, old_in_use, old_low, pages_planned, served, stands, well}
 use Rattle.store_core.proofs.Maps.{insert_given}
 use Rattle.store_core.proofs.Rowing.{state_logged}
 
@@ -63,19 +63,19 @@ module _ {D : Type 0} (d : Ghosts D) (p : At D) (j : Job) (w : IsAtWork d p j) w
   abbrev s : Plant
   s = state_of d (with_job p j)
 
-  abbrev runs_in : (phase : Phase) → j.phase ≡ phase → Runs s phase
+  abbrev pub runs_in : (phase : Phase) → j.phase ≡ phase → Runs s phase
   runs_in phase is = record { job = j; is = refl; in_phase = is; runs = w.not_stopped }
 
   -- ---- before the commit
 
   module _ (written : ℕ) (phase : j.phase ≡ Writing written) where
-    abbrev command : Command
+    abbrev pub command : Command
     command = (served s w.running w.not_stopped j refl written phase).1.command
 
-    abbrev rest : List Command
+    abbrev pub rest : List Command
     rest = (served s w.running w.not_stopped j refl written phase).1.rest
 
-    row : rows_of p.rows j.channel ≡ record { left = command ∷ rest; stage = InJob }
+    pub row : rows_of p.rows j.channel ≡ record { left = command ∷ rest; stage = InJob }
     row = (served s w.running w.not_stopped j refl written phase).1.row
 
     pub row_left : (rows_of p.rows j.channel).left ≡ command ∷ rest
@@ -92,18 +92,21 @@ module _ {D : Type 0} (d : Ghosts D) (p : At D) (j : Job) (w : IsAtWork d p j) w
           absurd (let bad = sym (ap (λ (x : Row). x.left) none) ∙ row_left in cc bad)
     ]
 
+    pub planned_some : 0 < length j.planned
+    planned_some = let long = pages_planned s w.running w.not_stopped j refl written phase in omega (arith, long)
+
     pub fresh_low : (x : PlannedPage) → slice_get j.planned (written + 1) ≡ Some x → x.place < p.super.md_len
     fresh_low x next = next_low s w.running w.not_stopped j refl written phase written x (sym (ap (λ n. slice_get j.planned n) (add-one written)) ∙ next)
 
     module _ (disk : D) where
       -- the entry of a command that failed
-      abbrev entered : At D → Type 0
+      abbrev pub entered : At D → Type 0
       entered q = (c : Command) (cs : List Command) → (rows_of p.rows j.channel).left ≡ c ∷ cs → q ≡ logged_at (stopped_at (record p { disk = disk })) j.channel c cs r.Fault (d.clock disk)
 
       abbrev fault : At D
       fault = logged_at (stopped_at (record p { disk = disk })) j.channel command rest r.Fault (d.clock disk)
 
-      abbrev fails_case : FailsToReplace (device_of d p.disk) (device_of d disk) → kind.Fails s (state_of d fault)
+      abbrev pub fails_case : FailsToReplace (device_of d p.disk) (device_of d disk) → kind.Fails s (state_of d fault)
       fails_case fails = record {
         written = written;
         running = runs_in (Writing written) phase;

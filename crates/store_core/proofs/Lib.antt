@@ -12,3 +12,4 @@ pub mod Entered
 pub mod Cleared
 pub mod AtWork
 pub mod JobTurned
+pub mod JobCommitted
