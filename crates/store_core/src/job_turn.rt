@@ -48,17 +48,22 @@ pub(crate) fn job_turn<D: PageDisk>(running: &mut Running<D>) -> JobTurn
         return JobTurn::Done;
     };
     match work {
-        Work::Writing { planned, written } if written + 1 < planned.pages.len() => {
-            write_fresh(running, planned, written, old)
+        Work::Writing { planned, written } => {
+            let fresh = planned.pages.len() - 1;
+            if written < fresh {
+                write_fresh(running, planned, written, old)
+            } else {
+                commit(running, planned, old)
+            }
         }
-        Work::Writing {
-            planned,
-            written: _,
-        } => commit(running, planned, old),
-        Work::Erasing { did, erased } if erased + 1 < old.len() => {
-            erase(running, did, erased, old)
+        Work::Erasing { did, erased } => {
+            let last = old.len() - 1;
+            if erased < last {
+                erase(running, did, erased, old)
+            } else {
+                free(running, did, erased, old)
+            }
         }
-        Work::Erasing { did, erased } => free(running, did, erased, old),
     }
 }
 
