@@ -131,9 +131,9 @@ fn adopt<D>(running: &mut Running<D>, planned: Planned)
     requires chain { IsSome (map.get running.old.chains planned.head) }
     requires live { IsSome (map.get running.old.live planned.head) }
     ensures { running.new ≡ record running.old {
-        metas = map.insert running.old.metas planned.head planned.new;
-        chains = map.insert running.old.chains planned.head planned.chain;
-        live = map.insert running.old.live planned.head planned.live;
+      metas = map.insert running.old.metas planned.head planned.new;
+      chains = map.insert running.old.chains planned.head planned.chain;
+      live = map.insert running.old.live planned.head planned.live;
     } }
 {
     let Planned {

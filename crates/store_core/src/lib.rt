@@ -8,6 +8,7 @@ mod job;
 mod job_turn;
 mod loaded;
 mod logging;
+mod refusing;
 mod rows;
 mod running;
 mod turns;

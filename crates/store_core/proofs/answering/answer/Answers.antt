@@ -37,8 +37,7 @@ returns-in-Err-clause-case g c =
     let in_memory = (c.requires.in_memory waits.command waits.rest left).1 in
     let well = c.requires.running.facts.well c.requires.runs in
     let x = answered_memory c.requires.running.first p waits.command well in_memory in
-    let is = c.log-in-Err.ensures.logged waits.command waits.rest left in
-    (
+    let is = c.log-in-Err.ensures.logged waits.command waits.rest left in (
       record {
         posted = record { channel = c.args.channel; serial = c.requires.posted.serial; command = waits.command; rest = waits.rest; row = waits.row };
         runs = c.requires.runs;

@@ -1,0 +1,42 @@
+//! Commands that are refused, and commands of a stopped store.
+
+ghost use Rattle.std.specs.Prelude.{◌≡◌, ◌<◌, None, IsSome};
+ghost use Rattle.store_model.specs.Cases.{IsRefusedBy};
+ghost use Rattle.store_model.specs.Cases as kind;
+ghost use Rattle.store_core.specs.Made.{Made};
+ghost use Rattle.store_core.specs.Running.{at_of, InOrder};
+ghost use Rattle.store_core.specs.Seen.{state_of};
+ghost use Rattle.store_core.specs.Steps.{Asks, IsPostedAt};
+
+use crate::logging::log;
+use crate::running::Running;
+use page_disk::PageDisk;
+use volume_model::Reply;
+
+/// Logs the refusal of the posted command of a channel.
+pub(crate) fn refuse<D: PageDisk>(running: &mut Running<D>, channel: u8, reply: Reply)
+    requires order { InOrder D.PageDisk running.old }
+    requires channel { channel < 16 }
+    requires posted { IsPostedAt (at_of running.old) channel }
+    requires why { Asks (at_of running.old) channel (λ command. IsRefusedBy (state_of D.PageDisk (at_of running.old)) command reply) }
+    requires runs { running.old.stopped ≡ None }
+    ensures case { Made D.PageDisk (at_of running.old) (at_of running.new) kind.refuses }
+    ensures order { InOrder D.PageDisk running.new }
+{
+    log(running, channel, reply);
+}
+
+/// Logs the posted command of a channel on a stopped store.
+pub(crate) fn halt<D: PageDisk>(running: &mut Running<D>, channel: u8)
+    requires order { InOrder D.PageDisk running.old }
+    requires channel { channel < 16 }
+    requires posted { IsPostedAt (at_of running.old) channel }
+    requires stopped { IsSome running.old.stopped }
+    ensures case { Made D.PageDisk (at_of running.old) (at_of running.new) kind.halts }
+    ensures order { InOrder D.PageDisk running.new }
+{
+    match running.stopped {
+        Some(at) => log(running, channel, Reply::Stopped(at)),
+        None => unreachable!(),
+    }
+}
