@@ -22,6 +22,22 @@ use Rattle.store_core.proofs.HeadSurvives.{commit_survives, failed_survives}
 stopped_is : {p q : Plant} → p ≡ q → p.stopped ≡ q.stopped
 stopped_is e = ap (λ (x : Plant). x.stopped) e
 
+-- the case alone
+pub case_of : {D : Type 0} (d : Ghosts D) (p q : At D) (k : Kind) → Made d p q k → kind.Turn d.tells (state_of d p) k (state_of d q)
+case_of d p q kind.posts made = made.0
+case_of d p q kind.settles made = made.0
+case_of d p q kind.ends made = made.0
+case_of d p q kind.answers made = made.0
+case_of d p q kind.refuses made = made.0
+case_of d p q kind.halts made = made.0
+case_of d p q kind.begins made = made.0
+case_of d p q kind.writes made = made.case
+case_of d p q kind.commits made = made.case
+case_of d p q kind.erases made = made.case
+case_of d p q kind.frees made = made.case
+case_of d p q kind.fails made = made.case
+case_of d p q kind.breaks_off made = made.case
+
 module _ {D : Type 0} (d : Ghosts D) (laws : CrashLaws) (told : IsTrue d.tells) (law : IsTrue d.tells → Telling d.now d.images d.since d.clock) (s : Super) (placed : IsPlaced s) (first : Volumes) (script : ℕ → List Command)
     (p q : At D) (old : Survives d s first p) (facts : Facts s first script (state_of d p)) (after : Facts s first script (state_of d q)) where
   -- the next state, where its parts are those of another
@@ -69,19 +85,3 @@ module _ {D : Type 0} (d : Ghosts D) (laws : CrashLaws) (told : IsTrue d.tells) 
   survives_turn kind.frees made = freed_survives d laws told law s placed first script p q old facts after made
   survives_turn kind.fails made = failed_survives d laws told law s placed first script p q old facts after made
   survives_turn kind.breaks_off made = broken_survives d laws told law s placed first script p q old facts after made
-
-  -- the case alone
-  pub case_of : (k : Kind) → Made d p q k → kind.Turn d.tells (state_of d p) k (state_of d q)
-  case_of kind.posts made = made.0
-  case_of kind.settles made = made.0
-  case_of kind.ends made = made.0
-  case_of kind.answers made = made.0
-  case_of kind.refuses made = made.0
-  case_of kind.halts made = made.0
-  case_of kind.begins made = made.0
-  case_of kind.writes made = made.case
-  case_of kind.commits made = made.case
-  case_of kind.erases made = made.case
-  case_of kind.frees made = made.case
-  case_of kind.fails made = made.case
-  case_of kind.breaks_off made = made.case

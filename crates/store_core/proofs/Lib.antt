@@ -13,3 +13,4 @@ pub mod Cleared
 pub mod AtWork
 pub mod JobTurned
 pub mod JobCommitted
+pub mod Goes

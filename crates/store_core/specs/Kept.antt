@@ -1,5 +1,5 @@
 -- What the type of a running store keeps.
-use Rattle.std.specs.Prelude.{◌+◌, ◌≤◌, ℕ, List}
+use Rattle.std.specs.Prelude.{ℕ, List}
 use Rattle.page_disk.specs.declared.disk.PageDisk.{Ghosts}
 use Rattle.super_block.specs.declared.page.Super.{Super}
 use Rattle.super_block.specs.Placed.{IsPlaced}
@@ -29,6 +29,5 @@ pub record Kept {D : Type 0} (d : Ghosts D) (p : Both D) : Type 0 where
   pub began : Opens (state_of d p.opening)
   pub run : (kinds : List Kind) × Run d.tells (state_of d p.opening) kinds (state_of d p.at)
   pub facts : Facts p.opening.super (shown (state_of d p.opening)) (script_of p.opening) (state_of d p.at)
-  pub inside : p.at.super.md_start + p.at.super.md_len ≤ d.pages p.at.disk
-  pub placed : IsPlaced p.at.super
+  pub placed : IsPlaced p.opening.super
   pub survives : HasOneImage d p.opening.disk → Survives d p.opening.super (shown (state_of d p.opening)) p.at

@@ -6,6 +6,7 @@ mod clearing;
 mod device;
 mod job;
 mod job_turn;
+mod keeping;
 mod loaded;
 mod logging;
 mod refusing;
