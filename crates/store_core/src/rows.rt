@@ -10,6 +10,7 @@ use std::marker::Model;
 use volume_model::{Command, Msg};
 
 /// What a channel's row waits for.
+#[derive(Clone, Copy)]
 pub enum RowStage {
     /// The first command is one for the metadata thread, and is to be posted.
     Meta,
