@@ -1,12 +1,12 @@
 -- How far places are cleared, one after another.
-use Rattle.std.proofs.Common.{◌≡◌, ◌≢◌, ℕ, zero, suc, ◌+◌, ◌<◌, Bool, true, false, List, [], ◌∷◌, length, get_or, drop, All, refl, sym, ◌∙◌, ap, subst, arith, drop-cons, add-one, inl, inr}
+use Rattle.std.proofs.Common.{◌≡◌, ◌≢◌, ℕ, zero, suc, ◌+◌, ◌<◌, Bool, true, false, List, [], ◌∷◌, length, get_or, drop, All, sym, ◌∙◌, ap, subst, arith, drop-cons, add-one}
 use Rattle.std.specs.Prelude.{slice_set}
 use Rattle.std.proofs.lemmas.List.{get_or-set_other}
 use Rattle.bit_array.specs.Bits.{is_in}
 use Rattle.md_chain.specs.Chain.{is_among}
 use Rattle.pools.specs.Pool.{PoolState, freed}
 use Rattle.store_model.specs.Places.{all_set, AreDistinct}
-use Rattle.store_model.proofs.Sets.{among_first, among_later, not_first}
+use Rattle.store_model.proofs.Sets.{among_first, among_later}
 
 pub record Clears (old : List Bool) (places : List ℕ) (i : ℕ) (p : PoolState) : Type 0 where
   pub unclaimed : p.claims ≡ []

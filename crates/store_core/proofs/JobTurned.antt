@@ -1,43 +1,29 @@
 -- What a turn of the running job makes of the store, by cases.
-use Rattle.std.proofs.Common.{◌≡◌, ℕ, zero, suc, ◌+◌, ◌<◌, ◌≤◌, Bool, true, false, All, List, [], ◌∷◌, length, get_or, Result, Ok, Err, Option, Some, None, refl, sym, ◌∙◌, ap, subst, arith, add-one, inl, inr, IsTrue}
+use Rattle.std.proofs.Common.{◌≡◌, ℕ, zero, suc, ◌+◌, ◌<◌, Bool, true, false, All, List, [], ◌∷◌, length, get_or, Result, Ok, Err, Some, refl, sym, ◌∙◌, ap, subst, arith, add-one, inl, inr, IsTrue}
 use Rattle.std.specs.Prelude.{OnOk, OnErr, slice_get, replicate}
 use Rattle.std.specs.Result.{is_err}
-use Rattle.std.specs.Ordering.{nat_cmp}
-use Rattle.std.specs.FinMap as map
-use Rattle.std.specs.Option.{option_map}
-use Rattle.std.proofs.lemmas.Bool.{cases_lt, cases_eq}
+use Rattle.std.proofs.lemmas.Bool.{cases_lt}
 use Rattle.std.proofs.Math.ListN.{get_or-eq_default}
-use Rattle.std.proofs.Math.Path.{fun_ext}
 use Rattle.bit_array.specs.Bits.{is_in}
 use Rattle.page_disk.specs.Disk.{Only, Written}
-use Rattle.page_disk.specs.Moments.{IsReplaced, LeavesOnly}
+use Rattle.page_disk.specs.Moments.{LeavesOnly}
 use Rattle.page_disk.specs.declared.disk.PageDisk.{Ghosts}
 use Rattle.page_disk.specs.declared.disk.WriteKind.TheVariants.{Plain}
-use Rattle.volume_model.specs.Volumes.{Volume, Volumes, zero_page}
-use Rattle.volume_model.specs.Xattrs.{Xattrs}
-use Rattle.volume_model.specs.Steps.{change}
+use Rattle.volume_model.specs.Volumes.{zero_page}
 use Rattle.volume_model.specs.declared.command.Command.{Command}
 use Rattle.volume_model.specs.declared.reply.Reply.TheVariants as r
-use Rattle.blob_meta.specs.declared.meta.Meta.{Meta}
 use Rattle.md_chain.specs.declared.plan.PlannedPage.{PlannedPage}
-use Rattle.store_model.specs.Maps.{Map, given}
-use Rattle.store_model.specs.Shown.{fixed_of, volume_of}
 use Rattle.store_model.specs.Rows.{Row, InJob}
-use Rattle.store_model.specs.Plants.{Job, Phase, Writing, Erasing, Plant, planned_at, shown, logged}
+use Rattle.store_model.specs.Plants.{Job, Phase, Writing, Erasing, Plant, planned_at}
 use Rattle.store_model.specs.Places.{all_set, AreDistinct}
 use Rattle.store_model.specs.Cases.{after_commit, live_of, Moves, Runs}
 use Rattle.store_model.specs.Cases as kind
 use Rattle.store_model.specs.Turns.{FailsToReplace}
-use Rattle.store_model.specs.Standing.{CanBeWritten, RunsWell}
 use Rattle.store_model.proofs.JobKept.{among_at}
-use Rattle.store_model.proofs.Shows.{or_empty}
-use Rattle.store_model.proofs.Synced.{syncs_to}
 use Rattle.store_core.specs.Seen.{At, device_of, rows_of, state_of}
 use Rattle.store_core.specs.Steps.{logged_at}
-use Rattle.store_core.specs.Made.{Made}
 use Rattle.store_core.specs.JobTurns.{stopped_at, with_job, IsAtWork, TurnsJob}
-use Rattle.store_core.proofs.AtWork.{head_low, head_page, next_low, next_page, next_place, old_in_use, old_low, pages_planned, served, stands, well}
-use Rattle.store_core.proofs.Maps.{insert_given}
+use Rattle.store_core.proofs.AtWork.{next_low, next_page, next_place, old_in_use, old_low, pages_planned, served, stands}
 use Rattle.store_core.proofs.Rowing.{state_logged}
 
 -- ---- plain facts

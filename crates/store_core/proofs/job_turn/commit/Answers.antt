@@ -1,5 +1,4 @@
-use Rattle.std.proofs.Common.{◌≡◌, ◌<◌, ◌≤◌, ◌+◌, suc, [], ◌∷◌, ℕ, List, Some, length, get_or, drop, refl, sym, ◌∙◌, ap, subst, arith}
-use Rattle.std.specs.Prelude.{slice_get}
+use Rattle.std.proofs.Common.{◌≡◌, ◌<◌, [], List, Some, length, get_or, drop, refl, sym, ◌∙◌, ap, subst, arith}
 use Rattle.page_disk.specs.Moments.{IsReplaced, LeavesOnly}
 use Rattle.md_chain.specs.declared.plan.PlannedPage.{PlannedPage}
 use Rattle.store_model.specs.Rows.{Row}

@@ -1,10 +1,10 @@
-use Rattle.std.proofs.Common.{◌≡◌, ◌<◌, ◌≤◌, ◌+◌, ◌-◌, suc, ◌∷◌, ℕ, List, Option, Some, None, length, drop, refl, sym, ◌∙◌, ap, subst, arith}
+use Rattle.std.proofs.Common.{◌≡◌, Option, Some, length, drop, refl, sym, ◌∙◌, ap, subst, arith}
 use Rattle.std.specs.Option.{option_map}
-use Rattle.store_model.specs.Plants.{Job, Writing, Erasing}
+use Rattle.store_model.specs.Plants.{Writing, Erasing}
 use Rattle.store_core.specs.declared.job.RunningJob.{RunningJob}
 use Rattle.store_core.specs.declared.job.Work.{Work}
 use Rattle.store_core.specs.Jobs.{job_of, job_seen}
-use Rattle.store_core.specs.JobTurns.{TurnsJob, IsAtWork}
+use Rattle.store_core.specs.JobTurns.{TurnsJob}
 use Rattle.store_core.specs.Kept.{IsRunning}
 use Rattle.store_core.specs.Running.{at_of}
 use Rattle.store_core.specs.Seen.{state_of}
