@@ -1,0 +1,61 @@
+//! The words of a line: numbers, volumes, keys and values.
+
+ghost use Rattle.std.specs.Prelude.{◌≡◌};
+ghost use Rattle.std.specs.Option.{option_copied};
+ghost use Rattle.script_lang.specs.Words.{number_in, head_in, is_visible as visible_said, key_in, value_in};
+
+use itoa::Buffer;
+
+/// A number below 2^32, in decimal without sign or leading zero.
+fn number(word: &[u8]) -> Option<u32>
+    ensures { result ≡ number_in word.now }
+{
+    let Ok(text) = str::from_utf8(word) else {
+        return None;
+    };
+    let Ok(number) = text.parse::<u32>() else {
+        return None;
+    };
+    if Buffer::new().format(number).as_bytes() == word {
+        Some(number)
+    } else {
+        None
+    }
+}
+
+/// The head page that a word of the form `@P` names.
+pub fn head(word: &[u8]) -> Option<u32>
+    ensures { result ≡ head_in word.now }
+{
+    match word {
+        [b'@', digits @ ..] => number(digits),
+        _ => None,
+    }
+}
+
+fn is_visible(word: &[u8]) -> bool
+    ensures { result ≡ visible_said word.now }
+{
+    word.iter().all(|b| *b >= 0x21 && *b <= 0x7e)
+}
+
+/// The name of an attribute.
+pub fn key(word: &[u8]) -> Option<&[u8]>
+    ensures { option_copied result ≡ key_in word.now }
+{
+    if is_visible(word) && !word.is_empty() && word.len() <= 255 {
+        Some(word)
+    } else {
+        None
+    }
+}
+
+/// The value of an attribute in a word of the form `t:VALUE`.
+pub fn value(word: &[u8]) -> Option<&[u8]>
+    ensures { option_copied result ≡ value_in word.now }
+{
+    match word {
+        [b't', b':', bytes @ ..] if is_visible(bytes) => Some(bytes),
+        _ => None,
+    }
+}
