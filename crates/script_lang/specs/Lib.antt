@@ -2,3 +2,4 @@ pub mod Parts
 pub mod Words
 pub mod Verbs
 pub mod Lines
+pub mod Script

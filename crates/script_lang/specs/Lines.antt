@@ -1,23 +1,22 @@
 -- One line: the command that it holds, or else what is wrong with it.
-use Rattle.std.specs.Prelude.{ℕ, ◌==◌, nat_lt, nat_le, ◌&&◌, ◌||◌, not, if◌then◌else◌, List, [], ◌∷◌, Bool, Option, Some, None, length, slice_index, codes}
+use Rattle.std.specs.Prelude.{ℕ, ◌==◌, nat_lt, nat_le, ◌&&◌, ◌||◌, not, if◌then◌else◌, List, [], ◌∷◌, Bool, Option, Some, None, length, slice_index}
 use Rattle.std.specs.List.{list_all}
 use Rattle.std.specs.Option.{option_and_then, is_some}
-use Rattle.std.specs.Str.{bytes_eq}
 use Rattle.volume_model.specs.declared.command.Command.{Command}
 use Rattle.script_lang.specs.declared.fault.LineKind.{LineKind}
 use Rattle.script_lang.specs.declared.fault.LineKind.TheVariants as kind
 use Rattle.script_lang.specs.declared.verb.Verb.{Verb}
 use Rattle.script_lang.specs.Parts.{parts}
 use Rattle.script_lang.specs.Verbs.{verb_in, words_of, command_of}
-use Rattle.script_lang.specs.Words.{head_in}
+use Rattle.script_lang.specs.Words.{is_channel, head_in}
 
 -- the words of a line, which are separated by one space each
 abbrev pub words : List ℕ → List (List ℕ)
 words line = parts 32 (Some line)
 
--- channel 0, a verb and the words of this verb
+-- a channel, a verb and the words of this verb
 abbrev pub command_in : List (List ℕ) → Option Command
-command_in (channel ∷ verb ∷ more) = if bytes_eq channel (codes "0") then option_and_then (λ v. command_of v more) (verb_in verb) else None
+command_in (channel ∷ verb ∷ more) = if is_channel channel then option_and_then (λ v. command_of v more) (verb_in verb) else None
 command_in _ = None
 
 -- the command of a line
@@ -46,8 +45,8 @@ kind_of_more (volume ∷ more) = if is_some (head_in volume) then kind.KeyValue 
 
 abbrev pub kind_of_verb : List ℕ → List (List ℕ) → Option Verb → LineKind
 kind_of_verb channel more (Some verb) =
-    if not (length more == words_of verb) then kind.Form else (if not (bytes_eq channel (codes "0")) then kind.Channel else kind_of_more more)
-kind_of_verb channel more None = if not (bytes_eq channel (codes "0")) then kind.Channel else kind.Verb
+    if not (length more == words_of verb) then kind.Form else (if not (is_channel channel) then kind.Channel else kind_of_more more)
+kind_of_verb channel more None = if not (is_channel channel) then kind.Channel else kind.Verb
 
 -- the first word at fault decides; the number of words counts only where the verb is known, and before all words
 abbrev pub kind_of_words : List (List ℕ) → LineKind

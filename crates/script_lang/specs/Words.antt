@@ -1,8 +1,12 @@
 -- The words of a line: what each kind of word says, or none where it is no such word.
-use Rattle.std.specs.Prelude.{ℕ, ◌^◌, ◌==◌, nat_lt, nat_le, ◌&&◌, if◌then◌else◌, List, Bool, Option, Some, None, length, drop, slice_index, decimal}
+use Rattle.std.specs.Prelude.{ℕ, ◌^◌, ◌==◌, nat_lt, nat_le, ◌&&◌, if◌then◌else◌, List, Bool, Option, Some, None, length, drop, slice_index, decimal, codes}
 use Rattle.std.specs.List.{list_all}
 use Rattle.std.specs.Str.{bytes_eq}
 use Rattle.std.specs.Str.Parse.{digits_value}
+
+-- channel 0, and no other so far
+abbrev pub is_channel : List ℕ → Bool
+is_channel word = bytes_eq word (codes "0")
 
 -- a number below 2^32 as it is printed: without sign or leading zero
 abbrev pub number_in : List ℕ → Option ℕ

@@ -3,8 +3,12 @@
 
 mod fault;
 mod line;
+mod parsing;
 mod parts;
+#[cfg(test)]
+mod tests;
 mod verb;
 mod words;
 
 pub use fault::{LineKind, ScriptFault};
+pub use parsing::parse;

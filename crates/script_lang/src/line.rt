@@ -9,7 +9,7 @@ ghost use Rattle.script_lang.specs.Lines.{is_printable as printable_said, is_spa
 use crate::fault::LineKind;
 use crate::parts::Parts;
 use crate::verb::Verb;
-use crate::words::head;
+use crate::words::{head, is_channel};
 use out_of_memory::Memory;
 use std::alloc::Global;
 use volume_model::Command;
@@ -26,7 +26,7 @@ pub fn command_at(alloc: Global, line: &[u8]) -> Result<Option<Command>, Memory>
     let Some(word) = words.next_part() else {
         return Ok(None);
     };
-    if channel != b"0".as_slice() {
+    if !is_channel(channel) {
         return Ok(None);
     }
     match Verb::of(word) {
@@ -79,10 +79,12 @@ pub fn kind_of(line: &[u8]) -> LineKind
         return LineKind::Form;
     };
     let verb = Verb::of(word);
-    if let Some(verb) = verb && words.count() != verb.words() {
+    if let Some(verb) = verb
+        && words.count() != verb.words()
+    {
         return LineKind::Form;
     }
-    if channel != b"0".as_slice() {
+    if !is_channel(channel) {
         return LineKind::Channel;
     }
     if verb.is_none() {

@@ -53,10 +53,7 @@ fn attribute(alloc: Global, mut words: Parts<'_>) -> Result<Option<(u32, Blobtex
 }
 
 /// The head, the key and the value of `VOL KEY VALUE`.
-fn setting(
-    alloc: Global,
-    mut words: Parts<'_>,
-) -> Result<Option<(u32, Blobtext, Blobtext)>, Memory>
+fn setting(alloc: Global, mut words: Parts<'_>) -> Result<Option<(u32, Blobtext, Blobtext)>, Memory>
     ensures { IfOk result (λ setting. setting ≡ setting_in (parts words.entry.separator (option_copied words.entry.rest))) }
 {
     let Some(volume) = words.next_part() else {

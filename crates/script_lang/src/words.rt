@@ -1,10 +1,17 @@
-//! The words of a line: numbers, volumes, keys and values.
+//! The words of a line: channels, numbers, volumes, keys and values.
 
 ghost use Rattle.std.specs.Prelude.{◌≡◌};
 ghost use Rattle.std.specs.Option.{option_copied};
-ghost use Rattle.script_lang.specs.Words.{number_in, head_in, is_visible as visible_said, key_in, value_in};
+ghost use Rattle.script_lang.specs.Words.{is_channel as channel_said, number_in, head_in, is_visible as visible_said, key_in, value_in};
 
 use itoa::Buffer;
+
+/// Whether a word is a channel; so far there is channel 0 alone.
+pub fn is_channel(word: &[u8]) -> bool
+    ensures { result ≡ channel_said word.now }
+{
+    word == b"0".as_slice()
+}
 
 /// A number below 2^32, in decimal without sign or leading zero.
 fn number(word: &[u8]) -> Option<u32>
