@@ -1,0 +1,62 @@
+-- The printed text of a log, and of the space that a new store has.
+use Rattle.std.specs.Prelude.{ℕ, List, [], ◌∷◌, ◌++◌, decimal, codes}
+use Rattle.std.specs.List.{flat_map}
+use Rattle.volume_model.specs.declared.reply.Df.{Df}
+use Rattle.volume_model.specs.declared.reply.Reply.{Reply}
+use Rattle.volume_model.specs.declared.reply.Reply.TheVariants as r
+use Rattle.volume_model.specs.declared.reply.Entry.{Entry}
+use Rattle.blob_report.specs.Pieces.{hex_text}
+
+-- a reply that has a text so far: not a page, and not what is known of volumes
+abbrev pub CanPrint : Reply → Type 0
+CanPrint (r.Content page) = ⊥
+CanPrint (r.Info info) = ⊥
+CanPrint (r.List infos) = ⊥
+CanPrint _ = Unit {0}
+
+-- two hexadecimal digits a byte, or `-` where there is none
+abbrev pub value_text : List ℕ → List ℕ
+value_text [] = codes "value -"
+value_text (byte ∷ bytes) = codes "value " ++ hex_text (byte ∷ bytes)
+
+-- free of all
+abbrev pub df_text : Df → List ℕ
+df_text df = codes "df clusters " ++ decimal df.free_clusters ++ codes " of " ++ decimal df.clusters ++ codes " pages " ++ decimal df.free_pages ++ codes " of " ++ decimal df.pages
+
+-- the text of a reply; none for those that can't be printed
+abbrev pub reply_text : Reply → List ℕ
+reply_text r.Ok = codes "ok"
+reply_text (r.Made head) = codes "ok @" ++ decimal head
+reply_text (r.Value value) = value_text value
+reply_text (r.Df df) = df_text df
+reply_text r.NoVolume = codes "no volume"
+reply_text r.OutOfRange = codes "out of range"
+reply_text r.ReadOnly = codes "read only"
+reply_text r.NotReadOnly = codes "not read only"
+reply_text r.Full = codes "full"
+reply_text r.NoPage = codes "no page"
+reply_text r.NameTaken = codes "name taken"
+reply_text (r.Busy clones) = codes "busy " ++ decimal clones
+reply_text r.NoParent = codes "no parent"
+reply_text r.Short = codes "short"
+reply_text r.Reserved = codes "reserved"
+reply_text r.NoValue = codes "no value"
+reply_text r.TooLong = codes "too long"
+reply_text r.TooLarge = codes "too large"
+reply_text r.ReadFault = codes "read fault"
+reply_text r.Fault = codes "fault"
+reply_text (r.Stopped at) = codes "stopped " ++ decimal at
+reply_text r.Memory = codes "no memory"
+reply_text _ = []
+
+-- the channel, the index and the reply, with single spaces, and LF
+abbrev pub entry_text : Entry → List ℕ
+entry_text entry = decimal entry.channel ++ codes " " ++ decimal entry.index ++ codes " " ++ reply_text entry.reply ++ codes "\n"
+
+-- a line for each entry, in the log's order
+abbrev pub log_text : List Entry → List ℕ
+log_text entries = flat_map entry_text entries
+
+-- what a new store has: all and free, of each kind, and LF
+abbrev pub space_text : Df → List ℕ
+space_text space = codes "clusters " ++ decimal space.clusters ++ codes " free " ++ decimal space.free_clusters ++ codes " pages " ++ decimal space.pages ++ codes " free " ++ decimal space.free_pages ++ codes "\n"

@@ -1,0 +1,11 @@
+//! The printed text of what a store answers.
+#![tactic(auto)]
+
+mod entry;
+mod pieces;
+mod space;
+#[cfg(test)]
+mod tests;
+
+pub use entry::render_entry;
+pub use space::space_line;
