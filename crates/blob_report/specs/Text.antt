@@ -1,17 +1,16 @@
 -- The printed text of a log, and of the space that a new store has.
-use Rattle.std.specs.Prelude.{ℕ, List, [], ◌∷◌, ◌++◌, decimal, codes}
+use Rattle.std.specs.Prelude.{ℕ, Bool, if◌then◌else◌, List, [], ◌∷◌, ◌++◌, length, decimal, codes}
 use Rattle.std.specs.List.{flat_map}
 use Rattle.volume_model.specs.declared.reply.Df.{Df}
+use Rattle.volume_model.specs.declared.reply.Info.{Info}
 use Rattle.volume_model.specs.declared.reply.Reply.{Reply}
 use Rattle.volume_model.specs.declared.reply.Reply.TheVariants as r
 use Rattle.volume_model.specs.declared.reply.Entry.{Entry}
-use Rattle.blob_report.specs.Pieces.{hex_text}
+use Rattle.blob_report.specs.Pieces.{hex_text, shown, head_text}
 
--- a reply that has a text so far: not a page, and not what is known of volumes
+-- a reply that has a text so far: any but a page
 abbrev pub CanPrint : Reply → Type 0
 CanPrint (r.Content page) = ⊥
-CanPrint (r.Info info) = ⊥
-CanPrint (r.List infos) = ⊥
 CanPrint _ = Unit {0}
 
 -- two hexadecimal digits a byte, or `-` where there is none
@@ -23,11 +22,32 @@ value_text (byte ∷ bytes) = codes "value " ++ hex_text (byte ∷ bytes)
 abbrev pub df_text : Df → List ℕ
 df_text df = codes "df clusters " ++ decimal df.free_clusters ++ codes " of " ++ decimal df.clusters ++ codes " pages " ++ decimal df.free_pages ++ codes " of " ++ decimal df.pages
 
--- the text of a reply; none for those that can't be printed
+abbrev pub filling_text : Bool → List ℕ
+filling_text thin = if thin then codes " thin" else codes " thick"
+
+abbrev pub writing_text : Bool → List ℕ
+writing_text read_only = if read_only then codes " ro" else codes " rw"
+
+-- what is known of a volume
+abbrev pub info_text : Info → List ℕ
+info_text info =
+    codes "volume @" ++ decimal info.head ++ codes " " ++ shown info.name ++ codes " slots " ++ decimal info.slots ++ codes " parent " ++ head_text info.parent
+    ++ filling_text info.thin ++ writing_text info.read_only ++ codes " xattrs " ++ decimal info.xattrs
+
+abbrev pub info_line : Info → List ℕ
+info_line info = codes "\n" ++ info_text info
+
+-- how many there are, and then a line for each
+abbrev pub list_text : List Info → List ℕ
+list_text infos = codes "list " ++ decimal (length infos) ++ flat_map info_line infos
+
+-- the text of a reply; none for a page
 abbrev pub reply_text : Reply → List ℕ
 reply_text r.Ok = codes "ok"
 reply_text (r.Made head) = codes "ok @" ++ decimal head
 reply_text (r.Value value) = value_text value
+reply_text (r.Info info) = info_text info
+reply_text (r.List infos) = list_text infos
 reply_text (r.Df df) = df_text df
 reply_text r.NoVolume = codes "no volume"
 reply_text r.OutOfRange = codes "out of range"

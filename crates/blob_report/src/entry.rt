@@ -5,6 +5,7 @@ ghost use Rattle.blob_report.specs.Text.{CanPrint, reply_text, df_text, value_te
 
 use crate::pieces::Piece::{Hex, Number, Words};
 use crate::pieces::push_pieces;
+use crate::volume::{push_info, push_list};
 use out_of_memory::Memory;
 use volume_model::{Df, Entry, Reply};
 
@@ -37,16 +38,18 @@ fn push_df(df: Df, into: &mut Vec<u8>) -> Result<(), Memory>
     push_pieces(&pieces, into)
 }
 
-/// Appends the text of a reply. After `Memory` nothing is appended.
+/// Appends the text of a reply. After `Memory` what was there still stands first.
 fn push_reply(reply: &Reply, into: &mut Vec<u8>) -> Result<(), Memory>
     requires { CanPrint reply.now }
     ensures ok { OnOk result (into.new.items ≡ into.old.items ++ reply_text reply.now) }
-    ensures memory { OnErr result (into.new.items ≡ into.old.items) }
+    ensures kept { take (length into.old.items) into.new.items ≡ into.old.items }
 {
     match reply {
         Reply::Ok => push_pieces(&[Words(b"ok")], into),
         Reply::Made(head) => push_pieces(&[Words(b"ok @"), Number(*head)], into),
         Reply::Value(value) => push_value(value.bytes(), into),
+        Reply::Info(info) => push_info(info, into),
+        Reply::List(infos) => push_list(infos.as_slice(), into),
         Reply::Df(df) => push_df(*df, into),
         Reply::NoVolume => push_pieces(&[Words(b"no volume")], into),
         Reply::OutOfRange => push_pieces(&[Words(b"out of range")], into),
@@ -66,7 +69,7 @@ fn push_reply(reply: &Reply, into: &mut Vec<u8>) -> Result<(), Memory>
         Reply::Fault => push_pieces(&[Words(b"fault")], into),
         Reply::Stopped(at) => push_pieces(&[Words(b"stopped "), Number(*at)], into),
         Reply::Memory => push_pieces(&[Words(b"no memory")], into),
-        Reply::Content(_) | Reply::Info(_) | Reply::List(_) => unreachable!(),
+        Reply::Content(_) => unreachable!(),
     }
 }
 
@@ -89,8 +92,8 @@ fn push_line(entry: &Entry, into: &mut Vec<u8>) -> Result<(), Memory>
     Ok(())
 }
 
-/// Appends the line of an entry: the channel, the index and the reply, with single spaces, and LF. Replies with a page or with
-/// what is known of volumes have no text yet. After `Memory` nothing is appended.
+/// Appends the line of an entry: the channel, the index and the reply, with single spaces, and LF. A reply with a page has no
+/// text yet. After `Memory` nothing is appended.
 pub fn render_entry(entry: &Entry, into: &mut Vec<u8>) -> Result<(), Memory>
     requires { CanPrint entry.now.reply }
     ensures ok { OnOk result (into.new.items ≡ into.old.items ++ entry_text entry.now) }

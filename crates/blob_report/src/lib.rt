@@ -6,6 +6,7 @@ mod pieces;
 mod space;
 #[cfg(test)]
 mod tests;
+mod volume;
 
 pub use entry::render_entry;
 pub use space::space_line;

@@ -5,7 +5,21 @@ ghost use Rattle.blob_report.specs.Text.{CanPrint};
 use crate::{render_entry, space_line};
 use std::alloc::Global;
 use std::test::Fail;
-use volume_model::{Blobtext, Command, Df, Entry, Memory, Reply};
+use volume_model::{Blobtext, Command, Df, Entry, Info, InfoList, Memory, Reply};
+
+/// A volume's name of these bytes, and what else is known of it.
+fn info(alloc: Global, name: &[u8], parent: Option<u32>, thin: bool) -> Result<Info, Memory> {
+    Ok(Info {
+        head: 3,
+        name: Blobtext::new(alloc, name)?,
+        uuid: Blobtext::new(alloc, b"")?,
+        slots: 1 << 40,
+        parent,
+        thin,
+        read_only: !thin,
+        xattrs: 2,
+    })
+}
 
 /// The line of an entry with this reply.
 fn line(alloc: Global, channel: u8, index: u32, reply: Reply) -> Result<Vec<u8>, Memory>
@@ -89,6 +103,28 @@ fn a_line_follows_what_was_there(rt: HostRuntime) -> Result<(), Fail> {
     assert_eq!(rt;
         text.as_slice(),
         b"0 0 no value\nclusters 12 free 9 pages 4 free 3\n".as_slice()
+    );
+    Ok(())
+}
+
+#[test]
+fn volumes_are_told_line_by_line(rt: HostRuntime) -> Result<(), Fail> {
+    let a = rt.alloc();
+    let one = Reply::Info(info(a, b"a b\\\xff~", None, true)?);
+    assert_eq!(rt;
+        line(a, 1, 0, one)?.as_slice(),
+        b"1 0 volume @3 a\\x20b\\x5c\\xff~ slots 1099511627776 parent - thin rw xattrs 2\n".as_slice()
+    );
+    let mut infos = InfoList::new(a);
+    infos.push(info(a, b"-", Some(9), false)?)?;
+    infos.push(info(a, b"", None, true)?)?;
+    assert_eq!(rt;
+        line(a, 1, 1, Reply::List(infos))?.as_slice(),
+        b"1 1 list 2\nvolume @3 \\x2d slots 1099511627776 parent @9 thick ro xattrs 2\nvolume @3 - slots 1099511627776 parent - thin rw xattrs 2\n".as_slice()
+    );
+    assert_eq!(rt;
+        line(a, 1, 2, Reply::List(InfoList::new(a)))?.as_slice(),
+        b"1 2 list 0\n".as_slice()
     );
     Ok(())
 }
