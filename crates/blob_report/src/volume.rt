@@ -1,7 +1,6 @@
 //! The texts of what is known of volumes.
 
 ghost use Rattle.std.specs.Prelude.{◌≡◌, ◌++◌, length, take, OnOk, OnErr};
-ghost use Rattle.std.specs.List.{flat_map};
 ghost use Rattle.blob_report.specs.Text.{filling_text, writing_text, info_text, info_line, list_text};
 
 use crate::pieces::Piece::{Head, Long, Number, Shown, Words};

@@ -1,9 +1,7 @@
 //! One line of a script: its command, or what is wrong with it.
 
 ghost use Rattle.std.specs.Prelude.{◌≡◌, IfOk, IfSome};
-ghost use Rattle.std.specs.Option.{option_copied};
 ghost use Rattle.blob_meta.specs.Asked.{IsOnHead};
-ghost use Rattle.script_lang.specs.Parts.{size_left};
 ghost use Rattle.script_lang.specs.Lines.{is_printable as printable_said, is_spaced as spaced_said, is_comment as comment_said, command_at as command_said, kind_at};
 
 use crate::fault::LineKind;
