@@ -1,0 +1,6 @@
+pub mod Places
+pub mod Attributes
+pub mod Roots
+pub mod Maps
+pub mod Sums
+pub mod Walk

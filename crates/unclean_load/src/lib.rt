@@ -1,0 +1,8 @@
+//! Loading a store by reading every metadata page.
+#![tactic(auto)]
+
+mod fault;
+mod heads;
+mod walking;
+
+pub use fault::LoadFault;

@@ -1,0 +1,115 @@
+//! The blobs of a metadata region, by their heads from the first place upwards.
+
+ghost use Rattle.std.specs.Prelude.{◌≡◌, ◌≤◌, ◌+◌, ◌^◌, false, length, IsTrue, OnOk, IfOk, IfErr};
+ghost use Rattle.std.specs.FinMap as map;
+ghost use Rattle.blob_meta.specs.Faults.{is_mark as is_mark_said};
+ghost use Rattle.blob_meta.specs.Resolving.{slots_together};
+ghost use Rattle.md_chain.specs.Reading.{OnlyRead, region_look};
+ghost use Rattle.store_model.specs.Regions.{region_of};
+ghost use Rattle.super_block.specs.Faults.{IsFaultless};
+ghost use Rattle.unclean_load.specs.Heads.{has_mark as has_mark_said, AreWholeBelow, IsHeadsFault};
+ghost use Rattle.unclean_load.specs.Reading.{AreRead, HasNoneFrom, IsCounted, IsRefused};
+
+use crate::fault::LoadFault;
+use crate::heads::{Blob, blob_at};
+use blob_meta::{Chains, Meta, Metas};
+use page_disk::PageDisk;
+use std::alloc::Global;
+use super_block::Super;
+
+/// The greatest number of slots that the maps of a store have together.
+const MOST_SLOTS: u64 = 1 << 24;
+
+/// The blobs read so far: the metadata and the chain of each head, and how many slots their maps have together.
+#[derive(Drop)]
+pub struct Blobs {
+    pub metas: Metas,
+    pub chains: Chains,
+    slots: u64,
+}
+
+/// Whether a name is one of the three marks.
+fn is_mark(key: &[u8]) -> bool
+    ensures { result ≡ is_mark_said key.now }
+{
+    key == b"SNAP".as_slice() || key == b"SNAPTMP".as_slice() || key == b"SNAPRM".as_slice()
+}
+
+/// Whether a blob has a parent, or is a snapshot that was being made or removed.
+fn has_mark(meta: &Meta) -> bool
+    ensures { result ≡ has_mark_said meta.now }
+{
+    meta.internal
+        .as_slice()
+        .iter()
+        .any(|x| is_mark(x.key.bytes()))
+}
+
+impl Blobs {
+    fn new(alloc: Global) -> Blobs
+        ensures metas { result.metas ≡ map.empty }
+        ensures chains { result.chains ≡ map.empty }
+        ensures slots { result.slots ≡ 0 }
+    {
+        Blobs {
+            metas: Metas::new(alloc),
+            chains: Chains::new(alloc),
+            slots: 0,
+        }
+    }
+
+    /// Adds the blob of a head, unless its map is too large with the others or it has a mark.
+    fn add(&mut self, head: u32, blob: Blob) -> Result<(), LoadFault>
+        requires { self.old.slots ≤ 2 ^ 24 }
+        ensures metas { OnOk result (self.new.metas ≡ map.insert self.old.metas head blob.meta) }
+        ensures chains { OnOk result (self.new.chains ≡ map.insert self.old.chains head blob.pages) }
+        ensures slots { OnOk result (self.new.slots ≡ self.old.slots + length blob.meta.map) }
+        ensures few { OnOk result (self.new.slots ≤ 2 ^ 24) }
+        ensures unmarked { OnOk result (has_mark_said blob.meta ≡ false) }
+        ensures fault { IfErr result (λ e. IsRefused self.old.slots head blob.meta e) }
+    {
+        let slots = self.slots + blob.meta.map.as_slice().len() as u64;
+        if slots > MOST_SLOTS {
+            return Err(LoadFault::MapsTooLarge { slots });
+        }
+        if has_mark(&blob.meta) {
+            return Err(LoadFault::NotYet { page: head });
+        }
+        self.metas.insert(head, blob.meta)?;
+        self.chains.insert(head, blob.pages)?;
+        self.slots = slots;
+        Ok(())
+    }
+}
+
+/// The blobs of the whole metadata region, or the first fault that a head shows: of its chain, of its metadata, of too many
+/// slots together, or of a mark.
+pub fn blobs_on<D: PageDisk>(
+    alloc: Global,
+    disk: &mut D,
+    sup: &Super,
+) -> Result<Blobs, LoadFault>
+    requires faultless { IsFaultless sup.now }
+    requires device { sup.now.device_pages ≡ D.pages disk.old }
+    requires inside { sup.now.md_start + sup.now.md_len ≤ D.pages disk.old }
+
+    // Where the device tells, they are what its image says.
+    ensures found { IsTrue D.tells → IfOk result (λ b. AreWholeBelow (region_look sup.now (D.now disk.old)) (region_of sup.now) sup.now.md_len (map.get b.metas) (map.get b.chains)) }
+    ensures fault { IsTrue D.tells → IfErr result (λ e. IsHeadsFault (region_look sup.now (D.now disk.old)) (region_of sup.now) e) }
+
+    // Whatever it tells, they are in order.
+    ensures read { IfOk result (λ b. AreRead sup.now (map.get b.metas) (map.get b.chains)) }
+    ensures no_other { IfOk result (λ b. HasNoneFrom (map.get b.metas) sup.now.md_len) }
+    ensures few { IfOk result (λ b. slots_together sup.now.md_len (map.get b.metas) ≤ 2 ^ 24) }
+
+    ensures counted { IfErr result (λ e. IsCounted (D.read_faults disk.old) (D.read_faults disk.new) e) }
+    ensures same { OnlyRead D.PageDisk disk.old disk.new }
+{
+    let mut blobs = Blobs::new(alloc);
+    for place in 0..sup.md_len {
+        if let Some(blob) = blob_at(alloc, disk, sup, place)? {
+            blobs.add(place, blob)?;
+        }
+    }
+    Ok(blobs)
+}
