@@ -4,3 +4,4 @@ pub mod Roots
 pub mod Maps
 pub mod Sums
 pub mod Walk
+pub mod Marks

@@ -1,2 +1,4 @@
 pub mod Heads
 pub mod Reading
+pub mod Claiming
+pub mod Sharing

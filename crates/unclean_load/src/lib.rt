@@ -3,6 +3,7 @@
 
 mod fault;
 mod heads;
+mod masks;
 mod walking;
 
 pub use fault::LoadFault;

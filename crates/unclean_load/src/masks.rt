@@ -1,0 +1,69 @@
+//! The masks of the metadata pages that the chains of a store have, and of its heads.
+
+ghost use Rattle.std.specs.Prelude.{◌≡◌, ◌<◌, ◌↔◌, ℕ, [], true, length, OnOk, IfOk, IfErr, IsSome};
+ghost use Rattle.std.specs.FinMap as map;
+ghost use Rattle.bit_array.specs.Bits.{is_in};
+ghost use Rattle.md_chain.specs.Chain.{is_among};
+ghost use Rattle.store_model.specs.Places.{AreDistinct, UsedPages};
+ghost use Rattle.unclean_load.specs.Claiming.{AreAdded, AreApart, AreBelow, AreChains, AreNew, IsInTwo, IsPageFault};
+
+use crate::fault::LoadFault;
+use bit_array::Bits;
+use blob_meta::{Chains, Metas};
+use md_chain::ChainFault;
+use out_of_memory::Memory;
+use std::alloc::Global;
+use volume_model::PlaceList;
+
+/// Marks the places of a head's chain. One that is marked already is another chain's: on a device that gives each page alike
+/// whenever it is read there is none, since the page has the id of one blob.
+fn mark_pages(bits: &mut Bits, head: u32, pages: &PlaceList) -> Result<(), LoadFault>
+    requires low { AreBelow (length bits.old) pages.now }
+    requires differ { AreDistinct pages.now }
+    ensures count { length bits.new ≡ length bits.old }
+    ensures added { OnOk result (AreAdded bits.old pages.now bits.new) }
+    ensures new { OnOk result (AreNew bits.old pages.now) }
+    ensures fault { IfErr result (λ e. IsPageFault (λ at place. (at ≡ head) × (is_among place pages.now ≡ true) × (is_in bits.old place ≡ true)) e) }
+{
+    for page in pages.as_slice() {
+        if bits.get(*page) {
+            return Err(LoadFault::Chain {
+                head,
+                fault: ChainFault::Loop { page: *page },
+            });
+        }
+        bits.set(*page);
+    }
+    Ok(())
+}
+
+/// The metadata pages that the chains have. Where the device gave a page of one chain as a page of another too, the later chain
+/// has the fault `Loop`.
+pub fn used_pages(alloc: Global, chains: &Chains, md_len: u32) -> Result<Bits, LoadFault>
+    requires { AreChains md_len (map.get chains.now) }
+    ensures used { IfOk result (λ bits. UsedPages md_len bits (map.get chains.now) []) }
+    ensures apart { OnOk result (AreApart (map.get chains.now)) }
+    ensures fault { IfErr result (λ e. IsPageFault (IsInTwo (map.get chains.now)) e) }
+{
+    let mut bits = Bits::new(alloc, md_len)?;
+    for head in 0..md_len {
+        if let Some(pages) = chains.get(head) {
+            mark_pages(&mut bits, head, pages)?;
+        }
+    }
+    Ok(bits)
+}
+
+/// The heads of the blobs.
+pub fn used_heads(alloc: Global, metas: &Metas, md_len: u32) -> Result<Bits, Memory>
+    ensures count { IfOk result (λ bits. length bits ≡ md_len) }
+    ensures heads { IfOk result (λ bits. (head : ℕ) → head < md_len → (is_in bits head ≡ true) ↔ IsSome (map.get metas.now head)) }
+{
+    let mut bits = Bits::new(alloc, md_len)?;
+    for head in 0..md_len {
+        if metas.get(head).is_some() {
+            bits.set(head);
+        }
+    }
+    Ok(bits)
+}

@@ -1,0 +1,120 @@
+//! The mask of the clusters that the maps of a store have, and a cluster that stands in two slots.
+
+ghost use Rattle.std.specs.Prelude.{◌≡◌, ◌+◌, ◌<◌, ◌≤◌, ℕ, Some, length, IfOk};
+ghost use Rattle.std.specs.FinMap as map;
+ghost use Rattle.store_model.specs.Places.{UsedClusters};
+ghost use Rattle.super_block.specs.Faults.{IsFaultless};
+ghost use Rattle.super_block.specs.Numbers.{clusters_of, fixed_clusters_of};
+ghost use Rattle.unclean_load.specs.Sharing.{AreCounted, AreInside, IsHolder, copies, copies_in as copies_said};
+
+use bit_array::Bits;
+use blob_meta::Metas;
+use descriptors::SlotMap;
+use out_of_memory::Memory;
+use std::alloc::Global;
+use super_block::Super;
+
+/// The clusters that were claimed, and the least that was claimed twice.
+#[derive(Drop)]
+pub struct Claims {
+    pub clusters: Bits,
+    pub twice: Option<u32>,
+}
+
+impl Claims {
+    /// The fixed clusters alone, of so many.
+    fn new(alloc: Global, fixed: u32, clusters: u32) -> Result<Claims, Memory>
+        requires { fixed ≤ clusters }
+        ensures count { IfOk result (λ c. length c.clusters ≡ clusters) }
+        ensures none { IfOk result (λ c. AreCounted fixed (λ _. 0) c.clusters c.twice) }
+    {
+        let mut bits = Bits::new(alloc, clusters)?;
+        for cluster in 0..fixed {
+            bits.set(cluster);
+        }
+        Ok(Claims {
+            clusters: bits,
+            twice: None,
+        })
+    }
+
+    /// Claims a cluster for one more slot.
+    fn claim(&mut self, cluster: u32)
+        requires { cluster < length self.old.clusters }
+        ensures count { length self.new.clusters ≡ length self.old.clusters }
+        ensures claimed { (fixed : ℕ) (count : ℕ → ℕ) → fixed ≤ cluster → AreCounted fixed count self.old.clusters self.old.twice
+            → AreCounted fixed (λ c. count c + copies_said c (Some cluster ∷ [])) self.new.clusters self.new.twice }
+    {
+        if !self.clusters.get(cluster) {
+            self.clusters.set(cluster);
+            return;
+        }
+        self.twice = match self.twice {
+            Some(least) => Some(least.min(cluster)),
+            None => Some(cluster),
+        };
+    }
+
+    /// Claims the clusters of a map.
+    fn add(&mut self, map: &SlotMap)
+        requires { (c : ℕ) → 0 < copies_said c map.now → c < length self.old.clusters }
+        ensures count { length self.new.clusters ≡ length self.old.clusters }
+        ensures claimed { (fixed : ℕ) (count : ℕ → ℕ) → AreInside fixed (length self.old.clusters) map.now → AreCounted fixed count self.old.clusters self.old.twice
+            → AreCounted fixed (λ c. count c + copies_said c map.now) self.new.clusters self.new.twice }
+    {
+        for slot in map.as_slice() {
+            if let Some(cluster) = slot {
+                self.claim(*cluster);
+            }
+        }
+    }
+}
+
+/// The claims of all maps.
+pub fn claims_of(alloc: Global, sup: &Super, metas: &Metas) -> Result<Claims, Memory>
+    requires faultless { IsFaultless sup.now }
+    requires inside { AreAllInside sup.now (map.get metas.now) }
+    ensures count { IfOk result (λ c. length c.clusters ≡ clusters_of sup.now) }
+    ensures counted { IfOk result (λ c. AreCounted (fixed_clusters_of sup.now) (copies sup.now.md_len (map.get metas.now)) c.clusters c.twice) }
+{
+    regions_are_placed();
+    let mut claims = Claims::new(alloc, sup.fixed_clusters(), sup.clusters())?;
+    for head in 0..sup.md_len {
+        if let Some(meta) = metas.get(head) {
+            claims.add(&meta.map);
+        }
+    }
+    Ok(claims)
+}
+
+/// How many slots of a map have the cluster.
+fn copies_in(map: &SlotMap, cluster: u32) -> u32
+    ensures { result ≡ copies_said cluster map.now }
+{
+    let mut found = 0;
+    for slot in map.as_slice() {
+        if *slot == Some(cluster) {
+            found += 1;
+        }
+    }
+    found
+}
+
+/// The head whose map has the nth slot with the cluster, by heads upwards.
+pub fn holder(metas: &Metas, md_len: u32, cluster: u32, n: u32) -> u32
+    requires some { n ≤ copies md_len (map.get metas.now) cluster }
+    requires above { 0 < n }
+    requires few { n < 2 ^ 31 }
+    ensures { IsHolder md_len (map.get metas.now) cluster n result }
+{
+    let mut found = 0;
+    for head in 0..md_len {
+        if let Some(meta) = metas.get(head) {
+            found += copies_in(&meta.map, cluster);
+            if found >= n {
+                return head;
+            }
+        }
+    }
+    unreachable!()
+}
