@@ -5,3 +5,4 @@ pub mod Maps
 pub mod Sums
 pub mod Walk
 pub mod Marks
+pub mod Counts

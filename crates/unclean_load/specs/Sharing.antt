@@ -3,6 +3,8 @@ use Rattle.std.specs.Prelude.{◌≡◌, ◌⊎◌, ℕ, ◌+◌, ◌<◌, ◌�
 use Rattle.std.specs.List.{range_with_len, sum_by}
 use Rattle.std.specs.Option.{option_map_or}
 use Rattle.bit_array.specs.Bits.{is_in}
+use Rattle.super_block.specs.declared.page.Super.{Super}
+use Rattle.super_block.specs.Numbers.{clusters_of, fixed_clusters_of}
 use Rattle.blob_meta.specs.declared.meta.Meta.{Meta}
 use Rattle.store_model.specs.Maps.{Metas}
 
@@ -47,3 +49,6 @@ pub record AreCounted (fixed : ℕ) (count : ℕ → ℕ) (bits : List Bool) (tw
 -- the clusters of a map are behind the fixed ones, and below a length
 abbrev pub AreInside : ℕ → ℕ → List (Option ℕ) → Type 0
 AreInside fixed clusters map = (c : ℕ) → 0 < copies_in c map → (fixed ≤ c) × (c < clusters)
+
+abbrev pub AreAllInside : Super → Metas → Type 0
+AreAllInside s metas = (head : ℕ) (m : Meta) → metas head ≡ Some m → AreInside (fixed_clusters_of s) (clusters_of s) m.map

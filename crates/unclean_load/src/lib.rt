@@ -4,6 +4,7 @@
 mod fault;
 mod heads;
 mod masks;
+mod sharing;
 mod walking;
 
 pub use fault::LoadFault;

@@ -1,18 +1,17 @@
 //! The mask of the clusters that the maps of a store have, and a cluster that stands in two slots.
 
-ghost use Rattle.std.specs.Prelude.{◌≡◌, ◌+◌, ◌<◌, ◌≤◌, ℕ, Some, length, IfOk};
+ghost use Rattle.std.specs.Prelude.{◌≡◌, ◌+◌, ◌^◌, ◌<◌, ◌≤◌, ◌∷◌, [], ℕ, Some, length, IfOk};
 ghost use Rattle.std.specs.FinMap as map;
-ghost use Rattle.store_model.specs.Places.{UsedClusters};
 ghost use Rattle.super_block.specs.Faults.{IsFaultless};
 ghost use Rattle.super_block.specs.Numbers.{clusters_of, fixed_clusters_of};
-ghost use Rattle.unclean_load.specs.Sharing.{AreCounted, AreInside, IsHolder, copies, copies_in as copies_said};
+ghost use Rattle.unclean_load.specs.Sharing.{AreAllInside, AreCounted, AreInside, IsHolder, copies, copies_in as copies_said};
 
 use bit_array::Bits;
 use blob_meta::Metas;
 use descriptors::SlotMap;
 use out_of_memory::Memory;
 use std::alloc::Global;
-use super_block::Super;
+use super_block::{Super, regions_are_placed};
 
 /// The clusters that were claimed, and the least that was claimed twice.
 #[derive(Drop)]
@@ -89,7 +88,8 @@ pub fn claims_of(alloc: Global, sup: &Super, metas: &Metas) -> Result<Claims, Me
 
 /// How many slots of a map have the cluster.
 fn copies_in(map: &SlotMap, cluster: u32) -> u32
-    ensures { result ≡ copies_said cluster map.now }
+    ensures count { result ≡ copies_said cluster map.now }
+    ensures few { result ≤ 2 ^ 20 }
 {
     let mut found = 0;
     for slot in map.as_slice() {
