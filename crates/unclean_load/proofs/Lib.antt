@@ -6,3 +6,6 @@ pub mod Sums
 pub mod Walk
 pub mod Marks
 pub mod Counts
+pub mod Slots
+pub mod Whole
+pub mod Refusing

@@ -4,10 +4,11 @@ use Rattle.bit_array.specs.Bits.{is_in}
 use Rattle.md_chain.specs.Chain.{is_among}
 use Rattle.md_chain.specs.declared.fault.ChainFault.{ChainFault}
 use Rattle.md_chain.specs.declared.fault.ChainFault.TheVariants as chain
-use Rattle.store_model.specs.Maps.{Chains}
+use Rattle.store_model.specs.Maps.{Metas, Chains}
 use Rattle.unclean_load.specs.declared.fault.LoadFault.{LoadFault}
 use Rattle.unclean_load.specs.declared.fault.LoadFault.TheVariants as fault
 use Rattle.unclean_load.specs.Reading.{IsChainOf}
+use Rattle.unclean_load.specs.Sharing.{IsShared}
 
 -- each head and each chain is of the region
 abbrev pub AreChains : ℕ → Chains → Type 0
@@ -49,3 +50,18 @@ AreNew bits places = (place : ℕ) → is_among place places ≡ true → is_in 
 -- they were put into it
 abbrev pub AreAdded : List Bool → List ℕ → List Bool → Type 0
 AreAdded bits places new = (place : ℕ) → is_in new place ≡ (is_in bits place || is_among place places)
+
+-- ---- the three masks
+
+-- the least cluster that stands in two slots
+abbrev pub IsClusterFault : ℕ → Metas → LoadFault → Type 0
+IsClusterFault md_len metas (fault.Shared cluster a b) = IsShared md_len metas cluster a b
+IsClusterFault md_len metas fault.Memory = Unit {0}
+IsClusterFault md_len metas _ = ⊥
+
+-- a place in two chains, or a cluster in two slots
+abbrev pub IsMaskFault : ℕ → Metas → Chains → LoadFault → Type 0
+IsMaskFault md_len metas chains (fault.Chain head why) = IsTwice (IsInTwo chains) head why
+IsMaskFault md_len metas chains (fault.Shared cluster a b) = IsShared md_len metas cluster a b
+IsMaskFault md_len metas chains fault.Memory = Unit {0}
+IsMaskFault md_len metas chains _ = ⊥

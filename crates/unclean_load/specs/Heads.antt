@@ -11,7 +11,7 @@ use Rattle.blob_meta.specs.Resolving.{slots_together}
 use Rattle.md_chain.specs.Chain.{Look, Chain, IsBroken}
 use Rattle.store_model.specs.Maps.{Metas, Chains}
 use Rattle.store_model.specs.Regions.{Region}
-use Rattle.store_model.specs.Scans.{is_head, MetaAt, BlobAt}
+use Rattle.store_model.specs.Scans.{is_head, MetaAt, BlobAt, Scanned}
 use Rattle.unclean_load.specs.declared.fault.LoadFault.{LoadFault}
 use Rattle.unclean_load.specs.declared.fault.LoadFault.TheVariants as fault
 
@@ -72,3 +72,9 @@ abbrev pub IsHeadsFault : Look → Region → LoadFault → Type 0
 IsHeadsFault look r fault.ReadFault = Unit {0}
 IsHeadsFault look r fault.Memory = Unit {0}
 IsHeadsFault look r why = ShowsFirst look r why
+
+-- Every head of the region is whole: these are their metadata and chains.
+pub record AreWhole (look : Look) (r : Region) (metas : Metas) (chains : Chains) : Type 0 where
+  pub says : Scanned look r metas chains
+  pub few : slots_together r.len metas ≤ 2 ^ 24
+  pub unmarked : (head : ℕ) (m : Meta) → metas head ≡ Some m → has_mark m ≡ false

@@ -2,3 +2,4 @@ pub mod Heads
 pub mod Reading
 pub mod Claiming
 pub mod Sharing
+pub mod Accepted

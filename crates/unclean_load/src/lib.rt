@@ -3,8 +3,13 @@
 
 mod fault;
 mod heads;
+mod laws;
+mod loading;
 mod masks;
 mod sharing;
+mod super_page;
 mod walking;
 
 pub use fault::LoadFault;
+pub use laws::stores_are_accepted;
+pub use loading::load;

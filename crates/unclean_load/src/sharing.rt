@@ -1,11 +1,15 @@
 //! The mask of the clusters that the maps of a store have, and a cluster that stands in two slots.
 
-ghost use Rattle.std.specs.Prelude.{◌≡◌, ◌+◌, ◌^◌, ◌<◌, ◌≤◌, ◌∷◌, [], ℕ, Some, length, IfOk};
+ghost use Rattle.std.specs.Prelude.{◌≡◌, ◌+◌, ◌^◌, ◌<◌, ◌≤◌, ◌∷◌, [], ℕ, Some, length, OnOk, IfOk, IfErr};
 ghost use Rattle.std.specs.FinMap as map;
+ghost use Rattle.store_model.specs.Places.{UsedClusters};
+ghost use Rattle.store_model.specs.Standing.{AreRoots};
 ghost use Rattle.super_block.specs.Faults.{IsFaultless};
 ghost use Rattle.super_block.specs.Numbers.{clusters_of, fixed_clusters_of};
+ghost use Rattle.unclean_load.specs.Claiming.{IsClusterFault};
 ghost use Rattle.unclean_load.specs.Sharing.{AreAllInside, AreCounted, AreInside, IsHolder, copies, copies_in as copies_said};
 
+use crate::fault::LoadFault;
 use bit_array::Bits;
 use blob_meta::Metas;
 use descriptors::SlotMap;
@@ -15,9 +19,9 @@ use super_block::{Super, regions_are_placed};
 
 /// The clusters that were claimed, and the least that was claimed twice.
 #[derive(Drop)]
-pub struct Claims {
-    pub clusters: Bits,
-    pub twice: Option<u32>,
+struct Claims {
+    clusters: Bits,
+    twice: Option<u32>,
 }
 
 impl Claims {
@@ -70,7 +74,7 @@ impl Claims {
 }
 
 /// The claims of all maps.
-pub fn claims_of(alloc: Global, sup: &Super, metas: &Metas) -> Result<Claims, Memory>
+fn claims_of(alloc: Global, sup: &Super, metas: &Metas) -> Result<Claims, Memory>
     requires faultless { IsFaultless sup.now }
     requires inside { AreAllInside sup.now (map.get metas.now) }
     ensures count { IfOk result (λ c. length c.clusters ≡ clusters_of sup.now) }
@@ -101,7 +105,7 @@ fn copies_in(map: &SlotMap, cluster: u32) -> u32
 }
 
 /// The head whose map has the nth slot with the cluster, by heads upwards.
-pub fn holder(metas: &Metas, md_len: u32, cluster: u32, n: u32) -> u32
+fn holder(metas: &Metas, md_len: u32, cluster: u32, n: u32) -> u32
     requires some { n ≤ copies md_len (map.get metas.now) cluster }
     requires above { 0 < n }
     requires few { n < 2 ^ 31 }
@@ -117,4 +121,21 @@ pub fn holder(metas: &Metas, md_len: u32, cluster: u32, n: u32) -> u32
         }
     }
     unreachable!()
+}
+
+/// The clusters that the maps have, and the fixed ones, unless one stands in two slots.
+pub fn used_clusters(alloc: Global, sup: &Super, metas: &Metas) -> Result<Bits, LoadFault>
+    requires faultless { IsFaultless sup.now }
+    requires roots { AreRoots sup.now (map.get metas.now) }
+    ensures used { IfOk result (λ bits. UsedClusters sup.now bits (map.get metas.now)) }
+    ensures alone { OnOk result ((cluster : ℕ) → copies sup.now.md_len (map.get metas.now) cluster ≤ 1) }
+    ensures fault { IfErr result (λ e. IsClusterFault sup.now.md_len (map.get metas.now) e) }
+{
+    let claims = claims_of(alloc, sup, metas)?;
+    let Some(cluster) = claims.twice else {
+        return Ok(claims.clusters);
+    };
+    let a = holder(metas, sup.md_len, cluster, 1);
+    let b = holder(metas, sup.md_len, cluster, 2);
+    Err(LoadFault::Shared { cluster, a, b })
 }

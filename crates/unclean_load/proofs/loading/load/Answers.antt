@@ -1,0 +1,24 @@
+use Rattle.std.proofs.Common.{refl}
+use Rattle.std.specs.FinMap as map
+use Rattle.unclean_load.proofs.Refusing.{refused}
+use Rattle.unclean_load.proofs.Whole.{lawful}
+use Rattle.unclean_load.proofs.loading.load.Goals as goal
+
+pub returns-in-Err-clause-refused : goal.returns-in-Err-clause-refused
+returns-in-Err-clause-refused g c =
+    let d = g.D.PageDisk in
+    λ told is accepted. refused (d.pages c.args.disk) (d.now c.args.disk) accepted c.in-Err.fault (c.in-Err.ensures.fault told) is
+
+pub returns-clause-whole : goal.returns-clause-whole
+returns-clause-whole g c =
+    let e = c.in-Ok.ensures in
+    let store = c.in-Ok.store in
+    record {
+      roots = e.roots;
+      lawful = lawful store.sup (map.get store.metas) e.roots e.few e.alone;
+      chains = e.chains;
+      masks = e.masks;
+      none_removed = c.new.ensures;
+      no_repairs = c.new-2.ensures;
+      read_whole = refl;
+    }
