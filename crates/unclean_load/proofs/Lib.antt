@@ -9,3 +9,4 @@ pub mod Counts
 pub mod Slots
 pub mod Whole
 pub mod Refusing
+pub mod Accepting
