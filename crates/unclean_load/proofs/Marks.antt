@@ -202,7 +202,7 @@ module _ (there : ℕ → Type 0) (md_len : ℕ) where
   no_heads bits is = record {
     count = ap length is ∙ length-replicate md_len false;
     heads = λ head lt. absurd (omega (arith, lt));
-    none = λ head le. elim (cases_Bool (is_in bits head)) [ | inl x ↦ absurd (none_in md_len head (sym (ap (λ b. is_in b head) is) ∙ x)) | inr x ↦ x ];
+    none = λ head le. elim (cases_Bool (is_in bits head)) [ inl x ↦ absurd (none_in md_len head (sym (ap (λ b. is_in b head) is) ∙ x)) | inr x ↦ x ];
   }
 
   module _ (bits : List Bool) (end : ℕ) (h : HeadsBelow there md_len bits end) where

@@ -87,8 +87,8 @@ module _ {D : Type 0} (d : Ghosts D) (s : Super) (first : D) where
         same = read_on d first disk new w.same on;
         told = λ told. let t = w.told told in record {
           blobs = below_more (λ k. BlobAt (region_look s (d.now first)) (region_of s) k (metas k) (chains k)) place t.blobs
-            (subst (λ (m : Option Meta). BlobAt (region_look s (d.now first)) (region_of s) place m (chains place)) (sym (w.none place (omega arith)))
-            (subst (λ (c : Option (List ℕ)). BlobAt (region_look s (d.now first)) (region_of s) place None c) (sym (w.read.none place (w.none place (omega arith)))) (blob_first None x told)));
+              (subst (λ (m : Option Meta). BlobAt (region_look s (d.now first)) (region_of s) place m (chains place)) (sym (w.none place (omega arith)))
+              (subst (λ (c : Option (List ℕ)). BlobAt (region_look s (d.now first)) (region_of s) place None c) (sym (w.read.none place (w.none place (omega arith)))) (blob_first None x told)));
           few = let f = t.few in let e = no_slots in omega (arith, f, e);
           unmarked = λ k m lt there. elim (cases_eq k place) [
             | inl here ↦ let no : metas k ≡ None = w.none k (omega (arith, here)) in absurd (cc (no, there))

@@ -76,12 +76,7 @@ fn chain_at<D: PageDisk>(
 }
 
 /// The metadata that the items of the chain at a head say.
-fn meta_at(
-    alloc: Global,
-    sup: &Super,
-    head: u32,
-    items: &ItemList,
-) -> Result<Meta, LoadFault>
+fn meta_at(alloc: Global, sup: &Super, head: u32, items: &ItemList) -> Result<Meta, LoadFault>
     requires { IsFaultless sup.now }
     ensures found { IfOk result (λ m. m ≡ meta_of head items.now) }
     ensures no_fault { OnOk result (meta_fault (region_of sup.now).fixed (region_of sup.now).clusters (meta_of head items.now) ≡ None) }

@@ -3,6 +3,8 @@
 
 mod fault;
 mod heads;
+#[cfg(test)]
+mod images;
 mod laws;
 mod loading;
 mod masks;
@@ -13,3 +15,6 @@ mod walking;
 pub use fault::LoadFault;
 pub use laws::stores_are_accepted;
 pub use loading::load;
+
+#[cfg(test)]
+mod tests;

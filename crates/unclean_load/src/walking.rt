@@ -84,11 +84,7 @@ impl Blobs {
 
 /// The blobs of the whole metadata region, or the first fault that a head shows: of its chain, of its metadata, of too many
 /// slots together, or of a mark.
-pub fn blobs_on<D: PageDisk>(
-    alloc: Global,
-    disk: &mut D,
-    sup: &Super,
-) -> Result<Blobs, LoadFault>
+pub fn blobs_on<D: PageDisk>(alloc: Global, disk: &mut D, sup: &Super) -> Result<Blobs, LoadFault>
     requires faultless { IsFaultless sup.now }
     requires device { sup.now.device_pages ≡ D.pages disk.old }
     requires inside { sup.now.md_start + sup.now.md_len ≤ D.pages disk.old }

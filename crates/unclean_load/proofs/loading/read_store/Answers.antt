@@ -35,9 +35,9 @@ returns-in_err-blobs-clause-fault g c =
     let why = c.in_err-blobs.field-0.0 in
     let old = c.args.disk.now in
     λ told.
-      let x : IsFaultOf (d.pages old) (d.now old) why =
-      heads_fail (d.pages old) (d.now old) s (c.in_ok-sup.ensures.found told) why (subst (λ (image : Image). IsHeadsFault (look_of (region_of s) image) (region_of s) why) (c.in_ok-sup.ensures.same.now told) (c.in_err-blobs.ensures.fault told)) in
-      search rules
+    let x : IsFaultOf (d.pages old) (d.now old) why =
+    heads_fail (d.pages old) (d.now old) s (c.in_ok-sup.ensures.found told) why (subst (λ (image : Image). IsHeadsFault (look_of (region_of s) image) (region_of s) why) (c.in_ok-sup.ensures.same.now told) (c.in_err-blobs.ensures.fault told)) in
+    search rules
 
 pub returns-in_err-masks-clause-fault : goal.returns-in_err-masks-clause-fault
 returns-in_err-masks-clause-fault g c =
@@ -48,6 +48,6 @@ returns-in_err-masks-clause-fault g c =
     let why = c.in_err-masks.field-0.0 in
     let old = c.args.disk.now in
     λ told.
-      let whole = whole_first d old c.super_on.new.disk s (map.get b.metas) (map.get b.chains) c.in_ok-sup.ensures.same told (e.found told) e.no_other e.read in
-      let x : IsFaultOf (d.pages old) (d.now old) why = masks_fail (d.pages old) (d.now old) s (c.in_ok-sup.ensures.found told) (map.get b.metas) (map.get b.chains) whole why c.in_err-masks.ensures.fault in
-      search rules
+    let whole = whole_first d old c.super_on.new.disk s (map.get b.metas) (map.get b.chains) c.in_ok-sup.ensures.same told (e.found told) e.no_other e.read in
+    let x : IsFaultOf (d.pages old) (d.now old) why = masks_fail (d.pages old) (d.now old) s (c.in_ok-sup.ensures.found told) (map.get b.metas) (map.get b.chains) whole why c.in_err-masks.ensures.fault in
+    search rules

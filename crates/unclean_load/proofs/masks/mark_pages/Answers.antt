@@ -27,10 +27,11 @@ returns-then-get-clause-count c = c.loop-page.invariant.count
 pub returns-then-get-clause-fault : goal.returns-then-get-clause-fault
 returns-then-get-clause-fault c =
     let items = c.as_slice-page-items.result.now in
-    let i = c.loop-page.page-index in
-    (refl,
-    subst (λ (ps : List ℕ). is_among (slice_index_or items i 0) ps ≡ true) c.as_slice-page-items.ensures (at_among items i 0 c.loop-page-test.true),
-    marked_before _ items _ i c.loop-page.invariant c.loop-page-test.true (subst AreDistinct (sym c.as_slice-page-items.ensures) c.requires.differ) (sym c.get.ensures ∙ c.if-get.true))
+    let i = c.loop-page.page-index in (
+      refl,
+      subst (λ (ps : List ℕ). is_among (slice_index_or items i 0) ps ≡ true) c.as_slice-page-items.ensures (at_among items i 0 c.loop-page-test.true),
+      marked_before _ items _ i c.loop-page.invariant c.loop-page-test.true (subst AreDistinct (sym c.as_slice-page-items.ensures) c.requires.differ) (sym c.get.ensures ∙ c.if-get.true),
+    )
 
 pub loop-page-preserved : goal.loop-page-preserved
 loop-page-preserved c =

@@ -25,9 +25,10 @@ loop-head-preserved c =
           let m : Meta = w.in-Some.meta.now in
           let there : metas head ≡ Some m = sym c.get.ensures ∙ ap option_copied w.in-Some.is in
           let inside : AreInside (fixed_clusters_of s) (length c.loop-head.claims.clusters) m.map = subst (λ (n : ℕ). AreInside (fixed_clusters_of s) n m.map) (sym v.0) (c.requires.inside head m there) in
-          rw w.claims-is
-          (w.add.ensures.count ∙ v.0,
-          counted_same (fixed_clusters_of s) _ _ w.add.new.self.clusters w.add.new.self.twice (λ k. sym (copies_some metas k head m there)) (w.add.ensures.claimed (fixed_clusters_of s) (copies head metas) inside v.1))
+          rw w.claims-is (
+            w.add.ensures.count ∙ v.0,
+            counted_same (fixed_clusters_of s) _ _ w.add.new.self.clusters w.add.new.self.twice (λ k. sym (copies_some metas k head m there)) (w.add.ensures.claimed (fixed_clusters_of s) (copies head metas) inside v.1),
+          )
       | in_default w ↦
           let none : metas head ≡ None = sym c.get.ensures ∙ ap option_copied w.in_default.is in
           rw w.claims-is (v.0, counted_same (fixed_clusters_of s) _ _ c.loop-head.claims.clusters c.loop-head.claims.twice (λ k. sym (copies_none metas k head none)) v.1)

@@ -17,7 +17,7 @@ counted_used s metas bits twice roots count x = record {
   count = count;
   fixed = λ k lt below. x.first k lt (subst (λ (n : ℕ). k < n) (sym count) below);
   mapped = λ k m. x.claimed k (mapped_copy metas k s.md_len (λ h n there. (roots h n there).low) m);
-  no_other = λ k is. elim (x.no_other k is) [ | inl first ↦ inl first | inr some ↦ inr (find_mapped metas k s.md_len some).mapped ];
+  no_other = λ k is. elim (x.no_other k is) [ inl first ↦ inl first | inr some ↦ inr (find_mapped metas k s.md_len some).mapped ];
 }
 
 pub returns-in_default-clause-used : goal.returns-in_default-clause-used

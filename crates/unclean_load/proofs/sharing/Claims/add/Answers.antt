@@ -36,5 +36,5 @@ returns-clause-claimed c =
     let slots = c.as_slice-slot-items.result.now in
     let same = c.as_slice-slot-items.ensures.slots in
     λ fixed count inside x.
-      counted_same fixed _ _ now.clusters now.twice (λ k. ap (λ (l : List (Option ℕ)). count k + copies_in k l) (all_of slots c.args.map.now c.loop-slot.slot-index same c.loop-slot-test.false))
-      (c.loop-slot.invariant.1 fixed count (subst (λ (l : List (Option ℕ)). AreInside fixed (length old.clusters) l) (sym same) inside) x)
+    counted_same fixed _ _ now.clusters now.twice (λ k. ap (λ (l : List (Option ℕ)). count k + copies_in k l) (all_of slots c.args.map.now c.loop-slot.slot-index same c.loop-slot-test.false))
+    (c.loop-slot.invariant.1 fixed count (subst (λ (l : List (Option ℕ)). AreInside fixed (length old.clusters) l) (sym same) inside) x)
