@@ -48,9 +48,6 @@ counted_same fixed f g bits twice same x = subst (λ (h : ℕ → ℕ). AreCount
 abbrev pub Adding : (old bits : List Bool) (first twice : Option ℕ) → List (Option ℕ) → ℕ → Type 0
 Adding old bits first twice slots i = (fixed : ℕ) (count : ℕ → ℕ) → AreInside fixed (length old) slots → AreCounted fixed count old first → AreCounted fixed (λ c. count c + copies_in c (take i slots)) bits twice
 
-pub adds_none : (bits : List Bool) (twice : Option ℕ) (slots : List (Option ℕ)) → Adding bits bits twice twice slots 0
-adds_none bits twice slots fixed count inside x = counted_same fixed count _ bits twice (λ c. omega arith) x
-
 pub adds_same : (old bits : List Bool) (first twice : Option ℕ) (slots : List (Option ℕ)) (i : ℕ) (d : Option ℕ) → i < length slots → get_or slots i d ≡ None → Adding old bits first twice slots i → Adding old bits first twice slots (i + 1)
 adds_same old bits first twice slots i d lt is a fixed count inside x =
     counted_same fixed _ _ bits twice (λ c. let e = no_copy c slots i d lt is in omega (arith, e)) (a fixed count inside x)
@@ -68,29 +65,6 @@ pub record Filled (clusters : ℕ) (bits : List Bool) (end : ℕ) : Type 0 where
   pub count : length bits ≡ clusters
   pub first : (c : ℕ) → c < end → is_in bits c ≡ true
   pub no_other : (c : ℕ) → is_in bits c ≡ true → c < end
-
-pub filled_more : (clusters : ℕ) (bits : List Bool) (end : ℕ) → end < clusters → Filled clusters bits end → Filled clusters (slice_set bits end true) (end + 1)
-filled_more clusters bits end low f =
-    let here : is_in (slice_set bits end true) end ≡ true = get_or-set_same bits end true false (let x = f.count in omega (arith, x, low)) in
-    record {
-      count = length-set bits end true ∙ f.count;
-      first = λ c lt. elim (cases_eq c end) [
-        | inl e ↦ ap (is_in (slice_set bits end true)) e ∙ here
-        | inr ne ↦ get_or-set_other bits end c true false ne ∙ f.first c (omega (arith, lt, ne))
-      ];
-      no_other = λ c is. elim (cases_eq c end) [
-        | inl e ↦ omega (arith, e)
-        | inr ne ↦ let x = f.no_other c (sym (get_or-set_other bits end c true false ne) ∙ is) in omega (arith, x)
-      ];
-    }
-
-pub filled_counted : (clusters : ℕ) (bits : List Bool) (fixed : ℕ) → Filled clusters bits fixed → AreCounted fixed (λ _. 0) bits None
-filled_counted clusters bits fixed f = record {
-  first = λ c lt low. f.first c lt;
-  claimed = λ c lt. absurd (omega (arith, lt));
-  no_other = λ c is. inl (f.no_other c is);
-  least = λ c. omega arith;
-}
 
 -- ---- head by head
 

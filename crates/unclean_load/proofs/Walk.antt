@@ -30,6 +30,7 @@ use Rattle.unclean_load.proofs.Sums.{sum_more, sum_same}
 
 pub record Walked {D : Type 0} (d : Ghosts D) (s : Super) (first disk : D) (metas : Metas) (chains : Chains) (slots place : ℕ) : Type 0 where
   pub same : OnlyRead d first disk
+  pub quiet : d.read_faults disk ≡ d.read_faults first
   pub told : IsTrue d.tells → AreWholeBelow (region_look s (d.now first)) (region_of s) place metas chains
   pub read : AreRead s metas chains
   pub none : HasNoneFrom metas place
@@ -58,6 +59,7 @@ module _ {D : Type 0} (d : Ghosts D) (s : Super) (first : D) where
   pub begun : (metas : Metas) (chains : Chains) → ((k : ℕ) → metas k ≡ None) → ((k : ℕ) → chains k ≡ None) → Walked d s first first metas chains 0 0
   begun metas chains none no_chain = record {
     same = no_read d first;
+    quiet = refl;
     told = λ _. record { blobs = λ k lt. absurd (omega (arith, lt)); few = omega arith; unmarked = λ k m lt. absurd (omega (arith, lt)) };
     read = record {
       roots = λ k m there. let no = none k in absurd (cc (no, there));
@@ -78,13 +80,14 @@ module _ {D : Type 0} (d : Ghosts D) (s : Super) (first : D) where
 
     -- ---- the place has no head
 
-    module _ (new : D) (on : OnlyRead d disk new) where
+    module _ (new : D) (on : OnlyRead d disk new) (still : d.read_faults new ≡ d.read_faults disk) where
       no_slots : slots_together (place + 1) metas ≡ slots_together place metas
       no_slots = let x = slots_more metas place in let y : slots_at metas place ≡ 0 = ap (λ (o : Option Meta). option_map_or (λ (m : Meta). length m.map) o 0) (w.none place (omega arith)) in omega (arith, x, y)
 
       pub none_there : SaysAt d s disk place None → Walked d s first new metas chains slots (place + 1)
       none_there x = record {
         same = read_on d first disk new w.same on;
+        quiet = still ∙ w.quiet;
         told = λ told. let t = w.told told in record {
           blobs = below_more (λ k. BlobAt (region_look s (d.now first)) (region_of s) k (metas k) (chains k)) place t.blobs
               (subst (λ (m : Option Meta). BlobAt (region_look s (d.now first)) (region_of s) place m (chains place)) (sym (w.none place (omega arith)))
@@ -156,6 +159,7 @@ module _ {D : Type 0} (d : Ghosts D) (s : Super) (first : D) where
         pub one_there : Walked d s first new metas_now chains_now (slots + length blob.meta.map) (place + 1)
         one_there = record {
           same = read_on d first disk new w.same on;
+          quiet = still ∙ w.quiet;
           told = λ told. record {
             blobs = blob_now told;
             few = let a = slots_now in let b = w.count in omega (arith, a, b, few);
@@ -211,15 +215,17 @@ module _ {D : Type 0} (d : Ghosts D) (s : Super) (first : D) where
       add_fails (fault.Shared cluster a b) low told y = absurd y
 
     pub counted_first : (new : D) (why : LoadFault) → IsCounted (d.read_faults disk) (d.read_faults new) why → IsCounted (d.read_faults first) (d.read_faults new) why
-    counted_first new fault.ReadFault (inl more) = inl (let x = w.same.read_faults in omega (arith, x, more))
-    counted_first new fault.ReadFault (inr last) = inr last
-    counted_first new fault.Memory x = tt
-    counted_first new (fault.Super e) x = tt
-    counted_first new (fault.Chain head e) x = tt
-    counted_first new (fault.Meta head e) x = tt
-    counted_first new (fault.MapsTooLarge slots) x = tt
-    counted_first new (fault.Shared cluster a b) x = tt
-    counted_first new (fault.NotYet page) x = tt
+    counted_first new why x = subst (λ (n : ℕ). IsCounted n (d.read_faults new) why) w.quiet x
+
+pub refused_uncounted : (old new before head : ℕ) (m : Meta) (why : LoadFault) → new ≡ old → IsRefused before head m why → IsCounted old new why
+refused_uncounted old new before head m fault.ReadFault same x = absurd x
+refused_uncounted old new before head m fault.Memory same x = same
+refused_uncounted old new before head m (fault.Super e) same x = same
+refused_uncounted old new before head m (fault.Chain h e) same x = same
+refused_uncounted old new before head m (fault.Meta h e) same x = same
+refused_uncounted old new before head m (fault.MapsTooLarge slots) same x = same
+refused_uncounted old new before head m (fault.Shared cluster a b) same x = same
+refused_uncounted old new before head m (fault.NotYet page) same x = same
 
 -- the maps of the code
 module _ {D : Type 0} (d : Ghosts D) (s : Super) (first disk : D) (metas : map.FinMap nat_cmp Meta) (chains : map.FinMap nat_cmp (List ℕ)) where

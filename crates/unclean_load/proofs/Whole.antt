@@ -41,15 +41,6 @@ module _ (s : Super) (metas : Metas) (chains : Chains) (read : AreRead s metas c
   pub read_chains : AreChains s.md_len chains
   read_chains head pages there = one_chain head pages (metas head) refl there
 
-  pub have_chains : AreApart chains → HaveChains s metas chains
-  have_chains alone = record {
-    chain = λ head m is. let x = read.chain head m is in (x.2.rest, x.1 ∙ ap (λ (ps : List ℕ). Some ps) x.2.first);
-    none = read.none;
-    low = λ head place pages there among. (read_chains head pages there).1.low place among;
-    apart = alone;
-    differ = λ head pages there. (read_chains head pages there).1.differ;
-  }
-
 -- ---- the metadata is lawful
 
 pub lawful : (s : Super) (metas : Metas) → AreRoots s metas → slots_together s.md_len metas ≤ 2 ^ 24 → ((cluster : ℕ) → copies s.md_len metas cluster ≤ 1) → IsLawful s.md_len metas
@@ -123,25 +114,3 @@ module _ (pages : ℕ) (image : Image) where
       masks_fail (fault.Meta head e) x = absurd x
       masks_fail (fault.MapsTooLarge slots) x = absurd x
       masks_fail (fault.NotYet page) x = absurd x
-
--- a failed read before doesn't come of the masks
-pub masks_uncounted : (old new md_len : ℕ) (metas : Metas) (chains : Chains) (why : LoadFault) → IsMaskFault md_len metas chains why → IsCounted old new why
-masks_uncounted old new md_len metas chains fault.ReadFault x = absurd x
-masks_uncounted old new md_len metas chains fault.Memory x = tt
-masks_uncounted old new md_len metas chains (fault.Super e) x = tt
-masks_uncounted old new md_len metas chains (fault.Chain head e) x = tt
-masks_uncounted old new md_len metas chains (fault.Meta head e) x = tt
-masks_uncounted old new md_len metas chains (fault.MapsTooLarge slots) x = tt
-masks_uncounted old new md_len metas chains (fault.Shared cluster a b) x = tt
-masks_uncounted old new md_len metas chains (fault.NotYet page) x = tt
-
-pub counted_from : (old first new : ℕ) (why : LoadFault) → old ≤ first → IsCounted first new why → IsCounted old new why
-counted_from old first new fault.ReadFault le (inl more) = inl (omega (arith, le, more))
-counted_from old first new fault.ReadFault le (inr last) = inr last
-counted_from old first new fault.Memory le x = tt
-counted_from old first new (fault.Super e) le x = tt
-counted_from old first new (fault.Chain head e) le x = tt
-counted_from old first new (fault.Meta head e) le x = tt
-counted_from old first new (fault.MapsTooLarge slots) le x = tt
-counted_from old first new (fault.Shared cluster a b) le x = tt
-counted_from old first new (fault.NotYet page) le x = tt

@@ -62,10 +62,10 @@ IsItemsFault r head items fault.Memory = Unit {0}
 IsItemsFault r head items (fault.Meta at why) = (at ≡ head) × (meta_fault r.fixed r.clusters (meta_of head items) ≡ Some why)
 IsItemsFault r head items _ = ⊥
 
--- a failed read is answered only where it was counted
+-- a failed read, which was counted; or another fault, and no read has failed
 abbrev pub IsCounted : ℕ → ℕ → LoadFault → Type 0
 IsCounted old new fault.ReadFault = Rose old new
-IsCounted old new _ = Unit {0}
+IsCounted old new _ = new ≡ old
 
 -- ---- the blobs of a region, whatever the device tells
 

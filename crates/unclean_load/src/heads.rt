@@ -43,6 +43,7 @@ fn is_head_on<D: PageDisk>(disk: &mut D, sup: &Super, place: u32) -> Result<bool
     ensures found { IfOk result (λ is. GaveHead D.PageDisk sup.now disk.old place is) }
     ensures fault { IfErr result (λ e. e ≡ fault.ReadFault) }
     ensures counted { IfErr result (λ e. IsCounted (D.read_faults disk.old) (D.read_faults disk.new) e) }
+    ensures quiet { OnOk result (D.read_faults disk.new ≡ D.read_faults disk.old) }
     ensures same { OnlyRead D.PageDisk disk.old disk.new }
 {
     let mut page = [0; 4096];
@@ -65,6 +66,7 @@ fn chain_at<D: PageDisk>(
     ensures found { IfOk result (λ c. GaveChain D.PageDisk sup.now disk.old head c.pages c.items) }
     ensures fault { IsTrue D.tells → IfErr result (λ e. IsChainFault (region_look sup.now (D.now disk.old)) (region_of sup.now) head e) }
     ensures counted { IfErr result (λ e. IsCounted (D.read_faults disk.old) (D.read_faults disk.new) e) }
+    ensures quiet { OnOk result (D.read_faults disk.new ≡ D.read_faults disk.old) }
     ensures same { OnlyRead D.PageDisk disk.old disk.new }
 {
     match read_chain(alloc, disk, sup, head) {
@@ -103,6 +105,7 @@ pub fn blob_at<D: PageDisk>(
     ensures found { IfOk result (λ b. SaysAt D.PageDisk sup.now disk.old place b) }
     ensures fault { IsTrue D.tells → IfErr result (λ e. IsPlaceFault (region_look sup.now (D.now disk.old)) (region_of sup.now) place e) }
     ensures counted { IfErr result (λ e. IsCounted (D.read_faults disk.old) (D.read_faults disk.new) e) }
+    ensures quiet { OnOk result (D.read_faults disk.new ≡ D.read_faults disk.old) }
     ensures same { OnlyRead D.PageDisk disk.old disk.new }
 {
     if !is_head_on(disk, sup, place)? {

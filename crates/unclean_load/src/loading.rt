@@ -70,6 +70,7 @@ fn read_store<D: PageDisk>(alloc: Global, disk: &mut D) -> Result<Store, LoadFau
     ensures masks { IfOk result (λ s. AreMasks s.sup (map.get s.metas) (map.get s.chains) s.masks) }
 
     ensures counted { IfErr result (λ e. IsCounted (D.read_faults disk.old) (D.read_faults disk.new) e) }
+    ensures quiet { OnOk result (D.read_faults disk.new ≡ D.read_faults disk.old) }
     ensures same { OnlyRead D.PageDisk disk.old disk.new }
 {
     let sup = super_on(disk)?;
@@ -107,7 +108,9 @@ pub fn load<D: PageDisk>(alloc: Global, disk: D) -> Result<Loaded<D>, (D, LoadFa
     // A fault is that of the image, and an accepted image has none: its device is loaded, or a read or memory fails.
     ensures cause { IsTrue D.tells → IfErr result (λ e. IsFaultOf (D.pages disk) (D.now disk) e.1) }
     ensures refused { IsTrue D.tells → IfErr result (λ e. IsImageFault e.1 → IsAccepted (D.pages disk) (D.now disk) → ⊥) }
-    ensures read_fault { IfErr result (λ e. IsCounted (D.read_faults disk) (D.read_faults e.0) e.1) }
+    // A read fails where that is the answer, and in no other case.
+    ensures counted { IfErr result (λ e. IsCounted (D.read_faults disk) (D.read_faults e.0) e.1) }
+    ensures quiet { IfOk result (λ l. D.read_faults l.disk ≡ D.read_faults disk) }
 
     ensures same { MatchResult result (λ l. OnlyRead D.PageDisk disk l.disk) (λ e. OnlyRead D.PageDisk disk e.0) }
 {

@@ -99,6 +99,7 @@ pub fn blobs_on<D: PageDisk>(alloc: Global, disk: &mut D, sup: &Super) -> Result
     ensures few { IfOk result (λ b. slots_together sup.now.md_len (map.get b.metas) ≤ 2 ^ 24) }
 
     ensures counted { IfErr result (λ e. IsCounted (D.read_faults disk.old) (D.read_faults disk.new) e) }
+    ensures quiet { OnOk result (D.read_faults disk.new ≡ D.read_faults disk.old) }
     ensures same { OnlyRead D.PageDisk disk.old disk.new }
 {
     let mut blobs = Blobs::new(alloc);

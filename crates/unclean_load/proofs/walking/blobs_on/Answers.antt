@@ -9,7 +9,7 @@ use Rattle.unclean_load.specs.Heads.{AreWholeBelow}
 use Rattle.md_chain.proofs.Walks.{read_on}
 use Rattle.unclean_load.specs.declared.heads.Blob.{Blob}
 use Rattle.unclean_load.specs.Reading.{HasNoneFrom, SaysAt, IsCounted}
-use Rattle.unclean_load.proofs.Walk.{Walked, begun, none_there, one_there, inserted, place_fails, add_fails, counted_first}
+use Rattle.unclean_load.proofs.Walk.{Walked, begun, none_there, one_there, inserted, place_fails, add_fails, counted_first, refused_uncounted}
 use Rattle.unclean_load.proofs.walking.blobs_on.Goals as goal
 use Rattle.unclean_load.proofs.walking.blobs_on.Goals.{in-Some+in_ok-add, in_default}
 
@@ -50,6 +50,13 @@ returns-in_err-add-clause-fault g c =
     let says : SaysAt d s c.loop-place.disk c.loop-place.place (Some c.in-Some.blob) = subst (λ (o : Option Blob). SaysAt d s c.loop-place.disk c.loop-place.place o) c.in-Some.is c.in_ok-blob.ensures.found in
     λ told. let x = add_fails d s c.args.disk.now c.loop-place.disk (map.get b.metas) (map.get b.chains) b.slots c.loop-place.place c.loop-place.invariant c.in-Some.blob says why c.loop-place-test.true told c.in_err-add.ensures.fault in search rules
 
+pub returns-in_err-add-clause-counted : goal.returns-in_err-add-clause-counted
+returns-in_err-add-clause-counted g c =
+    let d = g.D.PageDisk in let why = c.in_err-add.field-0.0 in
+    let x : IsCounted (d.read_faults c.args.disk.now) (d.read_faults c.blob_at.new.disk) why =
+    refused_uncounted (d.read_faults c.args.disk.now) (d.read_faults c.blob_at.new.disk) c.loop-place.blobs.slots c.loop-place.place c.in-Some.blob.meta why (c.in_ok-blob.ensures.quiet ∙ c.loop-place.invariant.quiet) c.in_err-add.ensures.fault in
+    search rules
+
 pub loop-place-preserved : goal.loop-place-preserved
 loop-place-preserved g c =
     let d = g.D.PageDisk in let s = c.args.sup.now in let first = c.args.disk.now in let disk = c.loop-place.disk in let new = c.blob_at.new.disk in
@@ -62,10 +69,10 @@ loop-place-preserved g c =
           let few = subst (λ (n : ℕ). n ≤ 16777216) e.slots e.few in
           rw (w.blobs-is, e.metas, e.chains, e.slots)
           (inserted d s first new b.metas b.chains (b.slots + length blob.meta.map) (place + 1) place blob.meta blob.pages
-          (one_there d s first disk (map.get b.metas) (map.get b.chains) b.slots place old new c.blob_at.ensures.same blob says e.unmarked few))
+          (one_there d s first disk (map.get b.metas) (map.get b.chains) b.slots place old new c.blob_at.ensures.same c.in_ok-blob.ensures.quiet blob says e.unmarked few))
       | in_default w ↦
           let no : SaysAt d s disk place None = subst (λ (o : Option Blob). SaysAt d s disk place o) w.in_default.is c.in_ok-blob.ensures.found in
-          rw w.blobs-is (none_there d s first disk (map.get b.metas) (map.get b.chains) b.slots place old new c.blob_at.ensures.same no)
+          rw w.blobs-is (none_there d s first disk (map.get b.metas) (map.get b.chains) b.slots place old new c.blob_at.ensures.same c.in_ok-blob.ensures.quiet no)
     ]
 
 done : (n m : ℕ) → n ≤ m → m ≤ n → n ≡ m
@@ -87,3 +94,6 @@ returns-clause-few g c =
 
 pub returns-clause-same : goal.returns-clause-same
 returns-clause-same g c = c.loop-place.invariant.same
+
+pub returns-clause-quiet : goal.returns-clause-quiet
+returns-clause-quiet g c = c.loop-place.invariant.quiet
