@@ -1,5 +1,5 @@
 -- An image of a store is accepted.
-use Rattle.std.proofs.Common.{◌≡◌, ℕ, ◌*◌, ◌<◌, ◌≤◌, Bool, true, false, cond, List, [], ◌∷◌, Option, Some, None, refl, sym, ap, subst, ◌∙◌, inl, inr, arith}
+use Rattle.std.proofs.Common.{◌≡◌, ℕ, ◌*◌, ◌<◌, ◌≤◌, Bool, true, false, cond, List, [], ◌∷◌, Option, Some, None, refl, ap, subst, ◌∙◌, inl, inr, arith}
 use Rattle.std.specs.Prelude.{codes, find}
 use Rattle.std.specs.List.{list_any}
 use Rattle.std.specs.Option.{option_map}
@@ -20,7 +20,7 @@ use Rattle.blob_meta.specs.declared.meta.Meta.{Meta}
 use Rattle.blob_meta.specs.Faults.{is_mark}
 use Rattle.blob_meta.specs.Resolving.{IsLawful}
 use Rattle.store_model.specs.Maps.{Metas, Chains}
-use Rattle.store_model.specs.Regions.{region_of, look_of}
+use Rattle.store_model.specs.Regions.{region_of}
 use Rattle.store_model.specs.Scans.{Says}
 use Rattle.store_model.specs.Standing.{AreRoots, IsRoot}
 use Rattle.unclean_load.specs.Accepted.{IsAccepted}

@@ -1,5 +1,5 @@
 -- The attributes that a chain's items say can be written again: no two of one name, and each as short as its page had room for.
-use Rattle.std.proofs.Common.{◌≡◌, ℕ, ◌+◌, ◌-◌, ◌<◌, ◌≤◌, Bool, true, false, cond, List, [], ◌∷◌, ◌++◌, length, take, drop, Option, Some, None, refl, sym, ap, subst, ◌∙◌, inl, inr, arith}
+use Rattle.std.proofs.Common.{◌≡◌, ℕ, ◌+◌, ◌-◌, ◌≤◌, Bool, true, false, cond, List, [], ◌∷◌, ◌++◌, length, take, drop, Option, Some, None, refl, ap, subst, inl, inr, arith}
 use Rattle.std.specs.Prelude.{◌==◌}
 use Rattle.std.specs.List.{AllByRecursion, filter_map}
 use Rattle.std.specs.Str.{bytes_eq}
@@ -13,7 +13,7 @@ use Rattle.descriptors.specs.declared.item.Item.{Item}
 use Rattle.descriptors.specs.declared.item.Item.TheVariants as item
 use Rattle.descriptors.specs.Numbers.{number_from}
 use Rattle.descriptors.specs.Rows.{rle, pair_in, flags, xattr_of, internal_of, row}
-use Rattle.descriptors.specs.Grammar.{Descriptor, Spells, short, ends, padding, adds}
+use Rattle.descriptors.specs.Grammar.{Spells, short, ends, padding, adds}
 use Rattle.blob_meta.specs.Says.{firsts, xattr_in, internal_in}
 use Rattle.blob_meta.specs.Items.{HasDistinctNames}
 use Rattle.blob_meta.proofs.Firsts.{others, turned}

@@ -1,6 +1,6 @@
 -- Sets of places to which those of chains are added one by one.
-use Rattle.std.proofs.Common.{◌≡◌, ◌≢◌, ◌⊎◌, ℕ, zero, suc, ◌+◌, ◌<◌, ◌≤◌, Bool, true, false, eqb, List, [], ◌∷◌, ◌++◌, length, take, get_or, Option, Some, None, refl, sym, ap, subst, ◌∙◌, inl, inr, arith}
-use Rattle.std.specs.Prelude.{slice_set, ◌||◌, ◌↔◌, IsSome, replicate}
+use Rattle.std.proofs.Common.{◌≡◌, ℕ, zero, suc, ◌+◌, ◌<◌, ◌≤◌, Bool, true, false, eqb, List, [], ◌∷◌, length, take, get_or, Some, None, refl, sym, ap, subst, ◌∙◌, inl, inr, arith}
+use Rattle.std.specs.Prelude.{slice_set, ◌||◌, ◌↔◌, replicate}
 use Rattle.std.proofs.lemmas.Bool.{cases_Bool, cases_eq, cases_lt, both_ways, eq-eqb, eqb-true, ne_eqb, or_cases, or_parts, or_left}
 use Rattle.std.proofs.lemmas.List.{get_or-set_same, get_or-set_other, length-set, take_more, length-replicate, get_or-replicate}
 use Rattle.std.proofs.Math.ListN.{get_or-eq_default}
@@ -9,8 +9,7 @@ use Rattle.md_chain.specs.Chain.{is_among}
 use Rattle.md_chain.proofs.Walking.{among-more}
 use Rattle.store_model.specs.Maps.{Chains}
 use Rattle.store_model.specs.Places.{AreDistinct, IsLinked, UsedPages}
-use Rattle.store_model.proofs.Sets.{among_first, among_later, not_first}
-use Rattle.unclean_load.specs.Reading.{IsChainOf}
+use Rattle.store_model.proofs.Sets.{among_first, among_later}
 use Rattle.unclean_load.specs.Claiming.{AreAdded, AreApart, AreChains, AreNew, IsInTwo}
 
 or_false : (b : Bool) → b ≡ (b || false)

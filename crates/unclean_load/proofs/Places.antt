@@ -1,25 +1,14 @@
 -- What the pages that a device gave say of one place.
-use Rattle.std.proofs.Common.{◌≡◌, ℕ, ◌+◌, ◌<◌, Bool, true, false, List, Option, Some, None, refl, sym, ap, subst, ◌∙◌, inl, inr}
-use Rattle.std.specs.Prelude.{IsTrue, nat_lt, ◌&&◌}
-use Rattle.std.proofs.lemmas.Bool.{and_right}
+use Rattle.std.proofs.Common.{◌≡◌, ℕ, ◌+◌, Bool, List, sym, ap, ◌∙◌}
+use Rattle.std.specs.Prelude.{IsTrue}
 use Rattle.page_disk.specs.Disk.{with_page}
 use Rattle.page_disk.proofs.Images.{with_page-here}
 use Rattle.page_disk.specs.declared.disk.PageDisk.{Ghosts}
 use Rattle.super_block.specs.declared.page.Super.{Super}
-use Rattle.descriptors.specs.declared.item.Item.{Item}
-use Rattle.blob_meta.specs.declared.meta.Meta.{Meta}
-use Rattle.blob_meta.specs.Says.{meta_of}
-use Rattle.blob_meta.specs.Faults.{meta_fault}
-use Rattle.md_chain.specs.Chain.{Look, Chain}
-use Rattle.md_chain.specs.Reading.{region_look, WasSeen, GaveChain}
+use Rattle.md_chain.specs.Reading.{region_look}
 use Rattle.md_chain.proofs.Walking.{known}
-use Rattle.store_model.specs.Regions.{Region, region_of}
-use Rattle.store_model.specs.Scans.{is_head, head_at, MetaAt}
-use Rattle.unclean_load.specs.declared.heads.Blob.{Blob}
-use Rattle.unclean_load.specs.declared.fault.LoadFault.{LoadFault}
-use Rattle.unclean_load.specs.declared.fault.LoadFault.TheVariants as fault
-use Rattle.unclean_load.specs.Heads.{SaysWrong}
-use Rattle.unclean_load.specs.Reading.{GaveHead, SaysAt, IsChainFault, IsItemsFault, IsPlaceFault}
+use Rattle.store_model.specs.Scans.{is_head}
+use Rattle.unclean_load.specs.Reading.{GaveHead}
 
 module _ {D : Type 0} (d : Ghosts D) (s : Super) (disk : D) (place : ℕ) where
   -- the page that was read there is the one that a look gives

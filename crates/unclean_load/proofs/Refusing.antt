@@ -1,10 +1,9 @@
 -- An accepted image has no fault.
-use Rattle.std.proofs.Common.{◌≡◌, ℕ, ◌+◌, ◌^◌, ◌<◌, ◌≤◌, true, false, List, [], length, Option, Some, None, refl, sym, ap, subst, ◌∙◌, inl, inr, arith}
+use Rattle.std.proofs.Common.{◌≡◌, ℕ, ◌+◌, ◌^◌, ◌≤◌, true, List, [], length, Option, Some, None, sym, ap, subst, ◌∙◌, inl, inr, arith}
 use Rattle.std.specs.Option.{option_map_or}
-use Rattle.std.proofs.lemmas.Bool.{and_from, lt-ltb, both_ways, cases_Bool}
+use Rattle.std.proofs.lemmas.Bool.{and_from, lt-ltb, both_ways}
 use Rattle.page_disk.specs.Disk.{Image}
 use Rattle.super_block.specs.declared.page.Super.{Super}
-use Rattle.descriptors.specs.declared.item.Item.{Item}
 use Rattle.blob_meta.specs.declared.meta.Meta.{Meta}
 use Rattle.blob_meta.specs.Says.{meta_of}
 use Rattle.blob_meta.specs.Faults.{meta_fault}
@@ -13,7 +12,7 @@ use Rattle.md_chain.specs.Chain.{Look}
 use Rattle.md_chain.proofs.OneChain.{one_chain, not_both_ways}
 use Rattle.store_model.specs.Maps.{Metas, Chains}
 use Rattle.store_model.specs.Regions.{Region, region_of, look_of}
-use Rattle.store_model.specs.Scans.{MetaAt, Blob, BlobAt, head_at, is_head}
+use Rattle.store_model.specs.Scans.{MetaAt, Blob, BlobAt, head_at}
 use Rattle.store_model.proofs.Scanning.{is_at}
 use Rattle.store_model.proofs.One.{one_scan}
 use Rattle.unclean_load.specs.declared.fault.LoadFault.{LoadFault}

@@ -1,5 +1,5 @@
 -- A blob without a mark that was read from a chain is a root, and its chain is one of the region.
-use Rattle.std.proofs.Common.{◌≡◌, ℕ, suc, ◌+◌, ◌<◌, Bool, true, false, List, [], ◌∷◌, length, Option, Some, None, refl, sym, ap, subst, ◌∙◌, inl, inr, arith}
+use Rattle.std.proofs.Common.{◌≡◌, ℕ, suc, true, false, List, [], ◌∷◌, None, refl, sym, subst, inl, inr, arith}
 use Rattle.std.specs.Prelude.{codes, ◌||◌, ◌==◌}
 use Rattle.std.specs.List.{list_any}
 use Rattle.std.specs.Str.{bytes_eq}
@@ -11,7 +11,7 @@ use Rattle.descriptors.specs.declared.item.Item.{Item}
 use Rattle.blob_meta.specs.declared.meta.Meta.{Meta}
 use Rattle.blob_meta.specs.Says.{without_bit_1, meta_of}
 use Rattle.blob_meta.specs.Faults.{is_mark, meta_fault}
-use Rattle.md_chain.specs.Chain.{Look, Links, Chain, last, more, is_among}
+use Rattle.md_chain.specs.Chain.{Look, Links, last, more, is_among}
 use Rattle.md_chain.proofs.Links.{passes, first, linked}
 use Rattle.store_model.specs.Regions.{region_of}
 use Rattle.store_model.specs.Scans.{MetaAt}

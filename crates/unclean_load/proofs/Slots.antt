@@ -1,7 +1,7 @@
 -- Slots that have a cluster, and how many they are.
-use Rattle.std.proofs.Common.{◌≡◌, ◌≢◌, ℕ, zero, suc, ◌+◌, ◌<◌, ◌≤◌, Bool, true, false, cond, eqb, List, [], ◌∷◌, length, Option, Some, None, refl, sym, ap, subst, ◌∙◌, inl, inr, arith}
+use Rattle.std.proofs.Common.{◌≡◌, ◌≢◌, ℕ, zero, suc, ◌+◌, ◌<◌, ◌≤◌, cond, List, [], ◌∷◌, Option, Some, None, refl, sym, ap, subst, ◌∙◌, inl, inr, arith}
 use Rattle.std.specs.Prelude.{slice_get}
-use Rattle.std.specs.Option.{option_map_or, option_and_then}
+use Rattle.std.specs.Option.{option_and_then}
 use Rattle.std.proofs.lemmas.Bool.{cases_eq, cases_lt, cases_order, eq-eqb, ne_eqb}
 use Rattle.std.proofs.lemmas.List.Sums.{sum_by-cons}
 use Rattle.super_block.specs.declared.page.Super.{Super}
@@ -12,7 +12,7 @@ use Rattle.store_model.specs.Maps.{Metas}
 use Rattle.store_model.specs.Places.{IsMapped}
 use Rattle.store_model.specs.Standing.{AreRoots}
 use Rattle.store_model.proofs.Inside.{inside_slot}
-use Rattle.unclean_load.specs.Sharing.{holds, copies_in, copies, AreInside, AreAllInside}
+use Rattle.unclean_load.specs.Sharing.{holds, copies_in, copies, AreAllInside}
 use Rattle.unclean_load.proofs.Counts.{copies_none, copies_some, copies_grow}
 
 -- ---- one map

@@ -1,30 +1,26 @@
 -- What was read of a store is whole.
-use Rattle.std.proofs.Common.{◌≡◌, ℕ, ◌+◌, ◌^◌, ◌<◌, ◌≤◌, true, false, List, ◌∷◌, Option, Some, None, refl, sym, ap, subst, ◌∙◌, inl, inr, arith}
-use Rattle.std.specs.Prelude.{nat_lt, IsTrue}
+use Rattle.std.proofs.Common.{◌≡◌, ℕ, ◌^◌, ◌<◌, ◌≤◌, false, List, Option, Some, None, refl, sym, subst, ◌∙◌, inl, inr, arith}
+use Rattle.std.specs.Prelude.{nat_lt}
 use Rattle.std.proofs.lemmas.Bool.{cases_lt}
 use Rattle.std.proofs.lemmas.Bool.Decides.{nat_tests}
 use Rattle.page_disk.specs.Disk.{Image}
-use Rattle.page_disk.specs.declared.disk.PageDisk.{Ghosts}
 use Rattle.super_block.specs.declared.page.Super.{Super}
 use Rattle.blob_meta.specs.declared.meta.Meta.{Meta}
-use Rattle.blob_meta.specs.Parents.{parent_of}
 use Rattle.blob_meta.specs.Resolving.{IsLawful, slots_together}
 use Rattle.md_chain.specs.Chain.{Look}
 use Rattle.md_chain.specs.declared.fault.ChainFault.{ChainFault}
 use Rattle.md_chain.specs.declared.fault.ChainFault.TheVariants as chain
-use Rattle.md_chain.specs.Reading.{OnlyRead, region_look}
 use Rattle.store_model.specs.Maps.{Metas, Chains}
 use Rattle.store_model.specs.Regions.{Region, region_of, look_of}
-use Rattle.store_model.specs.Scans.{BlobAt, Scanned, head_at}
-use Rattle.store_model.specs.Standing.{AreRoots, HaveChains}
+use Rattle.store_model.specs.Standing.{AreRoots}
 use Rattle.store_model.proofs.Scanning.{apart}
 use Rattle.store_model.proofs.Roots.{no_parent}
 use Rattle.unclean_load.specs.declared.fault.LoadFault.{LoadFault}
 use Rattle.unclean_load.specs.declared.fault.LoadFault.TheVariants as fault
 use Rattle.unclean_load.specs.Accepted.{SuperAt, IsFaultOf, IsSuperFault}
-use Rattle.unclean_load.specs.Claiming.{AreApart, AreChains, IsInTwo, IsTwice, IsMaskFault}
-use Rattle.unclean_load.specs.Heads.{AreWhole, AreWholeBelow, IsHeadsFault, ShowsFirst}
-use Rattle.unclean_load.specs.Reading.{AreRead, HasNoneFrom, IsChainOf, IsCounted}
+use Rattle.unclean_load.specs.Claiming.{AreChains, IsInTwo, IsTwice, IsMaskFault}
+use Rattle.unclean_load.specs.Heads.{AreWhole, AreWholeBelow, IsHeadsFault}
+use Rattle.unclean_load.specs.Reading.{AreRead, HasNoneFrom, IsChainOf}
 use Rattle.unclean_load.specs.Sharing.{copies}
 use Rattle.unclean_load.proofs.Slots.{one_slot}
 

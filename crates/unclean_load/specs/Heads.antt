@@ -1,5 +1,5 @@
 -- What the heads of a metadata region say, from the first place upwards, and the first head that shows a fault.
-use Rattle.std.specs.Prelude.{◌≡◌, ℕ, ◌+◌, ◌^◌, ◌<◌, ◌≤◌, Bool, true, false, List, length, Option, Some}
+use Rattle.std.specs.Prelude.{◌≡◌, ℕ, ◌+◌, ◌^◌, ◌<◌, ◌≤◌, Bool, true, false, List, length, Some}
 use Rattle.std.specs.List.{list_any}
 use Rattle.volume_model.specs.declared.text.Xattr.{Xattr}
 use Rattle.descriptors.specs.declared.item.Item.{Item}

@@ -1,5 +1,5 @@
 -- What a device gives while its heads are read.
-use Rattle.std.specs.Prelude.{◌≡◌, ℕ, ◌+◌, ◌^◌, ◌<◌, ◌≤◌, IsTrue, Bool, true, false, List, ◌∷◌, length, Option, Some, None}
+use Rattle.std.specs.Prelude.{◌≡◌, ℕ, ◌+◌, ◌^◌, ◌<◌, ◌≤◌, Bool, true, List, ◌∷◌, length, Option, Some, None}
 use Rattle.std.specs.Option.{option_map}
 use Rattle.page_disk.specs.Disk.{Rose}
 use Rattle.page_disk.specs.declared.disk.PageDisk.{Ghosts}
@@ -9,16 +9,16 @@ use Rattle.blob_meta.specs.declared.meta.Meta.{Meta}
 use Rattle.blob_meta.specs.Says.{meta_of}
 use Rattle.blob_meta.specs.Faults.{meta_fault}
 use Rattle.md_chain.specs.Chain.{Look, is_among, IsBroken}
-use Rattle.md_chain.specs.Reading.{WasSeen, region_look}
+use Rattle.md_chain.specs.Reading.{WasSeen}
 use Rattle.store_model.specs.Maps.{Metas, Chains}
 use Rattle.store_model.specs.Regions.{Region, region_of}
 use Rattle.store_model.specs.Scans.{is_head, BlobAt}
-use Rattle.store_model.specs.Standing.{IsRoot, AreRoots}
+use Rattle.store_model.specs.Standing.{AreRoots}
 use Rattle.store_model.specs.Places.{AreDistinct}
 use Rattle.unclean_load.specs.declared.heads.Blob.{Blob}
 use Rattle.unclean_load.specs.declared.fault.LoadFault.{LoadFault}
 use Rattle.unclean_load.specs.declared.fault.LoadFault.TheVariants as fault
-use Rattle.unclean_load.specs.Heads.{has_mark, Shows, SaysWrong}
+use Rattle.unclean_load.specs.Heads.{has_mark, Shows}
 
 -- whether the page that the device gave at a place is a head
 pub record GaveHead {D : Type 0} (d : Ghosts D) (s : Super) (disk : D) (place : ℕ) (is : Bool) : Type 0 where

@@ -1,4 +1,4 @@
-use Rattle.std.proofs.Common.{rules, ◌≡◌, ℕ, sym, subst}
+use Rattle.std.proofs.Common.{rules, subst}
 use Rattle.std.specs.Prelude.{IsTrue}
 use Rattle.std.specs.FinMap as map
 use Rattle.page_disk.specs.Disk.{Image}
@@ -7,7 +7,6 @@ use Rattle.super_block.specs.declared.page.Super.{Super}
 use Rattle.md_chain.specs.Reading.{OnlyRead}
 use Rattle.store_model.specs.Maps.{Metas, Chains}
 use Rattle.store_model.specs.Regions.{region_of, look_of}
-use Rattle.unclean_load.specs.declared.fault.LoadFault.{LoadFault}
 use Rattle.unclean_load.specs.Accepted.{IsFaultOf}
 use Rattle.unclean_load.specs.Heads.{AreWhole, AreWholeBelow, IsHeadsFault}
 use Rattle.unclean_load.specs.Reading.{AreRead, HasNoneFrom}

@@ -1,9 +1,9 @@
-use Rattle.std.proofs.Common.{rules, ◌≡◌, ◌<◌, ◌≤◌, ◌+◌, ℕ, Bool, true, false, length, List, Option, Some, None, IsSome, sym, ap, subst, ◌∙◌, arith}
+use Rattle.std.proofs.Common.{rules, ◌≡◌, ◌≤◌, ℕ, true, false, Option, Some, None, IsSome, sym, subst, ◌∙◌, arith}
 use Rattle.std.specs.Prelude.{option_copied, is_some}
 use Rattle.std.specs.Borrow.{Bor}
 use Rattle.std.specs.FinMap as map
 use Rattle.blob_meta.specs.declared.meta.Meta.{Meta}
-use Rattle.unclean_load.proofs.Marks.{HeadsBelow, no_heads, no_head_there, head_there}
+use Rattle.unclean_load.proofs.Marks.{no_heads, no_head_there, head_there}
 use Rattle.unclean_load.proofs.masks.used_heads.Goals as goal
 use Rattle.unclean_load.proofs.masks.used_heads.Goals.{then-is_some, else-is_some}
 

@@ -1,4 +1,4 @@
-use Rattle.std.proofs.Common.{rules, ◌≡◌, ◌≤◌, ◌<◌, ◌+◌, ℕ, [], Bool, true, length, List, Some, None, sym, ap, subst, ◌∙◌, arith}
+use Rattle.std.proofs.Common.{rules, ◌≡◌, ◌≤◌, ℕ, Bool, true, List, Some, None, sym, ap, subst, ◌∙◌, arith}
 use Rattle.std.specs.Prelude.{option_copied}
 use Rattle.std.specs.FinMap as map
 use Rattle.bit_array.specs.Bits.{is_in}
@@ -8,7 +8,7 @@ use Rattle.md_chain.specs.declared.fault.ChainFault.TheVariants as chain
 use Rattle.store_model.specs.Maps.{Chains}
 use Rattle.unclean_load.specs.declared.fault.LoadFault.{LoadFault}
 use Rattle.unclean_load.specs.declared.fault.LoadFault.TheVariants as fault
-use Rattle.unclean_load.specs.Claiming.{AreChains, AreNew, AreAdded, IsInTwo, IsTwice, IsPageFault}
+use Rattle.unclean_load.specs.Claiming.{IsInTwo, IsTwice, IsPageFault}
 use Rattle.unclean_load.proofs.Marks.{Marked, marked_none, marked_same, marked_more, in_two, all_used, all_apart}
 use Rattle.unclean_load.proofs.masks.used_pages.Goals as goal
 use Rattle.unclean_load.proofs.masks.used_pages.Goals.{in-Some+in_ok-mark_pages, in_default}

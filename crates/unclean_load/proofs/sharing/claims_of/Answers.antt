@@ -1,9 +1,9 @@
-use Rattle.std.proofs.Common.{rules, ◌≡◌, ◌+◌, ◌<◌, ◌≤◌, ℕ, List, Option, Some, None, length, sym, subst, ap, ◌∙◌, arith}
+use Rattle.std.proofs.Common.{◌≡◌, ℕ, Some, None, length, sym, subst, ap, ◌∙◌, arith}
 use Rattle.std.specs.Prelude.{option_copied}
 use Rattle.std.specs.FinMap as map
-use Rattle.super_block.specs.Numbers.{clusters_of, fixed_clusters_of}
+use Rattle.super_block.specs.Numbers.{fixed_clusters_of}
 use Rattle.blob_meta.specs.declared.meta.Meta.{Meta}
-use Rattle.unclean_load.specs.Sharing.{copies, copies_in, AreCounted, AreInside}
+use Rattle.unclean_load.specs.Sharing.{copies, AreInside}
 use Rattle.unclean_load.proofs.Counts.{copies_some, copies_none, counted_same}
 use Rattle.unclean_load.proofs.sharing.claims_of.Goals as goal
 use Rattle.unclean_load.proofs.sharing.claims_of.Goals.{in-Some, in_default}

@@ -1,8 +1,6 @@
-use Rattle.std.proofs.Common.{rules, ◌≡◌, ◌+◌, ◌<◌, ◌≤◌, ℕ, Some, None, sym, ap, ◌∙◌, arith}
+use Rattle.std.proofs.Common.{◌≡◌, Some, None, sym, ap, ◌∙◌, arith}
 use Rattle.std.specs.Prelude.{option_copied}
 use Rattle.std.specs.FinMap as map
-use Rattle.blob_meta.specs.declared.meta.Meta.{Meta}
-use Rattle.unclean_load.specs.Sharing.{copies}
 use Rattle.unclean_load.proofs.Counts.{copies_some, copies_none}
 use Rattle.unclean_load.proofs.sharing.holder.Goals as goal
 use Rattle.unclean_load.proofs.sharing.holder.Goals.{in-Some+else-found-n, in_default}

@@ -1,7 +1,7 @@
-use Rattle.std.proofs.Common.{rules, ◌≡◌, ◌+◌, ◌<◌, ◌≤◌, ℕ, List, Option, Some, None, length, take, Bool, sym, subst, ap, ◌∙◌, arith}
+use Rattle.std.proofs.Common.{◌≡◌, ◌+◌, ◌<◌, ◌≤◌, ℕ, List, Option, None, length, take, sym, subst, ap, ◌∙◌, arith}
 use Rattle.std.proofs.lemmas.List.{take_all}
-use Rattle.unclean_load.specs.Sharing.{copies_in, AreCounted, AreInside}
-use Rattle.unclean_load.proofs.Counts.{Adding, adds_one, adds_same, some_copy, counted_same}
+use Rattle.unclean_load.specs.Sharing.{copies_in, AreInside}
+use Rattle.unclean_load.proofs.Counts.{adds_one, adds_same, some_copy, counted_same}
 use Rattle.unclean_load.proofs.sharing.Claims.add.Goals as goal
 use Rattle.unclean_load.proofs.sharing.Claims.add.Goals.{in-Some, in_default}
 
