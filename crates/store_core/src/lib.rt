@@ -9,7 +9,6 @@ mod job_turn;
 mod keeping;
 mod loaded;
 mod logging;
-mod plant;
 mod refusing;
 mod right;
 mod rows;
@@ -18,6 +17,5 @@ mod turns;
 
 pub use job_turn::JobTurn;
 pub use loaded::Loaded;
-pub use plant::{Plant, SettleTurn};
 pub use right::MdRight;
 pub use rows::RowStage;
