@@ -10,12 +10,10 @@ mod keeping;
 mod loaded;
 mod logging;
 mod refusing;
-mod right;
 mod rows;
 mod running;
 mod turns;
 
 pub use job_turn::JobTurn;
 pub use loaded::Loaded;
-pub use right::MdRight;
 pub use rows::RowStage;
