@@ -14,3 +14,4 @@ pub mod AtWork
 pub mod JobTurned
 pub mod JobCommitted
 pub mod Goes
+pub mod Posting

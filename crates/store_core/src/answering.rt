@@ -13,6 +13,7 @@ ghost use Rattle.store_core.specs.Seen.{state_of};
 ghost use Rattle.store_core.specs.Steps.{Asks, IsPostedAt};
 
 use crate::logging::log;
+use crate::refusing::halt;
 use crate::rows::first_of;
 use crate::running::Running;
 use blob_meta::{HeadMap, Metas, head_in, refusal_of};
@@ -135,5 +136,24 @@ pub(crate) fn answer<D: PageDisk>(running: &mut Running<D>, channel: u8)
             log(running, channel, reply);
         }
         Err(Memory) => log(running, channel, Reply::Memory),
+    }
+}
+
+/// Answers the posted command of a channel in memory, or, on a stopped store, logs that it is stopped.
+pub(crate) fn answer_or_halt<D: PageDisk>(running: &mut Running<D>, channel: u8)
+    requires order { InOrder D.PageDisk running.old }
+    requires channel { channel < 16 }
+    requires posted { IsPostedAt (at_of running.old) channel }
+    requires in_memory { Asks (at_of running.old) channel (λ command. IsOnHead command × IsInMemory command) }
+    requires running { IsRunning (state_of D.PageDisk (at_of running.old)) }
+    requires no_job { running.old.job ≡ None }
+    ensures answered { running.old.stopped ≡ None → Made D.PageDisk (at_of running.old) (at_of running.new) kind.answers }
+    ensures halted { IsSome running.old.stopped → Made D.PageDisk (at_of running.old) (at_of running.new) kind.halts }
+    ensures order { InOrder D.PageDisk running.new }
+{
+    if running.stopped.is_some() {
+        halt(running, channel);
+    } else {
+        answer(running, channel);
     }
 }

@@ -9,11 +9,15 @@ mod job_turn;
 mod keeping;
 mod loaded;
 mod logging;
+mod plant;
 mod refusing;
+mod right;
 mod rows;
 mod running;
 mod turns;
 
 pub use job_turn::JobTurn;
 pub use loaded::Loaded;
+pub use plant::{Plant, SettleTurn};
+pub use right::MdRight;
 pub use rows::RowStage;

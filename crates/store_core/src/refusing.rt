@@ -40,3 +40,20 @@ pub(crate) fn halt<D: PageDisk>(running: &mut Running<D>, channel: u8)
         None => unreachable!(),
     }
 }
+
+/// Logs the refusal of the posted command of a channel, or, on a stopped store, that it is stopped.
+pub(crate) fn refuse_or_halt<D: PageDisk>(running: &mut Running<D>, channel: u8, reply: Reply)
+    requires order { InOrder D.PageDisk running.old }
+    requires channel { channel < 16 }
+    requires posted { IsPostedAt (at_of running.old) channel }
+    requires why { running.old.stopped ≡ None → Asks (at_of running.old) channel (λ command. IsRefusedBy (state_of D.PageDisk (at_of running.old)) command reply) }
+    ensures refused { running.old.stopped ≡ None → Made D.PageDisk (at_of running.old) (at_of running.new) kind.refuses }
+    ensures halted { IsSome running.old.stopped → Made D.PageDisk (at_of running.old) (at_of running.new) kind.halts }
+    ensures order { InOrder D.PageDisk running.new }
+{
+    if running.stopped.is_some() {
+        halt(running, channel);
+    } else {
+        refuse(running, channel, reply);
+    }
+}

@@ -1,0 +1,9 @@
+use Rattle.std.proofs.Common.{◌≡◌, subst, sym}
+use Rattle.store_model.specs.Cases as kind
+use Rattle.store_core.specs.Running.{at_of, both}
+use Rattle.store_core.specs.Seen.{Both, rows_of}
+use Rattle.store_core.specs.Stages.{is_stage}
+use Rattle.store_core.proofs.plant.Plant.settle.Goals as goal
+
+pub invariant_of-self : goal.invariant_of-self
+invariant_of-self g c = (c.goes_on.ensures (both c.self.inside.running c.self.inside.opening.value) (at_of c.settle.new.running) kind.settles c.self.invariant.0 c.settle.ensures.case, c.settle.ensures.order)

@@ -1,0 +1,197 @@
+//! The running store as a type: whatever turns were made, it is known how it began, that turns led from there to here, and that
+//! power may fail.
+
+use crate::answering::answer_or_halt;
+use crate::job_turn::{JobTurn, job_turn};
+use crate::keeping::goes_on;
+use crate::refusing::refuse_or_halt;
+use crate::right::MdRight;
+use crate::rows::RowStage;
+use crate::running::Running;
+use crate::turns::{end, post, settle};
+use blob_meta::Metas;
+use page_disk::PageDisk;
+use std::marker::Model;
+use std::snapshot::Snapshot;
+use super_block::Super;
+use volume_model::{Entry, Msg, Reply, XattrList};
+
+/// A running store on a device. Contracts see its state and how it began; the latter takes no memory.
+pub struct Plant<D: PageDisk> {
+    running: Running<D>,
+    opening: Snapshot<Running<D>>,
+}
+
+impl<D: PageDisk> Model for Plant<D> {
+    ghost use Rattle.store_core.specs.Seen.{Both, both_code};
+
+    ghost Value = { Both D };
+
+    ghost coded = { both_code D.code };
+
+    ghost use Rattle.store_core.specs.Running.{both, InOrder};
+    ghost use Rattle.store_core.specs.Kept.{Kept};
+
+    ghost view = { λ p. both p.running p.opening.value };
+
+    ghost invariant = { λ p. Kept D.PageDisk (both p.running p.opening.value) × InOrder D.PageDisk p.running };
+}
+
+/// What `Plant::settle` finds.
+pub enum SettleTurn {
+    /// The command isn't logged yet.
+    Waiting,
+    /// It has been, and the channel goes on with the next one.
+    Logged,
+}
+
+impl<D: PageDisk> Plant<D> {
+    ghost use Rattle.std.specs.Prelude.{◌≡◌, ◌≢◌, ◌⊎◌, ◌≤◌, ◌<◌, None, Some, IsSome, IsTrue, is_some, option_copied};
+    ghost use Rattle.std.specs.FinMap as map;
+    ghost use Rattle.blob_meta.specs.Asked.{IsOnHead};
+    ghost use Rattle.store_model.specs.Cases.{IsInMemory, IsRefusedBy};
+    ghost use Rattle.store_model.specs.Cases as kind;
+    ghost use Rattle.store_model.specs.Rows.{Posted, Decided};
+    ghost use Rattle.store_core.specs.declared.rows.RowStage.TheVariants.{Meta, Over};
+    ghost use Rattle.store_core.specs.declared.plant.SettleTurn.TheVariants.{Waiting, Logged};
+    ghost use Rattle.store_core.specs.JobTurns.{answer_of, TurnsJob};
+    ghost use Rattle.store_core.specs.Kept.{Kept};
+    ghost use Rattle.store_core.specs.Made.{Made};
+    ghost use Rattle.store_core.specs.Seen.{rows_of, state_of};
+    ghost use Rattle.store_core.specs.Stages.{is_stage};
+    ghost use Rattle.store_core.specs.Steps.{Asks};
+
+    /// What a channel's row waits for. A number from 16 on has ended.
+    pub fn stage(&self, channel: u8) -> RowStage
+        ensures { result ≡ is_stage (rows_of self.now.at.rows channel) channel }
+    {
+        match self.running.rows.get(channel as usize) {
+            Some(row) => row.stage(channel),
+            None => RowStage::Ended,
+        }
+    }
+
+    /// Whether a job runs.
+    pub fn job_runs(&self) -> bool
+        ensures { result ≡ is_some self.now.at.job }
+    {
+        self.running.job.is_some()
+    }
+
+    /// The log so far.
+    pub fn entries(&self) -> &[Entry]
+        ensures { result.now ≡ self.now.at.log }
+    {
+        self.running.entries.as_slice()
+    }
+
+    /// The metadata now, as the device says it.
+    pub fn metas(&self) -> &Metas
+        ensures { result.now ≡ self.now.at.metas }
+    {
+        &self.running.metas
+    }
+
+    /// The super block.
+    pub fn sup(&self) -> &Super
+        ensures { result.now ≡ self.now.at.super }
+    {
+        &self.running.sup
+    }
+
+    /// The live attributes of the blob at a head; `None` exactly where no such blob is live.
+    pub fn live(&self, head: u32) -> Option<&XattrList>
+        ensures { option_copied result ≡ map.get self.now.at.live head }
+    {
+        self.running.live.get(head)
+    }
+
+    /// The length of the log before the turn in which a write or a flush failed, if one did.
+    pub fn stopped(&self) -> Option<u32>
+        ensures { result ≡ self.now.at.stopped }
+    {
+        self.running.stopped
+    }
+
+    /// A law, with no code: what the type keeps.
+    pub fn keeps(&self)
+        ensures { Kept D.PageDisk self.now }
+    {
+        let _ = &self.running;
+    }
+
+    /// Posts the first command of a channel under the next number.
+    pub fn post(&mut self, channel: u8) -> Msg
+        requires stage { is_stage (rows_of self.old.at.rows channel) channel ≡ Meta }
+        ensures case { Made D.PageDisk self.old.at self.new.at kind.posts }
+        ensures message { result ≡ record { channel = channel; serial = self.old.at.serial } }
+        ensures opening { self.new.opening ≡ self.old.opening }
+    {
+        goes_on::<D>();
+        post(&mut self.running, channel)
+    }
+
+    /// Answers in memory the command that a message posts; on a stopped store it is logged as that.
+    pub fn answer(&mut self, _right: &mut MdRight, msg: Msg)
+        requires posted { (rows_of self.old.at.rows msg.channel).stage ≡ Posted msg.serial }
+        requires in_memory { Asks self.old.at msg.channel (λ command. IsOnHead command × IsInMemory command) }
+        requires no_job { self.old.at.job ≡ None }
+        ensures answered { self.old.at.stopped ≡ None → Made D.PageDisk self.old.at self.new.at kind.answers }
+        ensures halted { IsSome self.old.at.stopped → Made D.PageDisk self.old.at self.new.at kind.halts }
+        ensures opening { self.new.opening ≡ self.old.opening }
+    {
+        goes_on::<D>();
+        answer_or_halt(&mut self.running, msg.channel);
+    }
+
+    /// Logs the refusal of the command that a message posts: by the first cause that holds, or for want of memory; on a stopped
+    /// store it is logged as that.
+    pub fn refuse(&mut self, _right: &mut MdRight, msg: Msg, reply: Reply)
+        requires posted { (rows_of self.old.at.rows msg.channel).stage ≡ Posted msg.serial }
+        requires why { Asks self.old.at msg.channel (λ command. IsRefusedBy (state_of D.PageDisk self.old.at) command reply) }
+        ensures refused { self.old.at.stopped ≡ None → Made D.PageDisk self.old.at self.new.at kind.refuses }
+        ensures halted { IsSome self.old.at.stopped → Made D.PageDisk self.old.at self.new.at kind.halts }
+        ensures opening { self.new.opening ≡ self.old.opening }
+    {
+        goes_on::<D>();
+        refuse_or_halt(&mut self.running, msg.channel, reply);
+    }
+
+    /// One phase of the running job: its next device calls. `More` where it runs on, `Done` with its last, `Stopped` where one
+    /// failed.
+    pub fn job_turn(&mut self, _right: &mut MdRight) -> JobTurn
+        requires { IsSome self.old.at.job }
+        ensures case { TurnsJob D.PageDisk self.old.at self.new.at }
+        ensures answer { result ≡ answer_of self.new.at }
+        ensures opening { self.new.opening ≡ self.old.opening }
+    {
+        goes_on::<D>();
+        job_turn(&mut self.running)
+    }
+
+    /// A channel takes the word that its command is logged. `Waiting` comes exactly where the command isn't yet.
+    pub fn settle(&mut self, channel: u8) -> SettleTurn
+        ensures waiting { result ≡ Waiting → (self.new ≡ self.old) × ((rows_of self.old.at.rows channel).stage ≢ Decided) }
+        ensures logged { result ≡ Logged → Made D.PageDisk self.old.at self.new.at kind.settles }
+        ensures opening { self.new.opening ≡ self.old.opening }
+    {
+        goes_on::<D>();
+        match self.stage(channel) {
+            RowStage::Decided => {
+                settle(&mut self.running, channel);
+                SettleTurn::Logged
+            }
+            _ => SettleTurn::Waiting,
+        }
+    }
+
+    /// A channel without commands ends.
+    pub fn end(&mut self, channel: u8)
+        requires { is_stage (rows_of self.old.at.rows channel) channel ≡ Over }
+        ensures case { Made D.PageDisk self.old.at self.new.at kind.ends }
+        ensures opening { self.new.opening ≡ self.old.opening }
+    {
+        goes_on::<D>();
+        end(&mut self.running, channel);
+    }
+}

@@ -1,0 +1,12 @@
+//! The right to change metadata.
+
+/// Who has it may change the metadata and the live attributes of a store. It can't be copied, and `Plant::start` alone makes one.
+pub struct MdRight {
+    made: (),
+}
+
+impl MdRight {
+    pub(crate) fn new() -> MdRight {
+        MdRight { made: () }
+    }
+}
