@@ -10,6 +10,7 @@ pub mod Rowing
 pub mod Answered
 pub mod Entered
 pub mod Cleared
+pub mod Taken
 pub mod AtWork
 pub mod JobTurned
 pub mod JobCommitted

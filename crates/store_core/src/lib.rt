@@ -2,6 +2,7 @@
 #![tactic(auto)]
 
 mod answering;
+mod begin;
 mod clearing;
 mod device;
 mod job;
@@ -14,6 +15,7 @@ mod refusing;
 mod right;
 mod rows;
 mod running;
+mod taking;
 mod turns;
 
 pub use job_turn::JobTurn;

@@ -1,0 +1,1 @@
+//! The begin of a job.
