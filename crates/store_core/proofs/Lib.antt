@@ -11,6 +11,7 @@ pub mod Answered
 pub mod Entered
 pub mod Cleared
 pub mod Taken
+pub mod Begun
 pub mod AtWork
 pub mod JobTurned
 pub mod JobCommitted

@@ -9,3 +9,4 @@ pub mod Surviving
 pub mod Kept
 pub mod Answering
 pub mod JobTurns
+pub mod Begins

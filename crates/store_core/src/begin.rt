@@ -1,1 +1,220 @@
 //! The begin of a job.
+
+ghost use Rattle.std.specs.Prelude.{◌≡◌, ◌+◌, ◌<◌, ◌≤◌, ◌∷◌, [], Some, None, length, IfOk, IfErr, IfSome, IfNone};
+ghost use Rattle.std.specs.FinMap as map;
+ghost use Rattle.std.specs.List.{All};
+ghost use Rattle.pools.specs.Pool.{clear_in};
+ghost use Rattle.blob_meta.specs.Items.{IsItemsOf};
+ghost use Rattle.md_chain.specs.Packing.{parts_of, ArePlannable, AreFew, FitsPage};
+ghost use Rattle.store_model.specs.Cases as kind;
+ghost use Rattle.store_model.specs.Jobs.{AsksFor};
+ghost use Rattle.store_core.specs.Begins.{HasChain, IsLaid, IsPrepared, IsTaken, LacksPages};
+ghost use Rattle.store_core.specs.Kept.{IsRunning};
+ghost use Rattle.store_core.specs.Made.{Made};
+ghost use Rattle.store_core.specs.Running.{at_of, InOrder};
+ghost use Rattle.store_core.specs.Seen.{state_of};
+ghost use Rattle.store_core.specs.Steps.{Asks, IsPostedAt};
+
+use crate::clearing::clear_places;
+use crate::job::{Planned, RunningJob, Work};
+use crate::logging::log;
+use crate::running::Running;
+use crate::taking::take_pages;
+use blob_meta::{Chains, Meta, to_items};
+use descriptors::ItemList;
+use md_chain::{Plan, chain_len, plan_chain};
+use out_of_memory::Memory;
+use page_disk::PageDisk;
+use pools::PagePool;
+use std::alloc::Global;
+use volume_model::{PlaceList, Reply, TryCopy, XattrList};
+
+/// Metadata is written that has fewer attributes and slots together.
+const MOST_PARTS: usize = (1 << 31) - 2;
+
+/// What the begin of a job comes to.
+pub enum BeginTurn {
+    /// The job runs.
+    Began,
+    /// Too few pages are clear, or memory ran out: the command is logged as that.
+    Logged,
+}
+
+/// A chain that is to be written: its places, the head first, and their pages.
+#[derive(Drop)]
+pub(crate) struct Laid {
+    pub(crate) chain: PlaceList,
+    pub(crate) pages: Plan,
+}
+
+/// What a job needs besides the metadata that it writes.
+#[derive(Drop)]
+pub(crate) struct Prepared {
+    pub(crate) live: XattrList,
+    pub(crate) laid: Laid,
+    /// The places that stand behind the head.
+    pub(crate) old: PlaceList,
+}
+
+/// Begins the job that gives the blob at `head` the metadata `new`, for the posted command of a channel. Where fewer pages
+/// are clear than the chain of the metadata needs behind its head, or memory runs out, the command is logged instead, as
+/// `NoPage` or `Memory`, and nothing else changes.
+pub(crate) fn begin<D: PageDisk>(
+    running: &mut Running<D>,
+    channel: u8,
+    head: u32,
+    new: Meta,
+) -> BeginTurn
+    requires order { InOrder D.PageDisk running.old }
+    requires channel { channel < 16 }
+    requires posted { IsPostedAt (at_of running.old) channel }
+    requires asks { Asks (at_of running.old) channel (λ command. AsksFor (state_of D.PageDisk (at_of running.old)) command head new) }
+    requires running { IsRunning (state_of D.PageDisk (at_of running.old)) }
+    requires runs { running.old.stopped ≡ None }
+    requires no_job { running.old.job ≡ None }
+    ensures began { result ≡ Began → Made D.PageDisk (at_of running.old) (at_of running.new) kind.begins }
+    ensures logged { result ≡ Logged → Made D.PageDisk (at_of running.old) (at_of running.new) kind.refuses }
+    ensures order { InOrder D.PageDisk running.new }
+{
+    match prepare(
+        running.alloc,
+        &running.chains,
+        &mut running.pages,
+        head,
+        &new,
+    ) {
+        Ok(Some(prepared)) => {
+            let planned = Planned {
+                channel,
+                head,
+                new,
+                live: prepared.live,
+                chain: prepared.laid.chain,
+                pages: prepared.laid.pages,
+            };
+            running.job = Some(RunningJob {
+                work: Work::Writing {
+                    planned,
+                    written: 0,
+                },
+                old: prepared.old,
+            });
+            running.rows[channel as usize].serve();
+            BeginTurn::Began
+        }
+        Ok(None) => {
+            log(running, channel, Reply::NoPage);
+            BeginTurn::Logged
+        }
+        Err(Memory) => {
+            log(running, channel, Reply::Memory);
+            BeginTurn::Logged
+        }
+    }
+}
+
+/// Makes what a job needs for new metadata at a head, and takes its pages; `None` where too few are clear. But after that no
+/// page is taken.
+fn prepare(
+    alloc: Global,
+    chains: &Chains,
+    pages: &mut PagePool,
+    head: u32,
+    new: &Meta,
+) -> Result<Option<Prepared>, Memory>
+    requires chain { HasChain chains.now head }
+    requires unclaimed { pages.old.claims ≡ [] }
+    requires xattrs { All FitsPage new.now.xattrs }
+    requires internal { All FitsPage new.now.internal }
+    ensures some { IfOk result (λ o. IfSome o (IsPrepared chains.now head new.now pages.old.bits pages.new.bits)) }
+    ensures none { IfOk result (λ o. IfNone o (LacksPages new.now pages.old.bits × (pages.new.bits ≡ pages.old.bits))) }
+    ensures memory { IfErr result (λ _. pages.new.bits ≡ pages.old.bits) }
+    ensures unclaimed { pages.new.claims ≡ [] }
+{
+    let items = items_of(alloc, new)?;
+    let live = new.xattrs.try_copy(alloc)?;
+    let old = places_behind(alloc, chains, head)?;
+    let needs = chain_len(&items) - 1;
+    if pages.clear_count() < needs {
+        return Ok(None);
+    }
+    let laid = take_chain(alloc, pages, &items, head, needs)?;
+    Ok(Some(Prepared { live, laid, old }))
+}
+
+/// The items by which metadata is written.
+fn items_of(alloc: Global, new: &Meta) -> Result<ItemList, Memory>
+    requires xattrs { All FitsPage new.now.xattrs }
+    requires internal { All FitsPage new.now.internal }
+    ensures are { IfOk result (IsItemsOf new.now) }
+    ensures plannable { IfOk result ArePlannable }
+    ensures few { IfOk result AreFew }
+{
+    let attributes = new.xattrs.len().saturating_add(new.internal.len());
+    if attributes.saturating_add(new.map.len() as usize) >= MOST_PARTS {
+        return Err(Memory);
+    }
+    to_items(alloc, new)
+}
+
+/// The places behind the head of a blob.
+fn places_behind(alloc: Global, chains: &Chains, head: u32) -> Result<PlaceList, Memory>
+    requires { HasChain chains.now head }
+    ensures { IfOk result (λ behind. map.get chains.now head ≡ Some (head ∷ behind)) }
+{
+    let mut behind = Vec::new(alloc);
+    match chains.get(head) {
+        Some(chain) => behind.extend_from_slice(&chain.as_slice()[1..])?,
+        None => unreachable!(),
+    }
+    Ok(PlaceList::from_vec(behind))
+}
+
+/// Takes so many pages, and lays the items on the head and on these. After `Memory` no page is taken.
+fn take_chain(
+    alloc: Global,
+    pages: &mut PagePool,
+    items: &ItemList,
+    head: u32,
+    needs: u32,
+) -> Result<Laid, Memory>
+    requires plannable { ArePlannable items.now }
+    requires few { AreFew items.now }
+    requires needs { needs + 1 ≡ length (parts_of items.now) }
+    requires unclaimed { pages.old.claims ≡ [] }
+    requires enough { needs ≤ clear_in pages.old.bits }
+    ensures taken { IfOk result (IsTaken items.now head pages.old.bits pages.new.bits) }
+    ensures memory { IfErr result (λ _. pages.new.bits ≡ pages.old.bits) }
+    ensures unclaimed { pages.new.claims ≡ [] }
+{
+    let fresh = take_pages(alloc, pages, needs)?;
+    match lay(alloc, items, head, &fresh) {
+        Ok(laid) => Ok(laid),
+        Err(Memory) => {
+            clear_places(pages, &fresh);
+            Err(Memory)
+        }
+    }
+}
+
+/// The items on the page of the head and on fresh ones.
+fn lay(
+    alloc: Global,
+    items: &ItemList,
+    head: u32,
+    fresh: &PlaceList,
+) -> Result<Laid, Memory>
+    requires plannable { ArePlannable items.now }
+    requires few { AreFew items.now }
+    requires places { length fresh.now + 1 ≡ length (parts_of items.now) }
+    ensures { IfOk result (IsLaid items.now head fresh.now) }
+{
+    let pages = plan_chain(alloc, items, head, fresh)?;
+    let mut chain = Vec::new(alloc);
+    chain.push(head)?;
+    chain.extend_from_slice(fresh.as_slice())?;
+    Ok(Laid {
+        chain: PlaceList::from_vec(chain),
+        pages,
+    })
+}

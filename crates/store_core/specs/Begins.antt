@@ -1,0 +1,50 @@
+-- What a job is made of before it begins.
+use Rattle.std.specs.Prelude.{◌≡◌, ℕ, ◌+◌, ◌<◌, ◌^◌, nat_eq, Bool, true, List, ◌∷◌, length, Some}
+use Rattle.std.specs.List.{All, IsDistinct}
+use Rattle.std.specs.Ordering.{nat_cmp}
+use Rattle.std.specs.FinMap as map
+use Rattle.pools.specs.Pool.{clear_in}
+use Rattle.descriptors.specs.declared.item.Item.{Item}
+use Rattle.blob_meta.specs.declared.meta.Meta.{Meta}
+use Rattle.blob_meta.specs.Items.{IsItemsOf}
+use Rattle.md_chain.specs.Chain.{Look, Chain}
+use Rattle.md_chain.specs.Packing.{parts_of, ArePlannable}
+use Rattle.md_chain.specs.Planned.{chain_pages, written_items}
+use Rattle.store_model.specs.Places.{all_set, AreLeastClear}
+use Rattle.store_model.specs.Jobs.{Needs}
+use Rattle.store_core.specs.declared.begin.Laid.{Laid}
+use Rattle.store_core.specs.declared.begin.Prepared.{Prepared}
+
+-- a blob's chain, of its head and the places behind it
+abbrev pub HasChain : map.FinMap nat_cmp (List ℕ) → ℕ → Type 0
+HasChain chains head = (behind : List ℕ) × (map.get chains head ≡ Some (head ∷ behind))
+
+-- The pages are those of the items at the head and the fresh places, and where they are read there they are a chain.
+pub record IsLaid (items : List Item) (head : ℕ) (fresh : List ℕ) (laid : Laid) : Type 0 where
+  pub chain : laid.chain ≡ head ∷ fresh
+  pub pages : laid.pages ≡ chain_pages items head fresh
+  pub reads : (look : Look) (md_len : ℕ) → md_len < 2 ^ 32 → IsDistinct nat_eq (head ∷ fresh) → All (λ p. p < md_len) (head ∷ fresh) → All (λ p. look p.place ≡ p.page) laid.pages
+      → Chain look md_len head (written_items items) (head ∷ fresh)
+
+-- The fresh places are the least clear ones, as many as the items need, and are in use from now on.
+pub record IsTaken (items : List Item) (head : ℕ) (old new : List Bool) (laid : Laid) : Type 0 where
+  pub fresh : List ℕ
+  pub laid_on : IsLaid items head fresh laid
+  pub count : length fresh + 1 ≡ length (parts_of items)
+  pub least : AreLeastClear old fresh
+  pub taken : new ≡ all_set old fresh true
+
+-- what a job needs for new metadata at a head
+pub record IsPrepared (chains : map.FinMap nat_cmp (List ℕ)) (head : ℕ) (meta : Meta) (old new : List Bool) (x : Prepared) : Type 0 where
+  pub live : x.live ≡ meta.xattrs
+  pub behind : map.get chains head ≡ Some (head ∷ x.old)
+  pub items : List Item
+  pub are : IsItemsOf meta items
+  pub plannable : ArePlannable items
+  pub taken : IsTaken items head old new x.laid
+
+-- fewer places are clear than the metadata needs
+pub record LacksPages (meta : Meta) (bits : List Bool) : Type 0 where
+  pub count : ℕ
+  pub needs : Needs meta count
+  pub lacking : clear_in bits < count
