@@ -24,7 +24,7 @@ place_of (y ∷ ys) zero x is = let e : y ≡ x = cc is in ap (λ (z : PlannedPa
 place_of (y ∷ ys) (suc k) x is = place_of ys k x is
 
 -- the page for a place is the planned one, where the places differ
-page_of : (plan : List PlannedPage) (k : ℕ) (x : PlannedPage) → AreDistinct (places_of plan) → slice_get plan k ≡ Some x → page_in plan x.place ≡ x.page
+pub page_of : (plan : List PlannedPage) (k : ℕ) (x : PlannedPage) → AreDistinct (places_of plan) → slice_get plan k ≡ Some x → page_in plan x.place ≡ x.page
 page_of [] k x distinct is = absurd (cc is)
 page_of (y ∷ ys) zero x distinct is =
     let e : y ≡ x = cc is in

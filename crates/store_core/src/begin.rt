@@ -8,6 +8,7 @@ ghost use Rattle.blob_meta.specs.Items.{IsItemsOf};
 ghost use Rattle.md_chain.specs.Packing.{parts_of, ArePlannable, AreFew, FitsPage};
 ghost use Rattle.store_model.specs.Cases as kind;
 ghost use Rattle.store_model.specs.Jobs.{AsksFor};
+ghost use Rattle.store_core.specs.declared.begin.BeginTurn.TheVariants.{Began, Logged};
 ghost use Rattle.store_core.specs.Begins.{HasChain, IsLaid, IsPrepared, IsTaken, LacksPages};
 ghost use Rattle.store_core.specs.Kept.{IsRunning};
 ghost use Rattle.store_core.specs.Made.{Made};
