@@ -1,5 +1,5 @@
 -- What a job is made of before it begins.
-use Rattle.std.proofs.Common.{◌≡◌, ◌≢◌, ℕ, zero, suc, ◌+◌, ◌<◌, ◌≤◌, ◌^◌, Bool, true, false, List, [], ◌∷◌, length, get_or, drop, nat_eq, All, Some, None, refl, sym, ◌∙◌, ap, subst, arith, inl, inr}
+use Rattle.std.proofs.Common.{◌≡◌, ℕ, suc, ◌+◌, ◌<◌, ◌^◌, Bool, true, false, List, [], ◌∷◌, length, get_or, drop, nat_eq, All, Some, None, refl, sym, ◌∙◌, ap, subst, arith, inl, inr}
 use Rattle.std.specs.List.{AllByRecursion, IsDistinct}
 use Rattle.std.specs.Ordering.{nat_cmp}
 use Rattle.std.specs.FinMap as map
@@ -9,13 +9,11 @@ use Rattle.std.proofs.lemmas.List.{ext_get_or, get_or_default}
 use Rattle.std.proofs.lemmas.List.Elements.{All-from_recursion}
 use Rattle.bit_array.specs.Bits.{is_in}
 use Rattle.page_disk.specs.declared.disk.PageDisk.{Ghosts}
-use Rattle.super_block.specs.declared.page.Super.{Super}
 use Rattle.super_block.specs.Placed.{IsPlaced}
 use Rattle.descriptors.specs.declared.item.Item.{Item}
 use Rattle.volume_model.specs.Volumes.{Fixed, Volumes}
 use Rattle.volume_model.specs.Steps.{MayLackMemory}
 use Rattle.volume_model.specs.Xattrs.{Xattrs}
-use Rattle.volume_model.specs.declared.text.Xattr.{Xattr}
 use Rattle.volume_model.specs.declared.command.Command.{Command}
 use Rattle.volume_model.specs.declared.command.Command.TheVariants as c
 use Rattle.volume_model.specs.declared.reply.Reply.{Reply}
@@ -23,12 +21,11 @@ use Rattle.volume_model.specs.declared.reply.Reply.TheVariants as r
 use Rattle.blob_meta.specs.declared.meta.Meta.{Meta}
 use Rattle.blob_meta.specs.Says.{meta_of}
 use Rattle.blob_meta.proofs.Inverse.{says}
-use Rattle.md_chain.specs.Chain.{Chain, Look, is_among}
+use Rattle.md_chain.specs.Chain.{is_among}
 use Rattle.md_chain.specs.Packing.{parts_of, FitsPage}
-use Rattle.md_chain.specs.Planned.{chain_pages, next_in, pages_from, written_items}
+use Rattle.md_chain.specs.Planned.{pages_from, written_items}
 use Rattle.md_chain.specs.declared.plan.PlannedPage.{PlannedPage}
 use Rattle.md_chain.proofs.Saying.{written_say}
-use Rattle.store_model.specs.Maps.{Chains}
 use Rattle.store_model.specs.Regions.{region_of}
 use Rattle.store_model.specs.Scans.{MetaAt}
 use Rattle.store_model.specs.Rows.{with_row, Ended, InJob, Posted, Row, Rows}
@@ -39,11 +36,10 @@ use Rattle.store_model.specs.Cases.{Begins, IsPosted, IsRefusedBy, Refuses}
 use Rattle.store_model.specs.Standing.{CanBeWritten, IsRoot, RunsWell}
 use Rattle.store_model.proofs.PlantBegins.{writable_root}
 use Rattle.store_model.proofs.Sets.{all_set_in, all_set_out, among_either, among_first, are_distinct, not_first, length_all_set, were_clear, AllBelow}
-use Rattle.store_core.specs.Begins.{HasChain, IsPrepared, IsTaken}
+use Rattle.store_core.specs.Begins.{IsPrepared, IsTaken}
 use Rattle.store_core.specs.Kept.{IsRunning}
 use Rattle.store_core.specs.Seen.{At, device_of, rows_of, state_of}
 use Rattle.store_core.specs.Steps.{logged_at, IsPostedAt}
-use Rattle.store_core.specs.declared.begin.Laid.{Laid}
 use Rattle.store_core.specs.declared.begin.Prepared.{Prepared}
 use Rattle.store_core.proofs.AtWork.{page_of}
 use Rattle.store_core.proofs.Cleared.{among_get}
@@ -229,8 +225,7 @@ module _ {D : Type 0} (d : Ghosts D) (p : At D) (channel : ℕ) (low : channel <
       → ((k : Command) (ks : List Command) → (rows_of p.rows channel).left ≡ k ∷ ks → new ≡ logged_at (record p { pages = after }) channel k ks reply (d.clock new.disk))
       → Refuses s (state_of d new) × (new.disk ≡ p.disk)
   refused reply why after same new entry =
-      let is = entry command rest (ap (λ (r : Row). r.left) posted.waits.row) in
-      (
+      let is = entry command rest (ap (λ (r : Row). r.left) posted.waits.row) in (
         record {
           posted = is_posted;
           runs = runs;

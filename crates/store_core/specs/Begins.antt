@@ -14,6 +14,8 @@ use Rattle.store_model.specs.Places.{all_set, AreLeastClear}
 use Rattle.store_model.specs.Jobs.{Needs}
 use Rattle.store_core.specs.declared.begin.Laid.{Laid}
 use Rattle.store_core.specs.declared.begin.Prepared.{Prepared}
+use Rattle.store_core.specs.declared.job.RunningJob.{RunningJob}
+use Rattle.store_core.specs.declared.job.Work.TheVariants as work
 
 -- a blob's chain, of its head and the places behind it
 abbrev pub HasChain : map.FinMap nat_cmp (List ℕ) → ℕ → Type 0
@@ -48,3 +50,8 @@ pub record LacksPages (meta : Meta) (bits : List Bool) : Type 0 where
   pub count : ℕ
   pub needs : Needs meta count
   pub lacking : clear_in bits < count
+
+-- the job that begins with it
+abbrev pub first_job : Prepared → ℕ → ℕ → Meta → RunningJob
+first_job x channel head meta =
+    record { work = work.Writing (record { channel = channel; head = head; new = meta; live = x.live; chain = x.laid.chain; pages = x.laid.pages }) 0; old = x.old }

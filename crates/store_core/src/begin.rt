@@ -57,6 +57,32 @@ pub(crate) struct Prepared {
     pub(crate) old: PlaceList,
 }
 
+impl Prepared {
+    ghost use Rattle.std.specs.Prelude.{◌≡◌};
+    ghost use Rattle.store_core.specs.Begins.{first_job};
+
+    /// The job that writes the metadata, at its begin.
+    fn job(self, channel: u8, head: u32, new: Meta) -> RunningJob
+        ensures { result ≡ first_job self channel head new }
+    {
+        let planned = Planned {
+            channel,
+            head,
+            new,
+            live: self.live,
+            chain: self.laid.chain,
+            pages: self.laid.pages,
+        };
+        RunningJob {
+            work: Work::Writing {
+                planned,
+                written: 0,
+            },
+            old: self.old,
+        }
+    }
+}
+
 /// Begins the job that gives the blob at `head` the metadata `new`, for the posted command of a channel. Where fewer pages
 /// are clear than the chain of the metadata needs behind its head, or memory runs out, the command is logged instead, as
 /// `NoPage` or `Memory`, and nothing else changes.
@@ -85,21 +111,7 @@ pub(crate) fn begin<D: PageDisk>(
         &new,
     ) {
         Ok(Some(prepared)) => {
-            let planned = Planned {
-                channel,
-                head,
-                new,
-                live: prepared.live,
-                chain: prepared.laid.chain,
-                pages: prepared.laid.pages,
-            };
-            running.job = Some(RunningJob {
-                work: Work::Writing {
-                    planned,
-                    written: 0,
-                },
-                old: prepared.old,
-            });
+            running.job = Some(prepared.job(channel, head, new));
             running.rows[channel as usize].serve();
             BeginTurn::Began
         }
@@ -199,12 +211,7 @@ fn take_chain(
 }
 
 /// The items on the page of the head and on fresh ones.
-fn lay(
-    alloc: Global,
-    items: &ItemList,
-    head: u32,
-    fresh: &PlaceList,
-) -> Result<Laid, Memory>
+fn lay(alloc: Global, items: &ItemList, head: u32, fresh: &PlaceList) -> Result<Laid, Memory>
     requires plannable { ArePlannable items.now }
     requires few { AreFew items.now }
     requires places { length fresh.now + 1 ≡ length (parts_of items.now) }

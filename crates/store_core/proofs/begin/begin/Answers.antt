@@ -1,21 +1,18 @@
-use Rattle.std.proofs.Common.{◌≡◌, ◌<◌, ◌∷◌, ℕ, List, Bool, length, Option, Some, None, IfSome, IfNone, refl, sym, ap, subst, ◌∙◌, arith}
+use Rattle.std.proofs.Common.{◌≡◌, ◌<◌, length, Option, Some, IfSome, IfNone, refl, sym, ap, subst, ◌∙◌, arith}
 use Rattle.std.specs.Prelude.{slice_set}
 use Rattle.std.specs.Option.{option_map}
-use Rattle.std.proofs.lemmas.List.{get_or_default}
-use Rattle.volume_model.specs.declared.command.Command.{Command}
 use Rattle.volume_model.specs.declared.reply.Reply.TheVariants.{Memory, NoPage}
-use Rattle.store_model.specs.Rows.{Ended, InJob, Row, Rows, with_row}
+use Rattle.store_model.specs.Rows.{InJob, Row}
 use Rattle.store_model.specs.Shown.{fixed_of}
-use Rattle.store_model.specs.Plants.{Job, Plant, Writing, logged, shown}
-use Rattle.store_model.specs.Jobs.{AsksFor}
-use Rattle.store_core.specs.Begins.{IsPrepared, LacksPages}
-use Rattle.store_core.specs.Jobs.{job_of, job_seen}
+use Rattle.store_model.specs.Plants.{logged, shown}
+use Rattle.store_model.specs.Cases.{Begins}
+use Rattle.store_core.specs.Begins.{first_job, IsPrepared, LacksPages}
+use Rattle.store_core.specs.Jobs.{job_seen}
 use Rattle.store_core.specs.declared.begin.Prepared.{Prepared}
 use Rattle.store_core.specs.Running.{at_of}
-use Rattle.store_core.specs.Seen.{At, device_of, rows_of, state_of}
-use Rattle.store_core.specs.declared.job.Planned.{Planned}
+use Rattle.store_core.specs.Seen.{state_of}
+use Rattle.store_core.specs.declared.job.RunningJob.{RunningJob}
 use Rattle.store_core.proofs.Begun.{all_fit, begun, has_chain, may_lack, ready, refused, root, row_is}
-use Rattle.store_core.proofs.Entered.{disk_same, entered}
 use Rattle.store_core.proofs.begin.begin.Goals as goal
 
 pub prepare-requires-clause-chain : goal.prepare-requires-clause-chain
@@ -48,12 +45,11 @@ returns-in-Ok-Some-clause-began g c = λ _.
     let x = c.in-Ok-Some.prepared in
     let is : IsPrepared c.args.running.now.chains c.args.head c.args.new c.args.running.now.pages.bits c.prepare.new.pages.bits x =
     subst (λ (o : Option Prepared). IfSome o (IsPrepared c.args.running.now.chains c.args.head c.args.new c.args.running.now.pages.bits c.prepare.new.pages.bits)) c.in-Ok-Some.field-0-is c.in-Ok-Some.ensures.some in
-    let planned : Planned = record { channel = c.args.channel; head = c.args.head; new = c.args.new; live = x.live; chain = x.laid.chain; pages = x.laid.pages } in
     let row = row_is d p c.args.channel low posted c.requires.runs c.index_mut.result.now c.index_mut.ensures.value in
-    (
-      begun d p c.args.channel low posted c.requires.runs no_job (job_of planned x.old (Writing 0)) refl asks refl is.behind c.prepare.new.pages.bits
-      (ready (state_of d p) c.requires.running c.requires.runs waits.command c.args.head c.args.new asks no_job c.args.running.now.chains c.prepare.new.pages.bits x is)
-      c.serve.new.self (c.serve.ensures ∙ ap (λ (r : Row). record r { stage = InJob }) row),
+    let begins = begun d p c.args.channel low posted c.requires.runs no_job (job_seen (first_job x c.args.channel c.args.head c.args.new)) refl asks refl is.behind c.prepare.new.pages.bits
+    (ready (state_of d p) c.requires.running c.requires.runs waits.command c.args.head c.args.new asks no_job c.args.running.now.chains c.prepare.new.pages.bits x is)
+    c.serve.new.self (c.serve.ensures ∙ ap (λ (r : Row). record r { stage = InJob }) row) in (
+      subst (λ (j : RunningJob). Begins (state_of d p) (state_of d (record p { rows = slice_set p.rows c.args.channel c.serve.new.self; pages = c.prepare.new.pages.bits; job = Some (job_seen j) }))) {x = first_job x c.args.channel c.args.head c.args.new} (sym c.job.ensures) begins,
       refl,
     )
 

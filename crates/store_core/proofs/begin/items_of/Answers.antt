@@ -1,5 +1,4 @@
-use Rattle.std.proofs.Common.{◌≡◌, ◌+◌, ◌<◌, ◌^◌, ℕ, List, length, Result, Ok, Err, IfOk, arith}
-use Rattle.descriptors.specs.declared.item.Item.{Item}
+use Rattle.std.proofs.Common.{Result, Ok, Err, IfOk, arith}
 use Rattle.blob_meta.specs.Items.{IsItemsOf}
 use Rattle.md_chain.specs.Packing.{ArePlannable, AreFew}
 use Rattle.md_chain.proofs.OfMeta.{few, plannable}

@@ -1,4 +1,4 @@
-use Rattle.std.proofs.Common.{◌≡◌, ℕ, List, Bool, true, false, All, ap, sym, subst, ◌∙◌}
+use Rattle.std.proofs.Common.{◌≡◌, List, Bool, true, false, All, ap, sym, subst, ◌∙◌}
 use Rattle.bit_array.specs.Bits.{is_in}
 use Rattle.store_model.specs.Places.{all_set}
 use Rattle.store_model.proofs.Sets.{are_distinct}
