@@ -8,6 +8,9 @@ use Rattle.volume_model.specs.declared.command.Command.{Command}
 use Rattle.store_model.specs.Rows.{Row, Stage, Idle, Posted, InJob, Decided, Ended}
 use Rattle.store_model.specs.Cases as kind
 use Rattle.store_core.specs.declared.rows.RowStage.TheVariants.{Meta, Over}
+use Rattle.store_core.specs.declared.begin.BeginTurn.{BeginTurn}
+use Rattle.store_core.specs.declared.begin.BeginTurn.TheVariants as begin
+use Rattle.store_core.specs.Begins.{BeginsOrNot}
 use Rattle.store_core.specs.Kept.{IsRunning, Kept}
 use Rattle.store_core.specs.Made.{Made}
 use Rattle.store_core.specs.Seen.{At, Both, rows_of, state_of}
@@ -69,3 +72,16 @@ either d p q a b goes_on runs stops = by p.at.stopped refl
     by : (o : Option ℕ) → p.at.stopped ≡ o → Kept d (record { at = q; opening = p.opening })
     by None is = goes_on a (runs is)
     by (Some at) is = goes_on b (stops (subst IsSome (sym is) refl))
+
+-- a job that begins or not, by whether the store is stopped
+pub begun_or_not : {D : Type 0} (d : Ghosts D) (p : Both D) (q : At D) (turn : BeginTurn) → ((k : kind.Kind) → Made d p.at q k → Kept d (record { at = q; opening = p.opening })) → (p.at.stopped ≡ None → BeginsOrNot d p.at q turn)
+    → (IsSome p.at.stopped → (turn ≡ begin.Logged) × Made d p.at q kind.halts) → Kept d (record { at = q; opening = p.opening })
+begun_or_not d p q turn goes_on runs stops = by p.at.stopped refl
+  where
+    made : (t : BeginTurn) → BeginsOrNot d p.at q t → Kept d (record { at = q; opening = p.opening })
+    made begin.Began x = goes_on kind.begins x
+    made begin.Logged x = goes_on kind.refuses x
+
+    by : (o : Option ℕ) → p.at.stopped ≡ o → Kept d (record { at = q; opening = p.opening })
+    by None is = made turn (runs is)
+    by (Some at) is = goes_on kind.halts (stops (subst IsSome (sym is) refl)).1

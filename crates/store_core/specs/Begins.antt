@@ -11,7 +11,17 @@ use Rattle.md_chain.specs.Chain.{Look, Chain}
 use Rattle.md_chain.specs.Packing.{parts_of, ArePlannable}
 use Rattle.md_chain.specs.Planned.{chain_pages, written_items}
 use Rattle.store_model.specs.Places.{all_set, AreLeastClear}
-use Rattle.store_model.specs.Jobs.{Needs}
+use Rattle.page_disk.specs.declared.disk.PageDisk.{Ghosts}
+use Rattle.volume_model.specs.declared.command.Command.{Command}
+use Rattle.blob_meta.specs.declared.job.Job.{Job as Given}
+use Rattle.blob_meta.specs.Jobs.{job_of_one}
+use Rattle.store_model.specs.Plants.{Plant}
+use Rattle.store_model.specs.Cases as kind
+use Rattle.store_model.specs.Jobs.{AsksFor, Needs}
+use Rattle.store_core.specs.Made.{Made}
+use Rattle.store_core.specs.Seen.{At}
+use Rattle.store_core.specs.declared.begin.BeginTurn.{BeginTurn}
+use Rattle.store_core.specs.declared.begin.BeginTurn.TheVariants as begin
 use Rattle.store_core.specs.declared.begin.Laid.{Laid}
 use Rattle.store_core.specs.declared.begin.Prepared.{Prepared}
 use Rattle.store_core.specs.declared.job.RunningJob.{RunningJob}
@@ -55,3 +65,21 @@ pub record LacksPages (meta : Meta) (bits : List Bool) : Type 0 where
 abbrev pub first_job : Prepared → ℕ → ℕ → Meta → RunningJob
 first_job x channel head meta =
     record { work = work.Writing (record { channel = channel; head = head; new = meta; live = x.live; chain = x.laid.chain; pages = x.laid.pages }) 0; old = x.old }
+
+-- a job of one replacement, which is its commit
+pub record ReplacesOne (job : Given) : Type 0 where
+  pub head : ℕ
+  pub new : Meta
+  pub is : job ≡ job_of_one head new
+
+-- the job that a command asks for
+pub record IsJobOf (p : Plant) (command : Command) (job : Given) : Type 0 where
+  pub head : ℕ
+  pub new : Meta
+  pub is : job ≡ job_of_one head new
+  pub asks : AsksFor p command head new
+
+-- the job begins, or its command is logged: too few pages are clear, or memory ran out
+abbrev pub BeginsOrNot : {D : Type 0} → Ghosts D → At D → At D → BeginTurn → Type 0
+BeginsOrNot d p q begin.Began = Made d p q kind.begins
+BeginsOrNot d p q begin.Logged = Made d p q kind.refuses

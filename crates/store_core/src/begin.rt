@@ -1,15 +1,16 @@
 //! The begin of a job.
 
-ghost use Rattle.std.specs.Prelude.{◌≡◌, ◌+◌, ◌<◌, ◌≤◌, ◌∷◌, [], Some, None, length, IfOk, IfErr, IfSome, IfNone};
+ghost use Rattle.std.specs.Prelude.{◌≡◌, ◌+◌, ◌<◌, ◌≤◌, ◌∷◌, [], Some, None, length, IfOk, IfErr, IfSome, IfNone, IsSome};
 ghost use Rattle.std.specs.FinMap as map;
 ghost use Rattle.std.specs.List.{All};
 ghost use Rattle.pools.specs.Pool.{clear_in};
 ghost use Rattle.blob_meta.specs.Items.{IsItemsOf};
+ghost use Rattle.blob_meta.specs.Jobs.{job_of_one};
 ghost use Rattle.md_chain.specs.Packing.{parts_of, ArePlannable, AreFew, FitsPage};
 ghost use Rattle.store_model.specs.Cases as kind;
 ghost use Rattle.store_model.specs.Jobs.{AsksFor};
 ghost use Rattle.store_core.specs.declared.begin.BeginTurn.TheVariants.{Began, Logged};
-ghost use Rattle.store_core.specs.Begins.{HasChain, IsLaid, IsPrepared, IsTaken, LacksPages};
+ghost use Rattle.store_core.specs.Begins.{BeginsOrNot, HasChain, IsJobOf, ReplacesOne, IsLaid, IsPrepared, IsTaken, LacksPages};
 ghost use Rattle.store_core.specs.Kept.{IsRunning};
 ghost use Rattle.store_core.specs.Made.{Made};
 ghost use Rattle.store_core.specs.Running.{at_of, InOrder};
@@ -19,9 +20,10 @@ ghost use Rattle.store_core.specs.Steps.{Asks, IsPostedAt};
 use crate::clearing::clear_places;
 use crate::job::{Planned, RunningJob, Work};
 use crate::logging::log;
+use crate::refusing::halt;
 use crate::running::Running;
 use crate::taking::take_pages;
-use blob_meta::{Chains, Meta, to_items};
+use blob_meta::{Chains, Job, Meta, Replacement, to_items};
 use descriptors::ItemList;
 use md_chain::{Plan, chain_len, plan_chain};
 use out_of_memory::Memory;
@@ -123,6 +125,53 @@ pub(crate) fn begin<D: PageDisk>(
             log(running, channel, Reply::Memory);
             BeginTurn::Logged
         }
+    }
+}
+
+/// Begins the job of one replacement, for the posted command of a channel, or, on a stopped store, logs that it is stopped.
+pub(crate) fn begin_or_halt<D: PageDisk>(
+    running: &mut Running<D>,
+    channel: u8,
+    job: Job,
+) -> BeginTurn
+    requires order { InOrder D.PageDisk running.old }
+    requires channel { channel < 16 }
+    requires posted { IsPostedAt (at_of running.old) channel }
+    requires replaces { ReplacesOne job }
+    requires asks { running.old.stopped ≡ None → Asks (at_of running.old) channel (λ command. IsJobOf (state_of D.PageDisk (at_of running.old)) command job) }
+    requires running { IsRunning (state_of D.PageDisk (at_of running.old)) }
+    requires no_job { running.old.job ≡ None }
+    ensures begins { running.old.stopped ≡ None → BeginsOrNot D.PageDisk (at_of running.old) (at_of running.new) result }
+    ensures halted { IsSome running.old.stopped → (result ≡ Logged) × Made D.PageDisk (at_of running.old) (at_of running.new) kind.halts }
+    ensures order { InOrder D.PageDisk running.new }
+{
+    if running.stopped.is_some() {
+        halt(running, channel);
+        return BeginTurn::Logged;
+    }
+    let (head, new) = replacement_of(job);
+    begin(running, channel, head, new)
+}
+
+/// The head and the new metadata of a job of one replacement.
+fn replacement_of(job: Job) -> (u32, Meta)
+    requires { ReplacesOne job }
+    ensures { job ≡ job_of_one result.0 result.1 }
+{
+    let Job {
+        list: mut replacements,
+        commit: _,
+        zero: _,
+        freeze: _,
+    } = job;
+    match replacements.pop() {
+        Some(
+            Replacement {
+                head,
+                new: Some(new),
+            },
+        ) => (head, new),
+        _ => unreachable!(),
     }
 }
 

@@ -18,6 +18,7 @@ mod running;
 mod taking;
 mod turns;
 
+pub use begin::BeginTurn;
 pub use job_turn::JobTurn;
 pub use loaded::Loaded;
 pub use plant::{Plant, SettleTurn};

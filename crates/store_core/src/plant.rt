@@ -2,6 +2,7 @@
 //! power may fail.
 
 use crate::answering::answer_or_halt;
+use crate::begin::{BeginTurn, begin_or_halt};
 use crate::job_turn::{JobTurn, job_turn};
 use crate::keeping::goes_on;
 use crate::refusing::refuse_or_halt;
@@ -9,7 +10,7 @@ use crate::right::MdRight;
 use crate::rows::RowStage;
 use crate::running::Running;
 use crate::turns::{end, post, settle};
-use blob_meta::Metas;
+use blob_meta::{Job, Metas};
 use page_disk::PageDisk;
 use std::marker::Model;
 use std::snapshot::Snapshot;
@@ -54,6 +55,8 @@ impl<D: PageDisk> Plant<D> {
     ghost use Rattle.store_model.specs.Rows.{Posted, Decided};
     ghost use Rattle.store_core.specs.declared.rows.RowStage.TheVariants.{Meta, Over};
     ghost use Rattle.store_core.specs.declared.plant.SettleTurn.TheVariants.{Waiting, Logged};
+    ghost use Rattle.store_core.specs.declared.begin.BeginTurn.TheVariants.{Logged as LoggedNow};
+    ghost use Rattle.store_core.specs.Begins.{BeginsOrNot, IsJobOf, ReplacesOne};
     ghost use Rattle.store_core.specs.JobTurns.{answer_of, TurnsJob};
     ghost use Rattle.store_core.specs.Kept.{Kept};
     ghost use Rattle.store_core.specs.Made.{Made};
@@ -148,13 +151,28 @@ impl<D: PageDisk> Plant<D> {
     /// store it is logged as that.
     pub fn refuse(&mut self, _right: &mut MdRight, msg: Msg, reply: Reply)
         requires posted { (rows_of self.old.at.rows msg.channel).stage ≡ Posted msg.serial }
-        requires why { Asks self.old.at msg.channel (λ command. IsRefusedBy (state_of D.PageDisk self.old.at) command reply) }
+        requires why { self.old.at.stopped ≡ None → Asks self.old.at msg.channel (λ command. IsRefusedBy (state_of D.PageDisk self.old.at) command reply) }
         ensures refused { self.old.at.stopped ≡ None → Made D.PageDisk self.old.at self.new.at kind.refuses }
         ensures halted { IsSome self.old.at.stopped → Made D.PageDisk self.old.at self.new.at kind.halts }
         ensures opening { self.new.opening ≡ self.old.opening }
     {
         goes_on::<D>();
         refuse_or_halt(&mut self.running, msg.channel, reply);
+    }
+
+    /// Begins the job that the command asks for which a message posts. `Logged` comes where fewer pages are clear than it needs
+    /// behind its head, where memory ran out, and on a stopped store, as which the command is logged then.
+    pub fn begin_job(&mut self, _right: &mut MdRight, msg: Msg, job: Job) -> BeginTurn
+        requires posted { (rows_of self.old.at.rows msg.channel).stage ≡ Posted msg.serial }
+        requires no_job { self.old.at.job ≡ None }
+        requires replaces { ReplacesOne job }
+        requires asks { self.old.at.stopped ≡ None → Asks self.old.at msg.channel (λ command. IsJobOf (state_of D.PageDisk self.old.at) command job) }
+        ensures begins { self.old.at.stopped ≡ None → BeginsOrNot D.PageDisk self.old.at self.new.at result }
+        ensures halted { IsSome self.old.at.stopped → (result ≡ LoggedNow) × Made D.PageDisk self.old.at self.new.at kind.halts }
+        ensures opening { self.new.opening ≡ self.old.opening }
+    {
+        goes_on::<D>();
+        begin_or_halt(&mut self.running, msg.channel, job)
     }
 
     /// One phase of the running job: its next device calls. `More` where it runs on, `Done` with its last, `Stopped` where one
