@@ -32,7 +32,7 @@ use pools::PagePool;
 use std::alloc::Global;
 use volume_model::{PlaceList, Reply, TryCopy, XattrList};
 
-/// Metadata is written that has fewer attributes and slots together.
+/// Metadata with as many attributes and slots together isn't written: what counts the pages of a chain takes fewer.
 const MOST_PARTS: usize = (1 << 31) - 2;
 
 /// What the begin of a job comes to.
@@ -53,6 +53,7 @@ pub(crate) struct Laid {
 /// What a job needs besides the metadata that it writes.
 #[derive(Drop)]
 pub(crate) struct Prepared {
+    /// The attributes of the metadata once more.
     pub(crate) live: XattrList,
     pub(crate) laid: Laid,
     /// The places that stand behind the head.
@@ -175,8 +176,8 @@ fn replacement_of(job: Job) -> (u32, Meta)
     }
 }
 
-/// Makes what a job needs for new metadata at a head, and takes its pages; `None` where too few are clear. But after that no
-/// page is taken.
+/// Makes what a job needs for new metadata at a head, and takes its pages; `None` where too few are clear. Pages are taken
+/// last: after `None` and after `Memory` the same ones are in use as before.
 fn prepare(
     alloc: Global,
     chains: &Chains,
@@ -204,7 +205,7 @@ fn prepare(
     Ok(Some(Prepared { live, laid, old }))
 }
 
-/// The items by which metadata is written.
+/// The items by which metadata is written: few enough for a chain, each short enough for a page.
 fn items_of(alloc: Global, new: &Meta) -> Result<ItemList, Memory>
     requires xattrs { All FitsPage new.now.xattrs }
     requires internal { All FitsPage new.now.internal }
@@ -219,7 +220,7 @@ fn items_of(alloc: Global, new: &Meta) -> Result<ItemList, Memory>
     to_items(alloc, new)
 }
 
-/// The places behind the head of a blob.
+/// The places that stand behind the head in the chain of a blob.
 fn places_behind(alloc: Global, chains: &Chains, head: u32) -> Result<PlaceList, Memory>
     requires { HasChain chains.now head }
     ensures { IfOk result (λ behind. map.get chains.now head ≡ Some (head ∷ behind)) }
@@ -232,7 +233,7 @@ fn places_behind(alloc: Global, chains: &Chains, head: u32) -> Result<PlaceList,
     Ok(PlaceList::from_vec(behind))
 }
 
-/// Takes so many pages, and lays the items on the head and on these. After `Memory` no page is taken.
+/// Takes so many pages, and lays the items on the head and on these. After `Memory` the same pages are in use as before.
 fn take_chain(
     alloc: Global,
     pages: &mut PagePool,
@@ -259,7 +260,7 @@ fn take_chain(
     }
 }
 
-/// The items on the page of the head and on fresh ones.
+/// The chain of a head and fresh places on which the items are written.
 fn lay(alloc: Global, items: &ItemList, head: u32, fresh: &PlaceList) -> Result<Laid, Memory>
     requires plannable { ArePlannable items.now }
     requires few { AreFew items.now }
