@@ -1,24 +1,22 @@
 -- What an answer in memory is in the volumes that are shown.
-use Rattle.std.proofs.Common.{◌≡◌, ◌≢◌, ℕ, Bool, true, List, [], Option, Some, None, refl, sym, ap, subst, ◌∙◌, inl, inr}
+use Rattle.std.proofs.Common.{◌≡◌, ℕ, Option, Some, None, refl, sym, ap, subst, ◌∙◌, inl, inr}
 use Rattle.std.specs.Prelude.{IfSome}
 use Rattle.std.specs.Option.{option_map, option_and_then}
 use Rattle.std.specs.Ordering.{nat_cmp}
 use Rattle.std.specs.FinMap as map
 use Rattle.std.proofs.lemmas.Bool.{cases_eq}
 use Rattle.std.proofs.Math.Path.{fun_ext}
-use Rattle.super_block.specs.declared.page.Super.{Super}
 use Rattle.volume_model.specs.Volumes.{Fixed, Volume, Volumes, head_of}
 use Rattle.volume_model.specs.Xattrs.{Xattrs, value_of, with_value, without}
 use Rattle.volume_model.specs.Refusals.{refusal}
 use Rattle.volume_model.specs.Steps.{Allowed, change, edited_at, volume_at}
-use Rattle.volume_model.specs.declared.command.VolumeRef.{VolumeRef}
 use Rattle.volume_model.specs.declared.command.VolumeRef.TheVariants.{Head}
 use Rattle.volume_model.specs.declared.command.Command.{Command}
 use Rattle.volume_model.specs.declared.command.Command.TheVariants as c
 use Rattle.volume_model.specs.declared.reply.Reply.{Reply}
 use Rattle.volume_model.specs.declared.reply.Reply.TheVariants as r
 use Rattle.blob_meta.specs.declared.meta.Meta.{Meta}
-use Rattle.blob_meta.specs.Asked.{head_in, blob_named, IsCause, IsFirstCause, ShowsBlob}
+use Rattle.blob_meta.specs.Asked.{head_in, IsCause, ShowsBlob}
 use Rattle.blob_meta.specs.Parents.{is_read_only}
 use Rattle.store_model.specs.Maps.{Map, given}
 use Rattle.store_model.specs.Shown.{fixed_of, volume_of}
@@ -32,7 +30,7 @@ use Rattle.store_model.proofs.Synced.{edited_here, edited_there}
 use Rattle.store_core.specs.declared.answering.Effect.{Effect}
 use Rattle.store_core.specs.declared.answering.NewLive.{NewLive}
 use Rattle.store_core.proofs.Maps.{insert_given}
-use Rattle.store_core.specs.Answering.{ComesTo, Does, IsDone, IsRefused}
+use Rattle.store_core.specs.Answering.{ComesTo, Does}
 
 -- ---- what a running store shows of a blob
 

@@ -1,5 +1,5 @@
 -- Whatever turn is made, power may fail at any moment of it.
-use Rattle.std.proofs.Common.{◌≡◌, ℕ, Bool, List, ◌++◌, ◌∷◌, [], Some, None, refl, sym, ap, ◌∙◌, inl, inr, IsTrue}
+use Rattle.std.proofs.Common.{◌≡◌, ℕ, List, ◌++◌, ◌∷◌, [], Some, None, refl, sym, ap, ◌∙◌, inl, inr, IsTrue}
 use Rattle.page_disk.specs.Disk.{Telling}
 use Rattle.page_disk.specs.declared.disk.PageDisk.{Ghosts}
 use Rattle.super_block.specs.declared.page.Super.{Super}
@@ -8,7 +8,7 @@ use Rattle.volume_model.specs.Volumes.{Volumes}
 use Rattle.volume_model.specs.declared.command.Command.{Command}
 use Rattle.volume_model.specs.declared.reply.Reply.TheVariants as r
 use Rattle.store_model.specs.Rows.{entry_of}
-use Rattle.store_model.specs.Plants.{Job, Plant, Writing}
+use Rattle.store_model.specs.Plants.{Job, Plant}
 use Rattle.store_model.specs.Cases.{Kind}
 use Rattle.store_model.specs.Cases as kind
 use Rattle.store_model.specs.Standing.{Facts}

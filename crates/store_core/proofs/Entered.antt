@@ -1,10 +1,10 @@
 -- The state once an entry is logged.
-use Rattle.std.proofs.Common.{◌≡◌, ℕ, ◌<◌, ◌++◌, ◌∷◌, [], List, length, refl, sym, ◌∙◌, ap, subst}
+use Rattle.std.proofs.Common.{◌≡◌, ℕ, ◌<◌, List, length, ◌∙◌, ap}
 use Rattle.page_disk.specs.declared.disk.PageDisk.{Ghosts}
 use Rattle.volume_model.specs.declared.command.Command.{Command}
 use Rattle.volume_model.specs.declared.reply.Reply.{Reply}
 use Rattle.store_model.specs.Rows.{Decided, Rows}
-use Rattle.store_model.specs.Plants.{Plant, logged}
+use Rattle.store_model.specs.Plants.{logged}
 use Rattle.store_core.specs.Seen.{At, device_of, state_of}
 use Rattle.store_core.specs.Steps.{logged_at}
 use Rattle.store_core.proofs.Rowing.{rows_set}

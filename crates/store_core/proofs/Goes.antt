@@ -1,10 +1,9 @@
 -- What is kept of a running store, at its start and over each turn.
-use Rattle.std.proofs.Common.{◌≡◌, ℕ, List, [], ◌++◌, ◌∷◌, refl, sym, subst, IsTrue}
+use Rattle.std.proofs.Common.{[], ◌++◌, ◌∷◌, refl, IsTrue}
 use Rattle.std.specs.FinMap as map
 use Rattle.page_disk.specs.Disk.{Telling}
 use Rattle.page_disk.specs.declared.disk.PageDisk.{Ghosts}
 use Rattle.super_block.specs.Placed.{IsPlaced}
-use Rattle.volume_model.specs.declared.command.Command.{Command}
 use Rattle.store_model.specs.Cases.{Kind}
 use Rattle.store_model.specs.Plants.{Opens, shown}
 use Rattle.store_model.specs.PlantLaws.{IsLoadedWith}
@@ -12,7 +11,7 @@ use Rattle.store_model.specs.Standing.{Facts}
 use Rattle.store_core.specs.Kept.{Kept, script_of}
 use Rattle.store_core.specs.Made.{Made}
 use Rattle.store_core.specs.Seen.{At, Both, state_of}
-use Rattle.store_core.specs.Surviving.{HasOneImage, Holds, Survives}
+use Rattle.store_core.specs.Surviving.{Holds}
 use Rattle.store_core.proofs.CrashProof.{case_of, survives_turn}
 use Rattle.store_core.proofs.Survived.{CrashLaws, survives_start}
 

@@ -1,38 +1,38 @@
 -- What a crash may leave over the turn that writes a job's head, and over one that fails.
-use Rattle.std.proofs.Common.{◌≡◌, ◌≢◌, ◌⊎◌, ℕ, zero, suc, ◌+◌, ◌≤◌, ◌<◌, Bool, true, false, List, [], ◌∷◌, ◌++◌, length, Option, Some, None, refl, sym, ap, subst, ◌∙◌, inl, inr, arith, IsTrue}
+use Rattle.std.proofs.Common.{◌≡◌, ℕ, suc, ◌+◌, ◌<◌, Bool, true, List, [], ◌∷◌, ◌++◌, length, Some, None, refl, sym, ap, subst, ◌∙◌, inl, inr, arith, IsTrue}
 use Rattle.std.specs.Prelude.{slice_get}
 use Rattle.std.specs.FinMap as map
-use Rattle.page_disk.specs.Disk.{Image, Images, Only, Telling, Written, with_page}
-use Rattle.page_disk.specs.Moments.{IsReplaced, Leaves, LeavesOnly}
+use Rattle.page_disk.specs.Disk.{Image, Images, Telling, with_page}
+use Rattle.page_disk.specs.Moments.{IsReplaced, LeavesOnly}
 use Rattle.page_disk.specs.declared.disk.PageDisk.{Ghosts}
 use Rattle.super_block.specs.declared.page.Super.{Super}
 use Rattle.super_block.specs.Placed.{IsPlaced}
-use Rattle.volume_model.specs.Volumes.{Volumes, zero_page}
+use Rattle.volume_model.specs.Volumes.{Volumes}
 use Rattle.volume_model.specs.Steps.{change}
 use Rattle.volume_model.specs.declared.command.Command.{Command}
 use Rattle.volume_model.specs.declared.reply.Reply.TheVariants as r
 use Rattle.volume_model.specs.declared.reply.Entry.{Entry}
 use Rattle.md_chain.specs.Chain.{is_among}
 use Rattle.store_model.specs.Maps.{Metas, Chains, given}
-use Rattle.store_model.specs.Regions.{look_of, region_of}
+use Rattle.store_model.specs.Regions.{region_of}
 use Rattle.store_model.specs.Scans.{MetaAt}
 use Rattle.store_model.specs.Shown.{fixed_of}
 use Rattle.store_model.specs.Recovers.{Recovers, RecoversAt, RecoversFrom}
 use Rattle.store_model.specs.State.{Device}
-use Rattle.store_model.specs.Rows.{entry_of, InJob}
-use Rattle.store_model.specs.Plants.{Job, Phase, Writing, Erasing, Plant, planned_at, logged, shown}
+use Rattle.store_model.specs.Rows.{entry_of}
+use Rattle.store_model.specs.Plants.{Job, Writing, Erasing, Plant, planned_at, logged, shown}
 use Rattle.store_model.specs.Places.{held_by}
-use Rattle.store_model.specs.Cases.{after_commit, Commits, Fails, live_of, Moves, read_after, Runs, commits}
+use Rattle.store_model.specs.Cases.{after_commit, Commits, live_of, Moves, read_after, commits}
 use Rattle.store_model.specs.PlantLaws.{IsSameBehind}
 use Rattle.store_model.specs.Standing.{Facts}
 use Rattle.store_model.proofs.JobKept.{among_at, held_writing}
 use Rattle.store_model.proofs.Moved.{served_by}
 use Rattle.store_model.proofs.Sets.{among_either}
 use Rattle.store_core.specs.Seen.{At, device_of, read_now, state_of}
-use Rattle.store_core.specs.Made.{MadeCommit, MadeFailed, TouchesHead, TouchesPlace}
+use Rattle.store_core.specs.Made.{MadeCommit, MadeFailed, TouchesHead}
 use Rattle.store_core.specs.Surviving.{CanBeLoaded, ComesBack, Holds, Survives}
 use Rattle.store_core.proofs.Holding.{behind_stays, holds_head, holds_now}
-use Rattle.store_core.proofs.Survived.{CrashLaws, fewer, from_before, holds_loaded, marks_more, still_is, told_reads, whole_after}
+use Rattle.store_core.proofs.Survived.{CrashLaws, fewer, from_before, marks_more, still_is, told_reads, whole_after}
 use Rattle.store_core.proofs.JobSurvives.{Q, back, left, now_is, run}
 
 -- where a place of the list stands

@@ -1,16 +1,14 @@
 -- What images hold while a job writes its pages.
-use Rattle.std.proofs.Common.{◌≡◌, ◌≢◌, ℕ, ◌+◌, ◌*◌, ◌≤◌, ◌<◌, Bool, true, false, List, [], ◌∷◌, Some, None, refl, sym, ap, subst, ◌∙◌, inl, inr, arith, IsTrue}
-use Rattle.std.specs.Prelude.{◌==◌, if◌then◌else◌}
+use Rattle.std.proofs.Common.{◌≡◌, ◌≢◌, ℕ, ◌+◌, ◌<◌, true, false, List, ◌∷◌, Some, refl, sym, ap, subst, ◌∙◌, inl, inr, arith}
+use Rattle.std.specs.Prelude.{◌==◌}
 use Rattle.std.proofs.lemmas.Bool.{cases_lt, cond-true, cond-false, eq-eqb, false_from_ne_true, ne_eqb}
 use Rattle.page_disk.specs.Disk.{Image, Images, Puts, Written, with_page}
-use Rattle.page_disk.specs.declared.disk.PageDisk.{Ghosts}
 use Rattle.page_disk.specs.declared.disk.WriteKind.TheVariants.{Plain}
 use Rattle.super_block.specs.declared.page.Super.{Super}
 use Rattle.super_block.specs.Page.{super_of}
 use Rattle.super_block.specs.Faults.{super_fault}
 use Rattle.super_block.specs.Placed.{IsPlaced}
-use Rattle.super_block.specs.Numbers.{cluster_pages_of, fixed_clusters_of, super_page}
-use Rattle.blob_meta.specs.declared.meta.Meta.{Meta}
+use Rattle.super_block.specs.Numbers.{super_page}
 use Rattle.md_chain.specs.Chain.{is_among}
 use Rattle.store_model.specs.Maps.{Metas, Chains, given}
 use Rattle.store_model.specs.Regions.{look_of, region_of}

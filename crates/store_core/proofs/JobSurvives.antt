@@ -1,10 +1,10 @@
 -- What a crash may leave over each turn of a job.
-use Rattle.std.proofs.Common.{◌≡◌, ◌≢◌, ◌⊎◌, ℕ, zero, suc, ◌+◌, ◌≤◌, ◌<◌, Bool, true, false, List, [], ◌∷◌, ◌++◌, length, Option, Some, None, refl, sym, ap, subst, ◌∙◌, inl, inr, arith, IsTrue}
+use Rattle.std.proofs.Common.{◌≡◌, ℕ, suc, ◌+◌, ◌<◌, Bool, true, false, List, ◌∷◌, length, Some, None, refl, sym, ap, subst, ◌∙◌, inl, inr, arith, IsTrue}
 use Rattle.std.specs.Prelude.{slice_get}
 use Rattle.std.specs.FinMap as map
 use Rattle.std.proofs.lemmas.Bool.{cases_eq, cases_lt}
-use Rattle.page_disk.specs.Disk.{Image, Images, Only, Telling, Written, with_page}
-use Rattle.page_disk.specs.Moments.{IsReplaced, Leaves, LeavesOnly}
+use Rattle.page_disk.specs.Disk.{Image, Images, Telling, Written, with_page}
+use Rattle.page_disk.specs.Moments.{LeavesOnly}
 use Rattle.page_disk.specs.Marks.{MarksKept}
 use Rattle.page_disk.specs.declared.disk.PageDisk.{Ghosts}
 use Rattle.page_disk.specs.declared.disk.WriteKind.TheVariants.{Plain}
@@ -12,28 +12,25 @@ use Rattle.super_block.specs.declared.page.Super.{Super}
 use Rattle.super_block.specs.Placed.{IsPlaced}
 use Rattle.volume_model.specs.Volumes.{Volumes, zero_page}
 use Rattle.volume_model.specs.declared.command.Command.{Command}
-use Rattle.volume_model.specs.declared.reply.Reply.TheVariants as r
 use Rattle.volume_model.specs.declared.reply.Entry.{Entry}
 use Rattle.md_chain.specs.Chain.{is_among}
-use Rattle.store_model.specs.Maps.{Metas, Chains, given}
+use Rattle.store_model.specs.Maps.{Metas, Chains}
 use Rattle.store_model.specs.Regions.{look_of, region_of}
 use Rattle.store_model.specs.Scans.{is_head, MetaAt, Unlinked}
-use Rattle.store_model.specs.Recovers.{Recovers, RecoversAt, RecoversFrom}
+use Rattle.store_model.specs.Recovers.{RecoversAt}
 use Rattle.store_model.specs.State.{Device}
-use Rattle.store_model.specs.Rows.{entry_of}
-use Rattle.store_model.specs.Plants.{Job, Phase, Writing, Erasing, Plant, planned_at, logged}
+use Rattle.store_model.specs.Plants.{Job, Writing, Erasing, Plant, planned_at}
 use Rattle.store_model.specs.Places.{held_by}
-use Rattle.store_model.specs.Cases.{after_commit, BreaksOff, Commits, Erases, Fails, Frees, Moves, read_after, Runs, WritesFresh, commits}
+use Rattle.store_model.specs.Cases.{Moves, read_after}
 use Rattle.store_model.specs.PlantLaws.{IsSameBehind}
-use Rattle.store_model.specs.Standing.{Facts, RunsWell}
+use Rattle.store_model.specs.Standing.{Facts}
 use Rattle.store_model.proofs.JobKept.{among_at, held_erasing, held_writing}
-use Rattle.store_model.proofs.Moved.{erased_by, served_by}
 use Rattle.store_model.proofs.Used.{within}
 use Rattle.store_core.specs.Seen.{At, device_of, read_now, state_of}
-use Rattle.store_core.specs.Made.{MadeBroken, MadeCommit, MadeErased, MadeFailed, MadeFreed, MadeFresh, TouchesHead, TouchesPlace}
+use Rattle.store_core.specs.Made.{MadeBroken, MadeErased, MadeFreed, MadeFresh, TouchesPlace}
 use Rattle.store_core.specs.Surviving.{CanBeLoaded, ComesBack, Holds, Survives}
-use Rattle.store_core.proofs.Holding.{behind_stays, holds_head, holds_now, holds_written, look_elsewhere, look_written, unlinked}
-use Rattle.store_core.proofs.Survived.{CrashLaws, from_before, holds_loaded, holds_whole, marks_more, marks_same, still_is, told_reads, whole_after, whole_before}
+use Rattle.store_core.proofs.Holding.{behind_stays, holds_now, holds_written, look_elsewhere, look_written, unlinked}
+use Rattle.store_core.proofs.Survived.{CrashLaws, marks_same, told_reads, whole_before}
 
 module _ {D : Type 0} (d : Ghosts D) (laws : CrashLaws) (told : IsTrue d.tells) (law : IsTrue d.tells → Telling d.now d.images d.since d.clock) (s : Super) (placed : IsPlaced s) (first : Volumes) (script : ℕ → List Command)
     (p q : At D) (old : Survives d s first p) (facts : Facts s first script (state_of d p)) (after : Facts s first script (state_of d q)) where

@@ -17,3 +17,4 @@ pub mod JobTurned
 pub mod JobCommitted
 pub mod Goes
 pub mod Posting
+pub mod Starts

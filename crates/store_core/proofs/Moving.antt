@@ -1,5 +1,5 @@
 -- What device calls make of what is seen of the device.
-use Rattle.std.proofs.Common.{◌≡◌, ℕ, ◌+◌, ◌≤◌, Bool, true, false, List, Result, Ok, Err, refl, ap, arith, IsTrue}
+use Rattle.std.proofs.Common.{◌≡◌, ℕ, ◌+◌, ◌≤◌, Bool, true, false, List, Result, Ok, Err, refl, IsTrue}
 use Rattle.std.specs.Prelude.{OnOk, OnErr, if◌then◌else◌}
 use Rattle.page_disk.specs.Disk.{HasCause, Image, with_page}
 use Rattle.page_disk.specs.declared.disk.PageDisk.{Ghosts}

@@ -1,35 +1,28 @@
 -- What a crash may leave, at the start of a store and over each turn.
-use Rattle.std.proofs.Common.{◌≡◌, ◌≢◌, ◌⊎◌, ℕ, zero, suc, ◌+◌, ◌≤◌, ◌<◌, Bool, true, false, List, [], ◌∷◌, ◌++◌, length, Option, Some, None, refl, sym, ap, subst, ◌∙◌, inl, inr, ⊎_elim, arith, IsTrue, get_or, length-append}
+use Rattle.std.proofs.Common.{◌≡◌, ◌⊎◌, ℕ, ◌+◌, ◌≤◌, ◌<◌, List, [], ◌∷◌, ◌++◌, length, Some, None, refl, sym, ap, subst, ◌∙◌, inl, inr, arith, IsTrue, get_or, length-append}
 use Rattle.std.specs.Prelude.{slice_get}
 use Rattle.std.specs.FinMap as map
-use Rattle.page_disk.specs.Disk.{Image, Images, Only, Telling, Written, with_page}
-use Rattle.page_disk.specs.Moments.{IsReplaced, Leaves, LeavesOnly}
+use Rattle.page_disk.specs.Disk.{Image, Images, Only, Telling}
+use Rattle.page_disk.specs.Moments.{Leaves, LeavesOnly}
 use Rattle.page_disk.specs.Marks.{MarksKept}
 use Rattle.page_disk.specs.declared.disk.PageDisk.{Ghosts}
 use Rattle.page_disk.proofs.Moments.{started}
 use Rattle.page_disk.proofs.Marks.{first_mark, kept_by_run, marked_after_run}
 use Rattle.super_block.specs.declared.page.Super.{Super}
 use Rattle.super_block.specs.Placed.{IsPlaced}
-use Rattle.volume_model.specs.Volumes.{Volumes, zero_page}
+use Rattle.volume_model.specs.Volumes.{Volumes}
 use Rattle.volume_model.specs.Steps.{IsRefusal}
 use Rattle.volume_model.specs.declared.command.Command.{Command}
-use Rattle.volume_model.specs.declared.reply.Reply.TheVariants as r
 use Rattle.volume_model.specs.declared.reply.Entry.{Entry}
-use Rattle.blob_meta.specs.declared.meta.Meta.{Meta}
-use Rattle.md_chain.specs.Chain.{is_among}
-use Rattle.store_model.specs.Maps.{Metas, Chains, given}
+use Rattle.store_model.specs.Maps.{Metas, Chains}
 use Rattle.store_model.specs.Regions.{look_of, region_of}
-use Rattle.store_model.specs.Scans.{Unlinked}
 use Rattle.store_model.specs.Laws.{GrowthLaws, ScanLaws}
 use Rattle.store_model.specs.Recovers.{Recovers, RecoversAt, RecoversFrom}
-use Rattle.store_model.specs.State.{Device}
-use Rattle.store_model.specs.Rows.{entry_of}
-use Rattle.store_model.specs.Plants.{Job, Phase, Writing, Erasing, Plant, planned_at}
-use Rattle.store_model.specs.PlantLaws.{IsSameBehind, JobLaws, PlantLaws}
+use Rattle.store_model.specs.Plants.{Job, Writing, planned_at}
+use Rattle.store_model.specs.PlantLaws.{JobLaws, PlantLaws}
 use Rattle.store_model.specs.Standing.{Facts}
 use Rattle.store_core.specs.Seen.{At, read_now, state_of}
 use Rattle.store_core.specs.Surviving.{CanBeLoaded, ComesBack, Holds, Survives}
-use Rattle.store_core.proofs.Holding.{holds_now}
 
 -- the laws that are used
 pub record CrashLaws : Type 0 where

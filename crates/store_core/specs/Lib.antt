@@ -10,3 +10,4 @@ pub mod Kept
 pub mod Answering
 pub mod JobTurns
 pub mod Begins
+pub mod Opening

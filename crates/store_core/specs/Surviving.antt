@@ -1,5 +1,5 @@
 -- What a crash may leave of a device on which a store runs, at any moment since the store was loaded.
-use Rattle.std.specs.Prelude.{◌≡◌, ℕ, ◌<◌, Some, None, IsTrue, slice_get, length}
+use Rattle.std.specs.Prelude.{◌≡◌, ℕ, ◌<◌, Some, None, IsTrue, slice_get}
 use Rattle.std.specs.FinMap as map
 use Rattle.page_disk.specs.Disk.{Image, Only}
 use Rattle.page_disk.specs.Marks.{MarksKept}

@@ -15,6 +15,7 @@ mod refusing;
 mod right;
 mod rows;
 mod running;
+mod starting;
 mod taking;
 mod turns;
 

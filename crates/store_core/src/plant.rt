@@ -4,18 +4,21 @@
 use crate::answering::answer_or_halt;
 use crate::begin::{BeginTurn, begin_or_halt};
 use crate::job_turn::{JobTurn, job_turn};
-use crate::keeping::goes_on;
+use crate::keeping::{begins, goes_on};
+use crate::loaded::Loaded;
 use crate::refusing::refuse_or_halt;
 use crate::right::MdRight;
 use crate::rows::RowStage;
 use crate::running::Running;
+use crate::starting::{parts_at_start, running_at_start};
 use crate::turns::{end, post, settle};
 use blob_meta::{Job, Metas};
 use page_disk::PageDisk;
+use std::alloc::Global;
 use std::marker::Model;
 use std::snapshot::Snapshot;
-use super_block::Super;
-use volume_model::{Entry, Msg, Reply, XattrList};
+use super_block::{Super, regions_are_placed};
+use volume_model::{Entry, Msg, Reply, Script, XattrList};
 
 /// A running store on a device. Contracts see its state and how it began; the latter takes no memory.
 pub struct Plant<D: PageDisk> {
@@ -47,8 +50,9 @@ pub enum SettleTurn {
 }
 
 impl<D: PageDisk> Plant<D> {
-    ghost use Rattle.std.specs.Prelude.{◌≡◌, ◌≢◌, ◌⊎◌, ◌≤◌, ◌<◌, None, Some, IsSome, IsTrue, is_some, option_copied};
+    ghost use Rattle.std.specs.Prelude.{◌≡◌, ◌≢◌, ◌⊎◌, ◌+◌, ◌≤◌, ◌<◌, None, Some, IsSome, IsTrue, IfOk, IfErr, is_some, option_copied};
     ghost use Rattle.std.specs.FinMap as map;
+    ghost use Rattle.super_block.specs.Faults.{IsFaultless};
     ghost use Rattle.blob_meta.specs.Asked.{IsOnHead};
     ghost use Rattle.store_model.specs.Cases.{IsInMemory, IsRefusedBy};
     ghost use Rattle.store_model.specs.Cases as kind;
@@ -60,9 +64,39 @@ impl<D: PageDisk> Plant<D> {
     ghost use Rattle.store_core.specs.JobTurns.{answer_of, TurnsJob};
     ghost use Rattle.store_core.specs.Kept.{Kept};
     ghost use Rattle.store_core.specs.Made.{Made};
+    ghost use Rattle.store_core.specs.Opening.{IsOpened};
     ghost use Rattle.store_core.specs.Seen.{rows_of, state_of};
     ghost use Rattle.store_core.specs.Stages.{is_stage};
     ghost use Rattle.store_core.specs.Steps.{Asks};
+    ghost use Rattle.store_core.specs.Surviving.{Holds};
+    ghost use Rattle.store_core.specs.Whole.{IsWhole};
+
+    /// A store with nothing posted or logged, on what was loaded of the device, and the one right to change its metadata. All
+    /// memory is taken first, the log's room too; `Err` is want of memory, and gives back what was loaded.
+    pub fn start(
+        alloc: Global,
+        loaded: Loaded<D>,
+        script: Script,
+    ) -> Result<(Plant<D>, MdRight), Loaded<D>>
+        requires whole { IsWhole loaded }
+        requires faultless { IsFaultless loaded.sup }
+        requires holds { IsTrue D.tells → Holds loaded.sup (map.get loaded.metas) (map.get loaded.chains) (D.now loaded.disk) (D.now loaded.disk) }
+        requires inside { loaded.sup.md_start + loaded.sup.md_len ≤ D.pages loaded.disk }
+        ensures opened { IfOk result (λ made. IsOpened D.PageDisk loaded script made.0.at) }
+        ensures opening { IfOk result (λ made. made.0.opening ≡ made.0.at) }
+        ensures memory { IfErr result (λ back. back ≡ loaded) }
+    {
+        begins::<D>();
+        regions_are_placed();
+        let clock = loaded.disk.clock();
+        let Ok(parts) = parts_at_start(alloc, &loaded.metas, loaded.sup.md_len, script, clock)
+        else {
+            return Err(loaded);
+        };
+        let running = running_at_start(alloc, loaded, parts);
+        let opening = Snapshot::of(&running);
+        Ok((Plant { running, opening }, MdRight::new()))
+    }
 
     /// What a channel's row waits for. A number from 16 on has ended.
     pub fn stage(&self, channel: u8) -> RowStage

@@ -37,6 +37,7 @@ pub(crate) enum Stage {
 }
 
 /// What a channel has left of its commands, and how far the first of them has come. Contracts see both.
+#[derive(Drop)]
 pub(crate) struct Row {
     pub(crate) left: VecDeque<Command>,
     pub(crate) stage: Stage,
@@ -54,7 +55,7 @@ impl Model for Row {
 }
 
 impl Row {
-    ghost use Rattle.std.specs.Prelude.{◌≡◌, ◌∷◌, [], option_copied, slice_get, IfSome, IfNone};
+    ghost use Rattle.std.specs.Prelude.{◌≡◌, ◌∷◌, [], length, option_copied, slice_get, IfSome, IfNone};
     ghost use Rattle.store_model.specs.Rows.{Idle, Posted, InJob, Decided, Ended};
     ghost use Rattle.store_core.specs.Stages.{is_stage};
 
@@ -90,6 +91,13 @@ impl Row {
             Stage::Decided => RowStage::Decided,
             Stage::Ended => RowStage::Ended,
         }
+    }
+
+    /// How many commands are left.
+    pub(crate) fn len(&self) -> usize
+        ensures { result ≡ length self.now.left }
+    {
+        self.left.len()
     }
 
     /// The first command.

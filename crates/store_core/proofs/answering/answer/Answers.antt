@@ -1,22 +1,19 @@
-use Rattle.std.proofs.Common.{◌≡◌, ◌<◌, ℕ, List, length, Some, None, refl, sym, ◌∙◌, ap, subst, arith}
+use Rattle.std.proofs.Common.{◌<◌, List, length, refl, sym, ◌∙◌, ap, subst, arith}
 use Rattle.std.specs.FinMap as map
 use Rattle.std.specs.Option.{option_map}
 use Rattle.blob_meta.specs.Asked.{head_in}
 use Rattle.volume_model.specs.Xattrs.{Xattrs}
-use Rattle.volume_model.specs.Volumes.{Volumes}
-use Rattle.volume_model.specs.Steps.{change}
 use Rattle.volume_model.specs.declared.command.Command.{Command}
 use Rattle.volume_model.specs.declared.reply.Reply.TheVariants.{Memory}
 use Rattle.store_model.specs.Maps.{Map}
 use Rattle.store_model.specs.Rows.{Row}
-use Rattle.store_model.specs.Shown.{fixed_of}
-use Rattle.store_model.specs.Plants.{logged, shown}
-use Rattle.store_model.specs.Cases.{IsInMemory, live_of}
+use Rattle.store_model.specs.Plants.{logged}
+use Rattle.store_model.specs.Cases.{IsInMemory}
 use Rattle.store_core.specs.Answering.{ComesTo}
 use Rattle.store_core.specs.Jobs.{job_seen}
 use Rattle.store_core.specs.Running.{at_of}
 use Rattle.store_core.specs.Seen.{At, device_of, rows_of, state_of}
-use Rattle.store_core.proofs.Answered.{answered_by, answered_memory, live_after, live_kept}
+use Rattle.store_core.proofs.Answered.{answered_by, answered_memory, live_kept}
 use Rattle.store_core.proofs.Entered.{disk_same, entered}
 use Rattle.store_core.proofs.answering.answer.Goals as goal
 

@@ -4,7 +4,7 @@ use Rattle.std.specs.Option.{option_map}
 use Rattle.volume_model.specs.declared.reply.Reply.TheVariants.{Memory, NoPage}
 use Rattle.store_model.specs.Rows.{InJob, Row}
 use Rattle.store_model.specs.Shown.{fixed_of}
-use Rattle.store_model.specs.Plants.{logged, shown}
+use Rattle.store_model.specs.Plants.{shown}
 use Rattle.store_model.specs.Cases.{Begins}
 use Rattle.store_core.specs.Begins.{first_job, IsPrepared, LacksPages}
 use Rattle.store_core.specs.Jobs.{job_seen}

@@ -1,4 +1,4 @@
-use Rattle.std.proofs.Common.{◌≡◌, ◌<◌, length, ap, arith}
+use Rattle.std.proofs.Common.{◌<◌, length, ap, arith}
 use Rattle.volume_model.specs.declared.reply.Reply.TheVariants.{Stopped}
 use Rattle.store_model.specs.Rows.{Row}
 use Rattle.store_core.specs.Running.{at_of}

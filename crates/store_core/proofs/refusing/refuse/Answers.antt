@@ -1,4 +1,4 @@
-use Rattle.std.proofs.Common.{◌≡◌, ◌<◌, length, ap, arith}
+use Rattle.std.proofs.Common.{◌<◌, length, ap, arith}
 use Rattle.store_model.specs.Rows.{Row}
 use Rattle.store_core.specs.Running.{at_of}
 use Rattle.store_core.proofs.Entered.{disk_same, entered}

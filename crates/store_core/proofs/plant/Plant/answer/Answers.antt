@@ -2,7 +2,6 @@ use Rattle.std.proofs.Common.{◌≡◌, None, subst, sym}
 use Rattle.store_model.specs.Cases as kind
 use Rattle.store_core.specs.Running.{at_of, both}
 use Rattle.store_core.specs.Seen.{Both, rows_of}
-use Rattle.store_core.specs.Stages.{is_stage}
 use Rattle.blob_meta.specs.Asked.{IsOnHead}
 use Rattle.store_model.specs.Cases.{IsInMemory}
 use Rattle.store_model.specs.Rows.{Posted}

@@ -1,8 +1,4 @@
-use Rattle.std.proofs.Common.{◌≡◌, subst, sym}
-use Rattle.store_model.specs.Cases as kind
 use Rattle.store_core.specs.Running.{at_of, both}
-use Rattle.store_core.specs.Seen.{Both, rows_of}
-use Rattle.store_core.specs.Stages.{is_stage}
 use Rattle.store_core.proofs.plant.Plant.job_turn.Goals as goal
 
 pub invariant_of-self : goal.invariant_of-self

@@ -2,7 +2,6 @@ use Rattle.std.proofs.Common.{◌≡◌, subst, sym}
 use Rattle.store_model.specs.Cases as kind
 use Rattle.store_core.specs.Running.{at_of, both}
 use Rattle.store_core.specs.Seen.{Both, rows_of}
-use Rattle.store_core.specs.Stages.{is_stage}
 use Rattle.store_model.specs.Rows.{Posted}
 use Rattle.store_core.proofs.Posting.{either, posted_at}
 use Rattle.store_core.proofs.plant.Plant.refuse.Goals as goal

@@ -1,0 +1,162 @@
+-- What the loops of a start have made so far.
+use Rattle.std.proofs.Common.{◌≡◌, ℕ, ◌+◌, ◌<◌, ◌≤◌, Bool, true, false, cond, List, [], ◌∷◌, ◌++◌, length, Option, Some, None, refl, sym, ◌∙◌, ap, subst, ◌⊎◌, arith, inl, inr, length-append}
+use Rattle.std.specs.Prelude.{slice_index_or, slice_set, nat_lt}
+use Rattle.std.specs.Option.{option_map}
+use Rattle.std.specs.Ordering.{nat_cmp}
+use Rattle.std.specs.Cmp.{nat_cmp_total}
+use Rattle.std.specs.FinMap as map
+use Rattle.std.proofs.lemmas.Bool.{cases_eq, cases_lt}
+use Rattle.std.proofs.lemmas.List.{get_or_append_left, get_or_past, get_or_push, get_or-set_other}
+use Rattle.page_disk.specs.declared.disk.PageDisk.{Ghosts}
+use Rattle.super_block.specs.declared.page.Super.{Super}
+use Rattle.volume_model.specs.Xattrs.{Xattrs}
+use Rattle.volume_model.specs.declared.command.Command.{Command}
+use Rattle.blob_meta.specs.declared.meta.Meta.{Meta}
+use Rattle.io_freeze.specs.Guards.{GuardsState, no_guards, renewed}
+use Rattle.store_model.specs.Maps.{Metas}
+use Rattle.store_model.specs.PlantLaws.{IsLoadedWith}
+use Rattle.store_model.specs.Plants.{Opens}
+use Rattle.store_model.specs.Standing.{AreRoots}
+use Rattle.store_model.specs.Rows.{Row, Idle, Ended}
+use Rattle.store_model.proofs.Given.{given_here, given_elsewhere}
+use Rattle.store_core.specs.declared.loaded.Loaded.{Loaded}
+use Rattle.store_core.specs.Opening.{AreRows, IsLiveAtStart, opened_with, row_at_start}
+use Rattle.store_core.specs.Seen.{rows_of, state_of}
+use Rattle.store_core.specs.Whole.{IsWhole}
+use Rattle.store_core.proofs.Maps.{insert_given}
+
+-- the live attributes of the blobs whose heads are below this
+pub record LiveBelow (metas : map.FinMap nat_cmp Meta) (live : map.FinMap nat_cmp Xattrs) (end : ℕ) : Type 0 where
+  pub below : (h : ℕ) → h < end → map.get live h ≡ option_map (λ m. m.xattrs) (map.get metas h)
+  pub none : (h : ℕ) → end ≤ h → map.get live h ≡ None
+
+module _ (metas : map.FinMap nat_cmp Meta) (live : map.FinMap nat_cmp Xattrs) (end : ℕ) (so_far : LiveBelow metas live end) where
+  pub live_some : (m : Meta) → map.get metas end ≡ Some m → LiveBelow metas (map.insert live end m.xattrs) (end + 1)
+  live_some m is = record {
+    below = λ h lt. ap (λ f. f h) (insert_given live end m.xattrs) ∙ elim (cases_eq h end) [
+      | inl e ↦ given_here (map.get live) end m.xattrs h e ∙ sym (ap (λ o. option_map (λ (x : Meta). x.xattrs) o) (ap (map.get metas) e ∙ is))
+      | inr ne ↦ given_elsewhere (map.get live) end m.xattrs h ne ∙ so_far.below h (omega (arith, lt, ne))
+    ];
+    none = λ h ge. ap (λ f. f h) (insert_given live end m.xattrs) ∙ given_elsewhere (map.get live) end m.xattrs h (λ e. omega (arith, e, ge)) ∙ so_far.none h (omega (arith, ge));
+  }
+
+  pub live_none : map.get metas end ≡ None → LiveBelow metas live (end + 1)
+  live_none is = record {
+    below = λ h lt. elim (cases_eq h end) [
+      | inl e ↦ ap (map.get live) e ∙ so_far.none end (omega arith) ∙ sym (ap (λ o. option_map (λ (x : Meta). x.xattrs) o) (ap (map.get metas) e ∙ is))
+      | inr ne ↦ so_far.below h (omega (arith, lt, ne))
+    ];
+    none = λ h ge. so_far.none h (omega (arith, ge));
+  }
+
+  pub live_all : ((h : ℕ) → end ≤ h → map.get metas h ≡ None) → IsLiveAtStart metas live
+  live_all none h = elim (cases_lt h end) [
+    | inl lt ↦ so_far.below h lt
+    | inr ge ↦ so_far.none h ge ∙ sym (ap (λ o. option_map (λ (x : Meta). x.xattrs) o) (none h ge))
+  ]
+
+pub live_nothing : (metas : map.FinMap nat_cmp Meta) → LiveBelow metas map.empty 0
+live_nothing metas = record { below = λ h lt. absurd (omega (arith, lt)); none = λ h ge. map.get-empty nat_cmp h }
+
+-- guards of some of the heads below this, at most one each
+pub record GuardsBelow (guards : GuardsState) (heads end : ℕ) : Type 0 where
+  pub room : guards.room ≡ heads
+  pub few : map.len guards.generations ≤ end
+  pub drawn : guards.drawn ≤ end
+  pub none : (h : ℕ) → end ≤ h → map.get guards.generations h ≡ None
+
+pub guards_nothing : (room : ℕ) → GuardsBelow (no_guards room) room 0
+guards_nothing room = record {
+  room = refl;
+  few = omega (arith, map.len-empty nat_cmp ℕ);
+  drawn = omega arith;
+  none = λ h ge. map.get-empty nat_cmp h;
+}
+
+module _ (guards : GuardsState) (room end : ℕ) (so_far : GuardsBelow guards room end) where
+  pub guards_same : GuardsBelow guards room (end + 1)
+  guards_same = record {
+    room = so_far.room;
+    few = omega (arith, so_far.few);
+    drawn = omega (arith, so_far.drawn);
+    none = λ h ge. so_far.none h (omega (arith, ge));
+  }
+
+  more : (has : Bool) (n : ℕ) {m : ℕ} → m ≡ cond has n (n + 1) → n ≤ end → m ≤ end + 1
+  more true n e le = omega (arith, e, le)
+  more false n e le = omega (arith, e, le)
+
+  pub guards_more : GuardsBelow (renewed guards end) room (end + 1)
+  guards_more = record {
+    room = so_far.room;
+    few = more (map.contains_key guards.generations end) (map.len guards.generations) (map.len-insert nat_cmp_total guards.generations end (guards.drawn + 1)) so_far.few;
+    drawn = omega (arith, so_far.drawn);
+    none = λ h ge. ap (λ f. f h) (insert_given guards.generations end (guards.drawn + 1)) ∙ given_elsewhere (map.get guards.generations) end (guards.drawn + 1) h (λ e. omega (arith, e, ge)) ∙ so_far.none h (omega (arith, ge));
+  }
+
+-- the rows of the channels below this, and the script that is left
+pub record RowsBelow (script left : List (List Command)) (channels : ℕ) (rows : List Row) (end : ℕ) : Type 0 where
+  pub count : length rows ≡ end
+  pub each : (c : ℕ) → c < end → rows_of rows c ≡ row_at_start script channels c
+  pub rest : (c : ℕ) → end ≤ c → slice_index_or left c [] ≡ slice_index_or script c []
+
+pub rows_more : (script left : List (List Command)) (channels : ℕ) (rows : List Row) (end : ℕ) (row : Row) → RowsBelow script left channels rows end → row ≡ row_at_start script channels end → RowsBelow script (slice_set left end []) channels (rows ++ row ∷ []) (end + 1)
+rows_more script left channels rows end row x is = record {
+  count = length-append rows (row ∷ []) ∙ omega (arith, x.count);
+  each = λ c lt. elim (cases_lt c end) [
+    | inl below ↦ get_or_append_left rows (row ∷ []) (record { left = []; stage = Ended }) c (subst (λ n. c < n) (sym x.count) below) ∙ x.each c below
+    | inr ge ↦
+        let e : c ≡ end = omega (arith, lt, ge) in
+        get_or_push rows row (record { left = []; stage = Ended }) c (x.count ∙ sym e) ∙ is ∙ ap (row_at_start script channels) (sym e)
+  ];
+  rest = λ c ge. get_or-set_other left end c [] [] (λ e. omega (arith, e, ge)) ∙ x.rest c (omega (arith, ge));
+}
+
+pub rows_nothing : (script : List (List Command)) (channels : ℕ) → RowsBelow script script channels [] 0
+rows_nothing script channels = record { count = refl; each = λ c lt. absurd (omega (arith, lt)); rest = λ c ge. refl }
+
+pub row_with : (script : List (List Command)) (channels channel : ℕ) (left : List Command) → nat_lt channel channels ≡ true → left ≡ slice_index_or script channel [] → record { left = left; stage = Idle } ≡ row_at_start script channels channel
+row_with script channels channel left inside is =
+    ap (λ (l : List Command). record { left = l; stage = Idle }) is
+    ∙ sym (ap (λ (b : Bool). cond b (record { left = slice_index_or script channel []; stage = Idle }) (record { left = []; stage = Ended })) inside)
+
+pub row_past : (script : List (List Command)) (channels channel : ℕ) → nat_lt channel channels ≡ false → record { left = []; stage = Ended } ≡ row_at_start script channels channel
+row_past script channels channel past =
+    sym (ap (λ (b : Bool). cond b (record { left = slice_index_or script channel []; stage = Idle }) (record { left = []; stage = Ended })) past)
+
+-- a row waits at the start, or has ended
+module _ (script : List (List Command)) (rows : List Row) (are : AreRows script rows) where
+  waits_by : (channel : ℕ) (inside : Bool) → cond inside (record { left = slice_index_or script channel []; stage = Idle }) (record { left = []; stage = Ended }) ≡ rows_of rows channel → ((rows_of rows channel).stage ≡ Idle) ⊎ (rows_of rows channel ≡ record { left = []; stage = Ended })
+  waits_by channel true is = inl (sym (ap (λ (r : Row). r.stage) is))
+  waits_by channel false is = inr (sym is)
+
+  pub rows_wait : (channel : ℕ) → ((rows_of rows channel).stage ≡ Idle) ⊎ (rows_of rows channel ≡ record { left = []; stage = Ended })
+  rows_wait channel = elim (cases_lt channel 16) [
+    | inl low ↦ waits_by channel (nat_lt channel are.channels) (sym (are.each channel low))
+    | inr high ↦ inr (get_or_past rows channel (record { left = []; stage = Ended }) (subst (λ n. n ≤ channel) (sym are.sixteen) high))
+  ]
+
+-- what was loaded is what a store begins with
+module _ {D : Type 0} (d : Ghosts D) (loaded : Loaded D) (live : map.FinMap nat_cmp Xattrs) (rows : List Row) where
+  pub is_loaded_with : IsWhole loaded → IsLiveAtStart loaded.metas live → IsLoadedWith loaded.sup (state_of d (opened_with d loaded live rows))
+  is_loaded_with whole is = record {
+    super = refl;
+    roots = whole.roots;
+    lawful = whole.lawful;
+    chains = whole.chains;
+    pages = whole.masks.pages;
+    clusters = whole.masks.clusters;
+    live = λ head m some. is head ∙ ap (option_map (λ (x : Meta). x.xattrs)) some;
+    no_live = λ head none. is head ∙ ap (option_map (λ (x : Meta). x.xattrs)) none;
+  }
+
+  pub it_opens : (script : List (List Command)) → AreRows script rows → Opens (state_of d (opened_with d loaded live rows))
+  it_opens script are = record { waits = rows_wait script rows are; log = refl; marks = refl; job = refl; stopped = refl }
+
+none_by : (s : Super) (metas : Metas) → AreRoots s metas → (head : ℕ) → s.md_len ≤ head → (found : Option Meta) → metas head ≡ found → metas head ≡ None
+none_by s metas roots head past None is = is
+none_by s metas roots head past (Some m) is = absurd (omega (arith, (roots head m is).low, past))
+
+-- no blob's head lies past the metadata pages
+pub none_past : (s : Super) (metas : Metas) → AreRoots s metas → (head : ℕ) → s.md_len ≤ head → metas head ≡ None
+none_past s metas roots head past = none_by s metas roots head past (metas head) refl

@@ -1,0 +1,6 @@
+use Rattle.store_core.proofs.Starts.{GuardsBelow}
+use Rattle.store_core.proofs.starting.guards_at_start.Given as goal
+
+-- the guards so far
+abbrev pub invariant-loop-head : goal.invariant-loop-head
+invariant-loop-head l = GuardsBelow l.guards l.md_len l.head

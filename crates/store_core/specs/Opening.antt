@@ -1,0 +1,63 @@
+-- How a running store begins.
+use Rattle.std.specs.Prelude.{◌≡◌, ℕ, ◌+◌, ◌<◌, ◌≤◌, ◌^◌, nat_lt, vec_capacity, false, if◌then◌else◌, List, [], ◌∷◌, length, None, slice_index_or}
+use Rattle.std.specs.Option.{option_map}
+use Rattle.std.specs.Ordering.{nat_cmp}
+use Rattle.std.specs.FinMap as map
+use Rattle.page_disk.specs.declared.disk.PageDisk.{Ghosts}
+use Rattle.volume_model.specs.Xattrs.{Xattrs}
+use Rattle.volume_model.specs.declared.command.Command.{Command}
+use Rattle.blob_meta.specs.declared.meta.Meta.{Meta}
+use Rattle.store_model.specs.Rows.{Row, Idle, Ended}
+use Rattle.store_core.specs.declared.loaded.Loaded.{Loaded}
+use Rattle.store_core.specs.declared.starting.AtStart.{AtStart}
+use Rattle.store_core.specs.Running.{left_in}
+use Rattle.store_core.specs.Seen.{At, rows_of}
+
+-- each blob's attributes are live as they are synced
+abbrev pub IsLiveAtStart : map.FinMap nat_cmp Meta → map.FinMap nat_cmp Xattrs → Type 0
+IsLiveAtStart metas live = (head : ℕ) → map.get live head ≡ option_map (λ m. m.xattrs) (map.get metas head)
+
+-- the row of a channel of the script, or of a number past its channels
+abbrev pub row_at_start : List (List Command) → ℕ → ℕ → Row
+row_at_start script channels channel = if nat_lt channel channels then record { left = slice_index_or script channel []; stage = Idle } else record { left = []; stage = Ended }
+
+-- Sixteen rows, each with the commands of its channel.
+pub record AreRows (script : List (List Command)) (rows : List Row) : Type 0 where
+  pub channels : ℕ
+  pub sixteen : length rows ≡ 16
+  pub each : (channel : ℕ) → channel < 16 → rows_of rows channel ≡ row_at_start script channels channel
+  pub above : (channel : ℕ) → nat_lt channel channels ≡ false → slice_index_or script channel [] ≡ []
+
+-- the state of a store that was loaded so, with these live attributes and rows, of which nothing is posted or logged
+abbrev pub opened_with : {D : Type 0} → Ghosts D → Loaded D → map.FinMap nat_cmp Xattrs → List Row → At D
+opened_with d loaded live rows = record {
+  disk = loaded.disk;
+  super = loaded.sup;
+  metas = loaded.metas;
+  chains = loaded.chains;
+  live = live;
+  pages = loaded.masks.pages;
+  clusters = loaded.masks.clusters;
+  rows = rows;
+  job = None;
+  serial = 0;
+  log = [];
+  marks = d.clock loaded.disk ∷ [];
+  stopped = None;
+}
+
+-- A store as it was loaded, with a script of which nothing is posted.
+pub record IsOpened {D : Type 0} (d : Ghosts D) (loaded : Loaded D) (script : List (List Command)) (p : At D) : Type 0 where
+  pub live : IsLiveAtStart loaded.metas p.live
+  pub rows : AreRows script p.rows
+  pub at : p ≡ opened_with d loaded p.live p.rows
+
+-- What a start takes memory for: the log has room for every command, and one mark more.
+pub record IsAtStart (metas : map.FinMap nat_cmp Meta) (script : List (List Command)) (clock : ℕ) (b : AtStart) : Type 0 where
+  pub live : IsLiveAtStart metas b.live
+  pub rows : AreRows script b.rows.items
+  pub log : b.entries.items ≡ []
+  pub marks : b.marks.items ≡ clock ∷ []
+  pub log_room : left_in b.rows.items ≤ vec_capacity b.entries
+  pub marks_room : 1 + left_in b.rows.items ≤ vec_capacity b.marks
+  pub few : left_in b.rows.items < 2 ^ 31
