@@ -133,6 +133,13 @@ impl<K> Pool<K> {
         self.bits.clear(at);
     }
 
+    /// The places in use.
+    pub fn bits(&self) -> &Bits
+        ensures { result.now ≡ self.now.bits }
+    {
+        &self.bits
+    }
+
     /// How many places are clear.
     pub fn clear_count(&self) -> u32
         ensures { result ≡ clear_in self.now.bits }
