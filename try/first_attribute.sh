@@ -1,14 +1,21 @@
 #!/usr/bin/env bash
-# Builds the program, formats an image, writes one blob to it, puts an attribute on the blob, and shows what the program printed
-# and how the blob's metadata page begins then.
+# Builds the program, formats an image, writes one blob to it, runs two scripts on the blob's attributes, and shows what the
+# program printed and how the blob's metadata page begins then.
 set -euo pipefail
 cd "$(dirname "$0")/.."
 image=$(mktemp)
 trap 'rm -f "$image"' EXIT
 truncate -s 256K "$image"
+
+run() {
+    printf '%s\n' "$@" | sed 's/^/script:   /'
+    (cd crates/blobtool && printf '%s\n' "$@" | rt try -- run "$image")
+}
+
 (cd crates/blobtool && rt try -- format "$image" --cluster 16384)
 try/add_blob.sh "$image"
-echo "script:   0 put @0 owner t:bob"
-(cd crates/blobtool && printf '0 put @0 owner t:bob\n' | rt try -- run "$image")
+run '0 put @0 owner t:bob' '0 setx @0 use t:mail' '0 getx @0 use'
+echo "a second run: what was put is on the disk, what was only set is lost"
+run '0 getx @0 owner' '0 getx @0 use'
 echo "the body of the blob's metadata page: 29 bytes of flags, then the attribute"
 od -A d -t x1z -j $((4 * 4096 + 16)) -N 48 "$image"

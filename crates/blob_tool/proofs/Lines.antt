@@ -1,16 +1,10 @@
 -- The text of a log, entry by entry.
-use Rattle.std.proofs.Common.{◌≡◌, ℕ, ◌+◌, ◌<◌, ◌≤◌, List, [], ◌∷◌, ◌++◌, length, get_or, take, drop, zero, suc, sym, ap, ◌∙◌, arith, append_assoc}
-use Rattle.std.proofs.lemmas.List.{take-take, take_more, take-append-drop}
+use Rattle.std.proofs.Common.{◌≡◌, ℕ, ◌+◌, ◌<◌, List, [], ◌∷◌, ◌++◌, length, get_or, take, drop, zero, suc, sym, ap, ◌∙◌, arith, append_assoc}
+use Rattle.std.proofs.lemmas.List.{take_more, take-append-drop}
 use Rattle.std.proofs.lemmas.Grind.{common_steps, flat_map-append}
 use Rattle.volume_model.specs.declared.reply.Entry.{Entry}
-use Rattle.blob_tool.specs.Text.{IsPartOf, entry_text, log_text}
-
--- what begins with a text that begins with another, begins with that
-pub still_first : (first more second whole : List ℕ) → second ≡ first ++ more → take (length second) whole ≡ second → take (length first) whole ≡ first
-still_first first more second whole e kept =
-    let le : length first ≤ length second = grind (arith, common_steps, e) in
-    let short : take (length first) second ≡ first = grind (arith, common_steps, e) in
-    sym (take-take (length first) (length second) whole le) ∙ ap (λ xs. take (length first) xs) kept ∙ short
+use Rattle.blob_report.specs.Text.{entry_text, log_text}
+use Rattle.blob_tool.specs.Text.{IsPartOf}
 
 at_entry : (es : List Entry) (i : ℕ) (e : Entry) → i < length es → e ≡ get_or es i e → es ≡ take i es ++ e ∷ drop (i + 1) es
 at_entry [] i e lt is = absurd (omega arith)

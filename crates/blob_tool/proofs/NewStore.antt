@@ -1,6 +1,10 @@
 -- A new store is written, and what is loaded of it.
-use Rattle.std.proofs.Common.{◌≡◌, ◌≢◌, ℕ, ◌+◌, ◌<◌, false, List, Option, Some, None, refl, sym, ap, subst, ◌∙◌, inl, inr, arith, IsTrue}
-use Rattle.std.proofs.lemmas.Bool.{cases_lt}
+use Rattle.std.proofs.Common.{◌≡◌, ◌≢◌, ℕ, ◌+◌, ◌<◌, false, List, [], ◌∷◌, length, None, refl, sym, ap, subst, ◌∙◌, inl, inr, arith, IsTrue}
+use Rattle.std.specs.Prelude.{nat_lt}
+use Rattle.std.specs.List.{range_with_len, sum_by}
+use Rattle.std.specs.Option.{option_map_or}
+use Rattle.std.proofs.lemmas.Bool.{cases_Bool, ltb-true}
+use Rattle.std.proofs.lemmas.List.Sums.{sum_by-cons}
 use Rattle.crc32c.proofs.Zeros.{is_sound-zeros}
 use Rattle.page_disk.specs.Disk.{Image, Telling, with_page}
 use Rattle.page_disk.specs.Moments.{IsReplaced, LeavesOnly}
@@ -14,13 +18,12 @@ use Rattle.super_block.specs.Placed.{IsLaidOut}
 use Rattle.super_block.specs.declared.layout.Layout.{Layout}
 use Rattle.super_block.specs.declared.page.Super.{Super}
 use Rattle.blob_meta.specs.declared.meta.Meta.{Meta}
-use Rattle.store_model.specs.Maps.{Metas}
-use Rattle.store_model.specs.Scans.{is_head}
+use Rattle.blob_meta.specs.Resolving.{IsLawful}
+use Rattle.store_model.specs.Regions.{region_of}
+use Rattle.store_model.specs.Scans.{is_head, Says}
+use Rattle.unclean_load.specs.Accepted.{IsAccepted, StoresAreAccepted}
 use Rattle.blob_tool.specs.Filling.{SameBut, WritesOnly}
-use Rattle.blob_tool.specs.Formatted.{end_of, first_super, no_blob, zero_page, HasNewRegions, IsNewStore, IsUnderWay, LoadsEmpty, Writes}
-use Rattle.blob_tool.specs.Holds.{Holds}
-use Rattle.blob_tool.specs.Loaded.{HeadSays, IsAccepted}
-use Rattle.blob_tool.proofs.Holding.{holds_accepted}
+use Rattle.blob_tool.specs.Formatted.{end_of, first_super, no_blob, no_chain, zero_page, HasNewRegions, IsNewStore, IsUnderWay, LoadsEmpty, Writes}
 
 -- ---- the super block's page
 
@@ -90,6 +93,22 @@ planned_md plan sum s is = (ap (λ (t : Super). t.md_start) is, ap (λ (t : Supe
 no_head : (place : ℕ) (page : List ℕ) → page ≡ zero_page → is_head place page ≡ false
 no_head place page is = rw is (rw is_sound-zeros refl)
 
+none_together : (heads : List ℕ) → sum_by (λ (head : ℕ). option_map_or (λ (m : Meta). length m.map) (no_blob head) 0) heads ≡ 0
+none_together [] = refl
+none_together (head ∷ heads) =
+    let more = sum_by-cons (λ (head : ℕ). option_map_or (λ (m : Meta). length m.map) (no_blob head) 0) head heads in
+    let rest = none_together heads in
+    omega (arith, more, rest)
+
+none_lawful : (md_len : ℕ) → IsLawful md_len no_blob
+none_lawful md_len = record {
+  alone = λ h k i j cluster m n is. absurd (cc is);
+  parents = λ h p m is. absurd (cc is);
+  rank = λ head. 0;
+  falls = λ h p m is. absurd (cc is);
+  few = let none = none_together (range_with_len 0 md_len) in omega (arith, none);
+}
+
 module _ (plan : Layout) (laid : IsLaidOut plan) (image : Image) (new : IsNewStore plan image) (sum : ℕ)
     (read : super_of (super_bytes (first_super plan)) plan.device_pages ≡ record (first_super plan) { crc = sum }) (none : super_fault (super_bytes (first_super plan)) plan.device_pages ≡ None) where
   abbrev sup : Super
@@ -103,35 +122,23 @@ module _ (plan : Layout) (laid : IsLaidOut plan) (image : Image) (new : IsNewSto
   no_heads s md place lt =
       no_head place (image (s.md_start + place)) (ap (λ (n : ℕ). image (n + place)) md.0 ∙ new.regions.md place (omega (arith, lt, md.1)))
 
-  empty : Holds sup no_blob image
-  empty = record {
-    super_at = record {
-      some_pages = omega (arith, laid, given_pages (image 0) plan.device_pages);
-      faultless = subst (λ (n : ℕ). super_fault (image 0) n ≡ None) (sym (given_pages (image 0) plan.device_pages)) (ap (λ (page : List ℕ). super_fault page plan.device_pages) new.super ∙ none);
-      is = ap (super_of (image 0)) (sym (given_pages (image 0) plan.device_pages));
-    };
-    heads = no_heads sup (planned_md plan sum sup sup_is);
-    none = λ place le. refl;
-  }
+  says_nothing : Says (region_of sup) no_blob no_chain image
+  says_nothing head = inr (record {
+    no_head = elim (cases_Bool (nat_lt head sup.md_len)) [
+      | inl lt ↦ rw lt (no_heads sup (planned_md plan sum sup sup_is) head (ltb-true head sup.md_len lt))
+      | inr high ↦ rw high refl
+    ];
+    no_meta = refl;
+    no_chain = refl;
+  })
 
-  none_at : (s : Super) (place : ℕ) (m : Option Meta) → HeadSays s place (image (s.md_start + place)) m → is_head place (image (s.md_start + place)) ≡ false → m ≡ None
-  none_at s place None says not = refl
-  none_at s place (Some m) says not = let head = says.head in absurd (cc (head, not))
-
-  no_other : (s : Super) (metas : Metas) → Holds s metas image → (head : ℕ) → metas head ≡ None
-  no_other s metas holds head = elim (cases_lt head s.md_len) [
-    | inl lt ↦
-        let of_image : (s.md_start ≡ plan.md_start) × (s.md_len ≡ plan.md_pages) =
-        (let a = same_regions (image 0) s.device_pages plan.device_pages in let b = planned_md plan sum sup sup_is in (ap (λ (t : Super). t.md_start) holds.super_at.is ∙ a.0 ∙ b.0, ap (λ (t : Super). t.md_len) holds.super_at.is ∙ a.1 ∙ b.1)) in
-        none_at s head (metas head) (holds.heads head lt) (no_heads s of_image head lt)
-    | inr le ↦ holds.none head le
-  ]
-
-  pub loads_empty : LoadsEmpty plan image
-  loads_empty = record {
+  pub loads_empty : StoresAreAccepted → LoadsEmpty plan image
+  loads_empty law = record {
     sum = sum;
     super_is = sup_is;
-    accepted = subst (λ (n : ℕ). IsAccepted n image) (given_pages (image 0) plan.device_pages) (holds_accepted sup no_blob image empty);
-    holds = empty;
-    no_other = no_other;
+    accepted = subst (λ (n : ℕ). IsAccepted n image) (given_pages (image 0) plan.device_pages)
+        (law sup image no_blob no_chain
+        (subst (λ (n : ℕ). super_fault (image 0) n ≡ None) (sym (given_pages (image 0) plan.device_pages)) (ap (λ (page : List ℕ). super_fault page plan.device_pages) new.super ∙ none))
+        (ap (super_of (image 0)) (sym (given_pages (image 0) plan.device_pages))) says_nothing (λ head m is. absurd (cc is)) (none_lawful sup.md_len));
+    says = says_nothing;
   }

@@ -1,69 +1,134 @@
--- A run to the end of its script.
-use Rattle.std.proofs.Common.{◌≡◌, ℕ, zero, suc, ◌+◌, ◌==◌, if◌then◌else◌, Bool, false, List, [], ◌∷◌, slice_index_or, refl, sym, ap, subst, rules}
-use Rattle.std.specs.List.{All, AllByRecursion, filter}
-use Rattle.std.proofs.lemmas.List.Elements.{All-from_recursion, recursion_from_All}
+-- A run that has come to its end.
+use Rattle.std.proofs.Common.{◌≡◌, ℕ, ◌≤◌, ◌++◌, Bool, true, false, List, [], None, refl, sym, ap, subst, ◌∙◌, inl, inr, arith, IsTrue}
+use Rattle.std.specs.Prelude.{nat_lt, slice_index_or}
+use Rattle.std.specs.List.{All, AllByRecursion}
+use Rattle.std.proofs.lemmas.Bool.{cases_lt, le-ltb}
+use Rattle.std.proofs.lemmas.List.{append-nil}
+use Rattle.std.proofs.lemmas.List.Elements.{recursion_from_All}
+use Rattle.std.proofs.Math.ListN.{get_or-eq_default}
+use Rattle.page_disk.specs.Disk.{Image}
 use Rattle.page_disk.specs.declared.disk.PageDisk.{Ghosts}
-use Rattle.volume_model.specs.Logs.{Interleaves, Numbered}
+use Rattle.super_block.specs.declared.page.Super.{Super}
+use Rattle.super_block.specs.Numbers.{cluster_pages_of, clusters_of, fixed_clusters_of, placed}
+use Rattle.super_block.specs.Page.{super_of}
+use Rattle.volume_model.specs.Logs.{replay, Interleaves, Numbered}
 use Rattle.volume_model.specs.declared.command.Command.{Command}
-use Rattle.volume_model.specs.declared.reply.Entry.{Entry}
-use Rattle.store_model.specs.State.{shown}
-use Rattle.store_model.specs.Laws.{StopLaws}
+use Rattle.blob_meta.specs.Asked.{IsOnHead}
+use Rattle.store_model.specs.Rows.{Row, Ended, entries_of}
 use Rattle.store_model.specs.Shown.{fixed_of}
-use Rattle.blob_tool.specs.Seen.{Both, state_of}
-use Rattle.blob_tool.specs.Answers.{IsHeadPut}
-use Rattle.blob_tool.specs.Kept.{Kept}
+use Rattle.store_model.specs.PlantLaws.{IsSameBehind, PlantLaws, PlantStopLaws}
+use Rattle.store_model.specs.Plants.{shown}
+use Rattle.store_core.specs.Kept.{Kept}
+use Rattle.store_core.specs.Opening.{row_at_start, AreRows}
+use Rattle.store_core.specs.Seen.{Both, read_now, rows_of, state_of}
+use Rattle.store_core.specs.Surviving.{CanBeLoaded, HasOneImage}
+use Rattle.store_core.specs.Surviving as core
+use Rattle.unclean_load.specs.Accepted.{IsAccepted, StoresAreAccepted}
+use Rattle.blob_tool.specs.Driving.{ended_row, IsWaiting}
 use Rattle.blob_tool.specs.Runs.{IsRun}
-use Rattle.blob_tool.specs.Text.{HasShortReply}
-use Rattle.blob_tool.proofs.ShortReplies.{AnswersHeadPut, puts_answered_shortly}
+use Rattle.blob_tool.specs.Surviving.{Survives}
 
-abbrev pub IsOnFirst : Entry → Type 0
-IsOnFirst e = e.channel ≡ 0
+-- ---- the rows at the start
 
-all_numbered : (n : ℕ) (log : List Entry) (made : List Command) → AllByRecursion IsOnFirst log → Numbered n log made → Numbered n (filter (λ e. e.channel == 0) log) made
-all_numbered n [] made on numbered = numbered
-all_numbered n (e ∷ es) [] on numbered = absurd numbered
-all_numbered n (e ∷ es) (c ∷ cs) on numbered =
-    subst (λ (b : Bool). Numbered n (if b then e ∷ filter (λ e. e.channel == 0) es else filter (λ e. e.channel == 0) es) (c ∷ cs)) (sym (ap (λ k. k == 0) on.0))
-    (numbered.0, numbered.1, all_numbered (n + 1) es cs on.1 numbered.2)
+module _ (script : List (List Command)) (rows : List Row) (are : AreRows script rows) where
+  -- past the sixteenth channel there is none
+  pub past_ended : (channel : ℕ) → 16 ≤ channel → rows_of rows channel ≡ ended_row
+  past_ended channel ge = let sixteen = are.sixteen in get_or-eq_default rows (record { left = []; stage = Ended }) (omega (arith, sixteen, ge))
 
-is_other : (channel k : ℕ) → k ≡ 0 → (k == suc channel) ≡ false
-is_other channel k zero_is = search (rules, zero_is)
+  left_by : (channel : ℕ) (b : Bool) → nat_lt channel are.channels ≡ b → (row_at_start script are.channels channel).left ≡ slice_index_or script channel []
+  left_by channel true lt = rw lt refl
+  left_by channel false ge = rw ge (sym (are.above channel ge))
 
-none_on : (channel : ℕ) (log : List Entry) → AllByRecursion IsOnFirst log → filter (λ e. e.channel == suc channel) log ≡ []
-none_on channel [] on = refl
-none_on channel (e ∷ es) on =
-    subst (λ (b : Bool). (if b then e ∷ filter (λ e. e.channel == suc channel) es else filter (λ e. e.channel == suc channel) es) ≡ []) (sym (is_other channel e.channel on.0)) (none_on channel es on.1)
+  -- each row has the commands of its channel
+  pub left_at_start : (channel : ℕ) → (rows_of rows channel).left ≡ slice_index_or script channel []
+  left_at_start channel = elim (cases_lt channel 16) [
+    | inl lt ↦ ap (λ (r : Row). r.left) (are.each channel lt) ∙ left_by channel (nat_lt channel are.channels) refl
+    | inr ge ↦ ap (λ (r : Row). r.left) (past_ended channel ge) ∙ sym (are.above channel (let few = are.few in le-ltb channel are.channels (omega (arith, few, ge))))
+  ]
 
--- one channel's entries, numbered, interleave its list alone
-interleaves_one : (log : List Entry) (made : List Command) → AllByRecursion IsOnFirst log → Numbered 0 log made → Interleaves log (made ∷ [])
-interleaves_one log made on numbered zero = all_numbered 0 log made on numbered
-interleaves_one log made on numbered (suc channel) = subst (λ (l : List Entry). Numbered 0 l (slice_index_or (made ∷ []) (suc channel) [])) (sym (none_on channel log on)) tt
+  module _ (on_heads : (channel : ℕ) → All IsOnHead (slice_index_or script channel [])) where
+    on_at_start : (channel : ℕ) → AllByRecursion IsOnHead (rows_of rows channel).left
+    on_at_start channel = subst (AllByRecursion IsOnHead) (sym (left_at_start channel)) (recursion_from_All IsOnHead (slice_index_or script channel []) (on_heads channel))
 
-puts_logged : (n : ℕ) (log : List Entry) (made : List Command) → Numbered n log made → AllByRecursion IsHeadPut made → AllByRecursion AnswersHeadPut log
-puts_logged n [] made numbered puts = tt
-puts_logged n (e ∷ es) [] numbered puts = absurd numbered
-puts_logged n (e ∷ es) (c ∷ cs) numbered puts = (subst IsHeadPut (sym numbered.1) puts.0, puts_logged (n + 1) es cs numbered.2 puts.1)
+    waits_by : (channel : ℕ) (b : Bool) → nat_lt channel are.channels ≡ b → rows_of rows channel ≡ row_at_start script are.channels channel → IsWaiting (rows_of rows channel)
+    waits_by channel true lt is = record { on_heads = on_at_start channel; at = inl (ap (λ (r : Row). r.stage) is ∙ rw lt refl) }
+    waits_by channel false ge is = record { on_heads = on_at_start channel; at = inr (is ∙ rw ge refl) }
 
-module _ {D : Type 0} (d : Ghosts D) (p : Both D) (kept : Kept d p) (over : p.at.left ≡ []) where
-  all_made : kept.facts.way.made ≡ p.opening.left
-  all_made = search (rules, kept.facts.way.all, over)
+    pub all_wait : (channel : ℕ) → IsWaiting (rows_of rows channel)
+    all_wait channel = elim (cases_lt channel 16) [
+      | inl lt ↦ waits_by channel (nat_lt channel are.channels) refl (are.each channel lt)
+      | inr ge ↦ record { on_heads = on_at_start channel; at = inr (past_ended channel ge) }
+    ]
 
-  pub is_run : StopLaws → IsRun d p.opening p.at
-  is_run laws = record {
+-- ---- what a crash leaves
+
+-- the super block is that of the image, but for whether it was unloaded and for its sum: the regions are the same
+pub is_accepted : StoresAreAccepted → (s : Super) (image : Image) → CanBeLoaded s image → IsAccepted s.device_pages image
+unfolding fixed_clusters_of clusters_of placed cluster_pages_of
+is_accepted law s image x =
+    let t = super_of (image 0) s.device_pages in
+    law (record s { clean = t.clean; crc = t.crc }) image x.metas x.chains x.store.faultless x.store.same x.says (λ head m there. let r = x.roots head m there in record {
+      low = r.low;
+      id = r.id;
+      clear = r.clear;
+      xattrs = r.xattrs;
+      internal = r.internal;
+      no_parent = r.no_parent;
+      not_made = r.not_made;
+      not_removed = r.not_removed;
+      faultless = r.faultless;
+    }) x.lawful
+
+reads_now : {D : Type 0} (d : Ghosts D) (disk : D) → IsTrue d.tells → read_now d disk ≡ d.now disk
+reads_now d disk told = rw told refl
+
+module _ {D : Type 0} (d : Ghosts D) (accepts : StoresAreAccepted) (plants : PlantLaws) (b : Both D) (kept : Kept d b) (no_job : b.at.job ≡ None) where
+  pub survives : HasOneImage d b.opening.disk → Survives d b.opening.super (shown (state_of d b.opening)) b.at
+  survives one = by (kept.survives one)
+    where
+      by : core.Survives d b.opening.super (shown (state_of d b.opening)) b.at → Survives d b.opening.super (shown (state_of d b.opening)) b.at
+      by x = record {
+        any_moment = record { past = x.any_moment.past; any_moment = λ told i lt c since. let y = x.any_moment.any_moment told i lt c since in (is_accepted accepts b.opening.super c y.0, y.1) };
+        one_image = λ runs. x.settled runs no_job;
+        whole = λ runs.
+            let only = x.settled runs no_job in
+            let holds = x.holds runs (d.now b.at.disk) ((only (d.now b.at.disk)).1 refl) in (
+              is_accepted accepts b.opening.super (d.now b.at.disk) (record {
+                store = holds.store;
+                metas = _;
+                chains = _;
+                says = holds.says;
+                roots = kept.facts.roots;
+                lawful = kept.facts.lawful;
+              }),
+              plants.recovers b.opening.super (shown (state_of d b.opening)) _ (state_of d b.at) (d.now b.at.disk) kept.placed kept.facts runs holds.store holds.says
+                  (subst (λ (reads : Image). IsSameBehind b.opening.super reads (d.now b.at.disk)) (sym (reads_now d b.at.disk one.0)) holds.same),
+            );
+        stopped = λ at is image held. let y = x.stopped at is image held in (is_accepted accepts b.opening.super image y.0, y.1);
+      }
+
+-- ---- the whole run
+
+module _ {D : Type 0} (d : Ghosts D) (script : List (List Command)) (b : Both D) (kept : Kept d b) (are : AreRows script b.opening.rows) (over : (channel : ℕ) → rows_of b.at.rows channel ≡ ended_row) where
+  all_made : (channel : ℕ) → (kept.facts.way channel).made ≡ slice_index_or script channel []
+  all_made channel =
+      let w = kept.facts.way channel in
+      sym (append-nil w.made) ∙ ap (λ (l : List Command). w.made ++ l) (sym (ap (λ (r : Row). r.left) (over channel))) ∙ w.all ∙ left_at_start script b.opening.rows are channel
+
+  pub interleaved : Interleaves b.at.log script
+  interleaved channel = subst (λ (l : List Command). Numbered 0 (entries_of channel b.at.log) l) (all_made channel) (kept.facts.way channel).numbered
+
+  pub is_run : StoresAreAccepted → PlantLaws → PlantStopLaws → b.at.job ≡ None → IsRun d script b.opening b.at
+  is_run accepts plants stops no_job = record {
     opens = kept.began;
     turns = kept.run;
     over = over;
-    interleaves = subst (λ (l : List Command). Interleaves p.at.log (l ∷ [])) all_made (interleaves_one p.at.log kept.facts.way.made (recursion_from_All IsOnFirst p.at.log kept.facts.way.channel) kept.facts.way.numbered);
+    no_job = no_job;
+    interleaves = interleaved;
     legal = kept.facts.legal;
-    counted = λ at is. laws.counted d.tells (state_of d p.opening) (state_of d p.at) kept.run.0 at kept.run.1 kept.began.stopped is;
-    fault_at = laws.fault d.tells (state_of d p.opening) (state_of d p.at) kept.run.0 kept.run.1 kept.began.log;
-    quiet = λ runs. laws.quiet d.tells (state_of d p.opening) (state_of d p.at) kept.run.0 kept.run.1 kept.began.log runs;
-    replayed = kept.facts.replayed;
-    survives = kept.survives;
+    counted = λ at is. stops.counted d.tells (state_of d b.opening) (state_of d b.at) kept.run.0 at kept.run.1 kept.began.stopped is;
+    fault_at = stops.fault d.tells (state_of d b.opening) (state_of d b.at) kept.run.0 kept.run.1 kept.began.log;
+    quiet = λ runs. stops.quiet d.tells (state_of d b.opening) (state_of d b.at) kept.run.0 kept.run.1 kept.began.log runs;
+    replayed = λ runs. (kept.facts.well runs).replayed ∙ ap (λ (s : Super). replay (fixed_of s) (shown (state_of d b.opening)) b.at.log) kept.facts.super;
+    survives = survives d accepts plants b kept no_job;
   }
-
-  pub short_replies : All IsHeadPut p.opening.left → All HasShortReply p.at.log
-  short_replies puts =
-      let made : All IsHeadPut kept.facts.way.made = subst (λ (l : List Command). All IsHeadPut l) (sym all_made) puts in
-      puts_answered_shortly (fixed_of p.opening.super) (shown (state_of d p.opening)) p.at.log kept.facts.legal
-      (All-from_recursion AnswersHeadPut p.at.log (puts_logged 0 p.at.log kept.facts.way.made kept.facts.way.numbered (recursion_from_All IsHeadPut kept.facts.way.made made)))

@@ -3,7 +3,7 @@ use Rattle.std.specs.Prelude.{ℕ, ◌*◌, ◌/◌, ◌%◌, ◌^◌, ◌==◌,
 use Rattle.std.specs.Option.{option_map}
 use Rattle.std.specs.Str.{bytes_eq}
 use Rattle.std.specs.declared.alloc.Global.{Global}
-use Rattle.blob_tool.specs.Script.{number_below}
+use Rattle.script_lang.specs.Words.{number_below}
 use Rattle.blob_tool.specs.declared.format_words.Format.{Format}
 
 -- the bytes of a cluster, as its pages: a multiple of 4096 above 0, of fewer than 2^32 pages

@@ -9,14 +9,15 @@ use Rattle.super_block.specs.Page.{super_bytes, super_of}
 use Rattle.super_block.specs.declared.layout.Layout.{Layout}
 use Rattle.super_block.specs.declared.page.Super.{Super}
 use Rattle.super_block.specs.declared.fault.SuperFault.{SuperFault}
-use Rattle.store_model.specs.Maps.{Metas}
+use Rattle.store_model.specs.Maps.{Metas, Chains}
+use Rattle.store_model.specs.Regions.{region_of}
+use Rattle.store_model.specs.Scans.{Says}
+use Rattle.unclean_load.specs.Accepted.{IsAccepted}
+use Rattle.unclean_load.specs.declared.fault.LoadFault.{LoadFault}
+use Rattle.unclean_load.specs.declared.fault.LoadFault.TheVariants as loading
 use Rattle.blob_tool.specs.Filling.{IsAnyBut, SameBut}
-use Rattle.blob_tool.specs.Holds.{Holds}
-use Rattle.blob_tool.specs.Loaded.{IsAccepted}
 use Rattle.blob_tool.specs.Text.{new_store_text, IsPartOf}
 use Rattle.blob_tool.specs.declared.format_words.Format.{Format}
-use Rattle.blob_tool.specs.declared.loader.LoadFault.{LoadFault}
-use Rattle.blob_tool.specs.declared.loader.LoadFault.TheVariants as loading
 use Rattle.blob_tool.specs.declared.sink.Sink as sink
 use Rattle.blob_tool.specs.declared.status.Status.{Status}
 use Rattle.blob_tool.specs.declared.status.Status.TheVariants as status
@@ -60,13 +61,15 @@ IsUnderWay plan images image = IsAnyBut 1 (end_of plan) images image ⊎ (IsNewS
 abbrev pub no_blob : Metas
 no_blob head = None
 
--- The image loads as the planned store, whose sum the page holds, without a blob: no metadata page is a head.
+abbrev pub no_chain : Chains
+no_chain head = None
+
+-- The image loads as the planned store, whose sum the page holds, and says no blob: no metadata page is a head.
 pub record LoadsEmpty (plan : Layout) (image : Image) : Type 0 where
   pub sum : ℕ
   pub super_is : super_of (image 0) plan.device_pages ≡ record (first_super plan) { crc = sum }
   pub accepted : IsAccepted plan.device_pages image
-  pub holds : Holds (super_of (image 0) plan.device_pages) no_blob image
-  pub no_other : (s : Super) (metas : Metas) → Holds s metas image → (head : ℕ) → metas head ≡ None
+  pub says : Says (region_of (super_of (image 0) plan.device_pages)) no_blob no_chain image
 
 -- A store with this layout was written, or a part of it, and no page was read.
 pub record Writes {D : Type 0} (d : disk.Ghosts D) (plan : Layout) (before back : D) : Type 0 where

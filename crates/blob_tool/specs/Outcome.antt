@@ -5,15 +5,17 @@ use Rattle.std.specs.declared.alloc.Global.{Global}
 use Rattle.page_disk.specs.Disk.{Rose}
 use Rattle.page_disk.specs.declared.disk.PageDisk as disk
 use Rattle.volume_model.specs.declared.command.Command.{Command}
+use Rattle.md_chain.specs.Reading.{OnlyRead}
+use Rattle.script_lang.specs.Script.{kind_on, lines, reads, IsFirstBad}
+use Rattle.script_lang.specs.declared.fault.LineKind.{LineKind}
+use Rattle.store_core.specs.declared.loaded.Loaded.{Loaded}
+use Rattle.store_core.specs.Seen.{At}
+use Rattle.unclean_load.specs.Accepted.{IsAccepted, IsFaultOf, IsImageFault}
+use Rattle.unclean_load.specs.declared.fault.LoadFault.{LoadFault}
 use Rattle.blob_tool.specs.declared.source.Source as source
 use Rattle.blob_tool.specs.declared.sink.Sink as sink
 use Rattle.blob_tool.specs.declared.status.Status.{Status}
 use Rattle.blob_tool.specs.declared.status.Status.TheVariants as status
-use Rattle.blob_tool.specs.Seen.{At}
-use Rattle.blob_tool.specs.Script.{kind_at, lines, reads, IsFirstBad}
-use Rattle.blob_tool.specs.declared.script.LineKind.{LineKind}
-use Rattle.blob_tool.specs.declared.loader.LoadFault.{LoadFault}
-use Rattle.blob_tool.specs.Loaded.{IsAccepted, IsCause, IsImageFault, OnlyRead}
 use Rattle.blob_tool.specs.Runs.{Ended, IsLoaded}
 
 -- the words are `run` and an image
@@ -33,15 +35,15 @@ module _ {S : Type 0} (s : source.Ghosts S) (script script_now : S) where
     pub is_text : IsText text
     pub first : IsFirstBad text line
     pub no_script : reads text ≡ None
-    pub kind_is : kind ≡ kind_at (slice_index_or (lines text) (line - 1) [])
+    pub kind_is : kind ≡ kind_on line (slice_index_or (lines text) (line - 1) [])
 
   -- it is too long, which is said as line 0
   pub record IsTooLong (line : ℕ) : Type 0 where
     pub line_is : line ≡ 0
     pub long : IsTrue s.tells → 2 ^ 20 < length (s.left script)
 
-  -- the whole text is a script of these commands
-  pub record Reads (commands : List Command) : Type 0 where
+  -- the whole text is a script with these commands of each channel
+  pub record Reads (commands : List (List Command)) : Type 0 where
     pub text : List ℕ
     pub is_text : IsText text
     pub reads_as : reads text ≡ Some commands
@@ -54,14 +56,18 @@ module _ {S : Type 0} (s : source.Ghosts S) (script script_now : S) where
   HasNoCommands _ = ⊥
 
   module _ {D : Type 0} (d : disk.Ghosts D) {K : Type 0} (k : sink.Ghosts K) (out out_now : K) (before back : D) where
-    -- the whole text was a script, and the store was loaded with its commands
-    pub record Started (first : At D) : Type 0 where
-      pub script_is : Reads first.left
-      pub loaded : IsLoaded d before first
+    -- the whole text was a script, and the store was loaded and opened with its commands
+    pub record Started (commands : List (List Command)) (first : At D) : Type 0 where
+      pub script_is : Reads commands
+      pub loaded : Loaded D
+      pub as_found : IsLoaded d commands before loaded first
 
     -- a run, and what it came to
-    abbrev pub RanTo : Status → Type 0
-    RanTo status = (first : At D) × Started first × Ended d k out out_now back first status
+    pub record RanTo (status : Status) : Type 0 where
+      pub commands : List (List Command)
+      pub first : At D
+      pub started : Started commands first
+      pub ended : Ended d commands k out out_now back first status
 
     -- nothing is printed, and the device was read at most
     pub record Stays : Type 0 where
@@ -70,7 +76,7 @@ module _ {S : Type 0} (s : source.Ghosts S) (script script_now : S) where
 
     -- the text was a script, whatever the device holds
     pub record HasScript : Type 0 where
-      pub commands : List Command
+      pub commands : List (List Command)
       pub script_is : Reads commands
 
     -- the script is none, or can't be read
@@ -80,9 +86,9 @@ module _ {S : Type 0} (s : source.Ghosts S) (script script_now : S) where
     abbrev pub IsUnread : Type 0
     IsUnread = Stays × Rose (s.faults script) (s.faults script_now)
 
-    -- the image has this fault, or can't be read
+    -- the image has this fault, and isn't accepted
     abbrev pub IsBadImage : LoadFault → Type 0
-    IsBadImage fault = Stays × HasScript × IsCause d before back fault × IsImageFault fault × (IsTrue d.tells → IsAccepted (d.pages before) (d.now before) → ⊥)
+    IsBadImage fault = Stays × HasScript × IsImageFault fault × (IsTrue d.tells → IsFaultOf (d.pages before) (d.now before) fault × (IsAccepted (d.pages before) (d.now before) → ⊥))
 
     abbrev pub IsUnloaded : ℕ → Type 0
     IsUnloaded at = Stays × HasScript × (at ≡ 0) × Rose (d.read_faults before) (d.read_faults back)
@@ -101,7 +107,7 @@ module _ {S : Type 0} (s : source.Ghosts S) (script script_now : S) where
     -- the source has a script and nothing else, the image is accepted, and no count of faults rose in the call
     pub record NothingFails : Type 0 where
       pub source_tells : IsTrue s.tells
-      pub commands : List Command
+      pub commands : List (List Command)
       pub reads_as : reads (s.left script) ≡ Some commands
       pub small : length (s.left script) ≤ 2 ^ 20
       pub device_tells : IsTrue d.tells

@@ -1,34 +1,44 @@
 -- A loaded store, and a run from it to its end.
-use Rattle.std.specs.Prelude.{◌≡◌, ◌⊎◌, ℕ, List, [], ◌∷◌, ◌++◌, slice_get, Some, None, IsTrue}
+use Rattle.std.specs.Prelude.{◌≡◌, ◌⊎◌, ℕ, List, ◌++◌, slice_get, Some, None, IsTrue}
 use Rattle.std.specs.List.{All}
 use Rattle.std.specs.FinMap as map
 use Rattle.page_disk.specs.Disk.{Rose}
 use Rattle.page_disk.specs.declared.disk.PageDisk as disk
 use Rattle.super_block.specs.Page.{super_of}
 use Rattle.volume_model.specs.Logs.{replay, IsLegal, Interleaves}
+use Rattle.volume_model.specs.declared.command.Command.{Command}
 use Rattle.volume_model.specs.declared.reply.Reply.TheVariants as r
 use Rattle.volume_model.specs.declared.reply.Entry.{Entry}
+use Rattle.md_chain.specs.Reading.{OnlyRead}
 use Rattle.store_model.specs.Regions.{region_of}
 use Rattle.store_model.specs.Scans.{Says}
 use Rattle.store_model.specs.Shown.{fixed_of}
-use Rattle.store_model.specs.State.{Opens, shown}
-use Rattle.store_model.specs.Turns.{IsQuiet, Kind, Run}
+use Rattle.store_model.specs.Cases.{IsQuiet}
+use Rattle.store_model.specs.Plants.{Opens, shown}
+use Rattle.store_model.specs.Cases.{Kind, Run}
+use Rattle.store_core.specs.declared.loaded.Loaded.{Loaded}
+use Rattle.store_core.specs.Opening.{IsOpened}
+use Rattle.store_core.specs.Seen.{At, rows_of, state_of}
+use Rattle.store_core.specs.Surviving.{HasOneImage}
+use Rattle.store_core.specs.Whole.{IsWhole}
+use Rattle.unclean_load.specs.Accepted.{IsAccepted}
+use Rattle.blob_report.specs.Text.{log_text}
 use Rattle.blob_tool.specs.declared.sink.Sink as sink
 use Rattle.blob_tool.specs.declared.status.Status.{Status}
 use Rattle.blob_tool.specs.declared.status.Status.TheVariants as status
-use Rattle.blob_tool.specs.Seen.{At, state_of}
-use Rattle.blob_tool.specs.Text.{log_text, IsPartOf}
-use Rattle.blob_tool.specs.Loaded.{IsAccepted, OnlyRead, one_page_chains}
-use Rattle.blob_tool.specs.Surviving.{HasOneImage, Survives}
+use Rattle.blob_tool.specs.Driving.{ended_row}
+use Rattle.blob_tool.specs.Text.{IsPartOf}
+use Rattle.blob_tool.specs.Surviving.{Survives}
 
-module _ {D : Type 0} (d : disk.Ghosts D) where
-  -- A run leads from one state of the store to another, in which no command is left. Its log is a legal one of the script's
-  -- commands, and the volumes shown at the end are its replay, unless the store stopped.
+module _ {D : Type 0} (d : disk.Ghosts D) (script : List (List Command)) where
+  -- A run leads from one state of the store to another, in which every channel has ended and no job runs. Its log is a legal one
+  -- of the script's commands, and the volumes shown at the end are its replay, unless the store stopped.
   pub record IsRun (first last : At D) : Type 0 where
     pub opens : Opens (state_of d first)
     pub turns : (kinds : List Kind) × Run d.tells (state_of d first) kinds (state_of d last)
-    pub over : last.left ≡ []
-    pub interleaves : Interleaves last.log (first.left ∷ [])
+    pub over : (channel : ℕ) → rows_of last.rows channel ≡ ended_row
+    pub no_job : last.job ≡ None
+    pub interleaves : Interleaves last.log script
     pub legal : IsLegal (fixed_of first.super) (shown (state_of d first)) last.log
     -- a store that stopped has counted a failed write or flush, and its fault, if it has one, stands where it stopped; else no
     -- entry is a fault or stopped
@@ -39,13 +49,15 @@ module _ {D : Type 0} (d : disk.Ghosts D) where
     -- power may fail at any moment, of a device that had one image
     pub survives : HasOneImage d first.disk → Survives d first.super (shown (state_of d first)) last
 
-  -- a store as the device says it
-  pub record IsLoaded (before : D) (first : At D) : Type 0 where
-    pub super : IsTrue d.tells → first.super ≡ super_of (d.now before 0) (d.pages before)
-    pub says : IsTrue d.tells → Says (region_of first.super) (map.get first.metas) (one_page_chains (map.get first.metas)) (d.now before)
+  -- A store as the device says it, whole in itself: its masks are what its chains and maps claim. It is opened with the script.
+  pub record IsLoaded (before : D) (loaded : Loaded D) (first : At D) : Type 0 where
+    pub super : IsTrue d.tells → loaded.sup ≡ super_of (d.now before 0) (d.pages before)
+    pub says : IsTrue d.tells → Says (region_of loaded.sup) (map.get loaded.metas) (map.get loaded.chains) (d.now before)
     pub accepted : IsTrue d.tells → IsAccepted (d.pages before) (d.now before)
-    pub same : OnlyRead d before first.disk
-    pub one_image : HasOneImage d before → HasOneImage d first.disk
+    pub whole : IsWhole loaded
+    pub same : OnlyRead d before loaded.disk
+    pub one_image : HasOneImage d before → HasOneImage d loaded.disk
+    pub opened : IsOpened d loaded script first
 
   module _ {K : Type 0} (k : sink.Ghosts K) (out out_now : K) (back : D) where
     -- a run from this state, on the device that is handed back, and of the text of its log as much as was printed
@@ -58,10 +70,14 @@ module _ {D : Type 0} (d : disk.Ghosts D) where
     abbrev pub IsPrinted : {first : At D} → Played first → Type 0
     IsPrinted p = IsTrue k.tells → k.written out_now ≡ k.written out ++ log_text p.last.log
 
-    -- what a run came to: it was printed whole, or the sink failed; it stopped; or memory ran out, maybe before it began
+    -- what a run came to: it was printed whole, or the sink failed; it stopped; or memory ran out
     abbrev pub Ended : At D → Status → Type 0
     Ended first status.Good = (p : Played first) × (p.last.stopped ≡ None) × IsPrinted p
     Ended first status.OutWrite = (p : Played first) × (p.last.stopped ≡ None) × Rose (k.faults out) (k.faults out_now)
     Ended first (status.Device at) = (p : Played first) × (p.last.stopped ≡ Some at) × (IsPrinted p ⊎ Rose (k.faults out) (k.faults out_now))
-    Ended first status.Memory = Played first ⊎ ((out_now ≡ out) × (back ≡ first.disk))
+    Ended first status.Memory = Played first
     Ended first _ = ⊥
+
+    -- it began, or memory ran out before: then nothing was printed, and the device is the one that was loaded
+    abbrev pub EndedFrom : Loaded D → Status → Type 0
+    EndedFrom loaded s = ((first : At D) × IsOpened d loaded script first × Ended first s) ⊎ ((s ≡ status.Memory) × (out_now ≡ out) × (back ≡ loaded.disk))

@@ -1,12 +1,12 @@
 -- Which status comes of what.
 use Rattle.std.specs.Prelude.{ℕ, Option, Some, None, Result, Ok, Err, Bool, true, false}
-use Rattle.blob_tool.specs.declared.script.LineKind.TheVariants.{Limit}
-use Rattle.blob_tool.specs.declared.script.ScriptFault.{ScriptFault}
-use Rattle.blob_tool.specs.declared.script.ScriptFault.TheVariants as script
+use Rattle.script_lang.specs.declared.fault.LineKind.TheVariants.{Limit}
+use Rattle.script_lang.specs.declared.fault.ScriptFault.{ScriptFault}
+use Rattle.script_lang.specs.declared.fault.ScriptFault.TheVariants as script
 use Rattle.blob_tool.specs.declared.reading.ReadFault.{ReadFault}
 use Rattle.blob_tool.specs.declared.reading.ReadFault.TheVariants as reading
-use Rattle.blob_tool.specs.declared.loader.LoadFault.{LoadFault}
-use Rattle.blob_tool.specs.declared.loader.LoadFault.TheVariants as loading
+use Rattle.unclean_load.specs.declared.fault.LoadFault.{LoadFault}
+use Rattle.unclean_load.specs.declared.fault.LoadFault.TheVariants as loading
 use Rattle.blob_tool.specs.declared.printing.PrintFault.{PrintFault}
 use Rattle.blob_tool.specs.declared.printing.PrintFault.TheVariants as printing
 use Rattle.blob_tool.specs.declared.status.Status.{Status}

@@ -1,16 +1,43 @@
-//! The driver of a running store.
+//! The driver of a running store: it serves one channel after the other.
 
-ghost use Rattle.std.specs.Prelude.{◌≡◌, []};
+ghost use Rattle.std.specs.Prelude.{◌≡◌, ◌≤◌, ℕ, None};
+ghost use Rattle.store_core.specs.Seen.{rows_of};
+ghost use Rattle.store_core.specs.Steps.{OnlyRow};
+ghost use Rattle.blob_tool.specs.Driving.{ended_row, IsWaiting};
 
-use crate::plant::Plant;
+use crate::serving::serve;
 use page_disk::PageDisk;
+use std::alloc::Global;
+use store_core::{MdRight, Plant, RowStage};
 
-/// Makes turns until no command is left.
-pub fn run<D: PageDisk>(plant: &mut Plant<D>)
-    ensures over { plant.new.at.left ≡ [] }
+/// Serves the commands of a channel, one after the other, and ends it.
+fn run_channel<D: PageDisk>(alloc: Global, plant: &mut Plant<D>, right: &mut MdRight, channel: u8)
+    requires waiting { IsWaiting (rows_of plant.old.at.rows channel) }
+    requires no_job { plant.old.at.job ≡ None }
+    ensures row { OnlyRow plant.old.at.rows plant.new.at.rows channel ended_row }
+    ensures no_job { plant.new.at.job ≡ None }
     ensures opening { plant.new.opening ≡ plant.old.opening }
 {
-    while !plant.is_over() {
-        plant.turn();
+    while let RowStage::Meta = plant.stage(channel) {
+        let msg = plant.post(channel);
+        serve(alloc, plant, right, msg);
+        plant.settle(channel);
+    }
+    if let RowStage::Over = plant.stage(channel) {
+        plant.end(channel);
+    }
+}
+
+/// Serves all commands, and ends all channels.
+pub(crate) fn run<D: PageDisk>(alloc: Global, plant: &mut Plant<D>, right: &mut MdRight)
+    requires waiting { (channel : ℕ) → IsWaiting (rows_of plant.old.at.rows channel) }
+    requires sixteen { (channel : ℕ) → 16 ≤ channel → rows_of plant.old.at.rows channel ≡ ended_row }
+    requires no_job { plant.old.at.job ≡ None }
+    ensures over { (channel : ℕ) → rows_of plant.new.at.rows channel ≡ ended_row }
+    ensures no_job { plant.new.at.job ≡ None }
+    ensures opening { plant.new.opening ≡ plant.old.opening }
+{
+    for channel in 0..16 {
+        run_channel(alloc, plant, right, channel);
     }
 }

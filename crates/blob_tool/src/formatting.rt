@@ -11,6 +11,7 @@ ghost use Rattle.blob_tool.specs.Formatted.{first_super, end_of, HasNewRegions, 
 use crate::content::Content;
 use page_disk::{DiskFault, Page, PageDisk, WriteKind, replace_page};
 use super_block::{Layout, Masks, layouts_are_placed, write_super};
+use unclean_load::stores_are_accepted;
 
 /// Writes so many pages of the content from a start on.
 fn write_pages<D: PageDisk>(
@@ -101,6 +102,7 @@ pub fn write_store<D: PageDisk>(
     ensures faults { HasCause (D.write_faults disk.old) (D.write_faults disk.new) result }
 {
     layouts_are_placed();
+    stores_are_accepted();
     write_regions(disk, layout, masks)?;
     replace_page(disk, 0, &super_page(layout))?;
     Ok(())

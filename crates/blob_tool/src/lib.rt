@@ -3,6 +3,8 @@
 
 #[cfg(test)]
 mod cause_tests;
+#[cfg(test)]
+mod chain_tests;
 mod content;
 #[cfg(test)]
 mod crash_tests;
@@ -11,38 +13,31 @@ mod driver;
 mod format_tests;
 mod format_words;
 mod formatting;
-mod head_page;
 #[cfg(test)]
 mod images;
 mod list_sink;
 mod list_source;
-mod loader;
-mod parts;
-mod plan;
-mod plant;
+#[cfg(test)]
+mod power_tests;
 mod printing;
-mod put;
 mod reading;
-mod refusal;
-mod running;
-mod script;
+mod serving;
 mod sink;
 mod source;
 mod status;
-mod text;
 #[cfg(test)]
-mod text_tests;
+mod stream_tests;
 mod top;
 #[cfg(test)]
 mod top_tests;
-mod turn;
-mod words;
+#[cfg(test)]
+mod verb_tests;
 
 pub use list_sink::ListSink;
 pub use list_source::ListSource;
-pub use loader::LoadFault;
-pub use script::LineKind;
+pub use script_lang::LineKind;
 pub use sink::{Sink, SinkFault};
 pub use source::{Source, SourceFault};
 pub use status::Status;
 pub use top::blobtool;
+pub use unclean_load::LoadFault;

@@ -4,10 +4,11 @@ ghost use Rattle.std.specs.Prelude.{◌≡◌, ◌≤◌, ◌++◌, IsTrue, OnOk
 ghost use Rattle.std.specs.List.{All};
 ghost use Rattle.page_disk.specs.Disk.{Rose};
 ghost use Rattle.blob_tool.specs.Streams.{Caused};
-ghost use Rattle.blob_tool.specs.Text.{HasShortReply, IsPartOf, log_text};
+ghost use Rattle.blob_report.specs.Text.{log_text};
+ghost use Rattle.blob_tool.specs.Text.{HasText, IsPartOf};
 
 use crate::sink::{Sink, SinkFault};
-use crate::text::render_entry;
+use blob_report::render_entry;
 use out_of_memory::Memory;
 use std::alloc::Global;
 use thiserror::Error;
@@ -60,9 +61,9 @@ pub fn offer<K: Sink>(text: &[u8], sink: &mut K) -> Result<(), SinkFault>
     Ok(())
 }
 
-/// Prints the entries, whose replies are short, one after the other. A fault of the sink ends the printing.
+/// Prints the entries, one after the other. A fault of the sink ends the printing.
 pub fn print<K: Sink>(alloc: Global, entries: &[Entry], sink: &mut K) -> Result<(), PrintFault>
-    requires { All HasShortReply entries.now }
+    requires { All HasText entries.now }
     ensures whole { IsTrue K.tells → OnOk result (K.written sink.new ≡ K.written sink.old ++ log_text entries.now) }
     ensures part { IsTrue K.tells → IsPartOf (K.written sink.old) (K.written sink.new) (log_text entries.now) }
     ensures later { K.faults sink.old ≤ K.faults sink.new }

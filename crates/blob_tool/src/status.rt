@@ -1,9 +1,9 @@
 //! How a command of the program ends.
 
-use crate::loader::LoadFault;
 use crate::printing::PrintFault;
 use crate::reading::ReadFault;
-use crate::script::{LineKind, ScriptFault};
+use script_lang::{LineKind, ScriptFault};
+use unclean_load::LoadFault;
 
 /// How a command ended. The exit statuses are 0 to 7, in this order.
 #[derive(Debug, Drop)]

@@ -1,18 +1,18 @@
 //! The whole program, over any source, sink and device.
 
-ghost use Rattle.std.specs.Prelude.{◌≡◌, ◌≤◌, ◌<◌, ◌+◌, ◌^◌, ◌⊎◌, ◌||◌, ℕ, length, not, true, false, Some, is_some, IfOk, IfErr, IsTrue};
+ghost use Rattle.std.specs.Prelude.{◌≡◌, ◌≤◌, ◌<◌, ◌+◌, ◌^◌, ◌⊎◌, ◌||◌, ℕ, [], not, true, false, Some, is_some, slice_index_or, IfOk, IfErr, IsTrue};
 ghost use Rattle.std.specs.List.{All};
 ghost use Rattle.std.specs.FinMap as map;
 ghost use Rattle.super_block.specs.Faults.{IsFaultless};
 ghost use Rattle.super_block.specs.Layout.{IsPlanned, new_masks};
-ghost use Rattle.store_model.specs.Facts.{ArePlain};
-ghost use Rattle.blob_tool.specs.Answers.{IsHeadPut};
-ghost use Rattle.blob_tool.specs.Kept.{loaded_with};
-ghost use Rattle.blob_tool.specs.declared.script.LineKind.{LineKind};
-ghost use Rattle.blob_tool.specs.declared.loader.LoadFault.{LoadFault};
-ghost use Rattle.blob_tool.specs.declared.status.Status.TheVariants.{Good, Usage, Script, Image, ScriptRead, OutWrite, Device, Memory};
-ghost use Rattle.blob_tool.specs.Holds.{Holds};
-ghost use Rattle.blob_tool.specs.Runs.{Ended};
+ghost use Rattle.blob_meta.specs.Asked.{IsOnHead};
+ghost use Rattle.store_core.specs.Surviving.{Holds};
+ghost use Rattle.store_core.specs.Whole.{IsWhole};
+ghost use Rattle.script_lang.specs.declared.fault.LineKind.{LineKind};
+ghost use Rattle.unclean_load.specs.declared.fault.LoadFault.{LoadFault};
+ghost use Rattle.blob_tool.specs.declared.status.Status.TheVariants.{Good, Usage, Image, ScriptRead, OutWrite, Device, Memory};
+ghost use Rattle.blob_tool.specs.declared.status.Status.TheVariants as status;
+ghost use Rattle.blob_tool.specs.Runs.{EndedFrom};
 ghost use Rattle.blob_tool.specs.Outcome.{is_run as is_run_said, HasNoCommands, IsBadImage, IsBadScript, IsUnloaded, IsUnread, NothingFails, Outcome, RanTo, Reads, Stays};
 ghost use Rattle.blob_tool.specs.Format.{format_in as format_said};
 ghost use Rattle.blob_tool.specs.Formatted.{FormatEnded, HasNoPlace, IsCutShort, IsPrintedStore, IsUnprintedStore, NothingDone};
@@ -24,21 +24,21 @@ ghost use Rattle.blob_tool.specs.Statuses.{comes_of_format, is_usage, IsDone};
 use crate::driver::run;
 use crate::format_words::{Format, format_in};
 use crate::formatting::write_store;
-use crate::loader::{LoadFault, Loaded, load};
-use crate::plant::Plant;
 use crate::printing::{offer, print};
 use crate::reading::read_text;
-use crate::script::parse;
 use crate::sink::{Sink, SinkFault};
 use crate::source::Source;
 use crate::status::Status;
-use crate::text::render_new_store;
+use blob_report::space_line;
 use out_of_memory::Memory as NoMemory;
 use page_disk::PageDisk;
+use script_lang::parse;
 use std::alloc::Global;
-use store_model::stops;
+use store_core::{Loaded, Parts, Plant};
+use store_model::{plant_stops, plant_turns};
 use super_block::{Layout, Masks};
-use volume_model::Command;
+use unclean_load::{LoadFault, load, stores_are_accepted};
+use volume_model::{Df, Script};
 
 /// Whether the words are `run IMAGE`.
 fn is_run(words: &[String]) -> bool
@@ -50,43 +50,65 @@ fn is_run(words: &[String]) -> bool
     }
 }
 
-/// The commands of the script's text.
-fn commands_of<S: Source>(alloc: Global, script: &mut S) -> Result<Vec<Command>, Status>
-    ensures text { IfOk result (λ commands. Reads S.Source script.old script.new commands.items) }
-    ensures puts { IfOk result (λ commands. All IsHeadPut commands.items) }
-    ensures few { IfOk result (λ commands. length commands.items < 2 ^ 30) }
-    ensures why { IfErr result (HasNoCommands S.Source script.old script.new) }
-    ensures taken { IsTrue S.tells → Takes (S.left script.old) (S.left script.new) (2 ^ 20 + 1) }
+/// The script of the source's text.
+fn script_of<S: Source>(alloc: Global, source: &mut S) -> Result<Script, Status>
+    ensures text { IfOk result (λ script. Reads S.Source source.old source.new script) }
+    ensures on_heads { IfOk result (λ script. (channel : ℕ) → All IsOnHead (slice_index_or script channel [])) }
+    ensures why { IfErr result (HasNoCommands S.Source source.old source.new) }
+    ensures taken { IsTrue S.tells → Takes (S.left source.old) (S.left source.new) (2 ^ 20 + 1) }
 {
-    let text = read_text(alloc, script)?;
+    let text = read_text(alloc, source)?;
     Ok(parse(alloc, &text)?)
 }
 
-/// Runs the commands on a loaded store, and prints the log.
+/// The device of a loaded store.
+fn disk_of<D>(loaded: Loaded<D>) -> D
+    ensures { result ≡ loaded.disk }
+{
+    let Loaded {
+        disk,
+        sup: _,
+        metas: _,
+        removed: _,
+        chains: _,
+        repairs: _,
+        masks: _,
+        quick: _,
+    } = loaded;
+    disk
+}
+
+/// Runs the script on a loaded store, and prints the log.
 fn play<K: Sink, D: PageDisk>(
     alloc: Global,
-    commands: Vec<Command>,
+    script: Script,
     loaded: Loaded<D>,
     out: &mut K,
 ) -> (Status, D)
-    requires plain { ArePlain loaded.sup (map.get loaded.metas) }
+    requires whole { IsWhole loaded }
     requires faultless { IsFaultless loaded.sup }
-    requires holds { IsTrue D.tells → Holds loaded.sup (map.get loaded.metas) (D.now loaded.disk) }
+    requires holds { IsTrue D.tells → Holds loaded.sup (map.get loaded.metas) (map.get loaded.chains) (D.now loaded.disk) (D.now loaded.disk) }
     requires inside { loaded.sup.md_start + loaded.sup.md_len ≤ D.pages loaded.disk }
-    requires puts { All IsHeadPut commands.items }
-    requires few { length commands.items < 2 ^ 30 }
-    ensures { Ended D.PageDisk K.Sink out.old out.new result.1 (loaded_with D.PageDisk loaded.disk loaded.sup loaded.metas commands.items) result.0 }
+    requires on_heads { (channel : ℕ) → All IsOnHead (slice_index_or script channel []) }
+    ensures { EndedFrom D.PageDisk script K.Sink out.old out.new result.1 loaded result.0 }
 {
-    stops();
-    let Loaded { disk, sup, metas } = loaded;
-    let mut plant = match Plant::start(alloc, disk, sup, metas, commands) {
-        Ok(plant) => plant,
-        Err(disk) => return (Status::Memory, disk),
+    plant_stops();
+    plant_turns();
+    stores_are_accepted();
+    let (mut plant, mut right) = match Plant::start(alloc, loaded, script) {
+        Ok(made) => made,
+        Err(loaded) => return (Status::Memory, disk_of(loaded)),
     };
-    run(&mut plant);
+    run(alloc, &mut plant, &mut right);
     let stopped = plant.stopped();
-    let (log, disk) = plant.into_parts();
-    (Status::of_run(stopped, print(alloc, &log, out)), disk)
+    let Parts {
+        disk,
+        sup: _,
+        masks: _,
+        entries,
+    } = plant.into_parts(right);
+    let printed = print(alloc, entries.as_slice(), out);
+    (Status::of_run(stopped, printed), disk)
 }
 
 /// Reads the script to its end, loads the store of the device, runs the script's commands on it and prints an entry for each.
@@ -101,7 +123,7 @@ fn run_image<S: Source, K: Sink, D: PageDisk>(
     ensures outcome { Outcome S.Source script.old script.new D.PageDisk K.Sink out.old out.new disk result.1 result.0 }
     ensures complete { NothingFails S.Source script.old script.new D.PageDisk K.Sink out.old out.new disk result.1 → IsDone result.0 }
 {
-    let commands = match commands_of(alloc, script) {
+    let commands = match script_of(alloc, script) {
         Ok(commands) => commands,
         Err(status) => return (status, disk),
     };
@@ -118,8 +140,14 @@ fn prepared(alloc: Global, layout: &Layout) -> Result<(Masks, Vec<u8>), NoMemory
     ensures line { IfOk result (λ p. p.1.items ≡ new_store_text layout.now) }
 {
     let masks = Masks::new(alloc, layout)?;
+    let space = Df {
+        free_clusters: layout.free_clusters(),
+        clusters: layout.clusters,
+        free_pages: layout.md_pages,
+        pages: layout.md_pages,
+    };
     let mut line = Vec::new(alloc);
-    render_new_store(layout, &mut line)?;
+    space_line(space, &mut line)?;
     Ok((masks, line))
 }
 
@@ -176,7 +204,7 @@ pub fn blobtool<S: Source, K: Sink, D: PageDisk + Send>(
     ensures memory { is_run_said words.now ≡ true → result.0 ≡ Memory → RanTo S.Source script.old script.new D.PageDisk K.Sink out.old out.new disk result.1 Memory
         ⊎ Stays S.Source script.old script.new D.PageDisk K.Sink out.old out.new disk result.1 }
     ensures image { is_run_said words.now ≡ true → (fault : LoadFault) → result.0 ≡ Image fault → IsBadImage S.Source script.old script.new D.PageDisk K.Sink out.old out.new disk result.1 fault }
-    ensures script { (line : ℕ) (kind : LineKind) → result.0 ≡ Script line kind → IsBadScript S.Source script.old script.new D.PageDisk K.Sink out.old out.new disk result.1 line kind }
+    ensures script { (line : ℕ) (kind : LineKind) → result.0 ≡ status.Script line kind → IsBadScript S.Source script.old script.new D.PageDisk K.Sink out.old out.new disk result.1 line kind }
     ensures script_read { result.0 ≡ ScriptRead → IsUnread S.Source script.old script.new D.PageDisk K.Sink out.old out.new disk result.1 }
 
     // No more is taken from the source than a script may have, and one byte.

@@ -8,7 +8,7 @@ use std::test::Fail as TestFail;
 
 /// A sink in memory of which the calls with these numbers fail.
 pub fn sink(alloc: Global, fails: Vec<u64>) -> Result<ListSink, TestFail> {
-    Ok(ListSink::new(alloc, 4096, fails)?)
+    Ok(ListSink::new(alloc, 1 << 15, fails)?)
 }
 
 /// A source of a script of which the reads with these numbers fail.
@@ -40,13 +40,37 @@ pub fn run<D: PageDisk + Drop + Send>(
     run_from(alloc, &mut source, out, disk)
 }
 
-/// Appends a line that begins so and ends with a value of so many bytes.
-fn push_long(script: &mut Vec<u8>, begin: &[u8], length: usize) -> Result<(), TestFail> {
+/// A value: a letter, and how often it stands there.
+pub type Letters = (u8, usize);
+
+/// Appends a line that begins so and ends with a value.
+pub fn push_long(script: &mut Vec<u8>, begin: &[u8], value: Letters) -> Result<(), TestFail> {
+    let (letter, length) = value;
     script.extend_from_slice(begin)?;
     for _ in 0..length {
-        script.push(b'x')?;
+        script.push(letter)?;
     }
     script.push(b'\n')?;
+    Ok(())
+}
+
+/// Appends the line of an entry with this number that tells a value, or that there is none.
+pub fn push_told(
+    alloc: Global,
+    lines: &mut Vec<u8>,
+    index: usize,
+    value: Option<Letters>,
+) -> Result<(), TestFail> {
+    let Some((letter, length)) = value else {
+        lines.extend_from_slice(format!(in alloc; "0 {index} no value\n")?.as_bytes())?;
+        return Ok(());
+    };
+    lines.extend_from_slice(format!(in alloc; "0 {index} value ")?.as_bytes())?;
+    let digits = format!(in alloc; "{letter:02x}")?;
+    for _ in 0..length {
+        lines.extend_from_slice(digits.as_bytes())?;
+    }
+    lines.push(b'\n')?;
     Ok(())
 }
 
@@ -54,10 +78,10 @@ fn push_long(script: &mut Vec<u8>, begin: &[u8], length: usize) -> Result<(), Te
 fn each_put_is_answered(rt: HostRuntime) -> Result<(), TestFail> {
     let alloc = rt.alloc();
     let mut large = Vec::new(alloc);
-    push_long(&mut large, b"0 put @0 k1 t:", 4000)?;
-    push_long(&mut large, b"0 put @0 k2 t:", 4000)?;
+    push_long(&mut large, b"0 put @0 k1 t:", (b'x', 4000))?;
+    push_long(&mut large, b"0 put @0 k2 t:", (b'x', 4000))?;
     let mut too_long = Vec::new(alloc);
-    push_long(&mut too_long, b"0 put @0 k2 t:", 4062)?;
+    push_long(&mut too_long, b"0 put @0 k2 t:", (b'x', 4062))?;
     let table: [(&[u8], &[u8]); 5] = [
         (b"", b""),
         (b"0 put @0 owner t:bob\n", b"0 0 ok\n"),
@@ -65,7 +89,7 @@ fn each_put_is_answered(rt: HostRuntime) -> Result<(), TestFail> {
             b"0 put @1 owner t:bob\n0 put @0 name t:x\n0 put @0 owner t:bob",
             b"0 0 no volume\n0 1 reserved\n0 2 ok\n",
         ),
-        (&large, b"0 0 ok\n0 1 no page\n"),
+        (&large, b"0 0 ok\n0 1 ok\n"),
         (&too_long, b"0 0 too long\n"),
     ];
     for (script, printed) in table {
@@ -77,7 +101,7 @@ fn each_put_is_answered(rt: HostRuntime) -> Result<(), TestFail> {
     let mut body = flags();
     body[13] = 1;
     let mut out = sink(alloc, Vec::new(alloc))?;
-    let disk = device(alloc, body, LAST)?;
+    let disk = device(alloc, 16, body, LAST)?;
     run(alloc, b"0 put @0 owner t:bob\n", &mut out, disk)?;
     assert_eq!(rt; out.bytes(), b"0 0 read only\n".as_slice());
     Ok(())

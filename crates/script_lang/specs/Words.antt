@@ -8,9 +8,12 @@ use Rattle.std.specs.Str.Parse.{digits_value}
 abbrev pub is_channel : List ℕ → Bool
 is_channel word = bytes_eq word (codes "0")
 
--- a number below 2^32 as it is printed: without sign or leading zero
+-- a number below a limit as it is printed: without sign or leading zero
+abbrev pub number_below : ℕ → List ℕ → Option ℕ
+number_below limit word = if bytes_eq (decimal (digits_value 10 word)) word && nat_lt (digits_value 10 word) limit then Some (digits_value 10 word) else None
+
 abbrev pub number_in : List ℕ → Option ℕ
-number_in word = if bytes_eq (decimal (digits_value 10 word)) word && nat_lt (digits_value 10 word) (2 ^ 32) then Some (digits_value 10 word) else None
+number_in word = number_below (2 ^ 32) word
 
 -- `@` and the place of a head page
 abbrev pub head_in : List ℕ → Option ℕ

@@ -12,3 +12,4 @@ mod words;
 
 pub use fault::{LineKind, ScriptFault};
 pub use parsing::parse;
+pub use words::number_below;

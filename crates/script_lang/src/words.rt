@@ -1,8 +1,8 @@
 //! The words of a line: channels, numbers, volumes, keys and values.
 
-ghost use Rattle.std.specs.Prelude.{◌≡◌};
+ghost use Rattle.std.specs.Prelude.{◌≡◌, ◌<◌, IfSome};
 ghost use Rattle.std.specs.Option.{option_copied};
-ghost use Rattle.script_lang.specs.Words.{is_channel as channel_said, number_in, head_in, is_visible as visible_said, key_in, value_in};
+ghost use Rattle.script_lang.specs.Words.{is_channel as channel_said, number_below as number_below_said, number_in, head_in, is_visible as visible_said, key_in, value_in};
 
 use itoa::Buffer;
 
@@ -13,20 +13,31 @@ pub fn is_channel(word: &[u8]) -> bool
     word == b"0".as_slice()
 }
 
-/// A number below 2^32, in decimal without sign or leading zero.
-fn number(word: &[u8]) -> Option<u32>
-    ensures { result ≡ number_in word.now }
+/// A number below a limit, in decimal without sign or leading zero.
+pub fn number_below(limit: u64, word: &[u8]) -> Option<u64>
+    ensures number { result ≡ number_below_said limit word.now }
+    ensures below { IfSome result (λ number. number < limit) }
 {
     let Ok(text) = str::from_utf8(word) else {
         return None;
     };
-    let Ok(number) = text.parse::<u32>() else {
+    let Ok(number) = text.parse::<u64>() else {
         return None;
     };
-    if Buffer::new().format(number).as_bytes() == word {
+    if number < limit && Buffer::new().format(number).as_bytes() == word {
         Some(number)
     } else {
         None
+    }
+}
+
+/// A number below 2^32.
+fn number(word: &[u8]) -> Option<u32>
+    ensures { result ≡ number_in word.now }
+{
+    match number_below(1 << 32, word) {
+        Some(number) => Some(number as u32),
+        None => None,
     }
 }
 

@@ -20,7 +20,7 @@ use Rattle.blob_meta.specs.Asked.{head_in, IsCause, ShowsBlob}
 use Rattle.blob_meta.specs.Parents.{is_read_only}
 use Rattle.store_model.specs.Maps.{Map, given}
 use Rattle.store_model.specs.Shown.{fixed_of, volume_of}
-use Rattle.store_model.specs.Turns.{IsQuiet}
+use Rattle.store_model.specs.Cases.{IsQuiet}
 use Rattle.store_model.specs.Plants.{Plant, shown}
 use Rattle.store_model.specs.Cases.{IsInMemory, live_of}
 use Rattle.store_model.specs.Standing.{RunsWell}
@@ -98,10 +98,10 @@ module _ (f : Fixed) (v : Volumes) where
     at_head None there none = absurd (cc none)
     at_head (Some x) there some = (x, there, cc some)
 
-    found : (x : Volume) × (v head ≡ Some x) × (x.live ≡ mine)
+    pub found : (x : Volume) × (v head ≡ Some x) × (x.live ≡ mine)
     found = at_head (v head) refl (ap (λ (m : Map Xattrs). m head) same ∙ is)
 
-    meant : head_of f v (Head head) ≡ Some head
+    pub meant : head_of f v (Head head) ≡ Some head
     meant = let there = found.1 in rw there refl
 
     changed : (new : Xattrs → Xattrs) → given live head (new mine) ≡ live_of (edited_at f v (head_of f v (Head head)) (λ x. record x { live = new x.live }))

@@ -18,7 +18,7 @@ use Rattle.store_model.specs.Regions.{region_of}
 use Rattle.store_model.specs.Scans.{MetaAt}
 use Rattle.store_model.specs.Shown.{fixed_of}
 use Rattle.store_model.specs.Recovers.{Recovers, RecoversAt, RecoversFrom}
-use Rattle.store_model.specs.State.{Device}
+use Rattle.store_model.specs.Device.{Device}
 use Rattle.store_model.specs.Rows.{entry_of}
 use Rattle.store_model.specs.Plants.{Job, Writing, Erasing, Plant, planned_at, logged, shown}
 use Rattle.store_model.specs.Places.{held_by}

@@ -21,7 +21,7 @@ use Rattle.store_model.specs.Plants.{Job, Writing, Erasing, Plant, planned_at, s
 use Rattle.store_model.specs.Jobs.{AsksFor}
 use Rattle.store_model.specs.Cases.{after_commit, live_of, Moves}
 use Rattle.store_model.specs.Cases as kind
-use Rattle.store_model.specs.Turns.{FailsToReplace}
+use Rattle.store_model.specs.Cases.{FailsToReplace}
 use Rattle.store_model.specs.Standing.{RunsWell}
 use Rattle.store_model.proofs.Given.{given_here, given_elsewhere}
 use Rattle.store_model.proofs.Shows.{or_empty}

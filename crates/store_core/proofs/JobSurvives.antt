@@ -18,7 +18,7 @@ use Rattle.store_model.specs.Maps.{Metas, Chains}
 use Rattle.store_model.specs.Regions.{look_of, region_of}
 use Rattle.store_model.specs.Scans.{is_head, MetaAt, Unlinked}
 use Rattle.store_model.specs.Recovers.{RecoversAt}
-use Rattle.store_model.specs.State.{Device}
+use Rattle.store_model.specs.Device.{Device}
 use Rattle.store_model.specs.Plants.{Job, Writing, Erasing, Plant, planned_at}
 use Rattle.store_model.specs.Places.{held_by}
 use Rattle.store_model.specs.Cases.{Moves, read_after}

@@ -18,7 +18,7 @@ use Rattle.store_model.specs.Plants.{Job, Phase, Writing, Erasing, Plant, planne
 use Rattle.store_model.specs.Places.{all_set, AreDistinct}
 use Rattle.store_model.specs.Cases.{after_commit, live_of, Moves, Runs}
 use Rattle.store_model.specs.Cases as kind
-use Rattle.store_model.specs.Turns.{FailsToReplace}
+use Rattle.store_model.specs.Cases.{FailsToReplace}
 use Rattle.store_model.proofs.JobKept.{among_at}
 use Rattle.store_core.specs.Seen.{At, device_of, rows_of, state_of}
 use Rattle.store_core.specs.Steps.{logged_at}

@@ -18,3 +18,5 @@ pub mod JobCommitted
 pub mod Goes
 pub mod Posting
 pub mod Starts
+pub mod Requested
+pub mod Planning

@@ -6,7 +6,7 @@ use Rattle.page_disk.specs.declared.disk.PageDisk.{Ghosts}
 use Rattle.page_disk.specs.declared.disk.DiskFault.{DiskFault}
 use Rattle.volume_model.specs.Volumes.{zero_page}
 use Rattle.store_model.specs.Cases.{Moves, read_after}
-use Rattle.store_model.specs.Turns.{FailsToReplace}
+use Rattle.store_model.specs.Cases.{FailsToReplace}
 use Rattle.store_core.specs.Seen.{device_of}
 
 read_told : (tells : Bool) (old new : Image) (place : ℕ) (page : List ℕ) → (IsTrue tells → new ≡ with_page old place page)

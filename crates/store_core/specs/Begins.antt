@@ -20,6 +20,8 @@ use Rattle.store_model.specs.Cases as kind
 use Rattle.store_model.specs.Jobs.{AsksFor, Needs}
 use Rattle.store_core.specs.Made.{Made}
 use Rattle.store_core.specs.Seen.{At}
+use Rattle.store_core.specs.Steps.{decided}
+use Rattle.store_model.specs.Rows.{Row, InJob}
 use Rattle.store_core.specs.declared.begin.BeginTurn.{BeginTurn}
 use Rattle.store_core.specs.declared.begin.BeginTurn.TheVariants as begin
 use Rattle.store_core.specs.declared.begin.Laid.{Laid}
@@ -83,3 +85,8 @@ pub record IsJobOf (p : Plant) (command : Command) (job : Given) : Type 0 where
 abbrev pub BeginsOrNot : {D : Type 0} → Ghosts D → At D → At D → BeginTurn → Type 0
 BeginsOrNot d p q begin.Began = Made d p q kind.begins
 BeginsOrNot d p q begin.Logged = Made d p q kind.refuses
+
+-- the row of the channel then: the job serves it, or its first command is logged
+abbrev pub begun : BeginTurn → Row → Row
+begun begin.Began row = record row { stage = InJob }
+begun begin.Logged row = decided row

@@ -11,3 +11,5 @@ pub mod Answering
 pub mod JobTurns
 pub mod Begins
 pub mod Opening
+pub mod Requests
+pub mod Planning

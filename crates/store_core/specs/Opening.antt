@@ -24,6 +24,7 @@ row_at_start script channels channel = if nat_lt channel channels then record { 
 -- Sixteen rows, each with the commands of its channel.
 pub record AreRows (script : List (List Command)) (rows : List Row) : Type 0 where
   pub channels : ℕ
+  pub few : channels ≤ 16
   pub sixteen : length rows ≡ 16
   pub each : (channel : ℕ) → channel < 16 → rows_of rows channel ≡ row_at_start script channels channel
   pub above : (channel : ℕ) → nat_lt channel channels ≡ false → slice_index_or script channel [] ≡ []

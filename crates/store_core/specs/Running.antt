@@ -1,5 +1,8 @@
 -- The fields of a running store as contracts see them, and how they are kept in order.
-use Rattle.std.specs.Prelude.{◌≡◌, ℕ, ◌+◌, ◌^◌, ◌<◌, ◌≤◌, [], length, vec_capacity, slice_index_or, IfSome, List}
+use Rattle.std.specs.Prelude.{◌≡◌, ◌↔◌, ℕ, ◌+◌, ◌^◌, ◌<◌, ◌≤◌, Bool, true, [], length, vec_capacity, slice_index_or, IfSome, IsSome, List}
+use Rattle.std.specs.FinMap as map
+use Rattle.bit_array.specs.Bits.{is_in}
+use Rattle.store_model.specs.Maps.{Metas}
 use Rattle.std.specs.List.{sum_by}
 use Rattle.std.specs.Option.{option_map}
 use Rattle.page_disk.specs.declared.disk.PageDisk.{Ghosts}
@@ -32,8 +35,13 @@ both running opening = record { at = at_of running; opening = at_of opening }
 abbrev pub left_in : List Row → ℕ
 left_in rows = sum_by (λ r. length r.left) rows
 
+-- The places in the set are those of the blobs' heads.
+pub record AreHeads (md_len : ℕ) (metas : Metas) (heads : List Bool) : Type 0 where
+  pub count : length heads ≡ md_len
+  pub are : (head : ℕ) → head < md_len → (is_in heads head ≡ true) ↔ IsSome (metas head)
+
 -- There are sixteen rows; the log and the marks have room for all that is left; the entries of each channel are counted; no
--- place is claimed; the metadata region lies on the device.
+-- place is claimed; the metadata region lies on the device; and the heads are set.
 pub record InOrder {D : Type 0} (d : Ghosts D) (running : Running D) : Type 0 where
   pub inside : running.sup.md_start + running.sup.md_len ≤ d.pages running.disk
   pub sixteen : length running.rows.items ≡ 16
@@ -45,3 +53,4 @@ pub record InOrder {D : Type 0} (d : Ghosts D) (running : Running D) : Type 0 wh
   pub no_page : running.pages.claims ≡ []
   pub no_cluster : running.clusters.claims ≡ []
   pub headed : IfSome running.job IsHeaded
+  pub heads : AreHeads running.sup.md_len (map.get running.metas) running.heads

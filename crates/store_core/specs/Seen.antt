@@ -14,7 +14,7 @@ use Rattle.volume_model.specs.declared.reply.Entry.{Entry}
 use Rattle.volume_model.specs.contracts.reply.Entry as entry
 use Rattle.blob_meta.specs.declared.meta.Meta.{Meta}
 use Rattle.blob_meta.specs.contracts.meta.Meta as meta
-use Rattle.store_model.specs.State.{Device}
+use Rattle.store_model.specs.Device.{Device}
 use Rattle.store_model.specs.Rows.{Row, Rows, Ended}
 use Rattle.store_model.specs.Plants.{Job, Plant}
 use Rattle.store_core.specs.Stages.{row_code}

@@ -1,5 +1,5 @@
 -- What turns make of the rows, the log and the marks.
-use Rattle.std.specs.Prelude.{◌≡◌, ℕ, ◌<◌, List, [], ◌∷◌, ◌++◌, length, slice_set}
+use Rattle.std.specs.Prelude.{◌≡◌, ◌≢◌, ℕ, ◌<◌, List, [], ◌∷◌, ◌++◌, length, drop, slice_set}
 use Rattle.volume_model.specs.declared.command.Command.{Command}
 use Rattle.volume_model.specs.declared.reply.Reply.{Reply}
 use Rattle.store_model.specs.Rows.{Row, Stage, Decided, Posted, entry_of}
@@ -13,6 +13,15 @@ with_row_at p channel row = record p { rows = slice_set p.rows channel row }
 pub record HasRow {D : Type 0} (p : At D) (channel : ℕ) (row : Row) : Type 0 where
   pub low : channel < length p.rows
   pub is : rows_of p.rows channel ≡ row
+
+-- One channel's row is this one now, and each other row is as it was.
+pub record OnlyRow (old new : List Row) (channel : ℕ) (given : Row) : Type 0 where
+  pub row : rows_of new channel ≡ given
+  pub others : (other : ℕ) → other ≢ channel → rows_of new other ≡ rows_of old other
+
+-- a row once its first command is logged
+abbrev pub decided : Row → Row
+decided row = record { left = drop 1 row.left; stage = Decided }
 
 -- an entry is logged, with its mark
 abbrev pub logged_at : {D : Type 0} → At D → ℕ → Command → List Command → Reply → ℕ → At D

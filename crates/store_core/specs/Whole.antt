@@ -1,7 +1,7 @@
 -- When what was loaded of a store is whole in itself, whatever the device tells.
-use Rattle.std.specs.Prelude.{◌≡◌, ◌↔◌, ◌<◌, ℕ, [], length, true, false, IsSome}
+use Rattle.std.specs.Prelude.{◌≡◌, ◌↔◌, ◌⊎◌, ◌<◌, ℕ, List, [], length, Bool, true, false, IsSome}
 use Rattle.std.specs.FinMap as map
-use Rattle.bit_array.specs.Bits.{is_in}
+use Rattle.bit_array.specs.Bits.{is_in, IsFull, IsLeastClear}
 use Rattle.super_block.specs.declared.page.Super.{Super}
 use Rattle.super_block.specs.declared.masks.Masks.{Masks}
 use Rattle.blob_meta.specs.Resolving.{IsLawful}
@@ -26,3 +26,7 @@ pub record IsWhole {D : Type 0} (loaded : Loaded D) : Type 0 where
   pub none_removed : loaded.removed ≡ map.empty
   pub no_repairs : loaded.repairs ≡ []
   pub read_whole : loaded.quick ≡ false
+
+-- the least place that is clear, or, where none is, how many there are
+abbrev pub IsNextHead : ℕ → List Bool → ℕ → Type 0
+IsNextHead md_len pages head = IsLeastClear pages head ⊎ (IsFull pages × (head ≡ md_len))

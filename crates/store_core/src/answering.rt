@@ -9,8 +9,8 @@ ghost use Rattle.store_core.specs.Answering.{ComesTo, Does};
 ghost use Rattle.store_core.specs.Kept.{IsRunning};
 ghost use Rattle.store_core.specs.Made.{Made};
 ghost use Rattle.store_core.specs.Running.{at_of, InOrder};
-ghost use Rattle.store_core.specs.Seen.{state_of};
-ghost use Rattle.store_core.specs.Steps.{Asks, IsPostedAt};
+ghost use Rattle.store_core.specs.Seen.{rows_of, state_of};
+ghost use Rattle.store_core.specs.Steps.{decided, Asks, IsPostedAt, OnlyRow};
 
 use crate::logging::log;
 use crate::refusing::halt;
@@ -126,6 +126,7 @@ pub(crate) fn answer<D: PageDisk>(running: &mut Running<D>, channel: u8)
     requires runs { running.old.stopped ≡ None }
     requires no_job { running.old.job ≡ None }
     ensures case { Made D.PageDisk (at_of running.old) (at_of running.new) kind.answers }
+    ensures row { OnlyRow running.old.rows.items running.new.rows.items channel (decided (rows_of running.old.rows.items channel)) }
     ensures order { InOrder D.PageDisk running.new }
 {
     let command = first_of(&running.rows, channel);
@@ -149,6 +150,7 @@ pub(crate) fn answer_or_halt<D: PageDisk>(running: &mut Running<D>, channel: u8)
     requires no_job { running.old.job ≡ None }
     ensures answered { running.old.stopped ≡ None → Made D.PageDisk (at_of running.old) (at_of running.new) kind.answers }
     ensures halted { IsSome running.old.stopped → Made D.PageDisk (at_of running.old) (at_of running.new) kind.halts }
+    ensures row { OnlyRow running.old.rows.items running.new.rows.items channel (decided (rows_of running.old.rows.items channel)) }
     ensures order { InOrder D.PageDisk running.new }
 {
     if running.stopped.is_some() {

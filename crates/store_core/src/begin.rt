@@ -10,12 +10,12 @@ ghost use Rattle.md_chain.specs.Packing.{parts_of, ArePlannable, AreFew, FitsPag
 ghost use Rattle.store_model.specs.Cases as kind;
 ghost use Rattle.store_model.specs.Jobs.{AsksFor};
 ghost use Rattle.store_core.specs.declared.begin.BeginTurn.TheVariants.{Began, Logged};
-ghost use Rattle.store_core.specs.Begins.{BeginsOrNot, HasChain, IsJobOf, ReplacesOne, IsLaid, IsPrepared, IsTaken, LacksPages};
+ghost use Rattle.store_core.specs.Begins.{begun, BeginsOrNot, HasChain, IsJobOf, ReplacesOne, IsLaid, IsPrepared, IsTaken, LacksPages};
 ghost use Rattle.store_core.specs.Kept.{IsRunning};
 ghost use Rattle.store_core.specs.Made.{Made};
 ghost use Rattle.store_core.specs.Running.{at_of, InOrder};
-ghost use Rattle.store_core.specs.Seen.{state_of};
-ghost use Rattle.store_core.specs.Steps.{Asks, IsPostedAt};
+ghost use Rattle.store_core.specs.Seen.{rows_of, state_of};
+ghost use Rattle.store_core.specs.Steps.{Asks, IsPostedAt, OnlyRow};
 
 use crate::clearing::clear_places;
 use crate::job::{Planned, RunningJob, Work};
@@ -36,6 +36,7 @@ use volume_model::{PlaceList, Reply, TryCopy, XattrList};
 const MOST_PARTS: usize = (1 << 31) - 2;
 
 /// What the begin of a job comes to.
+#[derive(Clone, Copy)]
 pub enum BeginTurn {
     /// The job runs.
     Began,
@@ -104,6 +105,7 @@ pub(crate) fn begin<D: PageDisk>(
     requires no_job { running.old.job ≡ None }
     ensures began { result ≡ Began → Made D.PageDisk (at_of running.old) (at_of running.new) kind.begins }
     ensures logged { result ≡ Logged → Made D.PageDisk (at_of running.old) (at_of running.new) kind.refuses }
+    ensures row { OnlyRow running.old.rows.items running.new.rows.items channel (begun result (rows_of running.old.rows.items channel)) }
     ensures order { InOrder D.PageDisk running.new }
 {
     match prepare(
@@ -144,6 +146,7 @@ pub(crate) fn begin_or_halt<D: PageDisk>(
     requires no_job { running.old.job ≡ None }
     ensures begins { running.old.stopped ≡ None → BeginsOrNot D.PageDisk (at_of running.old) (at_of running.new) result }
     ensures halted { IsSome running.old.stopped → (result ≡ Logged) × Made D.PageDisk (at_of running.old) (at_of running.new) kind.halts }
+    ensures row { OnlyRow running.old.rows.items running.new.rows.items channel (begun result (rows_of running.old.rows.items channel)) }
     ensures order { InOrder D.PageDisk running.new }
 {
     if running.stopped.is_some() {

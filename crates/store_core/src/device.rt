@@ -5,7 +5,7 @@ ghost use Rattle.page_disk.specs.Disk.{Only, Written};
 ghost use Rattle.page_disk.specs.Moments.{IsReplaced, LeavesOnly};
 ghost use Rattle.page_disk.specs.declared.disk.WriteKind.TheVariants.{Plain};
 ghost use Rattle.store_model.specs.Cases.{Moves};
-ghost use Rattle.store_model.specs.Turns.{FailsToReplace};
+ghost use Rattle.store_model.specs.Cases.{FailsToReplace};
 ghost use Rattle.store_core.specs.Seen.{device_of};
 
 use page_disk::{DiskFault, Page, PageDisk, replace_page, write_and_flush, write_page};

@@ -25,6 +25,7 @@ use super_block::Super;
 use volume_model::{PlaceList, Reply};
 
 /// What a turn of the running job leaves.
+#[derive(Clone, Copy)]
 pub enum JobTurn {
     /// The job runs on.
     More,

@@ -5,7 +5,7 @@ ghost use Rattle.volume_model.specs.declared.command.Command.{Command as AComman
 ghost use Rattle.store_model.specs.Rows.{Stage as AStage};
 ghost use Rattle.store_core.specs.Running.{at_of, InOrder};
 ghost use Rattle.store_core.specs.Seen.{rows_of};
-ghost use Rattle.store_core.specs.Steps.{logged_at};
+ghost use Rattle.store_core.specs.Steps.{decided, logged_at, OnlyRow};
 
 use crate::running::Running;
 use page_disk::PageDisk;
@@ -18,6 +18,7 @@ pub(crate) fn log<D: PageDisk>(running: &mut Running<D>, channel: u8, reply: Rep
     requires left { 0 < length (rows_of running.old.rows.items channel).left }
     ensures logged { (command : ACommand) (rest : List ACommand) → (rows_of running.old.rows.items channel).left ≡ command ∷ rest →
         at_of running.new ≡ logged_at (at_of running.old) channel command rest reply (D.clock running.new.disk) }
+    ensures row { OnlyRow running.old.rows.items running.new.rows.items channel (decided (rows_of running.old.rows.items channel)) }
     ensures order { InOrder D.PageDisk running.new }
 {
     let Some(command) = running.rows[channel as usize].take() else {

@@ -6,7 +6,9 @@ use crate::begin::{BeginTurn, begin_or_halt};
 use crate::job_turn::{JobTurn, job_turn};
 use crate::keeping::{begins, goes_on};
 use crate::loaded::Loaded;
+use crate::parts::Parts;
 use crate::refusing::refuse_or_halt;
+use crate::requests::{Request, Stale, asked_in};
 use crate::right::MdRight;
 use crate::rows::RowStage;
 use crate::running::Running;
@@ -42,6 +44,7 @@ impl<D: PageDisk> Model for Plant<D> {
 }
 
 /// What `Plant::settle` finds.
+#[derive(Clone, Copy)]
 pub enum SettleTurn {
     /// The command isn't logged yet.
     Waiting,
@@ -56,20 +59,21 @@ impl<D: PageDisk> Plant<D> {
     ghost use Rattle.blob_meta.specs.Asked.{IsOnHead};
     ghost use Rattle.store_model.specs.Cases.{IsInMemory, IsRefusedBy};
     ghost use Rattle.store_model.specs.Cases as kind;
-    ghost use Rattle.store_model.specs.Rows.{Posted, Decided};
+    ghost use Rattle.store_model.specs.Rows.{Decided, Ended, Idle, Posted};
     ghost use Rattle.store_core.specs.declared.rows.RowStage.TheVariants.{Meta, Over};
     ghost use Rattle.store_core.specs.declared.plant.SettleTurn.TheVariants.{Waiting, Logged};
     ghost use Rattle.store_core.specs.declared.begin.BeginTurn.TheVariants.{Logged as LoggedNow};
-    ghost use Rattle.store_core.specs.Begins.{BeginsOrNot, IsJobOf, ReplacesOne};
+    ghost use Rattle.store_core.specs.Begins.{begun, BeginsOrNot, IsJobOf, ReplacesOne};
     ghost use Rattle.store_core.specs.JobTurns.{answer_of, TurnsJob};
     ghost use Rattle.store_core.specs.Kept.{Kept};
     ghost use Rattle.store_core.specs.Made.{Made};
     ghost use Rattle.store_core.specs.Opening.{IsOpened};
     ghost use Rattle.store_core.specs.Seen.{rows_of, state_of};
     ghost use Rattle.store_core.specs.Stages.{is_stage};
-    ghost use Rattle.store_core.specs.Steps.{Asks};
+    ghost use Rattle.store_core.specs.Steps.{decided, Asks, OnlyRow};
     ghost use Rattle.store_core.specs.Surviving.{Holds};
-    ghost use Rattle.store_core.specs.Whole.{IsWhole};
+    ghost use Rattle.store_core.specs.Requests.{AsksNow, IsStale};
+    ghost use Rattle.store_core.specs.Whole.{AreMasks, IsNextHead, IsWhole};
 
     /// A store with nothing posted or logged, on what was loaded of the device, and the one right to change its metadata. All
     /// memory is taken first, the log's room too; `Err` is want of memory, and gives back what was loaded.
@@ -150,6 +154,25 @@ impl<D: PageDisk> Plant<D> {
         self.running.stopped
     }
 
+    /// The least metadata page that is clear, where a new blob's head goes; the number of metadata pages where none is.
+    pub fn next_head(&self) -> u32
+        ensures { IsNextHead self.now.at.super.md_len self.now.at.pages result }
+    {
+        match self.running.pages.bits().first_clear() {
+            Some(page) => page,
+            None => self.running.sup.md_len,
+        }
+    }
+
+    /// What a message asks for. `Stale` comes exactly where its row isn't posted under its number, and never where each message
+    /// is handled before its channel posts again.
+    pub fn request(&self, _right: &MdRight, msg: Msg) -> Result<Request<'_>, Stale>
+        ensures found { IfOk result (AsksNow self.now.at.rows msg) }
+        ensures stale { IfErr result (IsStale self.now.at.rows msg) }
+    {
+        asked_in(self.running.rows.as_slice(), msg)
+    }
+
     /// A law, with no code: what the type keeps.
     pub fn keeps(&self)
         ensures { Kept D.PageDisk self.now }
@@ -162,6 +185,7 @@ impl<D: PageDisk> Plant<D> {
         requires stage { is_stage (rows_of self.old.at.rows channel) channel ≡ Meta }
         ensures case { Made D.PageDisk self.old.at self.new.at kind.posts }
         ensures message { result ≡ record { channel = channel; serial = self.old.at.serial } }
+        ensures row { OnlyRow self.old.at.rows self.new.at.rows channel (record (rows_of self.old.at.rows channel) { stage = Posted self.old.at.serial }) }
         ensures opening { self.new.opening ≡ self.old.opening }
     {
         goes_on::<D>();
@@ -175,6 +199,7 @@ impl<D: PageDisk> Plant<D> {
         requires no_job { self.old.at.job ≡ None }
         ensures answered { self.old.at.stopped ≡ None → Made D.PageDisk self.old.at self.new.at kind.answers }
         ensures halted { IsSome self.old.at.stopped → Made D.PageDisk self.old.at self.new.at kind.halts }
+        ensures row { OnlyRow self.old.at.rows self.new.at.rows msg.channel (decided (rows_of self.old.at.rows msg.channel)) }
         ensures opening { self.new.opening ≡ self.old.opening }
     {
         goes_on::<D>();
@@ -188,6 +213,7 @@ impl<D: PageDisk> Plant<D> {
         requires why { self.old.at.stopped ≡ None → Asks self.old.at msg.channel (λ command. IsRefusedBy (state_of D.PageDisk self.old.at) command reply) }
         ensures refused { self.old.at.stopped ≡ None → Made D.PageDisk self.old.at self.new.at kind.refuses }
         ensures halted { IsSome self.old.at.stopped → Made D.PageDisk self.old.at self.new.at kind.halts }
+        ensures row { OnlyRow self.old.at.rows self.new.at.rows msg.channel (decided (rows_of self.old.at.rows msg.channel)) }
         ensures opening { self.new.opening ≡ self.old.opening }
     {
         goes_on::<D>();
@@ -203,6 +229,7 @@ impl<D: PageDisk> Plant<D> {
         requires asks { self.old.at.stopped ≡ None → Asks self.old.at msg.channel (λ command. IsJobOf (state_of D.PageDisk self.old.at) command job) }
         ensures begins { self.old.at.stopped ≡ None → BeginsOrNot D.PageDisk self.old.at self.new.at result }
         ensures halted { IsSome self.old.at.stopped → (result ≡ LoggedNow) × Made D.PageDisk self.old.at self.new.at kind.halts }
+        ensures row { OnlyRow self.old.at.rows self.new.at.rows msg.channel (begun result (rows_of self.old.at.rows msg.channel)) }
         ensures opening { self.new.opening ≡ self.old.opening }
     {
         goes_on::<D>();
@@ -225,6 +252,7 @@ impl<D: PageDisk> Plant<D> {
     pub fn settle(&mut self, channel: u8) -> SettleTurn
         ensures waiting { result ≡ Waiting → (self.new ≡ self.old) × ((rows_of self.old.at.rows channel).stage ≢ Decided) }
         ensures logged { result ≡ Logged → Made D.PageDisk self.old.at self.new.at kind.settles }
+        ensures row { result ≡ Logged → OnlyRow self.old.at.rows self.new.at.rows channel (record (rows_of self.old.at.rows channel) { stage = Idle }) }
         ensures opening { self.new.opening ≡ self.old.opening }
     {
         goes_on::<D>();
@@ -241,9 +269,27 @@ impl<D: PageDisk> Plant<D> {
     pub fn end(&mut self, channel: u8)
         requires { is_stage (rows_of self.old.at.rows channel) channel ≡ Over }
         ensures case { Made D.PageDisk self.old.at self.new.at kind.ends }
+        ensures row { OnlyRow self.old.at.rows self.new.at.rows channel (record (rows_of self.old.at.rows channel) { stage = Ended }) }
         ensures opening { self.new.opening ≡ self.old.opening }
     {
         goes_on::<D>();
         end(&mut self.running, channel);
+    }
+
+    /// What the run leaves, once no job runs or the store has stopped. The right to change metadata ends with it.
+    pub fn into_parts(self, right: MdRight) -> Parts<D>
+        requires { (self.at.job ≡ None) ⊎ IsSome self.at.stopped }
+        ensures disk { result.disk ≡ self.at.disk }
+        ensures sup { result.sup ≡ self.at.super }
+        ensures entries { result.entries ≡ self.at.log }
+        ensures masks { self.at.stopped ≡ None → AreMasks self.at.super (map.get self.at.metas) (map.get self.at.chains) result.masks }
+        ensures kept { Kept D.PageDisk self }
+    {
+        right.end();
+        let Plant {
+            running,
+            opening: _,
+        } = self;
+        running.into_parts()
     }
 }

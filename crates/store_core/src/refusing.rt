@@ -5,8 +5,8 @@ ghost use Rattle.store_model.specs.Cases.{IsRefusedBy};
 ghost use Rattle.store_model.specs.Cases as kind;
 ghost use Rattle.store_core.specs.Made.{Made};
 ghost use Rattle.store_core.specs.Running.{at_of, InOrder};
-ghost use Rattle.store_core.specs.Seen.{state_of};
-ghost use Rattle.store_core.specs.Steps.{Asks, IsPostedAt};
+ghost use Rattle.store_core.specs.Seen.{rows_of, state_of};
+ghost use Rattle.store_core.specs.Steps.{decided, Asks, IsPostedAt, OnlyRow};
 
 use crate::logging::log;
 use crate::running::Running;
@@ -21,6 +21,7 @@ pub(crate) fn refuse<D: PageDisk>(running: &mut Running<D>, channel: u8, reply: 
     requires why { Asks (at_of running.old) channel (λ command. IsRefusedBy (state_of D.PageDisk (at_of running.old)) command reply) }
     requires runs { running.old.stopped ≡ None }
     ensures case { Made D.PageDisk (at_of running.old) (at_of running.new) kind.refuses }
+    ensures row { OnlyRow running.old.rows.items running.new.rows.items channel (decided (rows_of running.old.rows.items channel)) }
     ensures order { InOrder D.PageDisk running.new }
 {
     log(running, channel, reply);
@@ -33,6 +34,7 @@ pub(crate) fn halt<D: PageDisk>(running: &mut Running<D>, channel: u8)
     requires posted { IsPostedAt (at_of running.old) channel }
     requires stopped { IsSome running.old.stopped }
     ensures case { Made D.PageDisk (at_of running.old) (at_of running.new) kind.halts }
+    ensures row { OnlyRow running.old.rows.items running.new.rows.items channel (decided (rows_of running.old.rows.items channel)) }
     ensures order { InOrder D.PageDisk running.new }
 {
     match running.stopped {
@@ -49,6 +51,7 @@ pub(crate) fn refuse_or_halt<D: PageDisk>(running: &mut Running<D>, channel: u8,
     requires why { running.old.stopped ≡ None → Asks (at_of running.old) channel (λ command. IsRefusedBy (state_of D.PageDisk (at_of running.old)) command reply) }
     ensures refused { running.old.stopped ≡ None → Made D.PageDisk (at_of running.old) (at_of running.new) kind.refuses }
     ensures halted { IsSome running.old.stopped → Made D.PageDisk (at_of running.old) (at_of running.new) kind.halts }
+    ensures row { OnlyRow running.old.rows.items running.new.rows.items channel (decided (rows_of running.old.rows.items channel)) }
     ensures order { InOrder D.PageDisk running.new }
 {
     if running.stopped.is_some() {

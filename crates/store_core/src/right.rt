@@ -9,4 +9,9 @@ impl MdRight {
     pub(crate) fn new() -> MdRight {
         MdRight { made: () }
     }
+
+    /// The right ends with its store.
+    pub(crate) fn end(self) {
+        let MdRight { made: () } = self;
+    }
 }

@@ -57,6 +57,7 @@ impl Model for Row {
 impl Row {
     ghost use Rattle.std.specs.Prelude.{◌≡◌, ◌∷◌, [], length, option_copied, slice_get, IfSome, IfNone};
     ghost use Rattle.store_model.specs.Rows.{Idle, Posted, InJob, Decided, Ended};
+    ghost use Rattle.store_core.specs.Requests.{posted_in};
     ghost use Rattle.store_core.specs.Stages.{is_stage};
 
     /// The row of a channel with these commands, of which none is posted.
@@ -90,6 +91,16 @@ impl Row {
             Stage::InJob => RowStage::InJob,
             Stage::Decided => RowStage::Decided,
             Stage::Ended => RowStage::Ended,
+        }
+    }
+
+    /// The number under which the first command is posted, if it is.
+    pub(crate) fn posted(&self) -> Option<u64>
+        ensures { result ≡ posted_in self.now.stage }
+    {
+        match self.stage {
+            Stage::Posted(serial) => Some(serial),
+            _ => None,
         }
     }
 

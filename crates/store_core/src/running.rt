@@ -4,7 +4,7 @@ use crate::job::RunningJob;
 use crate::rows::Row;
 use blob_meta::{Chains, HeadMap, Metas};
 use io_freeze::Guards;
-use pools::{ClusterPool, PagePool};
+use pools::{Bits, ClusterPool, PagePool};
 use std::alloc::Global;
 use super_block::Super;
 use volume_model::{Entry, XattrList};
@@ -21,6 +21,8 @@ pub(crate) struct Running<D> {
     pub(crate) live: HeadMap<XattrList>,
     pub(crate) pages: PagePool,
     pub(crate) clusters: ClusterPool,
+    /// Which metadata pages are heads.
+    pub(crate) heads: Bits,
     /// Which blobs are frozen, and the generation of each.
     pub(crate) guards: Guards,
     /// Sixteen rows.

@@ -4,7 +4,7 @@ ghost use Rattle.std.specs.Prelude.{◌≡◌, ◌+◌, ◌<◌, ◌≤◌, ◌^
 ghost use Rattle.std.specs.FinMap as map;
 ghost use Rattle.volume_model.specs.declared.command.Command.{Command as ACommand};
 ghost use Rattle.store_core.specs.Opening.{AreRows, IsAtStart, IsLiveAtStart, opened_with};
-ghost use Rattle.store_core.specs.Running.{at_of, InOrder, left_in};
+ghost use Rattle.store_core.specs.Running.{at_of, AreHeads, InOrder, left_in};
 
 use crate::loaded::Loaded;
 use crate::rows::Row;
@@ -64,6 +64,7 @@ pub(crate) fn running_at_start<D: PageDisk>(
 ) -> Running<D>
     requires parts { (script : List (List ACommand)) × IsAtStart loaded.metas script (D.clock loaded.disk) parts }
     requires inside { loaded.sup.md_start + loaded.sup.md_len ≤ D.pages loaded.disk }
+    requires heads { AreHeads loaded.sup.md_len (map.get loaded.metas) loaded.masks.blobs }
     ensures at { at_of result ≡ opened_with D.PageDisk loaded parts.live parts.rows.items }
     ensures order { InOrder D.PageDisk result }
 {
@@ -80,7 +81,7 @@ pub(crate) fn running_at_start<D: PageDisk>(
     let Masks {
         pages,
         clusters,
-        blobs: _,
+        blobs: heads,
     } = masks;
     let AtStart {
         live,
@@ -98,6 +99,7 @@ pub(crate) fn running_at_start<D: PageDisk>(
         live,
         pages: PagePool::new(pages),
         clusters: ClusterPool::new(clusters),
+        heads,
         guards,
         rows,
         job: None,

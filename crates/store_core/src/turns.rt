@@ -2,11 +2,11 @@
 
 ghost use Rattle.std.specs.Prelude.{◌≡◌, ◌<◌, [], IfSome, IsErr};
 ghost use Rattle.store_model.specs.Cases as kind;
-ghost use Rattle.store_model.specs.Rows.{Idle, Decided};
+ghost use Rattle.store_model.specs.Rows.{Decided, Ended, Idle, Posted};
 ghost use Rattle.store_core.specs.Running.{at_of, InOrder};
 ghost use Rattle.store_core.specs.Seen.{rows_of};
 ghost use Rattle.store_core.specs.Made.{Made};
-ghost use Rattle.store_core.specs.Steps.{Waits};
+ghost use Rattle.store_core.specs.Steps.{OnlyRow, Waits};
 
 use crate::running::Running;
 use page_disk::PageDisk;
@@ -19,6 +19,7 @@ pub(crate) fn post<D: PageDisk>(running: &mut Running<D>, channel: u8) -> Msg
     requires waits { Waits (at_of running.old) channel Idle }
     ensures case { Made D.PageDisk (at_of running.old) (at_of running.new) kind.posts }
     ensures message { result ≡ record { channel = channel; serial = running.old.serial } }
+    ensures row { OnlyRow running.old.rows.items running.new.rows.items channel (record (rows_of running.old.rows.items channel) { stage = Posted running.old.serial }) }
     ensures order { InOrder D.PageDisk running.new }
 {
     let serial = running.serial;
@@ -33,6 +34,7 @@ pub(crate) fn settle<D: PageDisk>(running: &mut Running<D>, channel: u8)
     requires channel { channel < 16 }
     requires decided { (rows_of running.old.rows.items channel).stage ≡ Decided }
     ensures case { Made D.PageDisk (at_of running.old) (at_of running.new) kind.settles }
+    ensures row { OnlyRow running.old.rows.items running.new.rows.items channel (record (rows_of running.old.rows.items channel) { stage = Idle }) }
     ensures order { InOrder D.PageDisk running.new }
 {
     running.rows[channel as usize].settle();
@@ -44,6 +46,7 @@ pub(crate) fn end<D: PageDisk>(running: &mut Running<D>, channel: u8)
     requires channel { channel < 16 }
     requires over { rows_of running.old.rows.items channel ≡ record { left = []; stage = Idle } }
     ensures case { Made D.PageDisk (at_of running.old) (at_of running.new) kind.ends }
+    ensures row { OnlyRow running.old.rows.items running.new.rows.items channel (record (rows_of running.old.rows.items channel) { stage = Ended }) }
     ensures order { InOrder D.PageDisk running.new }
 {
     running.rows[channel as usize].end();

@@ -21,7 +21,7 @@ use Rattle.store_model.specs.Maps.{given}
 use Rattle.store_model.specs.Regions.{region_of}
 use Rattle.store_model.specs.Scans.{MetaAt}
 use Rattle.store_model.specs.Shown.{fixed_of, volume_of}
-use Rattle.store_model.specs.State.{Device}
+use Rattle.store_model.specs.Device.{Device}
 use Rattle.store_model.specs.Rows.{Row, Rows, InJob, with_row, entry_of}
 use Rattle.store_model.specs.Plants.{Job, Writing, Erasing, Plant, planned_at, shown, logged}
 use Rattle.store_model.specs.Places.{all_set, held_by, UsedClusters, UsedPages}
@@ -29,7 +29,7 @@ use Rattle.store_model.specs.Jobs.{AsksFor, JobStands, StandsAt}
 use Rattle.store_model.specs.Cases.{after_commit, Begins, BreaksOff, Commits, Erases, Fails, Frees, live_of, Moves, page_of_place, read_after, WritesFresh}
 use Rattle.store_model.specs.Standing.{CanBeWritten, Facts, HaveChains, IsRoot, AreRoots, IsShaped, RunsWell}
 use Rattle.store_model.proofs.Given.{given_here}
-use Rattle.store_model.proofs.Law.{RefusalsChangeNothing}
+use Rattle.store_model.proofs.Refusals.{RefusalsChangeNothing}
 use Rattle.store_model.proofs.RowsKept.{row_here, row_other, way_kept}
 use Rattle.store_model.proofs.Shaped.{Serves, serves, shaped_same, shaped_with, decided_may, in_job_may, none_erasing, none_without, only_served}
 use Rattle.store_model.proofs.Shows.{behind_region, or_empty, shown_written}

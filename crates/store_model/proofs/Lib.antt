@@ -1,11 +1,8 @@
 pub mod Scanning
 pub mod One
 pub mod Numbering
-pub mod Showing
-pub mod Plain
 pub mod Given
-pub mod Law
-pub mod Stopping
+pub mod Refusals
 pub mod Recovering
 pub mod Grown
 pub mod RowsKept

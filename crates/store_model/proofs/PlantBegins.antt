@@ -17,7 +17,7 @@ use Rattle.store_model.specs.Cases.{Kind, Run, Turn}
 use Rattle.store_model.specs.Cases as k
 use Rattle.store_model.specs.Standing.{Facts, HaveChains, IsRoot, IsShaped}
 use Rattle.store_model.specs.PlantLaws.{IsLoadedWith}
-use Rattle.store_model.proofs.Law.{RefusalsChangeNothing}
+use Rattle.store_model.proofs.Refusals.{RefusalsChangeNothing}
 use Rattle.store_model.proofs.Moved.{all_writable}
 use Rattle.store_model.proofs.Replaced.{new_root, synced_written}
 use Rattle.store_model.proofs.PlantKept.{keeps_answered, keeps_ended, keeps_halted, keeps_posted, keeps_refused, keeps_settled}

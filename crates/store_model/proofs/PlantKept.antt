@@ -16,13 +16,13 @@ use Rattle.volume_model.specs.declared.reply.Reply.TheVariants as r
 use Rattle.volume_model.specs.declared.reply.Entry.{Entry}
 use Rattle.volume_model.proofs.Replays.{replay_push, legal_push}
 use Rattle.store_model.specs.Shown.{fixed_of}
-use Rattle.store_model.specs.State.{Device}
+use Rattle.store_model.specs.Device.{Device}
 use Rattle.store_model.specs.Rows.{Row, Rows, Stage, Idle, Posted, InJob, Decided, with_row, entry_of}
 use Rattle.store_model.specs.Plants.{Plant, shown, logged}
 use Rattle.store_model.specs.Jobs.{AsksFor, IsSyncing}
 use Rattle.store_model.specs.Cases.{Posts, Answers, Refuses, Halts, Settles, Ends, IsRefusedBy, live_of}
 use Rattle.store_model.specs.Standing.{Facts, OnItsWay, RunsWell}
-use Rattle.store_model.proofs.Law.{RefusalsChangeNothing}
+use Rattle.store_model.proofs.Refusals.{RefusalsChangeNothing}
 use Rattle.store_model.proofs.RowsKept.{row_here, row_other, way_kept, way_logged}
 use Rattle.store_model.proofs.Shaped.{serves, serves_same, shaped_with, MayBe, decided_may, ended_may, idle_may, posted_may}
 use Rattle.store_model.proofs.Moved.{all_writable, live_now, no_live_now, row_in_job, shown_live, stands_same}

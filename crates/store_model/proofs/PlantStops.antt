@@ -1,5 +1,5 @@
 -- A store stops by a failed write or flush alone, stays stopped, and has its fault where it stopped.
-use Rattle.std.proofs.Common.{◌≡◌, ℕ, ◌≤◌, Bool, List, [], ◌∷◌, ◌++◌, length, Some, None, refl, sym, ◌∙◌, ap, subst, arith, inl, inr}
+use Rattle.std.proofs.Common.{◌≡◌, ◌⊎◌, ℕ, zero, suc, ◌≤◌, Bool, List, [], ◌∷◌, ◌++◌, length, Some, None, refl, sym, ◌∙◌, ap, subst, arith, inl, inr}
 use Rattle.std.specs.Prelude.{All, slice_get}
 use Rattle.std.proofs.lemmas.List.Elements.{All-nil, All-push}
 use Rattle.page_disk.specs.Disk.{Rose}
@@ -7,13 +7,24 @@ use Rattle.volume_model.specs.declared.command.Command.{Command}
 use Rattle.volume_model.specs.declared.reply.Reply.{Reply}
 use Rattle.volume_model.specs.declared.reply.Reply.TheVariants as r
 use Rattle.volume_model.specs.declared.reply.Entry.{Entry}
-use Rattle.store_model.specs.Turns.{IsQuiet}
-use Rattle.store_model.specs.State.{Device}
+use Rattle.store_model.specs.Device.{Device}
 use Rattle.store_model.specs.Rows.{entry_of}
 use Rattle.store_model.specs.Plants.{Plant}
-use Rattle.store_model.specs.Cases.{IsRefusedBy, Kind, Run, Turn}
+use Rattle.store_model.specs.Cases.{IsQuiet, IsRefusedBy, Kind, Run, Turn}
 use Rattle.store_model.specs.Cases as k
-use Rattle.store_model.proofs.Stopping.{old_or_new, rose_since}
+
+rose_since : (before between after : ℕ) → before ≤ between → Rose between after → Rose before after
+rose_since before between after le (inl lt) = inl (omega (arith, le, lt))
+rose_since before between after le (inr last) = inr last
+
+old_or_new : (log : List Entry) (new : Entry) (k : ℕ) (e : Entry) → slice_get (log ++ new ∷ []) k ≡ Some e → (slice_get log k ≡ Some e) ⊎ ((k ≡ length log) × (e ≡ new))
+old_or_new [] new zero e is = inr (refl, cc is)
+old_or_new [] new (suc k) e is = absurd (cc is)
+old_or_new (x ∷ log) new zero e is = inl is
+old_or_new (x ∷ log) new (suc k) e is = elim (old_or_new log new k e is) [
+  | inl old ↦ inl old
+  | inr same ↦ inr (ap suc same.0, same.1)
+]
 
 -- what a turn logs
 data Logs (p q : Plant) : Type 0 where

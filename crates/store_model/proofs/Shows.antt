@@ -15,7 +15,7 @@ use Rattle.blob_meta.specs.declared.meta.Meta.{Meta}
 use Rattle.blob_meta.specs.Parents.{slot}
 use Rattle.store_model.specs.Maps.{Map, Metas}
 use Rattle.store_model.specs.Shown.{volume_of}
-use Rattle.store_model.specs.State.{Device}
+use Rattle.store_model.specs.Device.{Device}
 use Rattle.store_model.specs.Plants.{Plant, shown}
 use Rattle.store_model.specs.Cases.{read_after}
 use Rattle.store_model.specs.Standing.{IsRoot, AreRoots}

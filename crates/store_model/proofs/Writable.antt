@@ -20,10 +20,24 @@ use Rattle.volume_model.specs.declared.reply.Reply.TheVariants as r
 use Rattle.blob_meta.specs.Items.{HasDistinctNames}
 use Rattle.store_model.specs.Cases.{IsInMemory, live_of}
 use Rattle.store_model.specs.Standing.{CanBeWritten}
-use Rattle.store_model.proofs.Law.{RefusalsChangeNothing}
-use Rattle.store_model.proofs.Plain.{distinct_with}
+use Rattle.store_model.proofs.Refusals.{RefusalsChangeNothing}
 use Rattle.store_model.proofs.Synced.{edited_here, edited_there}
 use Rattle.store_model.proofs.Shows.{or_empty}
+
+-- a name that is none of these, nor the new one's, is none with it
+apart : (name : List ℕ) (xs : List Xattr) (key value : List ℕ) → bytes_eq name key ≡ false → AllByRecursion (λ y. bytes_eq name y.key ≡ false) xs → AllByRecursion (λ y. bytes_eq name y.key ≡ false) (with_value xs key value)
+apart name [] key value ne h = (ne, tt)
+apart name (x ∷ xs) key value ne h = elim (cases_Bool (bytes_eq x.key key)) [
+  | inl same ↦ rw same (h.0, h.1)
+  | inr other ↦ rw other (h.0, apart name xs key value ne h.1)
+]
+
+pub distinct_with : (xs : List Xattr) (key value : List ℕ) → HasDistinctNames xs → HasDistinctNames (with_value xs key value)
+distinct_with [] key value h = (tt, tt)
+distinct_with (x ∷ xs) key value h = elim (cases_Bool (bytes_eq x.key key)) [
+  | inl same ↦ rw same (h.0, h.1)
+  | inr other ↦ rw other (apart x.key xs key value other h.0, distinct_with xs key value h.1)
+]
 
 -- ---- lists of attributes
 

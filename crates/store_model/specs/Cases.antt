@@ -1,7 +1,7 @@
 -- The turns of a running store, by cases, and runs of them. What a case doesn't name stays as it is.
 use Rattle.std.specs.Prelude.{◌≡◌, ℕ, suc, ◌+◌, ◌<◌, ◌≤◌, if◌then◌else◌, List, [], ◌∷◌, length, slice_get, Option, Some, None, Bool, true, false}
 use Rattle.std.specs.Option.{option_map}
-use Rattle.page_disk.specs.Disk.{Image, with_page}
+use Rattle.page_disk.specs.Disk.{Image, Rose, with_page}
 use Rattle.pools.specs.Pool.{clear_in}
 use Rattle.volume_model.specs.Volumes.{Volumes, zero_page}
 use Rattle.volume_model.specs.Xattrs.{Xattrs}
@@ -14,12 +14,11 @@ use Rattle.volume_model.specs.declared.reply.Reply.TheVariants as r
 use Rattle.blob_meta.specs.declared.meta.Meta.{Meta}
 use Rattle.store_model.specs.Maps.{Map, given}
 use Rattle.store_model.specs.Shown.{fixed_of}
-use Rattle.store_model.specs.State.{Device}
+use Rattle.store_model.specs.Device.{Device}
 use Rattle.store_model.specs.Rows.{Idle, Posted, InJob, Decided, Ended, with_row}
 use Rattle.store_model.specs.Plants.{Job, Phase, Writing, Erasing, Plant, planned_at, shown, logged, next_serial}
 use Rattle.store_model.specs.Places.{all_set, AreLeastClear}
 use Rattle.store_model.specs.Jobs.{AsksFor, Needs, IsPlanned, places_of}
-use Rattle.store_model.specs.Turns.{IsCaused, IsQuiet, FailsToReplace}
 
 -- ---- what a turn does to the device
 
@@ -34,6 +33,38 @@ pub record Moves (told : Bool) (old : Device) (place : ℕ) (page : List ℕ) (c
   pub read_faults : new.read_faults ≡ old.read_faults
   pub write_faults : old.write_faults ≤ new.write_faults
   pub read_calls : new.read_calls ≡ old.read_calls
+
+-- A write or a flush failed.
+pub record FailsToReplace (old new : Device) : Type 0 where
+  pub clock : old.clock ≤ new.clock
+  pub read_faults : new.read_faults ≡ old.read_faults
+  pub write_faults : Rose old.write_faults new.write_faults
+  pub read_calls : new.read_calls ≡ old.read_calls
+
+-- ---- replies
+
+-- the replies that a cause in the volumes gives
+abbrev pub IsCaused : Reply → Type 0
+IsCaused r.Ok = ⊥
+IsCaused (r.Made head) = ⊥
+IsCaused (r.Content page) = ⊥
+IsCaused (r.Value value) = ⊥
+IsCaused (r.Info info) = ⊥
+IsCaused (r.List infos) = ⊥
+IsCaused (r.Df df) = ⊥
+IsCaused r.Full = ⊥
+IsCaused r.NoPage = ⊥
+IsCaused r.ReadFault = ⊥
+IsCaused r.Fault = ⊥
+IsCaused (r.Stopped at) = ⊥
+IsCaused r.Memory = ⊥
+IsCaused _ = Unit {0}
+
+-- the replies that speak of no failed write or flush
+abbrev pub IsQuiet : Reply → Type 0
+IsQuiet r.Fault = ⊥
+IsQuiet (r.Stopped at) = ⊥
+IsQuiet _ = Unit {0}
 
 -- ---- turns on a channel's row
 

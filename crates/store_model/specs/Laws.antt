@@ -1,25 +1,18 @@
--- The laws of what a scan says, of turns, and of what an image recovers.
-use Rattle.std.specs.Prelude.{◌≡◌, ◌≢◌, ◌<◌, ◌≤◌, ◌+◌, ◌++◌, ◌∷◌, [], ℕ, Bool, List, All, length, slice_get, None, Some, false, true}
-use Rattle.page_disk.specs.Disk.{Image, Rose}
+-- The laws of what a scan says, and of what an image recovers.
+use Rattle.std.specs.Prelude.{◌≡◌, ◌≢◌, ◌<◌, ◌≤◌, ◌+◌, ◌++◌, ◌∷◌, [], ℕ, List, length, Some, false, true}
+use Rattle.page_disk.specs.Disk.{Image}
 use Rattle.super_block.specs.declared.page.Super.{Super}
 use Rattle.volume_model.specs.Volumes.{Volumes}
 use Rattle.volume_model.specs.Steps.{IsRefusal}
-use Rattle.volume_model.specs.Logs.{replay}
-use Rattle.volume_model.specs.declared.command.Command.{Command}
-use Rattle.volume_model.specs.declared.reply.Reply.{Reply}
-use Rattle.volume_model.specs.declared.reply.Reply.TheVariants.{Fault, Ok}
+use Rattle.volume_model.specs.declared.reply.Reply.TheVariants.{Fault}
 use Rattle.volume_model.specs.declared.reply.Entry.{Entry}
-use Rattle.blob_meta.specs.declared.meta.Meta.{Meta}
 use Rattle.blob_meta.specs.Resolving.{resolved}
 use Rattle.md_chain.specs.Chain.{Look, is_among}
-use Rattle.store_model.specs.Maps.{given, Metas, Chains}
+use Rattle.store_model.specs.Maps.{Metas, Chains}
 use Rattle.store_model.specs.Regions.{region_of, Region}
 use Rattle.store_model.specs.Scans.{head_at, is_head, Says, Scanned, Unlinked}
-use Rattle.store_model.specs.Shown.{fixed_of, plain_shows, shows}
-use Rattle.store_model.specs.State.{entry_of, State}
-use Rattle.store_model.specs.Turns.{IsQuiet, IsRefused, Kind, Puts, Turn, Run}
-use Rattle.store_model.specs.Facts.{ArePlain, Facts}
-use Rattle.store_model.specs.Recovers.{AreSynced, HasStore, IsDone, Recovers, RecoversAt, RecoversFrom}
+use Rattle.store_model.specs.Shown.{fixed_of, shows}
+use Rattle.store_model.specs.Recovers.{AreSynced, IsDone, Recovers, RecoversAt, RecoversFrom}
 
 -- ---- what a scan says
 
@@ -35,31 +28,9 @@ pub record ScanLaws : Type 0 where
   pub unlinked : (look other : Look) (r : Region) (metas : Metas) (chains : Chains) (p : ℕ) (page : List ℕ) → Scanned look r metas chains →
       Unlinked chains p → is_head p page ≡ false → other p ≡ page → ((q : ℕ) → q ≢ p → other q ≡ look q) → Scanned other r metas chains
 
--- ---- turns
-
-pub record TurnLaws : Type 0 where
-  -- each turn keeps what every state of a run has, and is one more of the run
-  pub keep : (told : Bool) (s : Super) (first : Volumes) (commands : List Command) (p q : State) (kind : Kind) → Facts s first commands p → Turn told p kind q → Facts s first commands q
-  pub go_on : (told : Bool) (p q r : State) (kinds : List Kind) (kind : Kind) → Run told p kinds q → Turn told q kind r → Run told p (kinds ++ kind ∷ []) r
-  -- the replay is what a running store's metadata shows, also once a put is done; a refusal is no verb done
-  pub shown : (s : Super) (first : Volumes) (commands : List Command) (p : State) → Facts s first commands p → p.stopped ≡ None → replay (fixed_of s) first p.log ≡ plain_shows p.base
-  pub put : (s : Super) (first : Volumes) (commands : List Command) (p : State) (command : Command) (head : ℕ) (new : Meta) → Facts s first commands p → p.stopped ≡ None → Puts p command head new →
-      (replay (fixed_of s) first (p.log ++ entry_of p command Ok ∷ []) ≡ plain_shows (given p.base head new)) × ArePlain s (given p.base head new)
-  pub refusal : (p : State) (command : Command) (reply : Reply) → IsRefused p command reply → IsRefusal reply
-
-pub record StopLaws : Type 0 where
-  -- a run that begins running and ends stopped has counted a failed write or flush, or the count stands at its last number
-  pub counted : (told : Bool) (p q : State) (kinds : List Kind) (at : ℕ) → Run told p kinds q → p.stopped ≡ None → q.stopped ≡ Some at → Rose p.device.write_faults q.device.write_faults
-  -- a run's log has no `fault` and no `stopped` while the store runs, and then one `fault` at most, where the store stopped
-  pub quiet : (told : Bool) (p q : State) (kinds : List Kind) → Run told p kinds q → p.log ≡ [] → q.stopped ≡ None → All (λ e. IsQuiet e.reply) q.log
-  pub fault : (told : Bool) (p q : State) (kinds : List Kind) → Run told p kinds q → p.log ≡ [] → (k : ℕ) (e : Entry) → slice_get q.log k ≡ Some e → e.reply ≡ Fault → q.stopped ≡ Some k
-
 -- ---- what an image recovers
 
 pub record RecoveryLaws : Type 0 where
-  -- an image with plain metadata recovers each log whose replay it shows
-  pub plain : (s : Super) (first : Volumes) (log : List Entry) (metas : Metas) (chains : Chains) (image : Image) → HasStore s image → ArePlain s metas → Says (region_of s) metas chains image →
-      replay (fixed_of s) first log ≡ plain_shows metas → Recovers s first log image
   -- whatever metadata a load finds in an image that recovers a log, it shows the log as it survives
   pub loaded : (s : Super) (first : Volumes) (log : List Entry) (image : Image) (metas : Metas) (chains : Chains) → Recovers s first log image → Says (region_of s) metas chains image →
       AreSynced s first log (shows (fixed_of s) image (resolved metas))

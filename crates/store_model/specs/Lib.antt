@@ -2,9 +2,7 @@ pub mod Maps
 pub mod Regions
 pub mod Scans
 pub mod Shown
-pub mod State
-pub mod Turns
-pub mod Facts
+pub mod Device
 pub mod Recovers
 pub mod Laws
 pub mod Rows

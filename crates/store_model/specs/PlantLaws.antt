@@ -15,7 +15,7 @@ use Rattle.blob_meta.specs.Resolving.{IsLawful}
 use Rattle.store_model.specs.Maps.{given, Metas, Chains}
 use Rattle.store_model.specs.Regions.{region_of, Region}
 use Rattle.store_model.specs.Scans.{is_head, MetaAt, Says, Scanned}
-use Rattle.store_model.specs.Turns.{IsQuiet}
+use Rattle.store_model.specs.Cases.{IsQuiet}
 use Rattle.store_model.specs.Plants.{Opens, Plant, shown}
 use Rattle.store_model.specs.Places.{UsedClusters, UsedPages}
 use Rattle.store_model.specs.Jobs.{AsksFor}

@@ -12,7 +12,7 @@ use Rattle.md_chain.specs.Chain.{Look}
 use Rattle.md_chain.specs.declared.plan.PlannedPage.{PlannedPage}
 use Rattle.store_model.specs.Maps.{Map, Metas, Chains}
 use Rattle.store_model.specs.Shown.{fixed_of, volume_of}
-use Rattle.store_model.specs.State.{Device}
+use Rattle.store_model.specs.Device.{Device}
 use Rattle.store_model.specs.Rows.{Rows, with_row, entry_of, Idle, Decided, Ended}
 
 -- How far a job has come: so many of its fresh pages are written; or its head is, and so many of the old pages are overwritten.

@@ -1,5 +1,5 @@
 -- The volumes that metadata and an image show.
-use Rattle.std.specs.Prelude.{ℕ, zero, suc, ◌+◌, ◌*◌, ◌/◌, ◌%◌, nat_lt, if◌then◌else◌, Option, Some, None, [], length, map}
+use Rattle.std.specs.Prelude.{ℕ, zero, suc, ◌+◌, ◌*◌, ◌/◌, ◌%◌, nat_lt, if◌then◌else◌, Option, Some, None, length, map}
 use Rattle.std.specs.List.{range_with_len}
 use Rattle.std.specs.Option.{option_map, option_map_or}
 use Rattle.page_disk.specs.Disk.{Image}
@@ -46,18 +46,3 @@ module _ (cluster_pages : ℕ) (image : Image) (metas : Metas) where
 -- what an image shows that says this metadata: each attribute is live as it is synced
 abbrev pub shows : Fixed → Image → Metas → Volumes
 shows f image metas head = option_map (λ m. volume_of f.cluster_pages image metas f.md_len m.xattrs head m) (metas head)
-
--- A blob without slots shows no page, so what it shows doesn't depend on the image.
-abbrev pub plain_volume : Meta → Volume
-plain_volume m = record {
-  pages = [];
-  live = m.xattrs;
-  synced = m.xattrs;
-  thin = is_thin m.flags;
-  read_only = is_read_only m.flags;
-  locked = is_locked m.flags;
-  parent = parent_of m;
-}
-
-abbrev pub plain_shows : Metas → Volumes
-plain_shows metas head = option_map plain_volume (metas head)

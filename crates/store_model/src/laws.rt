@@ -1,6 +1,6 @@
 //! The laws of the definitions, as contracts of functions that do nothing.
 
-ghost use Rattle.store_model.specs.Laws.{GrowthLaws, RecoveryLaws, ScanLaws, StopLaws, TurnLaws};
+ghost use Rattle.store_model.specs.Laws.{GrowthLaws, RecoveryLaws, ScanLaws};
 ghost use Rattle.store_model.specs.PlantLaws.{JobLaws, PlantLaws, PlantStopLaws};
 
 use volume_model::laws::{refusal_changes_nothing, refusal_settles_nothing};
@@ -11,22 +11,7 @@ pub fn scans()
     ensures { ScanLaws }
 {}
 
-/// Each turn keeps what every state of a run has, and the volumes that a running store shows are the replay of its log.
-pub fn turns()
-    ensures { TurnLaws }
-{
-    refusal_changes_nothing();
-}
-
-/// A store stops for a cause alone: it has counted a failed write or flush, or the count stands at its last number. The log of a
-/// run that began with none has no `fault` and no `stopped` while the store isn't stopped, and then one `fault` at most, at the
-/// place where it stopped.
-pub fn stops()
-    ensures { StopLaws }
-{}
-
-/// What an image recovers. One with plain metadata recovers each log whose replay it shows; and whatever metadata a load finds
-/// in an image that recovers a log, it shows the log as it survives.
+/// Whatever metadata a load finds in an image that recovers a log, it shows the log as it survives.
 pub fn recoveries()
     ensures { RecoveryLaws }
 {}
@@ -38,15 +23,17 @@ pub fn growing()
     refusal_settles_nothing();
 }
 
-/// Each turn of a store with jobs keeps what every state of a run has, and the volumes that it shows while it runs are the
-/// replay of its log; an image that says its metadata recovers that log.
+/// Each turn keeps what every state of a run has, and the volumes that a running store shows are the replay of its log; an image
+/// that says its metadata recovers that log.
 pub fn plant_turns()
     ensures { PlantLaws }
 {
     refusal_changes_nothing();
 }
 
-/// The same of a store with jobs as `stops` says of one without.
+/// A store stops for a cause alone: it has counted a failed write or flush, or the count stands at its last number. The log of a
+/// run that began with none has no `fault` and no `stopped` while the store isn't stopped, and then one `fault` at most, at the
+/// place where it stopped.
 pub fn plant_stops()
     ensures { PlantStopLaws }
 {}

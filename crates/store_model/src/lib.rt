@@ -3,4 +3,4 @@
 
 mod laws;
 
-pub use laws::{growing, job_pages, plant_stops, plant_turns, recoveries, scans, stops, turns};
+pub use laws::{growing, job_pages, plant_stops, plant_turns, recoveries, scans};

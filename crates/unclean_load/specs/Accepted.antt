@@ -8,6 +8,9 @@ use Rattle.super_block.specs.Page.{super_of}
 use Rattle.super_block.specs.Faults.{super_fault}
 use Rattle.store_model.specs.Maps.{Metas, Chains}
 use Rattle.store_model.specs.Regions.{region_of, look_of}
+use Rattle.store_model.specs.Scans.{Says}
+use Rattle.store_model.specs.Standing.{AreRoots}
+use Rattle.blob_meta.specs.Resolving.{IsLawful}
 use Rattle.unclean_load.specs.declared.fault.LoadFault.{LoadFault}
 use Rattle.unclean_load.specs.declared.fault.LoadFault.TheVariants as fault
 use Rattle.unclean_load.specs.Heads.{AreWhole, ShowsFirst}
@@ -68,3 +71,9 @@ abbrev pub IsSuperFault : ℕ → Image → LoadFault → Type 0
 IsSuperFault pages image (fault.Super why) = SuperFails pages image why
 IsSuperFault pages image fault.ReadFault = Unit {0}
 IsSuperFault pages image _ = ⊥
+
+-- An image of a store is accepted: its super block has no fault, and it says metadata that is lawful, of blobs without parent and
+-- mark.
+abbrev pub StoresAreAccepted : Type 0
+StoresAreAccepted = (s : Super) (image : Image) (metas : Metas) (chains : Chains) → super_fault (image 0) s.device_pages ≡ None → s ≡ super_of (image 0) s.device_pages
+    → Says (region_of s) metas chains image → AreRoots s metas → IsLawful s.md_len metas → IsAccepted s.device_pages image

@@ -1,8 +1,6 @@
-use Rattle.std.proofs.Common.{◌≡◌, length}
+use Rattle.std.proofs.Common.{◌≡◌}
+use Rattle.blob_tool.proofs.Driven.{Drives}
 use Rattle.blob_tool.proofs.driver.run.Given as goal
 
-abbrev pub invariant-loop-plant : goal.invariant-loop-plant
-invariant-loop-plant g l = l.plant.opening ≡ l.fn.plant.opening
-
-abbrev pub decreases-loop-plant : goal.decreases-loop-plant
-decreases-loop-plant g l = length l.plant.at.left
+abbrev pub invariant-loop-channel : goal.invariant-loop-channel
+invariant-loop-channel g l = Drives l.initial.plant.at l.plant.at l.channel × (l.plant.opening ≡ l.initial.plant.opening)

@@ -19,6 +19,7 @@ returns-clause-loads g c = λ told.
     loads_empty plan (c.layouts_are_placed.ensures plan c.requires.planned) (g.D.PageDisk.now c.replace_page.new.disk) (store g c told) c.super_page.ensures.read.0
     (subst (λ (page : List ℕ). super_of page plan.device_pages ≡ record (first_super plan) { crc = c.super_page.ensures.read.0 }) bytes c.super_page.ensures.read.1)
     (subst (λ (page : List ℕ). super_fault page plan.device_pages ≡ None) bytes c.super_page.ensures.no_fault)
+    c.stores_are_accepted.ensures
 
 pub returns-clause-behind : goal.returns-clause-behind
 returns-clause-behind g c = λ told. behind_too c.args.layout.now (c.layouts_are_placed.ensures c.args.layout.now c.requires.planned) (g.D.PageDisk.now c.write_regions.new.disk) (g.D.PageDisk.now c.replace_page.new.disk)

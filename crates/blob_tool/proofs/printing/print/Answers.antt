@@ -1,6 +1,7 @@
 use Rattle.std.proofs.Common.{◌≡◌, ◌++◌, ℕ, List, arith, subst, ap, ◌∙◌}
 use Rattle.std.proofs.lemmas.Grind.{common_steps}
-use Rattle.blob_tool.specs.Text.{IsPartOf, entry_text}
+use Rattle.blob_report.specs.Text.{entry_text}
+use Rattle.blob_tool.specs.Text.{IsPartOf}
 use Rattle.blob_tool.proofs.Lines.{part_before, part_of_log, log_with_more}
 use Rattle.blob_tool.proofs.printing.print.Goals as goal
 

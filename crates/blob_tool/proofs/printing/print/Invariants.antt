@@ -1,5 +1,5 @@
 use Rattle.std.proofs.Common.{◌≡◌, ◌≤◌, ◌++◌, IsTrue, take}
-use Rattle.blob_tool.specs.Text.{log_text}
+use Rattle.blob_report.specs.Text.{log_text}
 use Rattle.blob_tool.proofs.printing.print.Given as goal
 
 abbrev pub invariant-loop-entry : goal.invariant-loop-entry

@@ -1,40 +1,49 @@
-use Rattle.std.proofs.Common.{◌≡◌, List, ◌++◌, OnOk, sym, ap, subst, ◌∙◌}
+use Rattle.std.proofs.Common.{◌≡◌, List, ◌++◌, OnOk, sym, subst, ◌∙◌, inl}
 use Rattle.std.specs.List.{All}
-use Rattle.volume_model.specs.declared.command.Command.{Command}
 use Rattle.volume_model.specs.declared.reply.Entry.{Entry}
-use Rattle.blob_tool.specs.Answers.{IsHeadPut}
-use Rattle.blob_tool.specs.Seen.{At}
-use Rattle.blob_tool.specs.Kept.{loaded_with}
-use Rattle.blob_tool.specs.Text.{HasShortReply, IsPartOf, log_text}
-use Rattle.blob_tool.specs.Runs.{Ended, IsRun, Played}
-use Rattle.blob_tool.specs.declared.status.Status.{Status}
+use Rattle.store_model.specs.Shown.{fixed_of}
+use Rattle.store_model.specs.Plants.{shown}
+use Rattle.store_core.specs.Opening.{IsOpened}
+use Rattle.store_core.specs.Seen.{state_of}
+use Rattle.blob_report.specs.Text.{log_text}
+use Rattle.blob_tool.specs.Text.{HasText, IsPartOf}
+use Rattle.blob_tool.specs.Runs.{EndedFrom, Played}
 use Rattle.blob_tool.proofs.Ending.{ends}
-use Rattle.blob_tool.proofs.WholeRun.{is_run, short_replies}
+use Rattle.blob_tool.proofs.Printable.{printable}
+use Rattle.blob_tool.proofs.WholeRun.{all_wait, interleaved, is_run}
 use Rattle.blob_tool.proofs.top.play.Goals as goal
 
-pub print-requires : goal.print-requires
-print-requires g c =
+pub run-requires-clause-waiting : goal.run-requires-clause-waiting
+run-requires-clause-waiting g c = all_wait c.args.script c.in-Ok.made.0.at.rows c.in-Ok.ensures.opened.rows c.requires.on_heads
+
+pub print-printed-requires : goal.print-printed-requires
+print-printed-requires g c =
     let d = g.D.PageDisk in
-    let first : c.run.new.plant.opening ≡ loaded_with d c.args.loaded.disk c.args.loaded.sup c.args.loaded.metas c.args.commands.items = c.run.ensures.opening ∙ c.in-Ok.ensures.opening ∙ c.in-Ok.ensures.at in
-    let puts : All IsHeadPut c.run.new.plant.opening.left = subst (λ (l : List Command). All IsHeadPut l) (sym (ap (λ (a : At g.row.D.Denot). a.left) first)) c.requires.puts in
-    let short : All HasShortReply c.run.new.plant.at.log = short_replies d c.run.new.plant c.into_parts-log.ensures.kept c.run.ensures.over puts in
-    subst (λ (l : List Entry). All HasShortReply l) (sym (c.deref.ensures.value ∙ c.into_parts-log.ensures.entries)) short
+    let store = c.run.new.plant in
+    let kept = c.into_parts-disk.ensures.kept in
+    let opened : IsOpened d c.args.loaded c.args.script store.opening = subst (IsOpened d c.args.loaded c.args.script) (sym (c.run.ensures.opening ∙ c.in-Ok.ensures.opening)) c.in-Ok.ensures.opened in
+    let texts : All HasText store.at.log =
+    printable (fixed_of store.opening.super) (shown (state_of d store.opening)) store.at.log c.args.script kept.facts.legal (interleaved d c.args.script store kept opened.rows c.run.ensures.over) c.requires.on_heads in
+    subst (λ (l : List Entry). All HasText l) (sym (c.as_slice.ensures ∙ c.into_parts-disk.ensures.entries)) texts
 
 pub returns : goal.returns
 returns g c =
     let d = g.D.PageDisk in
     let k = g.K.Sink in
-    let loaded : At g.row.D.Denot = loaded_with d c.args.loaded.disk c.args.loaded.sup c.args.loaded.metas c.args.commands.items in
-    let last : At g.row.D.Denot = c.run.new.plant.at in
-    let first : c.run.new.plant.opening ≡ loaded = c.run.ensures.opening ∙ c.in-Ok.ensures.opening ∙ c.in-Ok.ensures.at in
-    let whole : IsRun d c.run.new.plant.opening last = is_run d c.run.new.plant c.into_parts-log.ensures.kept c.run.ensures.over c.stops.ensures in
-    let entries : c.deref.result.now ≡ last.log = c.deref.ensures.value ∙ c.into_parts-log.ensures.entries in
-    let played : Played d k c.args.out.now c.print.new.sink c.into_parts-log.result.1 loaded = record {
-      last = last;
-      run = subst (λ (a : At g.row.D.Denot). IsRun d a last) first whole;
-      device = c.into_parts-log.ensures.disk;
-      printed = λ tells. subst (λ (l : List Entry). IsPartOf (k.written c.args.out.now) (k.written c.print.new.sink) (log_text l)) entries (c.print.ensures.part tells);
+    let store = c.run.new.plant in
+    let kept = c.into_parts-disk.ensures.kept in
+    let opened : IsOpened d c.args.loaded c.args.script store.opening = subst (IsOpened d c.args.loaded c.args.script) (sym (c.run.ensures.opening ∙ c.in-Ok.ensures.opening)) c.in-Ok.ensures.opened in
+    let entries : c.as_slice.result.now ≡ store.at.log = c.as_slice.ensures ∙ c.into_parts-disk.ensures.entries in
+    let played : Played d c.args.script k c.args.out.now c.print-printed.new.sink c.into_parts-disk.result.disk store.opening = record {
+      last = store.at;
+      run = is_run d c.args.script store kept opened.rows c.run.ensures.over c.stores_are_accepted.ensures c.plant_turns.ensures c.plant_stops.ensures c.run.ensures.no_job;
+      device = c.into_parts-disk.ensures.disk;
+      printed = λ tells. subst (λ (l : List Entry). IsPartOf (k.written c.args.out.now) (k.written c.print-printed.new.sink) (log_text l)) entries (c.print-printed.ensures.part tells);
     } in
-    subst (λ (s : Status). Ended d k c.args.out.now c.print.new.sink c.into_parts-log.result.1 loaded s) (sym c.of_run.ensures)
-    (ends d k c.args.out.now c.print.new.sink c.into_parts-log.result.1 loaded played c.stopped-stopped.result c.print.result (sym c.stopped-stopped.ensures)
-    (λ tells. subst (λ (l : List Entry). OnOk c.print.result (k.written c.print.new.sink ≡ k.written c.args.out.now ++ log_text l)) entries (c.print.ensures.whole tells)) c.print.ensures.cause)
+    subst (EndedFrom d c.args.script k c.args.out.now c.print-printed.new.sink c.into_parts-disk.result.disk c.args.loaded) (sym c.of_run.ensures)
+    (inl (
+      store.opening,
+      opened,
+      ends d c.args.script k c.args.out.now c.print-printed.new.sink c.into_parts-disk.result.disk store.opening played c.stopped-stopped.result c.print-printed.result (sym c.stopped-stopped.ensures)
+          (λ tells. subst (λ (l : List Entry). OnOk c.print-printed.result (k.written c.print-printed.new.sink ≡ k.written c.args.out.now ++ log_text l)) entries (c.print-printed.ensures.whole tells)) c.print-printed.ensures.cause,
+    ))

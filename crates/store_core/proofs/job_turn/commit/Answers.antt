@@ -1,4 +1,4 @@
-use Rattle.std.proofs.Common.{◌≡◌, ◌<◌, [], List, Some, length, get_or, drop, refl, sym, ◌∙◌, ap, subst, arith}
+use Rattle.std.proofs.Common.{◌≡◌, ℕ, ◌+◌, ◌≤◌, ◌<◌, [], List, Some, length, get_or, drop, refl, sym, ◌∙◌, ap, subst, arith}
 use Rattle.page_disk.specs.Moments.{IsReplaced, LeavesOnly}
 use Rattle.md_chain.specs.declared.plan.PlannedPage.{PlannedPage}
 use Rattle.store_model.specs.Rows.{Row}
@@ -8,10 +8,11 @@ use Rattle.store_core.specs.Jobs.{job_of}
 use Rattle.store_core.specs.JobTurns.{answer_of, with_job, TurnsJob}
 use Rattle.store_core.specs.declared.job.Planned.{Planned}
 use Rattle.store_core.specs.declared.job_turn.JobTurn.TheVariants as turn
-use Rattle.store_core.specs.Running.{at_of}
+use Rattle.store_core.specs.Running.{at_of, InOrder}
 use Rattle.store_core.specs.Seen.{device_of, rows_of}
 use Rattle.store_core.proofs.JobTurned.{channel_low, got, on_err, on_ok, planned_some, row_some}
 use Rattle.store_core.proofs.JobCommitted.{chain_there, committed_done, committed_more, done_answer, failed_committing, head_below, live_there, meta_there, more_answer}
+use Rattle.store_core.proofs.Maps.{heads_stay}
 use Rattle.store_core.proofs.job_turn.commit.Goals as goal
 
 -- the head's page of the plan
@@ -54,6 +55,25 @@ adopt-requires-clause-chain g c = chain_there g.D.PageDisk (at_of c.args.running
 
 pub adopt-requires-clause-live : goal.adopt-requires-clause-live
 adopt-requires-clause-live g c = live_there g.D.PageDisk (at_of c.args.running.now) (job_of c.args.planned c.args.old (Writing (length (drop 1 c.args.planned.chain)))) c.requires.at_work (length (drop 1 c.args.planned.chain)) refl refl
+
+pub log-requires-clause-order : goal.log-requires-clause-order
+log-requires-clause-order g c =
+    let order = c.requires.order in
+    let old = c.args.running.now in
+    let there = meta_there g.D.PageDisk (at_of c.args.running.now) (job_of c.args.planned c.args.old (Writing (length (drop 1 c.args.planned.chain)))) c.requires.at_work (length (drop 1 c.args.planned.chain)) refl refl in
+    subst (InOrder g.D.PageDisk) (sym c.adopt.ensures) (record {
+      inside = subst (λ (n : ℕ). old.sup.md_start + old.sup.md_len ≤ n) (sym c.replace.ensures.pages) order.inside;
+      sixteen = order.sixteen;
+      entries = order.entries;
+      marks = order.marks;
+      few = order.few;
+      counts = order.counts;
+      counted = order.counted;
+      no_page = order.no_page;
+      no_cluster = order.no_cluster;
+      headed = order.headed;
+      heads = heads_stay old.sup.md_len old.metas c.args.planned.head c.args.planned.new old.heads there order.heads;
+    })
 
 pub log-requires-clause-channel : goal.log-requires-clause-channel
 log-requires-clause-channel g c =

@@ -1,9 +1,12 @@
-use Rattle.std.proofs.Common.{◌≡◌, ◌+◌, ◌<◌, ℕ, List, length, length-append, slice_index_or, slice_set, sym, ◌∙◌, ap, subst, arith}
-use Rattle.std.proofs.lemmas.List.{length-set}
+use Rattle.std.proofs.Common.{◌≡◌, ◌+◌, ◌<◌, ℕ, List, [], length, length-append, slice_index_or, slice_set, sym, ◌∙◌, ap, subst, arith}
+use Rattle.std.proofs.lemmas.List.{get_or_default, length-set}
 use Rattle.volume_model.specs.declared.command.Command.{Command}
 use Rattle.volume_model.specs.declared.reply.Entry.{Entry}
-use Rattle.store_model.specs.Rows.{Row, entries_of}
+use Rattle.store_model.specs.Rows.{Row, Ended, entries_of}
+use Rattle.store_core.specs.Seen.{rows_of}
+use Rattle.store_core.specs.Steps.{OnlyRow}
 use Rattle.store_core.proofs.Counting.{few_of, left_less, counted_more}
+use Rattle.store_core.proofs.Rowing.{only_row, taken_row}
 use Rattle.store_core.proofs.logging.log.Goals as goal
 
 pub overflow_add-running : goal.overflow_add-running
@@ -41,4 +44,14 @@ returns-clause-order g c =
       no_page = order.no_page;
       no_cluster = order.no_cluster;
       headed = order.headed;
+      heads = order.heads;
     }
+
+pub returns-clause-row : goal.returns-clause-row
+returns-clause-row g c =
+    let old = c.args.running.now.rows.items in
+    let channel = c.args.channel in
+    let low : channel < length old = omega (arith, c.requires.channel, c.requires.order.sixteen) in
+    subst (λ (row : Row). OnlyRow old (slice_set old channel c.take.new.self) channel row)
+    (taken_row (rows_of old channel) c.take.new.self c.in-Some.command (ap (λ (r : Row). r.left) (get_or_default old channel (record { left = []; stage = Ended }) c.index_mut.result.now low ∙ sym c.index_mut.ensures.value) ∙ c.in-Some.ensures.some) c.in-Some.ensures.decided)
+    (only_row old channel c.take.new.self low)

@@ -1,6 +1,0 @@
-use Rattle.std.proofs.Common.{◌≡◌, ◌++◌, drop, cond}
-use Rattle.volume_model.specs.Xattrs.{with_value}
-use Rattle.blob_tool.proofs.put.with_value.Given as goal
-
-abbrev pub invariant-loop-xattr : goal.invariant-loop-xattr
-invariant-loop-xattr l = l.copy ++ cond l.is_set (drop l.xattr-index l.xattrs) (with_value (drop l.xattr-index l.xattrs) l.key l.value) ≡ with_value l.xattrs l.key l.value

@@ -1,0 +1,10 @@
+use Rattle.std.proofs.Common.{◌≡◌}
+use Rattle.blob_tool.specs.Driving.{pages_left}
+use Rattle.blob_tool.proofs.Finishing.{Finishing}
+use Rattle.blob_tool.proofs.serving.finish.Given as goal
+
+abbrev pub invariant-loop-plant : goal.invariant-loop-plant
+invariant-loop-plant g l = Finishing l.initial.plant.at l.plant.at l.channel × (l.plant.opening ≡ l.initial.plant.opening)
+
+abbrev pub decreases-loop-plant : goal.decreases-loop-plant
+decreases-loop-plant g l = pages_left l.plant.at.job

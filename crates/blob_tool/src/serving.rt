@@ -1,0 +1,98 @@
+//! One posted command, from its message to its entry.
+
+ghost use Rattle.std.specs.Prelude.{◌≡◌, None};
+ghost use Rattle.blob_meta.specs.Asked.{IsOnHead};
+ghost use Rattle.store_model.specs.Rows.{InJob, Posted};
+ghost use Rattle.store_core.specs.Requests.{asked_by};
+ghost use Rattle.store_core.specs.Seen.{rows_of};
+ghost use Rattle.store_core.specs.Steps.{decided, Asks, OnlyRow};
+ghost use Rattle.blob_tool.specs.Serving.{IsTaskOf};
+
+use blob_meta::{Job, head_in};
+use lvol_store::{plan_put, plan_sync};
+use page_disk::PageDisk;
+use std::alloc::Global;
+use store_core::{BeginTurn, MdRight, Plant, Request, plans};
+use volume_model::{Command, Msg, Reply};
+
+/// What is to be done for a posted command.
+#[derive(Drop)]
+enum Task {
+    /// It is answered in memory.
+    Answer,
+    /// It is refused so.
+    Refuse(Reply),
+    /// This job is begun for it.
+    Begin(Job),
+}
+
+/// The command that is asked for.
+fn command_of<'a>(request: Request<'a>) -> &'a Command
+    ensures { result.now ≡ asked_by request.entry }
+{
+    match request {
+        Request::Meta(command) => command,
+    }
+}
+
+/// What is to be done for the command of a message. On a stopped store it is refused as that.
+fn task_of<D: PageDisk>(alloc: Global, plant: &Plant<D>, right: &MdRight, msg: Msg) -> Task
+    requires posted { (rows_of plant.now.at.rows msg.channel).stage ≡ Posted msg.serial }
+    requires on_head { Asks plant.now.at msg.channel IsOnHead }
+    ensures { IsTaskOf D.PageDisk plant.now.at msg.channel result }
+{
+    plans::<D>();
+    plant.keeps();
+    if let Some(at) = plant.stopped() {
+        return Task::Refuse(Reply::Stopped(at));
+    }
+    let Ok(request) = plant.request(right, msg) else {
+        unreachable!()
+    };
+    let command = command_of(request);
+    let (metas, sup, new) = (plant.metas(), plant.sup(), plant.next_head());
+    let live = plant.live(head_in(command));
+    let planned = match command {
+        Command::Put { .. } => plan_put(alloc, metas, sup, command, new, live),
+        Command::Sync { .. } => plan_sync(alloc, metas, sup, command, new, live),
+        _ => return Task::Answer,
+    };
+    match planned {
+        Ok(job) => Task::Begin(job),
+        Err(reply) => Task::Refuse(reply),
+    }
+}
+
+/// Makes the turns of the job that serves a channel, to its last.
+fn finish<D: PageDisk>(plant: &mut Plant<D>, right: &mut MdRight, channel: u8)
+    requires { (rows_of plant.old.at.rows channel).stage ≡ InJob }
+    ensures row { OnlyRow plant.old.at.rows plant.new.at.rows channel (decided (rows_of plant.old.at.rows channel)) }
+    ensures no_job { plant.new.at.job ≡ None }
+    ensures opening { plant.new.opening ≡ plant.old.opening }
+{
+    plant.keeps();
+    while plant.job_runs() {
+        plant.keeps();
+        plant.job_turn(right);
+    }
+}
+
+/// Answers or refuses the command of a message, or does what it asks for: an entry is logged, and no job runs any more.
+pub(crate) fn serve<D: PageDisk>(alloc: Global, plant: &mut Plant<D>, right: &mut MdRight, msg: Msg)
+    requires posted { (rows_of plant.old.at.rows msg.channel).stage ≡ Posted msg.serial }
+    requires on_head { Asks plant.old.at msg.channel IsOnHead }
+    requires no_job { plant.old.at.job ≡ None }
+    ensures row { OnlyRow plant.old.at.rows plant.new.at.rows msg.channel (decided (rows_of plant.old.at.rows msg.channel)) }
+    ensures no_job { plant.new.at.job ≡ None }
+    ensures opening { plant.new.opening ≡ plant.old.opening }
+{
+    match task_of(alloc, plant, right, msg) {
+        Task::Answer => plant.answer(right, msg),
+        Task::Refuse(reply) => plant.refuse(right, msg, reply),
+        Task::Begin(job) => {
+            if let BeginTurn::Began = plant.begin_job(right, msg, job) {
+                finish(plant, right, msg.channel);
+            }
+        }
+    }
+}

@@ -1,0 +1,33 @@
+-- What a message asks for, and when it is out of date.
+use Rattle.std.specs.Prelude.{◌≡◌, ◌≢◌, ℕ, List, [], ◌∷◌, Option, Some, None}
+use Rattle.volume_model.specs.declared.command.Command.{Command}
+use Rattle.volume_model.specs.declared.reply.Msg.{Msg}
+use Rattle.store_model.specs.Rows.{Row, Stage, Posted}
+use Rattle.store_core.specs.declared.requests.Request.{Request}
+use Rattle.store_core.specs.declared.requests.Request.TheVariants as request
+use Rattle.store_core.specs.declared.requests.Stale.{Stale}
+use Rattle.store_core.specs.Seen.{rows_of}
+
+-- the number under which a row is posted, if it is
+abbrev pub posted_in : Stage → Option ℕ
+posted_in (Posted serial) = Some serial
+posted_in _ = None
+
+-- each row that is posted has a command
+abbrev pub HavePosted : List Row → Type 0
+HavePosted rows = (channel serial : ℕ) → (rows_of rows channel).stage ≡ Posted serial → (rows_of rows channel).left ≢ []
+
+abbrev pub asked_by : Request → Command
+asked_by (request.Meta command) = command.now
+
+-- The message's row is posted under its number, and its first command is asked for.
+pub record AsksNow (rows : List Row) (msg : Msg) (x : Request) : Type 0 where
+  pub posted : (rows_of rows msg.channel).stage ≡ Posted msg.serial
+  pub rest : List Command
+  pub asked : (rows_of rows msg.channel).left ≡ asked_by x ∷ rest
+
+-- The row isn't posted under the message's number: both numbers, that of the row if it is posted.
+pub record IsStale (rows : List Row) (msg : Msg) (x : Stale) : Type 0 where
+  pub not_posted : (rows_of rows msg.channel).stage ≢ Posted msg.serial
+  pub message : x.message ≡ msg.serial
+  pub row : x.row ≡ posted_in (rows_of rows msg.channel).stage

@@ -1,9 +1,0 @@
-use Rattle.store_model.proofs.Stopping.{run_counts, run_faults, run_quiet}
-use Rattle.store_model.proofs.laws.stops.Goals as goal
-
-pub returns : goal.returns
-returns c = record {
-  counted = run_counts;
-  quiet = run_quiet;
-  fault = run_faults;
-}
