@@ -57,7 +57,7 @@ module _ {D : Type 0} (d : Ghosts D) (laws : CrashLaws) (told : IsTrue d.tells) 
     low : j.head < s.md_len
     low = let asks = (served_by (state_of d p) j written ((facts.well runs).job j job_is) phase).1.asks in (facts.roots j.head asks.old asks.there).low
 
-    new_holds : Holds s (given (map.get p.metas) j.head j.new) (given (map.get p.chains) j.head (j.head ∷ j.fresh)) (d.now p.disk) image
+    pub new_holds : Holds s (given (map.get p.metas) j.head j.new) (given (map.get p.chains) j.head (j.head ∷ j.fresh)) (d.now p.disk) image
     new_holds =
         let stands = (facts.well runs).job j job_is in
         let planned : MetaAt (planned_at j) (region_of s) j.head j.new (j.head ∷ j.fresh) = subst (λ (x : Super). MetaAt (planned_at j) (region_of x) j.head j.new (j.head ∷ j.fresh)) facts.super stands.planned in
@@ -65,7 +65,7 @@ module _ {D : Type 0} (d : Ghosts D) (laws : CrashLaws) (told : IsTrue d.tells) 
         (λ place among. let x = at_among j.fresh place among in let lt = x.1 in old.written runs j written job_is phase x.0 place (omega (arith, lt, all)) x.2)
         (old.holds runs (d.now p.disk) ((law told).reads_an_image p.disk))
 
-    head_run : TouchesHead d p q j → LeavesOnly d p.disk q.disk (IsReplaced (d.images p.disk) (d.now p.disk) (s.md_start + j.head) page)
+    pub head_run : TouchesHead d p q j → LeavesOnly d p.disk q.disk (IsReplaced (d.images p.disk) (d.now p.disk) (s.md_start + j.head) page)
     head_run touches = subst (λ n. LeavesOnly d p.disk q.disk (IsReplaced (d.images p.disk) (d.now p.disk) (n + j.head) page)) (ap (λ (x : Super). x.md_start) facts.super) touches
 
   pub commit_survives : MadeCommit d p q → Survives d s first q

@@ -67,7 +67,7 @@ module _ {D : Type 0} (d : Ghosts D) (laws : CrashLaws) (told : IsTrue d.tells) 
       pub run : LeavesOnly d p.disk q.disk Q
       run = subst (λ n. LeavesOnly d p.disk q.disk (Written (d.images p.disk) (n + place) Plain page)) start_is touches
 
-      hold : (c : Image) → Q c → Holds s (map.get p.metas) (map.get p.chains) (d.now p.disk) c
+      pub hold : (c : Image) → Q c → Holds s (map.get p.metas) (map.get p.chains) (d.now p.disk) c
       hold = holds_written laws.scans laws.jobs s placed (map.get p.metas) (map.get p.chains) (d.now p.disk) (d.images p.disk) place page low free quiet (old.holds runs)
 
       pub back : (c : Image) → Q c → ComesBack d s first p (length p.log) c

@@ -16,6 +16,7 @@ pub mod AtWork
 pub mod JobTurned
 pub mod JobCommitted
 pub mod Goes
+pub mod JobMoments
 pub mod Posting
 pub mod Starts
 pub mod Requested

@@ -1,5 +1,5 @@
 -- What a crash may leave of a device on which a store runs, at any moment since the store was loaded.
-use Rattle.std.specs.Prelude.{◌≡◌, ℕ, ◌<◌, Some, None, IsTrue, slice_get}
+use Rattle.std.specs.Prelude.{◌≡◌, ◌⊎◌, ℕ, ◌<◌, ◌∷◌, Some, None, IsTrue, slice_get}
 use Rattle.std.specs.FinMap as map
 use Rattle.page_disk.specs.Disk.{Image, Only}
 use Rattle.page_disk.specs.Marks.{MarksKept}
@@ -7,7 +7,7 @@ use Rattle.page_disk.specs.declared.disk.PageDisk.{Ghosts}
 use Rattle.super_block.specs.declared.page.Super.{Super}
 use Rattle.volume_model.specs.Volumes.{Volumes}
 use Rattle.blob_meta.specs.Resolving.{IsLawful}
-use Rattle.store_model.specs.Maps.{Metas, Chains}
+use Rattle.store_model.specs.Maps.{Metas, Chains, given}
 use Rattle.store_model.specs.Regions.{look_of, region_of}
 use Rattle.store_model.specs.Scans.{Says}
 use Rattle.store_model.specs.Recovers.{HasStore, RecoversAt, RecoversFrom}
@@ -34,6 +34,10 @@ pub record Holds (s : Super) (metas : Metas) (chains : Chains) (now image : Imag
   pub store : HasStore s image
   pub says : Says (region_of s) metas chains image
   pub same : IsSameBehind s now image
+
+-- The image says this metadata, or that with the job's blob's replaced by the new one: every other blob's is as it was.
+abbrev pub OldOrNew : Super → Metas → Chains → Image → Job → Image → Type 0
+OldOrNew s metas chains now j image = Holds s metas chains now image ⊎ Holds s (given metas j.head j.new) (given chains j.head (j.head ∷ j.fresh)) now image
 
 -- a store that began with this super block and these volumes
 module _ {D : Type 0} (d : Ghosts D) (s : Super) (first : Volumes) (p : At D) where

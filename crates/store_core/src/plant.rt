@@ -4,7 +4,7 @@
 use crate::answering::answer_or_halt;
 use crate::begin::{BeginTurn, begin_or_halt};
 use crate::job_turn::{JobTurn, job_turn};
-use crate::keeping::{begins, goes_on};
+use crate::keeping::{begins, goes_on, leaves};
 use crate::loaded::Loaded;
 use crate::parts::Parts;
 use crate::refusing::refuse_or_halt;
@@ -71,7 +71,9 @@ impl<D: PageDisk> Plant<D> {
     ghost use Rattle.store_core.specs.Seen.{rows_of, state_of};
     ghost use Rattle.store_core.specs.Stages.{is_stage};
     ghost use Rattle.store_core.specs.Steps.{decided, Asks, OnlyRow};
-    ghost use Rattle.store_core.specs.Surviving.{Holds};
+    ghost use Rattle.page_disk.specs.Moments.{LeavesOnly};
+    ghost use Rattle.store_model.specs.Plants.{Job as AJob};
+    ghost use Rattle.store_core.specs.Surviving.{HasOneImage, Holds, OldOrNew};
     ghost use Rattle.store_core.specs.Requests.{AsksNow, IsStale};
     ghost use Rattle.store_core.specs.Whole.{AreMasks, IsNextHead, IsWhole};
 
@@ -242,9 +244,13 @@ impl<D: PageDisk> Plant<D> {
         requires { IsSome self.old.at.job }
         ensures case { TurnsJob D.PageDisk self.old.at self.new.at }
         ensures answer { result ≡ answer_of self.new.at }
+        // At any moment of the turn a crash leaves the metadata from before it, or that with the job's blob's replaced.
+        ensures any_moment { HasOneImage D.PageDisk self.old.opening.disk → (job : AJob) → self.old.at.job ≡ Some job
+            → LeavesOnly D.PageDisk self.old.at.disk self.new.at.disk (OldOrNew self.old.opening.super (map.get self.old.at.metas) (map.get self.old.at.chains) (D.now self.old.at.disk) job) }
         ensures opening { self.new.opening ≡ self.old.opening }
     {
         goes_on::<D>();
+        leaves::<D>();
         job_turn(&mut self.running)
     }
 
