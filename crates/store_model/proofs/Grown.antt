@@ -2,11 +2,15 @@
 use Rattle.std.proofs.Common.{◌≡◌, ℕ, ◌+◌, ◌<◌, ◌≤◌, List, [], ◌∷◌, ◌++◌, length, take, Option, Some, None, refl, sym, ◌∙◌, ap, subst, inl, inr, arith, length-append, append_assoc}
 use Rattle.std.specs.Prelude.{slice_get}
 use Rattle.std.proofs.lemmas.List.{append-nil, take_all, take-append-le, get_or_append_left, get_or_push}
+use Rattle.std.proofs.Math.Path.{fun_ext}
 use Rattle.std.proofs.lemmas.Option.{slice_get_within, get_or_from_slice_get, slice_get-get_or}
 use Rattle.page_disk.specs.Disk.{Image}
 use Rattle.super_block.specs.declared.page.Super.{Super}
 use Rattle.volume_model.specs.Volumes.{Volume, Volumes}
-use Rattle.volume_model.specs.Logs.{stable, IsSettled, SettlesNothing}
+use Rattle.volume_model.specs.Steps.{Allowed, IsRefusal}
+use Rattle.volume_model.specs.Logs.{replay, stable, IsSettled, SettlesNothing}
+use Rattle.volume_model.proofs.Refused.{refused}
+use Rattle.volume_model.proofs.Replays.{replay_push}
 use Rattle.volume_model.specs.declared.reply.Reply.TheVariants as r
 use Rattle.volume_model.specs.declared.reply.Entry.{Entry}
 use Rattle.blob_meta.specs.Resolving.{resolved}
@@ -55,19 +59,33 @@ module _ (s : Super) (first : Volumes) (log : List Entry) (e : Entry) where
             (shows f image (resolved x.metas) head) (stable f first (log ++ rest) head) (x.shown head));
       }
 
+  -- what may be done behind a log may be behind an equal one
+  may_at : {l k : List Entry} → l ≡ k → (done : Entry) → Allowed (fixed_of s) (replay (fixed_of s) first l) done.command done.reply → Allowed (fixed_of s) (replay (fixed_of s) first k) done.command done.reply
+  may_at is done may = subst (λ (l : List Entry). Allowed (fixed_of s) (replay (fixed_of s) first l) done.command done.reply) is may
+
+  -- an entry that refuses adds nothing to the replay
+  same_replay : IsRefusal e.reply → replay (fixed_of s) first (log ++ e ∷ []) ≡ replay (fixed_of s) first log
+  same_replay refuses = replay_push (fixed_of s) first log e ∙ fun_ext (refused (fixed_of s) (replay (fixed_of s) first log) e.command e.reply refuses)
+
   got_still : (place : ℕ) (x : Entry) → slice_get log place ≡ Some x → slice_get (log ++ e ∷ []) place ≡ Some x
   got_still place x is =
       let low : place < length log = slice_get_within log place x is in
       let longer : length (log ++ e ∷ []) ≡ length log + 1 = length-append log (e ∷ []) in
       slice_get-get_or (log ++ e ∷ []) place x (omega (arith, low, longer)) ∙ ap (λ (y : Entry). Some y) (get_or_append_left log (e ∷ []) x place low ∙ get_or_from_slice_get log place x x is)
 
-  still_in_progress : (n : ℕ) (done : Entry) → InProgress log n done → InProgress (log ++ e ∷ []) n done
-  still_in_progress n done x = record { place = x.place; reached = x.reached; failed = got_still x.place _ x.failed; is_done = x.is_done }
+  still_in_progress : (n : ℕ) (done : Entry) → n ≤ length log → InProgress s first log n done → InProgress s first (log ++ e ∷ []) n done
+  still_in_progress n done le x = record {
+    place = x.place;
+    reached = x.reached;
+    failed = got_still x.place _ x.failed;
+    is_done = x.is_done;
+    allowed = may_at (sym (take-append-le n log (e ∷ []) le)) done x.allowed;
+  }
 
   pub at_still : (n : ℕ) (image : Image) → n ≤ length log → RecoversAt s first log n image → RecoversAt s first (log ++ e ∷ []) n image
   at_still n image le (inl x) = inl (subst (λ (l : List Entry). Recovers s first l image) (sym (take-append-le n log (e ∷ []) le)) x)
   at_still n image le (inr x) =
-      inr (x.0, still_in_progress n x.0 x.1, subst (λ (l : List Entry). Recovers s first (l ++ x.0 ∷ []) image) (sym (take-append-le n log (e ∷ []) le)) x.2)
+      inr (x.0, still_in_progress n x.0 le x.1, subst (λ (l : List Entry). Recovers s first (l ++ x.0 ∷ []) image) (sym (take-append-le n log (e ∷ []) le)) x.2)
 
   pub from_still : (least : ℕ) (image : Image) → RecoversFrom s first log least image → RecoversFrom s first (log ++ e ∷ []) least image
   from_still least image x =
@@ -75,8 +93,8 @@ module _ (s : Super) (first : Volumes) (log : List Entry) (e : Entry) where
       let longer : length (log ++ e ∷ []) ≡ length log + 1 = length-append log (e ∷ []) in
       record { prefix = x.prefix; holds_all = x.holds_all; within = omega (arith, within, longer); recovers = at_still x.prefix image x.within x.recovers }
 
-  pub idle_from : SettlesNothing e → (image : Image) → RecoversFrom s first log (length log) image → RecoversFrom s first (log ++ e ∷ []) (length log + 1) image
-  idle_from idle image x = record { prefix = length log + 1; holds_all = omega arith; within = let l = longer in omega (arith, l); recovers = at (length log + 1) (sym longer) (reached_at s first log image x) }
+  pub idle_from : IsRefusal e.reply → SettlesNothing e → (image : Image) → RecoversFrom s first log (length log) image → RecoversFrom s first (log ++ e ∷ []) (length log + 1) image
+  idle_from refuses idle image x = record { prefix = length log + 1; holds_all = omega arith; within = let l = longer in omega (arith, l); recovers = at (length log + 1) (sym longer) (reached_at s first log image x) }
     where
       longer : length (log ++ e ∷ []) ≡ length log + 1
       longer = length-append log (e ∷ [])
@@ -94,31 +112,39 @@ module _ (s : Super) (first : Volumes) (log : List Entry) (e : Entry) where
           let new : Recovers s first ((log ++ e ∷ []) ++ y.0 ∷ []) image = subst (λ (l : List Entry). Recovers s first l image) (sym (append_assoc log (e ∷ []) (y.0 ∷ []))) (recovers_idle idle (y.0 ∷ []) image old) in
           inr (
             y.0,
-            record { place = y.1.place; reached = omega (arith, reached, is, longer); failed = got_still y.1.place _ y.1.failed; is_done = y.1.is_done },
+            record {
+              place = y.1.place;
+              reached = omega (arith, reached, is, longer);
+              failed = got_still y.1.place _ y.1.failed;
+              is_done = y.1.is_done;
+              allowed = subst (λ (v : Volumes). Allowed (fixed_of s) v y.0.command y.0.reply)
+                  (ap (λ (l : List Entry). replay (fixed_of s) first l) (take_all (length log) log (omega arith)) ∙ sym (same_replay refuses) ∙ ap (λ (l : List Entry). replay (fixed_of s) first l) (sym (all n is))) y.1.allowed;
+            },
             subst (λ (l : List Entry). Recovers s first (l ++ y.0 ∷ []) image) (sym (all n is)) new,
           )
 
 -- ---- a verb that failed, and whose change is there
 
-module _ (s : Super) (first : Volumes) (log : List Entry) (done : Entry) (is : IsDone done.reply) where
+module _ (s : Super) (first : Volumes) (log : List Entry) (done : Entry) (is : IsDone done.reply) (may : Allowed (fixed_of s) (replay (fixed_of s) first log) done.command done.reply) where
   abbrev fault : Entry
   fault = record done { reply = r.Fault }
 
   longer : length (log ++ fault ∷ []) ≡ length log + 1
   longer = length-append log (fault ∷ [])
 
-  in_progress : (n : ℕ) → length log ≤ n → InProgress (log ++ fault ∷ []) n done
-  in_progress n le = record {
+  in_progress : (n : ℕ) → length log ≤ n → replay (fixed_of s) first log ≡ replay (fixed_of s) first (take n (log ++ fault ∷ [])) → InProgress s first (log ++ fault ∷ []) n done
+  in_progress n le same = record {
     place = length log;
     reached = le;
     failed = slice_get-get_or (log ++ fault ∷ []) (length log) fault (omega (arith, longer)) ∙ ap (λ (e : Entry). Some e) (get_or_push log fault fault (length log) refl);
     is_done = is;
+    allowed = subst (λ (v : Volumes). Allowed (fixed_of s) v done.command done.reply) same may;
   }
 
   pub failed_at : (image : Image) → Recovers s first (log ++ done ∷ []) image → RecoversAt s first (log ++ fault ∷ []) (length log) image
   failed_at image x =
       let before : take (length log) (log ++ fault ∷ []) ≡ log = take-append-le (length log) log (fault ∷ []) (omega arith) ∙ take_all (length log) log (omega arith) in
-      inr (done, in_progress (length log) (omega arith), subst (λ (l : List Entry). Recovers s first (l ++ done ∷ []) image) (sym before) x)
+      inr (done, in_progress (length log) (omega arith) (ap (λ (l : List Entry). replay (fixed_of s) first l) (sym before)), subst (λ (l : List Entry). Recovers s first (l ++ done ∷ []) image) (sym before) x)
 
   pub failed_from : SettlesNothing fault → (least : ℕ) (image : Image) → least ≤ length log + 1 → Recovers s first (log ++ done ∷ []) image → RecoversFrom s first (log ++ fault ∷ []) least image
   failed_from idle least image le x =
@@ -128,5 +154,5 @@ module _ (s : Super) (first : Volumes) (log : List Entry) (done : Entry) (is : I
         prefix = length log + 1;
         holds_all = le;
         within = omega (arith, longer);
-        recovers = inr (done, in_progress (length log + 1) (omega arith), subst (λ (l : List Entry). Recovers s first (l ++ done ∷ []) image) (sym all) both);
+        recovers = inr (done, in_progress (length log + 1) (omega arith) (sym (same_replay s first log fault tt) ∙ ap (λ (l : List Entry). replay (fixed_of s) first l) (sym all)), subst (λ (l : List Entry). Recovers s first (l ++ done ∷ []) image) (sym all) both);
       }

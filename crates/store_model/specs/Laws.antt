@@ -3,7 +3,8 @@ use Rattle.std.specs.Prelude.{◌≡◌, ◌≢◌, ◌<◌, ◌≤◌, ◌+◌,
 use Rattle.page_disk.specs.Disk.{Image}
 use Rattle.super_block.specs.declared.page.Super.{Super}
 use Rattle.volume_model.specs.Volumes.{Volumes}
-use Rattle.volume_model.specs.Steps.{IsRefusal}
+use Rattle.volume_model.specs.Steps.{Allowed, IsRefusal}
+use Rattle.volume_model.specs.Logs.{replay}
 use Rattle.volume_model.specs.declared.reply.Reply.TheVariants.{Fault}
 use Rattle.volume_model.specs.declared.reply.Entry.{Entry}
 use Rattle.blob_meta.specs.Resolving.{resolved}
@@ -43,8 +44,8 @@ pub record GrowthLaws : Type 0 where
   pub still : (s : Super) (first : Volumes) (log : List Entry) (e : Entry) (least : ℕ) (image : Image) → RecoversFrom s first log least image → RecoversFrom s first (log ++ e ∷ []) least image
   pub still_at : (s : Super) (first : Volumes) (log : List Entry) (e : Entry) (n : ℕ) (image : Image) → n ≤ length log → RecoversAt s first log n image → RecoversAt s first (log ++ e ∷ []) n image
   pub idle : (s : Super) (first : Volumes) (log : List Entry) (e : Entry) (image : Image) → IsRefusal e.reply → RecoversFrom s first log (length log) image → RecoversFrom s first (log ++ e ∷ []) (length log + 1) image
-  -- the new entry is the fault of a verb whose change is there
-  pub failed : (s : Super) (first : Volumes) (log : List Entry) (done : Entry) (least : ℕ) (image : Image) → IsDone done.reply → least ≤ length log + 1 → Recovers s first (log ++ done ∷ []) image →
+  -- the new entry is the fault of a verb that might be done, and whose change is there
+  pub failed : (s : Super) (first : Volumes) (log : List Entry) (done : Entry) (least : ℕ) (image : Image) → IsDone done.reply → Allowed (fixed_of s) (replay (fixed_of s) first log) done.command done.reply → least ≤ length log + 1 → Recovers s first (log ++ done ∷ []) image →
       RecoversFrom s first (log ++ record done { reply = Fault } ∷ []) least image
-  pub failed_at : (s : Super) (first : Volumes) (log : List Entry) (done : Entry) (image : Image) → IsDone done.reply → Recovers s first (log ++ done ∷ []) image →
+  pub failed_at : (s : Super) (first : Volumes) (log : List Entry) (done : Entry) (image : Image) → IsDone done.reply → Allowed (fixed_of s) (replay (fixed_of s) first log) done.command done.reply → Recovers s first (log ++ done ∷ []) image →
       RecoversAt s first (log ++ record done { reply = Fault } ∷ []) (length log) image

@@ -5,7 +5,8 @@ use Rattle.super_block.specs.declared.page.Super.{Super}
 use Rattle.super_block.specs.Page.{super_of}
 use Rattle.super_block.specs.Faults.{super_fault}
 use Rattle.volume_model.specs.Volumes.{Volume, Volumes}
-use Rattle.volume_model.specs.Logs.{stable, IsSettled}
+use Rattle.volume_model.specs.Steps.{Allowed}
+use Rattle.volume_model.specs.Logs.{replay, stable, IsSettled}
 use Rattle.volume_model.specs.declared.reply.Reply.{Reply}
 use Rattle.volume_model.specs.declared.reply.Reply.TheVariants as r
 use Rattle.volume_model.specs.declared.reply.Entry.{Entry}
@@ -41,15 +42,16 @@ IsDone r.Ok = Unit {0}
 IsDone (r.Made head) = Unit {0}
 IsDone _ = ⊥
 
--- The entry whose turn failed, among the first n and the next, as if it had been done.
-pub record InProgress (log : List Entry) (n : ℕ) (done : Entry) : Type 0 where
-  pub place : ℕ
-  pub reached : place ≤ n
-  pub failed : slice_get log place ≡ Some (record done { reply = r.Fault })
-  pub is_done : IsDone done.reply
-
 -- the log from these volumes on
 module _ (s : Super) (first : Volumes) where
+  -- The entry whose turn failed, among the first n and the next, as if it had been done; behind these n it may be done.
+  pub record InProgress (log : List Entry) (n : ℕ) (done : Entry) : Type 0 where
+    pub place : ℕ
+    pub reached : place ≤ n
+    pub failed : slice_get log place ≡ Some (record done { reply = r.Fault })
+    pub is_done : IsDone done.reply
+    pub allowed : Allowed (fixed_of s) (replay (fixed_of s) first (take n log)) done.command done.reply
+
   -- volumes that are those of the log as it survives: synced attributes, and the content of settled pages
   abbrev pub AreSynced : List Entry → Volumes → Type 0
   AreSynced log shown = (head : ℕ) → AgreeAt (IsSettled (fixed_of s) first log head) (shown head) (stable (fixed_of s) first log head)
