@@ -30,8 +30,8 @@ use Rattle.store_model.specs.Scans.{MetaAt}
 use Rattle.store_model.specs.Rows.{with_row, Ended, InJob, Posted, Row, Rows}
 use Rattle.store_model.specs.Plants.{Job, Plant, Writing, logged, page_in}
 use Rattle.store_model.specs.Places.{all_set, held_by, AreDistinct, AreLeastClear, IsLinked, UsedPages}
-use Rattle.store_model.specs.Jobs.{places_of, AsksFor, IsSyncing, Needs}
-use Rattle.store_model.specs.Cases.{Begins, IsPosted, IsRefusedBy, Refuses}
+use Rattle.store_model.specs.Jobs.{places_of, AsksFor, IsPacked, IsSyncing, Needs}
+use Rattle.store_model.specs.Cases.{Begins, IsPosted, IsRefusedAtBegin, Refuses}
 use Rattle.store_model.specs.Standing.{CanBeWritten, IsRoot, RunsWell}
 use Rattle.store_model.proofs.PlantBegins.{writable_root}
 use Rattle.store_model.proofs.Sets.{all_set_in, all_set_out, among_either, among_first, are_distinct, not_first, length_all_set, were_clear, AllBelow}
@@ -97,6 +97,7 @@ pub record IsReady (p : Plant) (head : ℕ) (new : Meta) (after : List Bool) (pl
   pub needs : Needs new (length fresh)
   pub least : AreLeastClear p.pages fresh
   pub taken : after ≡ all_set p.pages fresh true
+  pub packed : IsPacked new head fresh plan
   pub planned : MetaAt (page_in plan) (region_of p.super) head new (head ∷ fresh)
   pub places : places_of plan ≡ head ∷ fresh
 
@@ -159,6 +160,7 @@ module _ (p : Plant) (running : IsRunning p) (runs : p.stopped ≡ None) (comman
         needs = record { items = is.items; are = is.are; chain = sym t.count };
         least = t.least;
         taken = t.taken;
+        packed = record { items = is.items; are = is.are; pages = t.laid_on.pages };
         planned = record {
           items = written_items is.items;
           chain = t.laid_on.reads (page_in x.laid.pages) p.super.md_len small (once_each (head ∷ t.fresh) (all_differ t.fresh t.least)) (all_low t.fresh t.least) planned_pages;
@@ -210,6 +212,7 @@ module _ {D : Type 0} (d : Ghosts D) (p : At D) (channel : ℕ) (low : channel <
     asks = asks;
     needs = is.needs;
     least = is.least;
+    packed = is.packed;
     planned = is.planned;
     places = is.places;
     chain = chain;
@@ -220,7 +223,7 @@ module _ {D : Type 0} (d : Ghosts D) (p : At D) (channel : ℕ) (low : channel <
         ∙ ap (λ (bits : List Bool). record s { rows = with_row s.rows channel in_job; pages = bits; job = Some j }) is.taken;
   }
 
-  pub refused : (reply : Reply) → IsRefusedBy s command reply → (after : List Bool) → after ≡ p.pages → (new : At D)
+  pub refused : (reply : Reply) → IsRefusedAtBegin s command reply → (after : List Bool) → after ≡ p.pages → (new : At D)
       → ((k : Command) (ks : List Command) → (rows_of p.rows channel).left ≡ k ∷ ks → new ≡ logged_at (record p { pages = after }) channel k ks reply (d.clock new.disk))
       → Refuses s (state_of d new) × (new.disk ≡ p.disk)
   refused reply why after same new entry =

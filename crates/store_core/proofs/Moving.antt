@@ -16,19 +16,19 @@ read_told false old new place page is = refl
 
 module _ {D T : Type 0} (d : Ghosts D) (r : Result T DiskFault) (old new : D) (place : ℕ) (page : List ℕ) (calls : ℕ) where
   pub moves : (IsTrue d.tells → OnOk r (d.now new ≡ with_page (d.now old) place page)) → OnOk r (d.clock old + calls ≤ d.clock new) → d.read_faults new ≡ d.read_faults old
-      → HasCause (d.write_faults old) (d.write_faults new) r → d.reads new ≡ d.reads old → OnOk r (Moves d.tells (device_of d old) place page calls (device_of d new))
-  moves written rises read_faults faults reads = by r written rises faults
+      → OnOk r (d.write_faults new ≡ d.write_faults old) → d.reads new ≡ d.reads old → OnOk r (Moves d.tells (device_of d old) place page calls (device_of d new))
+  moves written rises read_faults no_fault reads = by r written rises no_fault
     where
       by : (x : Result T DiskFault) → (IsTrue d.tells → OnOk x (d.now new ≡ with_page (d.now old) place page)) → OnOk x (d.clock old + calls ≤ d.clock new)
-          → HasCause (d.write_faults old) (d.write_faults new) x → OnOk x (Moves d.tells (device_of d old) place page calls (device_of d new))
-      by (Ok x) written rises faults = record {
+          → OnOk x (d.write_faults new ≡ d.write_faults old) → OnOk x (Moves d.tells (device_of d old) place page calls (device_of d new))
+      by (Ok x) written rises no_fault = record {
         reads = read_told d.tells (d.now old) (d.now new) place page written;
         clock = rises;
         read_faults = read_faults;
-        write_faults = faults.later;
+        write_faults = no_fault;
         read_calls = reads;
       }
-      by (Err e) written rises faults = tt
+      by (Err e) written rises no_fault = tt
 
   pub fails : d.clock old ≤ d.clock new → d.read_faults new ≡ d.read_faults old → HasCause (d.write_faults old) (d.write_faults new) r → d.reads new ≡ d.reads old
       → OnErr r (FailsToReplace (device_of d old) (device_of d new))

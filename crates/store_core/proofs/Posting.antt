@@ -65,23 +65,23 @@ pub kept_running : {D : Type 0} (d : Ghosts D) (p : Both D) → Kept d p → IsR
 kept_running d p kept = record { store = p.opening.super; first = _; script = _; placed = kept.placed; facts = kept.facts }
 
 -- one of two cases, by whether the store is stopped
-pub either : {D : Type 0} (d : Ghosts D) (p : Both D) (q : At D) (a b : kind.Kind) → ((k : kind.Kind) → Made d p.at q k → Kept d (record { at = q; opening = p.opening })) → (p.at.stopped ≡ None → Made d p.at q a) → (IsSome p.at.stopped → Made d p.at q b)
-    → Kept d (record { at = q; opening = p.opening })
+pub either : {D : Type 0} (d : Ghosts D) (p : Both D) (q : At D) (a b : kind.Kind) → ((k : kind.Kind) → Made d p.at q k → Kept d (record { at = q; opening = p.opening; right = p.right })) → (p.at.stopped ≡ None → Made d p.at q a) → (IsSome p.at.stopped → Made d p.at q b)
+    → Kept d (record { at = q; opening = p.opening; right = p.right })
 either d p q a b goes_on runs stops = by p.at.stopped refl
   where
-    by : (o : Option ℕ) → p.at.stopped ≡ o → Kept d (record { at = q; opening = p.opening })
+    by : (o : Option ℕ) → p.at.stopped ≡ o → Kept d (record { at = q; opening = p.opening; right = p.right })
     by None is = goes_on a (runs is)
     by (Some at) is = goes_on b (stops (subst IsSome (sym is) refl))
 
 -- a job that begins or not, by whether the store is stopped
-pub begun_or_not : {D : Type 0} (d : Ghosts D) (p : Both D) (q : At D) (turn : BeginTurn) → ((k : kind.Kind) → Made d p.at q k → Kept d (record { at = q; opening = p.opening })) → (p.at.stopped ≡ None → BeginsOrNot d p.at q turn)
-    → (IsSome p.at.stopped → (turn ≡ begin.Logged) × Made d p.at q kind.halts) → Kept d (record { at = q; opening = p.opening })
+pub begun_or_not : {D : Type 0} (d : Ghosts D) (p : Both D) (q : At D) (turn : BeginTurn) → ((k : kind.Kind) → Made d p.at q k → Kept d (record { at = q; opening = p.opening; right = p.right })) → (p.at.stopped ≡ None → BeginsOrNot d p.at q turn)
+    → (IsSome p.at.stopped → (turn ≡ begin.Logged) × Made d p.at q kind.halts) → Kept d (record { at = q; opening = p.opening; right = p.right })
 begun_or_not d p q turn goes_on runs stops = by p.at.stopped refl
   where
-    made : (t : BeginTurn) → BeginsOrNot d p.at q t → Kept d (record { at = q; opening = p.opening })
+    made : (t : BeginTurn) → BeginsOrNot d p.at q t → Kept d (record { at = q; opening = p.opening; right = p.right })
     made begin.Began x = goes_on kind.begins x
     made begin.Logged x = goes_on kind.refuses x
 
-    by : (o : Option ℕ) → p.at.stopped ≡ o → Kept d (record { at = q; opening = p.opening })
+    by : (o : Option ℕ) → p.at.stopped ≡ o → Kept d (record { at = q; opening = p.opening; right = p.right })
     by None is = made turn (runs is)
     by (Some at) is = goes_on kind.halts (stops (subst IsSome (sym is) refl)).1

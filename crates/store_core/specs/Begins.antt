@@ -3,7 +3,6 @@ use Rattle.std.specs.Prelude.{◌≡◌, ℕ, ◌+◌, ◌<◌, ◌^◌, nat_eq,
 use Rattle.std.specs.List.{All, IsDistinct}
 use Rattle.std.specs.Ordering.{nat_cmp}
 use Rattle.std.specs.FinMap as map
-use Rattle.pools.specs.Pool.{clear_in}
 use Rattle.descriptors.specs.declared.item.Item.{Item}
 use Rattle.blob_meta.specs.declared.meta.Meta.{Meta}
 use Rattle.blob_meta.specs.Items.{IsItemsOf}
@@ -17,7 +16,8 @@ use Rattle.blob_meta.specs.declared.job.Job.{Job as Given}
 use Rattle.blob_meta.specs.Jobs.{job_of_one}
 use Rattle.store_model.specs.Plants.{Plant}
 use Rattle.store_model.specs.Cases as kind
-use Rattle.store_model.specs.Jobs.{AsksFor, Needs}
+use Rattle.store_model.specs.Jobs.{AsksFor}
+pub use Rattle.store_model.specs.Jobs.{LacksPages}
 use Rattle.store_core.specs.Made.{Made}
 use Rattle.store_core.specs.Seen.{At}
 use Rattle.store_core.specs.Steps.{decided}
@@ -56,12 +56,6 @@ pub record IsPrepared (chains : map.FinMap nat_cmp (List ℕ)) (head : ℕ) (met
   pub are : IsItemsOf meta items
   pub plannable : ArePlannable items
   pub taken : IsTaken items head old new x.laid
-
--- fewer places are clear than the metadata needs
-pub record LacksPages (meta : Meta) (bits : List Bool) : Type 0 where
-  pub count : ℕ
-  pub needs : Needs meta count
-  pub lacking : clear_in bits < count
 
 -- the job that begins with it
 abbrev pub first_job : Prepared → ℕ → ℕ → Meta → RunningJob

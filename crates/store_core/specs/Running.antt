@@ -28,8 +28,8 @@ at_of running = record {
   stopped = running.stopped;
 }
 
-abbrev pub both : {D : Type 0} → Running D → Running D → Both D
-both running opening = record { at = at_of running; opening = at_of opening }
+abbrev pub both : {D : Type 0} → Running D → Running D → ℕ → Both D
+both running opening right = record { at = at_of running; opening = at_of opening; right = right }
 
 -- how many commands are left in all rows
 abbrev pub left_in : List Row → ℕ

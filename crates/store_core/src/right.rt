@@ -1,17 +1,34 @@
 //! The right to change metadata.
 
-/// Who has it may change the metadata and the live attributes of a store. It can't be copied, and `Plant::start` alone makes one.
+use std::marker::Model;
+use std::sync::ledger::Blank;
+
+/// Who has it may change the metadata and the live attributes of its store. `Plant::start` alone makes one, for the store that
+/// it makes; it can't be copied. Contracts see its name, which no other right has.
 pub struct MdRight {
-    made: (),
+    name: Blank,
+}
+
+impl Model for MdRight {
+    ghost use Rattle.std.specs.Prelude.{ℕ};
+
+    ghost Value = { ℕ };
+
+    ghost view = { λ r. r.name.name };
 }
 
 impl MdRight {
-    pub(crate) fn new() -> MdRight {
-        MdRight { made: () }
+    ghost use Rattle.std.specs.Prelude.{◌≡◌};
+
+    /// The right of this name.
+    pub(crate) fn new(name: Blank) -> MdRight
+        ensures { result ≡ name.name }
+    {
+        MdRight { name }
     }
 
     /// The right ends with its store.
     pub(crate) fn end(self) {
-        let MdRight { made: () } = self;
+        let MdRight { name: _ } = self;
     }
 }

@@ -1,5 +1,6 @@
 -- What a command asks a job to do, and what is known of a job while it runs.
-use Rattle.std.specs.Prelude.{◌≡◌, ℕ, ◌+◌, ◌<◌, ◌≤◌, List, ◌∷◌, length, map, Some, None}
+use Rattle.std.specs.Prelude.{◌≡◌, ℕ, ◌+◌, ◌<◌, ◌≤◌, Bool, List, ◌∷◌, length, map, Some, None}
+use Rattle.pools.specs.Pool.{clear_in}
 use Rattle.descriptors.specs.declared.item.Item.{Item}
 use Rattle.volume_model.specs.Volumes.{Volume}
 use Rattle.volume_model.specs.Steps.{change, named_head}
@@ -10,6 +11,7 @@ use Rattle.volume_model.specs.declared.reply.Reply.TheVariants as r
 use Rattle.blob_meta.specs.declared.meta.Meta.{Meta}
 use Rattle.blob_meta.specs.Items.{IsItemsOf}
 use Rattle.md_chain.specs.Packing.{parts_of}
+use Rattle.md_chain.specs.Planned.{chain_pages}
 use Rattle.md_chain.specs.declared.plan.PlannedPage.{PlannedPage}
 use Rattle.store_model.specs.Regions.{region_of}
 use Rattle.store_model.specs.Scans.{MetaAt}
@@ -41,6 +43,18 @@ pub record Needs (new : Meta) (count : ℕ) : Type 0 where
   pub items : List Item
   pub are : IsItemsOf new items
   pub chain : length (parts_of items) ≡ count + 1
+
+-- fewer pages are clear than the metadata needs
+pub record LacksPages (new : Meta) (bits : List Bool) : Type 0 where
+  pub count : ℕ
+  pub needs : Needs new count
+  pub lacking : clear_in bits < count
+
+-- The planned pages are just those on which the items of the new metadata are packed.
+pub record IsPacked (new : Meta) (head : ℕ) (fresh : List ℕ) (planned : List PlannedPage) : Type 0 where
+  pub items : List Item
+  pub are : IsItemsOf new items
+  pub pages : planned ≡ chain_pages items head fresh
 
 -- the places of planned pages
 abbrev pub places_of : List PlannedPage → List ℕ

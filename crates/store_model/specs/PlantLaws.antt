@@ -54,6 +54,8 @@ pub record PlantLaws : Type 0 where
 pub record PlantStopLaws : Type 0 where
   -- a run that begins running and ends stopped has counted a failed write or flush, or the count stands at its last number
   pub counted : (told : Bool) (p q : Plant) (kinds : List Kind) (at : ℕ) → Run told p kinds q → p.stopped ≡ None → q.stopped ≡ Some at → Rose p.device.write_faults q.device.write_faults
+  -- a run that ends running has counted none
+  pub uncounted : (told : Bool) (p q : Plant) (kinds : List Kind) → Run told p kinds q → q.stopped ≡ None → q.device.write_faults ≡ p.device.write_faults
   -- a run's log has no `fault` and no `stopped` while the store runs, and then one `fault` at most, where the store stopped
   pub quiet : (told : Bool) (p q : Plant) (kinds : List Kind) → Run told p kinds q → p.log ≡ [] → q.stopped ≡ None → All (λ e. IsQuiet e.reply) q.log
   pub fault : (told : Bool) (p q : Plant) (kinds : List Kind) → Run told p kinds q → p.log ≡ [] → (k : ℕ) (e : Entry) → slice_get q.log k ≡ Some e → e.reply ≡ r.Fault → q.stopped ≡ Some k

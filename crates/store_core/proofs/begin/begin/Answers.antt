@@ -61,7 +61,7 @@ returns-in-Ok-None-clause-logged g c = λ _.
     let low : c.args.channel < length p.rows = omega (arith, c.requires.channel, c.requires.order.sixteen) in
     let none : LacksPages c.args.new c.args.running.now.pages.bits × (c.prepare.new.pages.bits ≡ c.args.running.now.pages.bits) =
     subst (λ (o : Option Prepared). IfNone o (LacksPages c.args.new c.args.running.now.pages.bits × (c.prepare.new.pages.bits ≡ c.args.running.now.pages.bits))) c.in-Ok-None.field-0-is c.in-Ok-None.ensures.none in
-    refused g.D.PageDisk p c.args.channel low c.requires.posted c.requires.runs NoPage (c.args.head, c.args.new, none.0.count, asks, none.0.needs, none.0.lacking) c.prepare.new.pages.bits none.1 (at_of c.log.new.running) c.log.ensures.logged
+    refused g.D.PageDisk p c.args.channel low c.requires.posted c.requires.runs NoPage (record { no_job = ap (λ o. option_map job_seen o) c.requires.no_job; head = c.args.head; new = c.args.new; asks = asks; lacks = none.0 }) c.prepare.new.pages.bits none.1 (at_of c.log.new.running) c.log.ensures.logged
 
 pub returns-in-Err-clause-logged : goal.returns-in-Err-clause-logged
 returns-in-Err-clause-logged g c = λ _.

@@ -1,6 +1,8 @@
 use Rattle.std.proofs.Common.{◌<◌, length, ap, arith}
 use Rattle.store_model.specs.Rows.{Row}
+use Rattle.store_model.proofs.PlantKept.{at_begin_too}
 use Rattle.store_core.specs.Running.{at_of}
+use Rattle.store_core.specs.Seen.{state_of}
 use Rattle.store_core.proofs.Entered.{disk_same, entered}
 use Rattle.store_core.proofs.refusing.refuse.Goals as goal
 
@@ -16,7 +18,7 @@ returns-clause-case g c =
         posted = record { channel = c.args.channel; serial = c.requires.posted.serial; command = waits.command; rest = waits.rest; row = waits.row };
         runs = c.requires.runs;
         reply = c.args.reply;
-        why = c.requires.why waits.command waits.rest left;
+        why = at_begin_too (state_of d old) waits.command c.args.reply (c.requires.why waits.command waits.rest left);
         next = entered d old (at_of c.log.new.running) c.args.channel waits.command waits.rest c.args.reply low is;
       },
       disk_same d old (at_of c.log.new.running) c.args.channel waits.command waits.rest c.args.reply low is,

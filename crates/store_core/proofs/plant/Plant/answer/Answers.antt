@@ -11,14 +11,14 @@ use Rattle.store_core.proofs.Posting.{either, posted_at}
 use Rattle.store_core.proofs.plant.Plant.answer.Goals as goal
 
 pub answer_or_halt-requires-clause-posted : goal.answer_or_halt-requires-clause-posted
-answer_or_halt-requires-clause-posted g c = posted_at g.D.PageDisk (both c.self.inside.running c.self.inside.opening.value) c.args.msg.channel c.args.msg.serial c.self.invariant.0 (subst (λ (b : Both g.row.D.Denot). (rows_of b.at.rows c.args.msg.channel).stage ≡ Posted c.args.msg.serial) (sym c.self.view_is) c.requires.posted)
+answer_or_halt-requires-clause-posted g c = posted_at g.D.PageDisk (both c.self.inside.running c.self.inside.opening.value c.self.inside.right.value.name) c.args.msg.channel c.args.msg.serial c.self.invariant.0 (subst (λ (b : Both g.row.D.Denot). (rows_of b.at.rows c.args.msg.channel).stage ≡ Posted c.args.msg.serial) (sym c.self.view_is) c.requires.posted)
 
 pub answer_or_halt-requires-clause-in_memory : goal.answer_or_halt-requires-clause-in_memory
 answer_or_halt-requires-clause-in_memory g c = subst (λ (b : Both g.row.D.Denot). Asks b.at c.args.msg.channel (λ command. IsOnHead command × IsInMemory command)) (sym c.self.view_is) c.requires.in_memory
 
 pub invariant_of-self : goal.invariant_of-self
 invariant_of-self g c =
-    let p = (both c.self.inside.running c.self.inside.opening.value) in
+    let p = (both c.self.inside.running c.self.inside.opening.value c.self.inside.right.value.name) in
     let q = at_of c.answer_or_halt.new.running in
     (either g.D.PageDisk p q kind.answers kind.halts (λ k made. c.goes_on.ensures p q k c.self.invariant.0 made) c.answer_or_halt.ensures.answered c.answer_or_halt.ensures.halted, c.answer_or_halt.ensures.order)
 

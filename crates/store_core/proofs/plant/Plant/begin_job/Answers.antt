@@ -8,11 +8,11 @@ use Rattle.store_core.proofs.Posting.{begun_or_not, posted_at}
 use Rattle.store_core.proofs.plant.Plant.begin_job.Goals as goal
 
 pub begin_or_halt-requires-clause-posted : goal.begin_or_halt-requires-clause-posted
-begin_or_halt-requires-clause-posted g c = posted_at g.D.PageDisk (both c.self.inside.running c.self.inside.opening.value) c.args.msg.channel c.args.msg.serial c.self.invariant.0 (subst (λ (b : Both g.row.D.Denot). (rows_of b.at.rows c.args.msg.channel).stage ≡ Posted c.args.msg.serial) (sym c.self.view_is) c.requires.posted)
+begin_or_halt-requires-clause-posted g c = posted_at g.D.PageDisk (both c.self.inside.running c.self.inside.opening.value c.self.inside.right.value.name) c.args.msg.channel c.args.msg.serial c.self.invariant.0 (subst (λ (b : Both g.row.D.Denot). (rows_of b.at.rows c.args.msg.channel).stage ≡ Posted c.args.msg.serial) (sym c.self.view_is) c.requires.posted)
 
 pub invariant_of-self : goal.invariant_of-self
 invariant_of-self g c =
-    let p = (both c.self.inside.running c.self.inside.opening.value) in
+    let p = (both c.self.inside.running c.self.inside.opening.value c.self.inside.right.value.name) in
     let q = at_of c.begin_or_halt.new.running in
     (begun_or_not g.D.PageDisk p q c.begin_or_halt.result (λ k made. c.goes_on.ensures p q k c.self.invariant.0 made) c.begin_or_halt.ensures.begins c.begin_or_halt.ensures.halted, c.begin_or_halt.ensures.order)
 

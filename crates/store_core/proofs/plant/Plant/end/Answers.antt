@@ -14,4 +14,4 @@ pub end-requires-clause-over : goal.end-requires-clause-over
 end-requires-clause-over g c = over_row (at_of c.self.inside.running) c.args.channel (subst (λ (b : Both g.row.D.Denot). is_stage (rows_of b.at.rows c.args.channel) c.args.channel ≡ Over) (sym c.self.view_is) c.requires)
 
 pub invariant_of-self : goal.invariant_of-self
-invariant_of-self g c = (c.goes_on.ensures (both c.self.inside.running c.self.inside.opening.value) (at_of c.end.new.running) kind.ends c.self.invariant.0 c.end.ensures.case, c.end.ensures.order)
+invariant_of-self g c = (c.goes_on.ensures (both c.self.inside.running c.self.inside.opening.value c.self.inside.right.value.name) (at_of c.end.new.running) kind.ends c.self.invariant.0 c.end.ensures.case, c.end.ensures.order)

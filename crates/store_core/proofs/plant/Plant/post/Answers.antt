@@ -14,4 +14,4 @@ pub post-requires-clause-waits : goal.post-requires-clause-waits
 post-requires-clause-waits g c = waits_meta (at_of c.self.inside.running) c.args.channel (subst (λ (b : Both g.row.D.Denot). is_stage (rows_of b.at.rows c.args.channel) c.args.channel ≡ Meta) (sym c.self.view_is) c.requires.stage)
 
 pub invariant_of-self : goal.invariant_of-self
-invariant_of-self g c = (c.goes_on.ensures (both c.self.inside.running c.self.inside.opening.value) (at_of c.post.new.running) kind.posts c.self.invariant.0 c.post.ensures.case, c.post.ensures.order)
+invariant_of-self g c = (c.goes_on.ensures (both c.self.inside.running c.self.inside.opening.value c.self.inside.right.value.name) (at_of c.post.new.running) kind.posts c.self.invariant.0 c.post.ensures.case, c.post.ensures.order)

@@ -19,8 +19,9 @@ invariant_of-result g c =
     let rows = c.in-Ok.parts.rows.items in
     let opened : At g.row.D.Denot = opened_with d c.args.loaded live rows in
     let at : at_of running ≡ opened = c.running_at_start-running.ensures.at in
-    let kept : Kept d (record { at = opened; opening = opened }) =
+    let right = c.of-right.result.value.name in
+    let kept : Kept d (record { at = opened; opening = opened; right = right }) =
     c.begins.ensures opened (is_loaded_with d c.args.loaded live rows c.requires.whole c.in-Ok.ensures.live)
-    (it_opens d c.args.loaded live rows c.args.script c.in-Ok.ensures.rows) (c.regions_are_placed.ensures c.args.loaded.sup c.requires.faultless) c.requires.holds in
-    let kept_at : Kept d (both running running) = subst (λ (p : At g.row.D.Denot). Kept d (record { at = p; opening = p })) (sym at) kept in
-    (subst (λ (o : Running g.row.D.Denot). Kept d (both running o)) (sym c.of-opening.ensures) kept_at, c.running_at_start-running.ensures.order)
+    (it_opens d c.args.loaded live rows c.args.script c.in-Ok.ensures.rows) (c.regions_are_placed.ensures c.args.loaded.sup c.requires.faultless) c.requires.holds right in
+    let kept_at : Kept d (both running running right) = subst (λ (p : At g.row.D.Denot). Kept d (record { at = p; opening = p; right = right })) (sym at) kept in
+    (subst (λ (o : Running g.row.D.Denot). Kept d (both running o right)) (sym c.of-opening.ensures) kept_at, c.running_at_start-running.ensures.order)
