@@ -12,11 +12,13 @@ use store_core::{MdRight, Plant, RowStage};
 
 /// Serves the commands of a channel, one after the other, and ends it.
 fn run_channel<D: PageDisk>(alloc: Global, plant: &mut Plant<D>, right: &mut MdRight, channel: u8)
+    requires right { right.old ≡ plant.old.right }
     requires waiting { IsWaiting (rows_of plant.old.at.rows channel) }
     requires no_job { plant.old.at.job ≡ None }
     ensures row { OnlyRow plant.old.at.rows plant.new.at.rows channel ended_row }
     ensures no_job { plant.new.at.job ≡ None }
     ensures opening { plant.new.opening ≡ plant.old.opening }
+    ensures right { (right.new ≡ right.old) × (plant.new.right ≡ plant.old.right) }
 {
     while let RowStage::Meta = plant.stage(channel) {
         let msg = plant.post(channel);
@@ -30,12 +32,14 @@ fn run_channel<D: PageDisk>(alloc: Global, plant: &mut Plant<D>, right: &mut MdR
 
 /// Serves all commands, and ends all channels.
 pub(crate) fn run<D: PageDisk>(alloc: Global, plant: &mut Plant<D>, right: &mut MdRight)
+    requires right { right.old ≡ plant.old.right }
     requires waiting { (channel : ℕ) → IsWaiting (rows_of plant.old.at.rows channel) }
     requires sixteen { (channel : ℕ) → 16 ≤ channel → rows_of plant.old.at.rows channel ≡ ended_row }
     requires no_job { plant.old.at.job ≡ None }
     ensures over { (channel : ℕ) → rows_of plant.new.at.rows channel ≡ ended_row }
     ensures no_job { plant.new.at.job ≡ None }
     ensures opening { plant.new.opening ≡ plant.old.opening }
+    ensures right { (right.new ≡ right.old) × (plant.new.right ≡ plant.old.right) }
 {
     for channel in 0..16 {
         run_channel(alloc, plant, right, channel);

@@ -37,6 +37,7 @@ fn command_of<'a>(request: Request<'a>) -> &'a Command
 
 /// What is to be done for the command of a message. On a stopped store it is refused as that.
 fn task_of<D: PageDisk>(alloc: Global, plant: &Plant<D>, right: &MdRight, msg: Msg) -> Task
+    requires right { right.now ≡ plant.now.right }
     requires posted { (rows_of plant.now.at.rows msg.channel).stage ≡ Posted msg.serial }
     requires on_head { Asks plant.now.at msg.channel IsOnHead }
     ensures { IsTaskOf D.PageDisk plant.now.at msg.channel result }
@@ -65,10 +66,12 @@ fn task_of<D: PageDisk>(alloc: Global, plant: &Plant<D>, right: &MdRight, msg: M
 
 /// Makes the turns of the job that serves a channel, to its last.
 fn finish<D: PageDisk>(plant: &mut Plant<D>, right: &mut MdRight, channel: u8)
-    requires { (rows_of plant.old.at.rows channel).stage ≡ InJob }
+    requires right { right.old ≡ plant.old.right }
+    requires in_job { (rows_of plant.old.at.rows channel).stage ≡ InJob }
     ensures row { OnlyRow plant.old.at.rows plant.new.at.rows channel (decided (rows_of plant.old.at.rows channel)) }
     ensures no_job { plant.new.at.job ≡ None }
     ensures opening { plant.new.opening ≡ plant.old.opening }
+    ensures right { (right.new ≡ right.old) × (plant.new.right ≡ plant.old.right) }
 {
     plant.keeps();
     while plant.job_runs() {
@@ -79,12 +82,14 @@ fn finish<D: PageDisk>(plant: &mut Plant<D>, right: &mut MdRight, channel: u8)
 
 /// Answers or refuses the command of a message, or does what it asks for: an entry is logged, and no job runs any more.
 pub(crate) fn serve<D: PageDisk>(alloc: Global, plant: &mut Plant<D>, right: &mut MdRight, msg: Msg)
+    requires right { right.old ≡ plant.old.right }
     requires posted { (rows_of plant.old.at.rows msg.channel).stage ≡ Posted msg.serial }
     requires on_head { Asks plant.old.at msg.channel IsOnHead }
     requires no_job { plant.old.at.job ≡ None }
     ensures row { OnlyRow plant.old.at.rows plant.new.at.rows msg.channel (decided (rows_of plant.old.at.rows msg.channel)) }
     ensures no_job { plant.new.at.job ≡ None }
     ensures opening { plant.new.opening ≡ plant.old.opening }
+    ensures right { (right.new ≡ right.old) × (plant.new.right ≡ plant.old.right) }
 {
     match task_of(alloc, plant, right, msg) {
         Task::Answer => plant.answer(right, msg),
