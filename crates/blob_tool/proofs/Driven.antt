@@ -5,7 +5,7 @@ use Rattle.std.proofs.lemmas.Bool.{cases_eq, cases_lt}
 use Rattle.page_disk.specs.declared.disk.PageDisk.{Ghosts}
 use Rattle.volume_model.specs.declared.command.Command.{Command}
 use Rattle.blob_meta.specs.Asked.{IsOnHead}
-use Rattle.store_model.specs.Rows.{Row, Stage, Idle, Posted, InJob, Decided, Ended}
+use Rattle.store_model.specs.Rows.{Row, Stage, Idle, Posted, InJob, Answered, Decided, Ended}
 use Rattle.store_model.specs.Cases as kind
 use Rattle.store_core.specs.declared.rows.RowStage.TheVariants as told
 use Rattle.store_core.specs.declared.plant.SettleTurn.{SettleTurn}
@@ -38,16 +38,16 @@ pub record HasNext (row : Row) : Type 0 where
 pub next_of : (row : Row) (channel : ℕ) → is_stage row channel ≡ told.Meta → IsWaiting row → HasNext row
 next_of row channel is waiting = by row.left row.stage is waiting.on_heads refl
   where
-    by : (left : List Command) (stage : Stage) → is_stage (record { left = left; stage = stage }) channel ≡ told.Meta → AllByRecursion IsOnHead left → row.left ≡ left → HasNext row
+    by : (left : List Command) (stage : Stage) → is_stage (record { left = left; stage = stage; claim = None }) channel ≡ told.Meta → AllByRecursion IsOnHead left → row.left ≡ left → HasNext row
     by [] Idle is on e = absurd (cc is)
     by (command ∷ rest) Idle is on e = record { command = command; rest = rest; left = e; on_head = on.0; on_heads = on.1 }
     by left (Posted serial) is on e = absurd (cc is)
     by left InJob is on e = absurd (cc is)
-    by left Decided is on e = absurd (cc is)
+    by left (Decided outcome) is on e = absurd (cc is)
     by left Ended is on e = absurd (cc is)
 
 -- what a turn of settling comes to, where the command is logged
-pub settled : {D : Type 0} (d : Ghosts D) (p q : At D) (channel : ℕ) (turn : SettleTurn) → (rows_of p.rows channel).stage ≡ Decided → (turn ≡ settle.Waiting → (rows_of p.rows channel).stage ≢ Decided)
+pub settled : {D : Type 0} (d : Ghosts D) (p q : At D) (channel : ℕ) (turn : SettleTurn) → (rows_of p.rows channel).stage ≡ Decided Answered → (turn ≡ settle.Waiting → (rows_of p.rows channel).stage ≢ Decided Answered)
     → (turn ≡ settle.Logged → Made d p q kind.settles) → (turn ≡ settle.Logged → OnlyRow p.rows q.rows channel (record (rows_of p.rows channel) { stage = Idle }))
     → OnlyRow p.rows q.rows channel (record (rows_of p.rows channel) { stage = Idle }) × (q.job ≡ p.job)
 settled d p q channel settle.Waiting is waits made row = absurd (waits refl is)
@@ -56,10 +56,10 @@ settled d p q channel settle.Logged is waits made row = (row refl, ap (λ s. s.j
 module _ {D : Type 0} (first p posted served q : At D) (channel : ℕ) (serves : Serves first p channel) (next : HasNext (rows_of p.rows channel)) (serial : ℕ)
     (posts : OnlyRow p.rows posted.rows channel (record (rows_of p.rows channel) { stage = Posted serial })) (logs : OnlyRow posted.rows served.rows channel (decided (rows_of posted.rows channel)))
     (settles : OnlyRow served.rows q.rows channel (record (rows_of served.rows channel) { stage = Idle })) where
-  row_now : rows_of q.rows channel ≡ record { left = next.rest; stage = Idle }
+  row_now : rows_of q.rows channel ≡ record { left = next.rest; stage = Idle; claim = None }
   row_now =
       settles.row ∙ ap (λ (r : Row). record r { stage = Idle }) (logs.row ∙ ap decided posts.row)
-      ∙ ap (λ (l : List Command). record (decided (record { left = l; stage = Posted serial })) { stage = Idle }) next.left
+      ∙ ap (λ (l : List Command). record (decided (record { left = l; stage = Posted serial; claim = None })) { stage = Idle }) next.left
 
   pub serves_on : q.job ≡ None → Serves first q channel
   serves_on none = record {
@@ -78,15 +78,15 @@ over row channel waiting no_meta not_over = elim waiting.at [
   | inr ended ↦ ended
 ]
   where
-    by : (left : List Command) (stage : Stage) → stage ≡ Idle → (is_stage (record { left = left; stage = stage }) channel ≡ told.Meta → ⊥) → (is_stage (record { left = left; stage = stage }) channel ≡ told.Over → ⊥) → ⊥
+    by : (left : List Command) (stage : Stage) → stage ≡ Idle → (is_stage (record { left = left; stage = stage; claim = None }) channel ≡ told.Meta → ⊥) → (is_stage (record { left = left; stage = stage; claim = None }) channel ≡ told.Over → ⊥) → ⊥
     by [] Idle is no_meta not_over = not_over refl
     by (command ∷ rest) Idle is no_meta not_over = no_meta refl
     by left (Posted serial) is no_meta not_over = cc is
     by left InJob is no_meta not_over = cc is
-    by left Decided is no_meta not_over = cc is
+    by left (Decided outcome) is no_meta not_over = cc is
     by left Ended is no_meta not_over = cc is
 
-pub ended_so : {D : Type 0} (first p q : At D) (channel : ℕ) → Serves first p channel → rows_of p.rows channel ≡ record { left = []; stage = Idle } → OnlyRow p.rows q.rows channel (record (rows_of p.rows channel) { stage = Ended })
+pub ended_so : {D : Type 0} (first p q : At D) (channel : ℕ) → Serves first p channel → rows_of p.rows channel ≡ record { left = []; stage = Idle; claim = None } → OnlyRow p.rows q.rows channel (record (rows_of p.rows channel) { stage = Ended })
     → OnlyRow first.rows q.rows channel ended_row
 ended_so first p q channel serves empty ends = record {
   row = ends.row ∙ ap (λ (r : Row). record r { stage = Ended }) empty;

@@ -196,10 +196,10 @@ module _ {D : Type 0} (d : Ghosts D) (p : At D) (channel : ℕ) (low : channel <
   is_posted = record { channel = channel; serial = posted.serial; command = command; rest = rest; row = posted.waits.row }
 
   abbrev in_job : Row
-  in_job = record { left = command ∷ rest; stage = InJob }
+  in_job = record { left = command ∷ rest; stage = InJob; claim = None }
 
-  pub row_is : (row : Row) → row ≡ slice_index_or p.rows channel row → row ≡ record { left = command ∷ rest; stage = Posted posted.serial }
-  row_is row is = is ∙ get_or_default p.rows channel row (record { left = []; stage = Ended }) low ∙ posted.waits.row
+  pub row_is : (row : Row) → row ≡ slice_index_or p.rows channel row → row ≡ record { left = command ∷ rest; stage = Posted posted.serial; claim = None }
+  row_is row is = is ∙ get_or_default p.rows channel row (record { left = []; stage = Ended; claim = None }) low ∙ posted.waits.row
 
   pub begun : p.job ≡ None → (j : Job) → j.channel ≡ channel → AsksFor s command j.head j.new → j.phase ≡ Writing 0 → s.chains j.head ≡ Some (j.head ∷ j.old)
       → (after : List Bool) → IsReady s j.head j.new after j.planned j.fresh → (row : Row) → row ≡ in_job → Begins s (state_of d (record p { rows = slice_set p.rows channel row; pages = after; job = Some j }))

@@ -1,9 +1,9 @@
 -- The state once an entry is logged.
-use Rattle.std.proofs.Common.{◌≡◌, ℕ, ◌<◌, List, length, ◌∙◌, ap}
+use Rattle.std.proofs.Common.{None, ◌≡◌, ℕ, ◌<◌, List, length, ◌∙◌, ap}
 use Rattle.page_disk.specs.declared.disk.PageDisk.{Ghosts}
 use Rattle.volume_model.specs.declared.command.Command.{Command}
 use Rattle.volume_model.specs.declared.reply.Reply.{Reply}
-use Rattle.store_model.specs.Rows.{Decided, Rows}
+use Rattle.store_model.specs.Rows.{Answered, Decided, Rows}
 use Rattle.store_model.specs.Plants.{logged}
 use Rattle.store_core.specs.Seen.{At, device_of, state_of}
 use Rattle.store_core.specs.Steps.{logged_at}
@@ -17,4 +17,4 @@ module _ {D : Type 0} (d : Ghosts D) (old new : At D) (channel : ℕ) (command :
   pub entered : state_of d new ≡ logged (state_of d old) channel command rest reply (device_of d old.disk)
   entered =
       ap (state_of d) (is ∙ ap (λ (disk : D). logged_at old channel command rest reply (d.clock disk)) disk_same)
-      ∙ ap (λ (r : Rows). record (logged (state_of d old) channel command rest reply (device_of d old.disk)) { rows = r }) (rows_set old.rows channel (record { left = rest; stage = Decided }) low)
+      ∙ ap (λ (r : Rows). record (logged (state_of d old) channel command rest reply (device_of d old.disk)) { rows = r }) (rows_set old.rows channel (record { left = rest; stage = Decided Answered; claim = None }) low)

@@ -5,7 +5,7 @@ use Rattle.std.proofs.lemmas.Bool.{cases_lt}
 use Rattle.std.proofs.Math.ListN.{get_or-eq_default}
 use Rattle.page_disk.specs.declared.disk.PageDisk.{Ghosts}
 use Rattle.volume_model.specs.declared.command.Command.{Command}
-use Rattle.store_model.specs.Rows.{Row, Stage, Idle, Posted, InJob, Decided, Ended}
+use Rattle.store_model.specs.Rows.{Row, Stage, Idle, Posted, InJob, Answered, Decided, Ended}
 use Rattle.store_model.specs.Cases as kind
 use Rattle.store_core.specs.declared.rows.RowStage.TheVariants.{Meta, Over}
 use Rattle.store_core.specs.declared.begin.BeginTurn.{BeginTurn}
@@ -21,31 +21,31 @@ use Rattle.store_core.specs.Steps.{IsPostedAt, Waits}
 pub low_of : (rows : List Row) (channel : ℕ) (stage : Stage) → length rows ≡ 16 → (rows_of rows channel).stage ≡ stage → (Ended ≡ stage → ⊥) → channel < 16
 low_of rows channel stage sixteen is other = elim (cases_lt channel (length rows)) [
   | inl lt ↦ omega (arith, lt, sixteen)
-  | inr ge ↦ absurd (other (sym (ap (λ (r : Row). r.stage) (get_or-eq_default rows (record { left = []; stage = Ended }) ge)) ∙ is))
+  | inr ge ↦ absurd (other (sym (ap (λ (r : Row). r.stage) (get_or-eq_default rows (record { left = []; stage = Ended; claim = None }) ge)) ∙ is))
 ]
 
-at_meta : (left : List Command) (stage : Stage) (channel : ℕ) → is_stage (record { left = left; stage = stage }) channel ≡ Meta → (command : Command) × (rest : List Command) × (left ≡ command ∷ rest) × (stage ≡ Idle)
+at_meta : (left : List Command) (stage : Stage) (channel : ℕ) → is_stage (record { left = left; stage = stage; claim = None }) channel ≡ Meta → (command : Command) × (rest : List Command) × (left ≡ command ∷ rest) × (stage ≡ Idle)
 at_meta [] Idle channel is = absurd (cc is)
 at_meta (command ∷ rest) Idle channel is = (command, rest, refl, refl)
 at_meta left (Posted serial) channel is = absurd (cc is)
 at_meta left InJob channel is = absurd (cc is)
-at_meta left Decided channel is = absurd (cc is)
+at_meta left (Decided outcome) channel is = absurd (cc is)
 at_meta left Ended channel is = absurd (cc is)
 
-at_over : (left : List Command) (stage : Stage) (channel : ℕ) → is_stage (record { left = left; stage = stage }) channel ≡ Over → (left ≡ []) × (stage ≡ Idle)
+at_over : (left : List Command) (stage : Stage) (channel : ℕ) → is_stage (record { left = left; stage = stage; claim = None }) channel ≡ Over → (left ≡ []) × (stage ≡ Idle)
 at_over [] Idle channel is = (refl, refl)
 at_over (command ∷ rest) Idle channel is = absurd (cc is)
 at_over left (Posted serial) channel is = absurd (cc is)
 at_over left InJob channel is = absurd (cc is)
-at_over left Decided channel is = absurd (cc is)
+at_over left (Decided outcome) channel is = absurd (cc is)
 at_over left Ended channel is = absurd (cc is)
 
 module _ {D : Type 0} (p : At D) (channel : ℕ) where
   pub waits_meta : is_stage (rows_of p.rows channel) channel ≡ Meta → Waits p channel Idle
-  waits_meta is = let x = at_meta (rows_of p.rows channel).left (rows_of p.rows channel).stage channel is in record { command = x.0; rest = x.1; row = λ i. record { left = x.2 i; stage = x.3 i } }
+  waits_meta is = let x = at_meta (rows_of p.rows channel).left (rows_of p.rows channel).stage channel is in record { command = x.0; rest = x.1; row = λ i. record { left = x.2 i; stage = x.3 i; claim = None } }
 
-  pub over_row : is_stage (rows_of p.rows channel) channel ≡ Over → rows_of p.rows channel ≡ record { left = []; stage = Idle }
-  over_row is = let x = at_over (rows_of p.rows channel).left (rows_of p.rows channel).stage channel is in λ i. record { left = x.0 i; stage = x.1 i }
+  pub over_row : is_stage (rows_of p.rows channel) channel ≡ Over → rows_of p.rows channel ≡ record { left = []; stage = Idle; claim = None }
+  over_row is = let x = at_over (rows_of p.rows channel).left (rows_of p.rows channel).stage channel is in λ i. record { left = x.0 i; stage = x.1 i; claim = None }
 
   pub low_meta : length p.rows ≡ 16 → is_stage (rows_of p.rows channel) channel ≡ Meta → channel < 16
   low_meta sixteen is = low_of p.rows channel Idle sixteen (ap (λ (r : Row). r.stage) (waits_meta is).row) (λ e. cc e)
@@ -59,7 +59,7 @@ posted_at d p channel serial kept is = by (rows_of p.at.rows channel).left refl
   where
     by : (left : List Command) → (rows_of p.at.rows channel).left ≡ left → IsPostedAt p.at channel
     by [] none = absurd (kept.facts.shaped.posted channel serial is none)
-    by (command ∷ rest) some = record { serial = serial; waits = record { command = command; rest = rest; row = λ i. record { left = some i; stage = is i } } }
+    by (command ∷ rest) some = record { serial = serial; waits = record { command = command; rest = rest; row = λ i. record { left = some i; stage = is i; claim = None } } }
 
 pub kept_running : {D : Type 0} (d : Ghosts D) (p : Both D) → Kept d p → IsRunning (state_of d p.at)
 kept_running d p kept = record { store = p.opening.super; first = _; script = _; placed = kept.placed; facts = kept.facts }

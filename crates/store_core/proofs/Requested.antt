@@ -2,7 +2,7 @@
 use Rattle.std.proofs.Common.{◌≡◌, ℕ, List, [], ◌∷◌, Some, None, refl, ap}
 use Rattle.std.specs.Prelude.{slice_get}
 use Rattle.volume_model.specs.declared.command.Command.{Command}
-use Rattle.store_model.specs.Rows.{Stage, Idle, Posted, InJob, Decided, Ended}
+use Rattle.store_model.specs.Rows.{Stage, Idle, Posted, InJob, Answered, Decided, Ended}
 use Rattle.store_core.specs.Requests.{posted_in}
 
 -- posted under the number that is told
@@ -10,7 +10,7 @@ pub posted_so : (stage : Stage) (serial : ℕ) → posted_in stage ≡ Some seri
 posted_so (Posted n) serial is = ap Posted (cc is)
 posted_so Idle serial is = absurd (cc is)
 posted_so InJob serial is = absurd (cc is)
-posted_so Decided serial is = absurd (cc is)
+posted_so (Decided outcome) serial is = absurd (cc is)
 posted_so Ended serial is = absurd (cc is)
 
 pub first_got : (left : List Command) (command : Command) → slice_get left 0 ≡ Some command → (rest : List Command) × (left ≡ command ∷ rest)

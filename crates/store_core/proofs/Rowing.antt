@@ -1,12 +1,12 @@
 -- The rows of the channels with one row set, as a function.
-use Rattle.std.proofs.Common.{◌≡◌, ℕ, ◌<◌, List, [], ◌∷◌, ◌++◌, drop, length, slice_set, refl, sym, ◌∙◌, ap, arith, inl, inr}
+use Rattle.std.proofs.Common.{None, ◌≡◌, ℕ, ◌<◌, List, [], ◌∷◌, ◌++◌, drop, length, slice_set, refl, sym, ◌∙◌, ap, arith, inl, inr}
 use Rattle.std.proofs.lemmas.Bool.{cases_eq, eq-eqb, ne_eqb}
 use Rattle.std.proofs.lemmas.List.{get_or-set_same, get_or-set_other}
 use Rattle.std.proofs.Math.Path.{fun_ext}
 use Rattle.page_disk.specs.declared.disk.PageDisk.{Ghosts}
 use Rattle.volume_model.specs.declared.command.Command.{Command}
 use Rattle.volume_model.specs.declared.reply.Reply.{Reply}
-use Rattle.store_model.specs.Rows.{Row, Rows, Decided, Ended, with_row, entry_of}
+use Rattle.store_model.specs.Rows.{Row, Rows, Answered, Decided, Ended, with_row, entry_of}
 use Rattle.store_model.specs.Plants.{logged}
 use Rattle.store_core.specs.Seen.{At, device_of, rows_of, state_of}
 use Rattle.store_core.specs.Steps.{decided, logged_at, OnlyRow}
@@ -19,14 +19,14 @@ first_of (x ∷ rest) some = (x, rest, refl)
 module _ (rows : List Row) (channel : ℕ) (row : Row) (low : channel < length rows) where
   row_at : (c : ℕ) → rows_of (slice_set rows channel row) c ≡ with_row (rows_of rows) channel row c
   row_at c = elim (cases_eq c channel) [
-    | inl e ↦ ap (rows_of (slice_set rows channel row)) e ∙ get_or-set_same rows channel row (record { left = []; stage = Ended }) low ∙ sym (rw (eq-eqb c channel e) refl)
-    | inr ne ↦ get_or-set_other rows channel c row (record { left = []; stage = Ended }) ne ∙ sym (rw (ne_eqb c channel ne) refl)
+    | inl e ↦ ap (rows_of (slice_set rows channel row)) e ∙ get_or-set_same rows channel row (record { left = []; stage = Ended; claim = None }) low ∙ sym (rw (eq-eqb c channel e) refl)
+    | inr ne ↦ get_or-set_other rows channel c row (record { left = []; stage = Ended; claim = None }) ne ∙ sym (rw (ne_eqb c channel ne) refl)
   ]
 
   pub only_row : OnlyRow rows (slice_set rows channel row) channel row
   only_row = record {
-    row = get_or-set_same rows channel row (record { left = []; stage = Ended }) low;
-    others = λ other ne. get_or-set_other rows channel other row (record { left = []; stage = Ended }) ne;
+    row = get_or-set_same rows channel row (record { left = []; stage = Ended; claim = None }) low;
+    others = λ other ne. get_or-set_other rows channel other row (record { left = []; stage = Ended; claim = None }) ne;
   }
 
   pub rows_set : rows_of (slice_set rows channel row) ≡ with_row (rows_of rows) channel row
@@ -37,8 +37,8 @@ pub state_logged : {D : Type 0} (d : Ghosts D) (p : At D) (channel : ℕ) (comma
     → state_of d (logged_at p channel command rest reply (d.clock p.disk)) ≡ logged (state_of d p) channel command rest reply (device_of d p.disk)
 state_logged d p channel command rest reply low =
     ap (λ (rows : Rows). record (state_of d p) { rows = rows; log = p.log ++ entry_of p.log channel command reply ∷ []; marks = p.marks ++ d.clock p.disk ∷ [] })
-    (rows_set p.rows channel (record { left = rest; stage = Decided }) low)
+    (rows_set p.rows channel (record { left = rest; stage = Decided Answered; claim = None }) low)
 
 -- a row whose first command was taken out
-pub taken_row : (old new : Row) (command : Command) → old.left ≡ command ∷ new.left → new.stage ≡ Decided → new ≡ decided old
-taken_row old new command left stage = λ i. record { left = ap (λ (l : List Command). drop 1 l) (sym left) i; stage = stage i }
+pub taken_row : (old new : Row) (command : Command) → old.left ≡ command ∷ new.left → new.stage ≡ Decided Answered → new ≡ decided old
+taken_row old new command left stage = λ i. record { left = ap (λ (l : List Command). drop 1 l) (sym left) i; stage = stage i; claim = None }

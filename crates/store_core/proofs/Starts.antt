@@ -104,10 +104,10 @@ pub rows_more : (script left : List (List Command)) (channels : ℕ) (rows : Lis
 rows_more script left channels rows end row x is = record {
   count = length-append rows (row ∷ []) ∙ omega (arith, x.count);
   each = λ c lt. elim (cases_lt c end) [
-    | inl below ↦ get_or_append_left rows (row ∷ []) (record { left = []; stage = Ended }) c (subst (λ n. c < n) (sym x.count) below) ∙ x.each c below
+    | inl below ↦ get_or_append_left rows (row ∷ []) (record { left = []; stage = Ended; claim = None }) c (subst (λ n. c < n) (sym x.count) below) ∙ x.each c below
     | inr ge ↦
         let e : c ≡ end = omega (arith, lt, ge) in
-        get_or_push rows row (record { left = []; stage = Ended }) c (x.count ∙ sym e) ∙ is ∙ ap (row_at_start script channels) (sym e)
+        get_or_push rows row (record { left = []; stage = Ended; claim = None }) c (x.count ∙ sym e) ∙ is ∙ ap (row_at_start script channels) (sym e)
   ];
   rest = λ c ge. get_or-set_other left end c [] [] (λ e. omega (arith, e, ge)) ∙ x.rest c (omega (arith, ge));
 }
@@ -115,25 +115,25 @@ rows_more script left channels rows end row x is = record {
 pub rows_nothing : (script : List (List Command)) (channels : ℕ) → RowsBelow script script channels [] 0
 rows_nothing script channels = record { count = refl; each = λ c lt. absurd (omega (arith, lt)); rest = λ c ge. refl }
 
-pub row_with : (script : List (List Command)) (channels channel : ℕ) (left : List Command) → nat_lt channel channels ≡ true → left ≡ slice_index_or script channel [] → record { left = left; stage = Idle } ≡ row_at_start script channels channel
+pub row_with : (script : List (List Command)) (channels channel : ℕ) (left : List Command) → nat_lt channel channels ≡ true → left ≡ slice_index_or script channel [] → record { left = left; stage = Idle; claim = None } ≡ row_at_start script channels channel
 row_with script channels channel left inside is =
-    ap (λ (l : List Command). record { left = l; stage = Idle }) is
-    ∙ sym (ap (λ (b : Bool). cond b (record { left = slice_index_or script channel []; stage = Idle }) (record { left = []; stage = Ended })) inside)
+    ap (λ (l : List Command). record { left = l; stage = Idle; claim = None }) is
+    ∙ sym (ap (λ (b : Bool). cond b (record { left = slice_index_or script channel []; stage = Idle; claim = None }) (record { left = []; stage = Ended; claim = None })) inside)
 
-pub row_past : (script : List (List Command)) (channels channel : ℕ) → nat_lt channel channels ≡ false → record { left = []; stage = Ended } ≡ row_at_start script channels channel
+pub row_past : (script : List (List Command)) (channels channel : ℕ) → nat_lt channel channels ≡ false → record { left = []; stage = Ended; claim = None } ≡ row_at_start script channels channel
 row_past script channels channel past =
-    sym (ap (λ (b : Bool). cond b (record { left = slice_index_or script channel []; stage = Idle }) (record { left = []; stage = Ended })) past)
+    sym (ap (λ (b : Bool). cond b (record { left = slice_index_or script channel []; stage = Idle; claim = None }) (record { left = []; stage = Ended; claim = None })) past)
 
 -- a row waits at the start, or has ended
 module _ (script : List (List Command)) (rows : List Row) (are : AreRows script rows) where
-  waits_by : (channel : ℕ) (inside : Bool) → cond inside (record { left = slice_index_or script channel []; stage = Idle }) (record { left = []; stage = Ended }) ≡ rows_of rows channel → ((rows_of rows channel).stage ≡ Idle) ⊎ (rows_of rows channel ≡ record { left = []; stage = Ended })
+  waits_by : (channel : ℕ) (inside : Bool) → cond inside (record { left = slice_index_or script channel []; stage = Idle; claim = None }) (record { left = []; stage = Ended; claim = None }) ≡ rows_of rows channel → ((rows_of rows channel).stage ≡ Idle) ⊎ (rows_of rows channel ≡ record { left = []; stage = Ended; claim = None })
   waits_by channel true is = inl (sym (ap (λ (r : Row). r.stage) is))
   waits_by channel false is = inr (sym is)
 
-  pub rows_wait : (channel : ℕ) → ((rows_of rows channel).stage ≡ Idle) ⊎ (rows_of rows channel ≡ record { left = []; stage = Ended })
+  pub rows_wait : (channel : ℕ) → ((rows_of rows channel).stage ≡ Idle) ⊎ (rows_of rows channel ≡ record { left = []; stage = Ended; claim = None })
   rows_wait channel = elim (cases_lt channel 16) [
     | inl low ↦ waits_by channel (nat_lt channel are.channels) (sym (are.each channel low))
-    | inr high ↦ inr (get_or_past rows channel (record { left = []; stage = Ended }) (subst (λ n. n ≤ channel) (sym are.sixteen) high))
+    | inr high ↦ inr (get_or_past rows channel (record { left = []; stage = Ended; claim = None }) (subst (λ n. n ≤ channel) (sym are.sixteen) high))
   ]
 
 -- what was loaded is what a store begins with

@@ -19,7 +19,7 @@ IsLiveAtStart metas live = (head : ℕ) → map.get live head ≡ option_map (λ
 
 -- the row of a channel of the script, or of a number past its channels
 abbrev pub row_at_start : List (List Command) → ℕ → ℕ → Row
-row_at_start script channels channel = if nat_lt channel channels then record { left = slice_index_or script channel []; stage = Idle } else record { left = []; stage = Ended }
+row_at_start script channels channel = if nat_lt channel channels then record { left = slice_index_or script channel []; stage = Idle; claim = None } else record { left = []; stage = Ended; claim = None }
 
 -- Sixteen rows, each with the commands of its channel.
 pub record AreRows (script : List (List Command)) (rows : List Row) : Type 0 where

@@ -1,5 +1,5 @@
 -- What contracts see of a channel's row, and of the running job.
-use Rattle.std.specs.Prelude.{◌≡◌, ℕ, ◌==◌, if◌then◌else◌, List, [], ◌∷◌, refl}
+use Rattle.std.specs.Prelude.{None, ◌≡◌, ℕ, ◌==◌, if◌then◌else◌, List, [], ◌∷◌, refl}
 use Rattle.std.specs.Coded.{Coded, code_by, coded×, coded_ℕ, coded_list}
 use Rattle.volume_model.specs.declared.command.Command.{Command}
 use Rattle.volume_model.specs.contracts.command.Command as command
@@ -31,7 +31,7 @@ abbrev pub stage_code : Coded Stage
 stage_code = code_by (ℕ × ℕ) (coded× coded_ℕ coded_ℕ) stage_in stage_out stage_back
 
 abbrev pub row_code : Coded Row
-row_code = code_by (List Command × Stage) (coded× (coded_list command.the_row.coded) stage_code) (λ r. (r.left, r.stage)) (λ p. record { left = p.0; stage = p.1 }) (λ _. refl)
+row_code = code_by (List Command × Stage) (coded× (coded_list command.the_row.coded) stage_code) (λ r. (r.left, r.stage)) (λ p. record { left = p.0; stage = p.1; claim = None }) (λ _. refl)
 
 abbrev pub stage_seen : seen.Stage → Stage
 stage_seen variants.Idle = Idle

@@ -1,8 +1,8 @@
 -- What turns make of the rows, the log and the marks.
-use Rattle.std.specs.Prelude.{◌≡◌, ◌≢◌, ℕ, ◌<◌, List, [], ◌∷◌, ◌++◌, length, drop, slice_set}
+use Rattle.std.specs.Prelude.{None, ◌≡◌, ◌≢◌, ℕ, ◌<◌, List, [], ◌∷◌, ◌++◌, length, drop, slice_set}
 use Rattle.volume_model.specs.declared.command.Command.{Command}
 use Rattle.volume_model.specs.declared.reply.Reply.{Reply}
-use Rattle.store_model.specs.Rows.{Row, Stage, Decided, Posted, entry_of}
+use Rattle.store_model.specs.Rows.{Row, Stage, Answered, Decided, Posted, entry_of}
 use Rattle.store_core.specs.Seen.{At, rows_of}
 
 -- one row is another
@@ -21,12 +21,12 @@ pub record OnlyRow (old new : List Row) (channel : ℕ) (given : Row) : Type 0 w
 
 -- a row once its first command is logged
 abbrev pub decided : Row → Row
-decided row = record { left = drop 1 row.left; stage = Decided }
+decided row = record { left = drop 1 row.left; stage = Decided Answered; claim = None }
 
 -- an entry is logged, with its mark
 abbrev pub logged_at : {D : Type 0} → At D → ℕ → Command → List Command → Reply → ℕ → At D
 logged_at p channel command rest reply mark = record p {
-  rows = slice_set p.rows channel (record { left = rest; stage = Decided });
+  rows = slice_set p.rows channel (record { left = rest; stage = Decided Answered; claim = None });
   log = p.log ++ entry_of p.log channel command reply ∷ [];
   marks = p.marks ++ mark ∷ [];
 }
@@ -35,7 +35,7 @@ logged_at p channel command rest reply mark = record p {
 pub record Waits {D : Type 0} (p : At D) (channel : ℕ) (stage : Stage) : Type 0 where
   pub command : Command
   pub rest : List Command
-  pub row : rows_of p.rows channel ≡ record { left = command ∷ rest; stage = stage }
+  pub row : rows_of p.rows channel ≡ record { left = command ∷ rest; stage = stage; claim = None }
 
 -- the command of a channel that is posted
 pub record IsPostedAt {D : Type 0} (p : At D) (channel : ℕ) : Type 0 where

@@ -1,6 +1,6 @@
 //! The rows of the channels.
 
-ghost use Rattle.std.specs.Prelude.{◌≡◌, ◌<◌, ◌∷◌, List, length};
+ghost use Rattle.std.specs.Prelude.{None, ◌≡◌, ◌<◌, ◌∷◌, List, length};
 ghost use Rattle.volume_model.specs.declared.command.Command.{Command as ACommand};
 ghost use Rattle.store_core.specs.Seen.{rows_of};
 
@@ -51,7 +51,7 @@ impl Model for Row {
 
     ghost coded = { row_code };
 
-    ghost view = { λ r. record { left = r.left.items; stage = stage_seen r.stage } };
+    ghost view = { λ r. record { left = r.left.items; stage = stage_seen r.stage; claim = None } };
 }
 
 impl Row {
@@ -62,7 +62,7 @@ impl Row {
 
     /// The row of a channel with these commands, of which none is posted.
     pub(crate) fn new(commands: Vec<Command>) -> Row
-        ensures { result ≡ record { left = commands.items; stage = Idle } }
+        ensures { result ≡ record { left = commands.items; stage = Idle; claim = None } }
     {
         Row {
             left: VecDeque::from_vec(commands),
@@ -72,7 +72,7 @@ impl Row {
 
     /// The row of a number that is no channel of the script.
     pub(crate) fn ended(alloc: Global) -> Row
-        ensures { result ≡ record { left = []; stage = Ended } }
+        ensures { result ≡ record { left = []; stage = Ended; claim = None } }
     {
         Row {
             left: VecDeque::new(alloc),

@@ -1,8 +1,8 @@
 //! Turns that change a row, and no more.
 
-ghost use Rattle.std.specs.Prelude.{◌≡◌, ◌<◌, [], IfSome, IsErr};
+ghost use Rattle.std.specs.Prelude.{None, ◌≡◌, ◌<◌, [], IfSome, IsErr};
 ghost use Rattle.store_model.specs.Cases as kind;
-ghost use Rattle.store_model.specs.Rows.{Decided, Ended, Idle, Posted};
+ghost use Rattle.store_model.specs.Rows.{Answered, Decided, Ended, Idle, Posted};
 ghost use Rattle.store_core.specs.Running.{at_of, InOrder};
 ghost use Rattle.store_core.specs.Seen.{rows_of};
 ghost use Rattle.store_core.specs.Made.{Made};
@@ -32,7 +32,7 @@ pub(crate) fn post<D: PageDisk>(running: &mut Running<D>, channel: u8) -> Msg
 pub(crate) fn settle<D: PageDisk>(running: &mut Running<D>, channel: u8)
     requires order { InOrder D.PageDisk running.old }
     requires channel { channel < 16 }
-    requires decided { (rows_of running.old.rows.items channel).stage ≡ Decided }
+    requires decided { (rows_of running.old.rows.items channel).stage ≡ Decided Answered }
     ensures case { Made D.PageDisk (at_of running.old) (at_of running.new) kind.settles }
     ensures row { OnlyRow running.old.rows.items running.new.rows.items channel (record (rows_of running.old.rows.items channel) { stage = Idle }) }
     ensures order { InOrder D.PageDisk running.new }
@@ -44,7 +44,7 @@ pub(crate) fn settle<D: PageDisk>(running: &mut Running<D>, channel: u8)
 pub(crate) fn end<D: PageDisk>(running: &mut Running<D>, channel: u8)
     requires order { InOrder D.PageDisk running.old }
     requires channel { channel < 16 }
-    requires over { rows_of running.old.rows.items channel ≡ record { left = []; stage = Idle } }
+    requires over { rows_of running.old.rows.items channel ≡ record { left = []; stage = Idle; claim = None } }
     ensures case { Made D.PageDisk (at_of running.old) (at_of running.new) kind.ends }
     ensures row { OnlyRow running.old.rows.items running.new.rows.items channel (record (rows_of running.old.rows.items channel) { stage = Ended }) }
     ensures order { InOrder D.PageDisk running.new }

@@ -1,5 +1,5 @@
 -- Rows that change, and the commands of a channel while the log grows.
-use Rattle.std.proofs.Common.{◌≡◌, ◌≢◌, ℕ, eqb, List, [], ◌∷◌, ◌++◌, refl, sym, ◌∙◌, ap, subst, arith, append_assoc, inl, inr}
+use Rattle.std.proofs.Common.{None, ◌≡◌, ◌≢◌, ℕ, eqb, List, [], ◌∷◌, ◌++◌, refl, sym, ◌∙◌, ap, subst, arith, append_assoc, inl, inr}
 use Rattle.std.proofs.lemmas.Bool.{cases_eq, eq-eqb, ne_eqb}
 use Rattle.std.proofs.lemmas.List.{append-nil}
 use Rattle.std.proofs.lemmas.List.Elements.{filter-append}
@@ -38,8 +38,8 @@ module _ (script : ℕ → List Command) (p : Plant) (way : (c : ℕ) → OnItsW
 
   -- a command is logged
   module _ (channel : ℕ) (command : Command) (rest : List Command) (before after : Stage) (reply : Reply)
-      (row : p.rows channel ≡ record { left = command ∷ rest; stage = before })
-      (rows : q.rows ≡ with_row p.rows channel (record { left = rest; stage = after }))
+      (row : p.rows channel ≡ record { left = command ∷ rest; stage = before; claim = None })
+      (rows : q.rows ≡ with_row p.rows channel (record { left = rest; stage = after; claim = None }))
       (log : q.log ≡ p.log ++ entry_of p.log channel command reply ∷ []) where
     abbrev new : Entry
     new = entry_of p.log channel command reply
@@ -47,7 +47,7 @@ module _ (script : ℕ → List Command) (p : Plant) (way : (c : ℕ) → OnItsW
     here : OnItsWay q script channel
     here =
         let w = way channel in
-        let left : (q.rows channel).left ≡ rest = ap (λ (r : Rows). (r channel).left) rows ∙ ap (λ (r : Row). r.left) (row_here p.rows channel (record { left = rest; stage = after }) channel refl) in
+        let left : (q.rows channel).left ≡ rest = ap (λ (r : Rows). (r channel).left) rows ∙ ap (λ (r : Row). r.left) (row_here p.rows channel (record { left = rest; stage = after; claim = None }) channel refl) in
         let was : (p.rows channel).left ≡ command ∷ rest = ap (λ (r : Row). r.left) row in
         record {
           made = w.made ++ command ∷ [];
@@ -61,7 +61,7 @@ module _ (script : ℕ → List Command) (p : Plant) (way : (c : ℕ) → OnItsW
       | inl e ↦ subst (λ k. OnItsWay q script k) (sym e) here
       | inr ne ↦
           let w = way c in
-          let left : (q.rows c).left ≡ (p.rows c).left = ap (λ (r : Rows). (r c).left) rows ∙ ap (λ (r : Row). r.left) (row_other p.rows channel (record { left = rest; stage = after }) c ne) in
+          let left : (q.rows c).left ≡ (p.rows c).left = ap (λ (r : Rows). (r c).left) rows ∙ ap (λ (r : Row). r.left) (row_other p.rows channel (record { left = rest; stage = after; claim = None }) c ne) in
           record {
             made = w.made;
             numbered = subst (λ es. Numbered 0 es w.made) (sym (ap (entries_of c) log ∙ entries_same c p.log new (λ e. ne (sym e)))) w.numbered;

@@ -2,7 +2,7 @@
 use Rattle.std.proofs.Common.{◌≡◌, ◌≢◌, ℕ, List, [], ◌∷◌, Some, None, refl, sym, ◌∙◌, ap, subst, inl, inr}
 use Rattle.std.proofs.lemmas.Bool.{cases_eq}
 use Rattle.volume_model.specs.declared.command.Command.{Command}
-use Rattle.store_model.specs.Rows.{Row, Rows, Idle, Posted, InJob, Decided, Ended, with_row}
+use Rattle.store_model.specs.Rows.{Row, Rows, Idle, Posted, InJob, Answered, Decided, Ended, with_row}
 use Rattle.store_model.specs.Plants.{Job, Writing, Erasing, Plant}
 use Rattle.store_model.specs.Standing.{IsShaped}
 use Rattle.store_model.proofs.RowsKept.{row_here, row_other}
@@ -83,17 +83,17 @@ serves_same p q job channel x = record { job = x.job; written = x.written; is = 
 
 -- ---- rows of one stage
 
-pub idle_may : (p : Plant) (channel : ℕ) (left : List Command) → MayBe p channel (record { left = left; stage = Idle })
+pub idle_may : (p : Plant) (channel : ℕ) (left : List Command) → MayBe p channel (record { left = left; stage = Idle; claim = None })
 idle_may p channel left = record { posted = λ serial is. absurd (cc is); in_job = λ is. absurd (cc is); ended = λ is. absurd (cc is) }
 
-pub decided_may : (p : Plant) (channel : ℕ) (left : List Command) → MayBe p channel (record { left = left; stage = Decided })
+pub decided_may : (p : Plant) (channel : ℕ) (left : List Command) → MayBe p channel (record { left = left; stage = Decided Answered; claim = None })
 decided_may p channel left = record { posted = λ serial is. absurd (cc is); in_job = λ is. absurd (cc is); ended = λ is. absurd (cc is) }
 
-pub ended_may : (p : Plant) (channel : ℕ) → MayBe p channel (record { left = []; stage = Ended })
+pub ended_may : (p : Plant) (channel : ℕ) → MayBe p channel (record { left = []; stage = Ended; claim = None })
 ended_may p channel = record { posted = λ serial is. absurd (cc is); in_job = λ is. absurd (cc is); ended = λ is. refl }
 
-pub posted_may : (p : Plant) (channel serial : ℕ) (command : Command) (rest : List Command) → MayBe p channel (record { left = command ∷ rest; stage = Posted serial })
+pub posted_may : (p : Plant) (channel serial : ℕ) (command : Command) (rest : List Command) → MayBe p channel (record { left = command ∷ rest; stage = Posted serial; claim = None })
 posted_may p channel serial command rest = record { posted = λ n is none. cc none; in_job = λ is. absurd (cc is); ended = λ is. absurd (cc is) }
 
-pub in_job_may : (p : Plant) (channel : ℕ) (command : Command) (rest : List Command) → Serves p channel → MayBe p channel (record { left = command ∷ rest; stage = InJob })
+pub in_job_may : (p : Plant) (channel : ℕ) (command : Command) (rest : List Command) → Serves p channel → MayBe p channel (record { left = command ∷ rest; stage = InJob; claim = None })
 in_job_may p channel command rest x = record { posted = λ serial is. absurd (cc is); in_job = λ is. x; ended = λ is. absurd (cc is) }

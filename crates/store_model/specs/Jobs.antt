@@ -69,7 +69,7 @@ module _ (p : Plant) (j : Job) where
   pub record IsServed : Type 0 where
     pub command : Command
     pub rest : List Command
-    pub row : p.rows j.channel ≡ record { left = command ∷ rest; stage = InJob }
+    pub row : p.rows j.channel ≡ record { left = command ∷ rest; stage = InJob; claim = None }
     pub asks : AsksFor p command j.head j.new
 
   abbrev pub StandsAt : Phase → Type 0

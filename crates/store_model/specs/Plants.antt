@@ -13,7 +13,7 @@ use Rattle.md_chain.specs.declared.plan.PlannedPage.{PlannedPage}
 use Rattle.store_model.specs.Maps.{Map, Metas, Chains}
 use Rattle.store_model.specs.Shown.{fixed_of, volume_of}
 use Rattle.store_model.specs.Device.{Device}
-use Rattle.store_model.specs.Rows.{Rows, with_row, entry_of, Idle, Decided, Ended}
+use Rattle.store_model.specs.Rows.{Rows, with_row, entry_of, Idle, Answered, Decided, Ended}
 
 -- How far a job has come: so many of its fresh pages are written; or its head is, and so many of the old pages are overwritten.
 pub data Phase : Type 0 where
@@ -73,7 +73,7 @@ next_serial n = (n + 1) % 2 ^ 64
 -- One entry is logged: the command leaves its row, and the clock at the exit is the entry's mark.
 abbrev pub logged : Plant → ℕ → Command → List Command → Reply → Device → Plant
 logged p channel command rest reply d = record p {
-  rows = with_row p.rows channel (record { left = rest; stage = Decided });
+  rows = with_row p.rows channel (record { left = rest; stage = Decided Answered; claim = None });
   log = p.log ++ entry_of p.log channel command reply ∷ [];
   marks = p.marks ++ d.clock ∷ [];
   device = d;
@@ -81,7 +81,7 @@ logged p channel command rest reply d = record p {
 
 -- how a run begins: nothing is posted, nothing logged, no job runs, and nothing has failed
 pub record Opens (p : Plant) : Type 0 where
-  pub waits : (channel : ℕ) → ((p.rows channel).stage ≡ Idle) ⊎ (p.rows channel ≡ record { left = []; stage = Ended })
+  pub waits : (channel : ℕ) → ((p.rows channel).stage ≡ Idle) ⊎ (p.rows channel ≡ record { left = []; stage = Ended; claim = None })
   pub log : p.log ≡ []
   pub marks : p.marks ≡ p.device.clock ∷ []
   pub job : p.job ≡ None

@@ -1,19 +1,38 @@
 -- The rows of the channels: what each has left of its commands, and how far the first of these has come.
-use Rattle.std.specs.Prelude.{ℕ, ◌==◌, if◌then◌else◌, List, length, filter}
+use Rattle.std.specs.Prelude.{Option, ℕ, ◌==◌, if◌then◌else◌, List, length, filter}
 use Rattle.volume_model.specs.declared.command.Command.{Command}
 use Rattle.volume_model.specs.declared.reply.Reply.{Reply}
 use Rattle.volume_model.specs.declared.reply.Entry.{Entry}
 
--- The first command waits; it is posted under a serial number; the running job serves it; or a command has been logged and its
--- channel hasn't been told yet. A channel that has ended makes no turn any more.
+-- a cluster that is claimed for a slot of a blob, with the blob's generation at the claim
+pub record OpenClaim : Type 0 where
+  pub cluster : ℕ
+  pub head : ℕ
+  pub slot : ℕ
+  pub generation : ℕ
+
+-- What is decided of a row, of which its channel is to be told: its command has been logged, its cluster was inserted, or its
+-- claim was lost.
+pub data Decision : Type 0 where
+  Answered Won Lost : Decision
+
+-- How far the first command of a row has come. It waits; a write has found its slot empty; its claim has so many pages to copy;
+-- all are copied; it is posted under a serial number; the running job serves it; or something is decided of it. A channel that has
+-- ended makes no turn any more.
 pub data Stage : Type 0 where
   Idle : Stage
+  Claiming : Stage
+  Copying : (left : ℕ) → Stage
+  Ready : Stage
   Posted : (serial : ℕ) → Stage
-  InJob Decided Ended : Stage
+  InJob : Stage
+  Decided : (outcome : Decision) → Stage
+  Ended : Stage
 
 pub record Row : Type 0 where
   pub left : List Command
   pub stage : Stage
+  pub claim : Option OpenClaim
 
 abbrev pub Rows : Type 0
 Rows = ℕ → Row
