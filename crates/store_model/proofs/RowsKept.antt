@@ -37,8 +37,7 @@ module _ (script : ℕ → List Command) (p : Plant) (way : (c : ℕ) → OnItsW
       }
 
   -- a command is logged
-  module _ (channel : ℕ) (command : Command) (rest : List Command) (before after : Stage) (reply : Reply)
-      (row : p.rows channel ≡ record { left = command ∷ rest; stage = before; claim = None })
+  module _ (channel : ℕ) (command : Command) (rest : List Command) (after : Stage) (reply : Reply) (was : (p.rows channel).left ≡ command ∷ rest)
       (rows : q.rows ≡ with_row p.rows channel (record { left = rest; stage = after; claim = None }))
       (log : q.log ≡ p.log ++ entry_of p.log channel command reply ∷ []) where
     abbrev new : Entry
@@ -48,7 +47,6 @@ module _ (script : ℕ → List Command) (p : Plant) (way : (c : ℕ) → OnItsW
     here =
         let w = way channel in
         let left : (q.rows channel).left ≡ rest = ap (λ (r : Rows). (r channel).left) rows ∙ ap (λ (r : Row). r.left) (row_here p.rows channel (record { left = rest; stage = after; claim = None }) channel refl) in
-        let was : (p.rows channel).left ≡ command ∷ rest = ap (λ (r : Row). r.left) row in
         record {
           made = w.made ++ command ∷ [];
           numbered = subst (λ es. Numbered 0 es (w.made ++ command ∷ [])) (sym (ap (entries_of channel) log ∙ entries_more channel p.log new refl))

@@ -13,7 +13,7 @@ use Rattle.md_chain.specs.declared.plan.PlannedPage.{PlannedPage}
 use Rattle.store_model.specs.Maps.{Map, Metas, Chains}
 use Rattle.store_model.specs.Shown.{fixed_of, volume_of}
 use Rattle.store_model.specs.Device.{Device}
-use Rattle.store_model.specs.Rows.{Rows, with_row, entry_of, Idle, Answered, Decided, Ended}
+use Rattle.store_model.specs.Rows.{Rows, Stage, with_row, entry_of, Idle, Answered, Decided, Ended}
 
 -- How far a job has come: so many of its fresh pages are written; or its head is, and so many of the old pages are overwritten.
 pub data Phase : Type 0 where
@@ -70,14 +70,23 @@ shown p head = option_map (λ m. volume_of (fixed_of p.super).cluster_pages p.de
 abbrev pub next_serial : ℕ → ℕ
 next_serial n = (n + 1) % 2 ^ 64
 
--- One entry is logged: the command leaves its row, and the clock at the exit is the entry's mark.
-abbrev pub logged : Plant → ℕ → Command → List Command → Reply → Device → Plant
-logged p channel command rest reply d = record p {
-  rows = with_row p.rows channel (record { left = rest; stage = Decided Answered; claim = None });
+-- One entry is logged: the command leaves its row, which is at this stage then and has no claim; and the clock at the exit is the
+-- entry's mark.
+abbrev pub logged_to : Stage → Plant → ℕ → Command → List Command → Reply → Device → Plant
+logged_to next p channel command rest reply d = record p {
+  rows = with_row p.rows channel (record { left = rest; stage = next; claim = None });
   log = p.log ++ entry_of p.log channel command reply ∷ [];
   marks = p.marks ++ d.clock ∷ [];
   device = d;
 }
+
+-- in a turn of the metadata thread: the channel is to be told
+abbrev pub logged : Plant → ℕ → Command → List Command → Reply → Device → Plant
+logged = logged_to (Decided Answered)
+
+-- in a turn of the channel's own: it goes on with its next command
+abbrev pub logged_here : Plant → ℕ → Command → List Command → Reply → Device → Plant
+logged_here = logged_to Idle
 
 -- how a run begins: nothing is posted, nothing logged, no job runs, and nothing has failed
 pub record Opens (p : Plant) : Type 0 where
