@@ -7,12 +7,18 @@ use Rattle.blob_meta.specs.declared.meta.Meta.{Meta}
 use Rattle.blob_meta.specs.Parents.{slot}
 use Rattle.md_chain.specs.Chain.{is_among}
 use Rattle.store_model.specs.Maps.{Metas, Chains}
+use Rattle.store_model.specs.Rows.{OpenClaim}
 use Rattle.store_model.specs.Plants.{Job, Phase, Writing, Erasing}
 
 -- these places are set, or cleared, one after another
 abbrev pub all_set : List Bool → List ℕ → Bool → List Bool
 all_set bits [] to = bits
 all_set bits (p ∷ ps) to = all_set (slice_set bits p to) ps to
+
+-- the clusters in use once a claim is given back
+abbrev pub without_claim : List Bool → Option OpenClaim → List Bool
+without_claim bits None = bits
+without_claim bits (Some claim) = slice_set bits claim.cluster false
 
 -- no place stands twice
 abbrev pub AreDistinct : List ℕ → Type 0
