@@ -14,9 +14,9 @@ use Rattle.store_model.specs.Maps.{Map}
 use Rattle.store_model.specs.Regions.{region_of}
 use Rattle.store_model.specs.Scans.{MetaAt}
 use Rattle.store_model.specs.Shown.{fixed_of, volume_of}
-use Rattle.store_model.specs.Rows.{Row, InJob}
+use Rattle.store_model.specs.Rows.{Rows, Row, InJob}
 use Rattle.store_model.specs.Plants.{Job, Phase, Writing, Erasing, Plant, planned_at, shown}
-use Rattle.store_model.specs.Places.{UsedClusters, IsMapped}
+use Rattle.store_model.specs.Places.{IsClaimed, UsedClusters, IsMapped}
 use Rattle.store_model.specs.Jobs.{AsksFor, IsServed, StandsAt, JobStands}
 use Rattle.store_model.specs.Cases.{live_of}
 use Rattle.store_model.specs.Standing.{CanBeWritten, RunsWell}
@@ -63,12 +63,18 @@ erased_by p j erased x phase = subst (StandsAt p j) phase x.stands
 pub row_in_job : (p : Plant) (j : Job) (written : ℕ) → JobStands p j → j.phase ≡ Writing written → (p.rows j.channel).stage ≡ InJob
 row_in_job p j written x phase = ap (λ (r : Row). r.stage) (served_by p j written x phase).1.row
 
-pub clusters_same : (s : Super) (bits : List Bool) (metas others : Map Meta) → ((c : ℕ) → IsMapped metas c → IsMapped others c) → ((c : ℕ) → IsMapped others c → IsMapped metas c) → UsedClusters s bits metas → UsedClusters s bits others
-clusters_same s bits metas others there back u = record {
+pub clusters_same : (s : Super) (bits : List Bool) (metas others : Map Meta) (rows : Rows) → ((c : ℕ) → IsMapped metas c → IsMapped others c) → ((c : ℕ) → IsMapped others c → IsMapped metas c)
+    → UsedClusters s bits metas (IsClaimed rows) → UsedClusters s bits others (IsClaimed rows)
+clusters_same s bits metas others rows there back u = record {
   count = u.count;
   fixed = u.fixed;
   mapped = λ c is. u.mapped c (back c is);
-  no_other = λ c is. elim (u.no_other c is) [ inl low ↦ inl low | inr mapped ↦ inr (there c mapped) ];
+  claimed_too = u.claimed_too;
+  no_other = λ c is. elim (u.no_other c is) [
+    | inl low ↦ inl low
+    | inr rest ↦ elim rest [ inl mapped ↦ inr (inl (there c mapped)) | inr claimed ↦ inr (inr claimed) ]
+  ];
+  apart = λ c x. let y = u.apart c x in (y.0, λ mapped. y.1 (back c mapped));
 }
 
 -- ---- live attributes

@@ -1,10 +1,10 @@
 -- How rows stand to the job, when one row changes.
-use Rattle.std.proofs.Common.{◌≡◌, ◌≢◌, ℕ, List, [], ◌∷◌, Some, None, refl, sym, ◌∙◌, ap, subst, inl, inr}
+use Rattle.std.proofs.Common.{Option, ◌≡◌, ◌≢◌, ℕ, List, [], ◌∷◌, Some, None, refl, sym, ◌∙◌, ap, subst, inl, inr}
 use Rattle.std.proofs.lemmas.Bool.{cases_eq}
 use Rattle.volume_model.specs.declared.command.Command.{Command}
-use Rattle.store_model.specs.Rows.{Row, Rows, Idle, Posted, InJob, Answered, Decided, Ended, with_row}
+use Rattle.store_model.specs.Rows.{OpenClaim, Row, Rows, Idle, Posted, InJob, Answered, Decided, Ended, with_row}
 use Rattle.store_model.specs.Plants.{Job, Writing, Erasing, Plant}
-use Rattle.store_model.specs.Standing.{IsShaped}
+use Rattle.store_model.specs.Standing.{MayClaim, IsShaped}
 use Rattle.store_model.proofs.RowsKept.{row_here, row_other}
 
 -- the job that serves a channel
@@ -41,6 +41,7 @@ pub record MayBe (p : Plant) (channel : ℕ) (row : Row) : Type 0 where
   pub posted : (serial : ℕ) → row.stage ≡ Posted serial → row.left ≢ []
   pub in_job : row.stage ≡ InJob → Serves p channel
   pub ended : row.stage ≡ Ended → row.left ≡ []
+  pub claims : (claim : OpenClaim) → row.claim ≡ Some claim → MayClaim row.stage
 
 module _ (p : Plant) (shaped : IsShaped p) (q : Plant) (channel : ℕ) (row : Row) (rows : q.rows ≡ with_row p.rows channel row)
     (others : (c : ℕ) → c ≢ channel → (p.rows c).stage ≡ InJob → Serves q c) where
@@ -67,6 +68,10 @@ module _ (p : Plant) (shaped : IsShaped p) (q : Plant) (channel : ℕ) (row : Ro
       | inl e ↦ ap (λ (r : Row). r.left) (here c e) ∙ may.ended (sym (ap (λ (r : Row). r.stage) (here c e)) ∙ is)
       | inr ne ↦ ap (λ (r : Row). r.left) (there c ne) ∙ shaped.ended c (sym (ap (λ (r : Row). r.stage) (there c ne)) ∙ is)
     ];
+    claims = λ c claim is. elim (cases_eq c channel) [
+      | inl e ↦ subst (λ (r : Row). MayClaim r.stage) (sym (here c e)) (may.claims claim (sym (ap (λ (r : Row). r.claim) (here c e)) ∙ is))
+      | inr ne ↦ subst (λ (r : Row). MayClaim r.stage) (sym (there c ne)) (shaped.claims c claim (sym (ap (λ (r : Row). r.claim) (there c ne)) ∙ is))
+    ];
   }
 
 -- with the rows as they were
@@ -75,25 +80,34 @@ shaped_same p q shaped rows served = record {
   posted = λ c serial is. subst (λ (r : Rows). (r c).left ≢ []) (sym rows) (shaped.posted c serial (sym (ap (λ (r : Rows). (r c).stage) rows) ∙ is));
   in_job = λ c is. let x = served c (sym (ap (λ (r : Rows). (r c).stage) rows) ∙ is) in (x.job, x.written, x.is, x.channel_is, x.phase);
   ended = λ c is. ap (λ (r : Rows). (r c).left) rows ∙ shaped.ended c (sym (ap (λ (r : Rows). (r c).stage) rows) ∙ is);
+  claims = λ c claim is. subst (λ (r : Rows). MayClaim (r c).stage) (sym rows) (shaped.claims c claim (sym (ap (λ (r : Rows). (r c).claim) rows) ∙ is));
 }
 
 -- the same job serves
 pub serves_same : (p q : Plant) → q.job ≡ p.job → (channel : ℕ) → Serves p channel → Serves q channel
 serves_same p q job channel x = record { job = x.job; written = x.written; is = job ∙ x.is; channel_is = x.channel_is; phase = x.phase }
 
+-- a row at a stage that holds no claim has none
+pub no_claim : (p : Plant) → IsShaped p → (channel : ℕ) → (MayClaim (p.rows channel).stage → ⊥) → (p.rows channel).claim ≡ None
+no_claim p shaped channel never = by (p.rows channel).claim refl
+  where
+    by : (o : Option OpenClaim) → (p.rows channel).claim ≡ o → (p.rows channel).claim ≡ None
+    by None is = is
+    by (Some claim) is = absurd (never (shaped.claims channel claim is))
+
 -- ---- rows of one stage
 
 pub idle_may : (p : Plant) (channel : ℕ) (left : List Command) → MayBe p channel (record { left = left; stage = Idle; claim = None })
-idle_may p channel left = record { posted = λ serial is. absurd (cc is); in_job = λ is. absurd (cc is); ended = λ is. absurd (cc is) }
+idle_may p channel left = record { posted = λ serial is. absurd (cc is); in_job = λ is. absurd (cc is); ended = λ is. absurd (cc is); claims = λ claim is. absurd (cc is) }
 
 pub decided_may : (p : Plant) (channel : ℕ) (left : List Command) → MayBe p channel (record { left = left; stage = Decided Answered; claim = None })
-decided_may p channel left = record { posted = λ serial is. absurd (cc is); in_job = λ is. absurd (cc is); ended = λ is. absurd (cc is) }
+decided_may p channel left = record { posted = λ serial is. absurd (cc is); in_job = λ is. absurd (cc is); ended = λ is. absurd (cc is); claims = λ claim is. absurd (cc is) }
 
 pub ended_may : (p : Plant) (channel : ℕ) → MayBe p channel (record { left = []; stage = Ended; claim = None })
-ended_may p channel = record { posted = λ serial is. absurd (cc is); in_job = λ is. absurd (cc is); ended = λ is. refl }
+ended_may p channel = record { posted = λ serial is. absurd (cc is); in_job = λ is. absurd (cc is); ended = λ is. refl; claims = λ claim is. absurd (cc is) }
 
 pub posted_may : (p : Plant) (channel serial : ℕ) (command : Command) (rest : List Command) → MayBe p channel (record { left = command ∷ rest; stage = Posted serial; claim = None })
-posted_may p channel serial command rest = record { posted = λ n is none. cc none; in_job = λ is. absurd (cc is); ended = λ is. absurd (cc is) }
+posted_may p channel serial command rest = record { posted = λ n is none. cc none; in_job = λ is. absurd (cc is); ended = λ is. absurd (cc is); claims = λ claim is. absurd (cc is) }
 
 pub in_job_may : (p : Plant) (channel : ℕ) (command : Command) (rest : List Command) → Serves p channel → MayBe p channel (record { left = command ∷ rest; stage = InJob; claim = None })
-in_job_may p channel command rest x = record { posted = λ serial is. absurd (cc is); in_job = λ is. x; ended = λ is. absurd (cc is) }
+in_job_may p channel command rest x = record { posted = λ serial is. absurd (cc is); in_job = λ is. x; ended = λ is. absurd (cc is); claims = λ claim is. absurd (cc is) }

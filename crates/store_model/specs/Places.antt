@@ -1,5 +1,5 @@
 -- Which metadata pages and which clusters are in use, and which places a job takes.
-use Rattle.std.specs.Prelude.{◌≡◌, ◌⊎◌, ℕ, ◌<◌, Bool, true, false, List, [], ◌∷◌, length, slice_set, Option, Some, None}
+use Rattle.std.specs.Prelude.{◌≡◌, ◌⊎◌, ℕ, ◌<◌, ◌≤◌, Bool, true, false, List, [], ◌∷◌, length, slice_set, Option, Some, None}
 use Rattle.bit_array.specs.Bits.{is_in, IsLeastClear}
 use Rattle.super_block.specs.declared.page.Super.{Super}
 use Rattle.super_block.specs.Numbers.{clusters_of, fixed_clusters_of}
@@ -7,7 +7,7 @@ use Rattle.blob_meta.specs.declared.meta.Meta.{Meta}
 use Rattle.blob_meta.specs.Parents.{slot}
 use Rattle.md_chain.specs.Chain.{is_among}
 use Rattle.store_model.specs.Maps.{Metas, Chains}
-use Rattle.store_model.specs.Rows.{OpenClaim}
+use Rattle.store_model.specs.Rows.{OpenClaim, Rows}
 use Rattle.store_model.specs.Plants.{Job, Phase, Writing, Erasing}
 
 -- these places are set, or cleared, one after another
@@ -62,9 +62,26 @@ pub record IsMapped (metas : Metas) (cluster : ℕ) : Type 0 where
   pub place : ℕ
   pub in_slot : slot meta place ≡ Some cluster
 
--- The clusters in use are the fixed ones and those of the maps.
-pub record UsedClusters (s : Super) (bits : List Bool) (metas : Metas) : Type 0 where
+-- a row has an open claim of the cluster
+pub record IsClaimed (rows : Rows) (cluster : ℕ) : Type 0 where
+  pub channel : ℕ
+  pub claim : OpenClaim
+  pub held : (rows channel).claim ≡ Some claim
+  pub is : claim.cluster ≡ cluster
+
+-- no cluster is claimed
+abbrev pub Unclaimed : ℕ → Type 0
+Unclaimed cluster = ⊥
+
+-- no two rows have claimed one cluster
+abbrev pub ClaimsDiffer : Rows → Type 0
+ClaimsDiffer rows = (channel other : ℕ) (x y : OpenClaim) → (rows channel).claim ≡ Some x → (rows other).claim ≡ Some y → x.cluster ≡ y.cluster → channel ≡ other
+
+-- The clusters in use are the fixed ones, those of the maps, and those of open claims, which are others.
+pub record UsedClusters (s : Super) (bits : List Bool) (metas : Metas) (claimed : ℕ → Type 0) : Type 0 where
   pub count : length bits ≡ clusters_of s
   pub fixed : (cluster : ℕ) → cluster < fixed_clusters_of s → cluster < clusters_of s → is_in bits cluster ≡ true
   pub mapped : (cluster : ℕ) → IsMapped metas cluster → is_in bits cluster ≡ true
-  pub no_other : (cluster : ℕ) → is_in bits cluster ≡ true → (cluster < fixed_clusters_of s) ⊎ IsMapped metas cluster
+  pub claimed_too : (cluster : ℕ) → claimed cluster → is_in bits cluster ≡ true
+  pub no_other : (cluster : ℕ) → is_in bits cluster ≡ true → (cluster < fixed_clusters_of s) ⊎ (IsMapped metas cluster ⊎ claimed cluster)
+  pub apart : (cluster : ℕ) → claimed cluster → (fixed_clusters_of s ≤ cluster) × ¬ IsMapped metas cluster

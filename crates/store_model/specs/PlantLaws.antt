@@ -17,7 +17,7 @@ use Rattle.store_model.specs.Regions.{region_of, Region}
 use Rattle.store_model.specs.Scans.{is_head, MetaAt, Says, Scanned}
 use Rattle.store_model.specs.Cases.{IsQuiet}
 use Rattle.store_model.specs.Plants.{Opens, Plant, shown}
-use Rattle.store_model.specs.Places.{UsedClusters, UsedPages}
+use Rattle.store_model.specs.Places.{Unclaimed, UsedClusters, UsedPages}
 use Rattle.store_model.specs.Jobs.{AsksFor}
 use Rattle.store_model.specs.Cases.{Kind, Run, Turn}
 use Rattle.store_model.specs.Standing.{AreRoots, Facts, HaveChains, IsRoot}
@@ -30,7 +30,7 @@ pub record IsLoadedWith (s : Super) (p : Plant) : Type 0 where
   pub lawful : IsLawful s.md_len p.base
   pub chains : HaveChains s p.base p.chains
   pub pages : UsedPages s.md_len p.pages p.chains []
-  pub clusters : UsedClusters s p.clusters p.base
+  pub clusters : UsedClusters s p.clusters p.base Unclaimed
   pub live : (head : ℕ) (m : Meta) → p.base head ≡ Some m → p.live head ≡ Some m.xattrs
   pub no_live : (head : ℕ) → p.base head ≡ None → p.live head ≡ None
 

@@ -91,6 +91,7 @@ logged_here = logged_to Idle
 -- how a run begins: nothing is posted, nothing logged, no job runs, and nothing has failed
 pub record Opens (p : Plant) : Type 0 where
   pub waits : (channel : ℕ) → ((p.rows channel).stage ≡ Idle) ⊎ (p.rows channel ≡ record { left = []; stage = Ended; claim = None })
+  pub unclaimed : (channel : ℕ) → (p.rows channel).claim ≡ None
   pub log : p.log ≡ []
   pub marks : p.marks ≡ p.device.clock ∷ []
   pub job : p.job ≡ None

@@ -16,9 +16,9 @@ use Rattle.md_chain.specs.Chain.{blob_id, is_among}
 use Rattle.store_model.specs.Maps.{Metas, Chains}
 use Rattle.store_model.specs.Regions.{region_of}
 use Rattle.store_model.specs.Shown.{fixed_of}
-use Rattle.store_model.specs.Rows.{entries_of, InJob, Posted, Ended}
+use Rattle.store_model.specs.Rows.{Copying, entries_of, InJob, OpenClaim, Posted, Ended, Ready, Stage}
 use Rattle.store_model.specs.Plants.{Job, Writing, Plant, shown}
-use Rattle.store_model.specs.Places.{AreDistinct, held_by, UsedPages, UsedClusters}
+use Rattle.store_model.specs.Places.{AreDistinct, ClaimsDiffer, held_by, IsClaimed, UsedPages, UsedClusters}
 use Rattle.store_model.specs.Jobs.{JobStands}
 
 -- attributes that can be written: no two of one name, and each fits the body of a page
@@ -55,12 +55,22 @@ pub record OnItsWay (p : Plant) (script : ℕ → List Command) (channel : ℕ) 
   pub numbered : Numbered 0 (entries_of channel p.log) made
   pub all : made ++ (p.rows channel).left ≡ script channel
 
+-- the stages at which a row may hold a claim
+abbrev pub MayClaim : Stage → Type 0
+MayClaim (Copying left) = Unit {0}
+MayClaim Ready = Unit {0}
+MayClaim (Posted serial) = Unit {0}
+MayClaim InJob = Unit {0}
+MayClaim _ = ⊥
+
 -- how rows stand to the job
 pub record IsShaped (p : Plant) : Type 0 where
   -- what is posted or in the job is a command, and an ended channel has none left
   pub posted : (channel serial : ℕ) → (p.rows channel).stage ≡ Posted serial → (p.rows channel).left ≢ []
   pub in_job : (channel : ℕ) → (p.rows channel).stage ≡ InJob → (job : Job) × (written : ℕ) × (p.job ≡ Some job) × (job.channel ≡ channel) × (job.phase ≡ Writing written)
   pub ended : (channel : ℕ) → (p.rows channel).stage ≡ Ended → (p.rows channel).left ≡ []
+  -- a claim is held from when it is made until its insert is decided
+  pub claims : (channel : ℕ) (claim : OpenClaim) → (p.rows channel).claim ≡ Some claim → MayClaim (p.rows channel).stage
 
 -- while the store runs: what it has in memory is what the device says, and the volumes shown are the log's replay
 pub record RunsWell (first : Volumes) (p : Plant) : Type 0 where
@@ -68,7 +78,8 @@ pub record RunsWell (first : Volumes) (p : Plant) : Type 0 where
   pub live : (head : ℕ) (m : Meta) → p.base head ≡ Some m → (xattrs : Xattrs) × (p.live head ≡ Some xattrs) × CanBeWritten xattrs
   pub no_live : (head : ℕ) → p.base head ≡ None → p.live head ≡ None
   pub pages : UsedPages p.super.md_len p.pages p.chains (held_by p.job)
-  pub clusters : UsedClusters p.super p.clusters p.base
+  pub clusters : UsedClusters p.super p.clusters p.base (IsClaimed p.rows)
+  pub claims : ClaimsDiffer p.rows
   pub job : (job : Job) → p.job ≡ Some job → JobStands p job
   pub replayed : shown p ≡ replay (fixed_of p.super) first p.log
 

@@ -34,7 +34,7 @@ module _ (quiet : RefusalsChangeNothing) (known : Known) where
       let is = is_refusal p (command p q t) t.reply (why p q t) in
       let allowed = is_allowed p (command p q t) t.reply (why p q t) in
       subst (Facts s first script) (sym t.next)
-      (logged_facts known Idle idle_may t.channel (command p q t) t.rest t.reply (not_in_job known _ _ t.row (λ bad. cc bad)) (ap (λ (r : Row). r.left) t.row)
+      (logged_facts known Idle idle_may t.channel (command p q t) t.rest t.reply (not_in_job known _ _ t.row (λ bad. cc bad)) (λ runs. ap (λ (r : Row). r.claim) t.row) (ap (λ (r : Row). r.left) t.row)
       (allowed_here known (command p q t) t.reply t.runs allowed) (λ runs. refused_same known quiet (command p q t) t.reply is allowed))
 
 pub law : TurnLaw case.kind

@@ -1,0 +1,62 @@
+-- Open claims of rows, as rows change.
+use Rattle.std.proofs.Common.{◌≡◌, ◌≢◌, ◌⊎◌, ℕ, ◌≤◌, Bool, List, Option, None, Some, inl, inr, sym, subst, ap, ◌∙◌}
+use Rattle.super_block.specs.declared.page.Super.{Super}
+use Rattle.store_model.specs.Maps.{Metas}
+use Rattle.store_model.specs.Rows.{OpenClaim, Row, Rows, with_row}
+use Rattle.store_model.specs.Places.{ClaimsDiffer, IsClaimed, IsMapped, Unclaimed, UsedClusters}
+use Rattle.std.proofs.lemmas.Bool.{cases_eq}
+use Rattle.store_model.proofs.RowsKept.{row_here, row_other}
+
+-- a row without a claim is another without one: each row has the claim that it had
+pub with_row_claims : (rows : Rows) (channel : ℕ) (row : Row) → (rows channel).claim ≡ None → row.claim ≡ None → (c : ℕ) → (with_row rows channel row c).claim ≡ (rows c).claim
+with_row_claims rows channel row none given c = elim (cases_eq c channel) [
+  | inl e ↦ ap (λ (r : Row). r.claim) (row_here rows channel row c e) ∙ given ∙ sym none ∙ ap (λ k. (rows k).claim) (sym e)
+  | inr ne ↦ ap (λ (r : Row). r.claim) (row_other rows channel row c ne)
+]
+
+module _ (rows other : Rows) (same : (c : ℕ) → (other c).claim ≡ (rows c).claim) where
+  claimed_there : (cluster : ℕ) → IsClaimed rows cluster → IsClaimed other cluster
+  claimed_there cluster x = record { channel = x.channel; claim = x.claim; held = same x.channel ∙ x.held; is = x.is }
+
+  claimed_back : (cluster : ℕ) → IsClaimed other cluster → IsClaimed rows cluster
+  claimed_back cluster x = record { channel = x.channel; claim = x.claim; held = sym (same x.channel) ∙ x.held; is = x.is }
+
+  -- the same claims keep the clusters in use
+  pub used_still : (s : Super) (bits : List Bool) (metas : Metas) → UsedClusters s bits metas (IsClaimed rows) → UsedClusters s bits metas (IsClaimed other)
+  used_still s bits metas u = record {
+    count = u.count;
+    fixed = u.fixed;
+    mapped = u.mapped;
+    claimed_too = λ c x. u.claimed_too c (claimed_back c x);
+    no_other = λ c is. elim (u.no_other c is) [
+      | inl low ↦ inl low
+      | inr rest ↦ elim rest [ inl mapped ↦ inr (inl mapped) | inr claimed ↦ inr (inr (claimed_there c claimed)) ]
+    ];
+    apart = λ c x. u.apart c (claimed_back c x);
+  }
+
+  -- and they differ still
+  pub differ_still : ClaimsDiffer rows → ClaimsDiffer other
+  differ_still differ c k x y held held_too e = differ c k x y (sym (same c) ∙ held) (sym (same k) ∙ held_too) e
+
+-- ---- no claim is open
+
+module _ (rows : Rows) (none : (c : ℕ) → (rows c).claim ≡ None) where
+  never : (c : ℕ) (x : OpenClaim) → (rows c).claim ≡ Some x → ⊥
+  never c x held = let bad = sym (none c) ∙ held in cc bad
+
+  pub used_unclaimed : (s : Super) (bits : List Bool) (metas : Metas) → UsedClusters s bits metas Unclaimed → UsedClusters s bits metas (IsClaimed rows)
+  used_unclaimed s bits metas u = record {
+    count = u.count;
+    fixed = u.fixed;
+    mapped = u.mapped;
+    claimed_too = λ c x. absurd (never x.channel x.claim x.held);
+    no_other = λ c is. elim (u.no_other c is) [
+      | inl low ↦ inl low
+      | inr rest ↦ elim rest [ inl mapped ↦ inr (inl mapped) | inr bad ↦ absurd bad ]
+    ];
+    apart = λ c x. absurd (never x.channel x.claim x.held);
+  }
+
+  pub differ_unclaimed : ClaimsDiffer rows
+  differ_unclaimed c k x y held held_too e = absurd (never c x held)
