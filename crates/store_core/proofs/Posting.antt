@@ -1,11 +1,13 @@
 -- What is known of a channel from what its row waits for.
-use Rattle.std.proofs.Common.{◌≡◌, ℕ, ◌<◌, List, [], ◌∷◌, length, Option, Some, None, refl, sym, ◌∙◌, ap, subst, inl, inr, arith}
+use Rattle.std.proofs.Common.{◌⊎◌, ◌≡◌, ℕ, ◌<◌, List, [], ◌∷◌, length, Option, Some, None, refl, sym, ◌∙◌, ap, subst, inl, inr, arith}
 use Rattle.std.specs.Prelude.{IsSome}
 use Rattle.std.proofs.lemmas.Bool.{cases_lt}
 use Rattle.std.proofs.Math.ListN.{get_or-eq_default}
 use Rattle.page_disk.specs.declared.disk.PageDisk.{Ghosts}
 use Rattle.volume_model.specs.declared.command.Command.{Command}
-use Rattle.store_model.specs.Rows.{Row, Stage, Idle, Posted, InJob, Answered, Decided, Ended}
+use Rattle.volume_model.specs.declared.command.Command.TheVariants as c
+use Rattle.volume_model.specs.declared.reply.Msg.{Msg}
+use Rattle.store_model.specs.Rows.{Claiming, Copying, Decided, Decision, Ended, Idle, InJob, IsForMetadata, OpenClaim, Posted, Ready, Row, Stage}
 use Rattle.store_model.specs.Cases as kind
 use Rattle.store_core.specs.declared.rows.RowStage.TheVariants.{Meta, Over}
 use Rattle.store_core.specs.declared.begin.BeginTurn.{BeginTurn}
@@ -14,8 +16,11 @@ use Rattle.store_core.specs.Begins.{BeginsOrNot}
 use Rattle.store_core.specs.Kept.{IsRunning, Kept}
 use Rattle.store_core.specs.Made.{Made}
 use Rattle.store_core.specs.Seen.{At, Both, rows_of, state_of}
-use Rattle.store_core.specs.Stages.{is_stage}
-use Rattle.store_core.specs.Steps.{IsPostedAt, Waits}
+use Rattle.store_core.specs.Requests.{IsPostedBy}
+use Rattle.store_core.specs.Stages.{is_stage, waits_for}
+use Rattle.store_core.specs.Steps.{IsPostedAt, WaitsForMetadata}
+use Rattle.store_model.specs.Standing.{IsShaped, MayClaim}
+use Rattle.store_model.proofs.Shaped.{no_claim}
 
 -- a row that hasn't ended is that of one of the channels
 pub low_of : (rows : List Row) (channel : ℕ) (stage : Stage) → length rows ≡ 16 → (rows_of rows channel).stage ≡ stage → (Ended ≡ stage → ⊥) → channel < 16
@@ -24,28 +29,71 @@ low_of rows channel stage sixteen is other = elim (cases_lt channel (length rows
   | inr ge ↦ absurd (other (sym (ap (λ (r : Row). r.stage) (get_or-eq_default rows (record { left = []; stage = Ended; claim = None }) ge)) ∙ is))
 ]
 
-at_meta : (left : List Command) (stage : Stage) (channel : ℕ) → is_stage (record { left = left; stage = stage; claim = None }) channel ≡ Meta → (command : Command) × (rest : List Command) × (left ≡ command ∷ rest) × (stage ≡ Idle)
-at_meta [] Idle channel is = absurd (cc is)
-at_meta (command ∷ rest) Idle channel is = (command, rest, refl, refl)
-at_meta left (Posted serial) channel is = absurd (cc is)
-at_meta left InJob channel is = absurd (cc is)
-at_meta left (Decided outcome) channel is = absurd (cc is)
-at_meta left Ended channel is = absurd (cc is)
+-- the first command of a row is for the metadata thread
+pub record HasMeta (left : List Command) (stage : Stage) : Type 0 where
+  pub command : Command
+  pub rest : List Command
+  pub first : left ≡ command ∷ rest
+  pub idle : stage ≡ Idle
+  pub is_meta : IsForMetadata command
 
-at_over : (left : List Command) (stage : Stage) (channel : ℕ) → is_stage (record { left = left; stage = stage; claim = None }) channel ≡ Over → (left ≡ []) × (stage ≡ Idle)
-at_over [] Idle channel is = (refl, refl)
-at_over (command ∷ rest) Idle channel is = absurd (cc is)
-at_over left (Posted serial) channel is = absurd (cc is)
-at_over left InJob channel is = absurd (cc is)
-at_over left (Decided outcome) channel is = absurd (cc is)
-at_over left Ended channel is = absurd (cc is)
+meta_first : (command : Command) (rest : List Command) → waits_for command ≡ Meta → HasMeta (command ∷ rest) Idle
+meta_first command rest is = record { command = command; rest = rest; first = refl; idle = refl; is_meta = by command is }
+  where
+    by : (k : Command) → waits_for k ≡ Meta → IsForMetadata k
+    by (c.Read volume page) bad = cc bad
+    by (c.Write volume page word) bad = cc bad
+    by c.Flush bad = cc bad
+    by _ is = tt
 
-module _ {D : Type 0} (p : At D) (channel : ℕ) where
-  pub waits_meta : is_stage (rows_of p.rows channel) channel ≡ Meta → Waits p channel Idle
-  waits_meta is = let x = at_meta (rows_of p.rows channel).left (rows_of p.rows channel).stage channel is in record { command = x.0; rest = x.1; row = λ i. record { left = x.2 i; stage = x.3 i; claim = None } }
+-- a first command waits for something
+never_over : (k : Command) → waits_for k ≡ Over → ⊥
+never_over (c.Read volume page) bad = cc bad
+never_over (c.Write volume page word) bad = cc bad
+never_over c.Flush bad = cc bad
+never_over _ bad = cc bad
+
+at_meta : (left : List Command) (stage : Stage) (claim : Option OpenClaim) (channel : ℕ) → is_stage (record { left = left; stage = stage; claim = claim }) channel ≡ Meta → HasMeta left stage
+at_meta [] Idle claim channel is = absurd (cc is)
+at_meta (command ∷ rest) Idle claim channel is = meta_first command rest is
+at_meta left Claiming claim channel is = absurd (cc is)
+at_meta left (Copying count) claim channel is = absurd (cc is)
+at_meta left Ready claim channel is = absurd (cc is)
+at_meta left (Posted serial) claim channel is = absurd (cc is)
+at_meta left InJob claim channel is = absurd (cc is)
+at_meta left (Decided outcome) claim channel is = absurd (cc is)
+at_meta left Ended claim channel is = absurd (cc is)
+
+at_over : (left : List Command) (stage : Stage) (claim : Option OpenClaim) (channel : ℕ) → is_stage (record { left = left; stage = stage; claim = claim }) channel ≡ Over → (left ≡ []) × (stage ≡ Idle)
+at_over [] Idle claim channel is = (refl, refl)
+at_over (command ∷ rest) Idle claim channel is = absurd (never_over command is)
+at_over left Claiming claim channel is = absurd (cc is)
+at_over left (Copying count) claim channel is = absurd (cc is)
+at_over left Ready claim channel is = absurd (cc is)
+at_over left (Posted serial) claim channel is = absurd (cc is)
+at_over left InJob claim channel is = absurd (cc is)
+at_over left (Decided outcome) claim channel is = absurd (cc is)
+at_over left Ended claim channel is = absurd (cc is)
+
+-- a store in which no row holds a claim but where it may
+module _ {D : Type 0} (d : Ghosts D) (p : At D) (shaped : IsShaped (state_of d p)) (channel : ℕ) where
+  -- a row that waits for its first command to be done holds no claim
+  idle_unclaimed : (rows_of p.rows channel).stage ≡ Idle → (rows_of p.rows channel).claim ≡ None
+  idle_unclaimed idle = no_claim (state_of d p) shaped channel (λ may. subst MayClaim idle may)
+
+  pub waits_meta : is_stage (rows_of p.rows channel) channel ≡ Meta → WaitsForMetadata p channel
+  waits_meta is =
+      let row = rows_of p.rows channel in
+      let x = at_meta row.left row.stage row.claim channel is in
+      let none = idle_unclaimed x.idle in
+      record { command = x.command; rest = x.rest; is_meta = x.is_meta; row = λ i. record { left = x.first i; stage = x.idle i; claim = none i } }
 
   pub over_row : is_stage (rows_of p.rows channel) channel ≡ Over → rows_of p.rows channel ≡ record { left = []; stage = Idle; claim = None }
-  over_row is = let x = at_over (rows_of p.rows channel).left (rows_of p.rows channel).stage channel is in λ i. record { left = x.0 i; stage = x.1 i; claim = None }
+  over_row is =
+      let row = rows_of p.rows channel in
+      let x = at_over row.left row.stage row.claim channel is in
+      let none = idle_unclaimed x.1 in
+      λ i. record { left = x.0 i; stage = x.1 i; claim = none i }
 
   pub low_meta : length p.rows ≡ 16 → is_stage (rows_of p.rows channel) channel ≡ Meta → channel < 16
   low_meta sixteen is = low_of p.rows channel Idle sixteen (ap (λ (r : Row). r.stage) (waits_meta is).row) (λ e. cc e)
@@ -53,13 +101,17 @@ module _ {D : Type 0} (p : At D) (channel : ℕ) where
   pub low_over : length p.rows ≡ 16 → is_stage (rows_of p.rows channel) channel ≡ Over → channel < 16
   low_over sixteen is = low_of p.rows channel Idle sixteen (ap (λ (r : Row). r.stage) (over_row is)) (λ e. cc e)
 
+  -- a row of which something is decided holds no claim
+  pub decided_unclaimed : (outcome : Decision) → (rows_of p.rows channel).stage ≡ Decided outcome → (rows_of p.rows channel).claim ≡ None
+  decided_unclaimed outcome is = no_claim (state_of d p) shaped channel (λ may. subst MayClaim is may)
+
 -- a command that is posted, by what is kept
-pub posted_at : {D : Type 0} (d : Ghosts D) (p : Both D) (channel serial : ℕ) → Kept d p → (rows_of p.at.rows channel).stage ≡ Posted serial → IsPostedAt p.at channel
-posted_at d p channel serial kept is = by (rows_of p.at.rows channel).left refl
+pub posted_at : {D : Type 0} (d : Ghosts D) (p : Both D) (msg : Msg) → Kept d p → IsPostedBy p.at.rows msg → IsPostedAt p.at msg.channel
+posted_at d p msg kept is = by (rows_of p.at.rows msg.channel).left refl
   where
-    by : (left : List Command) → (rows_of p.at.rows channel).left ≡ left → IsPostedAt p.at channel
-    by [] none = absurd (kept.facts.shaped.posted channel serial is none)
-    by (command ∷ rest) some = record { serial = serial; waits = record { command = command; rest = rest; row = λ i. record { left = some i; stage = is i; claim = None } } }
+    by : (left : List Command) → (rows_of p.at.rows msg.channel).left ≡ left → IsPostedAt p.at msg.channel
+    by [] none = absurd (kept.facts.shaped.posted msg.channel msg.serial is.stage none)
+    by (command ∷ rest) some = record { serial = msg.serial; waits = record { command = command; rest = rest; row = λ i. record { left = some i; stage = is.stage i; claim = is.unclaimed i } } }
 
 pub kept_running : {D : Type 0} (d : Ghosts D) (p : Both D) → Kept d p → IsRunning (state_of d p.at)
 kept_running d p kept = record { store = p.opening.super; first = _; script = _; placed = kept.placed; facts = kept.facts }
@@ -85,3 +137,8 @@ begun_or_not d p q turn goes_on runs stops = by p.at.stopped refl
     by : (o : Option ℕ) → p.at.stopped ≡ o → Kept d (record { at = q; opening = p.opening; right = p.right })
     by None is = made turn (runs is)
     by (Some at) is = goes_on kind.halts (stops (subst IsSome (sym is) refl)).1
+
+-- a store that has no job or has stopped, and hasn't stopped, has no job
+pub job_over : {D : Type 0} (p : At D) → (p.job ≡ None) ⊎ IsSome p.stopped → p.stopped ≡ None → p.job ≡ None
+job_over p (inl none) runs = none
+job_over p (inr stopped) runs = absurd (let bad : IsSome None = subst IsSome runs stopped in cc bad)

@@ -2,13 +2,16 @@
 use Rattle.std.proofs.Common.{◌≡◌, ℕ, List, [], ◌∷◌, Some, None, refl, ap}
 use Rattle.std.specs.Prelude.{slice_get}
 use Rattle.volume_model.specs.declared.command.Command.{Command}
-use Rattle.store_model.specs.Rows.{Stage, Idle, Posted, InJob, Answered, Decided, Ended}
+use Rattle.store_model.specs.Rows.{Stage, Claiming, Copying, Idle, Posted, InJob, Decided, Ended, Ready}
 use Rattle.store_core.specs.Requests.{posted_in}
 
 -- posted under the number that is told
 pub posted_so : (stage : Stage) (serial : ℕ) → posted_in stage ≡ Some serial → stage ≡ Posted serial
 posted_so (Posted n) serial is = ap Posted (cc is)
 posted_so Idle serial is = absurd (cc is)
+posted_so Claiming serial is = absurd (cc is)
+posted_so (Copying count) serial is = absurd (cc is)
+posted_so Ready serial is = absurd (cc is)
 posted_so InJob serial is = absurd (cc is)
 posted_so (Decided outcome) serial is = absurd (cc is)
 posted_so Ended serial is = absurd (cc is)

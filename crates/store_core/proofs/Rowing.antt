@@ -40,5 +40,5 @@ state_logged d p channel command rest reply low =
     (rows_set p.rows channel (record { left = rest; stage = Decided Answered; claim = None }) low)
 
 -- a row whose first command was taken out
-pub taken_row : (old new : Row) (command : Command) → old.left ≡ command ∷ new.left → new.stage ≡ Decided Answered → new ≡ decided old
-taken_row old new command left stage = λ i. record { left = ap (λ (l : List Command). drop 1 l) (sym left) i; stage = stage i; claim = None }
+pub taken_row : (old new : Row) (command : Command) → old.left ≡ command ∷ new.left → new.stage ≡ Decided Answered → new.claim ≡ None → new ≡ decided old
+taken_row old new command left stage claim = λ i. record { left = ap (λ (l : List Command). drop 1 l) (sym left) i; stage = stage i; claim = claim i }

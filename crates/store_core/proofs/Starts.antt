@@ -136,6 +136,17 @@ module _ (script : List (List Command)) (rows : List Row) (are : AreRows script 
     | inr high ↦ inr (get_or_past rows channel (record { left = []; stage = Ended; claim = None }) (subst (λ n. n ≤ channel) (sym are.sixteen) high))
   ]
 
+  claim_by : (channel : ℕ) (inside : Bool) → cond inside (record { left = slice_index_or script channel []; stage = Idle; claim = None }) (record { left = []; stage = Ended; claim = None }) ≡ rows_of rows channel → (rows_of rows channel).claim ≡ None
+  claim_by channel true is = sym (ap (λ (r : Row). r.claim) is)
+  claim_by channel false is = sym (ap (λ (r : Row). r.claim) is)
+
+  -- no row holds a claim at the start
+  pub rows_unclaimed : (channel : ℕ) → (rows_of rows channel).claim ≡ None
+  rows_unclaimed channel = elim (cases_lt channel 16) [
+    | inl low ↦ claim_by channel (nat_lt channel are.channels) (sym (are.each channel low))
+    | inr high ↦ ap (λ (r : Row). r.claim) (get_or_past rows channel (record { left = []; stage = Ended; claim = None }) (subst (λ n. n ≤ channel) (sym are.sixteen) high))
+  ]
+
 -- what was loaded is what a store begins with
 module _ {D : Type 0} (d : Ghosts D) (loaded : Loaded D) (live : map.FinMap nat_cmp Xattrs) (rows : List Row) where
   pub is_loaded_with : IsWhole loaded → IsLiveAtStart loaded.metas live → IsLoadedWith loaded.sup (state_of d (opened_with d loaded live rows))
@@ -151,7 +162,7 @@ module _ {D : Type 0} (d : Ghosts D) (loaded : Loaded D) (live : map.FinMap nat_
   }
 
   pub it_opens : (script : List (List Command)) → AreRows script rows → Opens (state_of d (opened_with d loaded live rows))
-  it_opens script are = record { waits = rows_wait script rows are; log = refl; marks = refl; job = refl; stopped = refl }
+  it_opens script are = record { waits = rows_wait script rows are; unclaimed = rows_unclaimed script rows are; log = refl; marks = refl; job = refl; stopped = refl }
 
 none_by : (s : Super) (metas : Metas) → AreRoots s metas → (head : ℕ) → s.md_len ≤ head → (found : Option Meta) → metas head ≡ found → metas head ≡ None
 none_by s metas roots head past None is = is

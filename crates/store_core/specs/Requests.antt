@@ -13,6 +13,11 @@ abbrev pub posted_in : Stage → Option ℕ
 posted_in (Posted serial) = Some serial
 posted_in _ = None
 
+-- The message's row is posted under its number, for the metadata thread, and holds no claim.
+pub record IsPostedBy (rows : List Row) (msg : Msg) : Type 0 where
+  pub stage : (rows_of rows msg.channel).stage ≡ Posted msg.serial
+  pub unclaimed : (rows_of rows msg.channel).claim ≡ None
+
 -- each row that is posted has a command
 abbrev pub HavePosted : List Row → Type 0
 HavePosted rows = (channel serial : ℕ) → (rows_of rows channel).stage ≡ Posted serial → (rows_of rows channel).left ≢ []

@@ -2,7 +2,7 @@
 use Rattle.std.specs.Prelude.{None, ◌≡◌, ◌≢◌, ℕ, ◌<◌, List, [], ◌∷◌, ◌++◌, length, drop, slice_set}
 use Rattle.volume_model.specs.declared.command.Command.{Command}
 use Rattle.volume_model.specs.declared.reply.Reply.{Reply}
-use Rattle.store_model.specs.Rows.{Row, Stage, Answered, Decided, Posted, entry_of}
+use Rattle.store_model.specs.Rows.{Answered, Decided, entry_of, Idle, IsForMetadata, Posted, Row, Stage}
 use Rattle.store_core.specs.Seen.{At, rows_of}
 
 -- one row is another
@@ -36,6 +36,13 @@ pub record Waits {D : Type 0} (p : At D) (channel : ℕ) (stage : Stage) : Type 
   pub command : Command
   pub rest : List Command
   pub row : rows_of p.rows channel ≡ record { left = command ∷ rest; stage = stage; claim = None }
+
+-- a channel whose first command is for the metadata thread, and of which nothing was done
+pub record WaitsForMetadata {D : Type 0} (p : At D) (channel : ℕ) : Type 0 where
+  pub command : Command
+  pub rest : List Command
+  pub is_meta : IsForMetadata command
+  pub row : rows_of p.rows channel ≡ record { left = command ∷ rest; stage = Idle; claim = None }
 
 -- the command of a channel that is posted
 pub record IsPostedAt {D : Type 0} (p : At D) (channel : ℕ) : Type 0 where

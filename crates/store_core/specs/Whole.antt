@@ -6,14 +6,14 @@ use Rattle.super_block.specs.declared.page.Super.{Super}
 use Rattle.super_block.specs.declared.masks.Masks.{Masks}
 use Rattle.blob_meta.specs.Resolving.{IsLawful}
 use Rattle.store_model.specs.Maps.{Metas, Chains}
-use Rattle.store_model.specs.Places.{UsedClusters, UsedPages}
+use Rattle.store_model.specs.Places.{Unclaimed, UsedClusters, UsedPages}
 use Rattle.store_model.specs.Standing.{AreRoots, HaveChains}
 use Rattle.store_core.specs.declared.loaded.Loaded.{Loaded}
 
 -- The masks are what the chains and the maps claim: pages, clusters and heads.
 pub record AreMasks (s : Super) (metas : Metas) (chains : Chains) (masks : Masks) : Type 0 where
   pub pages : UsedPages s.md_len masks.pages chains []
-  pub clusters : UsedClusters s masks.clusters metas
+  pub clusters : UsedClusters s masks.clusters metas Unclaimed
   pub count : length masks.blobs ≡ s.md_len
   pub blobs : (head : ℕ) → head < s.md_len → (is_in masks.blobs head ≡ true) ↔ IsSome (metas head)
 

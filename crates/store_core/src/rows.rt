@@ -12,9 +12,21 @@ use volume_model::{Command, Msg};
 /// What a channel's row waits for.
 #[derive(Clone, Copy)]
 pub enum RowStage {
+    /// The first command reads a page.
+    Read,
+    /// The first command writes a page.
+    Write,
+    /// The first command is a flush.
+    Flush,
     /// The first command is one for the metadata thread, and is to be posted.
     Meta,
-    /// It is posted by this message.
+    /// A page write has found its slot empty, and is to claim a cluster.
+    Claim,
+    /// The claim has so many pages of its cluster to copy.
+    Copy { left: u32 },
+    /// All pages are copied, and the insert is to be posted.
+    Ready,
+    /// The request is posted by this message.
     Posted(Msg),
     /// The running job serves it.
     InJob,
@@ -24,6 +36,23 @@ pub enum RowStage {
     Over,
     /// The channel has ended.
     Ended,
+}
+
+impl RowStage {
+    ghost use Rattle.std.specs.Prelude.{◌≡◌};
+    ghost use Rattle.store_core.specs.Stages.{waits_for};
+
+    /// What a first command waits for that nothing was done for.
+    fn of(command: &Command) -> RowStage
+        ensures { result ≡ waits_for command.now }
+    {
+        match command {
+            Command::Read { .. } => RowStage::Read,
+            Command::Write { .. } => RowStage::Write,
+            Command::Flush => RowStage::Flush,
+            _ => RowStage::Meta,
+        }
+    }
 }
 
 /// How far the first command of a row has come.
@@ -44,6 +73,7 @@ pub(crate) struct Row {
 }
 
 impl Model for Row {
+    ghost use Rattle.std.specs.Prelude.{None};
     ghost use Rattle.store_model.specs.Rows.{Row};
     ghost use Rattle.store_core.specs.Stages.{row_code, stage_seen};
 
@@ -56,7 +86,7 @@ impl Model for Row {
 
 impl Row {
     ghost use Rattle.std.specs.Prelude.{◌≡◌, ◌∷◌, [], length, option_copied, slice_get, IfSome, IfNone};
-    ghost use Rattle.store_model.specs.Rows.{Idle, Posted, InJob, Decided, Ended};
+    ghost use Rattle.store_model.specs.Rows.{Answered, Idle, Posted, InJob, Decided, Ended};
     ghost use Rattle.store_core.specs.Requests.{posted_in};
     ghost use Rattle.store_core.specs.Stages.{is_stage};
 
@@ -85,8 +115,10 @@ impl Row {
         ensures { result ≡ is_stage self.now channel }
     {
         match self.stage {
-            Stage::Idle if self.left.is_empty() => RowStage::Over,
-            Stage::Idle => RowStage::Meta,
+            Stage::Idle => match self.left.front() {
+                Some(command) => RowStage::of(command),
+                None => RowStage::Over,
+            },
             Stage::Posted(serial) => RowStage::Posted(Msg { channel, serial }),
             Stage::InJob => RowStage::InJob,
             Stage::Decided => RowStage::Decided,
@@ -135,7 +167,8 @@ impl Row {
     /// Takes out the first command, which is logged.
     pub(crate) fn take(&mut self) -> Option<Command>
         ensures some { IfSome result (λ command. self.old.left ≡ command ∷ self.new.left) }
-        ensures decided { IfSome result (λ _. self.new.stage ≡ Decided) }
+        ensures unclaimed { IfSome result (λ _. self.new.claim ≡ None) }
+        ensures decided { IfSome result (λ _. self.new.stage ≡ Decided Answered) }
         ensures none { IfNone result ((self.old.left ≡ []) × (self.new ≡ self.old)) }
     {
         let command = self.left.pop_front()?;

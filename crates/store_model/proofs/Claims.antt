@@ -60,3 +60,16 @@ module _ (rows : Rows) (none : (c : ℕ) → (rows c).claim ≡ None) where
 
   pub differ_unclaimed : ClaimsDiffer rows
   differ_unclaimed c k x y held held_too e = absurd (never c x held)
+
+  pub unclaimed_used : (s : Super) (bits : List Bool) (metas : Metas) → UsedClusters s bits metas (IsClaimed rows) → UsedClusters s bits metas Unclaimed
+  unclaimed_used s bits metas u = record {
+    count = u.count;
+    fixed = u.fixed;
+    mapped = u.mapped;
+    claimed_too = λ c bad. absurd bad;
+    no_other = λ c is. elim (u.no_other c is) [
+      | inl low ↦ inl low
+      | inr rest ↦ elim rest [ inl mapped ↦ inr (inl mapped) | inr x ↦ absurd (never x.channel x.claim x.held) ]
+    ];
+    apart = λ c bad. absurd bad;
+  }

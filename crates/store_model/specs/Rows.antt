@@ -1,6 +1,7 @@
 -- The rows of the channels: what each has left of its commands, and how far the first of these has come.
 use Rattle.std.specs.Prelude.{Option, ℕ, ◌==◌, if◌then◌else◌, List, length, filter}
 use Rattle.volume_model.specs.declared.command.Command.{Command}
+use Rattle.volume_model.specs.declared.command.Command.TheVariants as c
 use Rattle.volume_model.specs.declared.reply.Reply.{Reply}
 use Rattle.volume_model.specs.declared.reply.Entry.{Entry}
 
@@ -37,9 +38,16 @@ pub record Row : Type 0 where
 abbrev pub Rows : Type 0
 Rows = ℕ → Row
 
+-- the commands that the metadata thread serves; pages and flushes are a channel's own
+abbrev pub IsForMetadata : Command → Type 0
+IsForMetadata (c.Read volume page) = ⊥
+IsForMetadata (c.Write volume page word) = ⊥
+IsForMetadata c.Flush = ⊥
+IsForMetadata _ = Unit {0}
+
 -- one channel's row is another
 abbrev pub with_row : Rows → ℕ → Row → Rows
-with_row rows channel row = λ c. if c == channel then row else rows c
+with_row rows channel row = λ other. if other == channel then row else rows other
 
 -- the entries of a channel
 abbrev pub entries_of : ℕ → List Entry → List Entry

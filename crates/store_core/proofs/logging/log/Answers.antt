@@ -53,5 +53,5 @@ returns-clause-row g c =
     let channel = c.args.channel in
     let low : channel < length old = omega (arith, c.requires.channel, c.requires.order.sixteen) in
     subst (λ (row : Row). OnlyRow old (slice_set old channel c.take.new.self) channel row)
-    (taken_row (rows_of old channel) c.take.new.self c.in-Some.command (ap (λ (r : Row). r.left) (get_or_default old channel (record { left = []; stage = Ended; claim = None }) c.index_mut.result.now low ∙ sym c.index_mut.ensures.value) ∙ c.in-Some.ensures.some) c.in-Some.ensures.decided)
+    (taken_row (rows_of old channel) c.take.new.self c.in-Some.command (ap (λ (r : Row). r.left) (get_or_default old channel (record { left = []; stage = Ended; claim = None }) c.index_mut.result.now low ∙ sym c.index_mut.ensures.value) ∙ c.in-Some.ensures.some) c.in-Some.ensures.decided c.in-Some.ensures.unclaimed)
     (only_row old channel c.take.new.self low)

@@ -1,6 +1,6 @@
-use Rattle.std.proofs.Common.{◌<◌, length, ap, arith}
+use Rattle.std.proofs.Common.{◌<◌, length, None, ap, arith}
 use Rattle.volume_model.specs.declared.reply.Reply.TheVariants.{Stopped}
-use Rattle.store_model.specs.Rows.{Row}
+use Rattle.store_model.specs.Rows.{Posted, Row}
 use Rattle.store_core.specs.Running.{at_of}
 use Rattle.store_core.proofs.Entered.{disk_same, entered}
 use Rattle.store_core.proofs.refusing.halt.Goals as goal
@@ -14,7 +14,13 @@ returns-clause-case g c =
     let low : c.args.channel < length c.args.running.now.rows.items = omega (arith, c.requires.channel, c.requires.order.sixteen) in
     let is = c.log.ensures.logged waits.command waits.rest left in (
       record {
-        posted = record { channel = c.args.channel; serial = c.requires.posted.serial; command = waits.command; rest = waits.rest; row = waits.row };
+        channel = c.args.channel;
+        command = waits.command;
+        rest = waits.rest;
+        stage = Posted c.requires.posted.serial;
+        claim = None;
+        row = waits.row;
+        may = tt;
         at = c.in-Some.at;
         stands = c.in-Some.is;
         next = entered d old (at_of c.log.new.running) c.args.channel waits.command waits.rest (Stopped c.in-Some.at) low is;

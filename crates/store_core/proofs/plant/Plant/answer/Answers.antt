@@ -7,11 +7,12 @@ use Rattle.store_model.specs.Cases.{IsInMemory}
 use Rattle.store_model.specs.Rows.{Posted}
 use Rattle.store_core.specs.Made.{Made}
 use Rattle.store_core.specs.Steps.{Asks}
+use Rattle.store_core.specs.Requests.{IsPostedBy}
 use Rattle.store_core.proofs.Posting.{either, posted_at}
 use Rattle.store_core.proofs.plant.Plant.answer.Goals as goal
 
 pub answer_or_halt-requires-clause-posted : goal.answer_or_halt-requires-clause-posted
-answer_or_halt-requires-clause-posted g c = posted_at g.D.PageDisk (both c.self.inside.running c.self.inside.opening.value c.self.inside.right.value.name) c.args.msg.channel c.args.msg.serial c.self.invariant.0 (subst (λ (b : Both g.row.D.Denot). (rows_of b.at.rows c.args.msg.channel).stage ≡ Posted c.args.msg.serial) (sym c.self.view_is) c.requires.posted)
+answer_or_halt-requires-clause-posted g c = posted_at g.D.PageDisk (both c.self.inside.running c.self.inside.opening.value c.self.inside.right.value.name) c.args.msg c.self.invariant.0 (subst (λ (b : Both g.row.D.Denot). IsPostedBy b.at.rows c.args.msg) (sym c.self.view_is) c.requires.posted)
 
 pub answer_or_halt-requires-clause-in_memory : goal.answer_or_halt-requires-clause-in_memory
 answer_or_halt-requires-clause-in_memory g c = subst (λ (b : Both g.row.D.Denot). Asks b.at c.args.msg.channel (λ command. IsOnHead command × IsInMemory command)) (sym c.self.view_is) c.requires.in_memory

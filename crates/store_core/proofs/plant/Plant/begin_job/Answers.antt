@@ -4,11 +4,12 @@ use Rattle.store_core.specs.Running.{at_of, both}
 use Rattle.store_core.specs.Begins.{IsJobOf}
 use Rattle.store_core.specs.Seen.{Both, rows_of, state_of}
 use Rattle.store_core.specs.Steps.{Asks}
+use Rattle.store_core.specs.Requests.{IsPostedBy}
 use Rattle.store_core.proofs.Posting.{begun_or_not, posted_at}
 use Rattle.store_core.proofs.plant.Plant.begin_job.Goals as goal
 
 pub begin_or_halt-requires-clause-posted : goal.begin_or_halt-requires-clause-posted
-begin_or_halt-requires-clause-posted g c = posted_at g.D.PageDisk (both c.self.inside.running c.self.inside.opening.value c.self.inside.right.value.name) c.args.msg.channel c.args.msg.serial c.self.invariant.0 (subst (λ (b : Both g.row.D.Denot). (rows_of b.at.rows c.args.msg.channel).stage ≡ Posted c.args.msg.serial) (sym c.self.view_is) c.requires.posted)
+begin_or_halt-requires-clause-posted g c = posted_at g.D.PageDisk (both c.self.inside.running c.self.inside.opening.value c.self.inside.right.value.name) c.args.msg c.self.invariant.0 (subst (λ (b : Both g.row.D.Denot). IsPostedBy b.at.rows c.args.msg) (sym c.self.view_is) c.requires.posted)
 
 pub invariant_of-self : goal.invariant_of-self
 invariant_of-self g c =
