@@ -1,11 +1,13 @@
+//! Chains: the pages of a plan, a plan read again, and each fault of a chain.
+
 ghost use Rattle.std.specs.Prelude.{◌≡◌, IfOk};
 ghost use Rattle.descriptors.specs.declared.item.Item.TheVariants.{Xattr};
 ghost use Rattle.super_block.specs.Faults.{IsFaultless};
 ghost use Rattle.md_chain.specs.Packing.{ArePlannable, AreFew};
 
-use crate::{ChainFault, Memory, chain_len, plan_chain, read_chain};
 use crc32c::page_ok;
 use descriptors::{Item, ItemList};
+use md_chain::{ChainFault, Memory, chain_len, plan_chain, read_chain};
 use md_page::MdPage;
 use page_disk::{CallKind, Fail, FaultDisk, MemDisk, Page, PageDisk, WriteKind};
 use std::alloc::Global;

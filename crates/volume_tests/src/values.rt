@@ -1,95 +1,72 @@
-//! Each public call once, and vectors from outside.
+//! What wants memory gets it, and vectors from outside.
 
-use crate::*;
 use std::alloc::Global;
 use std::boxed::Box;
 use std::test::Fail;
+use volume_model::{
+    Blobtext, Command, Df, Entry, Info, InfoList, Msg, Name, PageWord, Pair, Reply, RunList,
+    Script, SlotRun, TryCopy, VolumeRef, Xattr, XattrList, uuid_for,
+};
 
 fn name(alloc: Global) -> Result<Name, Fail> {
     Ok(Name::new(b"vol-1").try_copy(alloc)?)
 }
 
+const DF: Df = Df {
+    free_clusters: 1,
+    clusters: 2,
+    free_pages: 3,
+    pages: 4,
+};
+
 #[test]
-fn lists_keep_their_items_in_order(rt: HostRuntime) -> Result<(), Fail> {
-    let mut list = RunList::new(rt.alloc());
-    assert!(rt; list.pop().is_none());
-    list.push(SlotRun {
+fn lists_and_scripts_find_memory(rt: HostRuntime) -> Result<(), Fail> {
+    let run = SlotRun {
         cluster: 5,
         length: 3,
-    })?;
-    list.push(SlotRun {
-        cluster: 0,
-        length: 2,
-    })?;
-    list.push(SlotRun {
-        cluster: 9,
-        length: 1,
-    })?;
+    };
+    let mut list = RunList::new(rt.alloc());
+    list.push(run)?;
+    assert_eq!(rt; list.try_copy(rt.alloc())?.pop(), Some(run));
+    let mut taken = RunList::from_vec(list.take_all(rt.alloc()));
     assert_eq!(rt;
-        list.pop(),
-        Some(SlotRun {
-            cluster: 9,
-            length: 1
-        })
+        (list.len(), taken.get(0).copied(), taken.pop()),
+        (0, Some(run), Some(run))
     );
-    assert_eq!(rt; list.len(), 2);
-    assert_eq!(rt;
-        list.get(1).copied(),
-        Some(SlotRun {
-            cluster: 0,
-            length: 2
-        })
-    );
-    assert_eq!(rt; list.get(2).copied(), None);
-    let copy = list.try_copy(rt.alloc())?;
-    assert_eq!(rt; copy.as_slice(), list.as_slice());
+    let mut script = Script::new(rt.alloc());
+    script.push(3, Command::Flush)?;
+    assert_eq!(rt; (script.channels(), script.commands(3).len()), (4, 1));
+    assert_eq!(rt; script.take(rt.alloc(), 3).len(), 1);
     Ok(())
 }
 
 #[test]
-fn plain_items_are_copied(rt: HostRuntime) -> Result<(), Fail> {
-    assert_eq!(rt; 7u32.try_copy(rt.alloc())?, 7);
+fn plain_values_find_memory_for_their_copies(rt: HostRuntime) -> Result<(), Fail> {
     let pair = Pair { page: 7, count: 2 };
-    assert_eq!(rt; pair.try_copy(rt.alloc())?, pair);
-    let df = Df {
-        free_clusters: 1,
-        clusters: 2,
-        free_pages: 3,
-        pages: 4,
-    };
-    assert_eq!(rt; df.try_copy(rt.alloc())?, df);
     let msg = Msg {
         channel: 3,
         serial: 8,
     };
+    assert_eq!(rt; 7u32.try_copy(rt.alloc())?, 7);
+    assert_eq!(rt; pair.try_copy(rt.alloc())?, pair);
+    assert_eq!(rt; DF.try_copy(rt.alloc())?, DF);
     assert_eq!(rt; msg.try_copy(rt.alloc())?, msg);
-    Ok(())
-}
-
-#[test]
-fn texts_and_names_keep_their_bytes(rt: HostRuntime) -> Result<(), Fail> {
-    let text = Blobtext::new(rt.alloc(), b"a\0b")?;
-    assert_eq!(rt; text.bytes(), b"a\0b".as_slice());
     assert_eq!(rt; name(rt.alloc())?.bytes(), b"vol-1".as_slice());
-    let xattr = Xattr {
-        key: text,
-        value: Blobtext::new(rt.alloc(), b"1")?,
-    };
-    let copy = xattr.try_copy(rt.alloc())?;
-    assert_eq!(rt; copy.key.bytes(), b"a\0b".as_slice());
-    assert_eq!(rt; copy.value.bytes(), b"1".as_slice());
     Ok(())
 }
 
 #[test]
-fn scripts_keep_each_channel_apart(rt: HostRuntime) -> Result<(), Fail> {
-    let mut script = Script::new(rt.alloc());
-    assert_eq!(rt; script.channels(), 0);
-    script.push(3, Command::Flush)?;
-    assert_eq!(rt; script.channels(), 4);
-    assert_eq!(rt; script.commands(3).len(), 1);
-    assert_eq!(rt; script.commands(0).len(), 0);
-    assert_eq!(rt; script.commands(16).len(), 0);
+fn attributes_find_memory(rt: HostRuntime) -> Result<(), Fail> {
+    let xattr = Xattr::new(rt.alloc(), b"a\0b", b"1")?;
+    let mut list = XattrList::new(rt.alloc());
+    list.push(xattr.try_copy(rt.alloc())?)?;
+    let more = list.with_value(rt.alloc(), b"k", b"22\0z")?;
+    assert_eq!(rt;
+        (more.told(b"a\0b"), more.told(b"k")),
+        (b"1".as_slice(), b"22".as_slice())
+    );
+    let fewer = more.without(rt.alloc(), b"a\0b")?;
+    assert_eq!(rt; (fewer.len(), fewer.value_of(b"a\0b").is_none()), (1, true));
     Ok(())
 }
 
@@ -189,19 +166,6 @@ fn commands(alloc: Global) -> Result<Vec<Command>, Fail> {
     ]?)
 }
 
-#[test]
-fn commands_are_copied(rt: HostRuntime) -> Result<(), Fail> {
-    let commands = commands(rt.alloc())?;
-    for command in commands.as_slice() {
-        let copy = command.try_copy(rt.alloc())?;
-        assert_eq!(rt;
-            format!(in rt.alloc(); "{copy:?}")?,
-            format!(in rt.alloc(); "{command:?}")?
-        );
-    }
-    Ok(())
-}
-
 fn replies(alloc: Global) -> Result<Vec<Reply>, Fail> {
     let info = Info {
         head: 1,
@@ -215,12 +179,6 @@ fn replies(alloc: Global) -> Result<Vec<Reply>, Fail> {
     };
     let mut infos = InfoList::new(alloc);
     infos.push(info.try_copy(alloc)?)?;
-    let df = Df {
-        free_clusters: 1,
-        clusters: 2,
-        free_pages: 3,
-        pages: 4,
-    };
     Ok(vec![in alloc;
         Reply::Ok,
         Reply::Made(3),
@@ -228,27 +186,32 @@ fn replies(alloc: Global) -> Result<Vec<Reply>, Fail> {
         Reply::Value(Blobtext::new(alloc, b"1")?),
         Reply::Info(info),
         Reply::List(infos),
-        Reply::Df(df),
+        Reply::Df(DF),
         Reply::Busy(2),
         Reply::Stopped(6),
         Reply::Memory,
     ]?)
 }
 
+/// Whether the entry finds memory for its copy, which is printed like it.
+fn is_copied(alloc: Global, command: Command, reply: Reply) -> Result<bool, Fail> {
+    let entry = Entry {
+        channel: 1,
+        index: 2,
+        command,
+        reply,
+    };
+    let copy = entry.try_copy(alloc)?;
+    Ok(format!(in alloc; "{copy:?}")? == format!(in alloc; "{entry:?}")?)
+}
+
 #[test]
-fn entries_are_copied(rt: HostRuntime) -> Result<(), Fail> {
+fn commands_and_replies_find_memory_for_their_copies(rt: HostRuntime) -> Result<(), Fail> {
+    for command in commands(rt.alloc())? {
+        assert!(rt; is_copied(rt.alloc(), command, Reply::Ok)?);
+    }
     for reply in replies(rt.alloc())? {
-        let entry = Entry {
-            channel: 1,
-            index: 2,
-            command: Command::Flush,
-            reply,
-        };
-        let copy = entry.try_copy(rt.alloc())?;
-        assert_eq!(rt;
-            format!(in rt.alloc(); "{copy:?}")?,
-            format!(in rt.alloc(); "{entry:?}")?
-        );
+        assert!(rt; is_copied(rt.alloc(), Command::Flush, reply)?);
     }
     Ok(())
 }

@@ -4,7 +4,7 @@ ghost use Rattle.std.specs.Prelude.{◌≡◌, Some, IfOk};
 ghost use Rattle.blob_meta.specs.Asked.{head_in};
 ghost use Rattle.super_block.specs.Faults.{IsFaultless};
 
-use crate::{Flags, Meta, Metas, refusal_of};
+use blob_meta::{Flags, Meta, Metas, refusal_of};
 use descriptors::SlotMap;
 use std::alloc::Global;
 use std::test::Fail;

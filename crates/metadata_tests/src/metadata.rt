@@ -3,7 +3,7 @@
 ghost use Rattle.std.specs.Prelude.{IfOk};
 ghost use Rattle.super_block.specs.Faults.{IsFaultless};
 
-use crate::{Flags, HeadMap, Job, Meta, Metas, find, from_items, items_say, to_items};
+use blob_meta::{Flags, HeadMap, Job, Meta, Metas, find, from_items, to_items};
 use descriptors::{Item, ItemList, SlotMap};
 use std::alloc::Global;
 use std::test::Fail;
@@ -153,7 +153,6 @@ fn named(alloc: Global, head: u32, name: &[u8]) -> Result<Meta, Memory> {
 
 #[test]
 fn metadata_is_written_and_read(rt: HostRuntime) -> Result<(), Fail> {
-    items_say();
     let alloc = rt.alloc();
     let meta = named(alloc, 7, b"a\0")?;
     let list = to_items(alloc, &meta)?;
