@@ -4,7 +4,9 @@ use Rattle.volume_model.specs.Xattrs.{Text}
 use Rattle.volume_model.specs.Volumes.{Page}
 use Rattle.volume_model.specs.Examples.{Refusals}
 
-pub refusals : (a b d e : Page) (long : Text) (many : List Page) → length long ≡ 4063 → length many ≡ 2 ^ 25 → Refusals a b d e long many
+-- the law of `refusals_stand_in_order`
+pub refusals : (a b d e : Page) (long : Text) (many : List Page) → length long ≡ 4063 → length many ≡ 2 ^ 25
+    → Refusals a b d e long many
 refusals a b d e long many is_long are_many = record {
   create = (refl, refl, rw are_many refl, refl, refl);
   write = (refl, refl, refl, refl, refl);

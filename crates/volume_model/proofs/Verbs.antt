@@ -3,6 +3,7 @@ use Rattle.std.proofs.Common.{Some, ap, sym, refl, lit<}
 use Rattle.volume_model.specs.Volumes.{Page}
 use Rattle.volume_model.specs.Examples.{Verbs}
 
+-- the law of `verbs_change_what_they_say`
 pub verbs : (a b d e : Page) → Verbs a b d e
 verbs a b d e = record {
   create_thin = record { allowed = (refl, (lit< tt, refl)); here = refl; there = refl };

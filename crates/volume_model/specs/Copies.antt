@@ -13,7 +13,8 @@ IsSameWord (Full page) (Full copy) = copy.value ≡ page.value
 IsSameWord word copy = copy ≡ word
 
 abbrev pub IsSameCommand : Command → Command → Type 0
-IsSameCommand (Write volume page word) (Write copy_volume copy_page copy_word) = (copy_volume ≡ volume) × (copy_page ≡ page) × IsSameWord word copy_word
+IsSameCommand (Write volume page word) (Write copy_volume copy_page copy_word) =
+    (copy_volume ≡ volume) × (copy_page ≡ page) × IsSameWord word copy_word
 IsSameCommand command copy = copy ≡ command
 
 abbrev pub IsSameReply : Reply → Reply → Type 0
@@ -21,4 +22,5 @@ IsSameReply (Content page) (Content copy) = copy.value ≡ page.value
 IsSameReply reply copy = copy ≡ reply
 
 abbrev pub IsSameEntry : Entry → Entry → Type 0
-IsSameEntry entry copy = (copy.channel ≡ entry.channel) × (copy.index ≡ entry.index) × IsSameCommand entry.command copy.command × IsSameReply entry.reply copy.reply
+IsSameEntry entry copy = (copy.channel ≡ entry.channel) × (copy.index ≡ entry.index)
+    × IsSameCommand entry.command copy.command × IsSameReply entry.reply copy.reply

@@ -30,9 +30,11 @@ ThinVolume = (zeros sevens : Box Page) → zeros.value ≡ zero_page → sevens.
     ∷ entry (c.Read (Named (codes "v")) 8) r.OutOfRange
     ∷ [])
 
--- a volume with a snapshot and a clone of that: the snapshot can be deleted only once the clone is, and the volume reads as before
+-- a volume with a snapshot and a clone of that: the snapshot can be deleted only once the clone is, and the volume
+-- reads as before
 abbrev pub SnapshotWithClone : Type 0
-SnapshotWithClone = (fives sixes : Box Page) → fives.value ≡ fill_page 5 → sixes.value ≡ fill_page 6 → IsLegal small nothing (
+SnapshotWithClone = (fives sixes : Box Page) → fives.value ≡ fill_page 5 → sixes.value ≡ fill_page 6
+    → IsLegal small nothing (
     entry (c.Create (codes "v") 1 false None) (r.Made 1)
     ∷ entry (c.Write (Named (codes "v")) 0 (Fill 5)) r.Ok
     ∷ entry (c.Snapshot (Named (codes "v")) (codes "s")) (r.Made 2)
@@ -71,8 +73,10 @@ module _ (a b d e : Page) where
       ∷ []
 
   pub record Surviving : Type 0 where
-    pub live : option_map (λ (x : Volume). x.live) (replay small (first a b d e) pending 1) ≡ Some (named (codes "v") (codes "3"))
-    pub survives : option_map (λ (x : Volume). x.live) (stable small (first a b d e) pending 1) ≡ Some (named (codes "v") (codes "1"))
+    pub live : option_map (λ (x : Volume). x.live) (replay small (first a b d e) pending 1)
+        ≡ Some (named (codes "v") (codes "3"))
+    pub survives : option_map (λ (x : Volume). x.live) (stable small (first a b d e) pending 1)
+        ≡ Some (named (codes "v") (codes "1"))
     -- the resize settled the first write; the second, which failed, may have reached its page
     pub settled : is_unsettled small (first a b d e) pending 1 1 ≡ false
     pub unsettled : is_unsettled small (first a b d e) pending 1 0 ≡ true

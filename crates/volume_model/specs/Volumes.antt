@@ -33,7 +33,8 @@ pub record Volume : Type 0 where
 abbrev pub Volumes : Type 0
 Volumes = ℕ → Option Volume
 
--- what is fixed for a run: the pages of a slot, the number of metadata pages, and the head that the super block names as the super blob's
+-- what is fixed for a run: the pages of a slot, the number of metadata pages, and the head that the super block names
+-- as the super blob's
 pub record Fixed : Type 0 where
   pub cluster_pages : ℕ
   pub md_len : ℕ
@@ -56,7 +57,8 @@ zero_slots f slots = replicate (slots * f.cluster_pages) zero_page
 
 -- cut to so many slots, or with slots of zeros added
 abbrev pub resized : Fixed → List Page → ℕ → List Page
-resized f pages slots = take (slots * f.cluster_pages) pages ++ replicate (slots * f.cluster_pages - length pages) zero_page
+resized f pages slots = take (slots * f.cluster_pages) pages
+    ++ replicate (slots * f.cluster_pages - length pages) zero_page
 
 -- every head that there may be, ascending
 abbrev pub heads : Fixed → List ℕ
@@ -100,9 +102,14 @@ module _ (f : Fixed) (v : Volumes) where
   abbrev pub store_uuid : List ℕ
   store_uuid = uuid_said (option_map_or (λ s. option_map_or (λ x. told x.live uuid_key) (v s) []) f.super_blob [])
 
-  -- the attributes of a new volume: `name` and `uuid` alone, the uuid being the given one or else the name's in the store's
+  -- the attributes of a new volume: `name` and `uuid` alone, the uuid being the given one or else the name's in the
+  -- store's
   abbrev pub two_xattrs : Text → Option (List ℕ) → Xattrs
   two_xattrs name given =
       record { key = name_key; value = with_nul name }
-      ∷ record { key = uuid_key; value = with_nul (uuid_text (option_map_or (λ bytes. bytes) given (default_uuid store_uuid name))) }
+      ∷ record {
+        key = uuid_key;
+        value = with_nul (uuid_text
+            (option_map_or (λ bytes. bytes) given (default_uuid store_uuid name)));
+      }
       ∷ []

@@ -17,7 +17,8 @@ value_of xattrs key = option_map (λ x. x.value) (find (λ x. bytes_eq x.key key
 -- a key that is there keeps its place, a new one comes last
 abbrev pub with_value : Xattrs → Text → Text → Xattrs
 with_value [] key value = record { key = key; value = value } ∷ []
-with_value (x ∷ xs) key value = if bytes_eq x.key key then record x { value = value } ∷ xs else x ∷ with_value xs key value
+with_value (x ∷ xs) key value = if bytes_eq x.key key then record x { value = value } ∷ xs else x
+    ∷ with_value xs key value
 
 abbrev pub without : Xattrs → Text → Xattrs
 without xattrs key = filter (λ x. not (bytes_eq x.key key)) xattrs
@@ -29,7 +30,8 @@ name_key = codes "name"
 abbrev pub uuid_key : Text
 uuid_key = codes "uuid"
 
--- their values are a text and one NUL; what is read counts up to the first NUL, and is empty where the attribute isn't there
+-- their values are a text and one NUL; what is read counts up to the first NUL, and is empty where the attribute isn't
+-- there
 abbrev pub with_nul : Text → Text
 with_nul text = text ++ 0 ∷ []
 
