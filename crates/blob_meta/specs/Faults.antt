@@ -22,7 +22,8 @@ unknown_flag f = if f.invalid / 4 == 0 then None else Some (faults.UnknownFlag (
 
 -- at most 2^20 slots
 abbrev pub too_large : List (Option ℕ) → Option MetaFault
-too_large map = if nat_le (length map) (2 ^ 20) then None else Some (faults.TooLarge (at_most (2 ^ 64 - 1) (length map)))
+too_large map = if nat_le (length map) (2 ^ 20) then None else Some
+    (faults.TooLarge (at_most (2 ^ 64 - 1) (length map)))
 
 -- each cluster lies from `fixed` on and below `clusters`
 abbrev pub is_outside : ℕ → ℕ → ℕ → Bool
@@ -32,7 +33,8 @@ abbrev pub clusters_of : List (Option ℕ) → List ℕ
 clusters_of map = filter_map (λ slot. slot) map
 
 abbrev pub cluster_outside : ℕ → ℕ → List (Option ℕ) → Option MetaFault
-cluster_outside fixed clusters map = option_map faults.ClusterOutside (find (is_outside fixed clusters) (clusters_of map))
+cluster_outside fixed clusters map = option_map faults.ClusterOutside
+    (find (is_outside fixed clusters) (clusters_of map))
 
 -- a blob that isn't thin has no empty slot
 abbrev pub is_thin : Flags → Bool
@@ -49,7 +51,8 @@ abbrev pub is_bad_mark : Xattr → Bool
 is_bad_mark x = is_mark x.key && not (length x.value == 8)
 
 abbrev pub bad_mark : List Xattr → Option MetaFault
-bad_mark internal = option_map (λ x. faults.BadMark x.key (at_most (2 ^ 32 - 1) (length x.value))) (find is_bad_mark internal)
+bad_mark internal = option_map (λ x. faults.BadMark x.key (at_most (2 ^ 32 - 1) (length x.value)))
+    (find is_bad_mark internal)
 
 -- the two faults of a map alone
 abbrev pub map_fault : ℕ → ℕ → List (Option ℕ) → Option MetaFault
@@ -57,7 +60,8 @@ map_fault fixed clusters map = first_some (too_large map ∷ cluster_outside fix
 
 -- The fault of metadata in a store with so many fixed clusters and clusters in all, if it has one.
 abbrev pub meta_fault : ℕ → ℕ → Meta → Option MetaFault
-meta_fault fixed clusters m = first_some (unknown_flag m.flags ∷ map_fault fixed clusters m.map ∷ hole_in_thick m.flags m.map ∷ bad_mark m.internal ∷ [])
+meta_fault fixed clusters m = first_some (unknown_flag m.flags ∷ map_fault fixed clusters m.map
+    ∷ hole_in_thick m.flags m.map ∷ bad_mark m.internal ∷ [])
 
 -- a fault that is answered is the first one; want of memory may come anywhere
 abbrev pub IsFaultOf : MetaFault → Option MetaFault → Type 0

@@ -16,7 +16,8 @@ use Rattle.blob_meta.specs.declared.meta.Meta.{Meta}
 
 abbrev pub last_flags : Flags → List Item → Flags
 last_flags before [] = before
-last_flags before (item.Flags invalid data_ro md_ro ∷ items) = last_flags (record { invalid = invalid; data_ro = data_ro; md_ro = md_ro }) items
+last_flags before (item.Flags invalid data_ro md_ro ∷ items) =
+    last_flags (record { invalid = invalid; data_ro = data_ro; md_ro = md_ro }) items
 last_flags before (_ ∷ items) = last_flags before items
 
 -- bit 1 of `invalid` follows from the internal attributes, and is given as 0
@@ -24,7 +25,8 @@ abbrev pub without_bit_1 : ℕ → ℕ
 without_bit_1 invalid = invalid - 2 * (invalid / 2 % 2)
 
 abbrev pub flags_in : List Item → Flags
-flags_in items = let f = last_flags (record { invalid = 0; data_ro = 0; md_ro = 0 }) items in record f { invalid = without_bit_1 f.invalid }
+flags_in items = let f = last_flags (record { invalid = 0; data_ro = 0; md_ro = 0 }) items in
+    record f { invalid = without_bit_1 f.invalid }
 
 -- ---- attributes: of equal names the first
 

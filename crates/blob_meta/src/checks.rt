@@ -68,7 +68,8 @@ fn outside_of_runs(runs: &[SlotRun], fixed: u32, clusters: u32) -> Option<u64>
     None
 }
 
-/// The fault of a cluster that a blob may not have. Where there is none, no run reaches past the last number of 32 bits.
+/// The fault of a cluster that a blob may not have. Where there is none, no run reaches past the last number of 32
+/// bits.
 pub fn cluster_outside(runs: &RunList, fixed: u32, clusters: u32) -> Option<MetaFault>
     ensures first { result ≡ outside fixed clusters (slots_in runs.now) }
     ensures reaches { OnNone result (All Reaches runs.now) }

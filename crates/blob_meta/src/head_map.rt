@@ -46,8 +46,8 @@ impl<V: Drop> HeadMap<V> {
         self.entries.get(&head)
     }
 
-    /// Gives the head this value, whatever it had. After `Memory`, which comes only for a head that the map doesn't have, the
-    /// map is as before.
+    /// Gives the head this value, whatever it had. After `Memory`, which comes only for a head that the map doesn't
+    /// have, the map is as before.
     pub fn insert(&mut self, head: u32, value: V) -> Result<(), Memory>
         ensures ok { OnOk result (self.new ≡ map.insert self.old head value) }
         ensures absent { OnErr result (map.get self.old head ≡ None) }

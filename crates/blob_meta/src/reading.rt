@@ -202,8 +202,10 @@ pub fn from_items(
 ) -> Result<Meta, MetaFault>
     requires { IsFaultless sup.now }
     ensures found { IfOk result (λ meta. meta ≡ meta_of head items.now) }
-    ensures no_fault { OnOk result (meta_fault (fixed_clusters_of sup.now) (clusters_of sup.now) (meta_of head items.now) ≡ None) }
-    ensures fault { IfErr result (λ e. IsFaultOf e (meta_fault (fixed_clusters_of sup.now) (clusters_of sup.now) (meta_of head items.now))) }
+    ensures no_fault { OnOk result (meta_fault (fixed_clusters_of sup.now) (clusters_of sup.now)
+        (meta_of head items.now) ≡ None) }
+    ensures fault { IfErr result (λ e. IsFaultOf e (meta_fault (fixed_clusters_of sup.now) (clusters_of sup.now)
+        (meta_of head items.now))) }
 {
     let fixed = sup.fixed_clusters();
     let clusters = sup.clusters();

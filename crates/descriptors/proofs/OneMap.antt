@@ -16,7 +16,8 @@ next_slot (Some c) n = Some (c + n)
 abbrev pub Stops : Option ℕ → ℕ → List (Option ℕ) → Type 0
 Stops o n xs = (ys : List (Option ℕ)) → xs ≡ next_slot o n ∷ ys → ⊥
 
-empty_runs : (n m : ℕ) (xs ys : List (Option ℕ)) → Stops None n xs → Stops None m ys → replicate n None ++ xs ≡ replicate m None ++ ys → (n ≡ m) × (xs ≡ ys)
+empty_runs : (n m : ℕ) (xs ys : List (Option ℕ)) → Stops None n xs → Stops None m ys
+    → replicate n None ++ xs ≡ replicate m None ++ ys → (n ≡ m) × (xs ≡ ys)
 empty_runs zero zero xs ys s t e = (refl, e)
 empty_runs zero (suc m) xs ys s t e = absurd (s (replicate m None ++ ys) e)
 empty_runs (suc n) zero xs ys s t e = absurd (t (replicate n None ++ xs) (sym e))
@@ -25,25 +26,31 @@ empty_runs (suc n) (suc m) xs ys s t e =
     let same : (n ≡ m) × (xs ≡ ys) = empty_runs n m xs ys s t rest in
     (ap suc same.0, same.1)
 
-filled_runs : (c n m : ℕ) (xs ys : List (Option ℕ)) → Stops (Some c) n xs → Stops (Some c) m ys → filled_slots c n ++ xs ≡ filled_slots c m ++ ys → (n ≡ m) × (xs ≡ ys)
+filled_runs : (c n m : ℕ) (xs ys : List (Option ℕ)) → Stops (Some c) n xs → Stops (Some c) m ys
+    → filled_slots c n ++ xs ≡ filled_slots c m ++ ys → (n ≡ m) × (xs ≡ ys)
 filled_runs c zero zero xs ys s t e = (refl, e)
 filled_runs c zero (suc m) xs ys s t e =
-    absurd (s (filled_slots (c + 1) m ++ ys) (e ∙ ap (λ (k : ℕ). Some k ∷ (filled_slots (c + 1) m ++ ys)) (sym (add-zero c))))
+    absurd (s (filled_slots (c + 1) m ++ ys) (e ∙ ap (λ (k : ℕ). Some k ∷ (filled_slots (c + 1) m ++ ys))
+    (sym (add-zero c))))
 filled_runs c (suc n) zero xs ys s t e =
-    absurd (t (filled_slots (c + 1) n ++ xs) (sym e ∙ ap (λ (k : ℕ). Some k ∷ (filled_slots (c + 1) n ++ xs)) (sym (add-zero c))))
+    absurd (t (filled_slots (c + 1) n ++ xs) (sym e ∙ ap (λ (k : ℕ). Some k ∷ (filled_slots (c + 1) n ++ xs))
+    (sym (add-zero c))))
 filled_runs c (suc n) (suc m) xs ys s t e =
     let rest : filled_slots (c + 1) n ++ xs ≡ filled_slots (c + 1) m ++ ys = cc in
     let at : (k : ℕ) → c + 1 + k ≡ c + suc k = λ k. omega arith in
     let same : (n ≡ m) × (xs ≡ ys) =
-    filled_runs (c + 1) n m xs ys (λ zs h. s zs (h ∙ ap (λ (k : ℕ). Some k ∷ zs) (at n))) (λ zs h. t zs (h ∙ ap (λ (k : ℕ). Some k ∷ zs) (at m))) rest in
+    filled_runs (c + 1) n m xs ys (λ zs h. s zs (h ∙ ap (λ (k : ℕ). Some k ∷ zs) (at n)))
+    (λ zs h. t zs (h ∙ ap (λ (k : ℕ). Some k ∷ zs) (at m))) rest in
     (ap suc same.0, same.1)
 
-same_runs : (o : Option ℕ) (n m : ℕ) (xs ys : List (Option ℕ)) → Stops o n xs → Stops o m ys → run_slots o n ++ xs ≡ run_slots o m ++ ys → (n ≡ m) × (xs ≡ ys)
+same_runs : (o : Option ℕ) (n m : ℕ) (xs ys : List (Option ℕ)) → Stops o n xs → Stops o m ys
+    → run_slots o n ++ xs ≡ run_slots o m ++ ys → (n ≡ m) × (xs ≡ ys)
 same_runs None n m xs ys s t e = empty_runs n m xs ys s t e
 same_runs (Some c) n m xs ys s t e = filled_runs c n m xs ys s t e
 
 -- a run that isn't empty begins with its cluster
-run_head : (o : Option ℕ) (n : ℕ) (rest : List (Option ℕ)) → 0 < n → (t : List (Option ℕ)) × (run_slots o n ++ rest ≡ o ∷ t)
+run_head : (o : Option ℕ) (n : ℕ) (rest : List (Option ℕ)) → 0 < n
+    → (t : List (Option ℕ)) × (run_slots o n ++ rest ≡ o ∷ t)
 run_head o zero rest h = absurd (omega arith)
 run_head None (suc n) rest h = (replicate n None ++ rest, refl)
 run_head (Some c) (suc n) rest h = (filled_slots (c + 1) n ++ rest, refl)
@@ -52,7 +59,8 @@ no_cluster : (c : ℕ) → cluster_of c ≡ None → c ≡ 0
 no_cluster c e =
     elim (cases_eq c 0) [
       | inl z ↦ z
-      | inr ne ↦ let some : cluster_of c ≡ Some c = some_cluster c ne in absurd (let h : None ≡ Some c = sym e ∙ some in cc)
+      | inr ne ↦ let some : cluster_of c ≡ Some c = some_cluster c ne in
+          absurd (let h : None ≡ Some c = sym e ∙ some in cc)
     ]
 
 the_cluster : (c d : ℕ) → cluster_of c ≡ Some d → c ≡ d
@@ -80,7 +88,8 @@ not_next r c stops e =
           both_ways (goes_on r c) stops (rw (run, slot) refl)
       | inr ne ↦
           let some : cluster_of r.cluster ≡ Some r.cluster = some_cluster r.cluster ne in
-          let next : c ≡ r.cluster + r.length = the_cluster c (r.cluster + r.length) (e ∙ ap (λ (o : Option ℕ). next_slot o r.length) some) in
+          let next : c ≡ r.cluster + r.length = the_cluster c (r.cluster + r.length)
+          (e ∙ ap (λ (o : Option ℕ). next_slot o r.length) some) in
           let run : eqb r.cluster 0 ≡ false = ne_eqb _ _ ne in
           let slot : eqb c (r.cluster + r.length) ≡ true = eq-eqb _ _ next in
           both_ways (goes_on r c) stops (rw (run, slot) refl)
@@ -94,7 +103,8 @@ rest_longest : (r : SlotRun) (rs : List SlotRun) → IsLongest (r ∷ rs) → Is
 rest_longest r [] h = tt
 rest_longest r (s ∷ rs) h = h.2
 
-stops_after : (r : SlotRun) (rs : List SlotRun) → IsLongest (r ∷ rs) → Stops (cluster_of r.cluster) r.length (slots_in rs)
+stops_after : (r : SlotRun) (rs : List SlotRun) → IsLongest (r ∷ rs)
+    → Stops (cluster_of r.cluster) r.length (slots_in rs)
 stops_after r [] h ys e = cc
 stops_after r (s ∷ rs) h ys e =
     let head = run_head (cluster_of s.cluster) s.length (slots_in rs) (first_some s rs h.2) in
@@ -106,6 +116,7 @@ same_run r q e f =
     let run : ℕ → ℕ → SlotRun = λ c n. record { cluster = c; length = n } in
     ap (λ (c : ℕ). run c r.length) e ∙ ap (run q.cluster) f
 
+-- lists of longest runs that spell one map are one list
 pub longest_runs_are_one : (rs qs : List SlotRun) → IsLongest rs → IsLongest qs → slots_in rs ≡ slots_in qs → rs ≡ qs
 longest_runs_are_one [] [] h k e = refl
 longest_runs_are_one [] (q ∷ qs) h k e =

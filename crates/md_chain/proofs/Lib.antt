@@ -1,6 +1,5 @@
 pub mod OneChain
 pub mod Links
-pub mod Written
 pub mod Walking
 pub mod Walks
 pub mod Pieces

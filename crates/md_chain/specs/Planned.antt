@@ -12,7 +12,13 @@ use Rattle.md_chain.specs.declared.plan.PlannedPage.{PlannedPage}
 
 -- The nth page of the chain of a head, with these items in its body, zeros behind them, and this next place.
 unfoldable pub page_written : ℕ → ℕ → List Item → ℕ → List ℕ
-page_written head n part next = page_bytes (record { id = blob_id head; sequence = n; body = spelling part ++ replicate (4072 - spelled_size part) 0; next = next })
+page_written head n part next = page_bytes (record {
+  id = blob_id head;
+  sequence = n;
+  body =
+      spelling part ++ replicate (4072 - spelled_size part) 0;
+  next = next;
+})
 
 -- the place that comes next, or the end of the chain
 abbrev pub next_in : List ℕ → ℕ
@@ -22,7 +28,8 @@ next_in (place ∷ _) = place
 -- the pages from the nth on, which is at this place: one for each part, at the places in their order
 abbrev pub pages_from : ℕ → ℕ → ℕ → List ℕ → List (List Item) → List PlannedPage
 pages_from head n place fresh [] = []
-pages_from head n place fresh (part ∷ parts) = record { place = place; page = page_written head n part (next_in fresh) } ∷ pages_from head (suc n) (next_in fresh) (drop 1 fresh) parts
+pages_from head n place fresh (part ∷ parts) = record { place = place; page = page_written head n part (next_in fresh) }
+    ∷ pages_from head (suc n) (next_in fresh) (drop 1 fresh) parts
 
 -- the pages of the items, the first at the head and the others at the fresh places
 abbrev pub chain_pages : List Item → ℕ → List ℕ → List PlannedPage

@@ -4,4 +4,5 @@ use Rattle.blob_meta.proofs.Finite.{get_found}
 use Rattle.blob_meta.proofs.head_map.HeadMap.get.Goals as goal
 
 pub returns : goal.returns
-returns g c = c.get.ensures.value ∙ sym (get_found c.self.inside.entries.entries c.args.head) ∙ ap (λ m. map.get m c.args.head) c.self.view_is
+returns g c = c.get.ensures.value ∙ sym (get_found c.self.inside.entries.entries c.args.head)
+    ∙ ap (λ m. map.get m c.args.head) c.self.view_is

@@ -10,4 +10,5 @@ returns-in-Ok-clause-ok g c =
 
 pub returns-clause-absent : goal.returns-clause-absent
 returns-clause-absent g c =
-    ap (λ m. map.get m c.args.head) (sym c.self.view_is) ∙ get_found c.self.inside.entries.entries c.args.head ∙ c.in-Err.ensures.absent
+    ap (λ m. map.get m c.args.head) (sym c.self.view_is) ∙ get_found c.self.inside.entries.entries c.args.head
+    ∙ c.in-Err.ensures.absent

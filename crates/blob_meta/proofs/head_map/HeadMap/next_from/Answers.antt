@@ -28,7 +28,9 @@ returns-in-Some-clause-some g c =
     record {
       there = rw (at next, first.1) refl;
       above = le_from_not_gt c.args.head next first.0.0;
-      none_between = λ h le lt. at h ∙ none_of _ (λ some. let least = rw c.in-Some.ensures.steps at (range.2 h (not_gt c.args.head h le, tt) some) in let low : next ≤ h = le_from_not_gt next h least in absurd (omega arith));
+      none_between = λ h le lt. at h ∙ none_of _ (λ some. let least =
+          rw c.in-Some.ensures.steps at (range.2 h (not_gt c.args.head h le, tt) some) in let low : next ≤ h =
+          le_from_not_gt next h least in absurd (omega arith));
     }
 
 pub returns-in-None-clause-none : goal.returns-in-None-clause-none
