@@ -86,6 +86,7 @@ pub trait PageDisk {
             × (IsTrue tells → (now self.new ≡ now self.old) × Alike (images self.new) (images self.old) × ((t : ℕ) → Alike (since self.new t) (since self.old t))) }
         ensures pages { pages self.new ≡ pages self.old }
         ensures faults { HasCause (write_faults self.old) (write_faults self.new) result }
+        ensures no_fault { OnOk result (write_faults self.new ≡ write_faults self.old) }
         ensures read_faults { read_faults self.new ≡ read_faults self.old }
         ensures reads { reads self.new ≡ reads self.old };
 
@@ -102,6 +103,7 @@ pub trait PageDisk {
             × (IsTrue tells → (now self.new ≡ now self.old) × Alike (images self.new) (images self.old) × ((t : ℕ) → Alike (since self.new t) (since self.old t))) }
         ensures pages { pages self.new ≡ pages self.old }
         ensures faults { HasCause (write_faults self.old) (write_faults self.new) result }
+        ensures no_fault { OnOk result (write_faults self.new ≡ write_faults self.old) }
         ensures read_faults { read_faults self.new ≡ read_faults self.old }
         ensures reads { reads self.new ≡ reads self.old };
 

@@ -18,6 +18,7 @@ pub fn write_page<D: PageDisk>(disk: &mut D, place: u64, page: &Page) -> Result<
     ensures rises { OnOk result (D.clock disk.old + 1 ≤ D.clock disk.new) }
     ensures pages { D.pages disk.new ≡ D.pages disk.old }
     ensures faults { HasCause (D.write_faults disk.old) (D.write_faults disk.new) result }
+    ensures no_fault { OnOk result (D.write_faults disk.new ≡ D.write_faults disk.old) }
     ensures read_faults { D.read_faults disk.new ≡ D.read_faults disk.old }
     ensures reads { D.reads disk.new ≡ D.reads disk.old }
 {
@@ -37,6 +38,7 @@ pub fn write_and_flush<D: PageDisk>(disk: &mut D, place: u64, page: &Page) -> Re
     ensures rises { OnOk result (D.clock disk.old + 2 ≤ D.clock disk.new) }
     ensures pages { D.pages disk.new ≡ D.pages disk.old }
     ensures faults { HasCause (D.write_faults disk.old) (D.write_faults disk.new) result }
+    ensures no_fault { OnOk result (D.write_faults disk.new ≡ D.write_faults disk.old) }
     ensures read_faults { D.read_faults disk.new ≡ D.read_faults disk.old }
     ensures reads { D.reads disk.new ≡ D.reads disk.old }
 {
