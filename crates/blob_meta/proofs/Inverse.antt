@@ -91,8 +91,7 @@ say_of head m runs id clear names internal_names spelt =
     let rest : List Item = internal_items m.internal ++ run_items runs in
     let written : Flags = record {
       invalid = without_bit_1 m.flags.invalid + internal_bit m.internal;
-      data_ro =
-          m.flags.data_ro;
+      data_ro = m.flags.data_ro;
       md_ro = m.flags.md_ro;
     } in
     let last : last_flags written (xattr_items m.xattrs ++ rest) ≡ written =

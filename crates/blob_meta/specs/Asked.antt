@@ -25,6 +25,7 @@ head_in (c.Put (Head h) key value) = Some h
 head_in (c.Sync (Head h)) = Some h
 head_in _ = None
 
+-- an attribute command that names its volume by its head
 abbrev pub IsOnHead : Command → Type 0
 IsOnHead command = IsSome (head_in command)
 

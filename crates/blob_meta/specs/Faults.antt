@@ -29,9 +29,11 @@ too_large map = if nat_le (length map) (2 ^ 20) then None else Some
 abbrev pub is_outside : ℕ → ℕ → ℕ → Bool
 is_outside fixed clusters cluster = nat_lt cluster fixed || nat_le clusters cluster
 
+-- the clusters that slots hold
 abbrev pub clusters_of : List (Option ℕ) → List ℕ
 clusters_of map = filter_map (λ slot. slot) map
 
+-- the first cluster that a blob may not have
 abbrev pub cluster_outside : ℕ → ℕ → List (Option ℕ) → Option MetaFault
 cluster_outside fixed clusters map = option_map faults.ClusterOutside
     (find (is_outside fixed clusters) (clusters_of map))
@@ -40,6 +42,7 @@ cluster_outside fixed clusters map = option_map faults.ClusterOutside
 abbrev pub is_thin : Flags → Bool
 is_thin f = f.invalid % 2 == 1
 
+-- the first empty slot of a thick blob
 abbrev pub hole_in_thick : Flags → List (Option ℕ) → Option MetaFault
 hole_in_thick f map = if is_thin f then None else option_map faults.HoleInThick (position is_none map)
 
@@ -47,9 +50,11 @@ hole_in_thick f map = if is_thin f then None else option_map faults.HoleInThick 
 abbrev pub is_mark : List ℕ → Bool
 is_mark key = bytes_eq key (codes "SNAP") || bytes_eq key (codes "SNAPTMP") || bytes_eq key (codes "SNAPRM")
 
+-- a mark whose value isn't 8 bytes long
 abbrev pub is_bad_mark : Xattr → Bool
 is_bad_mark x = is_mark x.key && not (length x.value == 8)
 
+-- the first such mark
 abbrev pub bad_mark : List Xattr → Option MetaFault
 bad_mark internal = option_map (λ x. faults.BadMark x.key (at_most (2 ^ 32 - 1) (length x.value)))
     (find is_bad_mark internal)

@@ -9,6 +9,5 @@ job_of_one head new = record {
   list = record { head = head; new = Some new } ∷ [];
   commit = 1;
   zero = [];
-  freeze =
-      None;
+  freeze = None;
 }

@@ -17,14 +17,14 @@ mark_of m = option_map_or (λ bytes. Some bytes) (value_of m.internal (codes "SN
 abbrev pub without_marks : Meta → Meta
 without_marks m = record m {
   internal = without (without m.internal (codes "SNAPRM")) (codes "SNAPTMP");
-  flags =
-      record m.flags { data_ro = m.flags.data_ro / 2 * 2 + 1 };
+  flags = record m.flags { data_ro = m.flags.data_ro / 2 * 2 + 1 };
 }
 
 -- A marked blob is kept exactly where the blob that its mark names is there, and has it for its parent.
 abbrev pub is_kept : (ℕ → Option Meta) → ℕ → List ℕ → Bool
 is_kept metas head mark = option_map_or (λ m. is_head head (parent_of m)) (option_and_then metas (named_in mark)) false
 
+-- what becomes of one blob
 abbrev pub resolved_one : (ℕ → Option Meta) → ℕ → Meta → Option Meta
 resolved_one metas head m = option_map_or (λ mark. if is_kept metas head mark then Some (without_marks m) else None)
     (mark_of m) (Some m)

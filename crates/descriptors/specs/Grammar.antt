@@ -15,6 +15,7 @@ pub record Descriptor (bytes : List ℕ) (kind : ℕ) (body rest : List ℕ) : T
   pub body_is : body ≡ take (length body) (drop 5 bytes)
   pub rest_is : rest ≡ drop (5 + length body) bytes
 
+-- the bytes spell this list of items
 pub data Spells : List ℕ → List Item → Type 0 where
   -- fewer than five bytes are left
   short : (bytes : List ℕ) → length bytes < 5 → Spells bytes []

@@ -24,14 +24,17 @@ pair_in body =
     then Some (take (number_from 0 2 body) (drop 4 body), drop (4 + number_from 0 2 body) body)
     else None)
 
+-- an attribute of these two texts
 abbrev pub xattr_of : Option (List ℕ × List ℕ) → Option Item
 xattr_of None = None
 xattr_of (Some p) = Some (Xattr p.0 p.1)
 
+-- an internal attribute of these two texts
 abbrev pub internal_of : Option (List ℕ × List ℕ) → Option Item
 internal_of None = None
 internal_of (Some p) = Some (InternalXattr p.0 p.1)
 
+-- three words of flags in 24 bytes
 unfoldable pub flags : List ℕ → Option Item
 flags body = if length body == 24 then Some (Flags (number_from 0 8 body) (number_from 8 8 body)
     (number_from 16 8 body)) else None

@@ -34,30 +34,25 @@ same_cons (Rle runs) xs ys s = record {
   flags = s.flags;
   xattrs = s.xattrs;
   internal = s.internal;
-  runs =
-      ap (λ rs. runs ++ rs) s.runs;
+  runs = ap (λ rs. runs ++ rs) s.runs;
 }
 same_cons (Xattr key value) xs ys s = record {
   flags = s.flags;
-  xattrs =
-      ap (λ zs. record { key = key; value = value } ∷ zs) s.xattrs;
+  xattrs = ap (λ zs. record { key = key; value = value } ∷ zs) s.xattrs;
   internal = s.internal;
   runs = s.runs;
 }
 same_cons (InternalXattr key value) xs ys s = record {
   flags = s.flags;
   xattrs = s.xattrs;
-  internal =
-      ap (λ zs. record { key = key; value = value } ∷ zs) s.internal;
+  internal = ap (λ zs. record { key = key; value = value } ∷ zs) s.internal;
   runs = s.runs;
 }
 same_cons (Flags a b c) xs ys s = record {
-  flags =
-      λ before. s.flags (record { invalid = a; data_ro = b; md_ro = c });
+  flags = λ before. s.flags (record { invalid = a; data_ro = b; md_ro = c });
   xattrs = s.xattrs;
   internal = s.internal;
-  runs =
-      s.runs;
+  runs = s.runs;
 }
 same_cons (Unknown kind) xs ys s = record { flags = s.flags; xattrs = s.xattrs; internal = s.internal; runs = s.runs }
 
@@ -75,8 +70,7 @@ on_pages [] = record { flags = λ before. refl; xattrs = refl; internal = refl; 
 on_pages (p ∷ ps) = let s = on_pages ps in record {
   flags = s.flags;
   xattrs = s.xattrs;
-  internal =
-      s.internal;
+  internal = s.internal;
   runs_are = ap (λ rs. p ++ rs) s.runs_are;
 }
 
@@ -95,8 +89,7 @@ say_runs xs runs rs s e = record {
   flags = s.flags;
   xattrs = s.xattrs;
   internal = s.internal;
-  runs =
-      s.runs_are ∙ e ∙ sym (append-nil runs);
+  runs = s.runs_are ∙ e ∙ sym (append-nil runs);
 }
 
 runs_say : (room : ℕ) (runs : List SlotRun) → SaySame (together (run_parts room runs)) (Rle runs ∷ [])

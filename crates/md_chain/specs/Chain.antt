@@ -21,6 +21,7 @@ chain_end = 0xFFFFFFFF
 abbrev pub blob_id : ℕ → ℕ
 blob_id head = 2 ^ 32 + head
 
+-- the place is one of these
 abbrev pub is_among : ℕ → List ℕ → Bool
 is_among place places = list_any (λ p. p == place) places
 

@@ -33,6 +33,7 @@ AreFew items = length items + length (flat_map runs_in items) < 2 ^ 31
 
 -- ---- the pages
 
+-- one run more on the first of these pages
 abbrev pub with_run : SlotRun → List (List SlotRun) → List (List SlotRun)
 with_run run [] = (run ∷ []) ∷ []
 with_run run (piece ∷ pieces) = (run ∷ piece) ∷ pieces
@@ -43,6 +44,7 @@ pieces left [] = [] ∷ []
 pieces zero (run ∷ runs) = [] ∷ with_run run (pieces 507 runs)
 pieces (suc left) (run ∷ runs) = with_run run (pieces left runs)
 
+-- the item of a page's runs, if it has any
 abbrev pub on_page : List SlotRun → List Item
 on_page piece = item.Rle piece ∷ []
 

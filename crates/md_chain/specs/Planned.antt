@@ -15,8 +15,7 @@ unfoldable pub page_written : ℕ → ℕ → List Item → ℕ → List ℕ
 page_written head n part next = page_bytes (record {
   id = blob_id head;
   sequence = n;
-  body =
-      spelling part ++ replicate (4072 - spelled_size part) 0;
+  body = spelling part ++ replicate (4072 - spelled_size part) 0;
   next = next;
 })
 

@@ -2,18 +2,17 @@
 
 ghost use Rattle.std.specs.Prelude.{◌≡◌, IfOk};
 ghost use Rattle.descriptors.specs.declared.item.Item.TheVariants.{Xattr};
-ghost use Rattle.super_block.specs.Faults.{IsFaultless};
 ghost use Rattle.md_chain.specs.Packing.{ArePlannable, AreFew};
 
+use crate::fixtures::small;
 use crc32c::page_ok;
 use descriptors::{Item, ItemList};
-use md_chain::{ChainFault, Memory, chain_len, plan_chain, read_chain};
+use md_chain::{ChainFault, Memory, Plan, chain_len, plan_chain, read_chain};
 use md_page::MdPage;
 use page_disk::{CallKind, Fail, FaultDisk, MemDisk, Page, PageDisk, WriteKind};
 use std::alloc::Global;
 use std::process::Abort;
 use std::test::Fail as TestFail;
-use super_block::{Layout, Super};
 use volume_model::{Blobtext, PlaceList, RunList, SlotRun};
 
 /// The number that stands for no next page.
@@ -55,6 +54,18 @@ fn volume(alloc: Global) -> Result<ItemList, Memory>
     Ok(items)
 }
 
+/// The pages of these items, which are three: a head at 5, and then 2 and 9.
+fn planned(rt: &impl Abort, alloc: Global, items: &ItemList) -> Result<Plan, TestFail>
+    requires plannable { ArePlannable items.now }
+    requires few { AreFew items.now }
+{
+    let mut fresh = PlaceList::new(alloc);
+    fresh.push(2)?;
+    fresh.push(9)?;
+    assert_eq!(rt; chain_len(items), 3);
+    Ok(plan_chain(alloc, items, 5, &fresh)?)
+}
+
 /// A page that begins with these bytes, has this byte in the rest of its body, and then this next place.
 fn page_with(front: &[u8], rest: u8, next: [u8; 4]) -> Page {
     let mut page = [rest; 4096];
@@ -75,11 +86,7 @@ fn a_volume_with_a_full_attribute_and_a_map_takes_three_pages(
     rt: HostRuntime,
 ) -> Result<(), TestFail> {
     let items = volume(rt.alloc())?;
-    let mut fresh = PlaceList::new(rt.alloc());
-    fresh.push(2)?;
-    fresh.push(9)?;
-    assert_eq!(rt; chain_len(&items), 3);
-    let plan = plan_chain(rt.alloc(), &items, 5, &fresh)?;
+    let plan = planned(&rt, rt.alloc(), &items)?;
     let first = page_with(
         b"\x05\0\0\0\x01\0\0\0\0\0\0\0\0\0\0\0\
         \x03\x18\0\0\0\x01\0\0\0\0\0\0\0\0\0\0\0\0\0\0\0\0\0\0\0\0\0\0\0\
@@ -108,13 +115,6 @@ fn a_volume_with_a_full_attribute_and_a_map_takes_three_pages(
     Ok(())
 }
 
-/// The super block of a store of 64 pages, with 16 metadata pages from page 4 on.
-fn small() -> Result<Super, TestFail>
-    ensures { IfOk result IsFaultless }
-{
-    Ok(Layout::plan(64, 4, Some(16))?.new_super(u64::MAX, [0; 16]))
-}
-
 /// Writes a page at a place of the metadata region.
 fn put<D: PageDisk>(
     rt: &impl Abort,
@@ -131,16 +131,12 @@ fn put<D: PageDisk>(
 #[test]
 fn a_written_plan_is_read_again(rt: HostRuntime) -> Result<(), TestFail> {
     let items = volume(rt.alloc())?;
-    let mut fresh = PlaceList::new(rt.alloc());
-    fresh.push(2)?;
-    fresh.push(9)?;
-    assert_eq!(rt; chain_len(&items), 3);
-    let plan = plan_chain(rt.alloc(), &items, 5, &fresh)?;
+    let plan = planned(&rt, rt.alloc(), &items)?;
     let mut disk = MemDisk::new(rt.alloc(), 64, 8)?;
     for planned in plan.as_slice() {
         put(&rt, &mut disk, planned.place, &planned.page)?;
     }
-    let sup = small()?;
+    let sup = small(u64::MAX)?;
     assert!(rt; sup.device_pages == disk.pages());
     let chain = read_chain(rt.alloc(), &mut disk, &sup, 5)?;
     assert!(rt; chain.pages.as_slice() == [5, 2, 9].as_slice());
@@ -214,7 +210,7 @@ fn fault(
     for row in rows {
         put(rt, &mut disk, row.place, &page_of(row))?;
     }
-    let sup = small()?;
+    let sup = small(u64::MAX)?;
     assert!(rt; sup.device_pages == disk.pages());
     Ok(read_chain(alloc, &mut disk, &sup, head).err())
 }

@@ -6,6 +6,8 @@ mod bodies;
 #[cfg(test)]
 mod chains;
 #[cfg(test)]
+mod fixtures;
+#[cfg(test)]
 mod metadata;
 #[cfg(test)]
 mod refusals;

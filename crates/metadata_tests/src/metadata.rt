@@ -1,23 +1,13 @@
 //! Each fault of metadata, and each public call once.
 
-ghost use Rattle.std.specs.Prelude.{IfOk};
-ghost use Rattle.super_block.specs.Faults.{IsFaultless};
-
+use crate::fixtures::small;
 use blob_meta::{Flags, HeadMap, Job, Meta, Metas, find, from_items, to_items};
 use descriptors::{Item, ItemList, SlotMap};
 use std::alloc::Global;
 use std::test::Fail;
-use super_block::{Layout, Super, SuperFault};
 use volume_model::{
     Blobtext, Memory, Name, RunList, SlotRun, TryCopy, VolumeRef, Xattr, XattrList,
 };
-
-/// A store of 64 pages with clusters of 4 pages and 16 metadata pages: its clusters 0 to 4 are fixed, and 15 is the last.
-fn small(super_blob: u64) -> Result<Super, SuperFault>
-    ensures { IfOk result IsFaultless }
-{
-    Ok(Layout::plan(64, 4, Some(16))?.new_super(super_blob, [0; 16]))
-}
 
 /// What one item of a case says.
 enum Says {

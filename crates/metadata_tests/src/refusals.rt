@@ -2,13 +2,13 @@
 
 ghost use Rattle.std.specs.Prelude.{◌≡◌, Some, IfOk};
 ghost use Rattle.blob_meta.specs.Asked.{head_in};
-ghost use Rattle.super_block.specs.Faults.{IsFaultless};
 
+use crate::fixtures::small;
 use blob_meta::{Flags, Meta, Metas, refusal_of};
 use descriptors::SlotMap;
 use std::alloc::Global;
 use std::test::Fail;
-use super_block::{Layout, Super};
+use super_block::Super;
 use volume_model::{Blobtext, Command, Memory, Reply, VolumeRef, XattrList};
 
 /// What is asked, with the length of the value.
@@ -86,7 +86,7 @@ fn the_first_cause_is_answered(rt: HostRuntime) -> Result<(), Fail> {
     metas.insert(2, blob(alloc, 2, 0))?;
     metas.insert(5, blob(alloc, 5, 0))?;
     metas.insert(6, blob(alloc, 6, 1))?;
-    let sup = Layout::plan(64, 4, Some(16))?.new_super((1 << 32) + 2, [0; 16]);
+    let sup = small((1 << 32) + 2)?;
     let cases: &[(Verb, u32, &[u8], &str)] = &[
         (Verb::Set(3), 9, b"name", "Some(NoVolume)"),
         (Verb::Set(3), 2, b"owner", "Some(Reserved)"),

@@ -1,8 +1,9 @@
 //! Maps of slots and their runs.
 
+use crate::fixtures::{THREE_RUNS, list_of};
 use descriptors::{MapFault, SlotMap, runs_of, slots_of};
 use std::test::Fail;
-use volume_model::{RunList, SlotRun, TryCopy};
+use volume_model::{SlotRun, TryCopy};
 
 #[test]
 fn a_map_and_its_runs(rt: HostRuntime) -> Result<(), Fail> {
@@ -16,21 +17,7 @@ fn a_map_and_its_runs(rt: HostRuntime) -> Result<(), Fail> {
         (6, Some(7), None, Some(9))
     );
     let runs = runs_of(rt.alloc(), &map)?;
-    let three = [
-        SlotRun {
-            cluster: 5,
-            length: 3,
-        },
-        SlotRun {
-            cluster: 0,
-            length: 2,
-        },
-        SlotRun {
-            cluster: 9,
-            length: 1,
-        },
-    ];
-    assert_eq!(rt; runs.as_slice(), three.as_slice());
+    assert_eq!(rt; runs.as_slice(), THREE_RUNS.as_slice());
     let mut copy = map.try_copy(rt.alloc())?;
     copy.cut(4);
     let runs = runs_of(rt.alloc(), &copy)?;
@@ -40,28 +27,20 @@ fn a_map_and_its_runs(rt: HostRuntime) -> Result<(), Fail> {
 
 #[test]
 fn runs_and_their_map(rt: HostRuntime) -> Result<(), Fail> {
-    let mut runs = RunList::new(rt.alloc());
-    runs.push(SlotRun {
-        cluster: 5,
-        length: 3,
-    })?;
-    runs.push(SlotRun {
-        cluster: 0,
-        length: 1,
-    })?;
+    let mut runs = list_of(rt.alloc(), &THREE_RUNS[..2])?;
     let map = slots_of(rt.alloc(), &runs)
         .ok()
-        .ok_or("a map of four slots")?;
+        .ok_or("a map of five slots")?;
     assert_eq!(rt;
         map.as_slice(),
-        [Some(5), Some(6), Some(7), None].as_slice()
+        [Some(5), Some(6), Some(7), None, None].as_slice()
     );
     runs.push(SlotRun {
         cluster: 0,
         length: 1 << 20,
     })?;
     match slots_of(rt.alloc(), &runs) {
-        Err(MapFault::TooLarge { slots }) => assert_eq!(rt; slots, 1048580),
+        Err(MapFault::TooLarge { slots }) => assert_eq!(rt; slots, 1048581),
         _ => assert!(rt; false, "too many slots"),
     }
     Ok(())

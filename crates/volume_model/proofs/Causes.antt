@@ -2,7 +2,7 @@
 use Rattle.std.proofs.Common.{◌≡◌, ◌^◌, List, length, refl}
 use Rattle.volume_model.specs.Xattrs.{Text}
 use Rattle.volume_model.specs.Volumes.{Page}
-use Rattle.volume_model.specs.Examples.{Refusals}
+use Rattle.volume_model.specs.RefusalExamples.{Refusals}
 
 -- the law of `refusals_stand_in_order`
 pub refusals : (a b d e : Page) (long : Text) (many : List Page) → length long ≡ 4063 → length many ≡ 2 ^ 25

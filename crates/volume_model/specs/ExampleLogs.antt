@@ -13,9 +13,11 @@ use Rattle.volume_model.specs.declared.reply.Reply.{Reply}
 use Rattle.volume_model.specs.declared.reply.Reply.TheVariants as r
 use Rattle.volume_model.specs.declared.reply.Entry.{Entry}
 
+-- no volume at all
 abbrev pub nothing : Volumes
 nothing h = None
 
+-- an entry whose channel and number don't matter
 abbrev pub entry : Command → Reply → Entry
 entry command reply = record { channel = 0; index = 0; command = command; reply = reply }
 
@@ -72,6 +74,7 @@ module _ (a b d e : Page) where
       ∷ entry (c.Write (Named (codes "v")) 0 (Fill 8)) r.Fault
       ∷ []
 
+  -- what survives of a log with attributes that aren't synced and pages that aren't settled
   pub record Surviving : Type 0 where
     pub live : option_map (λ (x : Volume). x.live) (replay small (first a b d e) pending 1)
         ≡ Some (named (codes "v") (codes "3"))

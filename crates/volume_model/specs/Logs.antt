@@ -21,6 +21,7 @@ module _ (f : Fixed) where
   IsLegal v [] = Unit {0}
   IsLegal v (e ∷ es) = Allowed f v e.command e.reply × IsLegal (change f v e.command e.reply) es
 
+  -- the log is legal, and these are the volumes after it
   pub record Replay (first : Volumes) (log : List Entry) (last : Volumes) : Type 0 where
     pub legal : IsLegal first log
     pub after : (h : ℕ) → last h ≡ replay first log h
@@ -53,6 +54,7 @@ module _ (f : Fixed) where
   writes v (c.Write volume page word) reply h p = is_write_done reply && is_head h (head_of f v volume) && (page == p)
   writes v _ reply h p = false
 
+  -- pages that were unsettled before the log, or become so by it
   abbrev pub unsettled_from : (ℕ → ℕ → Bool) → Volumes → List Entry → ℕ → ℕ → Bool
   unsettled_from before v [] = before
   unsettled_from before v (e ∷ es) =
@@ -63,6 +65,7 @@ module _ (f : Fixed) where
   abbrev pub is_unsettled : Volumes → List Entry → ℕ → ℕ → Bool
   is_unsettled first log = unsettled_from (λ h p. false) first log
 
+  -- not written since the last flushing entry
   abbrev pub IsSettled : Volumes → List Entry → ℕ → ℕ → Type 0
   IsSettled first log h p = is_unsettled first log h p ≡ false
 

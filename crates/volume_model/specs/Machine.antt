@@ -10,12 +10,14 @@ use Rattle.volume_model.specs.declared.command.Command.TheVariants as c
 use Rattle.volume_model.specs.declared.reply.Reply.{Reply}
 use Rattle.volume_model.specs.declared.reply.Reply.TheVariants as r
 
+-- what contracts see of the plain machine
 pub record Machine : Type 0 where
   -- what is fixed for a run
   pub fixed : Fixed
   -- what stands at each head, from 0 on; past the end nothing does
   pub rows : List (Option Volume)
 
+-- the machine's volumes by their heads
 abbrev pub volumes_in : Machine → Volumes
 volumes_in m h = option_and_then (λ x. x) (slice_get m.rows h)
 
@@ -89,6 +91,7 @@ pub record IsOpen (m : Machine) (volume : VolumeRef) (command : Command) (h : �
   pub meant : head_of m.fixed (volumes_in m) volume ≡ Some h
   pub there : IsSome (volumes_in m h)
 
+-- a test's answer: the head at which the command may be done, or the reply for which it isn't
 abbrev pub MayBeDone : Machine → VolumeRef → Command → Result ℕ Reply → Type 0
 MayBeDone m volume command (Ok h) = IsOpen m volume command h
 MayBeDone m volume command (Err reply) = Falls m command reply

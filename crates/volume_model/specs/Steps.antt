@@ -37,9 +37,11 @@ info_of f h x = record {
 }
 
 module _ (f : Fixed) (v : Volumes) where
+  -- the volume that a reference means
   abbrev pub volume_at : VolumeRef → Option Volume
   volume_at volume = option_and_then v (head_of f v volume)
 
+  -- what is told of the volume at a head
   abbrev pub info_at : ℕ → Option Info
   info_at h = option_map (info_of f h) (v h)
 
@@ -79,9 +81,11 @@ module _ (f : Fixed) (v : Volumes) where
   edited_at None change = v
   edited_at (Some h) change = λ k. if k == h then option_map change (v k) else v k
 
+  -- the same of the volume that a reference means
   abbrev pub edited : VolumeRef → (Volume → Volume) → Volumes
   edited volume change = edited_at (head_of f v volume) change
 
+  -- a volume as it is made, with the attributes `name` and `uuid` alone
   abbrev pub new_volume : Text → Option (List ℕ) → List Page → Bool → Bool → Option ℕ → Volume
   new_volume name uuid pages thin read_only parent = record {
     pages = pages;
@@ -102,8 +106,7 @@ module _ (f : Fixed) (v : Volumes) where
   deleted_at None = v
   deleted_at (Some h) = λ k.
       if k == h then None else option_map (λ (x : Volume). record x {
-        parent =
-            if is_head h x.parent then option_and_then (λ y. y.parent) (v h) else x.parent;
+        parent = if is_head h x.parent then option_and_then (λ y. y.parent) (v h) else x.parent;
       }) (v k)
 
   -- the volumes after a reply: those of a verb that is done, else as they were
@@ -129,16 +132,14 @@ module _ (f : Fixed) (v : Volumes) where
   change (c.Inflate volume) r.Ok = edited volume (λ x. record x { thin = false; parent = None })
   -- the parent's parent in place of the parent
   change (c.Decouple volume) r.Ok = edited volume (λ x. record x {
-    parent =
-        option_and_then (λ y. y.parent) (option_and_then v x.parent);
+    parent = option_and_then (λ y. y.parent) (option_and_then v x.parent);
   })
   change (c.Delete volume) r.Ok = deleted_at (head_of f v volume)
   -- the one attribute, live and synced; what else is pending stays so
   change (c.Rename volume name) r.Ok = edited volume
       (λ x. record x {
         live = with_value x.live name_key (with_nul name);
-        synced =
-            with_value x.synced name_key (with_nul name);
+        synced = with_value x.synced name_key (with_nul name);
       })
   change (c.ReadOnly volume) r.Ok = edited volume (λ x. record x { synced = x.live; read_only = true })
   change _ _ = v
@@ -214,6 +215,7 @@ module _ (f : Fixed) (v : Volumes) where
   MayFail c.Flush = Unit {0}
   MayFail command = MayLackPages command
 
+  -- verbs that may want memory
   abbrev pub MayLackMemory : Command → Type 0
   MayLackMemory (c.Read volume page) = ⊥
   MayLackMemory c.Flush = ⊥
@@ -245,6 +247,7 @@ module _ (f : Fixed) (v : Volumes) where
   Allowed command r.Memory = MayLackMemory command
   Allowed command reply = refusal f v command ≡ Some reply
 
+  -- the reply may come, and these are the volumes after it
   pub record Step (command : Command) (reply : Reply) (w : Volumes) : Type 0 where
     pub allowed : Allowed command reply
     pub after : (h : ℕ) → w h ≡ change command reply h
