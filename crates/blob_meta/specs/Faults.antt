@@ -69,6 +69,6 @@ meta_fault fixed clusters m = first_some (unknown_flag m.flags ∷ map_fault fix
     ∷ hole_in_thick m.flags m.map ∷ bad_mark m.internal ∷ [])
 
 -- a fault that is answered is the first one; want of memory may come anywhere
-abbrev pub IsFaultOf : MetaFault → Option MetaFault → Type 0
-IsFaultOf faults.Memory first = Unit {0}
-IsFaultOf fault first = first ≡ Some fault
+abbrev pub IsMetaFaultOf : MetaFault → Option MetaFault → Type 0
+IsMetaFaultOf faults.Memory first = Unit {0}
+IsMetaFaultOf fault first = first ≡ Some fault

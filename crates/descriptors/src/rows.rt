@@ -2,7 +2,7 @@
 
 ghost use Rattle.std.specs.Prelude.{◌≡◌, ◌+◌, ◌*◌, ◌<◌, ◌≤◌, ◌^◌, length, option_map, IfOk};
 ghost use Rattle.descriptors.specs.Rows.{row, rle, pair_in, flags, spelled_runs};
-ghost use Rattle.descriptors.specs.Answers.{Gives, RunsGive};
+ghost use Rattle.descriptors.specs.UnlessMemory.{Gives, RunsGive};
 
 use crate::item::Item;
 use crate::numbers::{u16_at, u32_at, u64_at};

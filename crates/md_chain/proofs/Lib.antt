@@ -2,9 +2,9 @@ pub mod OneChain
 pub mod Links
 pub mod Walking
 pub mod Walks
-pub mod Pieces
+pub mod RunPieces
 pub mod Plannable
 pub mod Fitting
-pub mod Chained
+pub mod PlannedChain
 pub mod Saying
 pub mod OfMeta

@@ -7,7 +7,7 @@ use Rattle.volume_model.specs.declared.lists.SlotRun.{SlotRun}
 use Rattle.volume_model.specs.declared.text.Xattr.{Xattr as AnXattr}
 use Rattle.descriptors.specs.declared.item.Item.{Item}
 use Rattle.descriptors.specs.Runs.{slots_of_all, IsLongest}
-use Rattle.descriptors.proofs.Added.{length-slots}
+use Rattle.descriptors.proofs.LongestRuns.{length-slots}
 use Rattle.blob_meta.specs.declared.meta.Meta.{Meta}
 use Rattle.blob_meta.specs.Items.{IsItemsOf, xattr_items, internal_items, run_items, items_of}
 use Rattle.blob_meta.specs.Says.{runs_in}

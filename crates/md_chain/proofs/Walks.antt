@@ -11,7 +11,7 @@ use Rattle.md_page.specs.Page.{id_of, sequence_of, body_of, next_of}
 use Rattle.md_chain.specs.declared.fault.ChainFault.{ChainFault}
 use Rattle.md_chain.specs.declared.fault.ChainFault.TheVariants as faults
 use Rattle.md_chain.specs.Chain.{Look, link_fault, blob_id, chain_end, is_among, Chain, IsBroken, at_link}
-use Rattle.md_chain.specs.Fetching.{place_fault, page_fault, IsFetchFault, IsPageFault}
+use Rattle.md_chain.specs.Fetching.{place_fault, page_fault, IsFetchFault, IsNthPageFault}
 use Rattle.md_chain.specs.Reading.{OnlyRead, region_look, WasSeen, GaveChain, GaveFault, IsChainCause, IsPagesFault, RoseBy}
 use Rattle.md_chain.proofs.Walking.{Way, at_head, goes_on, ends, fails, spoils, known, place_fails, place_passes, new_place, unseen, unseen-none, unseen-new, among-more}
 
@@ -180,7 +180,7 @@ module _ {D : Type 0} (d : Ghosts D) where
         }
 
         -- its fault is the chain's
-        pub page_cause : (new : D) (f : ChainFault) → IsPageFault page head (length pages) place f
+        pub page_cause : (new : D) (f : ChainFault) → IsNthPageFault page head (length pages) place f
             → IsChainCause d s first new head f
         page_cause new (faults.LinkPastEnd p q) x = page_fails _ x
         page_cause new (faults.Loop p) x = page_fails _ x

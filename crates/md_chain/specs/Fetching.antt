@@ -30,8 +30,8 @@ IsFetchFault md_len seen before place old new why = (place_fault md_len seen bef
 
 -- Why a page isn't the nth of a blob: it fails a test, or its body has a bad descriptor. Want of memory may come
 -- anywhere.
-abbrev pub IsPageFault : List ℕ → ℕ → ℕ → ℕ → ChainFault → Type 0
-IsPageFault page head n place (faults.BadItem at_place at kind) =
+abbrev pub IsNthPageFault : List ℕ → ℕ → ℕ → ℕ → ChainFault → Type 0
+IsNthPageFault page head n place (faults.BadItem at_place at kind) =
     (at_place ≡ place) × (page_fault page head n place ≡ None) × Spoils (body_of page) at kind
-IsPageFault page head n place faults.Memory = Unit {0}
-IsPageFault page head n place why = page_fault page head n place ≡ Some why
+IsNthPageFault page head n place faults.Memory = Unit {0}
+IsNthPageFault page head n place why = page_fault page head n place ≡ Some why

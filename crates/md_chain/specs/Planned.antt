@@ -39,7 +39,7 @@ abbrev pub written_items : List Item → List Item
 written_items items = flat_map (λ part. part) (parts_of items)
 
 -- a page that is read as the nth of a head's chain, with these items and this next place
-pub record IsPlanned (head n : ℕ) (part : List Item) (next : ℕ) (page : List ℕ) : Type 0 where
+pub record IsNthPage (head n : ℕ) (part : List Item) (next : ℕ) (page : List ℕ) : Type 0 where
   pub sound : IsTrue (is_sound page)
   pub id : id_of page ≡ blob_id head
   pub sequence : sequence_of page ≡ n
@@ -47,6 +47,6 @@ pub record IsPlanned (head n : ℕ) (part : List Item) (next : ℕ) (page : List
   pub next_is : next_of page ≡ next
 
 -- The ith page of a plan stands at the ith of these places, and is read as the ith of the head's chain.
-pub record IsPageOf (head : ℕ) (places : List ℕ) (parts : List (List Item)) (i : ℕ) (p : PlannedPage) : Type 0 where
+pub record IsPageOfPlan (head : ℕ) (places : List ℕ) (parts : List (List Item)) (i : ℕ) (p : PlannedPage) : Type 0 where
   pub place : p.place ≡ slice_index_or places i chain_end
-  pub page : IsPlanned head i (slice_index_or parts i []) (slice_index_or places (i + 1) chain_end) p.page
+  pub page : IsNthPage head i (slice_index_or parts i []) (slice_index_or places (i + 1) chain_end) p.page

@@ -5,7 +5,7 @@ ghost use Rattle.std.specs.List.{All, IsDistinct};
 ghost use Rattle.descriptors.specs.Writing.{spelled_size, IsWritable};
 ghost use Rattle.md_chain.specs.Chain.{Look, Chain};
 ghost use Rattle.md_chain.specs.Packing.{ArePlannable, AreFew, parts_of as parts_said};
-ghost use Rattle.md_chain.specs.Planned.{page_written, next_in, chain_pages, written_items, IsPlanned, IsPageOf};
+ghost use Rattle.md_chain.specs.Planned.{page_written, next_in, chain_pages, written_items, IsNthPage, IsPageOfPlan};
 ghost use Rattle.md_chain.specs.declared.plan.PlannedPage.{PlannedPage as APlannedPage};
 
 use crate::chain::CHAIN_END;
@@ -23,7 +23,7 @@ fn page_of(head: u32, sequence: u32, items: &ItemList, next: u32) -> Page
     requires room { spelled_size items.now ≤ 4072 }
     requires writable { All IsWritable items.now }
     ensures bytes { result ≡ page_written head sequence items.now next }
-    ensures planned { IsPlanned head sequence items.now next result }
+    ensures planned { IsNthPage head sequence items.now next result }
 {
     let mut body = [0; 4072];
     write_items(items, &mut body);
@@ -70,7 +70,7 @@ pub fn plan_chain(
 
     // The ith page is sound, and is read as the ith of the chain, with its items and the place that follows.
     ensures pages { IfOk result (λ plan. (i : ℕ) (d : APlannedPage) → i < length plan
-        → IsPageOf head (head ∷ fresh.now) (parts_said items.now) i (slice_index_or plan i d)) }
+        → IsPageOfPlan head (head ∷ fresh.now) (parts_said items.now) i (slice_index_or plan i d)) }
 
     // At distinct places of the metadata region the pages are a chain of the head.
     ensures chain { IfOk result (λ plan. (look : Look) (md_len : ℕ) → md_len < 2 ^ 32

@@ -7,7 +7,7 @@ ghost use Rattle.md_page.specs.Page.{body_of, next_of};
 ghost use Rattle.page_disk.specs.Disk.{RoseByOne};
 ghost use Rattle.super_block.specs.Faults.{IsFaultless};
 ghost use Rattle.md_chain.specs.Chain.{Chain as IsChain, IsBroken};
-ghost use Rattle.md_chain.specs.Fetching.{place_fault, page_fault, IsFetchFault, IsPageFault};
+ghost use Rattle.md_chain.specs.Fetching.{place_fault, page_fault, IsFetchFault, IsNthPageFault};
 ghost use Rattle.md_chain.specs.Reading.{OnlyRead, GaveChain, IsChainCause, IsPagesFault, NoReadFailed, RoseBy, region_look};
 
 use crate::chain::{CHAIN_END, Chain};
@@ -75,7 +75,7 @@ fn link_of(
     ensures passes { OnOk result (page_fault page.now head sequence place ≡ None) }
     ensures items { IfOk result (λ link. Spells (body_of page.now) link.items) }
     ensures next { IfOk result (λ link. link.next ≡ next_of page.now) }
-    ensures fault { IfErr result (λ e. IsPageFault page.now head sequence place e) }
+    ensures fault { IfErr result (λ e. IsNthPageFault page.now head sequence place e) }
 {
     let Ok(md) = md_page::read(page) else {
         return Err(ChainFault::Unsound { page: place });

@@ -1,4 +1,5 @@
-//! Tests of `descriptors`, `blob_meta` and `md_chain` over their public calls: worked bytes, every fault, and each call once.
+//! Tests of `descriptors`, `blob_meta` and `md_chain` over their public calls: worked bytes, every fault, and each call
+//! once.
 #![tactic(auto)]
 
 #[cfg(test)]

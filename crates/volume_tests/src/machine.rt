@@ -1,9 +1,11 @@
-//! The machine's replies, each written out.
+//! The machine's replies, each written out, and copies of all commands and replies.
 
 use std::alloc::Global;
 use std::process::Abort;
 use std::test::Fail;
-use volume_model::{Blobtext, Command, Info, InfoList, Name, PageWord, Reply, VolumeRef, Volumes};
+use volume_model::{
+    Blobtext, Command, Entry, Info, InfoList, Name, PageWord, Reply, VolumeRef, Volumes,
+};
 
 /// A verb, its volume, a number, a text, and the reply that is wanted. The number is a page, a number of slots or the
 /// length of a value of so many letters `a`; the text is a name or a key.
@@ -120,12 +122,21 @@ fn shown(alloc: Global, reply: &Reply) -> Result<String, Fail> {
     })
 }
 
+/// Does the commands. Each entry finds memory for its copy, by which its reply is judged.
 fn play(rt: &impl Abort, alloc: Global, volumes: &mut Volumes, rows: &[Row]) -> Result<(), Fail> {
     for row in rows {
-        let reply = volumes.apply(alloc, &command(alloc, row)?);
-        let verb = row.0;
-        let volume = row.1;
-        assert_eq!(rt; shown(alloc, &reply)?.as_str(), row.4, "{verb} {volume}");
+        let command = command(alloc, row)?;
+        let reply = volumes.apply(alloc, &command);
+        let entry = Entry {
+            channel: 0,
+            index: 0,
+            command,
+            reply,
+        };
+        let copy = entry.try_copy(alloc)?;
+        let wanted = format!(in alloc; "{:?}", entry.command)?;
+        assert_eq!(rt; format!(in alloc; "{:?}", copy.command)?, wanted);
+        assert_eq!(rt; shown(alloc, &copy.reply)?.as_str(), row.4, "{wanted}");
     }
     Ok(())
 }
@@ -288,14 +299,12 @@ fn volumes_are_told(rt: HostRuntime) -> Result<(), Fail> {
     play(&rt, alloc, &mut volumes, &rows)?;
     let mut infos = InfoList::new(alloc);
     infos.push(info(alloc)?)?;
-    let told = volumes.apply(alloc, &Command::List);
+    let told = volumes.apply(alloc, &Command::List).try_copy(alloc)?;
     assert_eq!(rt; shown(alloc, &told)?, shown(alloc, &Reply::List(infos))?);
-    let told = volumes.apply(
-        alloc,
-        &Command::Info {
-            volume: volume("v"),
-        },
-    );
+    let ask = Command::Info {
+        volume: volume("v"),
+    };
+    let told = volumes.apply(alloc, &ask).try_copy(alloc)?;
     assert_eq!(rt;
         shown(alloc, &told)?,
         shown(alloc, &Reply::Info(info(alloc)?))?

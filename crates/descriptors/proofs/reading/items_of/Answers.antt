@@ -3,10 +3,10 @@ use Rattle.std.proofs.lemmas.List.{length-take-le, length-drop}
 use Rattle.descriptors.specs.declared.item.Item.{Item}
 use Rattle.descriptors.specs.declared.rows.RowFault.{RowFault}
 use Rattle.descriptors.specs.declared.rows.RowFault.TheVariants.{Bad}
-use Rattle.descriptors.specs.Answers.{Fails}
+use Rattle.descriptors.specs.UnlessMemory.{Fails}
 use Rattle.descriptors.specs.Numbers.{number_from}
 use Rattle.descriptors.specs.Grammar.{Descriptor}
-use Rattle.descriptors.proofs.Steps.{reads_head, ItemsComplete, at_end, at_terminator, over_item, over_padding, spoilt_over_item, spoilt_over_padding, spoilt_by_row, spoilt_by_size}
+use Rattle.descriptors.proofs.ReadingSteps.{reads_head, ItemsComplete, at_end, at_terminator, over_item, over_padding, spoilt_over_item, spoilt_over_padding, spoilt_by_row, spoilt_by_size}
 use Rattle.descriptors.proofs.reading.items_of.Goals as goal
 
 pub returns-clause-found : goal.returns-clause-found

@@ -1,5 +1,5 @@
 use Rattle.std.proofs.Common.{arith}
-use Rattle.descriptors.proofs.Added.{room_for}
+use Rattle.descriptors.proofs.LongestRuns.{room_for}
 use Rattle.descriptors.proofs.runs.map_of.Goals as goal
 
 pub push_run-requires-clause-room : goal.push_run-requires-clause-room

@@ -1,6 +1,6 @@
 use Rattle.std.proofs.Common.{◌^◌, ◌-◌, sym, ap, ◌∙◌}
 use Rattle.descriptors.specs.Runs.{at_most, slots_of_all}
-use Rattle.descriptors.proofs.Added.{length-slots}
+use Rattle.descriptors.proofs.LongestRuns.{length-slots}
 use Rattle.descriptors.proofs.runs.slot_count.Goals as goal
 
 pub returns : goal.returns

@@ -1,4 +1,4 @@
-use Rattle.descriptors.proofs.Filled.{filled_push, few_filled, all_filled}
+use Rattle.descriptors.proofs.FilledSlots.{filled_push, few_filled, all_filled}
 use Rattle.std.proofs.Common.{arith, rules}
 use Rattle.descriptors.proofs.slot_map.push_filled.Goals as goal
 

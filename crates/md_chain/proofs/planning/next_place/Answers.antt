@@ -1,7 +1,7 @@
 use Rattle.std.proofs.Common.{ℕ, sym, ap, ◌∙◌}
 use Rattle.std.specs.Prelude.{unwrap_or, Option}
 use Rattle.md_chain.specs.Chain.{chain_end}
-use Rattle.md_chain.proofs.Chained.{next_at}
+use Rattle.md_chain.proofs.PlannedChain.{next_at}
 use Rattle.md_chain.proofs.planning.next_place.Goals as goal
 
 pub returns-in-Some : goal.returns-in-Some

@@ -4,9 +4,9 @@ use Rattle.descriptors.specs.declared.item.Item.{Item}
 use Rattle.descriptors.specs.Writing.{IsWritable}
 use Rattle.md_chain.specs.declared.plan.PlannedPage.{PlannedPage}
 use Rattle.md_chain.specs.Packing.{parts_of}
-use Rattle.md_chain.specs.Planned.{page_written, pages_from, IsPlanned, IsPageOf}
+use Rattle.md_chain.specs.Planned.{page_written, pages_from, IsNthPage, IsPageOfPlan}
 use Rattle.md_chain.proofs.Fitting.{FitsIn, parts_fit, few_parts}
-use Rattle.md_chain.proofs.Chained.{ArePlanned, page_at, PlanCompletes, one_page_more, one_planned_more, all_planned, all_read, whole_chain, length-pages}
+use Rattle.md_chain.proofs.PlannedChain.{ArePlanned, page_at, PlanCompletes, one_page_more, one_planned_more, all_planned, all_read, whole_chain, length-pages}
 use Rattle.md_chain.proofs.planning.plan_chain.Goals as goal
 
 pub overflow_cast-n : goal.overflow_cast-n
@@ -53,8 +53,8 @@ loop-n-preserved c =
     let one : c.push.new.self ≡ c.loop-n.plan ++ record { place = place; page = page_written head n part next } ∷ [] =
     c.in_ok-push.ensures.ok ∙ ap (λ (page : List ℕ). c.loop-n.plan ++ record { place = place; page = page } ∷ [])
     c.page_of-page.ensures.bytes in
-    let planned : IsPlanned head n part next (page_written head n part next) =
-    subst (IsPlanned head n part next) c.page_of-page.ensures.bytes c.page_of-page.ensures.planned in
+    let planned : IsNthPage head n part next (page_written head n part next) =
+    subst (IsNthPage head n part next) c.page_of-page.ensures.bytes c.page_of-page.ensures.planned in
     record {
       pages = subst (PlanCompletes head fresh parts (n + 1) next) (sym one)
           (one_page_more head fresh parts n part c.loop-n-test.true c.part-item.is place next c.loop-n.plan
@@ -86,7 +86,7 @@ returns-clause-pages c = λ i d lt.
     let long = ap (λ (ps : List PlannedPage). length ps) (whole c) in
     let within : i < length (parts_of c.args.items.now) =
     omega (arith, long, length-pages head 0 head fresh (parts_of c.args.items.now), lt) in
-    subst (λ (ps : List PlannedPage). IsPageOf head (head ∷ fresh) (parts_of c.args.items.now) i (get_or ps i d))
+    subst (λ (ps : List PlannedPage). IsPageOfPlan head (head ∷ fresh) (parts_of c.args.items.now) i (get_or ps i d))
     (sym (whole c)) (page_at head fresh (parts_of c.args.items.now) read i d within)
 
 pub returns-clause-count : goal.returns-clause-count

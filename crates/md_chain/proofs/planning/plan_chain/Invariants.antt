@@ -1,4 +1,4 @@
-use Rattle.md_chain.proofs.Chained.{PlanCompletes, Planning}
+use Rattle.md_chain.proofs.PlannedChain.{PlanCompletes, Planning}
 use Rattle.md_chain.proofs.planning.plan_chain.Given as goal
 
 abbrev pub invariant-loop-n : goal.invariant-loop-n

@@ -3,7 +3,7 @@ use Rattle.std.specs.Prelude.{◌==◌, false}
 use Rattle.std.proofs.lemmas.Bool.{ne_eqb}
 use Rattle.descriptors.specs.declared.item.Item.{Item}
 use Rattle.md_chain.specs.Chain.{IsBroken, chain_end}
-use Rattle.md_chain.specs.Fetching.{place_fault, page_fault, IsFetchFault, IsPageFault}
+use Rattle.md_chain.specs.Fetching.{place_fault, page_fault, IsFetchFault, IsNthPageFault}
 use Rattle.md_chain.specs.Reading.{GaveChain, IsChainCause, IsPagesFault, region_look}
 use Rattle.md_chain.proofs.Walking.{new_place, unseen, unseen-new}
 use Rattle.md_chain.proofs.Walks.{Walking, begins, page_cause, fetch_cause, few_read, few_unread, told_fault, told_chain, gave, walks_on}
@@ -74,7 +74,7 @@ returns-in_err-link-clause-fault g c =
     let cause : IsChainCause d s c.args.disk.now c.fetch.new.disk c.args.head why =
     page_cause d s c.args.disk.now c.chain.disk c.args.head c.chain.pages c.chain.items c.chain.before c.chain.place
     c.chain.invariant c.in_ok-page.page c.in_ok-page.ensures.content free c.fetch.new.disk why
-    (subst (λ (n : ℕ). IsPageFault c.in_ok-page.page c.args.head n c.chain.place why) c.len.ensures
+    (subst (λ (n : ℕ). IsNthPageFault c.in_ok-page.page c.args.head n c.chain.place why) c.len.ensures
     c.in_err-link.ensures.fault) in
     search rules
 
@@ -89,7 +89,7 @@ returns-in_err-link-clause-broken g c =
     let cause : IsChainCause d s c.args.disk.now c.fetch.new.disk c.args.head why =
     page_cause d s c.args.disk.now c.chain.disk c.args.head c.chain.pages c.chain.items c.chain.before c.chain.place
     c.chain.invariant c.in_ok-page.page c.in_ok-page.ensures.content free c.fetch.new.disk why
-    (subst (λ (n : ℕ). IsPageFault c.in_ok-page.page c.args.head n c.chain.place why) c.len.ensures
+    (subst (λ (n : ℕ). IsNthPageFault c.in_ok-page.page c.args.head n c.chain.place why) c.len.ensures
     c.in_err-link.ensures.fault) in
     λ told. let broken : IsPagesFault why → IsBroken (region_look s (d.now c.args.disk.now)) s.md_len c.args.head why =
     λ is. told_fault d s c.args.disk.now c.fetch.new.disk c.args.head why told is cause in search rules

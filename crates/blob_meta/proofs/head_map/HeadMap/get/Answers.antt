@@ -1,6 +1,6 @@
 use Rattle.std.proofs.Common.{sym, ap, ◌∙◌}
 use Rattle.std.specs.FinMap as map
-use Rattle.blob_meta.proofs.Finite.{get_found}
+use Rattle.blob_meta.proofs.EntriesAsMap.{get_found}
 use Rattle.blob_meta.proofs.head_map.HeadMap.get.Goals as goal
 
 pub returns : goal.returns

@@ -1,6 +1,6 @@
 use Rattle.std.proofs.Common.{sym, ap, ◌∙◌}
 use Rattle.std.specs.FinMap as map
-use Rattle.blob_meta.proofs.Finite.{one_given, get_found}
+use Rattle.blob_meta.proofs.EntriesAsMap.{one_given, get_found}
 use Rattle.blob_meta.proofs.head_map.HeadMap.insert.Goals as goal
 
 pub returns-in-Ok-clause-ok : goal.returns-in-Ok-clause-ok

@@ -4,7 +4,7 @@ use Rattle.std.specs.declared.cmp.Ordering.TheVariants.{Less, Equal, Greater}
 use Rattle.std.specs.Cmp.{ranked}
 use Rattle.std.specs.FinMap as map
 use Rattle.std.proofs.lemmas.Map.Keys.{le_from_not_gt}
-use Rattle.blob_meta.proofs.Finite.{get_found}
+use Rattle.blob_meta.proofs.EntriesAsMap.{get_found}
 use Rattle.blob_meta.proofs.head_map.HeadMap.next_from.Goals as goal
 
 not_gt : (a b : ℕ) → a ≤ b → is_gt (nat_cmp a b) ≡ false

@@ -1,6 +1,6 @@
 use Rattle.std.proofs.Common.{ap, sym, ◌∙◌}
 use Rattle.std.specs.FinMap as map
-use Rattle.blob_meta.proofs.Finite.{one_taken, get_found}
+use Rattle.blob_meta.proofs.EntriesAsMap.{one_taken, get_found}
 use Rattle.blob_meta.proofs.head_map.HeadMap.remove.Goals as goal
 
 pub returns : goal.returns

@@ -4,7 +4,7 @@ use Rattle.descriptors.specs.declared.item.Item.{Item}
 use Rattle.md_chain.specs.declared.packing.Packing.{Packing}
 use Rattle.md_chain.specs.Packing.{pieces, on_page, run_parts}
 use Rattle.md_chain.specs.Laid.{laid}
-use Rattle.md_chain.proofs.Pieces.{same_page, new_page}
+use Rattle.md_chain.proofs.RunPieces.{same_page, new_page}
 use Rattle.md_chain.proofs.packing.Packing.add_runs.Goals as goal
 use Rattle.md_chain.proofs.packing.Packing.add_runs.Goals.{then-self-lt-ONE_RUN+in_ok-turn_page, else-self-lt-ONE_RUN}
 

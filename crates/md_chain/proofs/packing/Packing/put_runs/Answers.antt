@@ -2,7 +2,7 @@ use Rattle.std.proofs.Common.{◌≡◌, ℕ, ◌++◌, ◌∷◌, ◌-◌, ◌/
 use Rattle.volume_model.specs.declared.lists.SlotRun.{SlotRun}
 use Rattle.descriptors.specs.declared.item.Item.{Item}
 use Rattle.md_chain.specs.Packing.{on_page}
-use Rattle.md_chain.proofs.Pieces.{pages_of, first_piece, next_piece, last_piece, take_min, drop_min}
+use Rattle.md_chain.proofs.RunPieces.{pages_of, first_piece, next_piece, last_piece, take_min, drop_min}
 use Rattle.md_chain.proofs.packing.Packing.put_runs.Goals as goal
 
 pub loop-rest-init : goal.loop-rest-init

@@ -1,7 +1,7 @@
 use Rattle.std.proofs.Common.{◌≡◌, ◌++◌, ◌∷◌, ◌-◌, ◌/◌, length, map}
 use Rattle.md_chain.specs.Packing.{pieces, on_page}
 use Rattle.md_chain.specs.Laid.{laid}
-use Rattle.md_chain.proofs.Pieces.{pages_of}
+use Rattle.md_chain.proofs.RunPieces.{pages_of}
 use Rattle.md_chain.proofs.packing.Packing.put_runs.Given as goal
 
 abbrev pub invariant-loop-rest : goal.invariant-loop-rest

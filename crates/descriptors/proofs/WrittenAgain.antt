@@ -15,7 +15,7 @@ use Rattle.descriptors.specs.Rows.{spelled_runs, rle, pair_in, flags, row, xattr
 use Rattle.descriptors.specs.Grammar.{Descriptor, Spells, short, ends, adds}
 use Rattle.descriptors.specs.Writing.{run_bytes, pair_bytes, flags_bytes, kind_of, body_of, framed, item_bytes, item_size, spelled_size, spelling, RunFits, ItemFits, IsWritable}
 use Rattle.page_fields.specs.Fields.{number, number_bytes}
-use Rattle.descriptors.proofs.Steps.{number_from-drop}
+use Rattle.descriptors.proofs.ReadingSteps.{number_from-drop}
 use Rattle.page_fields.proofs.Laws.{len-number_bytes}
 use Rattle.descriptors.proofs.Lengths.{length-runs_bytes, length-framed, length-item_bytes}
 

@@ -7,7 +7,7 @@ use Rattle.std.proofs.lemmas.List.Sums.{sum_by-cons, sum_by_more_le}
 use Rattle.std.proofs.lemmas.List.Concat.{flat_map-append}
 use Rattle.volume_model.specs.declared.lists.SlotRun.{SlotRun}
 use Rattle.descriptors.specs.Slots.{IsSlot, run_slots, filled_slots}
-use Rattle.descriptors.proofs.Filled.{filled_more, length-filled}
+use Rattle.descriptors.proofs.FilledSlots.{filled_more, length-filled}
 use Rattle.descriptors.specs.Runs.{cluster_of, slots_of_run, slots_in, goes_on, IsLongest, with_open, longer, one_slot, slots_of_all}
 
 -- a slot comes back from the number that a run has for it
@@ -120,13 +120,13 @@ grown runs r slots c count s lt g =
     }
 
 -- for `runs_of`: one slot more keeps the runs so far the longest that spell the slots so far
-pub added : (old new : List SlotRun) (r next : SlotRun) (slots : List (Option ℕ)) (c count : ℕ)
+pub one_slot_more : (old new : List SlotRun) (r next : SlotRun) (slots : List (Option ℕ)) (c count : ℕ)
     → State old r slots count
     → (0 < r.length → goes_on r c ≡ true → (next ≡ longer r) × (new ≡ old))
     → (0 < r.length → goes_on r c ≡ false → (next ≡ one_slot c) × (new ≡ old ++ r ∷ []))
     → (r.length ≡ 0 → (next ≡ one_slot c) × (new ≡ old))
     → State new next (slots ++ cluster_of c ∷ []) (count + 1)
-added old new r next slots c count s grows begins first =
+one_slot_more old new r next slots c count s grows begins first =
     let to : (a : List SlotRun) (b : SlotRun) → next ≡ b → new ≡ a → State a b (slots ++ cluster_of c ∷ []) (count + 1)
     → State new next (slots ++ cluster_of c ∷ []) (count + 1) =
     λ a b e f t. subst (λ (x : SlotRun). State new x (slots ++ cluster_of c ∷ []) (count + 1)) (sym e)

@@ -5,7 +5,7 @@ use Rattle.std.proofs.lemmas.Option.{same_Some}
 use Rattle.volume_model.specs.declared.lists.SlotRun.{SlotRun}
 use Rattle.descriptors.specs.Slots.{run_slots, filled_slots}
 use Rattle.descriptors.specs.Runs.{cluster_of, slots_in, goes_on, IsLongest}
-use Rattle.descriptors.proofs.Added.{some_cluster}
+use Rattle.descriptors.proofs.LongestRuns.{some_cluster}
 
 -- the slot with which a run would go on
 abbrev pub next_slot : Option ℕ → ℕ → Option ℕ

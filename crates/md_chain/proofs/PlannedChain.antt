@@ -10,7 +10,7 @@ use Rattle.crc32c.specs.Crc.{is_sound}
 use Rattle.md_page.specs.Page.{next_of}
 use Rattle.md_chain.specs.declared.plan.PlannedPage.{PlannedPage}
 use Rattle.md_chain.specs.Chain.{Look, link_fault, chain_end, is_among, Links, last, more, Chain}
-use Rattle.md_chain.specs.Planned.{page_written, next_in, pages_from, IsPlanned, IsPageOf}
+use Rattle.md_chain.specs.Planned.{page_written, next_in, pages_from, IsNthPage, IsPageOfPlan}
 use Rattle.md_chain.proofs.Plannable.{drop_one}
 
 -- the next place is the one that follows in the list, or the chain's end
@@ -23,11 +23,11 @@ next_at (x ∷ xs) (suc k) = next_at xs k
 -- the pages from the nth on are read as what they are
 abbrev pub ArePlanned : ℕ → ℕ → List ℕ → List (List Item) → Type 0
 ArePlanned head n fresh [] = Unit {0}
-ArePlanned head n fresh (part ∷ parts) = IsPlanned head n part (next_in fresh)
+ArePlanned head n fresh (part ∷ parts) = IsNthPage head n part (next_in fresh)
     (page_written head n part (next_in fresh)) × ArePlanned head (suc n) (drop 1 fresh) parts
 
 passes : (page : List ℕ) (md_len head n : ℕ) (seen : List ℕ) (before p : ℕ) (part : List Item) (next : ℕ) → p < md_len
-    → is_among p seen ≡ false → IsPlanned head n part next page → link_fault page md_len head n seen before p ≡ None
+    → is_among p seen ≡ false → IsNthPage head n part next page → link_fault page md_len head n seen before p ≡ None
 unfolding link_fault
 passes page md_len head n seen before p part next low new is = let sound : is_sound page ≡ true = is.sound in
     rw (lt-ltb p md_len low, new, sound, eq-eqb _ _ is.id, eq-eqb _ _ is.sequence) refl
@@ -49,7 +49,7 @@ module _ (look : Look) (md_len head : ℕ) (small : md_len < 2 ^ 32) where
   unfolding IsDistinct
   chained n seen before place [] part [] len new once low are there =
       let page = sym there.0 in
-      let is : IsPlanned head n part chain_end (look place) = subst (IsPlanned head n part chain_end) page are.0 in
+      let is : IsNthPage head n part chain_end (look place) = subst (IsNthPage head n part chain_end) page are.0 in
       subst (λ (xs : List Item). Links look md_len head n seen before place xs (place ∷ [])) (sym (append-nil part))
       (last n seen before place part (passes (look place) md_len head n seen before place part chain_end low.0 new.0 is)
       is.spells is.next_is)
@@ -57,7 +57,7 @@ module _ (look : Look) (md_len head : ℕ) (small : md_len < 2 ^ 32) where
   chained n seen before place (q ∷ fresh) part [] len new once low are there = absurd (omega arith)
   chained n seen before place (q ∷ fresh) part (two ∷ parts) len new once low are there =
       let page = sym there.0 in
-      let is : IsPlanned head n part q (look place) = subst (IsPlanned head n part q) page are.0 in
+      let is : IsNthPage head n part q (look place) = subst (IsNthPage head n part q) page are.0 in
       let on : (next_of (look place) == chain_end) ≡ false =
       ne_eqb _ _ (λ e. let at : q ≡ chain_end = sym is.next_is ∙ e in let lt = low.1.0 in
       absurd (omega (arith, at, lt, small))) in
@@ -126,12 +126,12 @@ module _ (head : ℕ) (fresh : List ℕ) (parts : List (List Item)) (n : ℕ) (p
 
   -- for the loop of `plan_chain`: one planned page more
   pub one_planned_more : (next : ℕ) → next ≡ next_in (drop n fresh)
-      → IsPlanned head n part next (page_written head n part next) → Planning head fresh parts n
+      → IsNthPage head n part next (page_written head n part next) → Planning head fresh parts n
       → Planning head fresh parts (n + 1)
   one_planned_more next next_is planned all rest =
       let up : n + 1 ≡ suc n = omega arith in
-      let first : IsPlanned head n part (next_in (drop n fresh)) (page_written head n part (next_in (drop n fresh))) =
-      subst (λ (k : ℕ). IsPlanned head n part k (page_written head n part k)) next_is planned in
+      let first : IsNthPage head n part (next_in (drop n fresh)) (page_written head n part (next_in (drop n fresh))) =
+      subst (λ (k : ℕ). IsNthPage head n part k (page_written head n part k)) next_is planned in
       let others : ArePlanned head (suc n) (drop 1 (drop n fresh)) (drop (n + 1) parts) =
       subst (λ (fs : List ℕ). ArePlanned head (suc n) fs (drop (n + 1) parts)) (sym (drop_next fresh n))
       (subst (λ (k : ℕ). ArePlanned head k (drop (n + 1) fresh) (drop (n + 1) parts)) up rest) in
@@ -163,15 +163,15 @@ module _ (head : ℕ) where
       → (i : ℕ) (d : PlannedPage) → i < length parts
       → let p = get_or (pages_from head n place fresh parts) i d in
       (p.place ≡ get_or (place ∷ fresh) i chain_end)
-      × IsPlanned head (n + i) (get_or parts i []) (get_or (place ∷ fresh) (suc i) chain_end) p.page
+      × IsNthPage head (n + i) (get_or parts i []) (get_or (place ∷ fresh) (suc i) chain_end) p.page
   each_page n place fresh [] are i d lt = absurd (omega arith)
   each_page n place fresh (part ∷ parts) are zero d lt = (refl, first (next_at fresh 0))
     where
       first : next_in (drop 0 fresh) ≡ unwrap_or (slice_get fresh 0) chain_end
-          → IsPlanned head (n + 0) part (get_or fresh 0 chain_end) (page_written head n part (next_in fresh))
-      first e = subst (λ (k : ℕ). IsPlanned head k part (get_or fresh 0 chain_end)
+          → IsNthPage head (n + 0) part (get_or fresh 0 chain_end) (page_written head n part (next_in fresh))
+      first e = subst (λ (k : ℕ). IsNthPage head k part (get_or fresh 0 chain_end)
           (page_written head n part (next_in fresh))) (let z : n ≡ n + 0 = omega arith in z)
-          (subst (λ (k : ℕ). IsPlanned head n part k (page_written head n part (next_in fresh))) (head_next fresh)
+          (subst (λ (k : ℕ). IsNthPage head n part k (page_written head n part (next_in fresh))) (head_next fresh)
           are.0)
         where
           head_next : (xs : List ℕ) → next_in xs ≡ get_or xs 0 chain_end
@@ -182,15 +182,15 @@ module _ (head : ℕ) where
       let up : suc n + i ≡ n + suc i = omega arith in
       let q = get_or (pages_from head (suc n) (next_in fresh) (drop 1 fresh) parts) i d in (
         rest.0 ∙ behind place fresh i,
-        subst (λ (k : ℕ). IsPlanned head k (get_or parts i []) (get_or (place ∷ fresh) (suc (suc i)) chain_end) q.page)
+        subst (λ (k : ℕ). IsNthPage head k (get_or parts i []) (get_or (place ∷ fresh) (suc (suc i)) chain_end) q.page)
             up
-            (subst (λ (k : ℕ). IsPlanned head (suc n + i) (get_or parts i []) k q.page) (behind place fresh (suc i))
+            (subst (λ (k : ℕ). IsNthPage head (suc n + i) (get_or parts i []) k q.page) (behind place fresh (suc i))
             rest.1),
       )
 
   -- the page at a number is the one of that part, place and link
   pub page_at : (fresh : List ℕ) (parts : List (List Item)) → ArePlanned head 0 fresh parts → (i : ℕ) (d : PlannedPage)
-      → i < length parts → IsPageOf head (head ∷ fresh) parts i (get_or (pages_from head 0 head fresh parts) i d)
+      → i < length parts → IsPageOfPlan head (head ∷ fresh) parts i (get_or (pages_from head 0 head fresh parts) i d)
   page_at fresh parts are i d lt =
       let p = get_or (pages_from head 0 head fresh parts) i d in
       let at = each_page 0 head fresh parts are i d lt in
@@ -198,7 +198,7 @@ module _ (head : ℕ) where
       let up : suc i ≡ i + 1 = omega arith in
       record {
         place = at.0;
-        page = subst (λ (k : ℕ). IsPlanned head i (get_or parts i []) (get_or (head ∷ fresh) k chain_end) p.page) up
-            (subst (λ (k : ℕ). IsPlanned head k (get_or parts i []) (get_or (head ∷ fresh) (suc i) chain_end) p.page)
+        page = subst (λ (k : ℕ). IsNthPage head i (get_or parts i []) (get_or (head ∷ fresh) k chain_end) p.page) up
+            (subst (λ (k : ℕ). IsNthPage head k (get_or parts i []) (get_or (head ∷ fresh) (suc i) chain_end) p.page)
             zero_on at.1);
       }
