@@ -19,6 +19,3 @@ pub use out_of_memory::Memory;
 pub use replace::replace_page;
 pub use silent::SilentDisk;
 pub use writing::{write_and_flush, write_page};
-
-#[cfg(test)]
-mod tests;

@@ -1,6 +1,8 @@
+//! Sets of numbers, and the bytes of their masks.
+
 ghost use Rattle.std.specs.Prelude.{◌≡◌, ◌<◌, length, IfOk};
 
-use crate::{Bits, MaskFault, MaskReader, Memory, mask_pages, masks_read_back};
+use bit_array::{Bits, MaskFault, MaskReader, Memory, mask_pages, masks_read_back};
 use std::alloc::Global;
 use std::test::Fail;
 
@@ -15,21 +17,16 @@ fn least_clear_number(rt: HostRuntime) -> Result<(), Fail> {
     assert_eq!(rt; (bits.first_clear(), bits.count()), (None, 2));
     bits.clear(0);
     assert_eq!(rt; (bits.get(0), bits.get(1), bits.len()), (false, true, 2));
-    Ok(())
-}
-
-#[test]
-fn first_numbers(rt: HostRuntime) -> Result<(), Fail> {
-    let bits = Bits::of_first(rt.alloc(), 16, 5)?;
+    let first = Bits::of_first(rt.alloc(), 16, 5)?;
     assert_eq!(rt;
-        (bits.len(), bits.count(), bits.first_clear()),
+        (first.len(), first.count(), first.first_clear()),
         (16, 5, Some(5))
     );
     Ok(())
 }
 
 /// A set of numbers below `len` with these three.
-fn with(alloc: Global, len: u32, a: u32, b: u32, c: u32) -> Result<Bits, Memory>
+fn set_of_three(alloc: Global, len: u32, a: u32, b: u32, c: u32) -> Result<Bits, Memory>
     requires a_in { a < len }
     requires b_in { b < len }
     requires c_in { c < len }
@@ -44,7 +41,7 @@ fn with(alloc: Global, len: u32, a: u32, b: u32, c: u32) -> Result<Bits, Memory>
 
 #[test]
 fn mask_of_sixteen_bits(rt: HostRuntime) -> Result<(), Fail> {
-    let bits = with(rt.alloc(), 16, 0, 1, 9)?;
+    let bits = set_of_three(rt.alloc(), 16, 0, 1, 9)?;
     let mut page = [0xff; 4096];
     bits.mask_page(0, 0, &mut page);
     assert_eq!(rt; &page[..8], [0x00, 0x10, 0, 0, 0, 0x03, 0x02, 0].as_slice());
@@ -56,7 +53,7 @@ fn mask_of_sixteen_bits(rt: HostRuntime) -> Result<(), Fail> {
 fn last_page_of_one_byte_reads_back(rt: HostRuntime) -> Result<(), Fail> {
     masks_read_back();
     assert_eq!(rt; (mask_pages(32736), mask_pages(1 << 24)), (2, 513));
-    let bits = with(rt.alloc(), 32736, 0, 32727, 32735)?;
+    let bits = set_of_three(rt.alloc(), 32736, 0, 32727, 32735)?;
     let (mut first, mut last) = ([0xff; 4096], [0xff; 4096]);
     bits.mask_page(2, 0, &mut first);
     bits.mask_page(2, 1, &mut last);

@@ -1,4 +1,6 @@
-use crate::{Bits, ClusterPool, PagePool, given_back_at_once};
+//! Claims on the places of a pool.
+
+use pools::{Bits, ClusterPool, PagePool, given_back_at_once};
 use std::test::Fail;
 
 #[test]

@@ -1,4 +1,6 @@
-use crate::{
+//! Disks in memory: what a crash leaves, and which calls fail by plan.
+
+use page_disk::{
     CallKind, DiskFault, Fail, FaultDisk, MemDisk, PageDisk, SilentDisk, WriteKind, replace_page,
     write_and_flush, write_page,
 };

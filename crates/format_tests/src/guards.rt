@@ -1,4 +1,6 @@
-use crate::{Guards, generations_never_repeat};
+//! Guards of heads.
+
+use io_freeze::{Guards, generations_never_repeat};
 use std::test::Fail;
 
 #[test]

@@ -1,6 +1,11 @@
-use crate::{Layout, Masks, Region, Super, SuperFault, read_super, write_super};
+//! Super blocks and the layouts of new stores.
+
 use std::process::Abort;
 use std::test::Fail;
+use super_block::{
+    Layout, Masks, Region, Super, SuperFault, layouts_are_placed, read_super, regions_are_placed,
+    rows_tile, shared_pages, write_super,
+};
 
 /// A store of 64 pages with clusters of 4 pages and 16 metadata pages, as it is when it is new.
 fn small() -> Super {

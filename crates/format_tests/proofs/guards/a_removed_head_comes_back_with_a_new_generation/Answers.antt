@@ -1,6 +1,6 @@
 use Rattle.std.proofs.Common.{arith}
 use Rattle.std.specs.FinMap.{gets}
-use Rattle.io_freeze.proofs.tests.a_removed_head_comes_back_with_a_new_generation.Goals as goal
+use Rattle.format_tests.proofs.guards.a_removed_head_comes_back_with_a_new_generation.Goals as goal
 
 pub add-requires-clause-room : goal.add-requires-clause-room
 add-requires-clause-room c = grind (arith, gets)
