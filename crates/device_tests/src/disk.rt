@@ -1,8 +1,8 @@
 //! Disks in memory: what a crash leaves, and which calls fail by plan.
 
 use page_disk::{
-    CallKind, DiskFault, Fail, FaultDisk, MemDisk, PageDisk, SilentDisk, WriteKind, replace_page,
-    write_and_flush, write_page,
+    CallKind, DiskFault, Fail, FaultDisk, MemDisk, PageDisk, SilentDisk, WriteKind, images_since,
+    replace_page, write_and_flush, write_page,
 };
 use std::test::Fail as TestFail;
 
@@ -31,6 +31,7 @@ fn picks_show_the_old_page_the_new_one_and_a_torn_one(rt: HostRuntime) -> Result
 
 #[test]
 fn a_page_lasts_once_it_is_flushed(rt: HostRuntime) -> Result<(), TestFail> {
+    images_since::<MemDisk>();
     let mut disk = MemDisk::new(rt.alloc(), 8, 100)?;
     write_page(&mut disk, 3, &[7; 4096])?;
     let mut page = [1; 4096];
@@ -69,11 +70,19 @@ fn the_listed_calls_fail(rt: HostRuntime) -> Result<(), TestFail> {
             kind: CallKind::Flush,
             nth: 2
         },
+        Fail {
+            kind: CallKind::Read,
+            nth: 1
+        },
     ]?;
     let mut disk = FaultDisk::new(MemDisk::new(rt.alloc(), 8, 100)?, fails);
     assert_eq!(rt; replace_page(&mut disk, 3, &[7; 4096]), Err(DiskFault));
     assert_eq!(rt; replace_page(&mut disk, 3, &[7; 4096]), Ok(()));
-    assert_eq!(rt; disk.calls(CallKind::Read), 0);
+    let mut page = [1; 4096];
+    assert_eq!(rt; disk.read(3, &mut page), Err(DiskFault));
+    assert_eq!(rt; disk.read(3, &mut page), Ok(()));
+    assert_eq!(rt; (disk.pages(), disk.clock(), page[9]), (8, 5, 7));
+    assert_eq!(rt; disk.calls(CallKind::Read), 2);
     assert_eq!(rt; disk.calls(CallKind::Write), 2);
     assert_eq!(rt; disk.calls(CallKind::Flush), 4);
     Ok(())
@@ -85,6 +94,6 @@ fn a_disk_that_tells_nothing_is_a_disk(rt: HostRuntime) -> Result<(), TestFail> 
     let mut page = [1; 4096];
     assert_eq!(rt; replace_page(&mut disk, 3, &[7; 4096]), Ok(()));
     disk.read(3, &mut page)?;
-    assert_eq!(rt; (disk.clock(), page[9]), (3, 7));
+    assert_eq!(rt; (disk.pages(), disk.clock(), page[9]), (8, 3, 7));
     Ok(())
 }

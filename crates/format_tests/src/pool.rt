@@ -10,7 +10,15 @@ fn least_clear_places_are_claimed(rt: HostRuntime) -> Result<(), Fail> {
     let first = pool.claim().expect(&rt, "a clear place");
     let second = pool.claim().expect(&rt, "a clear place");
     pool.open_claims_differ();
-    assert_eq!(rt; (first.at(), second.at(), pool.clear_count()), (0, 1, 1));
+    assert_eq!(rt;
+        (
+            first.at(),
+            second.at(),
+            pool.bits().count(),
+            pool.clear_count()
+        ),
+        (0, 1, 2, 1)
+    );
     pool.give_back(first);
     assert_eq!(rt; (pool.keep(second), pool.clear_count()), (1, 2));
     pool.free(1);

@@ -3,8 +3,8 @@
 use std::process::Abort;
 use std::test::Fail;
 use super_block::{
-    Layout, Masks, Region, Super, SuperFault, layouts_are_placed, read_super, regions_are_placed,
-    rows_tile, shared_pages, write_super,
+    Layout, Masks, Region, Span, Super, SuperFault, layouts_are_placed, read_super,
+    regions_are_placed, rows_tile, shared_pages, write_super,
 };
 
 /// A store of 64 pages with clusters of 4 pages and 16 metadata pages, as it is when it is new.
@@ -54,6 +54,8 @@ fn seal(page: &mut [u8; 4096]) {
 
 #[test]
 fn a_new_store_is_written_and_read(rt: HostRuntime) -> Result<(), Fail> {
+    rows_tile();
+    regions_are_placed();
     let mut page = [0xAA; 4096];
     write_super(&small(), &mut page);
     let head = *b"SPDKBLOB\x03\0\0\0";
@@ -261,7 +263,27 @@ fn the_first_test_that_fails_is_the_fault(rt: HostRuntime) {
 }
 
 #[test]
+fn neighbours_share_no_page(rt: HostRuntime) {
+    shared_pages();
+    let mask = Span {
+        region: Region::PageMask,
+        start: 1,
+        len: 2,
+    };
+    let md = Span {
+        region: Region::Md,
+        start: 3,
+        len: 16,
+    };
+    assert_eq!(rt;
+        (mask.end(), mask.shares(&md), md.shares(&md)),
+        (3, false, true)
+    );
+}
+
+#[test]
 fn stores_are_planned(rt: HostRuntime) -> Result<(), Fail> {
+    layouts_are_placed();
     let cases = [
         (
             (19, 4, Some(16)),
