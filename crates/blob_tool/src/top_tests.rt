@@ -130,7 +130,7 @@ fn each_status_has_its_cause(rt: HostRuntime) -> Result<(), TestFail> {
     let mut source = ListSource::new(Vec::new(alloc), Vec::new(alloc));
     let (usage, _) = blobtool(alloc, &[], &mut source, &mut out, store(alloc)?);
     assert!(rt; matches!(usage, Status::Usage));
-    let (line, _) = run(alloc, b"0 put @0 owner t:bob\n\n", &mut out, store(alloc)?)?;
+    let (line, _) = run(alloc, b"0 put @0 owner t:bob\n0\n", &mut out, store(alloc)?)?;
     assert!(rt;
         matches!(
             line,
