@@ -1,12 +1,13 @@
 -- What a call of the program did, by its status.
-use Rattle.std.specs.Prelude.{◌≡◌, ◌⊎◌, ℕ, ◌<◌, ◌≤◌, ◌-◌, ◌^◌, List, [], ◌∷◌, length, slice_index_or, Some, None, Bool, false, IsTrue, codes, String, string_bytes}
+use Rattle.std.specs.Prelude.{◌≡◌, ◌⊎◌, ℕ, ◌<◌, ◌≤◌, ◌^◌, List, [], ◌∷◌, length, Some, None, Bool, false, IsTrue, codes, String, string_bytes}
 use Rattle.std.specs.Str.{bytes_eq}
 use Rattle.std.specs.declared.alloc.Global.{Global}
 use Rattle.page_disk.specs.Disk.{Rose}
 use Rattle.page_disk.specs.declared.disk.PageDisk as disk
 use Rattle.volume_model.specs.declared.command.Command.{Command}
 use Rattle.md_chain.specs.Reading.{OnlyRead}
-use Rattle.script_lang.specs.Script.{kind_on, lines, reads, IsFirstBad}
+use Rattle.script_lang.specs.Script.{reads, IsFirstBad}
+use Rattle.script_lang.specs.declared.grammar.Grammar.TheVariants.{Served}
 use Rattle.script_lang.specs.declared.fault.LineKind.{LineKind}
 use Rattle.store_core.specs.declared.loaded.Loaded.{Loaded}
 use Rattle.store_core.specs.Seen.{At}
@@ -34,13 +35,12 @@ module _ {S : Type 0} (s : source.Ghosts S) (script script_now : S) where
     pub all : IsTrue s.tells → text ≡ s.left script
     pub rest : IsTrue s.tells → s.left script_now ≡ []
 
-  -- the source's text is no script: this line of it is the first that holds no command, and this is wrong with it
+  -- the source's text is no script: this line of it is the first outside the grammar or over a limit, and this is wrong with it
   pub record HasBadLine (line : ℕ) (kind : LineKind) : Type 0 where
     pub text : List ℕ
     pub is_text : IsText text
-    pub first : IsFirstBad text line
+    pub first : IsFirstBad Served text line kind
     pub no_script : reads text ≡ None
-    pub kind_is : kind ≡ kind_on line (slice_index_or (lines text) (line - 1) [])
 
   -- it is too long, which is said as line 0
   pub record IsTooLong (line : ℕ) : Type 0 where

@@ -36,7 +36,7 @@ fn a_command_that_is_not_run_prints_nothing(rt: HostRuntime) -> Result<(), TestF
     assert!(rt; matches!(usage, Status::Usage));
     let (line, _) = run(
         alloc,
-        b"0 put @0 owner t:bob\n\n",
+        b"0 put @0 owner t:bob\n0\n",
         &mut out,
         store(&rt, alloc)?,
     )?;
