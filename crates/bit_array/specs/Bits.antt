@@ -1,4 +1,5 @@
--- A set of numbers below a length, as a list of that length: the element at a place says whether the place is in the set.
+-- A set of numbers below a length, as a list of that length: the element at a place says whether the place is in the
+-- set.
 use Rattle.std.specs.Prelude.{◌≡◌, ℕ, ◌-◌, ◌<◌, Bool, true, false, List, ◌++◌, length, replicate, slice_index_or, count_by}
 
 -- whether a place is in the set; no place at or past the length is

@@ -9,6 +9,7 @@ use Rattle.bit_array.specs.declared.reader.MaskFault.TheVariants.{BadType, BadLe
 abbrev pub length_in : List ℕ → ℕ
 length_in page = from_le_bytes w32 (take 4 (drop 1 page))
 
+-- the fault of a mask's first page: its type is tested before its number of bits
 abbrev pub head_fault : ℕ → ℕ → List ℕ → Option MaskFault
 head_fault kind len page =
     if slice_index page 0 == kind

@@ -9,6 +9,3 @@ pub use bits::Bits;
 pub use mask::{mask_pages, masks_read_back};
 pub use out_of_memory::Memory;
 pub use reader::{MaskFault, MaskReader};
-
-#[cfg(test)]
-mod tests;

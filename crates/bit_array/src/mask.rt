@@ -15,8 +15,8 @@ pub fn mask_pages(len: u32) -> u32
 
 impl Bits {
     /// Writes a page of 4096 bytes of the mask of this type that holds the set; its pages count from 0. The mask is its
-    /// type, the number of its bits in four bytes with the lowest first, and the bits, the lowest of each byte first; zeros
-    /// fill the last page.
+    /// type, the number of its bits in four bytes with the lowest first, and the bits, the lowest of each byte first;
+    /// zeros fill the last page.
     pub fn mask_page(&self, kind: u8, index: u32, into: &mut [u8; 4096])
         requires { index < mask_pages (length self.now) }
         ensures { into.new ≡ page_of index (mask_text kind self.now) }
@@ -67,5 +67,6 @@ impl Bits {
 /// What the pages of a mask are read back to: the set that was written, and no fault, whatever the type.
 pub fn masks_read_back()
     ensures bits { (kind : ℕ) (bits : List Bool) → bits_in (length bits) (mask_text kind bits) ≡ bits }
-    ensures head { (kind : ℕ) (bits : List Bool) → length bits < 2 ^ 32 → head_fault kind (length bits) (page_of 0 (mask_text kind bits)) ≡ None }
+    ensures head { (kind : ℕ) (bits : List Bool) → length bits < 2 ^ 32
+        → head_fault kind (length bits) (page_of 0 (mask_text kind bits)) ≡ None }
 {}

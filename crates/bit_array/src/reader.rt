@@ -55,8 +55,11 @@ impl MaskReader {
     /// A reader that refused a page has read none.
     pub fn feed(&mut self, page: &[u8; 4096]) -> Result<(), MaskFault>
         requires { self.old.fed < mask_pages (length self.old.bits) }
-        ensures fault { MatchResult result (λ _. next_fault self.old page.now ≡ None) (λ fault. next_fault self.old page.now ≡ Some fault) }
-        ensures read { OnOk result ((kind len : ℕ) (text : List ℕ) → HasRead self.old kind len text → HasRead self.new kind len (text ++ page.now)) }
+        ensures fault { MatchResult result (λ _. next_fault self.old page.now ≡ None)
+            (λ fault. next_fault self.old page.now ≡ Some fault) }
+        ensures read { OnOk result
+            ((kind len : ℕ) (text : List ℕ) → HasRead self.old kind len text
+            → HasRead self.new kind len (text ++ page.now)) }
         ensures fed { OnOk result (self.new.fed ≡ self.old.fed + 1) }
         ensures len { length self.new.bits ≡ length self.old.bits }
         ensures refused { OnErr result (self.new ≡ self.old) }
@@ -83,7 +86,8 @@ impl MaskReader {
 
 /// Tests the head of a mask's first page.
 fn check_head(page: &[u8; 4096], kind: u8, len: u32) -> Result<(), MaskFault>
-    ensures { MatchResult result (λ _. head_fault kind len page.now ≡ None) (λ fault. head_fault kind len page.now ≡ Some fault) }
+    ensures { MatchResult result (λ _. head_fault kind len page.now ≡ None)
+        (λ fault. head_fault kind len page.now ≡ Some fault) }
 {
     if page[0] != kind {
         return Err(MaskFault::BadType { found: page[0] });

@@ -1,4 +1,4 @@
-pub mod Finite
-pub mod Outside
+pub mod EntriesAsMap
+pub mod ClustersOutside
 pub mod Firsts
 pub mod Inverse

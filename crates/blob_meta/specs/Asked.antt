@@ -25,6 +25,7 @@ head_in (c.Put (Head h) key value) = Some h
 head_in (c.Sync (Head h)) = Some h
 head_in _ = None
 
+-- an attribute command that names its volume by its head
 abbrev pub IsOnHead : Command → Type 0
 IsOnHead command = IsSome (head_in command)
 
@@ -43,8 +44,8 @@ HasValue (Some live) (c.GetX volume key) = IsSome (value_of live key)
 HasValue _ _ = Unit {0}
 
 -- of causes, the first that holds
-abbrev pub first_of : Causes → Option Reply
-first_of causes = option_map (λ cause. cause.1) (find (λ cause. cause.0) causes)
+abbrev pub first_cause : Causes → Option Reply
+first_cause causes = option_map (λ cause. cause.1) (find (λ cause. cause.0) causes)
 
 -- the blob there
 abbrev pub blob_named : map.FinMap nat_cmp Meta → Command → Option Meta
@@ -59,8 +60,10 @@ module _ (metas : map.FinMap nat_cmp Meta) (live : Option Xattrs) (command : Com
   -- read-only as the blob's flags say.
   pub record ShowsBlob (v : Volumes) : Type 0 where
     pub live_is : option_map (λ (x : Volume). x.live) (option_and_then v (head_in command)) ≡ live
-    pub read_only_is : option_map (λ (x : Volume). x.read_only) (option_and_then v (head_in command)) ≡ option_map (λ (m : Meta). is_read_only m.flags) (blob_named metas command)
+    pub read_only_is : option_map (λ (x : Volume). x.read_only) (option_and_then v (head_in command))
+        ≡ option_map (λ (m : Meta). is_read_only m.flags) (blob_named metas command)
 
   -- The first cause for which the command is refused, if there is one, in all volumes that show the blob so.
   abbrev pub IsFirstCause : Super → Option Reply → Type 0
-  IsFirstCause sup first = (f : Fixed) (v : Volumes) → f.super_blob ≡ head_of_id sup.super_blob → ShowsBlob v → refusal f v command ≡ first
+  IsFirstCause sup first = (f : Fixed) (v : Volumes) → f.super_blob ≡ head_of_id sup.super_blob → ShowsBlob v
+      → refusal f v command ≡ first

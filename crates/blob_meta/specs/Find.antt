@@ -16,7 +16,8 @@ is_called name m = bytes_eq (told m.xattrs name_key) name
 -- A head names its own blob; a name any but the super blob, whose id is this one.
 abbrev pub is_meant : ℕ → map.FinMap nat_cmp Meta → VolumeRef → ℕ → Bool
 is_meant super_blob metas (Head h) k = (k == h) && map.contains_key metas k
-is_meant super_blob metas (Named name) k = not (super_blob == 2 ^ 32 + k) && option_map_or (is_called name) (map.get metas k) false
+is_meant super_blob metas (Named name) k = not (super_blob == 2 ^ 32 + k)
+    && option_map_or (is_called name) (map.get metas k) false
 
 -- the least head that passes
 pub record IsLeast (test : ℕ → Bool) (head : ℕ) : Type 0 where

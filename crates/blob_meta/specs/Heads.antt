@@ -9,5 +9,6 @@ pub record IsNextFrom {V : Type 0} (m : map.FinMap nat_cmp V) (head next : ℕ) 
   pub above : head ≤ next
   pub none_between : (h : ℕ) → head ≤ h → h < next → map.get m h ≡ None
 
-abbrev pub HasNoneFrom : {V : Type 0} → map.FinMap nat_cmp V → ℕ → Type 0
-HasNoneFrom m head = (h : ℕ) → head ≤ h → map.get m h ≡ None
+-- no key from this one on
+abbrev pub HasNoKeyFrom : {V : Type 0} → map.FinMap nat_cmp V → ℕ → Type 0
+HasNoKeyFrom m head = (h : ℕ) → head ≤ h → map.get m h ≡ None

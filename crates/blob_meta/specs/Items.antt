@@ -15,12 +15,15 @@ abbrev pub internal_bit : List Xattr → ℕ
 internal_bit [] = 0
 internal_bit (x ∷ xs) = 2
 
+-- the flags, of which bit 1 of `invalid` tells of internal attributes
 abbrev pub flags_item : Meta → Item
 flags_item m = item.Flags (without_bit_1 m.flags.invalid + internal_bit m.internal) m.flags.data_ro m.flags.md_ro
 
+-- an item for each attribute
 abbrev pub xattr_items : List Xattr → List Item
 xattr_items xs = map (λ x. item.Xattr x.key x.value) xs
 
+-- an item for each internal attribute
 abbrev pub internal_items : List Xattr → List Item
 internal_items xs = map (λ x. item.InternalXattr x.key x.value) xs
 

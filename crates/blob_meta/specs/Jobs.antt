@@ -5,4 +5,9 @@ use Rattle.blob_meta.specs.declared.job.Job.{Job}
 
 -- one replacement, which is the commit
 abbrev pub job_of_one : ℕ → Meta → Job
-job_of_one head new = record { list = record { head = head; new = Some new } ∷ []; commit = 1; zero = []; freeze = None }
+job_of_one head new = record {
+  list = record { head = head; new = Some new } ∷ [];
+  commit = 1;
+  zero = [];
+  freeze = None;
+}

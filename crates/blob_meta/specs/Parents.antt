@@ -26,5 +26,6 @@ slot m i = option_and_then (λ s. s) (slice_get m.map i)
 abbrev pub is_read_only : Flags → Bool
 is_read_only f = nat_le 1 f.data_ro || nat_le 4 f.md_ro
 
+-- locked by a bit that isn't known
 abbrev pub is_locked : Flags → Bool
 is_locked f = nat_le 2 f.data_ro || nat_le 4 f.md_ro

@@ -3,7 +3,7 @@
 ghost use Rattle.std.specs.Prelude.{◌≡◌, ◌^◌, ◌<◌, ◌≤◌, OnOk, IfErr, IfNone as OnNone, None, length, find, position, is_none, option_copied};
 ghost use Rattle.std.specs.List.{All};
 ghost use Rattle.descriptors.specs.Runs.{slots_in, slots_of_run, Reaches};
-ghost use Rattle.blob_meta.specs.Faults.{unknown_flag as unknown, too_large as large, is_outside, clusters_of, cluster_outside as outside, hole_in_thick as hole, is_mark as is_a_mark, is_bad_mark, bad_mark as bad, IsFaultOf};
+ghost use Rattle.blob_meta.specs.Faults.{unknown_flag as unknown, too_large as large, is_outside, clusters_of, cluster_outside as outside, hole_in_thick as hole, is_mark as is_a_mark, is_bad_mark, bad_mark as bad, IsMetaFaultOf};
 
 use crate::fault::MetaFault;
 use crate::meta::Flags;
@@ -68,7 +68,8 @@ fn outside_of_runs(runs: &[SlotRun], fixed: u32, clusters: u32) -> Option<u64>
     None
 }
 
-/// The fault of a cluster that a blob may not have. Where there is none, no run reaches past the last number of 32 bits.
+/// The fault of a cluster that a blob may not have. Where there is none, no run reaches past the last number of 32
+/// bits.
 pub fn cluster_outside(runs: &RunList, fixed: u32, clusters: u32) -> Option<MetaFault>
     ensures first { result ≡ outside fixed clusters (slots_in runs.now) }
     ensures reaches { OnNone result (All Reaches runs.now) }
@@ -117,7 +118,7 @@ fn first_bad(internal: &[Xattr]) -> Option<&Xattr>
 /// The fault of a mark of another length, or want of memory for its name.
 pub fn bad_mark(alloc: Global, internal: &XattrList) -> Result<(), MetaFault>
     ensures ok { OnOk result (bad internal.now ≡ None) }
-    ensures fault { IfErr result (λ e. IsFaultOf e (bad internal.now)) }
+    ensures fault { IfErr result (λ e. IsMetaFaultOf e (bad internal.now)) }
 {
     match first_bad(internal.as_slice()) {
         None => Ok(()),

@@ -2,7 +2,7 @@
 
 ghost use Rattle.std.specs.Prelude.{◌≡◌, OnOk, OnErr, IfSome, IfNone, None, option_copied};
 ghost use Rattle.std.specs.FinMap as map;
-ghost use Rattle.blob_meta.specs.Heads.{IsNextFrom, HasNoneFrom};
+ghost use Rattle.blob_meta.specs.Heads.{IsNextFrom, HasNoKeyFrom};
 
 use crate::meta::Meta;
 use out_of_memory::Memory;
@@ -46,8 +46,8 @@ impl<V: Drop> HeadMap<V> {
         self.entries.get(&head)
     }
 
-    /// Gives the head this value, whatever it had. After `Memory`, which comes only for a head that the map doesn't have, the
-    /// map is as before.
+    /// Gives the head this value, whatever it had. After `Memory`, which comes only for a head that the map doesn't
+    /// have, the map is as before.
     pub fn insert(&mut self, head: u32, value: V) -> Result<(), Memory>
         ensures ok { OnOk result (self.new ≡ map.insert self.old head value) }
         ensures absent { OnErr result (map.get self.old head ≡ None) }
@@ -70,7 +70,7 @@ impl<V: Drop> HeadMap<V> {
     /// The least head of the map that isn't below `head`; `None` exactly where there is none.
     pub fn next_from(&self, head: u32) -> Option<u32>
         ensures some { IfSome result (λ next. IsNextFrom self.now head next) }
-        ensures none { IfNone result (HasNoneFrom self.now head) }
+        ensures none { IfNone result (HasNoKeyFrom self.now head) }
     {
         match self.entries.range(head..).next() {
             Some((next, _)) => Some(*next),

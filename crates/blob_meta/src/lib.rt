@@ -1,5 +1,5 @@
-//! The metadata of blobs: what the items of a chain say, the maps from heads to metadata and to chains, changes of metadata, and
-//! why a command on a blob's attributes is refused.
+//! The metadata of blobs: what the items of a chain say, the maps from heads to metadata and to chains, changes of
+//! metadata, and why a command on a blob's attributes is refused.
 #![tactic(auto)]
 
 mod checks;
@@ -21,8 +21,3 @@ pub use out_of_memory::Memory;
 pub use reading::from_items;
 pub use refusal::{head_in, refusal_of};
 pub use writing::{items_say, to_items};
-
-#[cfg(test)]
-mod refusal_tests;
-#[cfg(test)]
-mod tests;

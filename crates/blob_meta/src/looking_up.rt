@@ -1,45 +1,18 @@
 //! Which blob a command means.
 
-ghost use Rattle.std.specs.Prelude.{◌≡◌, ◌==◌, ◌<◌, ◌^◌, ℕ, false, find, position, option_copied, IfSome, IfNone};
-ghost use Rattle.std.specs.List.{before_first};
-ghost use Rattle.std.specs.Str.{bytes_eq};
+ghost use Rattle.std.specs.Prelude.{◌≡◌, ◌<◌, ◌^◌, ℕ, false, IfSome, IfNone};
 ghost use Rattle.volume_model.specs.declared.command.VolumeRef.TheVariants.{Named};
 ghost use Rattle.blob_meta.specs.Find.{is_called as called, is_meant, IsLeast};
 
 use crate::head_map::Metas;
 use crate::meta::Meta;
 use super_block::Super;
-use volume_model::{Name, VolumeRef, Xattr};
-
-fn named<'a>(xattrs: &'a [Xattr], key: &[u8]) -> Option<&'a Xattr>
-    ensures { option_copied result ≡ find (λ x. bytes_eq x.key key.now) xattrs.now }
-{
-    xattrs.iter().find(|x| x.key.bytes() == key)
-}
-
-fn first_nul(bytes: &[u8]) -> Option<usize>
-    ensures { result ≡ position (λ b. b == 0) bytes.now }
-{
-    bytes.iter().position(|b| *b == 0)
-}
-
-/// The bytes before the first NUL, or all where there is none.
-fn until_nul(bytes: &[u8]) -> &[u8]
-    ensures { result.now ≡ before_first (λ b. b == 0) bytes.now }
-{
-    match first_nul(bytes) {
-        Some(end) => &bytes[..end],
-        None => bytes,
-    }
-}
+use volume_model::{Name, VolumeRef};
 
 fn is_called(meta: &Meta, name: &[u8]) -> bool
     ensures { result ≡ called name.now meta.now }
 {
-    match named(meta.xattrs.as_slice(), b"name") {
-        Some(xattr) => until_nul(xattr.value.bytes()) == name,
-        None => name.is_empty(),
-    }
+    meta.xattrs.told(b"name") == name
 }
 
 /// Whether a head is that of a blob of this name, other than the super blob.
@@ -57,7 +30,8 @@ fn is_named(metas: &Metas, super_blob: u64, name: &Name, head: u32) -> bool
 
 fn find_named(metas: &Metas, super_blob: u64, name: &Name) -> Option<u32>
     ensures some { IfSome result (λ head. IsLeast (is_meant super_blob metas.now (Named name.now)) head) }
-    ensures none { IfNone result ((head : ℕ) → head < 2 ^ 32 → is_meant super_blob metas.now (Named name.now) head ≡ false) }
+    ensures none { IfNone result ((head : ℕ) → head < 2 ^ 32
+        → is_meant super_blob metas.now (Named name.now) head ≡ false) }
 {
     let mut from = 0;
     while let Some(head) = metas.next_from(from) {
@@ -72,11 +46,12 @@ fn find_named(metas: &Metas, super_blob: u64, name: &Name) -> Option<u32>
     None
 }
 
-/// The head of the blob that a command means: a head names its own blob, and a name that of the least head of a blob, other
-/// than the super blob, whose `name` up to its first NUL it is. `None` comes exactly where no blob is meant.
+/// The head of the blob that a command means: a head names its own blob, and a name that of the least head of a blob,
+/// other than the super blob, whose `name` up to its first NUL it is. `None` comes exactly where no blob is meant.
 pub fn find(metas: &Metas, sup: &Super, volume: &VolumeRef) -> Option<u32>
     ensures some { IfSome result (λ head. IsLeast (is_meant sup.now.super_blob metas.now volume.now) head) }
-    ensures none { IfNone result ((head : ℕ) → head < 2 ^ 32 → is_meant sup.now.super_blob metas.now volume.now head ≡ false) }
+    ensures none { IfNone result ((head : ℕ) → head < 2 ^ 32
+        → is_meant sup.now.super_blob metas.now volume.now head ≡ false) }
 {
     match volume {
         VolumeRef::Head(head) => {

@@ -5,9 +5,9 @@ use out_of_memory::Memory;
 use std::alloc::Global;
 use volume_model::{TryCopy, XattrList};
 
-/// The three words of a blob's flags. Bit 0 of `invalid` is thin provisioning, bit 1 stands on disk exactly where there is an
-/// internal attribute and is 0 here; bit 0 of `data_ro` is read-only; bits 0 and 1 of `md_ro` are the clear method, which is
-/// kept and has no effect.
+/// The three words of a blob's flags. Bit 0 of `invalid` is thin provisioning, bit 1 stands on disk exactly where there
+/// is an internal attribute and is 0 here; bit 0 of `data_ro` is read-only; bits 0 and 1 of `md_ro` are the clear
+/// method, which is kept and has no effect.
 #[derive(Clone, Copy, Debug, PartialEq, Eq)]
 pub struct Flags {
     pub invalid: u64,

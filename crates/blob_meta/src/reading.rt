@@ -6,7 +6,7 @@ ghost use Rattle.std.specs.Str.{bytes_eq};
 ghost use Rattle.blob_meta.specs.Says.{flags_in as flags_said, runs_in as runs_said, firsts, xattr_in, internal_in as internal_said, found_xattr, with_first, with_found, map_in as map_said, meta_of};
 ghost use Rattle.super_block.specs.Faults.{IsFaultless};
 ghost use Rattle.super_block.specs.Numbers.{clusters_of, fixed_clusters_of};
-ghost use Rattle.blob_meta.specs.Faults.{map_fault, meta_fault, IsFaultOf};
+ghost use Rattle.blob_meta.specs.Faults.{map_fault, meta_fault, IsMetaFaultOf};
 
 use crate::checks::{bad_mark, cluster_outside, hole_in_thick, too_large, unknown_flag};
 use crate::fault::MetaFault;
@@ -147,7 +147,7 @@ fn internal_in(alloc: Global, items: &[Item]) -> Result<XattrList, Memory>
 fn map_in(alloc: Global, items: &[Item], fixed: u32, clusters: u32) -> Result<SlotMap, MetaFault>
     ensures found { IfOk result (λ map. map ≡ map_said items.now) }
     ensures sound { OnOk result (map_fault fixed clusters (map_said items.now) ≡ None) }
-    ensures fault { IfErr result (λ e. IsFaultOf e (map_fault fixed clusters (map_said items.now))) }
+    ensures fault { IfErr result (λ e. IsMetaFaultOf e (map_fault fixed clusters (map_said items.now))) }
 {
     let runs = runs_in(alloc, items)?;
     if let Some(fault) = too_large(&runs) {
@@ -172,7 +172,7 @@ fn meta_in(
 ) -> Result<Meta, MetaFault>
     ensures found { IfOk result (λ meta. meta ≡ meta_of head items.now) }
     ensures sound { OnOk result (meta_fault fixed clusters (meta_of head items.now) ≡ None) }
-    ensures fault { IfErr result (λ e. IsFaultOf e (meta_fault fixed clusters (meta_of head items.now))) }
+    ensures fault { IfErr result (λ e. IsMetaFaultOf e (meta_fault fixed clusters (meta_of head items.now))) }
 {
     let flags = flags_in(items);
     if let Some(fault) = unknown_flag(flags) {
@@ -202,8 +202,10 @@ pub fn from_items(
 ) -> Result<Meta, MetaFault>
     requires { IsFaultless sup.now }
     ensures found { IfOk result (λ meta. meta ≡ meta_of head items.now) }
-    ensures no_fault { OnOk result (meta_fault (fixed_clusters_of sup.now) (clusters_of sup.now) (meta_of head items.now) ≡ None) }
-    ensures fault { IfErr result (λ e. IsFaultOf e (meta_fault (fixed_clusters_of sup.now) (clusters_of sup.now) (meta_of head items.now))) }
+    ensures no_fault { OnOk result (meta_fault (fixed_clusters_of sup.now) (clusters_of sup.now)
+        (meta_of head items.now) ≡ None) }
+    ensures fault { IfErr result (λ e. IsMetaFaultOf e (meta_fault (fixed_clusters_of sup.now) (clusters_of sup.now)
+        (meta_of head items.now))) }
 {
     let fixed = sup.fixed_clusters();
     let clusters = sup.clusters();

@@ -5,7 +5,7 @@ ghost use Rattle.volume_model.specs.Volumes.{is_head};
 ghost use Rattle.volume_model.specs.Xattrs.{value_of};
 ghost use Rattle.volume_model.specs.Refusals.{is_reserved as reserved_said};
 ghost use Rattle.volume_model.specs.declared.reply.Reply.TheVariants as r;
-ghost use Rattle.blob_meta.specs.Asked.{head_in as head_said, blob_named, first_of, HasValue, IsOnHead, IsCause, IsLiveOf, IsFirstCause};
+ghost use Rattle.blob_meta.specs.Asked.{head_in as head_said, blob_named, first_cause, HasValue, IsOnHead, IsCause, IsLiveOf, IsFirstCause};
 ghost use Rattle.blob_meta.specs.Parents.{head_of_id, is_read_only as read_only_said};
 
 use crate::head_map::Metas;
@@ -72,7 +72,7 @@ fn is_too_long(key: &[u8], value: &[u8]) -> bool
 /// Why no attribute is synced.
 fn refusal_of_sync(reserved: bool, read_only: bool) -> Option<Reply>
     ensures caused { IfSome result IsCause }
-    ensures first { result ≡ first_of ((reserved, r.Reserved) ∷ (read_only, r.ReadOnly) ∷ []) }
+    ensures first { result ≡ first_cause ((reserved, r.Reserved) ∷ (read_only, r.ReadOnly) ∷ []) }
 {
     if reserved {
         Some(Reply::Reserved)
@@ -86,7 +86,8 @@ fn refusal_of_sync(reserved: bool, read_only: bool) -> Option<Reply>
 /// Why the key isn't given the value.
 fn refusal_of_set(reserved: bool, read_only: bool, key: &[u8], value: &[u8]) -> Option<Reply>
     ensures caused { IfSome result IsCause }
-    ensures first { result ≡ first_of ((reserved, r.Reserved) ∷ (read_only, r.ReadOnly) ∷ (nat_lt 4063 (length key.now + length value.now), r.TooLong) ∷ []) }
+    ensures first { result ≡ first_cause ((reserved, r.Reserved) ∷ (read_only, r.ReadOnly)
+        ∷ (nat_lt 4063 (length key.now + length value.now), r.TooLong) ∷ []) }
 {
     if reserved {
         Some(Reply::Reserved)
@@ -107,7 +108,8 @@ fn refusal_of_removal(
     key: &Blobtext,
 ) -> Option<Reply>
     ensures caused { IfSome result IsCause }
-    ensures first { result ≡ first_of ((reserved, r.Reserved) ∷ (read_only, r.ReadOnly) ∷ (is_none (value_of live.now key.now), r.NoValue) ∷ []) }
+    ensures first { result ≡ first_cause ((reserved, r.Reserved) ∷ (read_only, r.ReadOnly)
+        ∷ (is_none (value_of live.now key.now), r.NoValue) ∷ []) }
 {
     if reserved {
         Some(Reply::Reserved)
@@ -121,7 +123,7 @@ fn refusal_of_removal(
 /// Why the value of the key isn't told.
 fn refusal_of_look(live: &XattrList, key: &Blobtext) -> Option<Reply>
     ensures caused { IfSome result IsCause }
-    ensures first { result ≡ first_of ((is_none (value_of live.now key.now), r.NoValue) ∷ []) }
+    ensures first { result ≡ first_cause ((is_none (value_of live.now key.now), r.NoValue) ∷ []) }
     ensures value { IfNone result (IsSome (value_of live.now key.now)) }
 {
     if live.value_of(key.bytes()).is_none() {
@@ -131,11 +133,11 @@ fn refusal_of_look(live: &XattrList, key: &Blobtext) -> Option<Reply>
     }
 }
 
-/// The first cause for which a command on the attributes of the blob at a head is refused; `None` exactly where nothing refuses
-/// it. `live` is the blob's live attributes, which those of `metas` need not be, and is `None` exactly where no such blob is
-/// there. `NoVolume` comes for that, `Reserved` for the super blob or the key `name` or `uuid`, `ReadOnly` for a blob that is
-/// read-only, `TooLong` for a key and a value of more than 4063 bytes together, and `NoValue` for a key that no live attribute
-/// has.
+/// The first cause for which a command on the attributes of the blob at a head is refused; `None` exactly where nothing
+/// refuses it. `live` is the blob's live attributes, which those of `metas` need not be, and is `None` exactly where no
+/// such blob is there. `NoVolume` comes for that, `Reserved` for the super blob or the key `name` or `uuid`, `ReadOnly`
+/// for a blob that is read-only, `TooLong` for a key and a value of more than 4063 bytes together, and `NoValue` for a
+/// key that no live attribute has.
 pub fn refusal_of(
     metas: &Metas,
     sup: &Super,

@@ -46,7 +46,8 @@ fn push_internal(alloc: Global, items: &mut ItemList, xattrs: &[Xattr]) -> Resul
     Ok(())
 }
 
-/// The items of the metadata: flags, attributes, internal attributes and the longest runs of the map, each in its order.
+/// The items of the metadata: flags, attributes, internal attributes and the longest runs of the map, each in its
+/// order.
 pub fn to_items(alloc: Global, meta: &Meta) -> Result<ItemList, Memory>
     ensures { IfOk result (λ items. IsItemsOf meta.now items) }
 {
@@ -63,6 +64,7 @@ pub fn to_items(alloc: Global, meta: &Meta) -> Result<ItemList, Memory>
 
 /// The items of metadata say that metadata, where bit 1 of `invalid` is 0 and no two names of a list are equal.
 pub fn items_say()
-    ensures { (head : ℕ) (m : AMeta) (items : List AnItem) → m.id ≡ 2 ^ 32 + head → without_bit_1 m.flags.invalid ≡ m.flags.invalid →
+    ensures { (head : ℕ) (m : AMeta) (items : List AnItem) → m.id ≡ 2 ^ 32 + head
+        → without_bit_1 m.flags.invalid ≡ m.flags.invalid →
         HasDistinctNames m.xattrs → HasDistinctNames m.internal → IsItemsOf m items → meta_of head items ≡ m }
 {}

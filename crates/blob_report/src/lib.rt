@@ -4,8 +4,6 @@
 mod entry;
 mod pieces;
 mod space;
-#[cfg(test)]
-mod tests;
 mod volume;
 
 pub use entry::render_entry;

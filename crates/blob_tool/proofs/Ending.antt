@@ -2,8 +2,8 @@
 use Rattle.std.proofs.Common.{◌≡◌, ℕ, ◌++◌, false, Option, Some, None, Result, Ok, Err, OnOk, IsTrue, List, refl, sym, ap, subst, ◌∙◌, inl, inr}
 use Rattle.page_disk.specs.Disk.{Rose}
 use Rattle.page_disk.specs.declared.disk.PageDisk as disk
-use Rattle.blob_tool.specs.declared.source.Source as source
-use Rattle.blob_tool.specs.declared.sink.Sink as sink
+use Rattle.streams.specs.declared.source.Source as source
+use Rattle.streams.specs.declared.sink.Sink as sink
 use Rattle.blob_tool.specs.declared.status.Status.{Status}
 use Rattle.blob_tool.specs.declared.status.Status.TheVariants as status
 use Rattle.volume_model.specs.declared.command.Command.{Command}
@@ -17,11 +17,11 @@ use Rattle.unclean_load.specs.declared.fault.LoadFault.TheVariants as loading
 use Rattle.unclean_load.specs.Accepted.{IsAccepted, IsFaultOf, IsImageFault}
 use Rattle.unclean_load.specs.Reading.{IsCounted}
 use Rattle.blob_report.specs.Text.{log_text}
-use Rattle.blob_tool.specs.declared.printing.PrintFault.{PrintFault}
-use Rattle.blob_tool.specs.declared.printing.PrintFault.TheVariants as printing
+use Rattle.streams.specs.declared.printing.PrintFault.{PrintFault}
+use Rattle.streams.specs.declared.printing.PrintFault.TheVariants as printing
 use Rattle.blob_tool.specs.Statuses.{is_usage, of_loading, of_run}
 use Rattle.blob_tool.specs.Runs.{Ended, EndedFrom, IsLoaded, Played}
-use Rattle.blob_tool.specs.Outcome.{HasScript, Outcome, RanTo, Reads, Stays}
+use Rattle.blob_tool.specs.Outcome.{HasScript, NothingWritten, Outcome, RanTo, Reads}
 
 -- a device that was only read has one image still
 pub still_one : {D : Type 0} (d : disk.Ghosts D) (before after : D) → OnlyRead d before after → HasOneImage d before → HasOneImage d after
@@ -72,7 +72,7 @@ module _ {S : Type 0} (s : source.Ghosts S) (script script_now : S) {D : Type 0}
   isnt_usage commands loaded st (inr x) = ap is_usage x.0
 
   -- a store that wasn't loaded
-  pub of_a_fault : (fault : LoadFault) → Stays s script script_now d k out out_now before back → HasScript s script script_now d k out out_now before back → IsCounted (d.read_faults before) (d.read_faults back) fault
+  pub of_a_fault : (fault : LoadFault) → NothingWritten s script script_now d k out out_now before back → HasScript s script script_now d k out out_now before back → IsCounted (d.read_faults before) (d.read_faults back) fault
       → (IsTrue d.tells → IsFaultOf (d.pages before) (d.now before) fault) → (IsTrue d.tells → IsImageFault fault → IsAccepted (d.pages before) (d.now before) → ⊥) → Outcome s script script_now d k out out_now before back (of_loading fault)
   of_a_fault loading.ReadFault stays script counted cause refused = inr (stays, script, refl, counted)
   of_a_fault loading.Memory stays script counted cause refused = inr stays

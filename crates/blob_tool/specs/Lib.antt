@@ -1,13 +1,8 @@
-pub mod Streams
-pub mod Lists
-pub mod Format
-pub mod Text
-pub mod Taking
+pub mod FormatWords
 pub mod Surviving
 pub mod Statuses
 pub mod Runs
 pub mod Outcome
-pub mod Filling
-pub mod Formatted
+pub mod FormatOutcome
 pub mod Driving
 pub mod Serving

@@ -1,19 +1,20 @@
 -- What a call of the program did, by its status.
-use Rattle.std.specs.Prelude.{◌≡◌, ◌⊎◌, ℕ, ◌<◌, ◌≤◌, ◌-◌, ◌^◌, List, [], ◌∷◌, length, slice_index_or, Some, None, Bool, false, IsTrue, codes, String, string_bytes}
+use Rattle.std.specs.Prelude.{◌≡◌, ◌⊎◌, ℕ, ◌<◌, ◌≤◌, ◌^◌, List, [], ◌∷◌, length, Some, None, Bool, false, IsTrue, codes, String, string_bytes}
 use Rattle.std.specs.Str.{bytes_eq}
 use Rattle.std.specs.declared.alloc.Global.{Global}
 use Rattle.page_disk.specs.Disk.{Rose}
 use Rattle.page_disk.specs.declared.disk.PageDisk as disk
 use Rattle.volume_model.specs.declared.command.Command.{Command}
 use Rattle.md_chain.specs.Reading.{OnlyRead}
-use Rattle.script_lang.specs.Script.{kind_on, lines, reads, IsFirstBad}
+use Rattle.script_lang.specs.Script.{reads, IsFirstBad}
+use Rattle.script_lang.specs.declared.grammar.Grammar.TheVariants.{Served}
 use Rattle.script_lang.specs.declared.fault.LineKind.{LineKind}
 use Rattle.store_core.specs.declared.loaded.Loaded.{Loaded}
 use Rattle.store_core.specs.Seen.{At}
 use Rattle.unclean_load.specs.Accepted.{IsAccepted, IsFaultOf, IsImageFault}
 use Rattle.unclean_load.specs.declared.fault.LoadFault.{LoadFault}
-use Rattle.blob_tool.specs.declared.source.Source as source
-use Rattle.blob_tool.specs.declared.sink.Sink as sink
+use Rattle.streams.specs.declared.source.Source as source
+use Rattle.streams.specs.declared.sink.Sink as sink
 use Rattle.blob_tool.specs.declared.status.Status.{Status}
 use Rattle.blob_tool.specs.declared.status.Status.TheVariants as status
 use Rattle.blob_tool.specs.Runs.{Ended, IsLoaded}
@@ -23,19 +24,23 @@ abbrev pub is_run : List (String Global) → Bool
 is_run (verb ∷ image ∷ []) = bytes_eq (string_bytes verb) (codes "run")
 is_run _ = false
 
+-- nothing is printed, and the device that is handed back is the one that was handed in
+pub record NothingDone {D K : Type 0} (out out_now : K) (before back : D) : Type 0 where
+  pub quiet : out_now ≡ out
+  pub device : back ≡ before
+
 module _ {S : Type 0} (s : source.Ghosts S) (script script_now : S) where
   -- the script's text: all that the source had
   pub record IsText (text : List ℕ) : Type 0 where
     pub all : IsTrue s.tells → text ≡ s.left script
     pub rest : IsTrue s.tells → s.left script_now ≡ []
 
-  -- the source's text is no script: this line of it is the first that holds no command, and this is wrong with it
+  -- the source's text is no script: this line of it is the first outside the grammar or over a limit, and this is wrong with it
   pub record HasBadLine (line : ℕ) (kind : LineKind) : Type 0 where
     pub text : List ℕ
     pub is_text : IsText text
-    pub first : IsFirstBad text line
+    pub first : IsFirstBad Served text line kind
     pub no_script : reads text ≡ None
-    pub kind_is : kind ≡ kind_on line (slice_index_or (lines text) (line - 1) [])
 
   -- it is too long, which is said as line 0
   pub record IsTooLong (line : ℕ) : Type 0 where
@@ -70,7 +75,7 @@ module _ {S : Type 0} (s : source.Ghosts S) (script script_now : S) where
       pub ended : Ended d commands k out out_now back first status
 
     -- nothing is printed, and the device was read at most
-    pub record Stays : Type 0 where
+    pub record NothingWritten : Type 0 where
       pub quiet : out_now ≡ out
       pub device : OnlyRead d before back
 
@@ -79,30 +84,30 @@ module _ {S : Type 0} (s : source.Ghosts S) (script script_now : S) where
       pub commands : List (List Command)
       pub script_is : Reads commands
 
-    -- the script is none, or can't be read
+    -- the script is none, or can't be read: then the device isn't touched
     abbrev pub IsBadScript : ℕ → LineKind → Type 0
-    IsBadScript line kind = Stays × (HasBadLine line kind ⊎ IsTooLong line)
+    IsBadScript line kind = NothingDone out out_now before back × (HasBadLine line kind ⊎ IsTooLong line)
 
     abbrev pub IsUnread : Type 0
-    IsUnread = Stays × Rose (s.faults script) (s.faults script_now)
+    IsUnread = NothingDone out out_now before back × Rose (s.faults script) (s.faults script_now)
 
     -- the image has this fault, and isn't accepted
     abbrev pub IsBadImage : LoadFault → Type 0
-    IsBadImage fault = Stays × HasScript × IsImageFault fault × (IsTrue d.tells → IsFaultOf (d.pages before) (d.now before) fault × (IsAccepted (d.pages before) (d.now before) → ⊥))
+    IsBadImage fault = NothingWritten × HasScript × IsImageFault fault × (IsTrue d.tells → IsFaultOf (d.pages before) (d.now before) fault × (IsAccepted (d.pages before) (d.now before) → ⊥))
 
     abbrev pub IsUnloaded : ℕ → Type 0
-    IsUnloaded at = Stays × HasScript × (at ≡ 0) × Rose (d.read_faults before) (d.read_faults back)
+    IsUnloaded at = NothingWritten × HasScript × (at ≡ 0) × Rose (d.read_faults before) (d.read_faults back)
 
     -- what each status says
     abbrev pub Outcome : Status → Type 0
     Outcome status.Good = RanTo status.Good
-    Outcome status.Usage = Stays × (script_now ≡ script)
+    Outcome status.Usage = NothingDone out out_now before back × (script_now ≡ script)
     Outcome (status.Script line kind) = IsBadScript line kind
     Outcome (status.Image fault) = IsBadImage fault
     Outcome status.ScriptRead = IsUnread
     Outcome status.OutWrite = RanTo status.OutWrite
     Outcome (status.Device at) = RanTo (status.Device at) ⊎ IsUnloaded at
-    Outcome status.Memory = RanTo status.Memory ⊎ Stays
+    Outcome status.Memory = RanTo status.Memory ⊎ NothingWritten
 
     -- the source has a script and nothing else, the image is accepted, and no count of faults rose in the call
     pub record NothingFails : Type 0 where

@@ -23,12 +23,12 @@ use Rattle.store_core.specs.Surviving.{HasOneImage}
 use Rattle.store_core.specs.Whole.{IsWhole}
 use Rattle.unclean_load.specs.Accepted.{IsAccepted}
 use Rattle.blob_report.specs.Text.{log_text}
-use Rattle.blob_tool.specs.declared.sink.Sink as sink
+use Rattle.streams.specs.declared.sink.Sink as sink
 use Rattle.blob_tool.specs.declared.status.Status.{Status}
 use Rattle.blob_tool.specs.declared.status.Status.TheVariants as status
 use Rattle.blob_tool.specs.Driving.{ended_row}
-use Rattle.blob_tool.specs.Text.{IsPartOf}
-use Rattle.blob_tool.specs.Surviving.{Survives}
+use Rattle.streams.specs.Printing.{IsPartOf}
+use Rattle.blob_tool.specs.Surviving.{RunSurvives}
 
 module _ {D : Type 0} (d : disk.Ghosts D) (script : List (List Command)) where
   -- A run leads from one state of the store to another, in which every channel has ended and no job runs. Its log is a legal one
@@ -40,14 +40,15 @@ module _ {D : Type 0} (d : disk.Ghosts D) (script : List (List Command)) where
     pub no_job : last.job ≡ None
     pub interleaves : Interleaves last.log script
     pub legal : IsLegal (fixed_of first.super) (shown (state_of d first)) last.log
-    -- a store that stopped has counted a failed write or flush, and its fault, if it has one, stands where it stopped; else no
-    -- entry is a fault or stopped
+    -- a store that stopped has counted a failed write or flush, and its fault, if it has one, stands where it stopped; else it has
+    -- counted none, and no entry is a fault or stopped
     pub counted : (at : ℕ) → last.stopped ≡ Some at → Rose (d.write_faults first.disk) (d.write_faults last.disk)
+    pub uncounted : last.stopped ≡ None → d.write_faults last.disk ≡ d.write_faults first.disk
     pub fault_at : (k : ℕ) (e : Entry) → slice_get last.log k ≡ Some e → e.reply ≡ r.Fault → last.stopped ≡ Some k
     pub quiet : last.stopped ≡ None → All (λ e. IsQuiet e.reply) last.log
     pub replayed : last.stopped ≡ None → shown (state_of d last) ≡ replay (fixed_of first.super) (shown (state_of d first)) last.log
     -- power may fail at any moment, of a device that had one image
-    pub survives : HasOneImage d first.disk → Survives d first.super (shown (state_of d first)) last
+    pub survives : HasOneImage d first.disk → RunSurvives d first.super (shown (state_of d first)) last
 
   -- A store as the device says it, whole in itself: its masks are what its chains and maps claim. It is opened with the script.
   pub record IsLoaded (before : D) (loaded : Loaded D) (first : At D) : Type 0 where

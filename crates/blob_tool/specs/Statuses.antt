@@ -3,12 +3,12 @@ use Rattle.std.specs.Prelude.{ℕ, Option, Some, None, Result, Ok, Err, Bool, tr
 use Rattle.script_lang.specs.declared.fault.LineKind.TheVariants.{Limit}
 use Rattle.script_lang.specs.declared.fault.ScriptFault.{ScriptFault}
 use Rattle.script_lang.specs.declared.fault.ScriptFault.TheVariants as script
-use Rattle.blob_tool.specs.declared.reading.ReadFault.{ReadFault}
-use Rattle.blob_tool.specs.declared.reading.ReadFault.TheVariants as reading
+use Rattle.streams.specs.declared.reading.ReadFault.{ReadFault}
+use Rattle.streams.specs.declared.reading.ReadFault.TheVariants as reading
 use Rattle.unclean_load.specs.declared.fault.LoadFault.{LoadFault}
 use Rattle.unclean_load.specs.declared.fault.LoadFault.TheVariants as loading
-use Rattle.blob_tool.specs.declared.printing.PrintFault.{PrintFault}
-use Rattle.blob_tool.specs.declared.printing.PrintFault.TheVariants as printing
+use Rattle.streams.specs.declared.printing.PrintFault.{PrintFault}
+use Rattle.streams.specs.declared.printing.PrintFault.TheVariants as printing
 use Rattle.blob_tool.specs.declared.status.Status.{Status}
 use Rattle.blob_tool.specs.declared.status.Status.TheVariants as status
 
@@ -40,10 +40,10 @@ is_usage status.Usage = true
 is_usage _ = false
 
 -- a run that was printed whole, or want of memory
-abbrev pub IsDone : Status → Type 0
-IsDone status.Good = Unit {0}
-IsDone status.Memory = Unit {0}
-IsDone _ = ⊥
+abbrev pub IsRunDone : Status → Type 0
+IsRunDone status.Good = Unit {0}
+IsRunDone status.Memory = Unit {0}
+IsRunDone _ = ⊥
 
 -- those that are answered to `format`
 abbrev pub comes_of_format : Status → Bool

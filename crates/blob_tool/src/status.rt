@@ -1,8 +1,7 @@
 //! How a command of the program ends.
 
-use crate::printing::PrintFault;
-use crate::reading::ReadFault;
 use script_lang::{LineKind, ScriptFault};
+use streams::{PrintFault, ReadFault};
 use unclean_load::LoadFault;
 
 /// How a command ended. The exit statuses are 0 to 7, in this order.

@@ -6,7 +6,9 @@ use Rattle.std.proofs.lemmas.Nat.{from_le_bytes-to_le_bytes_4}
 use Rattle.std.specs.Int.{from_le_bytes, to_le_bytes, w32}
 use Rattle.crc32c.specs.Crc.{crc32c_of, is_sound}
 
-pub is_sound-sealed : (front : List ℕ) → length front ≡ 4092 → crc32c_of front < 2 ^ 32 → is_sound (front ++ to_le_bytes w32 (crc32c_of front)) ≡ true
+-- 4092 bytes with their sum behind them are a sound page
+pub is_sound-sealed : (front : List ℕ) → length front ≡ 4092 → crc32c_of front < 2 ^ 32
+    → is_sound (front ++ to_le_bytes w32 (crc32c_of front)) ≡ true
 unfolding is_sound
 is_sound-sealed front len fits =
     let last = to_le_bytes w32 (crc32c_of front) in

@@ -1,7 +1,7 @@
-pub mod Steps
-pub mod OneMap
+pub mod ReadingSteps
+pub mod LongestRunsAreOne
 pub mod OneReading
 pub mod Lengths
-pub mod Again
-pub mod Filled
-pub mod Added
+pub mod WrittenAgain
+pub mod FilledSlots
+pub mod LongestRuns

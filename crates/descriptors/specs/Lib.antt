@@ -1,7 +1,7 @@
 pub mod Numbers
 pub mod Rows
 pub mod Grammar
-pub mod Answers
+pub mod UnlessMemory
 pub mod Writing
 pub mod Slots
 pub mod Runs

@@ -10,6 +10,7 @@ use Rattle.descriptors.specs.declared.runs.MapFault.TheVariants.{TooLarge, Memor
 abbrev pub cluster_of : ℕ → Option ℕ
 cluster_of c = if c == 0 then None else Some c
 
+-- the slots that a run spells
 abbrev pub slots_of_run : SlotRun → List (Option ℕ)
 slots_of_run r = run_slots (cluster_of r.cluster) r.length
 
@@ -31,12 +32,15 @@ IsLongest (r ∷ s ∷ rs) = (0 < r.length) × (goes_on r s.cluster ≡ false) �
 abbrev pub with_open : List SlotRun → SlotRun → List SlotRun
 with_open runs r = if r.length == 0 then runs else runs ++ r ∷ []
 
+-- the run with one slot more
 abbrev pub longer : SlotRun → SlotRun
 longer r = record r { length = r.length + 1 }
 
+-- the run of one slot
 abbrev pub one_slot : ℕ → SlotRun
 one_slot c = record { cluster = c; length = 1 }
 
+-- how many slots runs have together
 abbrev pub slots_of_all : List SlotRun → ℕ
 slots_of_all runs = sum_by (λ r. r.length) runs
 
@@ -44,6 +48,7 @@ slots_of_all runs = sum_by (λ r. r.length) runs
 abbrev pub Reaches : SlotRun → Type 0
 Reaches r = (r.cluster ≡ 0 → ⊥) → r.cluster + r.length ≤ 2 ^ 32
 
+-- the number, or the limit where it is above
 abbrev pub at_most : ℕ → ℕ → ℕ
 at_most limit n = if nat_lt limit n then limit else n
 

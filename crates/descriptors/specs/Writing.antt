@@ -6,15 +6,19 @@ use Rattle.volume_model.specs.declared.lists.SlotRun.{SlotRun}
 use Rattle.descriptors.specs.declared.item.Item.{Item}
 use Rattle.descriptors.specs.declared.item.Item.TheVariants.{Rle, Xattr, Flags, InternalXattr, Unknown}
 
+-- a run in eight bytes
 abbrev pub run_bytes : SlotRun → List ℕ
 run_bytes r = number_bytes 4 r.cluster ++ number_bytes 4 r.length
 
+-- the lengths of both texts, and then the texts
 unfoldable pub pair_bytes : List ℕ → List ℕ → List ℕ
 pair_bytes name value = number_bytes 2 (length name) ++ (number_bytes 2 (length value) ++ (name ++ value))
 
+-- three words of flags
 unfoldable pub flags_bytes : ℕ → ℕ → ℕ → List ℕ
 flags_bytes invalid data_ro md_ro = number_bytes 8 invalid ++ (number_bytes 8 data_ro ++ number_bytes 8 md_ro)
 
+-- the type of an item's descriptor
 abbrev pub kind_of : Item → ℕ
 kind_of (Rle runs) = 1
 kind_of (Xattr key value) = 2
@@ -34,6 +38,7 @@ body_of (Unknown kind) = []
 abbrev pub framed : ℕ → List ℕ → List ℕ
 framed kind body = kind ∷ (number_bytes 4 (length body) ++ body)
 
+-- the descriptor of an item
 abbrev pub item_bytes : Item → List ℕ
 item_bytes item = framed (kind_of item) (body_of item)
 
@@ -45,9 +50,11 @@ item_size (Flags invalid data_ro md_ro) = 29
 item_size (InternalXattr key value) = 9 + length key + length value
 item_size (Unknown kind) = 5
 
+-- the descriptors of items, one behind the other
 abbrev pub spelling : List Item → List ℕ
 spelling items = flat_map item_bytes items
 
+-- how many bytes the items take
 abbrev pub spelled_size : List Item → ℕ
 spelled_size items = sum_by item_size items
 
@@ -55,6 +62,7 @@ spelled_size items = sum_by item_size items
 abbrev pub RunFits : SlotRun → Type 0
 RunFits r = (r.cluster < 2 ^ 32) × (r.length < 2 ^ 32)
 
+-- the item's numbers fit their fields
 abbrev pub ItemFits : Item → Type 0
 ItemFits (Rle runs) = All RunFits runs
 ItemFits (Xattr key value) = Unit {0}

@@ -16,6 +16,3 @@ pub use reading::{one_reading, read_items};
 pub use runs::{MapFault, runs_of, slot_count, slots_of};
 pub use slot_map::SlotMap;
 pub use writing::write_items;
-
-#[cfg(test)]
-mod tests;

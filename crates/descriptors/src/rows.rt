@@ -1,8 +1,8 @@
 //! The bytes of one descriptor, by its type.
 
 ghost use Rattle.std.specs.Prelude.{◌≡◌, ◌+◌, ◌*◌, ◌<◌, ◌≤◌, ◌^◌, length, option_map, IfOk};
-ghost use Rattle.descriptors.specs.Rows.{row, rle, pair_in, flags, runs_in};
-ghost use Rattle.descriptors.specs.Answers.{Gives, RunsGive};
+ghost use Rattle.descriptors.specs.Rows.{row, rle, pair_in, flags, spelled_runs};
+ghost use Rattle.descriptors.specs.UnlessMemory.{Gives, RunsGive};
 
 use crate::item::Item;
 use crate::numbers::{u16_at, u32_at, u64_at};
@@ -33,7 +33,7 @@ impl From<NoMemory> for RowFault {
 /// So many runs, eight bytes each.
 fn runs_of_bytes(alloc: Global, count: usize, bytes: &[u8]) -> Result<RunList, NoMemory>
     requires { count * 8 ≤ length bytes.now }
-    ensures { RunsGive result (runs_in count bytes.now) }
+    ensures { RunsGive result (spelled_runs count bytes.now) }
 {
     let mut runs = RunList::new(alloc);
     let mut rest = bytes;

@@ -25,8 +25,10 @@ fn continues(run: SlotRun, cluster: u32) -> bool
 /// The run that is open after one more slot, where `run` was; a run that ends goes to the others.
 fn add_slot(runs: &mut RunList, run: SlotRun, cluster: u32) -> Result<SlotRun, Memory>
     requires { run.length < 2 ^ 31 }
-    ensures goes_on { IfOk result (λ next. 0 < run.length → IsTrue (goes_on run cluster) → (next ≡ longer run) × (runs.new ≡ runs.old)) }
-    ensures begins { IfOk result (λ next. 0 < run.length → goes_on run cluster ≡ false → (next ≡ one_slot cluster) × (runs.new ≡ runs.old ++ run ∷ [])) }
+    ensures goes_on { IfOk result (λ next. 0 < run.length → IsTrue (goes_on run cluster)
+        → (next ≡ longer run) × (runs.new ≡ runs.old)) }
+    ensures begins { IfOk result (λ next. 0 < run.length → goes_on run cluster ≡ false
+        → (next ≡ one_slot cluster) × (runs.new ≡ runs.old ++ run ∷ [])) }
     ensures first { IfOk result (λ next. run.length ≡ 0 → (next ≡ one_slot cluster) × (runs.new ≡ runs.old)) }
 {
     if run.length == 0 {

@@ -9,8 +9,8 @@ use std::alloc::Global;
 use std::marker::Model;
 use volume_model::TryCopy;
 
-/// The slots of a blob, at most 2^20; each holds a cluster or is empty. Contracts see the list of optional clusters, none
-/// of which is 0.
+/// The slots of a blob, at most 2^20; each holds a cluster or is empty. Contracts see the list of optional clusters,
+/// none of which is 0.
 #[derive(Debug, Drop)]
 pub struct SlotMap {
     slots: Vec<Option<u32>>,
@@ -73,8 +73,8 @@ impl SlotMap {
         Ok(())
     }
 
-    /// Appends so many empty slots, or slots with consecutive clusters from one other than 0. After `Memory` the map is as
-    /// before.
+    /// Appends so many empty slots, or slots with consecutive clusters from one other than 0. After `Memory` the map is
+    /// as before.
     pub fn push_run(&mut self, cluster: Option<u32>, count: u32) -> Result<(), Memory>
         requires room { length self.old + count ≤ 2 ^ 20 }
         requires filled { IfSome cluster (λ c. (0 < c) × (c + count ≤ 2 ^ 32)) }

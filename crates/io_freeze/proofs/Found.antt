@@ -14,6 +14,7 @@ use Rattle.std.proofs.lemmas.List.Elements.{All-head, All-tail}
 use Rattle.io_freeze.specs.declared.rows.Row.{Row}
 use Rattle.io_freeze.specs.Rows.{Rises, IsAt, IsGap, generations_in, frozen_in}
 
+-- two heads that the order of numbers does not tell apart
 abbrev pub tied : ℕ → ℕ → Bool
 tied = eq_by_cmp nat_cmp
 
@@ -22,24 +23,31 @@ abbrev pub row_of : List Row → ℕ → Option Row
 row_of [] q = None
 row_of (row ∷ rows) q = cond (tied q row.head) (Some row) (row_of rows q)
 
+-- the generation in a row
 abbrev pub generation_of : Option Row → Option ℕ
 generation_of row = option_map (λ r. r.generation) row
 
+-- a row that is there is frozen
 abbrev pub is_marked : Option Row → Bool
 is_marked row = option_map_or (λ r. r.frozen) row false
 
+-- equal heads are tied
 pub tied-same : (q k : ℕ) → q ≡ k → tied q k ≡ true
 tied-same q k same = unsigned_tied q k ∙ eq-eqb q k same
 
+-- different heads are not
 pub tied-apart : (q k : ℕ) → q ≢ k → tied q k ≡ false
 tied-apart q k apart = unsigned_tied q k ∙ ne_eqb q k apart
 
+-- a head that no row has
 pub row_of-none : (rows : List Row) (q : ℕ) → All (λ row. row.head ≢ q) rows → row_of rows q ≡ None
 row_of-none [] q none = refl
 row_of-none (row ∷ rows) q none =
-    ap (λ (b : Bool). cond b (Some row) (row_of rows q)) (tied-apart q row.head (λ e. All-head (λ r. r.head ≢ q) row rows none (sym e)))
+    ap (λ (b : Bool). cond b (Some row) (row_of rows q))
+    (tied-apart q row.head (λ e. All-head (λ r. r.head ≢ q) row rows none (sym e)))
     ∙ row_of-none rows q (All-tail (λ r. r.head ≢ q) row rows none)
 
+-- the heads behind the first rise
 pub Rises-tail : (row : Row) (rows : List Row) → Rises (row ∷ rows) → Rises rows
 Rises-tail row rows rises i j d lt within = rises (suc i) (suc j) d (omega arith) (omega arith)
 
@@ -50,31 +58,39 @@ first_alone row rows rises =
     let above : row.head < (get_or rows k d).head = rises 0 (suc k) d (omega arith) (omega arith) in
     omega arith)
 
+-- a head's generation is that of its row
 pub get-generations_in : (rows : List Row) (q : ℕ) → map.get (generations_in rows) q ≡ generation_of (row_of rows q)
 get-generations_in [] q = map.get-empty nat_cmp q
 get-generations_in (row ∷ rows) q =
     map.get-insert nat_cmp_total (generations_in rows) row.head row.generation q
     ∙ ap (cond (tied q row.head) (Some row.generation)) (get-generations_in rows q)
-    ∙ elim (tied q row.head) as (λ b. cond b (Some row.generation) (generation_of (row_of rows q)) ≡ generation_of (cond b (Some row) (row_of rows q))) [
+    ∙ elim (tied q row.head) as
+    (λ b. cond b (Some row.generation) (generation_of (row_of rows q)) ≡ generation_of
+    (cond b (Some row) (row_of rows q))) [
       | true ↦ refl
       | false ↦ refl
     ]
 
 -- the frozen heads, where the first row is or isn't frozen
 frozen_with : Bool → Row → List Row → set.FinSet nat_cmp
-frozen_with b row rows = set.from_list (mapped (λ r. r.head) (cond b (row ∷ filter (λ r. r.frozen) rows) (filter (λ r. r.frozen) rows)))
+frozen_with b row rows =
+    set.from_list (mapped (λ r. r.head) (cond b (row ∷ filter (λ r. r.frozen) rows) (filter (λ r. r.frozen) rows)))
 
-pub contains-frozen_in : (rows : List Row) (q : ℕ) → Rises rows → set.contains (frozen_in rows) q ≡ is_marked (row_of rows q)
+-- a head is frozen where its row is
+pub contains-frozen_in : (rows : List Row) (q : ℕ) → Rises rows
+    → set.contains (frozen_in rows) q ≡ is_marked (row_of rows q)
 unfolding frozen_with
 contains-frozen_in [] q rises = set.contains-empty nat_cmp q
 contains-frozen_in (row ∷ rows) q rises =
-    let rest : set.contains (frozen_in rows) q ≡ is_marked (row_of rows q) = contains-frozen_in rows q (Rises-tail row rows rises) in
+    let rest : set.contains (frozen_in rows) q ≡ is_marked (row_of rows q) =
+    contains-frozen_in rows q (Rises-tail row rows rises) in
     elim (cases_Bool row.frozen) [
       | inl on ↦
           ap (λ (b : Bool). set.contains (frozen_with b row rows) q) on
           ∙ set.contains-insert nat_cmp_total (frozen_in rows) row.head q
           ∙ ap (λ (b : Bool). tied q row.head || b) rest
-          ∙ elim (tied q row.head) as (λ b. (b || is_marked (row_of rows q)) ≡ is_marked (cond b (Some row) (row_of rows q))) [
+          ∙ elim (tied q row.head) as
+          (λ b. (b || is_marked (row_of rows q)) ≡ is_marked (cond b (Some row) (row_of rows q))) [
             | true ↦ sym on
             | false ↦ refl
           ]
@@ -84,8 +100,10 @@ contains-frozen_in (row ∷ rows) q rises =
           ∙ elim (cases_eq q row.head) [
             | inl same ↦
                 ap (λ (k : ℕ). is_marked (row_of rows k)) same ∙ ap is_marked (first_alone row rows rises)
-                ∙ sym (ap (λ (b : Bool). is_marked (cond b (Some row) (row_of rows q))) (tied-same q row.head same) ∙ off)
-            | inr apart ↦ sym (ap (λ (b : Bool). is_marked (cond b (Some row) (row_of rows q))) (tied-apart q row.head apart))
+                ∙ sym (ap (λ (b : Bool). is_marked (cond b (Some row) (row_of rows q))) (tied-same q row.head same)
+                ∙ off)
+            | inr apart ↦
+                sym (ap (λ (b : Bool). is_marked (cond b (Some row) (row_of rows q))) (tied-apart q row.head apart))
           ]
     ]
 
@@ -104,8 +122,10 @@ index-le : (a b head : ℕ) → a ≤ b → ordering_index (nat_cmp a head) ≤ 
 index-le a b head le = grind (arith, nat_tests)
 
 -- what a binary search by the heads finds
-pub searched : (rows : List Row) (head : ℕ) (r : Result ℕ ℕ) → Rises rows → IsSearchInRange r (length rows) → IsBinarySearchResult (λ row. nat_cmp row.head head) rows r → MatchResult r (IsAt rows head) (IsGap rows head)
-searched rows head (Ok place) rises within equal = record { within = within; there = λ d. ranked _ head _ (sym (equal d)) }
+pub searched : (rows : List Row) (head : ℕ) (r : Result ℕ ℕ) → Rises rows → IsSearchInRange r (length rows)
+    → IsBinarySearchResult (λ row. nat_cmp row.head head) rows r → MatchResult r (IsAt rows head) (IsGap rows head)
+searched rows head (Ok place) rises within equal =
+    record { within = within; there = λ d. ranked _ head _ (sym (equal d)) }
 searched rows head (Err place) rises within parted =
     let ordered : IsNonDecreasingBy (λ row. ordering_index (nat_cmp row.head head)) rows = λ i j d le in'.
     index-le (get_or rows i d).head (get_or rows j d).head head (elim (cases_lt i j) [

@@ -1,5 +1,5 @@
 mod Found
 mod Edits
 mod States
-mod Seen
+mod RowViews
 mod Numbers

@@ -5,6 +5,7 @@ use Rattle.std.specs.FinMap as map
 use Rattle.std.specs.FinSet as set
 use Rattle.std.specs.Coded.{Coded, code_by, coded×, coded_ℕ}
 
+-- guards of heads
 pub record GuardsState : Type 0 where
   -- the held heads, each with its generation
   pub generations : map.FinMap nat_cmp ℕ

@@ -5,9 +5,9 @@ use out_of_memory::Memory;
 use std::alloc::Global;
 use std::marker::Model;
 
-/// Which heads are held, which of these are frozen, and the generation of each, a number that no head had before. Contracts
-/// see a finite map from the held heads to their generations, the set of the frozen heads, the number that was drawn last,
-/// and how many heads can be held. No call but `new` takes memory.
+/// Which heads are held, which of these are frozen, and the generation of each, a number that no head had before.
+/// Contracts see a finite map from the held heads to their generations, the set of the frozen heads, the number that
+/// was drawn last, and how many heads can be held. No call but `new` takes memory.
 #[derive(Drop)]
 pub struct Guards {
     rows: Vec<Row>,
@@ -25,7 +25,13 @@ impl Model for Guards {
 
     ghost use Rattle.io_freeze.specs.Rows.{IsKept, frozen_in, generations_in};
 
-    ghost view = { λ g. record { generations = generations_in g.rows.items; frozen = frozen_in g.rows.items; drawn = g.drawn; room = g.room } };
+    ghost view = { λ g.
+        record {
+          generations = generations_in g.rows.items;
+          frozen = frozen_in g.rows.items;
+          drawn = g.drawn;
+          room = g.room;
+        } };
 
     ghost invariant = { λ g. IsKept g.rows.items (vec_capacity g.rows) g.drawn g.room };
 }

@@ -8,6 +8,3 @@ mod rows;
 pub use guards::Guards;
 pub use laws::generations_never_repeat;
 pub use out_of_memory::Memory;
-
-#[cfg(test)]
-mod tests;

@@ -1,8 +1,8 @@
-//! What the commands on logical volumes make of metadata: each is planned as a job, or refused.
+//! What the commands on logical volumes make of metadata: each is planned as a job, or refused. Names and uuids as they are given.
 #![tactic(auto)]
 
 mod attributes;
-#[cfg(test)]
-mod tests;
+mod words;
 
 pub use attributes::{plan_put, plan_sync};
+pub use words::{BadName, LvolFault, check_name, parse_uuid, uuid_in};

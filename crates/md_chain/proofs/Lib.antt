@@ -1,11 +1,10 @@
 pub mod OneChain
 pub mod Links
-pub mod Written
 pub mod Walking
 pub mod Walks
-pub mod Pieces
+pub mod RunPieces
 pub mod Plannable
 pub mod Fitting
-pub mod Chained
+pub mod PlannedChain
 pub mod Saying
 pub mod OfMeta

@@ -8,7 +8,7 @@ use Rattle.md_page.specs.Page.{id_of, sequence_of}
 use Rattle.md_chain.specs.Chain.{Look, link_fault, is_among, Links, last, more, Agree}
 
 -- what a page that passes its tests is
-pub record Passes (page : List ℕ) (md_len h n : ℕ) (seen : List ℕ) (p : ℕ) : Type 0 where
+pub record LinkPasses (page : List ℕ) (md_len h n : ℕ) (seen : List ℕ) (p : ℕ) : Type 0 where
   pub low : p < md_len
   pub new : is_among p seen ≡ false
   pub sound : is_sound page ≡ true
@@ -19,7 +19,9 @@ one_test : {X : Type 0} (b : Bool) (f : X) (rest : Option X) → cond b (Some f)
 one_test true f rest e = absurd cc
 one_test false f rest e = (refl, e)
 
-pub passes : (page : List ℕ) (md_len h n : ℕ) (seen : List ℕ) (before p : ℕ) → link_fault page md_len h n seen before p ≡ None → Passes page md_len h n seen p
+-- a page without fault passes each test
+pub passes : (page : List ℕ) (md_len h n : ℕ) (seen : List ℕ) (before p : ℕ)
+    → link_fault page md_len h n seen before p ≡ None → LinkPasses page md_len h n seen p
 unfolding link_fault
 passes page md_len h n seen before p e =
     let a = one_test _ _ _ e in
@@ -45,39 +47,57 @@ pub record Linked (page : List ℕ) (md_len h n p : ℕ) : Type 0 where
 among_one : (q p : ℕ) → is_among q (p ∷ []) ≡ true → p ≡ q
 among_one q p e = elim (or_cases (p == q) false e) [ inl a ↦ eqb-true p q a | inr b ↦ absurd cc ]
 
-pub linked : (look : Look) (md_len h n : ℕ) (seen : List ℕ) (before p : ℕ) (items : List Item) (pages : List ℕ) → Links look md_len h n seen before p items pages
+-- each page of a chain is sound, of the head's blob, and no earlier than its start
+pub linked : (look : Look) (md_len h n : ℕ) (seen : List ℕ) (before p : ℕ) (items : List Item) (pages : List ℕ)
+    → Links look md_len h n seen before p items pages
     → (q : ℕ) → is_among q pages ≡ true → Linked (look q) md_len h n q
 linked look md_len h n seen before p items pages (last _ _ _ _ _ lf s e) q a =
     let t = passes (look p) md_len h n seen before p lf in
-    subst (λ (k : ℕ). Linked (look k) md_len h n k) (among_one q p a) (record { low = t.low; sound = t.sound; id = t.id; late = let x = t.sequence in omega (arith, x) })
+    subst (λ (k : ℕ). Linked (look k) md_len h n k) (among_one q p a)
+    (record { low = t.low; sound = t.sound; id = t.id; late = let x = t.sequence in omega (arith, x) })
 linked look md_len h n seen before p items pages (more _ _ _ _ _ rest ps lf s ne l) q a =
     let t = passes (look p) md_len h n seen before p lf in
     elim (or_cases (p == q) (is_among q ps) a) [
-      | inl e ↦ subst (λ (k : ℕ). Linked (look k) md_len h n k) (eqb-true p q e) (record { low = t.low; sound = t.sound; id = t.id; late = let x = t.sequence in omega (arith, x) })
-      | inr b ↦ let w = linked look md_len h (suc n) _ _ _ rest ps l q b in record { low = w.low; sound = w.sound; id = w.id; late = let x = w.late in omega (arith, x) }
+      | inl e ↦ subst (λ (k : ℕ). Linked (look k) md_len h n k) (eqb-true p q e)
+          (record { low = t.low; sound = t.sound; id = t.id; late = let x = t.sequence in omega (arith, x) })
+      | inr b ↦ let w = linked look md_len h (suc n) _ _ _ rest ps l q b in
+          record { low = w.low; sound = w.sound; id = w.id; late = let x = w.late in omega (arith, x) }
     ]
 
 -- the first page is at p
-pub begins : (look : Look) (md_len h n : ℕ) (seen : List ℕ) (before p : ℕ) (items : List Item) (pages : List ℕ) → Links look md_len h n seen before p items pages → is_among p pages ≡ true
+pub begins : (look : Look) (md_len h n : ℕ) (seen : List ℕ) (before p : ℕ) (items : List Item) (pages : List ℕ)
+    → Links look md_len h n seen before p items pages → is_among p pages ≡ true
 begins look md_len h n seen before p items pages (last _ _ _ _ _ lf s e) = grind (arith, eq-eqb p p refl)
 begins look md_len h n seen before p items pages (more _ _ _ _ _ rest ps lf s ne l) = grind (arith, eq-eqb p p refl)
 
 -- the first page passes the tests
-pub first : (look : Look) (md_len h n : ℕ) (seen : List ℕ) (before p : ℕ) (items : List Item) (pages : List ℕ) → Links look md_len h n seen before p items pages → Passes (look p) md_len h n seen p
+pub first : (look : Look) (md_len h n : ℕ) (seen : List ℕ) (before p : ℕ) (items : List Item) (pages : List ℕ)
+    → Links look md_len h n seen before p items pages → LinkPasses (look p) md_len h n seen p
 first look md_len h n seen before p items pages (last _ _ _ _ _ lf s e) = passes (look p) md_len h n seen before p lf
-first look md_len h n seen before p items pages (more _ _ _ _ _ rest ps lf s ne l) = passes (look p) md_len h n seen before p lf
+first look md_len h n seen before p items pages (more _ _ _ _ _ rest ps lf s ne l) =
+    passes (look p) md_len h n seen before p lf
 
 -- of a chain `h, rest`, each page of the rest has a sequence above 0
-pub later : (look : Look) (md_len h n : ℕ) (seen : List ℕ) (before p : ℕ) (items : List Item) (k : ℕ) (rest : List ℕ) → Links look md_len h n seen before p items (k ∷ rest)
+pub later : (look : Look) (md_len h n : ℕ) (seen : List ℕ) (before p : ℕ) (items : List Item) (k : ℕ) (rest : List ℕ)
+    → Links look md_len h n seen before p items (k ∷ rest)
     → (p ≡ k) × ((q : ℕ) → is_among q rest ≡ true → Linked (look q) md_len h (suc n) q)
 later look md_len h n seen before p items k rest (last _ _ _ _ _ lf s e) = (refl, λ q a. absurd cc)
-later look md_len h n seen before p items k rest (more _ _ _ _ _ is ps lf s ne l) = (refl, λ q a. linked look md_len h (suc n) _ _ _ is rest l q a)
+later look md_len h n seen before p items k rest (more _ _ _ _ _ is ps lf s ne l) =
+    (refl, λ q a. linked look md_len h (suc n) _ _ _ is rest l q a)
 
-pub agree_by : (look other : Look) (ps : List ℕ) → ((q : ℕ) → is_among q ps ≡ true → other q ≡ look q) → Agree look other ps
+-- images agree at places where they have the same pages
+pub agree_by : (look other : Look) (ps : List ℕ) → ((q : ℕ) → is_among q ps ≡ true → other q ≡ look q)
+    → Agree look other ps
 agree_by look other [] same = tt
-agree_by look other (p ∷ ps) same = (same p (grind (arith, eq-eqb p p refl)), agree_by look other ps (λ q a. same q (grind (arith, a))))
+agree_by look other (p ∷ ps) same = (
+  same p (grind (arith, eq-eqb p p refl)),
+  agree_by look other ps
+      (λ q a. same q (grind (arith, a))),
+)
 
-pub agree_at : (look other : Look) (ps : List ℕ) → Agree look other ps → (q : ℕ) → is_among q ps ≡ true → other q ≡ look q
+-- images that agree at places have the same pages there
+pub agree_at : (look other : Look) (ps : List ℕ) → Agree look other ps → (q : ℕ) → is_among q ps ≡ true
+    → other q ≡ look q
 agree_at look other [] same q a = absurd cc
 agree_at look other (p ∷ ps) same q a = elim (or_cases (p == q) (is_among q ps) a) [
   | inl e ↦ subst (λ (k : ℕ). other k ≡ look k) (eqb-true p q e) same.0

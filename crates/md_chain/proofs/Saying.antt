@@ -30,10 +30,30 @@ same_meta head xs ys s =
     cc
 
 same_cons : (x : Item) (xs ys : List Item) → SaySame xs ys → SaySame (x ∷ xs) (x ∷ ys)
-same_cons (Rle runs) xs ys s = record { flags = s.flags; xattrs = s.xattrs; internal = s.internal; runs = ap (λ rs. runs ++ rs) s.runs }
-same_cons (Xattr key value) xs ys s = record { flags = s.flags; xattrs = ap (λ zs. record { key = key; value = value } ∷ zs) s.xattrs; internal = s.internal; runs = s.runs }
-same_cons (InternalXattr key value) xs ys s = record { flags = s.flags; xattrs = s.xattrs; internal = ap (λ zs. record { key = key; value = value } ∷ zs) s.internal; runs = s.runs }
-same_cons (Flags a b c) xs ys s = record { flags = λ before. s.flags (record { invalid = a; data_ro = b; md_ro = c }); xattrs = s.xattrs; internal = s.internal; runs = s.runs }
+same_cons (Rle runs) xs ys s = record {
+  flags = s.flags;
+  xattrs = s.xattrs;
+  internal = s.internal;
+  runs = ap (λ rs. runs ++ rs) s.runs;
+}
+same_cons (Xattr key value) xs ys s = record {
+  flags = s.flags;
+  xattrs = ap (λ zs. record { key = key; value = value } ∷ zs) s.xattrs;
+  internal = s.internal;
+  runs = s.runs;
+}
+same_cons (InternalXattr key value) xs ys s = record {
+  flags = s.flags;
+  xattrs = s.xattrs;
+  internal = ap (λ zs. record { key = key; value = value } ∷ zs) s.internal;
+  runs = s.runs;
+}
+same_cons (Flags a b c) xs ys s = record {
+  flags = λ before. s.flags (record { invalid = a; data_ro = b; md_ro = c });
+  xattrs = s.xattrs;
+  internal = s.internal;
+  runs = s.runs;
+}
 same_cons (Unknown kind) xs ys s = record { flags = s.flags; xattrs = s.xattrs; internal = s.internal; runs = s.runs }
 
 -- ---- runs
@@ -47,7 +67,12 @@ record SayRuns (xs : List Item) (runs : List SlotRun) : Type 0 where
 
 on_pages : (ps : List (List SlotRun)) → SayRuns (together (map on_page ps)) (flat_map (λ p. p) ps)
 on_pages [] = record { flags = λ before. refl; xattrs = refl; internal = refl; runs_are = refl }
-on_pages (p ∷ ps) = let s = on_pages ps in record { flags = s.flags; xattrs = s.xattrs; internal = s.internal; runs_are = ap (λ rs. p ++ rs) s.runs_are }
+on_pages (p ∷ ps) = let s = on_pages ps in record {
+  flags = s.flags;
+  xattrs = s.xattrs;
+  internal = s.internal;
+  runs_are = ap (λ rs. p ++ rs) s.runs_are;
+}
 
 run_in_front : (r : SlotRun) (ps : List (List SlotRun)) → flat_map (λ p. p) (with_run r ps) ≡ r ∷ flat_map (λ p. p) ps
 run_in_front r [] = refl
@@ -60,12 +85,18 @@ all_runs zero (r ∷ rs) = run_in_front r (pieces 507 rs) ∙ ap (λ xs. r ∷ x
 all_runs (suc left) (r ∷ rs) = run_in_front r (pieces left rs) ∙ ap (λ xs. r ∷ xs) (all_runs left rs)
 
 say_runs : (xs : List Item) (runs rs : List SlotRun) → SayRuns xs rs → rs ≡ runs → SaySame xs (Rle runs ∷ [])
-say_runs xs runs rs s e = record { flags = s.flags; xattrs = s.xattrs; internal = s.internal; runs = s.runs_are ∙ e ∙ sym (append-nil runs) }
+say_runs xs runs rs s e = record {
+  flags = s.flags;
+  xattrs = s.xattrs;
+  internal = s.internal;
+  runs = s.runs_are ∙ e ∙ sym (append-nil runs);
+}
 
 runs_say : (room : ℕ) (runs : List SlotRun) → SaySame (together (run_parts room runs)) (Rle runs ∷ [])
 runs_say room runs = go (nat_lt room 13)
   where
-    go : (b : Bool) → SaySame (together (cond b ([] ∷ map on_page (pieces 508 runs)) (map on_page (pieces ((room - 5) / 8) runs)))) (Rle runs ∷ [])
+    go : (b : Bool) → SaySame (together (cond b ([] ∷ map on_page (pieces 508 runs))
+        (map on_page (pieces ((room - 5) / 8) runs)))) (Rle runs ∷ [])
     go true = say_runs _ runs _ (on_pages (pieces 508 runs)) (all_runs 508 runs)
     go false = say_runs _ runs _ (on_pages (pieces ((room - 5) / 8) runs)) (all_runs ((room - 5) / 8) runs)
 
@@ -76,13 +107,16 @@ item_in_front x [] = refl
 item_in_front x (p ∷ ps) = refl
 
 whole_says : (room : ℕ) (x : Item) (items : List Item) → ((r : ℕ) → SaySame (together (parts_from r items)) items)
-    → SaySame (together (cond (nat_le (item_size x) room) (on_first (x ∷ []) (parts_from (room - item_size x) items)) ([] ∷ on_first (x ∷ []) (parts_from (4072 - item_size x) items)))) (x ∷ items)
+    → SaySame (together (cond (nat_le (item_size x) room) (on_first (x ∷ []) (parts_from (room - item_size x) items))
+    ([] ∷ on_first (x ∷ []) (parts_from (4072 - item_size x) items)))) (x ∷ items)
 whole_says room x items rest = go (nat_le (item_size x) room)
   where
     there : (r : ℕ) → SaySame (together (on_first (x ∷ []) (parts_from r items))) (x ∷ items)
-    there r = subst (λ (xs : List Item). SaySame xs (x ∷ items)) (sym (item_in_front x (parts_from r items))) (same_cons x (together (parts_from r items)) items (rest r))
+    there r = subst (λ (xs : List Item). SaySame xs (x ∷ items)) (sym (item_in_front x (parts_from r items)))
+        (same_cons x (together (parts_from r items)) items (rest r))
 
-    go : (b : Bool) → SaySame (together (cond b (on_first (x ∷ []) (parts_from (room - item_size x) items)) ([] ∷ on_first (x ∷ []) (parts_from (4072 - item_size x) items)))) (x ∷ items)
+    go : (b : Bool) → SaySame (together (cond b (on_first (x ∷ []) (parts_from (room - item_size x) items))
+        ([] ∷ on_first (x ∷ []) (parts_from (4072 - item_size x) items)))) (x ∷ items)
     go true = there (room - item_size x)
     go false = there (4072 - item_size x)
 
@@ -90,8 +124,10 @@ attributes_say : (room : ℕ) (items : List Item) → AreAttributes items → Sa
 attributes_say room [] a = record { flags = λ before. refl; xattrs = refl; internal = refl; runs = refl }
 attributes_say room (Rle runs ∷ []) a = runs_say room runs
 attributes_say room (Rle runs ∷ x ∷ items) a = absurd a
-attributes_say room (Xattr key value ∷ items) a = whole_says room (Xattr key value) items (λ r. attributes_say r items a.1)
-attributes_say room (InternalXattr key value ∷ items) a = whole_says room (InternalXattr key value) items (λ r. attributes_say r items a.1)
+attributes_say room (Xattr key value ∷ items) a = whole_says room (Xattr key value) items
+    (λ r. attributes_say r items a.1)
+attributes_say room (InternalXattr key value ∷ items) a =
+    whole_says room (InternalXattr key value) items (λ r. attributes_say r items a.1)
 attributes_say room (Flags x y z ∷ items) a = absurd a
 attributes_say room (Unknown kind ∷ items) a = absurd a
 
@@ -103,5 +139,7 @@ say (Xattr key value ∷ items) a = absurd a
 say (InternalXattr key value ∷ items) a = absurd a
 say (Unknown kind ∷ items) a = absurd a
 
-pub written_say : (head : ℕ) (items : List Item) → ArePlannable items → meta_of head (written_items items) ≡ meta_of head items
+-- the law of `written_items_say`
+pub written_say : (head : ℕ) (items : List Item) → ArePlannable items
+    → meta_of head (written_items items) ≡ meta_of head items
 written_say head items a = same_meta head (written_items items) items (say items a)

@@ -24,11 +24,14 @@ page_fault page head n place =
 
 -- Why a page isn't fetched: its place fails a test, or the device counted a failed read.
 abbrev pub IsFetchFault : ℕ → List ℕ → ℕ → ℕ → ℕ → ℕ → ChainFault → Type 0
-IsFetchFault md_len seen before place old new faults.ReadFault = (place_fault md_len seen before place ≡ None) × Rose old new
+IsFetchFault md_len seen before place old new faults.ReadFault =
+    (place_fault md_len seen before place ≡ None) × Rose old new
 IsFetchFault md_len seen before place old new why = (place_fault md_len seen before place ≡ Some why) × (new ≡ old)
 
--- Why a page isn't the nth of a blob: it fails a test, or its body has a bad descriptor. Want of memory may come anywhere.
-abbrev pub IsPageFault : List ℕ → ℕ → ℕ → ℕ → ChainFault → Type 0
-IsPageFault page head n place (faults.BadItem at_place at kind) = (at_place ≡ place) × (page_fault page head n place ≡ None) × Spoils (body_of page) at kind
-IsPageFault page head n place faults.Memory = Unit {0}
-IsPageFault page head n place why = page_fault page head n place ≡ Some why
+-- Why a page isn't the nth of a blob: it fails a test, or its body has a bad descriptor. Want of memory may come
+-- anywhere.
+abbrev pub IsNthPageFault : List ℕ → ℕ → ℕ → ℕ → ChainFault → Type 0
+IsNthPageFault page head n place (faults.BadItem at_place at kind) =
+    (at_place ≡ place) × (page_fault page head n place ≡ None) × Spoils (body_of page) at kind
+IsNthPageFault page head n place faults.Memory = Unit {0}
+IsNthPageFault page head n place why = page_fault page head n place ≡ Some why

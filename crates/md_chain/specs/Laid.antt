@@ -4,6 +4,7 @@ use Rattle.descriptors.specs.declared.item.Item.{Item}
 use Rattle.descriptors.specs.declared.item.Item.TheVariants as item
 use Rattle.md_chain.specs.Packing.{on_first}
 
+-- an item of runs
 abbrev pub IsRuns : Item → Type 0
 IsRuns (item.Rle runs) = Unit {0}
 IsRuns _ = ⊥

@@ -6,6 +6,7 @@ use Rattle.volume_model.specs.declared.text.Xattr.{Xattr}
 use Rattle.descriptors.specs.declared.item.Item.{Item}
 use Rattle.descriptors.specs.declared.item.Item.TheVariants as item
 use Rattle.descriptors.specs.Writing.{item_size}
+use Rattle.blob_meta.specs.Says.{runs_in}
 
 -- ---- which items can be laid
 
@@ -26,16 +27,13 @@ ArePlannable _ = ⊥
 abbrev pub FitsPage : Xattr → Type 0
 FitsPage x = length x.key + length x.value ≤ 4063
 
-abbrev pub runs_in : Item → List SlotRun
-runs_in (item.Rle runs) = runs
-runs_in _ = []
-
 -- the items and the runs in them are few together
 abbrev pub AreFew : List Item → Type 0
 AreFew items = length items + length (flat_map runs_in items) < 2 ^ 31
 
 -- ---- the pages
 
+-- one run more on the first of these pages
 abbrev pub with_run : SlotRun → List (List SlotRun) → List (List SlotRun)
 with_run run [] = (run ∷ []) ∷ []
 with_run run (piece ∷ pieces) = (run ∷ piece) ∷ pieces
@@ -46,20 +44,22 @@ pieces left [] = [] ∷ []
 pieces zero (run ∷ runs) = [] ∷ with_run run (pieces 507 runs)
 pieces (suc left) (run ∷ runs) = with_run run (pieces left runs)
 
+-- the item of a page's runs, if it has any
 abbrev pub on_page : List SlotRun → List Item
 on_page piece = item.Rle piece ∷ []
 
 -- Where 13 bytes are left of the current page it takes as many runs as fit; the others follow on pages of their own.
 abbrev pub run_parts : ℕ → List SlotRun → List (List Item)
-run_parts room runs = if nat_lt room 13 then [] ∷ map on_page (pieces 508 runs) else map on_page (pieces ((room - 5) / 8) runs)
+run_parts room runs = if nat_lt room 13 then [] ∷ map on_page (pieces 508 runs) else map on_page
+    (pieces ((room - 5) / 8) runs)
 
 -- before what is already on the first page
 abbrev pub on_first : List Item → List (List Item) → List (List Item)
 on_first items [] = items ∷ []
 on_first items (page ∷ pages) = (items ++ page) ∷ pages
 
--- What goes to the current page, which has so many bytes left, and to the pages after it. An item that doesn't fit begins a
--- new page. The runs are the last item.
+-- What goes to the current page, which has so many bytes left, and to the pages after it. An item that doesn't fit
+-- begins a new page. The runs are the last item.
 abbrev pub parts_from : ℕ → List Item → List (List Item)
 parts_from room [] = [] ∷ []
 parts_from room (item.Rle runs ∷ _) = run_parts room runs

@@ -12,7 +12,12 @@ use Rattle.md_chain.specs.declared.plan.PlannedPage.{PlannedPage}
 
 -- The nth page of the chain of a head, with these items in its body, zeros behind them, and this next place.
 unfoldable pub page_written : ℕ → ℕ → List Item → ℕ → List ℕ
-page_written head n part next = page_bytes (record { id = blob_id head; sequence = n; body = spelling part ++ replicate (4072 - spelled_size part) 0; next = next })
+page_written head n part next = page_bytes (record {
+  id = blob_id head;
+  sequence = n;
+  body = spelling part ++ replicate (4072 - spelled_size part) 0;
+  next = next;
+})
 
 -- the place that comes next, or the end of the chain
 abbrev pub next_in : List ℕ → ℕ
@@ -22,7 +27,8 @@ next_in (place ∷ _) = place
 -- the pages from the nth on, which is at this place: one for each part, at the places in their order
 abbrev pub pages_from : ℕ → ℕ → ℕ → List ℕ → List (List Item) → List PlannedPage
 pages_from head n place fresh [] = []
-pages_from head n place fresh (part ∷ parts) = record { place = place; page = page_written head n part (next_in fresh) } ∷ pages_from head (suc n) (next_in fresh) (drop 1 fresh) parts
+pages_from head n place fresh (part ∷ parts) = record { place = place; page = page_written head n part (next_in fresh) }
+    ∷ pages_from head (suc n) (next_in fresh) (drop 1 fresh) parts
 
 -- the pages of the items, the first at the head and the others at the fresh places
 abbrev pub chain_pages : List Item → ℕ → List ℕ → List PlannedPage
@@ -33,7 +39,7 @@ abbrev pub written_items : List Item → List Item
 written_items items = flat_map (λ part. part) (parts_of items)
 
 -- a page that is read as the nth of a head's chain, with these items and this next place
-pub record IsPlanned (head n : ℕ) (part : List Item) (next : ℕ) (page : List ℕ) : Type 0 where
+pub record IsNthPage (head n : ℕ) (part : List Item) (next : ℕ) (page : List ℕ) : Type 0 where
   pub sound : IsTrue (is_sound page)
   pub id : id_of page ≡ blob_id head
   pub sequence : sequence_of page ≡ n
@@ -41,6 +47,6 @@ pub record IsPlanned (head n : ℕ) (part : List Item) (next : ℕ) (page : List
   pub next_is : next_of page ≡ next
 
 -- The ith page of a plan stands at the ith of these places, and is read as the ith of the head's chain.
-pub record IsPageOf (head : ℕ) (places : List ℕ) (parts : List (List Item)) (i : ℕ) (p : PlannedPage) : Type 0 where
+pub record IsPageOfPlan (head : ℕ) (places : List ℕ) (parts : List (List Item)) (i : ℕ) (p : PlannedPage) : Type 0 where
   pub place : p.place ≡ slice_index_or places i chain_end
-  pub page : IsPlanned head i (slice_index_or parts i []) (slice_index_or places (i + 1) chain_end) p.page
+  pub page : IsNthPage head i (slice_index_or parts i []) (slice_index_or places (i + 1) chain_end) p.page

@@ -27,7 +27,8 @@ abbrev pub WasSeen : {D : Type 0} → Ghosts D → Super → D → Look → Type
 WasSeen d s disk look = IsTrue d.tells → look ≡ region_look s (d.now disk)
 
 -- The pages that the device gave are a chain of the head.
-pub record GaveChain {D : Type 0} (d : Ghosts D) (s : Super) (disk : D) (head : ℕ) (pages : List ℕ) (items : List Item) : Type 0 where
+pub record GaveChain {D : Type 0} (d : Ghosts D) (s : Super) (disk : D) (head : ℕ) (pages : List ℕ)
+    (items : List Item) : Type 0 where
   pub look : Look
   pub seen : WasSeen d s disk look
   pub chain : Chain look s.md_len head items pages

@@ -6,7 +6,8 @@ use thiserror::Error;
 /// The first test that fails, at the first place of the chain that fails one. Places are those of the metadata region.
 #[derive(Clone, Copy, Debug, PartialEq, Eq, Error)]
 pub enum ChainFault {
-    /// The page at `page` links to a place past the region's end; or the head is there itself, and then `page` is the head.
+    /// The page at `page` links to a place past the region's end; or the head is there itself, and then `page` is the
+    /// head.
     #[error("page {page} links to {next}, past the metadata region's end")]
     LinkPastEnd { page: u32, next: u32 },
     /// The place is in the chain already.

@@ -23,13 +23,17 @@ pub fn chains()
         Agree look other pages → Chain look md_len head items pages → Chain other md_len head items pages }
 {}
 
-/// The items that stand in the planned pages say the metadata that was planned, though its runs may have several descriptors.
+/// The items that stand in the planned pages say the metadata that was planned, though its runs may have several
+/// descriptors.
 pub fn written_items_say()
-    ensures { (head : ℕ) (items : List Item) → ArePlannable items → meta_of head (written_items items) ≡ meta_of head items }
+    ensures { (head : ℕ) (items : List Item) → ArePlannable items
+        → meta_of head (written_items items) ≡ meta_of head items }
 {}
 
 /// The items of metadata can be planned, where one page takes each attribute.
 pub fn metadata_is_plannable()
-    ensures plannable { (m : Meta) (items : List Item) → IsItemsOf m items → All FitsPage m.xattrs → All FitsPage m.internal → ArePlannable items }
-    ensures few { (m : Meta) (items : List Item) → IsItemsOf m items → length m.xattrs + length m.internal + length m.map + 2 < 2 ^ 31 → AreFew items }
+    ensures plannable { (m : Meta) (items : List Item) → IsItemsOf m items → All FitsPage m.xattrs
+        → All FitsPage m.internal → ArePlannable items }
+    ensures few { (m : Meta) (items : List Item) → IsItemsOf m items
+        → length m.xattrs + length m.internal + length m.map + 2 < 2 ^ 31 → AreFew items }
 {}

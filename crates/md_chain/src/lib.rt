@@ -18,7 +18,4 @@ pub use out_of_memory::Memory;
 pub use plan::{Plan, PlannedPage};
 pub use planning::plan_chain;
 pub use reading::read_chain;
-pub use size::{chain_len, fits_body};
-
-#[cfg(test)]
-mod tests;
+pub use size::chain_len;

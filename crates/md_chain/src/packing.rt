@@ -63,7 +63,9 @@ impl Packing {
     fn add_whole(&mut self, alloc: Global, item: &Item) -> Result<(), Memory>
         requires can { CanPack item.now }
         requires whole { IsRuns item.now → ⊥ }
-        ensures { OnOk result ((rest : List AnItem) → laid self.new.full self.new.current (parts_from self.new.room rest) ≡ laid self.old.full self.old.current (parts_from self.old.room (item.now ∷ rest))) }
+        ensures { OnOk result ((rest : List AnItem) → laid self.new.full self.new.current
+            (parts_from self.new.room rest) ≡ laid self.old.full self.old.current
+            (parts_from self.old.room (item.now ∷ rest))) }
     {
         let size = size_of(item);
         if size > self.room {
@@ -77,7 +79,8 @@ impl Packing {
     /// As many runs as fit go to the current page, the others to pages of their own.
     fn put_runs(&mut self, alloc: Global, runs: &[SlotRun]) -> Result<(), Memory>
         requires { 13 ≤ self.old.room }
-        ensures { OnOk result (self.new.full ++ self.new.current ∷ [] ≡ laid self.old.full self.old.current (map on_page (pieces ((self.old.room - 5) / 8) runs.now))) }
+        ensures { OnOk result (self.new.full ++ self.new.current
+            ∷ [] ≡ laid self.old.full self.old.current (map on_page (pieces ((self.old.room - 5) / 8) runs.now))) }
     {
         let fit = ((self.room - 5) / 8) as usize;
         let (first, mut rest) = runs.split_at(runs.len().min(fit));
@@ -93,7 +96,8 @@ impl Packing {
 
     /// Runs go to the current page where one fits, else to a new one.
     fn add_runs(&mut self, alloc: Global, runs: &[SlotRun]) -> Result<(), Memory>
-        ensures { OnOk result (self.new.full ++ self.new.current ∷ [] ≡ laid self.old.full self.old.current (run_parts self.old.room runs.now)) }
+        ensures { OnOk result (self.new.full ++ self.new.current
+            ∷ [] ≡ laid self.old.full self.old.current (run_parts self.old.room runs.now)) }
     {
         if self.room < ONE_RUN {
             self.turn_page(alloc)?;
@@ -104,7 +108,9 @@ impl Packing {
     /// Lays one item more. Nothing follows runs.
     fn add(&mut self, alloc: Global, item: &Item) -> Result<(), Memory>
         requires { CanPack item.now }
-        ensures { OnOk result ((rest : List AnItem) → (IsRuns item.now → rest ≡ []) → laid self.new.full self.new.current (parts_from self.new.room rest) ≡ laid self.old.full self.old.current (parts_from self.old.room (item.now ∷ rest))) }
+        ensures { OnOk result ((rest : List AnItem) → (IsRuns item.now → rest ≡ [])
+            → laid self.new.full self.new.current (parts_from self.new.room rest)
+            ≡ laid self.old.full self.old.current (parts_from self.old.room (item.now ∷ rest))) }
     {
         match item {
             Item::Rle(runs) => self.add_runs(alloc, runs.as_slice()),

@@ -5,7 +5,7 @@ ghost use Rattle.std.specs.List.{All, IsDistinct};
 ghost use Rattle.descriptors.specs.Writing.{spelled_size, IsWritable};
 ghost use Rattle.md_chain.specs.Chain.{Look, Chain};
 ghost use Rattle.md_chain.specs.Packing.{ArePlannable, AreFew, parts_of as parts_said};
-ghost use Rattle.md_chain.specs.Planned.{page_written, next_in, chain_pages, written_items, IsPlanned, IsPageOf};
+ghost use Rattle.md_chain.specs.Planned.{page_written, next_in, chain_pages, written_items, IsNthPage, IsPageOfPlan};
 ghost use Rattle.md_chain.specs.declared.plan.PlannedPage.{PlannedPage as APlannedPage};
 
 use crate::chain::CHAIN_END;
@@ -23,7 +23,7 @@ fn page_of(head: u32, sequence: u32, items: &ItemList, next: u32) -> Page
     requires room { spelled_size items.now ≤ 4072 }
     requires writable { All IsWritable items.now }
     ensures bytes { result ≡ page_written head sequence items.now next }
-    ensures planned { IsPlanned head sequence items.now next result }
+    ensures planned { IsNthPage head sequence items.now next result }
 {
     let mut body = [0; 4072];
     write_items(items, &mut body);
@@ -50,10 +50,10 @@ fn next_place(fresh: &PlaceList, passed: usize) -> u32
     }
 }
 
-/// The pages by which the items are written as the chain of `head`, which goes on at the fresh places: one place less than
-/// `chain_len` says. The items are flags, then attributes with at most 4063 bytes of name and value, then at most one item of
-/// runs. An attribute that doesn't fit what is left of a page begins a new one; runs fill the page from 13 bytes on. Each
-/// page has its sum. `Memory` comes where memory ran out, and for no other cause.
+/// The pages by which the items are written as the chain of `head`, which goes on at the fresh places: one place less
+/// than `chain_len` says. The items are flags, then attributes with at most 4063 bytes of name and value, then at most
+/// one item of runs. An attribute that doesn't fit what is left of a page begins a new one; runs fill the page from 13
+/// bytes on. Each page has its sum. `Memory` comes where memory ran out, and for no other cause.
 pub fn plan_chain(
     alloc: Global,
     items: &ItemList,
@@ -69,10 +69,12 @@ pub fn plan_chain(
     ensures count { IfOk result (λ plan. length plan ≡ length (head ∷ fresh.now)) }
 
     // The ith page is sound, and is read as the ith of the chain, with its items and the place that follows.
-    ensures pages { IfOk result (λ plan. (i : ℕ) (d : APlannedPage) → i < length plan → IsPageOf head (head ∷ fresh.now) (parts_said items.now) i (slice_index_or plan i d)) }
+    ensures pages { IfOk result (λ plan. (i : ℕ) (d : APlannedPage) → i < length plan
+        → IsPageOfPlan head (head ∷ fresh.now) (parts_said items.now) i (slice_index_or plan i d)) }
 
     // At distinct places of the metadata region the pages are a chain of the head.
-    ensures chain { IfOk result (λ plan. (look : Look) (md_len : ℕ) → md_len < 2 ^ 32 → IsDistinct nat_eq (head ∷ fresh.now) → All (λ p. p < md_len) (head ∷ fresh.now) →
+    ensures chain { IfOk result (λ plan. (look : Look) (md_len : ℕ) → md_len < 2 ^ 32
+        → IsDistinct nat_eq (head ∷ fresh.now) → All (λ p. p < md_len) (head ∷ fresh.now) →
         All (λ p. look p.place ≡ p.page) plan → Chain look md_len head (written_items items.now) (head ∷ fresh.now)) }
 {
     let parts = parts_of(alloc, items)?;

@@ -7,7 +7,7 @@ ghost use Rattle.md_page.specs.Page.{body_of, next_of};
 ghost use Rattle.page_disk.specs.Disk.{RoseByOne};
 ghost use Rattle.super_block.specs.Faults.{IsFaultless};
 ghost use Rattle.md_chain.specs.Chain.{Chain as IsChain, IsBroken};
-ghost use Rattle.md_chain.specs.Fetching.{place_fault, page_fault, IsFetchFault, IsPageFault};
+ghost use Rattle.md_chain.specs.Fetching.{place_fault, page_fault, IsFetchFault, IsNthPageFault};
 ghost use Rattle.md_chain.specs.Reading.{OnlyRead, GaveChain, IsChainCause, IsPagesFault, NoReadFailed, RoseBy, region_look};
 
 use crate::chain::{CHAIN_END, Chain};
@@ -38,10 +38,12 @@ fn fetch<D: PageDisk>(
     requires { sup.now.md_start + sup.now.md_len ≤ D.pages disk.old }
     ensures place { OnOk result (place_fault sup.now.md_len seen.now before place ≡ None) }
     ensures content { IsTrue D.tells → IfOk result (λ page. page ≡ D.now disk.old (sup.now.md_start + place)) }
-    ensures fault { IfErr result (λ e. IsFetchFault sup.now.md_len seen.now before place (D.read_faults disk.old) (D.read_faults disk.new) e) }
+    ensures fault { IfErr result (λ e. IsFetchFault sup.now.md_len seen.now before place (D.read_faults disk.old)
+        (D.read_faults disk.new) e) }
     ensures no_fault { OnOk result (D.read_faults disk.new ≡ D.read_faults disk.old) }
     ensures once { OnOk result (RoseByOne (D.reads disk.old) (D.reads disk.new)) }
-    ensures at_most { OnErr result (place_fault sup.now.md_len seen.now before place ≡ None → D.reads disk.new ≤ D.reads disk.old + 1) }
+    ensures at_most { OnErr result (place_fault sup.now.md_len seen.now before place ≡ None
+        → D.reads disk.new ≤ D.reads disk.old + 1) }
     ensures none { (place_fault sup.now.md_len seen.now before place ≡ None → ⊥) → D.reads disk.new ≡ D.reads disk.old }
     ensures same { OnlyRead D.PageDisk disk.old disk.new }
 {
@@ -73,7 +75,7 @@ fn link_of(
     ensures passes { OnOk result (page_fault page.now head sequence place ≡ None) }
     ensures items { IfOk result (λ link. Spells (body_of page.now) link.items) }
     ensures next { IfOk result (λ link. link.next ≡ next_of page.now) }
-    ensures fault { IfErr result (λ e. IsPageFault page.now head sequence place e) }
+    ensures fault { IfErr result (λ e. IsNthPageFault page.now head sequence place e) }
 {
     let Ok(md) = md_page::read(page) else {
         return Err(ChainFault::Unsound { page: place });
@@ -114,9 +116,9 @@ fn append(alloc: Global, items: &mut ItemList, more: &ItemList) -> Result<(), Me
     Ok(())
 }
 
-/// Reads the chain at a head of the metadata region. Each page of it is read once. A fault is that of the first test that
-/// fails, at the first place that fails one; `ReadFault` comes where the device counted a failed read, and `Memory` where
-/// memory ran out.
+/// Reads the chain at a head of the metadata region. Each page of it is read once. A fault is that of the first test
+/// that fails, at the first place that fails one; `ReadFault` comes where the device counted a failed read, and
+/// `Memory` where memory ran out.
 pub fn read_chain<D: PageDisk>(
     alloc: Global,
     disk: &mut D,
@@ -127,8 +129,10 @@ pub fn read_chain<D: PageDisk>(
     requires device { sup.now.device_pages ≡ D.pages disk.old }
 
     // Where the device tells, the answer is the one of its image.
-    ensures chain { IsTrue D.tells → IfOk result (λ c. IsChain (region_look sup.now (D.now disk.old)) sup.now.md_len head c.items c.pages) }
-    ensures broken { IsTrue D.tells → IfErr result (λ e. IsPagesFault e → IsBroken (region_look sup.now (D.now disk.old)) sup.now.md_len head e) }
+    ensures chain { IsTrue D.tells → IfOk result (λ c.
+        IsChain (region_look sup.now (D.now disk.old)) sup.now.md_len head c.items c.pages) }
+    ensures broken { IsTrue D.tells → IfErr result (λ e. IsPagesFault e
+        → IsBroken (region_look sup.now (D.now disk.old)) sup.now.md_len head e) }
 
     // Whatever it tells, the answer is the one of the pages that it gave.
     ensures found { IfOk result (λ c. GaveChain D.PageDisk sup.now disk.old head c.pages c.items) }

@@ -1,10 +1,11 @@
 //! How many bytes items take in the body of a page.
 
-ghost use Rattle.std.specs.Prelude.{◌≡◌, ◌≤◌, ◌<◌, ◌+◌, ◌^◌, ◌∷◌, [], List, nat_le, length};
-ghost use Rattle.descriptors.specs.Writing.{item_size, spelled_size};
+ghost use Rattle.std.specs.Prelude.{◌≡◌, ◌≤◌, ◌<◌, ◌+◌, ◌^◌, ◌∷◌, [], List, length};
+ghost use Rattle.descriptors.specs.Writing.{item_size};
 ghost use Rattle.volume_model.specs.declared.lists.SlotRun.{SlotRun};
 ghost use Rattle.descriptors.specs.declared.item.Item.{Item as AnItem};
-ghost use Rattle.md_chain.specs.Packing.{ArePlannable, AreFew, runs_in, parts_from, parts_of, run_parts};
+ghost use Rattle.md_chain.specs.Packing.{ArePlannable, AreFew, parts_from, parts_of, run_parts};
+ghost use Rattle.blob_meta.specs.Says.{runs_in};
 ghost use Rattle.md_chain.specs.Laid.{CanPack, IsRuns};
 
 use descriptors::{Item, ItemList};
@@ -35,21 +36,6 @@ pub fn size_of(item: &Item) -> u64
     }
 }
 
-/// Whether the items fit the 4072 bytes of a page's body together.
-pub fn fits_body(items: &ItemList) -> bool
-    ensures { result ≡ nat_le (spelled_size items.now) 4072 }
-{
-    let mut room = 4072;
-    for item in items.as_slice() {
-        let size = size_of(item);
-        if size > room {
-            return false;
-        }
-        room -= size;
-    }
-    true
-}
-
 /// How many pages runs take besides the current one, in which so many bytes are left.
 fn more_pages(room: u64, runs: usize) -> usize
     requires { 0 < runs }
@@ -77,7 +63,8 @@ impl PageCount {
         requires can { CanPack item.now }
         requires whole { IsRuns item.now → ⊥ }
         requires few { self.old.pages ≤ 2 ^ 31 }
-        ensures { (rest : List AnItem) → self.new.pages + length (parts_from self.new.room rest) ≡ self.old.pages + length (parts_from self.old.room (item.now ∷ rest)) }
+        ensures { (rest : List AnItem) → self.new.pages + length (parts_from self.new.room rest) ≡ self.old.pages
+            + length (parts_from self.old.room (item.now ∷ rest)) }
     {
         let size = size_of(item);
         if size > self.room {
@@ -92,7 +79,8 @@ impl PageCount {
         requires some { 0 < runs }
         requires small { runs < 2 ^ 31 }
         requires few { self.old.pages ≤ 2 ^ 31 }
-        ensures { (rs : List SlotRun) → length rs ≡ runs → self.new.pages + 1 ≡ self.old.pages + length (run_parts self.old.room rs) }
+        ensures { (rs : List SlotRun) → length rs ≡ runs
+            → self.new.pages + 1 ≡ self.old.pages + length (run_parts self.old.room rs) }
     {
         self.pages += more_pages(self.room, runs) as u32;
     }
@@ -102,7 +90,9 @@ impl PageCount {
         requires can { CanPack item.now }
         requires small { length (runs_in item.now) < 2 ^ 31 }
         requires few { self.old.pages ≤ 2 ^ 31 }
-        ensures { (rest : List AnItem) → (IsRuns item.now → rest ≡ []) → self.new.pages + length (parts_from self.new.room rest) ≡ self.old.pages + length (parts_from self.old.room (item.now ∷ rest)) }
+        ensures { (rest : List AnItem) → (IsRuns item.now → rest ≡ [])
+            → self.new.pages + length (parts_from self.new.room rest) ≡ self.old.pages
+            + length (parts_from self.old.room (item.now ∷ rest)) }
     {
         match item {
             Item::Rle(runs) => self.add_runs(runs.len()),

@@ -7,6 +7,7 @@ use Rattle.page_fields.proofs.Laws.{next_field, next_number, len-number_bytes}
 use Rattle.md_page.specs.declared.MdPage.{MdPage}
 use Rattle.md_page.specs.Page.{IsMdPage, FitsMdPage, page_front, page_bytes, id_of, sequence_of, body_of, next_of}
 
+-- the bytes of a page say its fields
 pub is_read : (m : MdPage) → FitsMdPage m → IsMdPage (page_bytes m) m
 unfolding page_bytes id_of sequence_of body_of next_of
 is_read m f =
@@ -21,6 +22,8 @@ is_read m f =
     let next = next_number 4088 4 m.next page _ body.1 f.next in
     record { id = sym id.0; sequence = sym sequence.0; body = sym body.0; next = sym next.0 }
 
+-- the bytes of a page are sound
 pub is_read_sound : (m : MdPage) → FitsMdPage m → crc32c_of (page_front m) < 2 ^ 32 → is_sound (page_bytes m) ≡ true
 unfolding page_bytes number_bytes
-is_read_sound m f fits = is_sound-sealed (page_front m) (simp (length-append, len-number_bytes) (omega (arith, f.body))) fits
+is_read_sound m f fits =
+    is_sound-sealed (page_front m) (simp (length-append, len-number_bytes) (omega (arith, f.body))) fits

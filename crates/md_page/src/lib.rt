@@ -101,35 +101,3 @@ fn put_front(md: &MdPage, into: &mut Page)
 {
     table!(write md into);
 }
-
-#[cfg(test)]
-mod tests {
-    use super::*;
-    use std::test::Fail;
-
-    #[test]
-    fn the_first_page_of_an_empty_blob(rt: HostRuntime) -> Result<(), Fail> {
-        let mut page = [0xAA; 4096];
-        write(
-            &MdPage {
-                id: 0x1_0000_0003,
-                sequence: 1,
-                body: [0; 4072],
-                next: 0xFFFF_FFFF,
-            },
-            &mut page,
-        );
-        let mut wanted = [0; 4096];
-        wanted[0] = 3;
-        wanted[4] = 1;
-        wanted[8] = 1;
-        wanted[4088..].copy_from_slice(&[0xFF, 0xFF, 0xFF, 0xFF, 0xCE, 0x09, 0x69, 0xA1]);
-        assert!(rt; page == wanted);
-        let read_back = read(&page)?;
-        assert_eq!(rt; read_back.id, 0x1_0000_0003);
-        assert_eq!(rt; (read_back.sequence, read_back.next), (1, 0xFFFF_FFFF));
-        page[4095] ^= 1;
-        assert!(rt; matches!(read(&page), Err(Unsound)));
-        Ok(())
-    }
-}

@@ -13,13 +13,16 @@ use Rattle.page_disk.specs.declared.disk.WriteKind.{WriteKind}
 use Rattle.page_disk.specs.declared.record.Call.{Call}
 use Rattle.page_disk.specs.declared.record.Call.TheVariants.{Write, Flush}
 
+-- no call has no place
 pub of_no_calls : IsIndex [] []
 unfolding read_after
 of_no_calls = record { written = λ page place is. absurd cc; unwritten = λ page is base. refl }
 
 module _ (calls : List Call) where
   -- one call more that leaves the page as it is read
-  kept : (call : Call) (page place : ℕ) → ((base : Image) → read_after base (calls ++ call ∷ []) page ≡ read_after base calls page) → IsNewest calls page place → IsNewest (calls ++ call ∷ []) page place
+  kept : (call : Call) (page place : ℕ)
+      → ((base : Image) → read_after base (calls ++ call ∷ []) page ≡ read_after base calls page)
+      → IsNewest calls page place → IsNewest (calls ++ call ∷ []) page place
   kept call page place same was = record {
     within = omega (arith, was.within, length-append calls (call ∷ []));
     content = was.content;
@@ -28,6 +31,7 @@ module _ (calls : List Call) where
     last = λ base. same base ∙ was.last base;
   }
 
+  -- a flush has no page
   pub after_flush : (newest : List (ℕ × ℕ)) → IsIndex calls newest → IsIndex (calls ++ Flush ∷ []) newest
   after_flush newest was = record {
     written = λ page place is. kept Flush page place (same page) (was.written page place is);
@@ -38,11 +42,16 @@ module _ (calls : List Call) where
       same page base = ap (λ (i : Image). i page) (read_after-flush base calls)
 
   module _ (place : ℕ) (content : List ℕ) (kind : WriteKind) where
-    elsewhere : (page : ℕ) → (page ≡ place → ⊥) → (base : Image) → read_after base (calls ++ Write place content kind ∷ []) page ≡ read_after base calls page
-    elsewhere page other base = ap (λ (i : Image). i page) (read_after-write base calls place content kind) ∙ with_page-elsewhere (read_after base calls) place content page other
+    elsewhere : (page : ℕ) → (page ≡ place → ⊥) → (base : Image)
+        → read_after base (calls ++ Write place content kind ∷ []) page ≡ read_after base calls page
+    elsewhere page other base =
+        ap (λ (i : Image). i page) (read_after-write base calls place content kind)
+        ∙ with_page-elsewhere (read_after base calls) place content page other
 
     here : (base : Image) → read_after base (calls ++ Write place content kind ∷ []) place ≡ content
-    here base = ap (λ (i : Image). i place) (read_after-write base calls place content kind) ∙ with_page-here (read_after base calls) place content
+    here base =
+        ap (λ (i : Image). i place) (read_after-write base calls place content kind)
+        ∙ with_page-here (read_after base calls) place content
 
     latest : IsNewest (calls ++ Write place content kind ∷ []) place (length calls)
     latest = record {
@@ -53,24 +62,32 @@ module _ (calls : List Call) where
       last = here;
     }
 
-    module _ (newest after : List (ℕ × ℕ)) (updates : (page : ℕ) → lookup (nat_eq page) after ≡ update nat_eq (λ p. lookup (nat_eq p) newest) place (Some (length calls)) page) where
+    module _ (newest after : List (ℕ × ℕ))
+        (updates : (page : ℕ)
+        → lookup (nat_eq page) after ≡ update nat_eq (λ p. lookup (nat_eq p) newest) place
+        (Some (length calls)) page) where
       found_here : lookup (nat_eq place) after ≡ Some (length calls)
       found_here = updates place ∙ update_here (λ p. lookup (nat_eq p) newest) place (Some (length calls))
 
       found_elsewhere : (page : ℕ) → (page ≡ place → ⊥) → lookup (nat_eq page) after ≡ lookup (nat_eq page) newest
-      found_elsewhere page other = updates page ∙ update_apart (λ p. lookup (nat_eq p) newest) place (Some (length calls)) page other
+      found_elsewhere page other =
+          updates page ∙ update_apart (λ p. lookup (nat_eq p) newest) place (Some (length calls)) page other
 
+      -- a write is the newest of its page
       pub after_write : IsIndex calls newest → IsIndex (calls ++ Write place content kind ∷ []) after
       after_write was = record {
         written = λ page at is. ⊎_elim
             (λ (e : page ≡ place).
             let found = found_here in
             let at_end : length calls ≡ at = cc in
-            subst (λ p. IsNewest (calls ++ Write place content kind ∷ []) p at) (sym e) (subst (λ a. IsNewest (calls ++ Write place content kind ∷ []) place a) at_end latest))
-            (λ (other : page ≡ place → ⊥). kept (Write place content kind) page at (elsewhere page other) (was.written page at (sym (found_elsewhere page other) ∙ is)))
+            subst (λ p. IsNewest (calls ++ Write place content kind ∷ []) p at) (sym e)
+            (subst (λ a. IsNewest (calls ++ Write place content kind ∷ []) place a) at_end latest))
+            (λ (other : page ≡ place → ⊥). kept (Write place content kind) page at (elsewhere page other)
+            (was.written page at (sym (found_elsewhere page other) ∙ is)))
             (cases_eq page place);
         unwritten = λ page is base. ⊎_elim
             (λ (e : page ≡ place). let found = found_here in absurd cc)
-            (λ (other : page ≡ place → ⊥). elsewhere page other base ∙ was.unwritten page (sym (found_elsewhere page other) ∙ is) base)
+            (λ (other : page ≡ place → ⊥). elsewhere page other base
+            ∙ was.unwritten page (sym (found_elsewhere page other) ∙ is) base)
             (cases_eq page place);
       }

@@ -31,10 +31,13 @@ left_of New image (Write place page kind) = with_page image place page
 left_of (Torn change) image (Write place page Whole) = image
 left_of (Torn change) image (Write place page Plain) = with_unsound image place (torn_by change page)
 
--- What is left of these calls, where the first image was read before them and the second was left: a flush leaves what is read.
+-- What is left of these calls, where the first image was read before them and the second was left: a flush leaves what
+-- is read.
 unfoldable pub left_after : ℕ → Image → Image → List Call → Image
 left_after pick now left [] = left
-left_after pick now left (Write place page kind ∷ rest) = left_after pick (with_page now place page) (left_of (remains_by pick (length rest)) left (Write place page kind)) rest
+left_after pick now left (Write place page kind ∷ rest) =
+    left_after pick (with_page now place page)
+    (left_of (remains_by pick (length rest)) left (Write place page kind)) rest
 left_after pick now left (Flush ∷ rest) = left_after pick now now rest
 
 -- what is left of a disk in memory
@@ -43,9 +46,11 @@ crash_image pick m = left_after pick (base_image m.base) (base_image m.base) m.c
 
 -- a write took place, or it did not
 abbrev pub TookOrNot : Call → Image → Image → Type 0
-TookOrNot (Write place page kind) before after = (after ≡ before) ⊎ ((put : List ℕ) × (after ≡ with_page before place put) × Puts kind page put)
+TookOrNot (Write place page kind) before after =
+    (after ≡ before) ⊎ ((put : List ℕ) × (after ≡ with_page before place put) × Puts kind page put)
 TookOrNot Flush before after = after ≡ before
 
 -- a page that isn't sound was put there, or none
 abbrev pub TookUnsound : ℕ → Image → Image → Type 0
-TookUnsound place before after = (after ≡ before) ⊎ ((put : List ℕ) × (after ≡ with_page before place put) × IsPage put × (is_sound put ≡ false))
+TookUnsound place before after =
+    (after ≡ before) ⊎ ((put : List ℕ) × (after ≡ with_page before place put) × IsPage put × (is_sound put ≡ false))

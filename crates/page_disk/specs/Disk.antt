@@ -48,12 +48,14 @@ pub record Elapses (before now : ℕ) (past since : ℕ → Image → Type 0) (i
   pub each : (t : ℕ) (c : Image) → t ≤ before → since t c ↔ (past t c ⊎ images c)
 
 -- after a write that answered Ok
-pub record Wrote (old_now new_now : Image) (old new : Images) (place : ℕ) (kind : WriteKind) (given : List ℕ) : Type 0 where
+pub record Wrote (old_now new_now : Image) (old new : Images) (place : ℕ) (kind : WriteKind)
+    (given : List ℕ) : Type 0 where
   pub now : new_now ≡ with_page old_now place given
   pub images : (c : Image) → new c ↔ Written old place kind given c
 
 -- after a write that failed: its page may hold all that one which succeeds would allow
-pub record WroteOrNot (old_now new_now : Image) (old new : Images) (place : ℕ) (kind : WriteKind) (given : List ℕ) : Type 0 where
+pub record WroteOrNot (old_now new_now : Image) (old new : Images) (place : ℕ) (kind : WriteKind)
+    (given : List ℕ) : Type 0 where
   pub elsewhere : (p : ℕ) → p ≢ place → new_now p ≡ old_now p
   pub images : (c : Image) → new c → Written old place kind given c
 
@@ -75,7 +77,8 @@ pub record HasCause {T : Type 0} (before after : ℕ) (result : Result T DiskFau
   pub cause : IsErr result → Rose before after
 
 -- what holds of what a disk tells, at each of its states
-pub record Telling {D : Type 0} (now : D → Image) (images : D → Images) (since : D → ℕ → Image → Type 0) (clock : D → ℕ) : Type 0 where
+pub record Telling {D : Type 0} (now : D → Image) (images : D → Images) (since : D → ℕ → Image → Type 0)
+    (clock : D → ℕ) : Type 0 where
   -- what the disk reads is one of its images
   pub reads_an_image : (disk : D) → images disk (now disk)
   -- since this moment there is no other

@@ -1,11 +1,11 @@
 -- Which calls of a disk fail by plan.
 use Rattle.std.specs.Prelude.{◌≡◌, ◌+◌, ◌-◌, ℕ, Contains, min}
 use Rattle.page_disk.specs.Disk.{last_count}
-use Rattle.page_disk.specs.declared.fault.CallKind.{CallKind}
-use Rattle.page_disk.specs.declared.fault.CallKind.TheVariants.{Read, Write, Flush}
-use Rattle.page_disk.specs.declared.fault.Plan.{Plan}
-use Rattle.page_disk.specs.declared.fault.Plan.TheVariants.{Listed, Stopping}
-use Rattle.page_disk.specs.declared.fault.Schedule.{Schedule}
+use Rattle.page_disk.specs.declared.schedule.CallKind.{CallKind}
+use Rattle.page_disk.specs.declared.schedule.CallKind.TheVariants.{Read, Write, Flush}
+use Rattle.page_disk.specs.declared.schedule.Plan.{Plan}
+use Rattle.page_disk.specs.declared.schedule.Plan.TheVariants.{Listed, Stopping}
+use Rattle.page_disk.specs.declared.schedule.Schedule.{Schedule}
 
 -- A disk of which some calls fail: the disk below, which calls fail and how many there were, and its counts of faults.
 pub record Faulty (D : Type 0) : Type 0 where
@@ -13,6 +13,14 @@ pub record Faulty (D : Type 0) : Type 0 where
   pub schedule : Schedule
   pub read_faults : ℕ
   pub write_faults : ℕ
+
+-- a plan before the first call
+abbrev pub begun : Plan → Schedule
+begun plan = record { plan = plan; reads = 0; writes = 0; flushes = 0 }
+
+-- a disk of which the calls of this plan are to fail, before the first call
+abbrev pub planned : {D : Type 0} → D → Plan → Faulty D
+planned disk plan = record { disk = disk; schedule = begun plan; read_faults = 0; write_faults = 0 }
 
 -- how many calls of this kind there were
 abbrev pub calls_of : Schedule → CallKind → ℕ

@@ -2,7 +2,7 @@
 ghost use Rattle.std.specs.Prelude.{◌≡◌, ◌⊎◌, ◌≤◌, ◌<◌, ◌-◌, ◌∷◌, [], length, get_or, false, ℕ, List, IfOk, OnOk};
 ghost use Rattle.crc32c.specs.Crc.{is_sound};
 ghost use Rattle.page_disk.specs.Disk.{Only, with_page};
-ghost use Rattle.page_disk.specs.Record.{base_image, read_after, image_of, images_of, IsWrite, LeavesFrom};
+ghost use Rattle.page_disk.specs.Record.{base_image, begun, read_after, image_of, images_of, IsWrite, ImagesFrom};
 ghost use Rattle.page_disk.specs.Crash.{crash_image, left_after, left_of, remains_by, with_unsound, torn_by, TookOrNot, TookUnsound};
 ghost use Rattle.page_disk.specs.declared.record.Call.TheVariants.{Flush, Write};
 ghost use Rattle.page_disk.specs.declared.disk.WriteKind.TheVariants.{Plain};
@@ -23,14 +23,15 @@ pub enum Remains {
 }
 
 impl MemDisk {
-    /// A disk with the same pages and the same room, which begins with one of the images that a crash of this one may leave.
+    /// A disk with the same pages and the same room, which begins with one of the images that a crash of this one may
+    /// leave.
     ///
-    /// What was flushed is there. The pick's lowest two bits say what is left of the last write after the last flush, the
-    /// next two of the write before it, and so on; after 32 writes the bits begin anew. 0 leaves the old page and 1 the new
-    /// one. 2 and 3 leave a torn page of a plain write: the new page with these bits of its last byte turned, or the old
-    /// page where that one would be sound. Of a whole write they leave the old page.
+    /// What was flushed is there. The pick's lowest two bits say what is left of the last write after the last flush,
+    /// the next two of the write before it, and so on; after 32 writes the bits begin anew. 0 leaves the old page and 1
+    /// the new one. 2 and 3 leave a torn page of a plain write: the new page with these bits of its last byte turned,
+    /// or the old page where that one would be sound. Of a whole write they leave the old page.
     pub fn crash(&self, pick: u64) -> Result<MemDisk, Memory>
-        ensures begun { IfOk result (λ d. d ≡ record { pages = self.now.pages; room = self.now.room; base = d.base; calls = []; read_faults = 0; write_faults = 0; reads = 0 }) }
+        ensures begun { IfOk result (λ d. d ≡ begun self.now.pages self.now.room d.base) }
         ensures picked { IfOk result (λ d. image_of d ≡ crash_image pick self.now) }
         ensures image { IfOk result (λ d. images_of self.now (image_of d)) }
         ensures one { IfOk result (λ d. Only (image_of d) (images_of d)) }
@@ -47,8 +48,10 @@ fn image_left(
     calls: &[Call],
     pick: u64,
 ) -> Result<HashMap<u64, Page>, AllocError>
-    ensures picked { IfOk result (λ left. base_image left.entries ≡ left_after pick (base_image base.now.entries) (base_image base.now.entries) calls.now) }
-    ensures image { IfOk result (λ left. LeavesFrom (base_image base.now.entries) calls.now (base_image left.entries)) }
+    ensures picked { IfOk result
+        (λ left. base_image left.entries ≡ left_after pick (base_image base.now.entries)
+        (base_image base.now.entries) calls.now) }
+    ensures image { IfOk result (λ left. ImagesFrom (base_image base.now.entries) calls.now (base_image left.entries)) }
 {
     let flushed = behind_last_flush(calls);
     let mut left = image_read(alloc, base, &calls[..flushed])?;
@@ -150,7 +153,8 @@ fn save_remains(
 
 /// Saves the page unless it is sound.
 fn save_unsound(left: &mut HashMap<u64, Page>, page: u64, content: &Page) -> Result<(), AllocError>
-    ensures left { OnOk result (base_image left.new.entries ≡ with_unsound (base_image left.old.entries) page content.now) }
+    ensures left { OnOk result
+        (base_image left.new.entries ≡ with_unsound (base_image left.old.entries) page content.now) }
     ensures took { OnOk result (TookUnsound page (base_image left.old.entries) (base_image left.new.entries)) }
 {
     if page_ok(content) {

@@ -20,8 +20,8 @@ pub struct DiskFault;
 
 /// A disk of pages, numbered from 0, which takes one call at a time.
 ///
-/// An image is what each page holds. A disk that tells says which image it reads now and which images a crash may leave;
-/// one that doesn't, as a real file, keeps the clauses on its clock, its pages and its counts alone.
+/// An image is what each page holds. A disk that tells says which image it reads now and which images a crash may
+/// leave; one that doesn't, as a real file, keeps the clauses on its clock, its pages and its counts alone.
 pub trait PageDisk {
     /// Whether disks of this type tell what their pages hold, now and after a crash, for their whole life.
     ghost tells: { Bool };
@@ -58,7 +58,8 @@ pub trait PageDisk {
     fn clock(&self) -> u64
         ensures { result ≡ clock self.now };
 
-    /// Reads a page. It answers a fault only where the count of read faults rose in this call, or stands at its last number.
+    /// Reads a page. It answers a fault only where the count of read faults rose in this call, or stands at its last
+    /// number; an Ok leaves that count as it was.
     fn read(&mut self, page: u64, into: &mut Page) -> Result<(), DiskFault>
         requires { page < pages self.old }
         ensures content { IsTrue tells → OnOk result (into.new ≡ now self.old page) }
@@ -72,35 +73,42 @@ pub trait PageDisk {
         ensures write_faults { write_faults self.new ≡ write_faults self.old }
         ensures reads { RoseByOne (reads self.old) (reads self.new) };
 
-    /// Writes a page, which reads as given from then on; only a flush makes it safe from a crash. It answers a fault only
-    /// where the count of write faults rose in this call, or stands at its last number. The page may then hold all that
-    /// a write with Ok would allow.
+    /// Writes a page, which reads as given from then on; only a flush makes it safe from a crash. It answers a fault
+    /// only where the count of write faults rose in this call, or stands at its last number; an Ok leaves that count as
+    /// it was. After a fault the page may hold all that a write with Ok would allow.
     fn write(&mut self, page: u64, from: &Page, kind: WriteKind) -> Result<(), DiskFault>
         requires { page < pages self.old }
-        ensures ok { IsTrue tells → OnOk result (Wrote (now self.old) (now self.new) (images self.old) (images self.new) page kind from.now) }
-        ensures err { IsTrue tells → OnErr result (WroteOrNot (now self.old) (now self.new) (images self.old) (images self.new) page kind from.now) }
-        ensures since { IsTrue tells → Elapses (clock self.old) (clock self.new) (since self.old) (since self.new) (images self.new) }
+        ensures ok { IsTrue tells
+            → OnOk result (Wrote (now self.old) (now self.new) (images self.old) (images self.new) page kind from.now) }
+        ensures err { IsTrue tells
+            → OnErr result
+            (WroteOrNot (now self.old) (now self.new) (images self.old) (images self.new) page kind from.now) }
+        ensures since { IsTrue tells
+            → Elapses (clock self.old) (clock self.new) (since self.old) (since self.new) (images self.new) }
         ensures later { clock self.old ≤ clock self.new }
         ensures rises { OnOk result (clock self.old < clock self.new) }
         ensures at_last { clock self.old ≡ last_count → IsErr result × (clock self.new ≡ clock self.old)
-            × (IsTrue tells → (now self.new ≡ now self.old) × Alike (images self.new) (images self.old) × ((t : ℕ) → Alike (since self.new t) (since self.old t))) }
+            × (IsTrue tells → (now self.new ≡ now self.old) × Alike (images self.new) (images self.old)
+            × ((t : ℕ) → Alike (since self.new t) (since self.old t))) }
         ensures pages { pages self.new ≡ pages self.old }
         ensures faults { HasCause (write_faults self.old) (write_faults self.new) result }
         ensures no_fault { OnOk result (write_faults self.new ≡ write_faults self.old) }
         ensures read_faults { read_faults self.new ≡ read_faults self.old }
         ensures reads { reads self.new ≡ reads self.old };
 
-    /// Makes what the disk reads the one image that a crash leaves. After a fault, which comes as a write's does, the images
-    /// are as they were.
+    /// Makes what the disk reads the one image that a crash leaves. Its faults come and are counted as a write's are,
+    /// and after one the images are as they were.
     fn flush(&mut self) -> Result<(), DiskFault>
         ensures ok { IsTrue tells → OnOk result (Only (now self.old) (images self.new)) }
         ensures err { IsTrue tells → OnErr result (Alike (images self.new) (images self.old)) }
         ensures now { IsTrue tells → now self.new ≡ now self.old }
-        ensures since { IsTrue tells → Elapses (clock self.old) (clock self.new) (since self.old) (since self.new) (images self.new) }
+        ensures since { IsTrue tells
+            → Elapses (clock self.old) (clock self.new) (since self.old) (since self.new) (images self.new) }
         ensures later { clock self.old ≤ clock self.new }
         ensures rises { OnOk result (clock self.old < clock self.new) }
         ensures at_last { clock self.old ≡ last_count → IsErr result × (clock self.new ≡ clock self.old)
-            × (IsTrue tells → (now self.new ≡ now self.old) × Alike (images self.new) (images self.old) × ((t : ℕ) → Alike (since self.new t) (since self.old t))) }
+            × (IsTrue tells → (now self.new ≡ now self.old) × Alike (images self.new) (images self.old)
+            × ((t : ℕ) → Alike (since self.new t) (since self.old t))) }
         ensures pages { pages self.new ≡ pages self.old }
         ensures faults { HasCause (write_faults self.old) (write_faults self.new) result }
         ensures no_fault { OnOk result (write_faults self.new ≡ write_faults self.old) }

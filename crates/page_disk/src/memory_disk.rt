@@ -1,7 +1,7 @@
 // A disk in memory: the pages with which it began, and a record of every write and flush since.
 ghost use Rattle.std.specs.Prelude.{◌≡◌, ◌≤◌, ◌<◌, ◌+◌, ◌++◌, ◌∷◌, true, length, ℕ, IfOk, IsOk, OnOk, OnErr, ◌↔◌, []};
 ghost use Rattle.std.specs.HashMap.{spare};
-ghost use Rattle.page_disk.specs.Record.{base_image, read_after, image_of, images_of, since_of, zeros, IsIndex, IsWrite, content_of};
+ghost use Rattle.page_disk.specs.Record.{base_image, begun, read_after, image_of, images_of, since_of, zeros, IsIndex, IsWrite, content_of};
 ghost use Rattle.page_disk.specs.Disk.{Only, Wrote, HasCause, RoseByOne, last_count};
 ghost use Rattle.page_disk.specs.declared.record.Call.TheVariants.{Write, Flush};
 ghost use Rattle.page_disk.specs.RecordLaws.{reads_one, since_end, counts_end};
@@ -12,9 +12,9 @@ use std::alloc::Global;
 use std::collections::HashMap;
 use std::marker::Model;
 
-/// A disk in memory, which tells all: it keeps the image with which it began, and a record of every write and flush since.
-/// A page that was in neither reads as zeros. It has room for a number of writes and flushes, which it reserves when it
-/// is made; each one after these fails, and nothing else does.
+/// A disk in memory, which tells all: it keeps the image with which it began, and a record of every write and flush
+/// since. A page that was in neither reads as zeros. It has room for a number of writes and flushes, which it reserves
+/// when it is made; each one after these fails, and nothing else does.
 #[derive(Drop)]
 pub struct MemDisk {
     pub(crate) alloc: Global,
@@ -37,7 +37,16 @@ impl Model for MemDisk {
 
     ghost Value = { Recorded };
 
-    ghost view = { λ m. record { pages = m.pages; room = m.room; base = m.base.entries; calls = m.calls.items; read_faults = m.read_faults; write_faults = m.write_faults; reads = m.reads } };
+    ghost view = { λ m.
+        record {
+          pages = m.pages;
+          room = m.room;
+          base = m.base.entries;
+          calls = m.calls.items;
+          read_faults = m.read_faults;
+          write_faults = m.write_faults;
+          reads = m.reads;
+        } };
 
     ghost invariant = { λ m. record {
       within : vec_len m.calls ≤ m.room;
@@ -50,7 +59,7 @@ impl Model for MemDisk {
 impl MemDisk {
     /// A disk of so many pages, all zeros, with room for so many writes and flushes.
     pub fn new(alloc: Global, pages: u64, room: u32) -> Result<MemDisk, Memory>
-        ensures begun { IfOk result (λ d. d ≡ record { pages = pages; room = room; base = []; calls = []; read_faults = 0; write_faults = 0; reads = 0 }) }
+        ensures begun { IfOk result (λ d. d ≡ begun pages room []) }
         ensures zeros { IfOk result (λ d. (p : ℕ) → image_of d p ≡ zeros) }
         ensures one { IfOk result (λ d. Only (image_of d) (images_of d)) }
     {
@@ -65,7 +74,7 @@ impl MemDisk {
         room: u32,
         base: HashMap<u64, Page>,
     ) -> Result<MemDisk, Memory>
-        ensures { IfOk result (λ d. d ≡ record { pages = pages; room = room; base = base.entries; calls = []; read_faults = 0; write_faults = 0; reads = 0 }) }
+        ensures { IfOk result (λ d. d ≡ begun pages room base.entries) }
     {
         let calls = Vec::with_capacity(alloc, room as usize)?;
         let newest = HashMap::with_capacity(alloc, room as usize)?;
@@ -144,9 +153,12 @@ impl PageDisk for MemDisk {
     fn write(&mut self, page: u64, from: &Page, kind: WriteKind) -> Result<(), DiskFault>
         requires { page < self.old.pages }
         ensures room { IsOk result ↔ (length self.old.calls < self.old.room) }
-        ensures kept { OnOk result (self.new ≡ record self.old { calls = self.old.calls ++ Write page from.now kind ∷ [] }) }
+        ensures kept { OnOk result
+            (self.new ≡ record self.old { calls = self.old.calls ++ Write page from.now kind ∷ [] }) }
         ensures refused { OnErr result (self.new ≡ record self.old { write_faults = self.new.write_faults }) }
-        ensures ok { OnOk result (Wrote (image_of self.old) (image_of self.new) (images_of self.old) (images_of self.new) page kind from.now) }
+        ensures ok { OnOk result
+            (Wrote (image_of self.old) (image_of self.new) (images_of self.old)
+            (images_of self.new) page kind from.now) }
         ensures faults { HasCause self.old.write_faults self.new.write_faults result }
         ensures before_last { length self.old.calls < last_count }
     {

@@ -4,7 +4,8 @@ ghost use Rattle.std.specs.Prelude.{◌≡◌, false, [], vec_len, IfOk, IsOk};
 use crate::{DiskFault, Memory, Page, PageDisk, WriteKind};
 use std::alloc::Global;
 
-/// A disk in memory that tells nothing of its pages, as a real one does. Only at its clock's last number does a call fail.
+/// A disk in memory that tells nothing of its pages, as a real one does. Only at its clock's last number does a call
+/// fail.
 #[derive(Drop)]
 pub struct SilentDisk {
     pages: Vec<Page>,

@@ -25,7 +25,8 @@ pub fn write_page<D: PageDisk>(disk: &mut D, place: u64, page: &Page) -> Result<
     disk.write(place, page, WriteKind::Plain)
 }
 
-/// Writes a page by a plain write, and makes it lasting by a flush.
+/// Writes a page by a plain write, and makes it lasting by a flush. The first of the two calls that fails is the
+/// answer, and none is tried again.
 pub fn write_and_flush<D: PageDisk>(disk: &mut D, place: u64, page: &Page) -> Result<(), DiskFault>
     requires { place < D.pages disk.old }
 

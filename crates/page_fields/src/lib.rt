@@ -47,20 +47,3 @@ impl<const AT: usize, const LEN: usize> Field<AT, LEN> {
 pub fn tiling()
     ensures { (rows : List (ℕ × ℕ)) (b : ℕ) → IsTrue (tiles 0 rows 4096) → b < 4096 → count_by (covers b) rows ≡ 1 }
 {}
-
-#[cfg(test)]
-mod tests {
-    use super::*;
-
-    #[test]
-    fn a_field_is_set_alone(rt: HostRuntime) {
-        let mut page = [7u8; 4096];
-        Field::<8, 4>::set(&mut page, &bytes_of_u32(0x0403_0201));
-        Field::<4088, 8>::set(&mut page, &bytes_of_u64(0x0807_0605_0403_0201));
-        assert!(rt; page[6..13] == [7, 7, 1, 2, 3, 4, 7]);
-        assert!(rt; page[4086..] == [7, 7, 1, 2, 3, 4, 5, 6, 7, 8]);
-        assert_eq!(rt; u32_of(Field::<9, 4>::get(&page)), 0x0704_0302);
-        assert_eq!(rt; u64_of(Field::<4087, 8>::get(&page)), 0x0706_0504_0302_0107);
-        tiling();
-    }
-}

@@ -9,9 +9,9 @@
 /// - `zero`: ignored by the reader, written as zeros;
 /// - `skip`: neither read nor written.
 ///
-/// `fields!(read TYPE page; ..)` is a `TYPE` with the value of each row, and `fields!(read TYPE page, more; ..)` also has
-/// the variable `more` as its field `more`. `fields!(write value page; ..)` writes the rows of `value` in their order.
-/// `fields!(rows; ..)` is the array of the rows' places and lengths, of which the law `tiling` speaks.
+/// `fields!(read TYPE page; ..)` is a `TYPE` with the value of each row, and `fields!(read TYPE page, more; ..)` also
+/// has the variable `more` as its field `more`. `fields!(write value page; ..)` writes the rows of `value` in their
+/// order. `fields!(rows; ..)` is the array of the rows' places and lengths, of which the law `tiling` speaks.
 #[macro_export]
 macro_rules! fields {
     (rows; $($name:ident $kind:ident $at:literal $len:literal),* $(,)?) => {
@@ -30,7 +30,8 @@ macro_rules! fields {
     (@read $type:ident $page:ident [$($done:tt)*] $name:ident zero $at:literal $len:literal $(, $($rows:tt)*)?) => {
         $crate::fields!(@read $type $page [$($done)*] $($($rows)*)?)
     };
-    (@read $type:ident $page:ident [$($done:tt)*] $name:ident $kind:ident $at:literal $len:literal $(, $($rows:tt)*)?) => {
+    (@read $type:ident $page:ident [$($done:tt)*] $name:ident $kind:ident $at:literal $len:literal $(,
+        $($rows:tt)*)?) => {
         $crate::fields!(@read $type $page [$($done)* $name: $crate::fields!(@get $kind $page $at $len),] $($($rows)*)?)
     };
     (@get sum $page:ident $at:literal $len:literal) => {

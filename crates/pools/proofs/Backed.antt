@@ -27,12 +27,14 @@ without-none (c ∷ claims) at none =
     ap (λ (b : Bool). cond (not b) (c ∷ without claims at) (without claims at)) other
     ∙ ap (λ (rest : List ℕ). c ∷ rest) (without-none claims at (All-tail (λ c. c ≢ at) c claims none))
 
+-- after a claim was kept
 pub kept-IsBacked : (p : PoolState) (at : ℕ) → IsBacked p → IsBacked (kept p at)
 kept-IsBacked p at was = record {
   differ = AllPairs-filter (λ a b. a ≢ b) (λ c. not (eqb c at)) p.claims was.differ;
   in_use = All-filter (λ c. not (eqb c at)) (λ c. is_in p.bits c ≡ true) p.claims was.in_use;
 }
 
+-- after a claim was given back
 pub given_back-IsBacked : (p : PoolState) (at : ℕ) → IsBacked p → IsBacked (given_back p at)
 given_back-IsBacked p at was =
     let left = kept-IsBacked p at was in
@@ -41,6 +43,7 @@ given_back-IsBacked p at was =
       in_use = λ k d h. get_or-set_other p.bits at _ false false (without-apart p.claims at k d h) ∙ left.in_use k d h;
     }
 
+-- after a place was freed that was not claimed
 pub freed-IsBacked : (p : PoolState) (at : ℕ) → (Contains p.claims at → ⊥) → IsBacked p → IsBacked (freed p at)
 freed-IsBacked p at unclaimed was = record {
   differ = was.differ;
@@ -49,25 +52,33 @@ freed-IsBacked p at unclaimed was = record {
       ∙ was.in_use k d h;
 }
 
-set_back : (bits : List Bool) (at : ℕ) → at < length bits → is_in bits at ≡ false → slice_set (slice_set bits at true) at false ≡ bits
+set_back : (bits : List Bool) (at : ℕ) → at < length bits → is_in bits at ≡ false
+    → slice_set (slice_set bits at true) at false ≡ bits
 set_back bits at within clear =
     let twice = slice_set (slice_set bits at true) at false in
     let long : length twice ≡ length bits = length-set (slice_set bits at true) at false ∙ length-set bits at true in
     ext_get_or false twice bits long (λ k h.
     elim (cases_eq k at) [
-      | inl same ↦ rw same (get_or-set_same (slice_set bits at true) at false false (rw (length-set bits at true) within) ∙ sym clear)
-      | inr apart ↦ get_or-set_other (slice_set bits at true) at k false false apart ∙ get_or-set_other bits at k true false apart
+      | inl same ↦
+          rw same (get_or-set_same (slice_set bits at true) at false false (rw (length-set bits at true) within)
+          ∙ sym clear)
+      | inr apart ↦
+          get_or-set_other (slice_set bits at true) at k false false apart ∙ get_or-set_other bits at k true false apart
     ])
 
-pub given_back-claimed : (p : PoolState) (at : ℕ) → IsBacked p → IsLeastClear p.bits at → given_back (claimed p at) at ≡ p
+-- a claim that is given back at once leaves the pool as it was
+pub given_back-claimed : (p : PoolState) (at : ℕ) → IsBacked p → IsLeastClear p.bits at
+    → given_back (claimed p at) at ≡ p
 given_back-claimed p at was least =
     let bits : slice_set (slice_set p.bits at true) at false ≡ p.bits = set_back p.bits at least.within least.clear in
     let none : All (λ c. c ≢ at) p.claims = λ k d h same.
     both_ways (is_in p.bits at) least.clear (ap (is_in p.bits) (sym same) ∙ was.in_use k d h) in
     let claims : without (at ∷ p.claims) at ≡ p.claims =
-    ap (λ (b : Bool). cond (not b) (at ∷ without p.claims at) (without p.claims at)) (eq-eqb at at refl) ∙ without-none p.claims at none in
+    ap (λ (b : Bool). cond (not b) (at ∷ without p.claims at) (without p.claims at)) (eq-eqb at at refl)
+    ∙ without-none p.claims at none in
     λ i. record { bits = bits i; claims = claims i }
 
+-- the clear places are those that are not in use
 pub clear_in-rest : (bits : List Bool) → length bits - member_count bits ≡ clear_in bits
 clear_in-rest bits =
     omega (arith, length-filter_both (λ b. b) not (λ b. refl) bits, length-filter (λ b. b) bits, length-filter not bits)

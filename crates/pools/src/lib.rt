@@ -8,6 +8,3 @@ mod pool;
 pub use bit_array::Bits;
 pub use laws::given_back_at_once;
 pub use pool::{Claim, ClusterPool, Clusters, PagePool, Pages, Pool};
-
-#[cfg(test)]
-mod tests;

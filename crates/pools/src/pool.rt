@@ -42,8 +42,9 @@ pub type ClusterPool = Pool<Clusters>;
 /// Which metadata pages are in use, and which of these are claimed.
 pub type PagePool = Pool<Pages>;
 
-/// Places below a length, each in use or clear. A claim sets a clear one aside, until it is given back or kept. Contracts
-/// see the set of the places in use and the list of the open claims; the list takes no bytes. No call takes memory.
+/// Places below a length, each in use or clear. A claim sets a clear one aside, until it is given back or kept.
+/// Contracts see the set of the places in use and the list of the open claims; the list takes no bytes. No call takes
+/// memory.
 pub struct Pool<K> {
     bits: Bits,
     claims: Tag,

@@ -1,139 +1,269 @@
 -- A script that is read line by line.
-use Rattle.std.proofs.Common.{◌≡◌, ◌⊎◌, inl, inr, ℕ, zero, suc, ◌+◌, ◌-◌, ◌^◌, ◌<◌, ◌≤◌, List, [], ◌∷◌, ◌++◌, map, length, get_or, Option, Some, None, true, false, Bool, refl, sym, ap, subst, ◌∙◌, arith, append_assoc, length-append, slice_set, slice_index_or}
-use Rattle.std.specs.Prelude.{nat_le, nat_lt, cond, replicate}
+use Rattle.std.proofs.Common.{◌≡◌, ◌⊎◌, inl, inr, ℕ, ◌+◌, ◌^◌, ◌<◌, ◌≤◌, List, [], ◌∷◌, ◌++◌, map, length, Option, Some, None, Result, Ok, Err, true, false, Bool, refl, sym, ap, subst, ◌∙◌, arith, append_assoc, length-append, slice_index_or}
+use Rattle.std.specs.Prelude.{nat_le, nat_lt, cond, replicate, fold}
 use Rattle.std.specs.List.{All}
-use Rattle.std.specs.Option.{option_map}
+use Rattle.std.specs.Option.{option_map, option_and_then}
 use Rattle.std.proofs.lemmas.Bool.{cases_lt}
 use Rattle.std.proofs.lemmas.Bool.Decides.{nat_tests}
-use Rattle.std.proofs.lemmas.List.Elements.{All-nil, All-cons, All-append}
-use Rattle.std.proofs.lemmas.List.{length-map, map-append, get_or_past, get_or-replicate}
+use Rattle.std.proofs.lemmas.List.Elements.{All-nil, All-push, All-set, All-replicate, All-get_or, All-head, All-tail}
+use Rattle.std.proofs.lemmas.List.Sums.{fold_push, sum_by-append}
+use Rattle.std.proofs.lemmas.List.{map-append, get_or_past}
 use Rattle.std.proofs.lemmas.Grind.{common_steps}
 use Rattle.volume_model.specs.declared.command.Command.{Command}
 use Rattle.volume_model.specs.Scripts.{commands_in}
 use Rattle.blob_meta.specs.Asked.{IsOnHead}
-use Rattle.script_lang.specs.Lines.{command_at, kind_at}
-use Rattle.script_lang.specs.Script.{lines, all_some, commands_of, script_of, reads, kind_on, IsFirstBad}
+use Rattle.script_lang.specs.declared.fault.LineKind.{LineKind}
+use Rattle.script_lang.specs.declared.fault.LineKind.TheVariants as kind
+use Rattle.script_lang.specs.declared.grammar.Grammar.{Grammar}
+use Rattle.script_lang.specs.declared.grammar.Grammar.TheVariants.{Served}
+use Rattle.script_lang.specs.declared.line.Request.{Request}
+use Rattle.script_lang.specs.Commands.{pages_of}
+use Rattle.script_lang.specs.Lines.{says}
+use Rattle.script_lang.specs.Script.{lines, all_ok, pages_in, within_pages, requests_in, with_command, with_request, script_of, reads_as, wrong_after, wrong_on, IsFirstBad}
+use Rattle.script_lang.proofs.Requests.{IsSized, no_pages}
 
--- so many lines before hold the commands of this script
-pub record IsReading (all left : List (List ℕ)) (script : List (List Command)) (number : ℕ) : Type 0 where
+mapped_none : (o : Option (List Request)) → o ≡ option_map (λ more. more) o
+mapped_none None = refl
+mapped_none (Some x) = refl
+
+mapped_twice : (request : Request) (requests : List Request) (o : Option (List Request)) → option_map (λ ys. request ∷ ys) (option_map (λ more. requests ++ more) o) ≡ option_map (λ more. request ∷ (requests ++ more)) o
+mapped_twice request requests None = refl
+mapped_twice request requests (Some x) = refl
+
+-- lines that all ask for something
+all_oks : (requests : List Request) (later : List (Result Request LineKind)) → all_ok (map Ok requests ++ later) ≡ option_map (λ more. requests ++ more) (all_ok later)
+all_oks [] later = mapped_none (all_ok later)
+all_oks (request ∷ requests) later = ap (option_map (λ ys. request ∷ ys)) (all_oks requests later) ∙ mapped_twice request requests (all_ok later)
+
+just_oks : (requests : List Request) → all_ok (map Ok requests) ≡ Some requests
+just_oks [] = refl
+just_oks (request ∷ requests) = ap (option_map (λ ys. request ∷ ys)) (just_oks requests)
+
+is_le : (a b : ℕ) → a ≤ b → nat_le a b ≡ true
+is_le a b h = grind (arith, nat_tests, h)
+
+not_le : (a b : ℕ) → b < a → nat_le a b ≡ false
+not_le a b h = grind (arith, nat_tests, h)
+
+is_lt : (a b : ℕ) → a < b → nat_lt a b ≡ true
+is_lt a b h = grind (arith, nat_tests, h)
+
+not_lt : (a b : ℕ) → b ≤ a → nat_lt a b ≡ false
+not_lt a b h = grind (arith, nat_tests, h)
+
+few_pages : (requests : List Request) → pages_in requests ≤ 2 ^ 16 → within_pages requests ≡ Some requests
+few_pages requests few = ap (λ b. cond b (Some requests) None) (is_le (pages_in requests) (2 ^ 16) few)
+
+many_pages : (requests : List Request) → 2 ^ 16 < pages_in requests → within_pages requests ≡ None
+many_pages requests many = ap (λ b. cond b (Some requests) None) (not_le (pages_in requests) (2 ^ 16) many)
+
+-- once the pages are too many, they stay so
+stay_many : (requests : List Request) (o : Option (List Request)) → 2 ^ 16 < pages_in requests → option_and_then within_pages (option_map (λ more. requests ++ more) o) ≡ None
+stay_many requests None many = refl
+stay_many requests (Some more) many = many_pages (requests ++ more) (omega (arith, many, sum_by-append (λ (q : Request). pages_of q.commands) requests more))
+
+in_few_lines : (grammar : Grammar) (ls : List (List ℕ)) (requests : List Request) → length ls ≤ 2 ^ 16 → map (says grammar) ls ≡ map Ok requests → pages_in requests ≤ 2 ^ 16
+    → requests_in grammar ls ≡ Some requests
+unfolding requests_in
+in_few_lines grammar ls requests few good within =
+    ap (λ b. cond b (option_and_then within_pages (all_ok (map (says grammar) ls))) None) (is_le (length ls) (2 ^ 16) few)
+    ∙ ap (λ rs. option_and_then within_pages (all_ok rs)) good
+    ∙ ap (option_and_then within_pages) (just_oks requests)
+    ∙ few_pages requests within
+
+none_chosen : {X : Type 0} (b : Bool) (o : Option X) → o ≡ None → cond b o None ≡ None
+none_chosen true o e = e
+none_chosen false o e = refl
+
+none_asked : (grammar : Grammar) (ls : List (List ℕ)) → option_and_then within_pages (all_ok (map (says grammar) ls)) ≡ None → requests_in grammar ls ≡ None
+unfolding requests_in
+none_asked grammar ls e = none_chosen (nat_le (length ls) (2 ^ 16)) _ e
+
+in_many_lines : (grammar : Grammar) (ls : List (List ℕ)) → 2 ^ 16 < length ls → requests_in grammar ls ≡ None
+unfolding requests_in
+in_many_lines grammar ls many = ap (λ b. cond b (option_and_then within_pages (all_ok (map (says grammar) ls))) None) (not_le (length ls) (2 ^ 16) many)
+
+no_script : (grammar : Grammar) (text : List ℕ) → requests_in grammar (lines text) ≡ None → reads_as grammar text ≡ None
+no_script grammar text e = none_chosen (nat_le (length text) (2 ^ 20)) _ (ap (option_map script_of) e)
+
+-- so many lines before ask for what stands in this script
+pub record IsReading (grammar : Grammar) (all left : List (List ℕ)) (script : List (List Command)) (number pages : ℕ) : Type 0 where
   pub before : List (List ℕ)
-  pub commands : List Command
+  pub requests : List Request
   pub whole : all ≡ before ++ left
-  pub good : map command_at before ≡ map Some commands
-  pub script_is : script ≡ script_of commands
-  pub heads : All IsOnHead commands
-  pub number_is : number ≡ length commands
+  pub good : map (says grammar) before ≡ map Ok requests
+  pub script_is : script ≡ script_of requests
+  pub number_is : number ≡ length before
   pub fits : number ≤ 2 ^ 16
+  pub pages_are : pages ≡ pages_in requests
+  pub within : pages ≤ 2 ^ 16
+  pub room : commands_in script ≤ pages + number
+  pub paged : 0 < pages → commands_in script + 1 ≤ pages + number
+  pub heads : grammar ≡ Served → All (All IsOnHead) script
+  pub unpaged : grammar ≡ Served → pages ≡ 0
 
-all_are : {X : Type 0} (xs : List X) → all_some (map Some xs) ≡ Some xs
-all_are [] = refl
-all_are (x ∷ xs) = rw (all_are xs) refl
-
-one_missing : {X : Type 0} (xs : List X) (ys : List (Option X)) → all_some (map Some xs ++ None ∷ ys) ≡ None
-one_missing [] ys = refl
-one_missing (x ∷ xs) ys = rw (one_missing xs ys) refl
-
-pub begun : (all left : List (List ℕ)) (script : List (List Command)) → left ≡ all → script ≡ script_of [] → IsReading all left script 0
-begun all left script e s = record { before = []; commands = []; whole = sym e; good = refl; script_is = s; heads = All-nil IsOnHead; number_is = refl; fits = omega arith }
-
--- as many lines as commands
-count_is : (all left : List (List ℕ)) (script : List (List Command)) (number : ℕ) (r : IsReading all left script number) → length r.before ≡ number
-count_is all left script number r = sym (length-map r.before command_at) ∙ ap length r.good ∙ length-map r.commands Some ∙ sym r.number_is
-
-pub one_more : (all left : List (List ℕ)) (line : List ℕ) (rest : List (List ℕ)) (script : List (List Command)) (number : ℕ) (command : Command) (next : List (List Command))
-    → IsReading all left script number → left ≡ line ∷ rest → command_at line ≡ Some command → IsOnHead command → number + 1 ≤ 2 ^ 16
-    → next ≡ slice_set script 0 (slice_index_or script 0 [] ++ command ∷ []) → IsReading all rest next (number + 1)
-one_more all left line rest script number command next r e is on few pushed = record {
-  before = r.before ++ line ∷ [];
-  commands = r.commands ++ command ∷ [];
-  whole = r.whole ∙ ap (λ ls. r.before ++ ls) e ∙ sym (append_assoc r.before (line ∷ []) rest);
-  good = map-append command_at r.before (line ∷ []) ∙ ap (λ cs. cs ++ command_at line ∷ []) r.good ∙ ap (λ c. map Some r.commands ++ c ∷ []) is ∙ sym (map-append Some r.commands (command ∷ []));
-  script_is = pushed ∙ ap (λ (s : List (List Command)). slice_set s 0 (slice_index_or s 0 [] ++ command ∷ [])) r.script_is;
-  heads = All-append IsOnHead r.commands (command ∷ []) r.heads (All-cons IsOnHead command [] on (All-nil IsOnHead));
-  number_is = omega (arith, r.number_is, length-append r.commands (command ∷ []));
-  fits = few;
+pub begun : (grammar : Grammar) (all left : List (List ℕ)) (script : List (List Command)) → left ≡ all → script ≡ replicate 16 [] → IsReading grammar all left script 0 0
+begun grammar all left script e s = record {
+  before = [];
+  requests = [];
+  whole = sym e;
+  good = refl;
+  script_is = s;
+  number_is = refl;
+  fits = omega arith;
+  pages_are = refl;
+  within = omega arith;
+  room = omega (arith, ap commands_in s);
+  paged = λ more. absurd (omega arith);
+  heads = λ served. subst (All (All IsOnHead)) (sym s) (All-replicate (All IsOnHead) 16 [] (All-nil IsOnHead));
+  unpaged = λ served. refl;
 }
 
-few_lines : (ls : List (List ℕ)) → length ls ≤ 2 ^ 16 → commands_of ls ≡ all_some (map command_at ls)
-few_lines ls few = let yes : nat_le (length ls) (2 ^ 16) ≡ true = grind (arith, nat_tests, few) in rw yes refl
+-- the list of a channel, if each list is of commands on heads
+pub heads_in : (script : List (List Command)) → All (All IsOnHead) script → (channel : ℕ) → All IsOnHead (slice_index_or script channel [])
+heads_in script all channel = elim (cases_lt channel (length script)) [
+  | inl lt ↦ All-get_or (All IsOnHead) script channel [] lt all
+  | inr past ↦ subst (All IsOnHead) (sym (get_or_past script channel [] past)) (All-nil IsOnHead)
+]
 
--- the lines before are no more than a script may have
-good_before : (all left : List (List ℕ)) (script : List (List Command)) (number : ℕ) (r : IsReading all left script number) → commands_of r.before ≡ Some r.commands
-good_before all left script number r =
-    let few : length r.before ≤ 2 ^ 16 = omega (arith, count_is all left script number r, r.fits) in
-    few_lines r.before few ∙ ap all_some r.good ∙ all_are r.commands
+heads_pushed : (channel : ℕ) (commands : List Command) (script : List (List Command)) → All (All IsOnHead) script → All IsOnHead commands → All (All IsOnHead) (fold (with_command channel) script commands)
+heads_pushed channel [] script all on = all
+heads_pushed channel (command ∷ commands) script all on =
+    heads_pushed channel commands (with_command channel script command)
+    (All-set (All IsOnHead) script channel _ (All-push IsOnHead _ command (heads_in script all channel) (All-head IsOnHead command commands on)) all)
+    (All-tail IsOnHead command commands on)
 
-pub all_read : (text : List ℕ) (left : List (List ℕ)) (script : List (List Command)) (number : ℕ) → IsReading (lines text) left script number → left ≡ [] → reads text ≡ Some script
-all_read text left script number r e =
+-- the numbers after one more request
+more_room : (commands number pages len more : ℕ) → (len ≤ 1) ⊎ (len ≡ more) → commands ≤ pages + number → (0 < pages → commands + 1 ≤ pages + number)
+    → (commands + len ≤ pages + more + (number + 1)) × (0 < pages + more → commands + len + 1 ≤ pages + more + (number + 1))
+more_room commands number pages len more (inl few) room paged = (
+  omega arith,
+  λ some. elim (cases_lt 0 pages) [
+    | inl lt ↦ let old = paged lt in omega arith
+    | inr none ↦ omega arith
+  ],
+)
+more_room commands number pages len more (inr same) room paged = (
+  omega arith,
+  λ some. elim (cases_lt 0 pages) [
+    | inl lt ↦ let old = paged lt in omega arith
+    | inr none ↦ omega arith
+  ],
+)
+
+-- one more at the end of those that are there
+shifted : (requests : List Request) (request : Request) (later : List (Result Request LineKind)) → map Ok requests ++ Ok request ∷ later ≡ map Ok (requests ++ request ∷ []) ++ later
+shifted requests request later = sym (append_assoc (map Ok requests) (Ok request ∷ []) later) ∙ ap (λ rs. rs ++ later) (sym (map-append Ok requests (request ∷ [])))
+
+module _ (grammar : Grammar) (all left : List (List ℕ)) (line : List ℕ) (rest : List (List ℕ)) (script : List (List Command)) (number pages : ℕ)
+    (r : IsReading grammar all left script number pages) (e : left ≡ line ∷ rest) where
+  whole_is : all ≡ r.before ++ line ∷ rest
+  whole_is = r.whole ∙ ap (λ ls. r.before ++ ls) e
+
+  good_before : requests_in grammar r.before ≡ Some r.requests
+  good_before = in_few_lines grammar r.before r.requests (omega (arith, r.number_is, r.fits)) r.good (omega (arith, r.pages_are, r.within))
+
+  all_said : map (says grammar) all ≡ map Ok r.requests ++ says grammar line ∷ map (says grammar) rest
+  all_said = ap (map (says grammar)) whole_is ∙ map-append (says grammar) r.before (line ∷ rest) ∙ ap (λ cs. cs ++ says grammar line ∷ map (says grammar) rest) r.good
+
+  first_bad : (text : List ℕ) (kind : LineKind) → length text ≤ 2 ^ 20 → all ≡ lines text → wrong_on grammar (number + 1) (pages_in r.requests) line ≡ Some kind → IsFirstBad grammar text (number + 1) kind
+  first_bad text kind small is wrong = record {
+    before = r.before;
+    requests = r.requests;
+    line = line;
+    after = rest;
+    small = small;
+    lines_are = sym is ∙ whole_is;
+    good = good_before;
+    bad = wrong;
+    number_is = ap (λ n. n + 1) r.number_is;
+  }
+
+  -- within the limit of lines the line itself says what is wrong
+  wrong_here : number + 1 ≤ 2 ^ 16 → wrong_on grammar (number + 1) (pages_in r.requests) line ≡ wrong_after (pages_in r.requests) (says grammar line)
+  wrong_here few = ap (λ b. cond b (Some kind.Limit) (wrong_after (pages_in r.requests) (says grammar line))) (not_lt (2 ^ 16) (number + 1) few)
+
+  module _ (request : Request) (said : says grammar line ≡ Ok request) where
+    pub one_more : (next : List (List Command)) → IsSized request.commands → (grammar ≡ Served → All IsOnHead request.commands)
+        → number + 1 ≤ 2 ^ 16 → pages + pages_of request.commands ≤ 2 ^ 16
+        → next ≡ with_request script request → commands_in next ≡ commands_in script + length request.commands
+        → IsReading grammar all rest next (number + 1) (pages + pages_of request.commands)
+    one_more next sized on few within pushed count =
+        let numbers = more_room (commands_in script) number pages (length request.commands) (pages_of request.commands) sized r.room r.paged in
+        record {
+          before = r.before ++ line ∷ [];
+          requests = r.requests ++ request ∷ [];
+          whole = whole_is ∙ sym (append_assoc r.before (line ∷ []) rest);
+          good = map-append (says grammar) r.before (line ∷ []) ∙ ap (λ cs. cs ++ says grammar line ∷ []) r.good ∙ ap (λ c. map Ok r.requests ++ c ∷ []) said ∙ sym (map-append Ok r.requests (request ∷ []));
+          script_is = pushed ∙ ap (λ (s : List (List Command)). with_request s request) r.script_is ∙ sym (fold_push with_request (replicate 16 []) r.requests request);
+          number_is = omega (arith, r.number_is, length-append r.before (line ∷ []));
+          fits = few;
+          pages_are = omega (arith, r.pages_are, sum_by-append (λ (q : Request). pages_of q.commands) r.requests (request ∷ []));
+          within = within;
+          room = omega (arith, count, numbers.0);
+          paged = λ some. let more = numbers.1 some in omega (arith, count);
+          heads = λ served. subst (All (All IsOnHead)) (sym pushed) (heads_pushed request.channel request.commands script (r.heads served) (on served));
+          unpaged = λ served. omega (arith, r.unpaged served, no_pages request.commands (on served));
+        }
+
+    -- with this line the pages are too many
+    pub too_many_pages : (text : List ℕ) → length text ≤ 2 ^ 20 → all ≡ lines text → number + 1 ≤ 2 ^ 16 → 2 ^ 16 < pages + pages_of request.commands
+        → IsFirstBad grammar text (number + 1) kind.Limit × (reads_as grammar text ≡ None)
+    too_many_pages text small is few over =
+        let more : 2 ^ 16 < pages_in r.requests + pages_of request.commands = omega (arith, over, r.pages_are) in
+        let limit : wrong_after (pages_in r.requests) (says grammar line) ≡ Some kind.Limit =
+        ap (wrong_after (pages_in r.requests)) said ∙ ap (λ b. cond b (Some kind.Limit) None) (is_lt (2 ^ 16) (pages_in r.requests + pages_of request.commands) more) in
+        let whole : pages_in (r.requests ++ request ∷ []) ≡ pages_in r.requests + pages_of request.commands =
+        omega (arith, sum_by-append (λ (q : Request). pages_of q.commands) r.requests (request ∷ [])) in
+        let asked : all_ok (map (says grammar) all) ≡ option_map (λ later. (r.requests ++ request ∷ []) ++ later) (all_ok (map (says grammar) rest)) =
+        ap all_ok (all_said ∙ ap (λ c. map Ok r.requests ++ c ∷ map (says grammar) rest) said ∙ shifted r.requests request (map (says grammar) rest)) ∙ all_oks (r.requests ++ request ∷ []) (map (says grammar) rest) in (
+          first_bad text kind.Limit small is (wrong_here few ∙ limit),
+          no_script grammar text (ap (requests_in grammar) (sym is) ∙ none_asked grammar all (ap (option_and_then within_pages) asked ∙ stay_many (r.requests ++ request ∷ []) (all_ok (map (says grammar) rest)) (omega (arith, whole, more)))),
+        )
+
+  pub bad_line : (text : List ℕ) (kind : LineKind) → length text ≤ 2 ^ 20 → all ≡ lines text → number + 1 ≤ 2 ^ 16 → says grammar line ≡ Err kind
+      → IsFirstBad grammar text (number + 1) kind × (reads_as grammar text ≡ None)
+  bad_line text kind small is few said =
+      let asked : all_ok (map (says grammar) all) ≡ None =
+      ap all_ok (all_said ∙ ap (λ c. map Ok r.requests ++ c ∷ map (says grammar) rest) said) ∙ all_oks r.requests (Err kind ∷ map (says grammar) rest) in (
+        first_bad text kind small is (wrong_here few ∙ ap (wrong_after (pages_in r.requests)) said),
+        no_script grammar text (ap (requests_in grammar) (sym is) ∙ none_asked grammar all (ap (option_and_then within_pages) asked)),
+      )
+
+  pub too_many_lines : (text : List ℕ) → length text ≤ 2 ^ 20 → all ≡ lines text → 2 ^ 16 < number + 1
+      → IsFirstBad grammar text (number + 1) kind.Limit × (reads_as grammar text ≡ None)
+  too_many_lines text small is many =
+      let long : 2 ^ 16 < length all = omega (arith, many, r.number_is, ap length whole_is, length-append r.before (line ∷ rest)) in (
+        first_bad text kind.Limit small is (ap (λ b. cond b (Some kind.Limit) (wrong_after (pages_in r.requests) (says grammar line))) (is_lt (2 ^ 16) (number + 1) many)),
+        no_script grammar text (ap (requests_in grammar) (sym is) ∙ in_many_lines grammar all long),
+      )
+
+pub all_read : (grammar : Grammar) (text : List ℕ) (left : List (List ℕ)) (script : List (List Command)) (number pages : ℕ) → length text ≤ 2 ^ 20
+    → IsReading grammar (lines text) left script number pages → left ≡ [] → reads_as grammar text ≡ Some script
+all_read grammar text left script number pages small r e =
     let none : r.before ++ left ≡ r.before = grind (arith, common_steps, e) in
-    ap (λ ls. option_map script_of (commands_of ls)) (r.whole ∙ none) ∙ ap (option_map script_of) (good_before (lines text) left script number r) ∙ ap Some (sym r.script_is)
+    let asked : requests_in grammar (lines text) ≡ Some r.requests =
+    ap (requests_in grammar) (r.whole ∙ none) ∙ in_few_lines grammar r.before r.requests (omega (arith, r.number_is, r.fits)) r.good (omega (arith, r.pages_are, r.within)) in
+    ap (λ b. cond b (option_map script_of (requests_in grammar (lines text))) None) (is_le (length text) (2 ^ 20) small)
+    ∙ ap (option_map script_of) asked
+    ∙ ap Some (sym r.script_is)
 
-pub stuck : (text : List ℕ) (left : List (List ℕ)) (line : List ℕ) (rest : List (List ℕ)) (script : List (List Command)) (number : ℕ)
-    → IsReading (lines text) left script number → left ≡ line ∷ rest → (command_at line ≡ None) ⊎ (number ≡ 2 ^ 16) → IsFirstBad text (number + 1)
-stuck text left line rest script number r e bad =
-    let count = count_is (lines text) left script number r in
-    record {
-      before = r.before;
-      commands = r.commands;
-      line = line;
-      after = rest;
-      lines_are = r.whole ∙ ap (λ ls. r.before ++ ls) e;
-      good = good_before (lines text) left script number r;
-      bad = elim bad as (λ b. (command_at line ≡ None) ⊎ (length r.before ≡ 2 ^ 16)) [ inl none ↦ inl none | inr many ↦ inr (count ∙ many) ];
-      number_is = ap (λ n. n + 1) (sym count);
-    }
+-- there is room for a request's commands
+pub pushed_room : (grammar : Grammar) (all left : List (List ℕ)) (script : List (List Command)) {number pages : ℕ} → (r : IsReading grammar all left script number pages) → (request : Request) → IsSized request.commands
+    → number + 1 ≤ 2 ^ 16 → pages + pages_of request.commands ≤ 2 ^ 16 → commands_in script + length request.commands ≤ 131071
+pushed_room grammar all left script {number} {pages} r request sized few within =
+    let numbers = more_room (commands_in script) number pages (length request.commands) (pages_of request.commands) sized r.room r.paged in
+    elim (cases_lt 0 (pages + pages_of request.commands)) [
+      | inl some ↦ let more = numbers.1 some in omega arith
+      | inr none ↦ let less = numbers.0 in omega arith
+    ]
 
--- the line of the number that is next
-pub of_that_line : (text : List ℕ) (left : List (List ℕ)) (line : List ℕ) (rest : List (List ℕ)) (script : List (List Command)) (number : ℕ)
-    → IsReading (lines text) left script number → left ≡ line ∷ rest → get_or (lines text) number [] ≡ line
-of_that_line text left line rest script number r e =
-    let count : number ≡ length r.before = sym (count_is (lines text) left script number r) in
-    let whole : lines text ≡ r.before ++ line ∷ rest = r.whole ∙ ap (λ ls. r.before ++ ls) e in
-    ap (λ ls. get_or ls number []) whole ∙ ap (λ n. get_or (r.before ++ line ∷ rest) n []) count ∙ grind (arith, common_steps)
+pub served_heads : (grammar : Grammar) (all left : List (List ℕ)) (script : List (List Command)) {number pages : ℕ} → IsReading grammar all left script number pages → grammar ≡ Served → (channel : ℕ) → All IsOnHead (slice_index_or script channel [])
+served_heads grammar all left script r served = heads_in script (r.heads served)
 
--- below the limit the line itself says what is wrong with it
-pub kind_below : (ls : List (List ℕ)) (number : ℕ) (line : List ℕ) → number + 1 ≤ 2 ^ 16 → get_or ls number [] ≡ line → kind_at line ≡ kind_on (number + 1) (slice_index_or ls (number + 1 - 1) [])
-kind_below ls number line few e =
-    let no : nat_lt (2 ^ 16) (number + 1) ≡ false = grind (arith, nat_tests, few) in
-    let place : number + 1 - 1 ≡ number = omega arith in
-    rw (no, place, e) refl
+pub served_few : (grammar : Grammar) (all left : List (List ℕ)) (script : List (List Command)) {number pages : ℕ} → IsReading grammar all left script number pages → grammar ≡ Served → commands_in script ≤ 2 ^ 16
+served_few grammar all left script r served = omega (arith, r.room, r.unpaged served, r.fits)
 
-missing : (all left : List (List ℕ)) (line : List ℕ) (rest : List (List ℕ)) (script : List (List Command)) (number : ℕ)
-    → IsReading all left script number → left ≡ line ∷ rest → command_at line ≡ None → all_some (map command_at all) ≡ None
-missing all left line rest script number r e bad =
-    ap (λ ls. all_some (map command_at ls)) (r.whole ∙ ap (λ ls. r.before ++ ls) e)
-    ∙ ap all_some (map-append command_at r.before (line ∷ rest))
-    ∙ ap (λ cs. all_some (cs ++ command_at line ∷ map command_at rest)) r.good
-    ∙ ap (λ c. all_some (map Some r.commands ++ c ∷ map command_at rest)) bad
-    ∙ one_missing r.commands (map command_at rest)
-
-either_way : (b : Bool) (x : Option (List Command)) → x ≡ None → cond b x None ≡ None
-either_way true x e = e
-either_way false x e = refl
-
-pub no_script : (text : List ℕ) (left : List (List ℕ)) (line : List ℕ) (rest : List (List ℕ)) (script : List (List Command)) (number : ℕ)
-    → IsReading (lines text) left script number → left ≡ line ∷ rest → command_at line ≡ None → reads text ≡ None
-no_script text left line rest script number r e bad =
-    ap (option_map script_of) (either_way (nat_le (length (lines text)) (2 ^ 16)) (all_some (map command_at (lines text))) (missing (lines text) left line rest script number r e bad))
-
-pub too_many : (text : List ℕ) (left : List (List ℕ)) (line : List ℕ) (rest : List (List ℕ)) (script : List (List Command)) (number : ℕ)
-    → IsReading (lines text) left script number → left ≡ line ∷ rest → number ≡ 2 ^ 16 → reads text ≡ None
-too_many text left line rest script number r e many =
-    let whole : length (lines text) ≡ length r.before + length (line ∷ rest) = ap length (r.whole ∙ ap (λ ls. r.before ++ ls) e) ∙ length-append r.before (line ∷ rest) in
-    let far : 2 ^ 16 < length (lines text) = omega (arith, whole, count_is (lines text) left script number r) in
-    let no : nat_le (length (lines text)) (2 ^ 16) ≡ false = grind (arith, nat_tests, far) in
-    ap (λ b. option_map script_of (cond b (all_some (map command_at (lines text))) None)) no
-
--- a channel but the first has no command
-none_there : (n : ℕ) → slice_index_or {A = List Command} (replicate 15 []) n [] ≡ []
-none_there n = elim (cases_lt n 15) [ inl lt ↦ get_or-replicate 15 n [] [] lt | inr past ↦ get_or_past (replicate 15 []) n [] past ]
-
-on_each : (commands : List Command) → All IsOnHead commands → (channel : ℕ) → All IsOnHead (slice_index_or (script_of commands) channel [])
-on_each commands all zero = all
-on_each commands all (suc n) = subst (All IsOnHead) (sym (none_there n)) (All-nil IsOnHead)
-
-pub heads_in : (all left : List (List ℕ)) (script : List (List Command)) (number : ℕ) → IsReading all left script number → (channel : ℕ) → All IsOnHead (slice_index_or script channel [])
-heads_in all left script number r = subst (λ (s : List (List Command)). (channel : ℕ) → All IsOnHead (slice_index_or s channel [])) (sym r.script_is) (on_each r.commands r.heads)
-
-pub count_in : (all left : List (List ℕ)) (script : List (List Command)) (number : ℕ) → IsReading all left script number → commands_in script ≡ number
-count_in all left script number r = ap commands_in r.script_is ∙ omega (arith, r.number_is)
+-- the same for a number of pages that is the same
+pub same_pages : (grammar : Grammar) (all left : List (List ℕ)) (script : List (List Command)) (number pages new : ℕ) → IsReading grammar all left script number pages → new ≡ pages → IsReading grammar all left script number new
+same_pages grammar all left script number pages new r e = subst (λ (n : ℕ). IsReading grammar all left script number n) (sym e) r

@@ -1,5 +1,9 @@
 pub mod Parts
 pub mod Words
+pub mod Grammar
 pub mod Verbs
+pub mod Forms
+pub mod Commands
 pub mod Lines
 pub mod Script
+pub mod Answered

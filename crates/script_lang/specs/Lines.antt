@@ -1,27 +1,23 @@
--- One line: the command that it holds, or else what is wrong with it.
-use Rattle.std.specs.Prelude.{ℕ, ◌==◌, nat_lt, nat_le, ◌&&◌, ◌||◌, not, if◌then◌else◌, List, [], ◌∷◌, Bool, Option, Some, None, length, slice_index}
+-- One line: what it asks for, or else what is wrong with it.
+use Rattle.std.specs.Prelude.{ℕ, ◌==◌, nat_lt, nat_le, ◌&&◌, ◌||◌, if◌then◌else◌, List, [], ◌∷◌, Bool, Option, Some, None, Result, Ok, Err, length, slice_index}
 use Rattle.std.specs.List.{list_all}
-use Rattle.std.specs.Option.{option_and_then, is_some}
 use Rattle.volume_model.specs.declared.command.Command.{Command}
 use Rattle.script_lang.specs.declared.fault.LineKind.{LineKind}
 use Rattle.script_lang.specs.declared.fault.LineKind.TheVariants as kind
+use Rattle.script_lang.specs.declared.form.Value.{Value}
+use Rattle.script_lang.specs.declared.grammar.Grammar.{Grammar}
+use Rattle.script_lang.specs.declared.line.Request.{Request}
 use Rattle.script_lang.specs.declared.verb.Verb.{Verb}
+use Rattle.script_lang.specs.Commands.{commands_of}
+use Rattle.script_lang.specs.Forms.{says_values, worse}
+use Rattle.script_lang.specs.Grammar.{channels_of}
 use Rattle.script_lang.specs.Parts.{parts}
-use Rattle.script_lang.specs.Verbs.{verb_in, words_of, command_of}
-use Rattle.script_lang.specs.Words.{is_channel, head_in}
+use Rattle.script_lang.specs.Verbs.{verb_in, forms_of, takes}
+use Rattle.script_lang.specs.Words.{number_below}
 
 -- the words of a line, which are separated by one space each
 abbrev pub words : List ℕ → List (List ℕ)
 words line = parts 32 (Some line)
-
--- a channel, a verb and the words of this verb
-abbrev pub command_in : List (List ℕ) → Option Command
-command_in (channel ∷ verb ∷ more) = if is_channel channel then option_and_then (λ v. command_of v more) (verb_in verb) else None
-command_in _ = None
-
--- the command of a line
-abbrev pub command_at : List ℕ → Option Command
-command_at line = command_in (words line)
 
 -- bytes from 0x20 to 0x7E
 abbrev pub is_printable : List ℕ → Bool
@@ -34,25 +30,39 @@ are_words words = list_all (λ word. nat_lt 0 (length word)) words
 abbrev pub is_spaced : List ℕ → Bool
 is_spaced line = are_words (words line)
 
--- a line that begins with `#`
-abbrev pub is_comment : List ℕ → Bool
-is_comment line = slice_index line 0 == 35
+-- an empty line, or one that begins with `#`
+abbrev pub is_skipped : List ℕ → Bool
+is_skipped line = (length line == 0) || (slice_index line 0 == 35)
 
--- the volume stands before the key and the value
-abbrev pub kind_of_more : List (List ℕ) → LineKind
-kind_of_more [] = kind.Volume
-kind_of_more (volume ∷ more) = if is_some (head_in volume) then kind.KeyValue else kind.Volume
+abbrev pub commands_said : Verb → Result (List Value) LineKind → Result (List Command) LineKind
+commands_said verb (Ok values) = commands_of verb values
+commands_said verb (Err kind) = Err kind
 
-abbrev pub kind_of_verb : List ℕ → List (List ℕ) → Option Verb → LineKind
-kind_of_verb channel more (Some verb) =
-    if not (length more == words_of verb) then kind.Form else (if not (is_channel channel) then kind.Channel else kind_of_more more)
-kind_of_verb channel more None = if not (is_channel channel) then kind.Channel else kind.Verb
+-- what a verb's words say; their number counts before them
+abbrev pub says_verb : Grammar → Option Verb → List (List ℕ) → Result (List Command) LineKind
+says_verb grammar None words = Err kind.Verb
+says_verb grammar (Some verb) words = if takes verb (length words) then commands_said verb (says_values grammar (forms_of verb) words) else Err kind.Form
 
--- the first word at fault decides; the number of words counts only where the verb is known, and before all words
-abbrev pub kind_of_words : List (List ℕ) → LineKind
-kind_of_words (channel ∷ verb ∷ more) = kind_of_verb channel more (verb_in verb)
-kind_of_words _ = kind.Form
+-- commands in a channel; a bad channel stands before what is wrong with later words
+abbrev pub in_channel : Option ℕ → Result (List Command) LineKind → Result Request LineKind
+in_channel (Some channel) (Ok commands) = Ok (record { channel = channel; commands = commands })
+in_channel (Some channel) (Err kind) = Err kind
+in_channel None (Ok commands) = Err kind.Channel
+in_channel None (Err later) = Err (worse kind.Channel later)
 
--- what is wrong with a line that holds no command
-abbrev pub kind_at : List ℕ → LineKind
-kind_at line = if not (is_printable line) || not (is_spaced line) || is_comment line then kind.Form else kind_of_words (words line)
+abbrev pub channel_in : Grammar → List ℕ → Option ℕ
+channel_in grammar word = number_below (channels_of grammar) word
+
+-- a channel, a verb and the words of this verb
+abbrev pub says_words : Grammar → List (List ℕ) → Result Request LineKind
+says_words grammar (channel ∷ verb ∷ words) = in_channel (channel_in grammar channel) (says_verb grammar (verb_in grammar verb) words)
+says_words grammar _ = Err kind.Form
+
+abbrev pub no_request : Request
+no_request = record { channel = 0; commands = [] }
+
+-- what a line asks for, or what is wrong with it: the first word at fault, but `Form` before all others
+abbrev pub says : Grammar → List ℕ → Result Request LineKind
+says grammar line =
+    if is_skipped line then Ok no_request
+    else (if is_printable line && is_spaced line then says_words grammar (words line) else Err kind.Form)

@@ -1,13 +1,17 @@
 -- What a text says as a script.
-use Rattle.std.specs.Prelude.{◌≡◌, ◌⊎◌, ℕ, ◌+◌, ◌-◌, ◌<◌, ◌^◌, ◌==◌, nat_lt, nat_le, if◌then◌else◌, List, [], ◌∷◌, ◌++◌, Option, Some, None, map, length, take, replicate, slice_index, slice_index_or}
-use Rattle.std.specs.Option.{option_map}
+use Rattle.std.specs.Prelude.{◌≡◌, ℕ, ◌+◌, ◌-◌, ◌<◌, ◌≤◌, ◌^◌, ◌==◌, nat_lt, nat_le, if◌then◌else◌, List, [], ◌∷◌, ◌++◌, Option, Some, None, Result, Ok, Err, map, fold, length, take, replicate, slice_index, slice_index_or, slice_set, sum_by}
+use Rattle.std.specs.Option.{option_map, option_and_then}
 use Rattle.volume_model.specs.declared.command.Command.{Command}
 use Rattle.script_lang.specs.declared.fault.LineKind.{LineKind}
 use Rattle.script_lang.specs.declared.fault.LineKind.TheVariants as kind
 use Rattle.script_lang.specs.declared.fault.ScriptFault.{ScriptFault}
 use Rattle.script_lang.specs.declared.fault.ScriptFault.TheVariants as fault
+use Rattle.script_lang.specs.declared.grammar.Grammar.{Grammar}
+use Rattle.script_lang.specs.declared.grammar.Grammar.TheVariants as g
+use Rattle.script_lang.specs.declared.line.Request.{Request}
+use Rattle.script_lang.specs.Commands.{pages_of}
+use Rattle.script_lang.specs.Lines.{says}
 use Rattle.script_lang.specs.Parts.{parts}
-use Rattle.script_lang.specs.Lines.{command_at, kind_at}
 
 -- a text without one LF at its end
 abbrev pub ended : List ℕ → List ℕ
@@ -18,52 +22,70 @@ abbrev pub lines : List ℕ → List (List ℕ)
 lines text = parts 10 (if length text == 0 then None else Some (ended text))
 
 -- all values, where none is missing
-abbrev pub all_some : {X : Type 0} → List (Option X) → Option (List X)
-all_some [] = Some []
-all_some (None ∷ xs) = None
-all_some (Some x ∷ xs) = option_map (λ ys. x ∷ ys) (all_some xs)
+abbrev pub all_ok : {X : Type 0} → List (Result X LineKind) → Option (List X)
+all_ok [] = Some []
+all_ok (Err kind ∷ xs) = None
+all_ok (Ok x ∷ xs) = option_map (λ ys. x ∷ ys) (all_ok xs)
 
--- one command a line, on at most 65,536 lines
-abbrev pub commands_of : List (List ℕ) → Option (List Command)
-commands_of lines = if nat_le (length lines) (2 ^ 16) then all_some (map command_at lines) else None
+-- how many pages requests read and write
+abbrev pub pages_in : List Request → ℕ
+pages_in requests = sum_by (λ request. pages_of request.commands) requests
 
--- a script in which channel 0 alone has commands
-abbrev pub script_of : List Command → List (List Command)
-script_of commands = commands ∷ replicate 15 []
+abbrev pub within_pages : List Request → Option (List Request)
+within_pages requests = if nat_le (pages_in requests) (2 ^ 16) then Some requests else None
 
--- the script of a text
-abbrev pub reads : List ℕ → Option (List (List Command))
-reads text = option_map script_of (commands_of (lines text))
+-- what lines ask for: at most 65,536 lines, which together read and write at most 65,536 pages
+unfoldable pub requests_in : Grammar → List (List ℕ) → Option (List Request)
+requests_in grammar lines = if nat_le (length lines) (2 ^ 16) then option_and_then within_pages (all_ok (map (says grammar) lines)) else None
 
--- the line of this number, from 1, is the first that holds no command or is one too many
-pub record IsFirstBad (text : List ℕ) (number : ℕ) : Type 0 where
+-- a command at the end of its channel's
+abbrev pub with_command : ℕ → List (List Command) → Command → List (List Command)
+with_command channel script command = slice_set script channel (slice_index_or script channel [] ++ command ∷ [])
+
+-- a request's commands at the end of its channel's, in order
+abbrev pub with_request : List (List Command) → Request → List (List Command)
+with_request script request = fold (with_command request.channel) script request.commands
+
+-- sixteen channels, each with its commands in the order of the lines
+abbrev pub script_of : List Request → List (List Command)
+script_of requests = fold with_request (replicate 16 []) requests
+
+-- the script of a text of at most 1,048,576 bytes
+abbrev pub reads_as : Grammar → List ℕ → Option (List (List Command))
+reads_as grammar text = if nat_le (length text) (2 ^ 20) then option_map script_of (requests_in grammar (lines text)) else None
+
+-- what is wrong with a line after so many pages: it asks for nothing, or for a page too many
+abbrev pub wrong_after : ℕ → Result Request LineKind → Option LineKind
+wrong_after pages (Err kind) = Some kind
+wrong_after pages (Ok request) = if nat_lt (2 ^ 16) (pages + pages_of request.commands) then Some kind.Limit else None
+
+-- what is wrong with the line of this number, from 1, after so many pages: one too many whatever it holds
+abbrev pub wrong_on : Grammar → ℕ → ℕ → List ℕ → Option LineKind
+wrong_on grammar number pages line = if nat_lt (2 ^ 16) number then Some kind.Limit else wrong_after pages (says grammar line)
+
+-- the line of this number, from 1, is the first outside the grammar or over a limit, and this is wrong with it
+pub record IsFirstBad (grammar : Grammar) (text : List ℕ) (number : ℕ) (kind : LineKind) : Type 0 where
   pub before : List (List ℕ)
-  pub commands : List Command
+  pub requests : List Request
   pub line : List ℕ
   pub after : List (List ℕ)
+  pub small : length text ≤ 2 ^ 20
   pub lines_are : lines text ≡ before ++ line ∷ after
-  pub good : commands_of before ≡ Some commands
-  pub bad : (command_at line ≡ None) ⊎ (length before ≡ 2 ^ 16)
+  pub good : requests_in grammar before ≡ Some requests
+  pub bad : wrong_on grammar number (pages_in requests) line ≡ Some kind
   pub number_is : number ≡ length before + 1
 
--- what is wrong with the line of this number: one too many whatever it holds
-abbrev pub kind_on : ℕ → List ℕ → LineKind
-kind_on number line = if nat_lt (2 ^ 16) number then kind.Limit else kind_at line
-
 -- why a text isn't taken
-abbrev pub Why : List ℕ → ScriptFault → Type 0
-Why text (fault.BadLine line kind) = IsFirstBad text line
-Why text fault.TooBig = 2 ^ 20 < length text
-Why text fault.Memory = Unit {0}
+abbrev pub Why : Grammar → List ℕ → ScriptFault → Type 0
+Why grammar text (fault.BadLine line kind) = IsFirstBad grammar text line kind
+Why grammar text fault.TooBig = 2 ^ 20 < length text
+Why grammar text fault.Memory = Unit {0}
 
--- a refused text is no script, or too long
-abbrev pub Refuses : List ℕ → ScriptFault → Type 0
-Refuses text (fault.BadLine line kind) = reads text ≡ None
-Refuses text fault.TooBig = 2 ^ 20 < length text
-Refuses text fault.Memory = Unit {0}
+-- a refused text is no script
+abbrev pub Refuses : Grammar → List ℕ → ScriptFault → Type 0
+Refuses grammar text fault.Memory = Unit {0}
+Refuses grammar text _ = reads_as grammar text ≡ None
 
--- what is wrong is what is wrong with the line of this number
-abbrev pub IsKindOfLine : List ℕ → ScriptFault → Type 0
-IsKindOfLine text (fault.BadLine number kind) = kind ≡ kind_on number (slice_index_or (lines text) (number - 1) [])
-IsKindOfLine text fault.TooBig = Unit {0}
-IsKindOfLine text fault.Memory = Unit {0}
+-- the script that the program serves
+abbrev pub reads : List ℕ → Option (List (List Command))
+reads text = reads_as g.Served text

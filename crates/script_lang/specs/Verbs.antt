@@ -1,58 +1,75 @@
--- The verbs, the words that follow each, and the commands that they make.
-use Rattle.std.specs.Prelude.{ℕ, if◌then◌else◌, List, [], ◌∷◌, Option, Some, None, codes}
-use Rattle.std.specs.Option.{option_map}
+-- The table of the grammar: each verb, and the forms of the words that follow it.
+use Rattle.std.specs.Prelude.{ℕ, ◌+◌, ◌&&◌, nat_le, Bool, List, [], ◌∷◌, Option, length, codes}
+use Rattle.std.specs.List.{find}
 use Rattle.std.specs.Str.{bytes_eq}
-use Rattle.volume_model.specs.declared.command.VolumeRef.TheVariants.{Head}
-use Rattle.volume_model.specs.declared.command.Command.{Command}
-use Rattle.volume_model.specs.declared.command.Command.TheVariants as c
+use Rattle.script_lang.specs.declared.form.Form.{Form}
+use Rattle.script_lang.specs.declared.form.Form.TheVariants as form
+use Rattle.script_lang.specs.declared.grammar.Grammar.{Grammar}
 use Rattle.script_lang.specs.declared.verb.Verb.{Verb}
 use Rattle.script_lang.specs.declared.verb.Verb.TheVariants as v
-use Rattle.script_lang.specs.Words.{head_in, key_in, value_in}
+use Rattle.script_lang.specs.Grammar.{serves}
 
-abbrev pub verb_in : List ℕ → Option Verb
-verb_in word =
-    if bytes_eq word (codes "setx") then Some v.SetX
-    else (if bytes_eq word (codes "delx") then Some v.DelX
-    else (if bytes_eq word (codes "getx") then Some v.GetX
-    else (if bytes_eq word (codes "put") then Some v.Put
-    else (if bytes_eq word (codes "sync") then Some v.Sync
-    else None))))
+abbrev pub name_of : Verb → List ℕ
+name_of v.Create = codes "create"
+name_of v.Write = codes "write"
+name_of v.Read = codes "read"
+name_of v.Flush = codes "flush"
+name_of v.SetX = codes "setx"
+name_of v.DelX = codes "delx"
+name_of v.GetX = codes "getx"
+name_of v.Put = codes "put"
+name_of v.Sync = codes "sync"
+name_of v.Resize = codes "resize"
+name_of v.Snapshot = codes "snapshot"
+name_of v.Clone = codes "clone"
+name_of v.Inflate = codes "inflate"
+name_of v.Decouple = codes "decouple"
+name_of v.Delete = codes "delete"
+name_of v.Rename = codes "rename"
+name_of v.ReadOnly = codes "readonly"
+name_of v.Info = codes "info"
+name_of v.List = codes "list"
+name_of v.Df = codes "df"
 
--- how many words follow a verb
-abbrev pub words_of : Verb → ℕ
-words_of v.SetX = 3
-words_of v.DelX = 2
-words_of v.GetX = 2
-words_of v.Put = 3
-words_of v.Sync = 1
+abbrev pub verbs : List Verb
+verbs =
+    v.Create ∷ v.Write ∷ v.Read ∷ v.Flush ∷ v.SetX ∷ v.DelX ∷ v.GetX ∷ v.Put ∷ v.Sync ∷ v.Resize
+    ∷ v.Snapshot ∷ v.Clone ∷ v.Inflate ∷ v.Decouple ∷ v.Delete ∷ v.Rename ∷ v.ReadOnly ∷ v.Info ∷ v.List ∷ v.Df ∷ []
 
-abbrev pub both : {X Y : Type 0} → Option X → Option Y → Option (X × Y)
-both (Some x) (Some y) = Some (x, y)
-both _ _ = None
+abbrev pub is_verb : Grammar → List ℕ → Verb → Bool
+is_verb grammar word verb = bytes_eq (name_of verb) word && serves grammar verb
 
-abbrev pub all_three : {X Y Z : Type 0} → Option X → Option Y → Option Z → Option (X × Y × Z)
-all_three (Some x) (Some y) (Some z) = Some (x, y, z)
-all_three _ _ _ = None
+-- the verb that a word is
+unfoldable pub verb_in : Grammar → List ℕ → Option Verb
+verb_in grammar word = find (is_verb grammar word) verbs
 
--- `VOL`
-abbrev pub volume_in : List (List ℕ) → Option ℕ
-volume_in (volume ∷ []) = head_in volume
-volume_in _ = None
+abbrev pub forms_of : Verb → List Form
+forms_of v.Create = form.Name ∷ form.Number ∷ form.Thickness ∷ form.Uuid ∷ []
+forms_of v.Write = form.Volume ∷ form.Number ∷ form.Count ∷ form.Number ∷ []
+forms_of v.Read = form.Volume ∷ form.Number ∷ form.Count ∷ []
+forms_of v.Flush = []
+forms_of v.SetX = form.Volume ∷ form.Key ∷ form.Value ∷ []
+forms_of v.DelX = form.Volume ∷ form.Key ∷ []
+forms_of v.GetX = form.Volume ∷ form.Key ∷ []
+forms_of v.Put = form.Volume ∷ form.Key ∷ form.Value ∷ []
+forms_of v.Sync = form.Volume ∷ []
+forms_of v.Resize = form.Volume ∷ form.Number ∷ []
+forms_of v.Snapshot = form.Volume ∷ form.Name ∷ []
+forms_of v.Clone = form.Volume ∷ form.Name ∷ []
+forms_of v.Inflate = form.Volume ∷ []
+forms_of v.Decouple = form.Volume ∷ []
+forms_of v.Delete = form.Volume ∷ []
+forms_of v.Rename = form.Volume ∷ form.Name ∷ []
+forms_of v.ReadOnly = form.Volume ∷ []
+forms_of v.Info = form.Volume ∷ []
+forms_of v.List = []
+forms_of v.Df = []
 
--- `VOL KEY`
-abbrev pub attribute_in : List (List ℕ) → Option (ℕ × List ℕ)
-attribute_in (volume ∷ key ∷ []) = both (head_in volume) (key_in key)
-attribute_in _ = None
+-- how many words may be left out at the end: the uuid of a volume that is made
+abbrev pub optional_words : Verb → ℕ
+optional_words v.Create = 1
+optional_words verb = 0
 
--- `VOL KEY VALUE`
-abbrev pub setting_in : List (List ℕ) → Option (ℕ × List ℕ × List ℕ)
-setting_in (volume ∷ key ∷ value ∷ []) = all_three (head_in volume) (key_in key) (value_in value)
-setting_in _ = None
-
--- the command of a verb and the words that follow it
-abbrev pub command_of : Verb → List (List ℕ) → Option Command
-command_of v.SetX words = option_map (λ w. c.SetX (Head w.0) w.1 w.2) (setting_in words)
-command_of v.DelX words = option_map (λ w. c.DelX (Head w.0) w.1) (attribute_in words)
-command_of v.GetX words = option_map (λ w. c.GetX (Head w.0) w.1) (attribute_in words)
-command_of v.Put words = option_map (λ w. c.Put (Head w.0) w.1 w.2) (setting_in words)
-command_of v.Sync words = option_map (λ w. c.Sync (Head w)) (volume_in words)
+-- whether a verb is followed by so many words
+abbrev pub takes : Verb → ℕ → Bool
+takes verb n = nat_le n (length (forms_of verb)) && nat_le (length (forms_of verb)) (n + optional_words verb)

@@ -1,36 +1,29 @@
-//! One line of a script: its command, or what is wrong with it.
+//! One line of a script: what it asks for, or what is wrong with it.
 
-ghost use Rattle.std.specs.Prelude.{◌≡◌, IfOk, IfSome};
-ghost use Rattle.blob_meta.specs.Asked.{IsOnHead};
-ghost use Rattle.script_lang.specs.Lines.{is_printable as printable_said, is_spaced as spaced_said, is_comment as comment_said, command_at as command_said, kind_at};
+ghost use Rattle.std.specs.Prelude.{◌≡◌, ◌==◌};
+ghost use Rattle.std.specs.Option.{option_copied};
+ghost use Rattle.script_lang.specs.Answered.{Answers};
+ghost use Rattle.script_lang.specs.Lines.{is_printable as printable_said, is_spaced as spaced_said, is_skipped as skipped_said, says, says_verb};
+ghost use Rattle.script_lang.specs.Parts.{parts};
+ghost use Rattle.script_lang.specs.Verbs.{verb_in};
+ghost use Rattle.script_lang.specs.Words.{number_below as number_said};
+ghost use Rattle.script_lang.specs.Grammar.{channels_of};
 
-use crate::fault::LineKind;
+use crate::commands::commands;
+use crate::fault::{LineFault, LineKind};
+use crate::grammar::Grammar;
 use crate::parts::Parts;
+use crate::values::{read_values, worse};
 use crate::verb::Verb;
-use crate::words::{head, is_channel};
-use out_of_memory::Memory;
+use crate::words::number_below;
 use std::alloc::Global;
-use volume_model::Command;
+use volume_model::{Command, ListOf};
 
-/// The command of a line, if it holds one.
-pub fn command_at(alloc: Global, line: &[u8]) -> Result<Option<Command>, Memory>
-    ensures said { IfOk result (λ command. command ≡ command_said line.now) }
-    ensures on_head { IfOk result (λ command. IfSome command IsOnHead) }
-{
-    let mut words = Parts::of(line, b' ');
-    let Some(channel) = words.next_part() else {
-        return Ok(None);
-    };
-    let Some(word) = words.next_part() else {
-        return Ok(None);
-    };
-    if !is_channel(channel) {
-        return Ok(None);
-    }
-    match Verb::of(word) {
-        Some(verb) => verb.command(alloc, words),
-        None => Ok(None),
-    }
+/// What a line asks for: commands in a channel, and none on a line that is skipped.
+#[derive(Debug, Drop)]
+pub struct Request {
+    pub channel: u8,
+    pub commands: ListOf<Command>,
 }
 
 fn is_printable(line: &[u8]) -> bool
@@ -52,44 +45,75 @@ fn is_spaced(line: &[u8]) -> bool
     true
 }
 
-fn is_comment(line: &[u8]) -> bool
-    ensures { result ≡ comment_said line.now }
+/// Whether a line is empty or begins with `#`.
+fn is_skipped(line: &[u8]) -> bool
+    ensures { result ≡ skipped_said line.now }
 {
     match line {
-        [b'#', ..] => true,
+        [] | [b'#', ..] => true,
         _ => false,
     }
 }
 
-/// What is wrong with a line that holds no command. The first word at fault decides, but the form comes before all words, and
-/// the number of words counts only where the verb is known.
-pub fn kind_of(line: &[u8]) -> LineKind
-    ensures { result ≡ kind_at line.now }
+/// The channel that a word is.
+fn channel(grammar: Grammar, word: &[u8]) -> Option<u8>
+    ensures { result ≡ number_said (channels_of grammar) word.now }
 {
-    if !is_printable(line) || !is_spaced(line) || is_comment(line) {
-        return LineKind::Form;
+    match number_below(u64::from(grammar.channels()), word) {
+        Some(channel) => Some(channel as u8),
+        None => None,
+    }
+}
+
+/// The commands of a verb's word and the words after it.
+fn commands_in(
+    alloc: Global,
+    grammar: Grammar,
+    word: &[u8],
+    words: Parts<'_>,
+) -> Result<ListOf<Command>, LineFault>
+    ensures { Answers (says_verb grammar (verb_in grammar word.now) (parts words.entry.separator (option_copied words.entry.rest))) result }
+{
+    let Some(verb) = Verb::of(grammar, word) else {
+        return Err(LineFault::Bad(LineKind::Verb));
+    };
+    if !verb.takes(words.count()) {
+        return Err(LineFault::Bad(LineKind::Form));
+    }
+    let values = read_values(alloc, grammar, verb.forms(), words)?;
+    commands(alloc, verb, values)
+}
+
+/// What a line asks for, or what is wrong with it: the first word at fault, but `Form` before all others.
+pub fn read_line(alloc: Global, grammar: Grammar, line: &[u8]) -> Result<Request, LineFault>
+    ensures { Answers (says grammar line.now) result }
+{
+    if is_skipped(line) {
+        return Ok(Request {
+            channel: 0,
+            commands: ListOf::new(alloc),
+        });
+    }
+    if !is_printable(line) || !is_spaced(line) {
+        return Err(LineFault::Bad(LineKind::Form));
     }
     let mut words = Parts::of(line, b' ');
-    let Some(channel) = words.next_part() else {
-        return LineKind::Form;
+    let Some(first) = words.next_part() else {
+        return Err(LineFault::Bad(LineKind::Form));
     };
-    let Some(word) = words.next_part() else {
-        return LineKind::Form;
+    let Some(verb) = words.next_part() else {
+        return Err(LineFault::Bad(LineKind::Form));
     };
-    let verb = Verb::of(word);
-    if let Some(verb) = verb
-        && words.count() != verb.words()
-    {
-        return LineKind::Form;
-    }
-    if !is_channel(channel) {
-        return LineKind::Channel;
-    }
-    if verb.is_none() {
-        return LineKind::Verb;
-    }
-    match words.next_part() {
-        Some(volume) if head(volume).is_some() => LineKind::KeyValue,
-        _ => LineKind::Volume,
+    let channel = channel(grammar, first);
+    match commands_in(alloc, grammar, verb, words) {
+        Ok(commands) => match channel {
+            Some(channel) => Ok(Request { channel, commands }),
+            None => Err(LineFault::Bad(LineKind::Channel)),
+        },
+        Err(LineFault::Bad(kind)) => match channel {
+            Some(_) => Err(LineFault::Bad(kind)),
+            None => Err(LineFault::Bad(worse(LineKind::Channel, kind))),
+        },
+        Err(LineFault::Memory) => Err(LineFault::Memory),
     }
 }

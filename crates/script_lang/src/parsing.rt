@@ -1,24 +1,31 @@
 //! Reading a script from its text.
 
-ghost use Rattle.std.specs.Prelude.{◌≡◌, ℕ, ◌≤◌, ◌+◌, ◌^◌, [], length, slice_index_or, Some, IfOk, IfErr};
+ghost use Rattle.std.specs.Prelude.{◌≡◌, ℕ, ◌≤◌, ◌<◌, ◌+◌, ◌^◌, [], length, slice_index_or, fold, Some, IfOk, IfErr, OnOk, OnErr};
 ghost use Rattle.std.specs.List.{All};
 ghost use Rattle.std.specs.Option.{option_copied};
 ghost use Rattle.volume_model.specs.Scripts.{commands_in};
 ghost use Rattle.blob_meta.specs.Asked.{IsOnHead};
+ghost use Rattle.script_lang.specs.declared.grammar.Grammar.TheVariants.{Served};
+ghost use Rattle.script_lang.specs.Commands.{pages_of, is_page as page_said};
 ghost use Rattle.script_lang.specs.Parts.{parts, size_left};
-ghost use Rattle.script_lang.specs.Script.{lines as lines_said, reads, Why, Refuses, IsKindOfLine};
+ghost use Rattle.script_lang.specs.Script.{lines as lines_said, reads, reads_as, with_request, Why, Refuses};
 
-use crate::fault::{LineKind, ScriptFault};
-use crate::line::{command_at, kind_of};
+use crate::fault::{LineFault, LineKind, ScriptFault};
+use crate::grammar::Grammar;
+use crate::line::{Request, read_line};
 use crate::parts::Parts;
+use out_of_memory::Memory;
 use std::alloc::Global;
-use volume_model::Script;
+use volume_model::{Command, Script};
 
 /// The most bytes that a script may have.
 const MAX_BYTES: usize = 1 << 20;
 
 /// The most lines that a script may have.
 const MAX_LINES: u32 = 1 << 16;
+
+/// The most pages that a script may read and write.
+const MAX_PAGES: usize = 1 << 16;
 
 /// The lines of a text; the last may lack its LF.
 fn lines(text: &[u8]) -> Parts<'_>
@@ -36,19 +43,48 @@ fn lines(text: &[u8]) -> Parts<'_>
     }
 }
 
-/// The script of a text of at most 1,048,576 bytes, which has one command a line, on at most 65,536 lines. Lines end with LF,
-/// the last may lack it. A line is words with one space between any two: `0 setx @P KEY t:VALUE`, `0 delx @P KEY`,
-/// `0 getx @P KEY`, `0 put @P KEY t:VALUE` or `0 sync @P`, with the head page `P` of a blob.
-///
-/// `BadLine` names the first line that is none of these, or is one too many (`Limit`).
-pub fn parse(alloc: Global, text: &[u8]) -> Result<Script, ScriptFault>
-    ensures found { IfOk result (λ script. reads text.now ≡ Some script) }
-    ensures on_heads { IfOk result (λ script. (channel : ℕ) → All IsOnHead (slice_index_or script channel [])) }
-    ensures few { IfOk result (λ script. commands_in script ≤ 2 ^ 16) }
+fn is_page(command: &Command) -> bool
+    ensures { result ≡ page_said command.now }
+{
+    matches!(command, Command::Write { .. } | Command::Read { .. })
+}
+
+/// How many pages commands read and write.
+fn pages_of(commands: &[Command]) -> usize
+    ensures { result ≡ pages_of commands.now }
+{
+    let mut pages = 0;
+    for command in commands {
+        if is_page(command) {
+            pages += 1;
+        }
+    }
+    pages
+}
+
+/// Appends a request's commands to those of its channel.
+fn push_request(alloc: Global, script: &mut Script, request: Request) -> Result<(), Memory>
+    requires channel { request.channel < 16 }
+    requires room { commands_in script.old + length request.commands ≤ 131071 }
+    ensures ok { OnOk result (script.new ≡ with_request script.old request) }
+    ensures more { OnOk result (commands_in script.new ≡ commands_in script.old + length request.commands) }
+{
+    let mut commands = request.commands;
+    let mut left = commands.take_all(alloc).into_iter();
+    while let Some(command) = left.next() {
+        script.push(request.channel, command)?;
+    }
+    Ok(())
+}
+
+/// The script of a text, read by a grammar; the clauses of `parse` say what is what.
+pub fn read_script(alloc: Global, grammar: Grammar, text: &[u8]) -> Result<Script, ScriptFault>
+    ensures found { IfOk result (λ script. reads_as grammar text.now ≡ Some script) }
+    ensures on_heads { IfOk result (λ script. grammar ≡ Served → (channel : ℕ) → All IsOnHead (slice_index_or script channel [])) }
+    ensures few { IfOk result (λ script. grammar ≡ Served → commands_in script ≤ 2 ^ 16) }
     ensures within { IfOk result (λ script. length text.now ≤ 2 ^ 20) }
-    ensures refused { IfErr result (Refuses text.now) }
-    ensures why { IfErr result (Why text.now) }
-    ensures kind { IfErr result (IsKindOfLine text.now) }
+    ensures refused { IfErr result (Refuses grammar text.now) }
+    ensures why { IfErr result (Why grammar text.now) }
 {
     if text.len() > MAX_BYTES {
         return Err(ScriptFault::TooBig);
@@ -56,6 +92,7 @@ pub fn parse(alloc: Global, text: &[u8]) -> Result<Script, ScriptFault>
     let mut lines = lines(text);
     let mut script = Script::new(alloc);
     let mut number = 0;
+    let mut pages = 0;
     while let Some(line) = lines.next_part() {
         number += 1;
         if number > MAX_LINES {
@@ -64,13 +101,36 @@ pub fn parse(alloc: Global, text: &[u8]) -> Result<Script, ScriptFault>
                 kind: LineKind::Limit,
             });
         }
-        let Some(command) = command_at(alloc, line)? else {
+        let request = match read_line(alloc, grammar, line) {
+            Ok(request) => request,
+            Err(LineFault::Bad(kind)) => return Err(ScriptFault::BadLine { line: number, kind }),
+            Err(LineFault::Memory) => return Err(ScriptFault::Memory),
+        };
+        let more = pages_of(request.commands.as_slice());
+        if more > MAX_PAGES - pages {
             return Err(ScriptFault::BadLine {
                 line: number,
-                kind: kind_of(line),
+                kind: LineKind::Limit,
             });
-        };
-        script.push(0, command)?;
+        }
+        pages += more;
+        push_request(alloc, &mut script, request)?;
     }
     Ok(script)
+}
+
+/// The script of a text of at most 1,048,576 bytes, on at most 65,536 lines, which reads and writes at most 65,536 pages. Lines
+/// end with LF, the last may lack it. A line that is empty or begins with `#` asks for nothing; another is words with one space
+/// between any two: a channel, a verb and the verb's words. Read is what the program serves of the grammar so far.
+///
+/// `BadLine` names the first line that is outside the grammar, or with which a limit is passed (`Limit`).
+pub fn parse(alloc: Global, text: &[u8]) -> Result<Script, ScriptFault>
+    ensures found { IfOk result (λ script. reads text.now ≡ Some script) }
+    ensures on_heads { IfOk result (λ script. (channel : ℕ) → All IsOnHead (slice_index_or script channel [])) }
+    ensures few { IfOk result (λ script. commands_in script ≤ 2 ^ 16) }
+    ensures within { IfOk result (λ script. length text.now ≤ 2 ^ 20) }
+    ensures refused { IfErr result (Refuses Served text.now) }
+    ensures why { IfErr result (Why Served text.now) }
+{
+    read_script(alloc, Grammar::Served, text)
 }

@@ -26,6 +26,7 @@ impl<'a> Parts<'a> {
     pub fn next_part(&mut self) -> Option<&'a [u8]>
         ensures some { IfSome result (λ part. parts self.old.separator (option_copied self.old.rest) ≡ part.now ∷ parts self.new.separator (option_copied self.new.rest)) }
         ensures none { IfNone result (parts self.old.separator (option_copied self.old.rest) ≡ []) }
+        ensures ended { IfNone result (parts self.new.separator (option_copied self.new.rest) ≡ []) }
         ensures shorter { IfSome result (λ part. size_left (option_copied self.new.rest) < size_left (option_copied self.old.rest)) }
     {
         let text = self.rest?;

@@ -1,141 +1,142 @@
-//! The verbs of a script, and the commands that they make of the words that follow them.
+//! The verbs of a script, and the forms of the words that follow each.
 
-ghost use Rattle.std.specs.Prelude.{◌≡◌, IfOk, IfSome};
-ghost use Rattle.std.specs.Option.{option_copied};
-ghost use Rattle.blob_meta.specs.Asked.{IsOnHead};
-ghost use Rattle.script_lang.specs.Parts.{parts};
-ghost use Rattle.script_lang.specs.Verbs.{verb_in, words_of, volume_in, attribute_in, setting_in, command_of};
+ghost use Rattle.std.specs.Prelude.{◌≡◌, ◌≤◌, length};
+ghost use Rattle.script_lang.specs.Verbs.{name_of, is_verb, verb_in, forms_of, takes as takes_said, optional_words};
 
-use crate::parts::Parts;
-use crate::words::{head, key, value};
-use out_of_memory::Memory;
-use std::alloc::Global;
-use volume_model::{Blobtext, Command, VolumeRef};
+use crate::form::Form;
+use crate::grammar::Grammar;
 
 /// What a line asks for.
 #[derive(Clone, Copy, Debug, PartialEq, Eq)]
 pub enum Verb {
+    Create,
+    Write,
+    Read,
+    Flush,
     SetX,
     DelX,
     GetX,
     Put,
     Sync,
+    Resize,
+    Snapshot,
+    Clone,
+    Inflate,
+    Decouple,
+    Delete,
+    Rename,
+    ReadOnly,
+    Info,
+    List,
+    Df,
 }
 
-/// The head of `VOL`.
-fn volume(mut words: Parts<'_>) -> Option<u32>
-    ensures { result ≡ volume_in (parts words.entry.separator (option_copied words.entry.rest)) }
-{
-    let volume = words.next_part()?;
-    if words.next_part().is_some() {
-        return None;
-    }
-    head(volume)
-}
-
-/// The head and the key of `VOL KEY`.
-fn attribute(alloc: Global, mut words: Parts<'_>) -> Result<Option<(u32, Blobtext)>, Memory>
-    ensures { IfOk result (λ attribute. attribute ≡ attribute_in (parts words.entry.separator (option_copied words.entry.rest))) }
-{
-    let Some(volume) = words.next_part() else {
-        return Ok(None);
-    };
-    let Some(name) = words.next_part() else {
-        return Ok(None);
-    };
-    if words.next_part().is_some() {
-        return Ok(None);
-    }
-    let (Some(head), Some(key)) = (head(volume), key(name)) else {
-        return Ok(None);
-    };
-    Ok(Some((head, Blobtext::new(alloc, key)?)))
-}
-
-/// The head, the key and the value of `VOL KEY VALUE`.
-fn setting(alloc: Global, mut words: Parts<'_>) -> Result<Option<(u32, Blobtext, Blobtext)>, Memory>
-    ensures { IfOk result (λ setting. setting ≡ setting_in (parts words.entry.separator (option_copied words.entry.rest))) }
-{
-    let Some(volume) = words.next_part() else {
-        return Ok(None);
-    };
-    let Some(name) = words.next_part() else {
-        return Ok(None);
-    };
-    let Some(content) = words.next_part() else {
-        return Ok(None);
-    };
-    if words.next_part().is_some() {
-        return Ok(None);
-    }
-    let (Some(head), Some(key), Some(value)) = (head(volume), key(name), value(content)) else {
-        return Ok(None);
-    };
-    Ok(Some((
-        head,
-        Blobtext::new(alloc, key)?,
-        Blobtext::new(alloc, value)?,
-    )))
-}
+/// All verbs.
+const VERBS: [Verb; 20] = [
+    Verb::Create,
+    Verb::Write,
+    Verb::Read,
+    Verb::Flush,
+    Verb::SetX,
+    Verb::DelX,
+    Verb::GetX,
+    Verb::Put,
+    Verb::Sync,
+    Verb::Resize,
+    Verb::Snapshot,
+    Verb::Clone,
+    Verb::Inflate,
+    Verb::Decouple,
+    Verb::Delete,
+    Verb::Rename,
+    Verb::ReadOnly,
+    Verb::Info,
+    Verb::List,
+    Verb::Df,
+];
 
 impl Verb {
-    /// The verb that a word is.
-    pub fn of(word: &[u8]) -> Option<Verb>
-        ensures { result ≡ verb_in word.now }
-    {
-        if word == b"setx".as_slice() {
-            Some(Verb::SetX)
-        } else if word == b"delx".as_slice() {
-            Some(Verb::DelX)
-        } else if word == b"getx".as_slice() {
-            Some(Verb::GetX)
-        } else if word == b"put".as_slice() {
-            Some(Verb::Put)
-        } else if word == b"sync".as_slice() {
-            Some(Verb::Sync)
-        } else {
-            None
-        }
-    }
-
-    /// How many words follow it.
-    pub fn words(self) -> usize
-        ensures { result ≡ words_of self }
+    /// The word that it is.
+    pub fn name(self) -> &'static [u8]
+        ensures { result.now ≡ name_of self }
     {
         match self {
-            Verb::SetX | Verb::Put => 3,
-            Verb::DelX | Verb::GetX => 2,
-            Verb::Sync => 1,
+            Verb::Create => b"create",
+            Verb::Write => b"write",
+            Verb::Read => b"read",
+            Verb::Flush => b"flush",
+            Verb::SetX => b"setx",
+            Verb::DelX => b"delx",
+            Verb::GetX => b"getx",
+            Verb::Put => b"put",
+            Verb::Sync => b"sync",
+            Verb::Resize => b"resize",
+            Verb::Snapshot => b"snapshot",
+            Verb::Clone => b"clone",
+            Verb::Inflate => b"inflate",
+            Verb::Decouple => b"decouple",
+            Verb::Delete => b"delete",
+            Verb::Rename => b"rename",
+            Verb::ReadOnly => b"readonly",
+            Verb::Info => b"info",
+            Verb::List => b"list",
+            Verb::Df => b"df",
         }
     }
 
-    /// The command that it makes of the words that follow it, if these are as it wants them.
-    pub fn command(self, alloc: Global, words: Parts<'_>) -> Result<Option<Command>, Memory>
-        ensures said { IfOk result (λ command. command ≡ command_of self (parts words.entry.separator (option_copied words.entry.rest))) }
-        ensures on_head { IfOk result (λ command. IfSome command IsOnHead) }
+    /// Whether a word is this verb, and the verb is read.
+    fn is(self, grammar: Grammar, word: &[u8]) -> bool
+        ensures { result ≡ is_verb grammar word.now self }
     {
-        Ok(match self {
-            Verb::SetX => setting(alloc, words)?.map(|(head, key, value)| Command::SetX {
-                volume: VolumeRef::Head(head),
-                key,
-                value,
-            }),
-            Verb::DelX => attribute(alloc, words)?.map(|(head, key)| Command::DelX {
-                volume: VolumeRef::Head(head),
-                key,
-            }),
-            Verb::GetX => attribute(alloc, words)?.map(|(head, key)| Command::GetX {
-                volume: VolumeRef::Head(head),
-                key,
-            }),
-            Verb::Put => setting(alloc, words)?.map(|(head, key, value)| Command::Put {
-                volume: VolumeRef::Head(head),
-                key,
-                value,
-            }),
-            Verb::Sync => volume(words).map(|head| Command::Sync {
-                volume: VolumeRef::Head(head),
-            }),
-        })
+        self.name() == word && grammar.serves(self)
+    }
+
+    /// The verb that a word is.
+    #[tactic(auto, unfolding(crate::specs::Verbs::verb_in))]
+    pub fn of(grammar: Grammar, word: &[u8]) -> Option<Verb>
+        ensures { result ≡ verb_in grammar word.now }
+    {
+        VERBS.iter().find(|verb| verb.is(grammar, word)).copied()
+    }
+
+    /// The forms of the words that follow it.
+    pub fn forms(self) -> &'static [Form]
+        ensures forms { result.now ≡ forms_of self }
+        ensures few { length result.now ≤ 4 }
+    {
+        match self {
+            Verb::Create => &[Form::Name, Form::Number, Form::Thickness, Form::Uuid],
+            Verb::Write => &[Form::Volume, Form::Number, Form::Count, Form::Number],
+            Verb::Read => &[Form::Volume, Form::Number, Form::Count],
+            Verb::SetX | Verb::Put => &[Form::Volume, Form::Key, Form::Value],
+            Verb::DelX | Verb::GetX => &[Form::Volume, Form::Key],
+            Verb::Resize => &[Form::Volume, Form::Number],
+            Verb::Snapshot | Verb::Clone | Verb::Rename => &[Form::Volume, Form::Name],
+            Verb::Sync
+            | Verb::Inflate
+            | Verb::Decouple
+            | Verb::Delete
+            | Verb::ReadOnly
+            | Verb::Info => &[Form::Volume],
+            Verb::Flush | Verb::List | Verb::Df => &[],
+        }
+    }
+
+    /// How many of these words may be left out at the end: the uuid of a volume that is made.
+    fn optional_words(self) -> usize
+        ensures { result ≡ optional_words self }
+    {
+        match self {
+            Verb::Create => 1,
+            _ => 0,
+        }
+    }
+
+    /// Whether it is followed by so many words.
+    pub fn takes(self, words: usize) -> bool
+        ensures { result ≡ takes_said self words }
+    {
+        let forms = self.forms().len();
+        words <= forms && forms - words <= self.optional_words()
     }
 }

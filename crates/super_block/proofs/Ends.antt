@@ -13,14 +13,19 @@ use Rattle.super_block.specs.Numbers.{cluster_pages_of, clusters_of, fixed_clust
 use Rattle.super_block.specs.Faults.{past, past_fault, fault_of}
 use Rattle.super_block.proofs.Passed.{passed, some_pages, mask_takes_page}
 
-none_past : (limit : ℕ) (a : Span) (rest : List Span) → past limit (a ∷ rest) ≡ None → (end_of a ≤ limit) × (past limit rest ≡ None)
+none_past : (limit : ℕ) (a : Span) (rest : List Span) → past limit (a ∷ rest) ≡ None → (end_of a ≤ limit)
+    × (past limit rest ≡ None)
 none_past limit a rest none = at (nat_lt limit (end_of a)) refl none
   where
-    at : (b : Bool) → nat_lt limit (end_of a) ≡ b → option_map (λ (x : Span). PastEnd x.region) (cond b (Some a) (find (λ (x : Span). nat_lt limit (end_of x)) rest)) ≡ None → (end_of a ≤ limit) × (past limit rest ≡ None)
+    at : (b : Bool) → nat_lt limit (end_of a) ≡ b
+        → option_map (λ (x : Span). PastEnd x.region)
+        (cond b (Some a) (find (λ (x : Span). nat_lt limit (end_of x)) rest)) ≡ None → (end_of a ≤ limit)
+        × (past limit rest ≡ None)
     at true e h = absurd cc
     at false e h = (grind (arith, nat_tests), h)
 
-greatest_within : (limit : ℕ) (spans : List Span) (from : ℕ) → from ≤ limit → past limit spans ≡ None → fold max from (map end_of spans) ≤ limit
+greatest_within : (limit : ℕ) (spans : List Span) (from : ℕ) → from ≤ limit → past limit spans ≡ None
+    → fold max from (map end_of spans) ≤ limit
 greatest_within limit [] from le none = le
 greatest_within limit (a ∷ rest) from le none =
     let here = none_past limit a rest none in
@@ -32,6 +37,7 @@ ceil_within end pages clusters some le =
     let below : div_ceil end pages * pages < (clusters + 1) * pages = omega (arith, times) in
     omega (arith, lt_of_mul-lt-mul_right pages below)
 
+-- the fixed clusters are clusters of the store
 pub fixed_within : (sound : Bool) (s : Super) → fault_of sound s ≡ None → fixed_clusters_of s ≤ clusters_of s
 unfolding fixed_clusters_of past_fault placed
 fixed_within sound s none =
@@ -39,4 +45,5 @@ fixed_within sound s none =
     let limit = clusters_of s * cluster_pages_of s in
     let first = none_past limit (page_mask s) (cluster_mask s ∷ blob_mask s ∷ md_region s ∷ []) tests.ends in
     let one : 1 ≤ limit = let long = mask_takes_page s tests.masks in omega (arith, first) in
-    ceil_within (greatest_end (super_page ∷ placed s)) (cluster_pages_of s) (clusters_of s) (some_pages s tests.size) (greatest_within limit (placed s) 1 one tests.ends)
+    ceil_within (greatest_end (super_page ∷ placed s)) (cluster_pages_of s) (clusters_of s) (some_pages s tests.size)
+    (greatest_within limit (placed s) 1 one tests.ends)

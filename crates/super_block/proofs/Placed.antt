@@ -17,11 +17,13 @@ use Rattle.super_block.specs.Placed.{Covers, AreApart, IsPlaced}
 use Rattle.super_block.proofs.Passed.{AllPass, all_pass, passed, holds, size_is_whole, some_pages, few_pages, few_clusters}
 use Rattle.super_block.proofs.Ends.{fixed_within}
 
+-- two regions that share pages share the first page of the later one
 pub share_where : (a b : Span) → shares a b ≡ true → (page : ℕ) × (Covers a page × Covers b page)
 share_where a b both =
     let lt : max a.start b.start < min (end_of a) (end_of b) = grind (arith, nat_tests) in
     (max a.start b.start, ((omega arith, omega arith), (omega arith, omega arith)))
 
+-- two regions with a page in common are found to share
 pub shared : (a b : Span) (page : ℕ) → Covers a page → Covers b page → shares a b ≡ true
 shared a b page in_a in_b =
     let lt : max a.start b.start < min (end_of a) (end_of b) = omega (arith, in_a, in_b) in
@@ -31,9 +33,12 @@ apart_from : (a : Span) (rest : List Span) → overlap_with a rest ≡ None → 
 apart_from a [] none = All-nil (AreApart a)
 apart_from a (b ∷ rest) none = at (apart_from a rest) (shares a b) refl none
   where
-    at : (overlap_with a rest ≡ None → All (AreApart a) rest) → (test : Bool) → shares a b ≡ test → option_map (λ (x : Span). Overlap a.region x.region) (cond test (Some b) (find (shares a) rest)) ≡ None → All (AreApart a) (b ∷ rest)
+    at : (overlap_with a rest ≡ None → All (AreApart a) rest) → (test : Bool) → shares a b ≡ test
+        → option_map (λ (x : Span). Overlap a.region x.region) (cond test (Some b) (find (shares a) rest)) ≡ None
+        → All (AreApart a) (b ∷ rest)
     at later true e h = absurd cc
-    at later false e h = All-cons (AreApart a) b rest (λ page in_a in_b. let both = shared a b page in_a in_b in cc) (later h)
+    at later false e h =
+        All-cons (AreApart a) b rest (λ page in_a in_b. let both = shared a b page in_a in_b in cc) (later h)
 
 all_apart : (spans : List Span) → overlap spans ≡ None → AllPairs AreApart spans
 unfolding AllPass
@@ -43,21 +48,25 @@ all_apart (a ∷ rest) none =
     AllPairs-cons AreApart a rest (apart_from a rest both.0) (all_apart rest both.1.0)
 
 -- the bytes of the clusters are the store's, and those the device's
-clusters_on_device : (s : Super) → cluster_size_fault s ≡ None → size_fault s ≡ None → clusters_of s * cluster_pages_of s ≤ s.device_pages
+clusters_on_device : (s : Super) → cluster_size_fault s ≡ None → size_fault s ≡ None
+    → clusters_of s * cluster_pages_of s ≤ s.device_pages
 unfolding clusters_of cluster_pages_of size_fault
 clusters_on_device s whole_size none =
     let whole = size_is_whole s whole_size in
     let bytes : s.cluster_size ≡ s.cluster_size / 4096 * 4096 = omega (arith, whole) in
     let fits : s.size ≤ 4096 * s.device_pages = leb-true _ _ (holds _ _ none) in
     let size : size_of s ≤ 4096 * s.device_pages = grind (arith, nat_tests) in
-    let clusters : size_of s / s.cluster_size * s.cluster_size ≤ size_of s = div-mul-le_self (size_of s) s.cluster_size in
-    let pages : size_of s / s.cluster_size * (s.cluster_size / 4096 * 4096) ≤ size_of s = subst (λ (n : ℕ). size_of s / s.cluster_size * n ≤ size_of s) bytes clusters in
+    let clusters : size_of s / s.cluster_size * s.cluster_size ≤ size_of s =
+    div-mul-le_self (size_of s) s.cluster_size in
+    let pages : size_of s / s.cluster_size * (s.cluster_size / 4096 * 4096) ≤ size_of s =
+    subst (λ (n : ℕ). size_of s / s.cluster_size * n ≤ size_of s) bytes clusters in
     omega arith
 
 some_factor : (m n : ℕ) → 1 ≤ m * n → 0 < m
 some_factor zero n le = absurd (omega arith)
 some_factor (suc m) n le = omega arith
 
+-- a super block without fault is placed
 pub is_placed : (s : Super) → fault_of true s ≡ None → IsPlaced s
 unfolding fixed_clusters_of overlap_fault placed
 is_placed s none =

@@ -21,15 +21,19 @@ first_fault (Some fault ∷ rest) = Some fault
 abbrev pub unless : Bool → SuperFault → Option SuperFault
 unless holds fault = if holds then None else Some fault
 
+-- the page begins with the signature
 unfoldable pub signature_fault : Super → Option SuperFault
 signature_fault s = unless (bytes_eq s.signature (codes "SPDKBLOB")) BadSignature
 
+-- the format's version is 3
 unfoldable pub version_fault : Super → Option SuperFault
 version_fault s = unless (s.version == 3) (BadVersion s.version)
 
+-- the page is sound
 abbrev pub checksum_fault : Bool → Option SuperFault
 checksum_fault sound = unless sound BadChecksum
 
+-- metadata pages have 4096 bytes, for which 0 may stand
 unfoldable pub page_size_fault : Super → Option SuperFault
 page_size_fault s = unless ((s.md_page_size == 0) || (s.md_page_size == 4096)) (BadPageSize s.md_page_size)
 
@@ -45,6 +49,7 @@ in_u32 n = min n (2 ^ 32 - 1)
 unfoldable pub pages_fault : ℕ → Option SuperFault
 pages_fault pages = unless (nat_le pages (2 ^ 20)) (TooManyPages (in_u32 pages))
 
+-- the clusters are at most 2^24
 unfoldable pub clusters_fault : ℕ → Option SuperFault
 clusters_fault clusters = unless (nat_le clusters (2 ^ 24)) (TooManyClusters clusters)
 
@@ -64,8 +69,11 @@ past_fault s = past (clusters_of s * cluster_pages_of s) (placed s)
 abbrev pub short : Span → ℕ → Option SuperFault
 short mask bits = unless (nat_le (mask_pages bits) mask.len) (ShortMask mask.region mask.len (mask_pages bits))
 
+-- the first mask that is short, of the page mask, the cluster mask and the blob mask
 unfoldable pub mask_fault : Super → Option SuperFault
-mask_fault s = first_fault (short (page_mask s) s.md_len ∷ short (cluster_mask s) (clusters_of s) ∷ short (blob_mask s) s.md_len ∷ [])
+mask_fault s =
+    first_fault
+    (short (page_mask s) s.md_len ∷ short (cluster_mask s) (clusters_of s) ∷ short (blob_mask s) s.md_len ∷ [])
 
 -- the first of these regions that has a page of this one
 abbrev pub overlap_with : Span → List Span → Option SuperFault
@@ -76,13 +84,18 @@ abbrev pub overlap : List Span → Option SuperFault
 overlap [] = None
 overlap (a ∷ rest) = first_fault (overlap_with a rest ∷ overlap rest ∷ [])
 
+-- no two of the five regions have a page in common
 unfoldable pub overlap_fault : Super → Option SuperFault
 overlap_fault s = overlap (super_page ∷ placed s)
 
 -- the tests in their order, of a super block whose page is sound or isn't
 unfoldable pub tests : Bool → Super → List (Option SuperFault)
-tests sound s = signature_fault s ∷ version_fault s ∷ checksum_fault sound ∷ page_size_fault s ∷ cluster_size_fault s ∷ pages_fault s.md_len ∷ clusters_fault (clusters_of s) ∷ size_fault s ∷ past_fault s ∷ mask_fault s ∷ overlap_fault s ∷ []
+tests sound s =
+    signature_fault s ∷ version_fault s ∷ checksum_fault sound ∷ page_size_fault s ∷ cluster_size_fault s
+    ∷ pages_fault s.md_len ∷ clusters_fault (clusters_of s) ∷ size_fault s ∷ past_fault s ∷ mask_fault s
+    ∷ overlap_fault s ∷ []
 
+-- the first fault of a super block whose page is sound or not
 unfoldable pub fault_of : Bool → Super → Option SuperFault
 fault_of sound s = first_fault (tests sound s)
 

@@ -10,9 +10,9 @@ use Rattle.super_block.specs.declared.fault.SuperFault.{SuperFault}
 use Rattle.super_block.specs.declared.fault.SuperFault.TheVariants.{BadClusterSize, DeviceTooSmall}
 use Rattle.super_block.specs.Faults.{first_fault, unless, in_u32, pages_fault, clusters_fault}
 
--- The super block is page 0, and behind it stand the page mask, the cluster mask, the blob-id mask and the metadata region,
--- each where the one before it ends. The clusters are the whole ones of the device. Those are fixed that hold a page before
--- the metadata region's end.
+-- The super block is page 0, and behind it stand the page mask, the cluster mask, the blob-id mask and the metadata
+-- region, each where the one before it ends. The clusters are the whole ones of the device. Those are fixed that hold a
+-- page before the metadata region's end.
 unfoldable pub layout_of : ℕ → ℕ → ℕ → Layout
 layout_of device_pages cluster_pages md_pages =
     let clusters = device_pages / cluster_pages in
@@ -44,12 +44,16 @@ cluster_pages_fault pages = unless (nat_lt 0 pages && nat_lt pages (2 ^ 20)) (Ba
 
 -- the fixed clusters are on the device
 unfoldable pub room_fault : Layout → Option SuperFault
-room_fault plan = unless (nat_le plan.fixed_clusters plan.clusters) (DeviceTooSmall plan.device_pages (plan.fixed_clusters * plan.cluster_pages))
+room_fault plan =
+    unless (nat_le plan.fixed_clusters plan.clusters)
+    (DeviceTooSmall plan.device_pages (plan.fixed_clusters * plan.cluster_pages))
 
 -- the first fault of a plan
 unfoldable pub plan_fault : ℕ → ℕ → ℕ → Option SuperFault
 plan_fault device_pages cluster_pages md_pages =
-    first_fault (cluster_pages_fault cluster_pages ∷ pages_fault md_pages ∷ clusters_fault (device_pages / cluster_pages) ∷ room_fault (layout_of device_pages cluster_pages md_pages) ∷ [])
+    first_fault
+    (cluster_pages_fault cluster_pages ∷ pages_fault md_pages ∷ clusters_fault
+    (device_pages / cluster_pages) ∷ room_fault (layout_of device_pages cluster_pages md_pages) ∷ [])
 
 -- a layout that was planned without a fault
 pub record IsPlanned (plan : Layout) : Type 0 where

@@ -22,15 +22,19 @@ clusters_of s = size_of s / s.cluster_size
 abbrev pub super_page : Span
 super_page = record { region = SuperPage; start = 0; len = 1 }
 
+-- the mask of used metadata pages
 abbrev pub page_mask : Super → Span
 page_mask s = record { region = PageMask; start = s.used_page_mask_start; len = s.used_page_mask_len }
 
+-- the mask of used clusters
 abbrev pub cluster_mask : Super → Span
 cluster_mask s = record { region = ClusterMask; start = s.used_cluster_mask_start; len = s.used_cluster_mask_len }
 
+-- the mask of heads
 abbrev pub blob_mask : Super → Span
 blob_mask s = record { region = BlobMask; start = s.used_blobid_mask_start; len = s.used_blobid_mask_len }
 
+-- the metadata pages
 abbrev pub md_region : Super → Span
 md_region s = record { region = Md; start = s.md_start; len = s.md_len }
 

@@ -4,7 +4,8 @@ use Rattle.crc32c.specs.Crc.{crc32c_of}
 use Rattle.page_fields.specs.Fields.{field, number_at, number_bytes}
 use Rattle.super_block.specs.declared.page.Super.{Super}
 
--- each field is the number or the bytes in its place, beside the number of the device's pages, which the page doesn't hold
+-- each field is the number or the bytes in its place, beside the number of the device's pages, which the page doesn't
+-- hold
 unfoldable pub super_of : List ℕ → ℕ → Super
 super_of page device_pages = record {
   device_pages = device_pages;
@@ -32,7 +33,14 @@ super_of page device_pages = record {
 
 -- the fields before the sum, one after the other
 unfoldable pub super_front : Super → List ℕ
-super_front s = s.signature ++ number_bytes 4 s.version ++ number_bytes 4 s.length ++ number_bytes 4 s.clean ++ number_bytes 8 s.super_blob ++ number_bytes 4 s.cluster_size ++ number_bytes 4 s.used_page_mask_start ++ number_bytes 4 s.used_page_mask_len ++ number_bytes 4 s.used_cluster_mask_start ++ number_bytes 4 s.used_cluster_mask_len ++ number_bytes 4 s.md_start ++ number_bytes 4 s.md_len ++ s.bstype ++ number_bytes 4 s.used_blobid_mask_start ++ number_bytes 4 s.used_blobid_mask_len ++ number_bytes 8 s.size ++ number_bytes 4 s.io_unit_size ++ number_bytes 4 s.md_page_size ++ s.rest
+super_front s =
+    s.signature ++ number_bytes 4 s.version ++ number_bytes 4 s.length ++ number_bytes 4 s.clean
+    ++ number_bytes 8 s.super_blob ++ number_bytes 4 s.cluster_size
+    ++ number_bytes 4 s.used_page_mask_start ++ number_bytes 4 s.used_page_mask_len
+    ++ number_bytes 4 s.used_cluster_mask_start ++ number_bytes 4 s.used_cluster_mask_len
+    ++ number_bytes 4 s.md_start ++ number_bytes 4 s.md_len ++ s.bstype
+    ++ number_bytes 4 s.used_blobid_mask_start ++ number_bytes 4 s.used_blobid_mask_len
+    ++ number_bytes 8 s.size ++ number_bytes 4 s.io_unit_size ++ number_bytes 4 s.md_page_size ++ s.rest
 
 -- the page that a super block is written as: the sum is the last field, whatever `crc` holds
 unfoldable pub super_bytes : Super → List ℕ

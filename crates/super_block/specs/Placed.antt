@@ -15,6 +15,7 @@ Covers a page = (a.start ≤ page) × (page < end_of a)
 abbrev pub AreApart : Span → Span → Type 0
 AreApart a b = (page : ℕ) → Covers a page → Covers b page → ⊥
 
+-- where the regions and the clusters of a super block lie
 pub record IsPlaced (s : Super) : Type 0 where
   pub some_pages : 0 < cluster_pages_of s
   pub few_md_pages : s.md_len ≤ 2 ^ 20

@@ -72,7 +72,8 @@ pub enum SuperFault {
         a: Region,
         b: Region,
     },
-    /// The device has fewer clusters than the super block, the masks and the metadata pages take. A plan alone answers it.
+    /// The device has fewer clusters than the super block, the masks and the metadata pages take. A plan alone answers
+    /// it.
     #[error("the device has {has} pages, wanted at least {wants}")]
     DeviceTooSmall {
         has: u64,

@@ -12,8 +12,8 @@ use crate::numbers::clusters_before;
 use crate::page::Super;
 use bit_array::mask_pages;
 
-/// Where the masks and the metadata region of a new store stand. Starts and lengths are in pages of 4096 bytes, from the
-/// beginning of the device.
+/// Where the masks and the metadata region of a new store stand. Starts and lengths are in pages of 4096 bytes, from
+/// the beginning of the device.
 #[derive(Clone, Copy, Debug, PartialEq, Eq)]
 pub struct Layout {
     /// The pages of the device.
@@ -46,9 +46,12 @@ impl Layout {
         cluster_pages: u32,
         md_pages: Option<u32>,
     ) -> Result<Layout, SuperFault>
-        ensures planned { let pages = md_pages_of device_pages cluster_pages md_pages in IfOk result (λ l. l ≡ layout_of device_pages cluster_pages pages) }
-        ensures no_fault { let pages = md_pages_of device_pages cluster_pages md_pages in IfOk result (λ _. plan_fault device_pages cluster_pages pages ≡ None) }
-        ensures fault { let pages = md_pages_of device_pages cluster_pages md_pages in IfErr result (λ e. plan_fault device_pages cluster_pages pages ≡ Some e) }
+        ensures planned { let pages = md_pages_of device_pages cluster_pages md_pages in
+            IfOk result (λ l. l ≡ layout_of device_pages cluster_pages pages) }
+        ensures no_fault { let pages = md_pages_of device_pages cluster_pages md_pages in
+            IfOk result (λ _. plan_fault device_pages cluster_pages pages ≡ None) }
+        ensures fault { let pages = md_pages_of device_pages cluster_pages md_pages in
+            IfErr result (λ e. plan_fault device_pages cluster_pages pages ≡ Some e) }
         ensures is_planned { IfOk result IsPlanned }
     {
         check_cluster_pages(cluster_pages)?;
@@ -73,8 +76,8 @@ impl Layout {
         self.clusters - self.fixed_clusters
     }
 
-    /// The super block that a new store with this layout begins with. `super_blob` is the id of the super blob, or 2^64 - 1
-    /// where there is none, and `bstype` says what kind of store it is.
+    /// The super block that a new store with this layout begins with. `super_blob` is the id of the super blob, or 2^64
+    /// - 1 where there is none, and `bstype` says what kind of store it is.
     #[tactic(auto, unfolding(crate::specs::Layout::new_super))]
     pub fn new_super(&self, super_blob: u64, bstype: [u8; 16]) -> Super
         requires { IsPlanned self.now }

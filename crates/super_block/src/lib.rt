@@ -16,6 +16,3 @@ pub use layout::Layout;
 pub use masks::Masks;
 pub use page::{ROWS, Super, read_super, rows_tile, write_super};
 pub use span::Span;
-
-#[cfg(test)]
-mod tests;

@@ -20,8 +20,8 @@ pub struct Masks {
 }
 
 impl Masks {
-    /// The masks of a new store with this layout: the fixed clusters are used, every metadata page is free, and there is no
-    /// blob.
+    /// The masks of a new store with this layout: the fixed clusters are used, every metadata page is free, and there
+    /// is no blob.
     pub fn new(alloc: Global, layout: &Layout) -> Result<Masks, Memory>
         requires { IsPlanned layout.now }
         ensures { IfOk result (λ masks. masks ≡ new_masks layout.now) }

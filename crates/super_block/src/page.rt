@@ -148,7 +148,8 @@ fn put_front(sup: &Super, into: &mut Page)
     table!(write sup into);
 }
 
-/// The first eight numbers fit their types. A function's proof knows that of eight numbers that it reads behind a reference.
+/// The first eight numbers fit their types. A function's proof knows that of eight numbers that it reads behind a
+/// reference.
 fn first_numbers_fit(sup: &Super)
     ensures version_row { sup.now.version < 2 ^ 32 }
     ensures length_row { sup.now.length < 2 ^ 32 }

@@ -3,8 +3,6 @@
 
 mod fault;
 mod heads;
-#[cfg(test)]
-mod images;
 mod laws;
 mod loading;
 mod masks;
@@ -15,6 +13,3 @@ mod walking;
 pub use fault::LoadFault;
 pub use laws::stores_are_accepted;
 pub use loading::load;
-
-#[cfg(test)]
-mod tests;

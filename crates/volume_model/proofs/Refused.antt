@@ -8,6 +8,7 @@ use Rattle.volume_model.specs.declared.reply.Reply.{Reply}
 use Rattle.volume_model.specs.declared.reply.Reply.TheVariants as r
 
 module _ (f : Fixed) (v : Volumes) where
+  -- the law of `refusal_changes_nothing`, verb by verb
   pub refused : (command : Command) (reply : Reply) → IsRefusal reply → (h : ℕ) → change f v command reply h ≡ v h
   refused command r.Ok wrong h = absurd wrong
   refused command (r.Made k) wrong h = absurd wrong

@@ -13,9 +13,11 @@ use Rattle.volume_model.specs.declared.reply.Reply.{Reply}
 use Rattle.volume_model.specs.declared.reply.Reply.TheVariants as r
 use Rattle.volume_model.specs.declared.reply.Entry.{Entry}
 
+-- no volume at all
 abbrev pub nothing : Volumes
 nothing h = None
 
+-- an entry whose channel and number don't matter
 abbrev pub entry : Command → Reply → Entry
 entry command reply = record { channel = 0; index = 0; command = command; reply = reply }
 
@@ -30,9 +32,11 @@ ThinVolume = (zeros sevens : Box Page) → zeros.value ≡ zero_page → sevens.
     ∷ entry (c.Read (Named (codes "v")) 8) r.OutOfRange
     ∷ [])
 
--- a volume with a snapshot and a clone of that: the snapshot can be deleted only once the clone is, and the volume reads as before
+-- a volume with a snapshot and a clone of that: the snapshot can be deleted only once the clone is, and the volume
+-- reads as before
 abbrev pub SnapshotWithClone : Type 0
-SnapshotWithClone = (fives sixes : Box Page) → fives.value ≡ fill_page 5 → sixes.value ≡ fill_page 6 → IsLegal small nothing (
+SnapshotWithClone = (fives sixes : Box Page) → fives.value ≡ fill_page 5 → sixes.value ≡ fill_page 6
+    → IsLegal small nothing (
     entry (c.Create (codes "v") 1 false None) (r.Made 1)
     ∷ entry (c.Write (Named (codes "v")) 0 (Fill 5)) r.Ok
     ∷ entry (c.Snapshot (Named (codes "v")) (codes "s")) (r.Made 2)
@@ -70,9 +74,12 @@ module _ (a b d e : Page) where
       ∷ entry (c.Write (Named (codes "v")) 0 (Fill 8)) r.Fault
       ∷ []
 
+  -- what survives of a log with attributes that aren't synced and pages that aren't settled
   pub record Surviving : Type 0 where
-    pub live : option_map (λ (x : Volume). x.live) (replay small (first a b d e) pending 1) ≡ Some (named (codes "v") (codes "3"))
-    pub survives : option_map (λ (x : Volume). x.live) (stable small (first a b d e) pending 1) ≡ Some (named (codes "v") (codes "1"))
+    pub live : option_map (λ (x : Volume). x.live) (replay small (first a b d e) pending 1)
+        ≡ Some (named (codes "v") (codes "3"))
+    pub survives : option_map (λ (x : Volume). x.live) (stable small (first a b d e) pending 1)
+        ≡ Some (named (codes "v") (codes "1"))
     -- the resize settled the first write; the second, which failed, may have reached its page
     pub settled : is_unsettled small (first a b d e) pending 1 1 ≡ false
     pub unsettled : is_unsettled small (first a b d e) pending 1 0 ≡ true

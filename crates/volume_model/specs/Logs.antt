@@ -21,6 +21,7 @@ module _ (f : Fixed) where
   IsLegal v [] = Unit {0}
   IsLegal v (e ∷ es) = Allowed f v e.command e.reply × IsLegal (change f v e.command e.reply) es
 
+  -- the log is legal, and these are the volumes after it
   pub record Replay (first : Volumes) (log : List Entry) (last : Volumes) : Type 0 where
     pub legal : IsLegal first log
     pub after : (h : ℕ) → last h ≡ replay first log h
@@ -53,15 +54,18 @@ module _ (f : Fixed) where
   writes v (c.Write volume page word) reply h p = is_write_done reply && is_head h (head_of f v volume) && (page == p)
   writes v _ reply h p = false
 
+  -- pages that were unsettled before the log, or become so by it
   abbrev pub unsettled_from : (ℕ → ℕ → Bool) → Volumes → List Entry → ℕ → ℕ → Bool
   unsettled_from before v [] = before
   unsettled_from before v (e ∷ es) =
-      unsettled_from (λ h p. if is_flushing e.command e.reply then false else (before h p || writes v e.command e.reply h p)) (change f v e.command e.reply) es
+      unsettled_from (λ h p. if is_flushing e.command e.reply then false else
+      (before h p || writes v e.command e.reply h p)) (change f v e.command e.reply) es
 
   -- written after the last flushing entry; every other page is settled
   abbrev pub is_unsettled : Volumes → List Entry → ℕ → ℕ → Bool
   is_unsettled first log = unsettled_from (λ h p. false) first log
 
+  -- not written since the last flushing entry
   abbrev pub IsSettled : Volumes → List Entry → ℕ → ℕ → Type 0
   IsSettled first log h p = is_unsettled first log h p ≡ false
 
@@ -69,14 +73,12 @@ module _ (f : Fixed) where
   abbrev pub stable : Volumes → List Entry → Volumes
   stable first log h = option_map (λ (x : Volume). record x { live = x.synced }) (replay f first log h)
 
-  pub record Stable (first : Volumes) (log : List Entry) (last : Volumes) : Type 0 where
-    pub legal : IsLegal f first log
-    pub after : (h : ℕ) → last h ≡ stable first log h
-
 -- Wherever it stands in a log, the entry changes nothing that survives, and settles no page.
 pub record SettlesNothing (e : Entry) : Type 0 where
-  pub survives : (f : Fixed) (first : Volumes) (log rest : List Entry) (h : ℕ) → stable f first (log ++ e ∷ rest) h ≡ stable f first (log ++ rest) h
-  pub settled : (f : Fixed) (first : Volumes) (log rest : List Entry) (h p : ℕ) → IsSettled f first (log ++ e ∷ rest) h p → IsSettled f first (log ++ rest) h p
+  pub survives : (f : Fixed) (first : Volumes) (log rest : List Entry) (h : ℕ)
+      → stable f first (log ++ e ∷ rest) h ≡ stable f first (log ++ rest) h
+  pub settled : (f : Fixed) (first : Volumes) (log rest : List Entry) (h p : ℕ)
+      → IsSettled f first (log ++ e ∷ rest) h p → IsSettled f first (log ++ rest) h p
 
 -- entries with the numbers from n on, and these commands
 abbrev pub Numbered : ℕ → List Entry → List Command → Type 0
@@ -85,6 +87,8 @@ Numbered n (e ∷ es) (command ∷ commands) = (e.index ≡ n) × (e.command ≡
 Numbered n [] (command ∷ commands) = ⊥
 Numbered n (e ∷ es) [] = ⊥
 
--- the entries of each channel, in the log's order, are the script's commands for it, whole and in order, numbered from 0; no other channel has any
+-- the entries of each channel, in the log's order, are the script's commands for it, whole and in order, numbered from
+-- 0; no other channel has any
 abbrev pub Interleaves : List Entry → List (List Command) → Type 0
-Interleaves log script = (channel : ℕ) → Numbered 0 (filter (λ e. e.channel == channel) log) (slice_index_or script channel [])
+Interleaves log script = (channel : ℕ) → Numbered 0 (filter (λ e. e.channel == channel) log)
+    (slice_index_or script channel [])

@@ -63,13 +63,16 @@ module _ (f : Fixed) (v : Volumes) where
       (nat_le (length x.pages) page, r.OutOfRange) ∷ [])
   causes c.Flush = []
   causes (c.SetX volume key value) = on_volume volume (λ h x.
-      (is_super f h || is_reserved key, r.Reserved) ∷ (x.read_only, r.ReadOnly) ∷ (nat_lt 4063 (length key + length value), r.TooLong) ∷ [])
+      (is_super f h || is_reserved key, r.Reserved) ∷ (x.read_only, r.ReadOnly)
+      ∷ (nat_lt 4063 (length key + length value), r.TooLong) ∷ [])
   causes (c.DelX volume key) = on_volume volume (λ h x.
-      (is_super f h || is_reserved key, r.Reserved) ∷ (x.read_only, r.ReadOnly) ∷ (is_none (value_of x.live key), r.NoValue) ∷ [])
+      (is_super f h || is_reserved key, r.Reserved) ∷ (x.read_only, r.ReadOnly)
+      ∷ (is_none (value_of x.live key), r.NoValue) ∷ [])
   causes (c.GetX volume key) = on_volume volume (λ h x.
       (is_none (value_of x.live key), r.NoValue) ∷ [])
   causes (c.Put volume key value) = on_volume volume (λ h x.
-      (is_super f h || is_reserved key, r.Reserved) ∷ (x.read_only, r.ReadOnly) ∷ (nat_lt 4063 (length key + length value), r.TooLong) ∷ [])
+      (is_super f h || is_reserved key, r.Reserved) ∷ (x.read_only, r.ReadOnly)
+      ∷ (nat_lt 4063 (length key + length value), r.TooLong) ∷ [])
   causes (c.Sync volume) = on_volume volume (λ h x.
       (is_super f h, r.Reserved) ∷ (x.read_only, r.ReadOnly) ∷ [])
   -- growth under a parent that is longer than the volume is short
@@ -78,9 +81,11 @@ module _ (f : Fixed) (v : Volumes) where
       ∷ (nat_lt (slots_of f x) slots && has_longer_parent x (slots_of f x), r.Short)
       ∷ (is_too_large slots (all_slots f v - slots_of f x), r.TooLarge) ∷ [])
   causes (c.Snapshot volume name) = on_volume volume (λ h x.
-      (is_super f h, r.Reserved) ∷ (x.read_only, r.ReadOnly) ∷ (is_taken name, r.NameTaken) ∷ (is_too_large (slots_of f x) (all_slots f v), r.TooLarge) ∷ [])
+      (is_super f h, r.Reserved) ∷ (x.read_only, r.ReadOnly) ∷ (is_taken name, r.NameTaken)
+      ∷ (is_too_large (slots_of f x) (all_slots f v), r.TooLarge) ∷ [])
   causes (c.Clone volume name) = on_volume volume (λ h x.
-      (not x.read_only, r.NotReadOnly) ∷ (is_taken name, r.NameTaken) ∷ (is_too_large (slots_of f x) (all_slots f v), r.TooLarge) ∷ [])
+      (not x.read_only, r.NotReadOnly) ∷ (is_taken name, r.NameTaken)
+      ∷ (is_too_large (slots_of f x) (all_slots f v), r.TooLarge) ∷ [])
   causes (c.Inflate volume) = on_volume volume (λ h x.
       (is_super f h, r.Reserved) ∷ (x.read_only, r.ReadOnly) ∷ [])
   causes (c.Decouple volume) = on_volume volume (λ h x.

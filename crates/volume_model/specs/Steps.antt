@@ -23,21 +23,27 @@ IsRefusal (r.List list) = ⊥
 IsRefusal (r.Df df) = ⊥
 IsRefusal _ = Unit {0}
 
+-- what is told of a volume at h
+abbrev pub info_of : Fixed → ℕ → Volume → Info
+info_of f h x = record {
+  head = h;
+  name = told x.live name_key;
+  uuid = told x.live uuid_key;
+  slots = slots_of f x;
+  parent = x.parent;
+  thin = x.thin;
+  read_only = x.read_only;
+  xattrs = length x.live;
+}
+
 module _ (f : Fixed) (v : Volumes) where
+  -- the volume that a reference means
   abbrev pub volume_at : VolumeRef → Option Volume
   volume_at volume = option_and_then v (head_of f v volume)
 
+  -- what is told of the volume at a head
   abbrev pub info_at : ℕ → Option Info
-  info_at h = option_map (λ x. record {
-    head = h;
-    name = told x.live name_key;
-    uuid = told x.live uuid_key;
-    slots = slots_of f x;
-    parent = x.parent;
-    thin = x.thin;
-    read_only = x.read_only;
-    xattrs = length x.live;
-  }) (v h)
+  info_at h = option_map (info_of f h) (v h)
 
   -- where a new volume may be made
   abbrev pub IsFree : ℕ → Type 0
@@ -47,7 +53,8 @@ module _ (f : Fixed) (v : Volumes) where
   abbrev pub Done : Command → Reply → Type 0
   Done (c.Create name slots thick uuid) (r.Made h) = IsFree h
   Done (c.Write volume page word) r.Ok = Unit {0}
-  Done (c.Read volume page) (r.Content content) = option_and_then (λ x. slice_get x.pages page) (volume_at volume) ≡ Some content.value
+  Done (c.Read volume page) (r.Content content) = option_and_then (λ x. slice_get x.pages page) (volume_at volume)
+      ≡ Some content.value
   Done c.Flush r.Ok = Unit {0}
   Done (c.SetX volume key value) r.Ok = Unit {0}
   Done (c.DelX volume key) r.Ok = Unit {0}
@@ -74,9 +81,11 @@ module _ (f : Fixed) (v : Volumes) where
   edited_at None change = v
   edited_at (Some h) change = λ k. if k == h then option_map change (v k) else v k
 
+  -- the same of the volume that a reference means
   abbrev pub edited : VolumeRef → (Volume → Volume) → Volumes
   edited volume change = edited_at (head_of f v volume) change
 
+  -- a volume as it is made, with the attributes `name` and `uuid` alone
   abbrev pub new_volume : Text → Option (List ℕ) → List Page → Bool → Bool → Option ℕ → Volume
   new_volume name uuid pages thin read_only parent = record {
     pages = pages;
@@ -96,29 +105,42 @@ module _ (f : Fixed) (v : Volumes) where
   abbrev pub deleted_at : Option ℕ → Volumes
   deleted_at None = v
   deleted_at (Some h) = λ k.
-      if k == h then None else option_map (λ (x : Volume). record x { parent = if is_head h x.parent then option_and_then (λ y. y.parent) (v h) else x.parent }) (v k)
+      if k == h then None else option_map (λ (x : Volume). record x {
+        parent = if is_head h x.parent then option_and_then (λ y. y.parent) (v h) else x.parent;
+      }) (v k)
 
   -- the volumes after a reply: those of a verb that is done, else as they were
   abbrev pub change : Command → Reply → Volumes
-  change (c.Create name slots thick uuid) (r.Made h) = added v h (Some (new_volume name uuid (zero_slots f slots) (not thick) false None))
-  change (c.Write volume page word) r.Ok = edited volume (λ x. record x { pages = slice_set x.pages page (page_of word) })
+  change (c.Create name slots thick uuid) (r.Made h) =
+      added v h (Some (new_volume name uuid (zero_slots f slots) (not thick) false None))
+  change (c.Write volume page word) r.Ok = edited volume
+      (λ x. record x { pages = slice_set x.pages page (page_of word) })
   change (c.SetX volume key value) r.Ok = edited volume (λ x. record x { live = with_value x.live key value })
   change (c.DelX volume key) r.Ok = edited volume (λ x. record x { live = without x.live key })
   -- set, and then all that was pending is synced
-  change (c.Put volume key value) r.Ok = edited volume (λ x. record x { live = with_value x.live key value; synced = with_value x.live key value })
+  change (c.Put volume key value) r.Ok = edited volume
+      (λ x. record x { live = with_value x.live key value; synced = with_value x.live key value })
   change (c.Sync volume) r.Ok = edited volume (λ x. record x { synced = x.live })
   change (c.Resize volume slots) r.Ok = edited volume (λ x. record x { pages = resized f x.pages slots })
   -- a read-only copy under the new name, which is the volume's parent from now on
   change (c.Snapshot volume name) (r.Made h) =
-      added (edited volume (λ x. record x { thin = true; parent = Some h })) h (option_map (λ x. new_volume name None x.pages x.thin true x.parent) (volume_at volume))
+      added (edited volume (λ x. record x { thin = true; parent = Some h })) h
+      (option_map (λ x. new_volume name None x.pages x.thin true x.parent) (volume_at volume))
   -- a thin, writable copy under the new name, whose parent is the volume
-  change (c.Clone volume name) (r.Made h) = added v h (option_map (λ x. new_volume name None x.pages true false (head_of f v volume)) (volume_at volume))
+  change (c.Clone volume name) (r.Made h) = added v h
+      (option_map (λ x. new_volume name None x.pages true false (head_of f v volume)) (volume_at volume))
   change (c.Inflate volume) r.Ok = edited volume (λ x. record x { thin = false; parent = None })
   -- the parent's parent in place of the parent
-  change (c.Decouple volume) r.Ok = edited volume (λ x. record x { parent = option_and_then (λ y. y.parent) (option_and_then v x.parent) })
+  change (c.Decouple volume) r.Ok = edited volume (λ x. record x {
+    parent = option_and_then (λ y. y.parent) (option_and_then v x.parent);
+  })
   change (c.Delete volume) r.Ok = deleted_at (head_of f v volume)
   -- the one attribute, live and synced; what else is pending stays so
-  change (c.Rename volume name) r.Ok = edited volume (λ x. record x { live = with_value x.live name_key (with_nul name); synced = with_value x.synced name_key (with_nul name) })
+  change (c.Rename volume name) r.Ok = edited volume
+      (λ x. record x {
+        live = with_value x.live name_key (with_nul name);
+        synced = with_value x.synced name_key (with_nul name);
+      })
   change (c.ReadOnly volume) r.Ok = edited volume (λ x. record x { synced = x.live; read_only = true })
   change _ _ = v
 
@@ -147,7 +169,8 @@ module _ (f : Fixed) (v : Volumes) where
 
   -- a clone of a volume that is deleted
   abbrev pub IsOrphan : Command → ℕ → Type 0
-  IsOrphan (c.Delete volume) k = (h : ℕ) × (head_of f v volume ≡ Some h) × (option_and_then (λ x. x.parent) (v k) ≡ Some h)
+  IsOrphan (c.Delete volume) k = (h : ℕ) × (head_of f v volume ≡ Some h)
+      × (option_and_then (λ x. x.parent) (v k) ≡ Some h)
   IsOrphan _ k = ⊥
 
   -- a step speaks of the volume that it names, of the one that it makes, and of the clones of one that it deletes
@@ -192,20 +215,22 @@ module _ (f : Fixed) (v : Volumes) where
   MayFail c.Flush = Unit {0}
   MayFail command = MayLackPages command
 
+  -- verbs that may want memory
   abbrev pub MayLackMemory : Command → Type 0
   MayLackMemory (c.Read volume page) = ⊥
   MayLackMemory c.Flush = ⊥
   MayLackMemory _ = Unit {0}
 
-  -- No cause of a refusal holds. A write, an inflate and a decouple go on over several turns and have asked at an earlier one: what a later turn
-  -- meets is answered whatever holds by then.
+  -- No cause of a refusal holds. A write, an inflate and a decouple go on over several turns and have asked at an
+  -- earlier one: what a later turn meets is answered whatever holds by then.
   abbrev pub HasPassed : Command → Type 0
   HasPassed (c.Write volume page word) = Unit {0}
   HasPassed (c.Inflate volume) = Unit {0}
   HasPassed (c.Decouple volume) = Unit {0}
   HasPassed command = refusal f v command ≡ None
 
-  -- the reply may come: the one of a verb that is done and the faults, each where it may, and else the first cause that holds
+  -- the reply may come: the one of a verb that is done and the faults, each where it may, and else the first cause that
+  -- holds
   abbrev pub Allowed : Command → Reply → Type 0
   Allowed command r.Ok = (refusal f v command ≡ None) × Done command r.Ok
   Allowed command (r.Made h) = (refusal f v command ≡ None) × Done command (r.Made h)
@@ -222,6 +247,7 @@ module _ (f : Fixed) (v : Volumes) where
   Allowed command r.Memory = MayLackMemory command
   Allowed command reply = refusal f v command ≡ Some reply
 
+  -- the reply may come, and these are the volumes after it
   pub record Step (command : Command) (reply : Reply) (w : Volumes) : Type 0 where
     pub allowed : Allowed command reply
     pub after : (h : ℕ) → w h ≡ change command reply h

@@ -15,6 +15,7 @@ use Rattle.volume_model.specs.declared.command.PageWord.TheVariants.{Fill, Full}
 abbrev pub Page : Type 0
 Page = List ℕ
 
+-- a volume with all that a user sees of it, its pages written out
 pub record Volume : Type 0 where
   -- the content of each page, in order
   pub pages : List Page
@@ -33,12 +34,14 @@ pub record Volume : Type 0 where
 abbrev pub Volumes : Type 0
 Volumes = ℕ → Option Volume
 
--- what is fixed for a run: the pages of a slot, the number of metadata pages, and the head that the super block names as the super blob's
+-- what is fixed for a run: the pages of a slot, the number of metadata pages, and the head that the super block names
+-- as the super blob's
 pub record Fixed : Type 0 where
   pub cluster_pages : ℕ
   pub md_len : ℕ
   pub super_blob : Option ℕ
 
+-- 4096 zeros
 unfoldable pub zero_page : Page
 zero_page = replicate 4096 0
 
@@ -46,6 +49,7 @@ zero_page = replicate 4096 0
 unfoldable pub fill_page : ℕ → Page
 fill_page word = repeat 512 (to_le_bytes w64 word)
 
+-- the bytes of a page that is written
 abbrev pub page_of : PageWord → Page
 page_of (Fill word) = fill_page word
 page_of (Full page) = page.value
@@ -56,22 +60,27 @@ zero_slots f slots = replicate (slots * f.cluster_pages) zero_page
 
 -- cut to so many slots, or with slots of zeros added
 abbrev pub resized : Fixed → List Page → ℕ → List Page
-resized f pages slots = take (slots * f.cluster_pages) pages ++ replicate (slots * f.cluster_pages - length pages) zero_page
+resized f pages slots = take (slots * f.cluster_pages) pages
+    ++ replicate (slots * f.cluster_pages - length pages) zero_page
 
 -- every head that there may be, ascending
 abbrev pub heads : Fixed → List ℕ
 heads f = range_with_len 0 f.md_len
 
+-- the head is the one that is given, if one is
 abbrev pub is_head : ℕ → Option ℕ → Bool
 is_head h o = option_map_or (λ k. k == h) o false
 
+-- the head is the super blob's
 abbrev pub is_super : Fixed → ℕ → Bool
 is_super f h = is_head h f.super_blob
 
+-- a volume's slots: its pages by those of a slot
 abbrev pub slots_of : Fixed → Volume → ℕ
 slots_of f x = length x.pages / f.cluster_pages
 
 module _ (f : Fixed) (v : Volumes) where
+  -- the slots of the volume at a head, 0 where there is none
   abbrev pub slots_at : ℕ → ℕ
   slots_at h = option_map_or (slots_of f) (v h) 0
 
@@ -100,9 +109,14 @@ module _ (f : Fixed) (v : Volumes) where
   abbrev pub store_uuid : List ℕ
   store_uuid = uuid_said (option_map_or (λ s. option_map_or (λ x. told x.live uuid_key) (v s) []) f.super_blob [])
 
-  -- the attributes of a new volume: `name` and `uuid` alone, the uuid being the given one or else the name's in the store's
+  -- the attributes of a new volume: `name` and `uuid` alone, the uuid being the given one or else the name's in the
+  -- store's
   abbrev pub two_xattrs : Text → Option (List ℕ) → Xattrs
   two_xattrs name given =
       record { key = name_key; value = with_nul name }
-      ∷ record { key = uuid_key; value = with_nul (uuid_text (option_map_or (λ bytes. bytes) given (default_uuid store_uuid name))) }
+      ∷ record {
+        key = uuid_key;
+        value = with_nul (uuid_text
+            (option_map_or (λ bytes. bytes) given (default_uuid store_uuid name)));
+      }
       ∷ []

@@ -9,8 +9,6 @@ mod machine;
 mod name;
 mod reply;
 mod script;
-#[cfg(test)]
-mod tests;
 mod text;
 mod uuids;
 mod xattrs;

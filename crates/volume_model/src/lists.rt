@@ -40,13 +40,6 @@ impl<T: Drop> ListOf<T> {
         ListOf { items }
     }
 
-    /// The items, in order.
-    pub fn into_vec(self) -> Vec<T>
-        ensures { result.items ≡ self }
-    {
-        self.items
-    }
-
     /// Takes all items out, in order.
     pub fn take_all(&mut self, alloc: Global) -> Vec<T>
         ensures taken { result.items ≡ self.old }

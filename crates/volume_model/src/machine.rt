@@ -8,8 +8,6 @@ mod pages;
 mod refusals;
 mod rows;
 mod telling;
-#[cfg(test)]
-mod tests;
 
 use crate::command::Command;
 use crate::reply::Reply;
@@ -30,13 +28,13 @@ impl Model for Volumes {
     ghost use Rattle.std.specs.Prelude.{ℕ, ◌<◌, map};
     ghost use Rattle.std.specs.Option.{option_map};
     ghost use Rattle.volume_model.specs.Machine.{Machine};
-    ghost use Rattle.volume_model.specs.Plain.{volume_of};
+    ghost use Rattle.volume_model.specs.Plain.{volume_in_row};
 
     ghost Value = { Machine };
 
     ghost view = { λ a. record {
       fixed = record { cluster_pages = a.cluster_pages; md_len = a.md_len; super_blob = a.super_blob };
-      rows = map (option_map volume_of) a.rows.items;
+      rows = map (option_map volume_in_row) a.rows.items;
     } };
 
     ghost invariant = { λ a. 0 < a.cluster_pages };
@@ -44,7 +42,7 @@ impl Model for Volumes {
 
 impl Volumes {
     ghost use Rattle.std.specs.Prelude.{◌⊎◌, ◌≡◌, ◌≢◌, ◌<◌, ℕ, [], IfErr};
-    ghost use Rattle.volume_model.specs.Machine.{volumes_in, Answers, IsCause, IsLeastFree, IsPlain, TakesNoMemory};
+    ghost use Rattle.volume_model.specs.Machine.{volumes_in, MachineAnswers, IsCauseOfRefusal, IsLeastFree, IsPlain, TakesNoMemory};
     ghost use Rattle.volume_model.specs.Steps.{Step};
     ghost use Rattle.volume_model.specs.declared.reply.Reply.TheVariants as r;
 
@@ -52,7 +50,12 @@ impl Volumes {
     /// `super_blob`, if there is one, is the super blob.
     pub fn new(alloc: Global, cluster_pages: u32, md_len: u32, super_blob: Option<u32>) -> Volumes
         requires { 0 < cluster_pages }
-        ensures fixed { result.fixed ≡ record { cluster_pages = cluster_pages; md_len = md_len; super_blob = super_blob } }
+        ensures fixed { result.fixed ≡ record {
+          cluster_pages = cluster_pages;
+          md_len = md_len;
+          super_blob =
+              super_blob;
+        } }
         ensures empty { result.rows ≡ [] }
     {
         Volumes {
@@ -65,10 +68,11 @@ impl Volumes {
 
     /// Does one command. The reply and what the volumes are then is a step, or the reply is `Memory` and nothing has
     /// changed: where memory is wanting, or a new volume where every head is in use. A new volume gets the lowest head
-    /// that isn't in use. `Full`, `NoPage` and the faults never come, and `Memory` never to a write, a flush, an inflate, a
-    /// decouple or a df.
+    /// that isn't in use. `Full`, `NoPage` and the faults never come, and `Memory` never to a write, a flush, an
+    /// inflate, a decouple or a df.
     pub fn apply(&mut self, alloc: Global, command: &Command) -> Reply
-        ensures step { Step self.old.fixed (volumes_in self.old) command.now result (volumes_in self.new) ⊎ ((result ≡ r.Memory) × (self.new ≡ self.old)) }
+        ensures step { Step self.old.fixed (volumes_in self.old) command.now result (volumes_in self.new)
+            ⊎ ((result ≡ r.Memory) × (self.new ≡ self.old)) }
         ensures fixed { self.new.fixed ≡ self.old.fixed }
         ensures least { (h : ℕ) → result ≡ r.Made h → IsLeastFree (volumes_in self.old) h }
         ensures plain { IsPlain result }
@@ -81,8 +85,8 @@ impl Volumes {
 
     /// The reply of a verb that is done, or the one for which nothing is.
     fn answer(&mut self, alloc: Global, command: &Command) -> Result<Reply, Reply>
-        ensures answer { Answers self.old command.now result self.new }
-        ensures refused { TakesNoMemory command.now → IfErr result IsCause }
+        ensures answer { MachineAnswers self.old command.now result self.new }
+        ensures refused { TakesNoMemory command.now → IfErr result IsCauseOfRefusal }
     {
         match command {
             Command::Create {

@@ -58,7 +58,8 @@ impl Script {
     pub fn push(&mut self, channel: u8, command: Command) -> Result<(), Memory>
         requires channel { channel < 16 }
         requires room { commands_in self.old < 131071 }
-        ensures ok { OnOk result (self.new ≡ slice_set self.old channel (slice_index_or self.old channel [] ++ command ∷ [])) }
+        ensures ok { OnOk result (self.new ≡ slice_set self.old channel
+            (slice_index_or self.old channel [] ++ command ∷ [])) }
         ensures one_more { OnOk result (commands_in self.new ≡ commands_in self.old + 1) }
         ensures memory { OnErr result (self.new ≡ self.old) }
     {

@@ -47,7 +47,8 @@ impl ListOf<Xattr> {
         }
     }
 
-    /// A copy in which the attribute has this value: at the place of the first of that key, or last where there is none.
+    /// A copy in which the attribute has this value: at the place of the first of that key, or last where there is
+    /// none.
     pub fn with_value(&self, alloc: Global, key: &[u8], value: &[u8]) -> Result<XattrList, Memory>
         ensures { IfOk result (λ list. list ≡ x.with_value self.now key.now value.now) }
     {

@@ -9,4 +9,6 @@ pub returns : goal.returns
 returns c =
     let r = c.args.remainder in
     let small : (i : ℕ) → get_or c.args.bytes.now i 0 < 256 = λ i. (let h = c.type_inv.bytes i in search rules) in
-    c.divide_word.ensures ∙ sym (remainder_of-number r c.args.bytes.now small ∙ ap₂ (λ n w. byte_steps n (bit_xor r w)) c.requires (sym c.word.ensures))
+    c.divide_word.ensures
+    ∙ sym (remainder_of-number r c.args.bytes.now small
+    ∙ ap₂ (λ n w. byte_steps n (bit_xor r w)) c.requires (sym c.word.ensures))

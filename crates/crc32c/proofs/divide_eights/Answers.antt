@@ -16,5 +16,7 @@ loop-at-preserved c = record {
       let at = c.loop-at.at in
       let bytes = c.args.bytes.now in
       let eight : at + 8 - at ≡ 8 = omega arith in
-      c.divide_eight-remainder.ensures ∙ ap₂ (λ r n. remainder_of r (take n (drop at bytes))) c.loop-at.invariant.divided eight ∙ remainder_of-parts c.args.first at 8 bytes;
+      c.divide_eight-remainder.ensures
+      ∙ ap₂ (λ r n. remainder_of r (take n (drop at bytes))) c.loop-at.invariant.divided eight
+      ∙ remainder_of-parts c.args.first at 8 bytes;
 }

@@ -10,7 +10,8 @@ use Rattle.crc32c.proofs.page_ok.Goals as goal
 drop_next : (xs : List ℕ) (i j : ℕ) → j ≡ i + 1 → i < length xs → drop i xs ≡ get_or xs i 0 ∷ drop j xs
 drop_next xs i j is lt = drop_more xs i 0 lt ∙ ap (λ k. get_or xs i 0 ∷ drop k xs) (sym is)
 
-last_four : (page : List ℕ) (n : ℕ) → length page ≡ n + 4 → drop n page ≡ get_or page n 0 ∷ get_or page (n + 1) 0 ∷ get_or page (n + 2) 0 ∷ get_or page (n + 3) 0 ∷ []
+last_four : (page : List ℕ) (n : ℕ) → length page ≡ n + 4
+    → drop n page ≡ get_or page n 0 ∷ get_or page (n + 1) 0 ∷ get_or page (n + 2) 0 ∷ get_or page (n + 3) 0 ∷ []
 last_four page n long =
     drop_next page n (n + 1) (omega arith) (omega arith)
     ∙ ap (λ (l : List ℕ). get_or page n 0 ∷ l) (drop_next page (n + 1) (n + 2) (omega arith) (omega arith)
@@ -21,7 +22,8 @@ last_four page n long =
 pub returns-clause-sound : goal.returns-clause-sound
 unfolding is_sound
 returns-clause-sound c =
-    let spelt : c.from_le_bytes.result ≡ from_le_bytes w32 (drop 4092 c.args.page.now) = c.from_le_bytes.ensures ∙ sym (ap (from_le_bytes w32) (last_four c.args.page.now 4092 c.told-page)) in
+    let spelt : c.from_le_bytes.result ≡ from_le_bytes w32 (drop 4092 c.args.page.now) =
+    c.from_le_bytes.ensures ∙ sym (ap (from_le_bytes w32) (last_four c.args.page.now 4092 c.told-page)) in
     ap₂ (λ a b. a == b) spelt c.sum.ensures
 
 pub returns-clause-zeros : goal.returns-clause-zeros

@@ -1,7 +1,9 @@
 //! Extended attributes of volumes, as they are read and as they survive a crash.
 
-ghost use Rattle.std.specs.Prelude.{◌≡◌, IfOk};
-ghost use Rattle.volume_model.specs.Machine.{Answers};
+ghost use Rattle.std.specs.Prelude.{◌≡◌, IfOk, IsSome, Some};
+ghost use Rattle.std.specs.Option.{option_map};
+ghost use Rattle.volume_model.specs.Machine.{volumes_in, MachineAnswers};
+ghost use Rattle.volume_model.specs.Volumes.{Volume};
 ghost use Rattle.volume_model.specs.Xattrs as x;
 ghost use Rattle.volume_model.specs.declared.command.Command.TheVariants as c;
 
@@ -10,7 +12,7 @@ use crate::copy::TryCopy;
 use crate::machine::Volumes;
 use crate::name::Name;
 use crate::reply::Reply;
-use crate::text::Blobtext;
+use crate::text::{Blobtext, XattrList};
 use out_of_memory::Memory;
 use std::alloc::Global;
 
@@ -24,6 +26,23 @@ pub(super) fn with_nul(alloc: Global, text: &[u8]) -> Result<Vec<u8>, Memory>
 }
 
 impl Volumes {
+    /// The live attributes of the volume at a head, with one set.
+    fn live_with(
+        &self,
+        alloc: Global,
+        head: u32,
+        key: &Blobtext,
+        value: &Blobtext,
+    ) -> Result<XattrList, Memory>
+        requires { IsSome (volumes_in self.now head) }
+        ensures { IfOk result (λ live. option_map (λ (y : Volume). x.with_value y.live key.now value.now)
+            (volumes_in self.now head) ≡ Some live) }
+    {
+        self.at(head)
+            .live
+            .with_value(alloc, key.bytes(), value.bytes())
+    }
+
     pub(super) fn set_x(
         &mut self,
         alloc: Global,
@@ -31,13 +50,10 @@ impl Volumes {
         key: &Blobtext,
         value: &Blobtext,
     ) -> Result<Reply, Reply>
-        ensures { Answers self.old (c.SetX volume.now key.now value.now) result self.new }
+        ensures { MachineAnswers self.old (c.SetX volume.now key.now value.now) result self.new }
     {
         let head = self.may_set(volume, key, value)?;
-        let live = self
-            .at(head)
-            .live
-            .with_value(alloc, key.bytes(), value.bytes())?;
+        let live = self.live_with(alloc, head, key, value)?;
         let mut x = self.take(head);
         x.live = live;
         self.put(head, x);
@@ -50,7 +66,7 @@ impl Volumes {
         volume: &VolumeRef,
         key: &Blobtext,
     ) -> Result<Reply, Reply>
-        ensures { Answers self.old (c.DelX volume.now key.now) result self.new }
+        ensures { MachineAnswers self.old (c.DelX volume.now key.now) result self.new }
     {
         let head = self.may_remove(volume, key)?;
         let live = self.at(head).live.without(alloc, key.bytes())?;
@@ -66,7 +82,7 @@ impl Volumes {
         volume: &VolumeRef,
         key: &Blobtext,
     ) -> Result<Reply, Reply>
-        ensures { Answers self.now (c.GetX volume.now key.now) result self.now }
+        ensures { MachineAnswers self.now (c.GetX volume.now key.now) result self.now }
     {
         let (_, x) = self.find(volume)?;
         match x.live.value_of(key.bytes()) {
@@ -82,13 +98,10 @@ impl Volumes {
         key: &Blobtext,
         value: &Blobtext,
     ) -> Result<Reply, Reply>
-        ensures { Answers self.old (c.Put volume.now key.now value.now) result self.new }
+        ensures { MachineAnswers self.old (c.Put volume.now key.now value.now) result self.new }
     {
         let head = self.may_set(volume, key, value)?;
-        let live = self
-            .at(head)
-            .live
-            .with_value(alloc, key.bytes(), value.bytes())?;
+        let live = self.live_with(alloc, head, key, value)?;
         let synced = live.try_copy(alloc)?;
         let mut x = self.take(head);
         x.live = live;
@@ -98,7 +111,7 @@ impl Volumes {
     }
 
     pub(super) fn sync(&mut self, alloc: Global, volume: &VolumeRef) -> Result<Reply, Reply>
-        ensures { Answers self.old (c.Sync volume.now) result self.new }
+        ensures { MachineAnswers self.old (c.Sync volume.now) result self.new }
     {
         let head = self.may_change(volume)?;
         let synced = self.at(head).live.try_copy(alloc)?;
@@ -114,7 +127,7 @@ impl Volumes {
         volume: &VolumeRef,
         name: &Name,
     ) -> Result<Reply, Reply>
-        ensures { Answers self.old (c.Rename volume.now name.now) result self.new }
+        ensures { MachineAnswers self.old (c.Rename volume.now name.now) result self.new }
     {
         let head = self.may_rename(volume, name)?;
         let value = with_nul(alloc, name.bytes())?;
@@ -134,7 +147,7 @@ impl Volumes {
     }
 
     pub(super) fn read_only(&mut self, alloc: Global, volume: &VolumeRef) -> Result<Reply, Reply>
-        ensures { Answers self.old (c.ReadOnly volume.now) result self.new }
+        ensures { MachineAnswers self.old (c.ReadOnly volume.now) result self.new }
     {
         let head = self.may_change(volume)?;
         let synced = self.at(head).live.try_copy(alloc)?;

@@ -2,7 +2,7 @@
 
 ghost use Rattle.std.specs.Prelude.{◌≡◌, IfErr, map};
 ghost use Rattle.std.specs.Option.{option_map, option_and_then};
-ghost use Rattle.volume_model.specs.Machine.{volumes_in, Answers, IsCause};
+ghost use Rattle.volume_model.specs.Machine.{volumes_in, MachineAnswers, IsCauseOfRefusal};
 ghost use Rattle.volume_model.specs.Plain.{adopted, adopted_row};
 ghost use Rattle.volume_model.specs.declared.command.Command.TheVariants as c;
 
@@ -46,8 +46,8 @@ impl Volumes {
     }
 
     pub(super) fn inflate(&mut self, volume: &VolumeRef) -> Result<Reply, Reply>
-        ensures answer { Answers self.old (c.Inflate volume.now) result self.new }
-        ensures refused { IfErr result IsCause }
+        ensures answer { MachineAnswers self.old (c.Inflate volume.now) result self.new }
+        ensures refused { IfErr result IsCauseOfRefusal }
     {
         let head = self.may_change(volume)?;
         let mut x = self.take(head);
@@ -58,8 +58,8 @@ impl Volumes {
     }
 
     pub(super) fn decouple(&mut self, volume: &VolumeRef) -> Result<Reply, Reply>
-        ensures answer { Answers self.old (c.Decouple volume.now) result self.new }
-        ensures refused { IfErr result IsCause }
+        ensures answer { MachineAnswers self.old (c.Decouple volume.now) result self.new }
+        ensures refused { IfErr result IsCauseOfRefusal }
     {
         let head = self.may_decouple(volume)?;
         let parent = self.parent_at(self.at(head).parent);
@@ -78,7 +78,7 @@ impl Volumes {
     }
 
     pub(super) fn delete(&mut self, alloc: Global, volume: &VolumeRef) -> Result<Reply, Reply>
-        ensures { Answers self.old (c.Delete volume.now) result self.new }
+        ensures { MachineAnswers self.old (c.Delete volume.now) result self.new }
     {
         let head = self.may_delete(alloc, volume)?;
         let parent = self.take(head).parent;

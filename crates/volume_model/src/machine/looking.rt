@@ -3,7 +3,7 @@
 ghost use Rattle.std.specs.Prelude.{◌≡◌, ◌<◌, ◌≤◌, ◌^◌, ◌*◌, Some, None, false, IsSome, IfSome, IfOk, IfErr, length};
 ghost use Rattle.std.specs.Option.{option_map_or};
 ghost use Rattle.volume_model.specs.Machine.{volumes_in};
-ghost use Rattle.volume_model.specs.Plain.{volume_of};
+ghost use Rattle.volume_model.specs.Plain.{volume_in_row};
 ghost use Rattle.volume_model.specs.Volumes as v;
 ghost use Rattle.volume_model.specs.declared.reply.Reply.TheVariants as r;
 
@@ -61,7 +61,7 @@ impl Volumes {
     /// The volume that a reference means, and its head.
     pub(super) fn find(&self, volume: &VolumeRef) -> Result<(u32, &Volume), Reply>
         ensures head { IfOk result (λ p. v.head_of self.now.fixed (volumes_in self.now) volume.now ≡ Some p.0) }
-        ensures volume { IfOk result (λ p. volumes_in self.now p.0 ≡ Some (volume_of p.1.now)) }
+        ensures volume { IfOk result (λ p. volumes_in self.now p.0 ≡ Some (volume_in_row p.1.now)) }
         ensures none { IfErr result (λ reply. v.head_of self.now.fixed (volumes_in self.now) volume.now ≡ None) }
         ensures reply { IfErr result (λ reply. reply ≡ r.NoVolume) }
     {
@@ -76,7 +76,7 @@ impl Volumes {
 
     /// How many slots a volume has.
     pub(super) fn slots_of(&self, volume: &Volume) -> u64
-        ensures { result ≡ v.slots_of self.now.fixed (volume_of volume.now) }
+        ensures { result ≡ v.slots_of self.now.fixed (volume_in_row volume.now) }
     {
         volume.pages.len() as u64 / u64::from(self.cluster_pages)
     }

@@ -1,7 +1,7 @@
 //! Volumes that come: new ones, snapshots and clones.
 
 ghost use Rattle.std.specs.Prelude.{◌≡◌, IfOk};
-ghost use Rattle.volume_model.specs.Machine.{volumes_in, Answers};
+ghost use Rattle.volume_model.specs.Machine.{volumes_in, MachineAnswers};
 ghost use Rattle.volume_model.specs.Volumes as v;
 ghost use Rattle.volume_model.specs.declared.command.Command.TheVariants as c;
 
@@ -60,7 +60,7 @@ impl Volumes {
         thick: bool,
         uuid: Option<[u8; 16]>,
     ) -> Result<Reply, Reply>
-        ensures { Answers self.old (c.Create name.now slots thick uuid) result self.new }
+        ensures { MachineAnswers self.old (c.Create name.now slots thick uuid) result self.new }
     {
         self.may_create(name, slots)?;
         let made = self.free_head()?;
@@ -83,7 +83,7 @@ impl Volumes {
         volume: &VolumeRef,
         name: &Name,
     ) -> Result<Reply, Reply>
-        ensures { Answers self.old (c.Snapshot volume.now name.now) result self.new }
+        ensures { MachineAnswers self.old (c.Snapshot volume.now name.now) result self.new }
     {
         let head = self.may_snapshot(volume, name)?;
         let made = self.free_head()?;
@@ -111,7 +111,7 @@ impl Volumes {
         volume: &VolumeRef,
         name: &Name,
     ) -> Result<Reply, Reply>
-        ensures { Answers self.old (c.Clone volume.now name.now) result self.new }
+        ensures { MachineAnswers self.old (c.Clone volume.now name.now) result self.new }
     {
         let head = self.may_clone(volume, name)?;
         let made = self.free_head()?;

@@ -1,7 +1,7 @@
 //! Pages of volumes: written, read, and more or fewer of them.
 
 ghost use Rattle.std.specs.Prelude.{◌≡◌, ◌+◌, ◌-◌, ◌++◌, IfOk, IfErr, OnOk, length, take, replicate};
-ghost use Rattle.volume_model.specs.Machine.{Answers, IsCause};
+ghost use Rattle.volume_model.specs.Machine.{MachineAnswers, IsCauseOfRefusal};
 ghost use Rattle.volume_model.specs.Volumes as v;
 ghost use Rattle.volume_model.specs.declared.command.Command.TheVariants as c;
 
@@ -54,7 +54,8 @@ pub(super) fn zeros(alloc: Global, count: u64) -> Result<Vec<Page>, Memory>
 
 /// A copy, cut to so many pages or with pages of zeros added.
 fn resized(alloc: Global, pages: &[Page], count: u64) -> Result<Vec<Page>, Memory>
-    ensures { IfOk result (λ new. new.items ≡ take count pages.now ++ replicate (count - length pages.now) v.zero_page) }
+    ensures { IfOk result (λ new. new.items ≡ take count pages.now
+        ++ replicate (count - length pages.now) v.zero_page) }
 {
     let kept = pages.len() as u64;
     if count <= kept {
@@ -72,8 +73,8 @@ impl Volumes {
         page: u64,
         word: &PageWord,
     ) -> Result<Reply, Reply>
-        ensures answer { Answers self.old (c.Write volume.now page word.now) result self.new }
-        ensures refused { IfErr result IsCause }
+        ensures answer { MachineAnswers self.old (c.Write volume.now page word.now) result self.new }
+        ensures refused { IfErr result IsCauseOfRefusal }
     {
         let head = self.may_write(volume, page)?;
         let mut x = self.take(head);
@@ -83,7 +84,7 @@ impl Volumes {
     }
 
     pub(super) fn read(&self, alloc: Global, volume: &VolumeRef, page: u64) -> Result<Reply, Reply>
-        ensures { Answers self.now (c.Read volume.now page) result self.now }
+        ensures { MachineAnswers self.now (c.Read volume.now page) result self.now }
     {
         let head = self.may_read(volume, page)?;
         let content = self.at(head).pages[page as usize];
@@ -96,7 +97,7 @@ impl Volumes {
         volume: &VolumeRef,
         slots: u64,
     ) -> Result<Reply, Reply>
-        ensures { Answers self.old (c.Resize volume.now slots) result self.new }
+        ensures { MachineAnswers self.old (c.Resize volume.now slots) result self.new }
     {
         let head = self.may_resize(volume, slots)?;
         let count = self.pages_in(slots);

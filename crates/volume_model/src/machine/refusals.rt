@@ -1,12 +1,13 @@
 //! Why a command is refused: one test a verb, its causes in their order.
 
-ghost use Rattle.std.specs.Prelude.{◌≡◌, ◌≤◌, ℕ, None, false, true, Option, List, Bool, IfOk, IfErr, OnOk, nat_lt, ◌+◌, ◌^◌, length};
+ghost use Rattle.std.specs.Prelude.{◌≡◌, ◌≤◌, ℕ, if◌then◌else◌, Some, None, false, true, Option, List, Bool, IfOk, IfErr, OnOk, nat_lt, ◌+◌, ◌^◌, length};
 ghost use Rattle.std.specs.Option.{option_map_or};
-ghost use Rattle.volume_model.specs.Machine.{volumes_in, MayBeDone, IsRefused, IsCause};
-ghost use Rattle.volume_model.specs.Plain.{volume_of};
+ghost use Rattle.volume_model.specs.Machine.{volumes_in, MayBeDone, IsCommandRefused, IsCauseOfRefusal};
+ghost use Rattle.volume_model.specs.Plain.{volume_in_row};
 ghost use Rattle.volume_model.specs.Refusals as f;
 ghost use Rattle.volume_model.specs.declared.command.Command.TheVariants as c;
 ghost use Rattle.volume_model.specs.declared.command.PageWord.{PageWord};
+ghost use Rattle.volume_model.specs.declared.reply.Reply.TheVariants as r;
 
 use crate::command::VolumeRef;
 use crate::machine::Volumes;
@@ -35,6 +36,21 @@ fn is_too_long(key: &Blobtext, value: &Blobtext) -> bool
     key.bytes().len() > 4063 || value.bytes().len() > 4063 - key.bytes().len()
 }
 
+/// Refuses a change of metadata of the super blob or under a key that is reserved, and then one of a read-only volume.
+fn refuse_change(reserved: bool, read_only: bool) -> Result<(), Reply>
+    ensures ok { OnOk result ((reserved ≡ false) × (read_only ≡ false)) }
+    ensures err { IfErr result (λ reply. Some reply
+        ≡ (if reserved then Some r.Reserved else if read_only then Some r.ReadOnly else None)) }
+{
+    if reserved {
+        Err(Reply::Reserved)
+    } else if read_only {
+        Err(Reply::ReadOnly)
+    } else {
+        Ok(())
+    }
+}
+
 impl Volumes {
     /// Whether a volume has too many slots, by itself or with the others.
     fn is_too_large(&self, slots: u64, others: u128) -> bool
@@ -50,7 +66,7 @@ impl Volumes {
     }
 
     fn has_longer_parent(&self, volume: &Volume, slots: u64) -> bool
-        ensures { result ≡ f.has_longer_parent self.now.fixed (volumes_in self.now) (volume_of volume.now) slots }
+        ensures { result ≡ f.has_longer_parent self.now.fixed (volumes_in self.now) (volume_in_row volume.now) slots }
     {
         match volume.parent {
             Some(parent) => slots < self.slots_at(parent),
@@ -59,16 +75,19 @@ impl Volumes {
     }
 
     fn is_short_between(&self, volume: &Volume, clone: &Volume) -> bool
-        ensures { result ≡ f.is_short_between self.now.fixed (volumes_in self.now) (volume_of volume.now) (volume_of clone.now) }
+        ensures { result ≡ f.is_short_between self.now.fixed (volumes_in self.now) (volume_in_row volume.now)
+            (volume_in_row clone.now) }
     {
         let slots = self.slots_of(volume);
         self.has_longer_parent(volume, slots) && slots < self.slots_of(clone)
     }
 
     pub(super) fn may_create(&self, name: &Name, slots: u64) -> Result<(), Reply>
-        ensures ok { OnOk result ((thick : Bool) (uuid : Option (List ℕ)) → f.refusal self.now.fixed (volumes_in self.now) (c.Create name.now slots thick uuid) ≡ None) }
+        ensures ok { OnOk result ((thick : Bool) (uuid : Option (List ℕ))
+            → f.refusal self.now.fixed (volumes_in self.now) (c.Create name.now slots thick uuid) ≡ None) }
         ensures size { OnOk result (slots ≤ 2 ^ 20) }
-        ensures err { IfErr result (λ reply. (thick : Bool) (uuid : Option (List ℕ)) → IsRefused self.now (c.Create name.now slots thick uuid) reply) }
+        ensures err { IfErr result (λ reply. (thick : Bool) (uuid : Option (List ℕ))
+            → IsCommandRefused self.now (c.Create name.now slots thick uuid) reply) }
     {
         if self.is_taken(name) {
             Err(Reply::NameTaken)
@@ -81,8 +100,9 @@ impl Volumes {
 
     pub(super) fn may_write(&self, volume: &VolumeRef, page: u64) -> Result<u32, Reply>
         ensures cause { (word : PageWord) → MayBeDone self.now volume.now (c.Write volume.now page word) result }
-        ensures within { IfOk result (λ h. option_map_or (λ x. nat_lt page (length x.pages)) (volumes_in self.now h) false ≡ true) }
-        ensures refused { IfErr result IsCause }
+        ensures within { IfOk result (λ h. option_map_or (λ x. nat_lt page (length x.pages)) (volumes_in self.now h)
+            false ≡ true) }
+        ensures refused { IfErr result IsCauseOfRefusal }
     {
         let (head, x) = self.find(volume)?;
         if self.is_super(head) {
@@ -98,7 +118,8 @@ impl Volumes {
 
     pub(super) fn may_read(&self, volume: &VolumeRef, page: u64) -> Result<u32, Reply>
         ensures cause { MayBeDone self.now volume.now (c.Read volume.now page) result }
-        ensures within { IfOk result (λ h. option_map_or (λ x. nat_lt page (length x.pages)) (volumes_in self.now h) false ≡ true) }
+        ensures within { IfOk result (λ h. option_map_or (λ x. nat_lt page (length x.pages)) (volumes_in self.now h)
+            false ≡ true) }
     {
         let (head, x) = self.find(volume)?;
         if page >= x.pages.len() as u64 {
@@ -118,11 +139,8 @@ impl Volumes {
         ensures put { MayBeDone self.now volume.now (c.Put volume.now key.now value.now) result }
     {
         let (head, x) = self.find(volume)?;
-        if self.is_super(head) || is_reserved(key) {
-            Err(Reply::Reserved)
-        } else if x.read_only {
-            Err(Reply::ReadOnly)
-        } else if is_too_long(key, value) {
+        refuse_change(self.is_super(head) || is_reserved(key), x.read_only)?;
+        if is_too_long(key, value) {
             Err(Reply::TooLong)
         } else {
             Ok(head)
@@ -133,11 +151,8 @@ impl Volumes {
         ensures { MayBeDone self.now volume.now (c.DelX volume.now key.now) result }
     {
         let (head, x) = self.find(volume)?;
-        if self.is_super(head) || is_reserved(key) {
-            Err(Reply::Reserved)
-        } else if x.read_only {
-            Err(Reply::ReadOnly)
-        } else if x.live.value_of(key.bytes()).is_none() {
+        refuse_change(self.is_super(head) || is_reserved(key), x.read_only)?;
+        if x.live.value_of(key.bytes()).is_none() {
             Err(Reply::NoValue)
         } else {
             Ok(head)
@@ -149,16 +164,11 @@ impl Volumes {
         ensures sync { MayBeDone self.now volume.now (c.Sync volume.now) result }
         ensures inflate { MayBeDone self.now volume.now (c.Inflate volume.now) result }
         ensures readonly { MayBeDone self.now volume.now (c.ReadOnly volume.now) result }
-        ensures refused { IfErr result IsCause }
+        ensures refused { IfErr result IsCauseOfRefusal }
     {
         let (head, x) = self.find(volume)?;
-        if self.is_super(head) {
-            Err(Reply::Reserved)
-        } else if x.read_only {
-            Err(Reply::ReadOnly)
-        } else {
-            Ok(head)
-        }
+        refuse_change(self.is_super(head), x.read_only)?;
+        Ok(head)
     }
 
     pub(super) fn may_resize(&self, volume: &VolumeRef, slots: u64) -> Result<u32, Reply>
@@ -167,11 +177,8 @@ impl Volumes {
     {
         let (head, x) = self.find(volume)?;
         let old = self.slots_of(x);
-        if self.is_super(head) {
-            Err(Reply::Reserved)
-        } else if x.read_only {
-            Err(Reply::ReadOnly)
-        } else if slots > old && self.has_longer_parent(x, old) {
+        refuse_change(self.is_super(head), x.read_only)?;
+        if slots > old && self.has_longer_parent(x, old) {
             Err(Reply::Short)
         } else if self.is_too_large(slots, self.all_slots().saturating_sub(u128::from(old))) {
             Err(Reply::TooLarge)
@@ -184,11 +191,8 @@ impl Volumes {
         ensures { MayBeDone self.now volume.now (c.Snapshot volume.now name.now) result }
     {
         let (head, x) = self.find(volume)?;
-        if self.is_super(head) {
-            Err(Reply::Reserved)
-        } else if x.read_only {
-            Err(Reply::ReadOnly)
-        } else if self.is_taken(name) {
+        refuse_change(self.is_super(head), x.read_only)?;
+        if self.is_taken(name) {
             Err(Reply::NameTaken)
         } else if self.is_too_large(self.slots_of(x), self.all_slots()) {
             Err(Reply::TooLarge)
@@ -213,7 +217,9 @@ impl Volumes {
     }
 
     fn is_short_under(&self, parent: Option<u32>, clone: &Volume) -> bool
-        ensures { result ≡ option_map_or (λ p. option_map_or (λ s. f.is_short_between self.now.fixed (volumes_in self.now) s (volume_of clone.now)) (volumes_in self.now p) false) parent false }
+        ensures { result ≡ option_map_or (λ p. option_map_or
+            (λ s. f.is_short_between self.now.fixed (volumes_in self.now) s (volume_in_row clone.now))
+            (volumes_in self.now p) false) parent false }
     {
         match parent {
             Some(parent) => match self.get(parent) {
@@ -226,14 +232,11 @@ impl Volumes {
 
     pub(super) fn may_decouple(&self, volume: &VolumeRef) -> Result<u32, Reply>
         ensures cause { MayBeDone self.now volume.now (c.Decouple volume.now) result }
-        ensures refused { IfErr result IsCause }
+        ensures refused { IfErr result IsCauseOfRefusal }
     {
         let (head, x) = self.find(volume)?;
-        if self.is_super(head) {
-            Err(Reply::Reserved)
-        } else if x.read_only {
-            Err(Reply::ReadOnly)
-        } else if x.parent.is_none() {
+        refuse_change(self.is_super(head), x.read_only)?;
+        if x.parent.is_none() {
             Err(Reply::NoParent)
         } else if self.is_short_under(x.parent, x) {
             Err(Reply::Short)
@@ -257,7 +260,8 @@ impl Volumes {
 
     /// Whether there is one clone alone, and it would read the parent where the volume reads zeros.
     fn has_short_clone(&self, volume: &Volume, clones: &[u32]) -> bool
-        ensures { result ≡ f.only_clone self.now.fixed (volumes_in self.now) (f.is_short_between self.now.fixed (volumes_in self.now) (volume_of volume.now)) clones.now }
+        ensures { result ≡ f.only_clone self.now.fixed (volumes_in self.now)
+            (f.is_short_between self.now.fixed (volumes_in self.now) (volume_in_row volume.now)) clones.now }
     {
         match clones {
             [clone] => match self.get(*clone) {
@@ -290,13 +294,9 @@ impl Volumes {
         ensures { MayBeDone self.now volume.now (c.Rename volume.now name.now) result }
     {
         let (head, x) = self.find(volume)?;
+        refuse_change(self.is_super(head), x.read_only)?;
         // The volume itself counts.
-        let named = self.head_named(name.bytes());
-        if self.is_super(head) {
-            Err(Reply::Reserved)
-        } else if x.read_only {
-            Err(Reply::ReadOnly)
-        } else if named.is_some() {
+        if self.is_taken(name) {
             Err(Reply::NameTaken)
         } else {
             Ok(head)

@@ -2,8 +2,8 @@
 
 ghost use Rattle.std.specs.Prelude.{◌≡◌, ◌≤◌, ◌<◌, Some, None, IsSome, IfOk, OnOk, OnErr, length, option_copied};
 ghost use Rattle.std.specs.Option.{option_map};
-ghost use Rattle.volume_model.specs.Machine.{volumes_in, IsLeastFree, IsPut};
-ghost use Rattle.volume_model.specs.Plain.{volume_of};
+ghost use Rattle.volume_model.specs.Machine.{volumes_in, IsLeastFree, PutsVolume};
+ghost use Rattle.volume_model.specs.Plain.{volume_in_row};
 
 use crate::machine::Volumes;
 use crate::text::XattrList;
@@ -27,7 +27,7 @@ pub(super) struct Volume {
 impl Volumes {
     /// The volume at a head.
     pub(super) fn get(&self, head: u32) -> Option<&Volume>
-        ensures { option_map volume_of (option_copied result) ≡ volumes_in self.now head }
+        ensures { option_map volume_in_row (option_copied result) ≡ volumes_in self.now head }
     {
         match self.rows.get(head as usize) {
             Some(Some(volume)) => Some(volume),
@@ -38,7 +38,7 @@ impl Volumes {
     /// The volume at a head that is in use.
     pub(super) fn at(&self, head: u32) -> &Volume
         requires { IsSome (volumes_in self.now head) }
-        ensures { volumes_in self.now head ≡ Some (volume_of result.now) }
+        ensures { volumes_in self.now head ≡ Some (volume_in_row result.now) }
     {
         match self.get(head) {
             Some(volume) => volume,
@@ -63,8 +63,8 @@ impl Volumes {
     /// Takes the volume at a head out.
     pub(super) fn take(&mut self, head: u32) -> Volume
         requires { IsSome (volumes_in self.old head) }
-        ensures value { volumes_in self.old head ≡ Some (volume_of result) }
-        ensures rest { IsPut self.old head None self.new }
+        ensures value { volumes_in self.old head ≡ Some (volume_in_row result) }
+        ensures rest { PutsVolume self.old head None self.new }
         ensures room { head < length self.new.rows }
     {
         match self.rows[head as usize].take() {
@@ -76,7 +76,7 @@ impl Volumes {
     /// Puts a volume where one was taken out.
     pub(super) fn put(&mut self, head: u32, volume: Volume)
         requires { head < length self.old.rows }
-        ensures { IsPut self.old head (Some (volume_of volume)) self.new }
+        ensures { PutsVolume self.old head (Some (volume_in_row volume)) self.new }
     {
         self.rows[head as usize] = Some(volume);
     }
@@ -84,7 +84,7 @@ impl Volumes {
     /// Adds a volume at a free head; nothing has changed after `Memory`.
     pub(super) fn add(&mut self, head: u32, volume: Volume) -> Result<(), Memory>
         requires { head ≤ length self.old.rows }
-        ensures ok { OnOk result (IsPut self.old head (Some (volume_of volume)) self.new) }
+        ensures ok { OnOk result (PutsVolume self.old head (Some (volume_in_row volume)) self.new) }
         ensures memory { OnErr result (self.new ≡ self.old) }
     {
         if (head as usize) < self.rows.len() {

@@ -1,7 +1,7 @@
 use Rattle.std.proofs.Common.{rules, ◌≡◌, ◌≢◌, ◌<◌, ℕ, zero, suc, Some, arith, sym, ap, ◌∙◌}
 use Rattle.std.specs.Prelude.{max}
 use Rattle.descriptors.specs.Slots.{filled_slots}
-use Rattle.blob_meta.proofs.Outside.{first_outside, low, inside, past, empty_run, short_run, filled_run}
+use Rattle.blob_meta.proofs.ClustersOutside.{first_outside, low, inside, past, empty_run, short_run, filled_run}
 use Rattle.blob_meta.proofs.checks.outside_of_run.Goals as goal
 use Rattle.blob_meta.proofs.checks.outside_of_run.Goals.{then-run-eq0-via-then-run-eq0, then-run-eq0-via-else-run-eq0+then-run-eq0-2}
 

@@ -1,7 +1,7 @@
 use Rattle.std.proofs.Common.{below_more, ◌+◌, drop, arith, sym, ap, ◌∙◌}
 use Rattle.std.specs.Option.{option_or}
 use Rattle.descriptors.specs.Runs.{slots_in}
-use Rattle.blob_meta.proofs.Outside.{first_outside, next_run}
+use Rattle.blob_meta.proofs.ClustersOutside.{first_outside, next_run}
 use Rattle.blob_meta.proofs.checks.outside_of_runs.Goals as goal
 
 pub returns-in-Some-clause-first : goal.returns-in-Some-clause-first

@@ -1,6 +1,6 @@
 use Rattle.std.proofs.Common.{◌≡◌, ◌<◌, ℕ, drop, get_or}
 use Rattle.descriptors.specs.Runs.{slots_in, Reaches}
-use Rattle.blob_meta.proofs.Outside.{first_outside}
+use Rattle.blob_meta.proofs.ClustersOutside.{first_outside}
 use Rattle.blob_meta.proofs.checks.outside_of_runs.Given as goal
 
 -- the runs so far have none

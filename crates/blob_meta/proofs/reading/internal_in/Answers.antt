@@ -8,5 +8,7 @@ loop-item-preserved c =
     let items = c.args.items.now in
     let i = c.loop-item.item-index in
     let item = c.item-item.result in
-    c.in_ok-add_first.ensures ∙ ap (with_found c.loop-item.xattrs) (c.internal_of.ensures ∙ ap internal_in c.item-item.is)
-    ∙ ap (λ l. with_found l (internal_in (get_or items i item))) c.loop-item.invariant ∙ sym (found_next internal_in items i item (omega arith))
+    c.in_ok-add_first.ensures ∙ ap (with_found c.loop-item.xattrs)
+    (c.internal_of.ensures ∙ ap internal_in c.item-item.is)
+    ∙ ap (λ l. with_found l (internal_in (get_or items i item))) c.loop-item.invariant
+    ∙ sym (found_next internal_in items i item (omega arith))

@@ -9,4 +9,5 @@ loop-item-preserved c =
     let i = c.loop-item.item-index in
     let item = c.item-item.result in
     c.in_ok-add_first.ensures ∙ ap (with_found c.loop-item.xattrs) (c.xattr_of.ensures ∙ ap xattr_in c.item-item.is)
-    ∙ ap (λ l. with_found l (xattr_in (get_or items i item))) c.loop-item.invariant ∙ sym (found_next xattr_in items i item (omega arith))
+    ∙ ap (λ l. with_found l (xattr_in (get_or items i item))) c.loop-item.invariant
+    ∙ sym (found_next xattr_in items i item (omega arith))

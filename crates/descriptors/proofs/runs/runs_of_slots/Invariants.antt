@@ -1,5 +1,5 @@
 use Rattle.std.proofs.Common.{take}
-use Rattle.descriptors.proofs.Added.{State}
+use Rattle.descriptors.proofs.LongestRuns.{State}
 use Rattle.descriptors.proofs.runs.runs_of_slots.Given as goal
 
 abbrev pub invariant-loop-slot : goal.invariant-loop-slot

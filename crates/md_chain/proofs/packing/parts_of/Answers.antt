@@ -10,8 +10,10 @@ add-requires c =
     let items = c.args.items.now in
     let i = c.loop-item.item-index in
     let item = c.item-item.result in
-    let within : i < length items = subst (λ (xs : List Item). i < length xs) c.as_slice-item-items.ensures c.loop-item-test.true in
-    let is : item ≡ get_or items i item = c.item-item.is ∙ ap (λ (xs : List Item). get_or xs i item) c.as_slice-item-items.ensures in
+    let within : i < length items = subst (λ (xs : List Item). i < length xs) c.as_slice-item-items.ensures
+    c.loop-item-test.true in
+    let is : item ≡ get_or items i item = c.item-item.is
+    ∙ ap (λ (xs : List Item). get_or xs i item) c.as_slice-item-items.ensures in
     subst CanPack (sym is) (can_pack items c.requires i item within)
 
 pub loop-item-preserved : goal.loop-item-preserved
@@ -19,9 +21,13 @@ loop-item-preserved c =
     let items = c.args.items.now in
     let i = c.loop-item.item-index in
     let item = c.item-item.result in
-    let within : i < length items = subst (λ (xs : List Item). i < length xs) c.as_slice-item-items.ensures c.loop-item-test.true in
-    let is : item ≡ get_or items i item = c.item-item.is ∙ ap (λ (xs : List Item). get_or xs i item) c.as_slice-item-items.ensures in
+    let within : i < length items = subst (λ (xs : List Item). i < length xs) c.as_slice-item-items.ensures
+    c.loop-item-test.true in
+    let is : item ≡ get_or items i item = c.item-item.is
+    ∙ ap (λ (xs : List Item). get_or xs i item) c.as_slice-item-items.ensures in
     let rest = drop (i + 1) items in
     let one : drop i items ≡ item ∷ rest = drop_one items i item within ∙ ap (λ (x : Item). x ∷ rest) (sym is) in
     let last : IsRuns item → rest ≡ [] = λ r. runs_last items i item c.requires within (subst IsRuns is r) in
-    c.in_ok-add.ensures rest last ∙ ap (λ (xs : List Item). laid c.loop-item.packing.full c.loop-item.packing.current (parts_from c.loop-item.packing.room xs)) (sym one) ∙ c.loop-item.invariant
+    c.in_ok-add.ensures rest last ∙ ap (λ (xs : List Item).
+    laid c.loop-item.packing.full c.loop-item.packing.current (parts_from c.loop-item.packing.room xs)) (sym one)
+    ∙ c.loop-item.invariant

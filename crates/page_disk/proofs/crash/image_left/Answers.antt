@@ -16,8 +16,13 @@ loop-at-init c =
     let flushed = c.behind_last_flush-flushed.result in
     let behind = c.behind_last_flush-flushed.ensures in
     record {
-      picked = ap (λ (i : Image). left_after c.args.pick (read_after base (take flushed calls)) i (drop flushed calls)) c.in_ok-left.ensures ∙ picked_at_first base calls flushed behind.within c.args.pick behind.behind;
-      image = left_at_first base calls flushed behind.within (base_image c.in_ok-left.left.entries) behind.behind c.in_ok-left.ensures;
+      picked =
+          ap (λ (i : Image). left_after c.args.pick (read_after base (take flushed calls)) i
+          (drop flushed calls)) c.in_ok-left.ensures
+          ∙ picked_at_first base calls flushed behind.within c.args.pick behind.behind;
+      image =
+          left_at_first base calls flushed behind.within
+          (base_image c.in_ok-left.left.entries) behind.behind c.in_ok-left.ensures;
     }
 
 pub loop-at-preserved : goal.loop-at-preserved
@@ -33,7 +38,9 @@ loop-at-preserved c =
       picked = picked_more c.args.pick base calls at d old new c.loop-at-test.true write
           (c.in_ok-save_remains.ensures.left ∙ ap (λ r. left_of r old (get_or calls at d)) c.remains_of-remains.ensures)
           ∙ c.loop-at.invariant.picked;
-      image = took_more base calls at d old new c.loop-at-test.true write c.loop-at.invariant.image c.in_ok-save_remains.ensures.took;
+      image =
+          took_more base calls at d old new c.loop-at-test.true write c.loop-at.invariant.image
+          c.in_ok-save_remains.ensures.took;
     }
 
 pub returns-clause-picked : goal.returns-clause-picked
@@ -42,4 +49,5 @@ returns-clause-picked c =
     let base = base_image c.args.base.now.entries in
     let calls = c.args.calls.now in
     let at = c.loop-at.at in
-    sym (ap (left_after c.args.pick (read_after base (take at calls)) (base_image c.loop-at.left.entries)) (drop_all at calls c.loop-at-test.false)) ∙ c.loop-at.invariant.picked
+    sym (ap (left_after c.args.pick (read_after base (take at calls)) (base_image c.loop-at.left.entries))
+    (drop_all at calls c.loop-at-test.false)) ∙ c.loop-at.invariant.picked

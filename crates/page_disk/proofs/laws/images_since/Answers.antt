@@ -8,4 +8,5 @@ pub returns-clause-at_entry : goal.returns-clause-at_entry
 returns-clause-at_entry g c told old new time = entry_or_exit g.D.PageDisk (g.met.D.PageDisk.telling told) old new time
 
 pub returns-clause-earlier : goal.returns-clause-earlier
-returns-clause-earlier g c told old new time = before_or_since_entry g.D.PageDisk (g.met.D.PageDisk.telling told) old new time
+returns-clause-earlier g c told old new time =
+    before_or_since_entry g.D.PageDisk (g.met.D.PageDisk.telling told) old new time

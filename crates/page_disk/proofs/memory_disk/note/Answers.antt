@@ -7,7 +7,8 @@ use Rattle.page_disk.proofs.memory_disk.note.Goals as goal
 pub returns-in-Ok-clause-index : goal.returns-in-Ok-clause-index
 returns-in-Ok-clause-index c =
     subst (λ (x : Call). IsIndex (c.args.calls.now ++ x ∷ []) c.insert.new.self.entries) (sym c.in-Write.is)
-    (after_write c.args.calls.now c.in-Write.page c.in-Write.content c.in-Write.kind c.args.newest.now.entries c.insert.new.self.entries c.in-Ok.ensures.updates.0 c.requires.index)
+    (after_write c.args.calls.now c.in-Write.page c.in-Write.content c.in-Write.kind
+    c.args.newest.now.entries c.insert.new.self.entries c.in-Ok.ensures.updates.0 c.requires.index)
 
 pub returns-in-Flush-clause-index : goal.returns-in-Flush-clause-index
 returns-in-Flush-clause-index c =

@@ -11,6 +11,9 @@ returns-clause-any_moment g c tells =
     let mid = c.write_page.new.disk in
     let P : Images = Written (d.images first) c.args.place Plain c.args.page.now in
     let so_far = c.write_page.ensures.any_moment tells in
-    let held : (x : Image) → d.images mid x → P x = λ x left. so_far.each x (law.counts_now mid (d.clock first) x so_far.later left) in
+    let held : (x : Image) → d.images mid x → P x =
+    λ x left. so_far.each x (law.counts_now mid (d.clock first) x so_far.later left) in
     goes_on d first mid c.flush.new.self P so_far (c.flush.ensures.since tells)
-    (λ x left. held x (flushed c.flush.result (d.now mid) (d.images mid) (d.images c.flush.new.self) (law.reads_an_image mid) (c.flush.ensures.ok tells) (c.flush.ensures.err tells) x left))
+    (λ x left. held x
+    (flushed c.flush.result (d.now mid) (d.images mid) (d.images c.flush.new.self) (law.reads_an_image mid)
+    (c.flush.ensures.ok tells) (c.flush.ensures.err tells) x left))

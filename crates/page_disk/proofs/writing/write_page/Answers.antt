@@ -1,4 +1,3 @@
-use Rattle.std.proofs.Common.{inl}
 use Rattle.page_disk.specs.Disk.{Images, Written}
 use Rattle.page_disk.specs.declared.disk.WriteKind.TheVariants.{Plain}
 use Rattle.page_disk.proofs.Moments.{started, goes_on, kept_before, written}
@@ -12,6 +11,8 @@ returns-clause-any_moment g c tells =
     let place = c.args.place in
     let page = c.args.page.now in
     let P : Images = Written (d.images first) place Plain page in
-    let none = started d first P (λ x left. kept_before (d.images first) place Plain page x (law.since_now first x left)) in
+    let none =
+    started d first P (λ x left. kept_before (d.images first) place Plain page x (law.since_now first x left)) in
     goes_on d first first c.write.new.self P none (c.write.ensures.since tells)
-    (written c.write.result (d.now first) (d.now c.write.new.self) (d.images first) (d.images c.write.new.self) place Plain page (c.write.ensures.ok tells) (c.write.ensures.err tells))
+    (written c.write.result (d.now first) (d.now c.write.new.self) (d.images first)
+    (d.images c.write.new.self) place Plain page (c.write.ensures.ok tells) (c.write.ensures.err tells))

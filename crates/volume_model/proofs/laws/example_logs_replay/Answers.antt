@@ -1,4 +1,4 @@
-use Rattle.volume_model.proofs.Replayed.{thin_volume, snapshot_with_clone, names_move, surviving, two_channels}
+use Rattle.volume_model.proofs.ExampleLogsReplay.{thin_volume, snapshot_with_clone, names_move, surviving, two_channels}
 use Rattle.volume_model.proofs.laws.example_logs_replay.Goals as goal
 
 pub returns-clause-thin : goal.returns-clause-thin

@@ -1,5 +1,5 @@
 use Rattle.std.proofs.Common.{◌∙◌}
-use Rattle.volume_model.proofs.Others.{others}
+use Rattle.volume_model.proofs.OtherVolumesStay.{others}
 use Rattle.volume_model.proofs.laws.others_stay.Goals as goal
 
 pub returns : goal.returns

@@ -11,5 +11,6 @@ none_of (Some x) never = absurd (never x refl)
 pub returns-in-Err : goal.returns-in-Err
 unfolding uuid_said
 returns-in-Err c =
-    let unread : parsed c.args.text.now ≡ None = none_of (parsed c.args.text.now) (λ u is. false≢true (c.in-Err.ensures.ok.1 (u, is))) in
+    let unread : parsed c.args.text.now ≡ None = none_of (parsed c.args.text.now)
+    (λ u is. false≢true (c.in-Err.ensures.ok.1 (u, is))) in
     rw unread (c.into_bytes-in-Err.ensures ∙ c.nil.ensures)

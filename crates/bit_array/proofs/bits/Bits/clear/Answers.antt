@@ -8,8 +8,10 @@ index_mut-requires c =
 
 pub invariant_of-self : goal.invariant_of-self
 invariant_of-self c =
-    (leaves _ _ _ _ _ _ c.self.view_is c.requires c.self.invariant (sym c.get.ensures ∙ c.if-get.true) c.index_mut.ensures.value).counted
+    (leaves _ _ _ _ _ _ c.self.view_is c.requires c.self.invariant
+    (sym c.get.ensures ∙ c.if-get.true) c.index_mut.ensures.value).counted
 
 pub returns-then-get : goal.returns-then-get
 returns-then-get c =
-    (leaves _ _ _ _ _ _ c.self.view_is c.requires c.self.invariant (sym c.get.ensures ∙ c.if-get.true) c.index_mut.ensures.value).view
+    (leaves _ _ _ _ _ _ c.self.view_is c.requires c.self.invariant
+    (sym c.get.ensures ∙ c.if-get.true) c.index_mut.ensures.value).view

@@ -30,5 +30,9 @@ returns-else-at-len-clause-full c =
 pub returns-clause-full : goal.returns-clause-full
 returns-clause-full c =
     let items = c.deref-word-items.result.now in
-    let view : bits_of items c.self.inside.len ≡ c.args.self.now = rw c.deref-word-items.ensures.value c.self.view_is in
-    (λ _. full_words items c.self.inside.len c.self.inside.count c.loop-place.place _ view (rw c.deref-word-items.ensures.value c.self.invariant) c.loop-place.invariant c.loop-place-test.false, λ _. refl)
+    let view : bits_of items c.self.inside.len ≡ c.args.self.now =
+    rw c.deref-word-items.ensures.value c.self.view_is in (
+      λ _. full_words items c.self.inside.len c.self.inside.count c.loop-place.place _ view
+          (rw c.deref-word-items.ensures.value c.self.invariant) c.loop-place.invariant c.loop-place-test.false,
+      λ _. refl,
+    )

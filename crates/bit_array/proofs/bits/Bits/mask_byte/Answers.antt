@@ -11,7 +11,8 @@ returns-in-0 c = rw c.in-0.is (sym (mask_text-kind c.args.kind c.args.self.now))
 
 pub returns-in-1-to-4 : goal.returns-in-1-to-4
 returns-in-1-to-4 c =
-    ap (λ (bytes : List ℕ). get_or bytes (c.args.place - 1) 0) (c.to_le_bytes.ensures ∙ ap (to_le_bytes w32) c.len-len.ensures)
+    ap (λ (bytes : List ℕ). get_or bytes (c.args.place - 1) 0)
+    (c.to_le_bytes.ensures ∙ ap (to_le_bytes w32) c.len-len.ensures)
     ∙ sym (mask_text-len c.args.kind c.args.place c.args.self.now (omega arith) (omega arith))
 
 pub returns-in_default : goal.returns-in_default

@@ -8,13 +8,17 @@ index_mut-requires c =
 
 pub overflow_add-self : goal.overflow_add-self
 overflow_add-self c =
-    let step = joins _ _ _ _ _ _ c.self.view_is c.requires c.self.invariant (sym c.get.ensures ∙ c.if-not-get.true) c.index_mut.ensures.value in
+    let step =
+    joins _ _ _ _ _ _ c.self.view_is c.requires c.self.invariant
+    (sym c.get.ensures ∙ c.if-not-get.true) c.index_mut.ensures.value in
     omega (arith, step.0)
 
 pub invariant_of-self : goal.invariant_of-self
 invariant_of-self c =
-    (joins _ _ _ _ _ _ c.self.view_is c.requires c.self.invariant (sym c.get.ensures ∙ c.if-not-get.true) c.index_mut.ensures.value).1.counted
+    (joins _ _ _ _ _ _ c.self.view_is c.requires c.self.invariant
+    (sym c.get.ensures ∙ c.if-not-get.true) c.index_mut.ensures.value).1.counted
 
 pub returns-then-not-get : goal.returns-then-not-get
 returns-then-not-get c =
-    (joins _ _ _ _ _ _ c.self.view_is c.requires c.self.invariant (sym c.get.ensures ∙ c.if-not-get.true) c.index_mut.ensures.value).1.view
+    (joins _ _ _ _ _ _ c.self.view_is c.requires c.self.invariant
+    (sym c.get.ensures ∙ c.if-not-get.true) c.index_mut.ensures.value).1.view

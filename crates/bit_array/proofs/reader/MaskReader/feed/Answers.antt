@@ -8,7 +8,8 @@ pub returns-clause-read : goal.returns-clause-read
 returns-clause-read c = λ kind len text read.
     let was = rw (← c.self.view_is) at read in
     let same_len : length c.self.inside.bits ≡ len = ap length was.bits_are ∙ length-bits_in len text in
-    let more : length (text ++ c.args.page.now) ≡ length text + length c.args.page.now = length-append text c.args.page.now in
+    let more : length (text ++ c.args.page.now) ≡ length text + length c.args.page.now =
+    length-append text c.args.page.now in
     record {
       kind_is = was.kind_is;
       pages = omega (arith, was.pages, c.told-page);

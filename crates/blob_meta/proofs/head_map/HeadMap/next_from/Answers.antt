@@ -4,7 +4,7 @@ use Rattle.std.specs.declared.cmp.Ordering.TheVariants.{Less, Equal, Greater}
 use Rattle.std.specs.Cmp.{ranked}
 use Rattle.std.specs.FinMap as map
 use Rattle.std.proofs.lemmas.Map.Keys.{le_from_not_gt}
-use Rattle.blob_meta.proofs.Finite.{get_found}
+use Rattle.blob_meta.proofs.EntriesAsMap.{get_found}
 use Rattle.blob_meta.proofs.head_map.HeadMap.next_from.Goals as goal
 
 not_gt : (a b : ℕ) → a ≤ b → is_gt (nat_cmp a b) ≡ false
@@ -28,7 +28,9 @@ returns-in-Some-clause-some g c =
     record {
       there = rw (at next, first.1) refl;
       above = le_from_not_gt c.args.head next first.0.0;
-      none_between = λ h le lt. at h ∙ none_of _ (λ some. let least = rw c.in-Some.ensures.steps at (range.2 h (not_gt c.args.head h le, tt) some) in let low : next ≤ h = le_from_not_gt next h least in absurd (omega arith));
+      none_between = λ h le lt. at h ∙ none_of _ (λ some. let least =
+          rw c.in-Some.ensures.steps at (range.2 h (not_gt c.args.head h le, tt) some) in let low : next ≤ h =
+          le_from_not_gt next h least in absurd (omega arith));
     }
 
 pub returns-in-None-clause-none : goal.returns-in-None-clause-none

@@ -9,7 +9,7 @@ use Rattle.io_freeze.specs.declared.rows.Row.{Row}
 use Rattle.io_freeze.specs.Rows.{IsGap, generations_in}
 use Rattle.io_freeze.proofs.Found.{len-generations_in}
 use Rattle.io_freeze.proofs.Edits.{insert-All, insert-Rises}
-use Rattle.io_freeze.proofs.Seen.{seen, read_held, seen-insert, insert-thawed}
+use Rattle.io_freeze.proofs.RowViews.{seen, read_held, seen-insert, insert-thawed}
 use Rattle.io_freeze.proofs.guards.Guards.add.Goals as goal
 
 -- the head has a row: it would be held
@@ -17,7 +17,8 @@ pub unreachable-requires : goal.unreachable-requires
 unreachable-requires c =
     both_ways (is_some (map.get (generations_in c.self.inside.rows.items) c.args.head))
     (ap is_some (rw (← c.self.view_is) at c.requires.absent))
-    (read_held c.self.inside.rows.items c.args.head c.in_default.field-0 c.self.invariant.rises (rw c.deref.ensures.value at c.in_default.ensures))
+    (read_held c.self.inside.rows.items c.args.head c.in_default.field-0 c.self.invariant.rises
+    (rw c.deref.ensures.value at c.in_default.ensures))
 
 -- there is memory for the row
 pub unreachable-requires-then-is_err : goal.unreachable-requires-then-is_err
@@ -33,7 +34,8 @@ new_row c = record { head = c.args.head; generation = c.self.inside.drawn + 1; f
 gap : (c : goal.Else-is_err) → IsGap c.self.inside.rows.items c.args.head c.in-Err.place
 gap c = rw c.deref.ensures.value at c.in-Err.ensures
 
-new_items : (c : goal.Else-is_err) → c.insert.new.self.items ≡ insert c.self.inside.rows.items c.in-Err.place (new_row c)
+new_items : (c : goal.Else-is_err)
+    → c.insert.new.self.items ≡ insert c.self.inside.rows.items c.in-Err.place (new_row c)
 unfolding new_row
 new_items c =
     let rows = c.self.inside.rows.items in
@@ -52,7 +54,8 @@ invariant_of-self c =
       rises = insert-Rises rows c.in-Err.place (new_row c) (gap c) c.self.invariant.rises;
       numbered =
           insert-All (λ r. r.generation ≤ drawn + 1) rows c.in-Err.place (new_row c)
-          (All-weaker (λ r. r.generation ≤ drawn) (λ r. r.generation ≤ drawn + 1) (λ r le. omega arith) rows c.self.invariant.numbered)
+          (All-weaker (λ r. r.generation ≤ drawn) (λ r. r.generation ≤ drawn + 1)
+          (λ r le. omega arith) rows c.self.invariant.numbered)
           (omega arith);
       within = omega arith;
       reserved = omega (arith, c.self.invariant.reserved, c.insert.ensures.capacity);
@@ -65,9 +68,11 @@ returns-clause-added c =
     let room = c.self.inside.room in
     rw (← c.self.view_is)
     (ap (λ (rows : List Row). seen rows (drawn + 1) room) (new_items c)
-    ∙ seen-insert c.self.inside.rows.items (new_row c) c.in-Err.place c.self.invariant.rises (gap c) refl drawn room refl)
+    ∙ seen-insert c.self.inside.rows.items (new_row c) c.in-Err.place c.self.invariant.rises
+    (gap c) refl drawn room refl)
 
 pub returns-clause-not_frozen : goal.returns-clause-not_frozen
 unfolding new_row
 returns-clause-not_frozen c =
-    rw (new_items c) (insert-thawed c.self.inside.rows.items (new_row c) c.in-Err.place c.self.invariant.rises (gap c) refl)
+    rw (new_items c)
+    (insert-thawed c.self.inside.rows.items (new_row c) c.in-Err.place c.self.invariant.rises (gap c) refl)

@@ -3,7 +3,7 @@ use Rattle.std.specs.Prelude.{is_some}
 use Rattle.std.specs.FinMap as map
 use Rattle.std.proofs.lemmas.Bool.{both_ways}
 use Rattle.io_freeze.specs.Rows.{generations_in}
-use Rattle.io_freeze.proofs.Seen.{seen-freeze, read_none}
+use Rattle.io_freeze.proofs.RowViews.{seen-freeze, read_none}
 use Rattle.io_freeze.proofs.guards.Guards.freeze.Goals as goal
 
 pub returns : goal.returns
@@ -15,5 +15,7 @@ returns c =
 pub unreachable-requires : goal.unreachable-requires
 unreachable-requires c =
     both_ways (is_some (map.get (generations_in c.self.inside.rows.items) c.args.head))
-    (ap is_some (read_none c.self.inside.rows.items c.args.head c.in_default.field-0 c.self.invariant.rises (rw c.deref.ensures.value at c.in_default.ensures)))
+    (ap is_some
+    (read_none c.self.inside.rows.items c.args.head c.in_default.field-0 c.self.invariant.rises
+    (rw c.deref.ensures.value at c.in_default.ensures)))
     (rw (← c.self.view_is) at c.requires)

@@ -1,5 +1,5 @@
 use Rattle.std.proofs.Common.{sym}
-use Rattle.io_freeze.proofs.Seen.{read_generation, read_none}
+use Rattle.io_freeze.proofs.RowViews.{read_generation, read_none}
 use Rattle.io_freeze.proofs.guards.Guards.generation.Goals as goal
 
 pub returns-in-Ok-clause-value : goal.returns-in-Ok-clause-value
@@ -11,4 +11,5 @@ returns-in-Ok-clause-value c =
 pub returns-in-Err-clause-value : goal.returns-in-Err-clause-value
 returns-in-Err-clause-value c =
     rw (← c.self.view_is)
-    (sym (read_none c.self.inside.rows.items c.args.head c.in-Err.field-0 c.self.invariant.rises (rw c.deref.ensures.value at c.in-Err.ensures)))
+    (sym (read_none c.self.inside.rows.items c.args.head c.in-Err.field-0 c.self.invariant.rises
+    (rw c.deref.ensures.value at c.in-Err.ensures)))

@@ -1,4 +1,4 @@
-use Rattle.io_freeze.proofs.Seen.{seen-remove, absent_removed}
+use Rattle.io_freeze.proofs.RowViews.{seen-remove, absent_removed}
 use Rattle.io_freeze.proofs.guards.Guards.remove.Goals as goal
 
 pub returns-in-Ok : goal.returns-in-Ok
@@ -9,4 +9,6 @@ returns-in-Ok c =
 
 pub returns-in_default : goal.returns-in_default
 returns-in_default c =
-    rw (← c.self.view_is) (absent_removed c.self.inside.rows.items c.args.head c.in_default.field-0 c.self.invariant.rises (rw c.deref.ensures.value at c.in_default.ensures) c.self.inside.drawn c.self.inside.room)
+    rw (← c.self.view_is)
+    (absent_removed c.self.inside.rows.items c.args.head c.in_default.field-0 c.self.invariant.rises
+    (rw c.deref.ensures.value at c.in_default.ensures) c.self.inside.drawn c.self.inside.room)

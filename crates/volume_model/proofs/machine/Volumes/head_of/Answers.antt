@@ -9,4 +9,5 @@ each (Some h) P all = all h refl
 
 pub returns-in-Named-clause-there : goal.returns-in-Named-clause-there
 returns-in-Named-clause-there c = each c.head_named.result (λ h. IsSome (volumes_in c.args.self.now h))
-    (λ h is. named_there c.args.self.now.fixed (volumes_in c.args.self.now) c.bytes.result.now h (sym c.head_named.ensures ∙ is))
+    (λ h is. named_there c.args.self.now.fixed (volumes_in c.args.self.now) c.bytes.result.now h
+    (sym c.head_named.ensures ∙ is))

@@ -11,14 +11,17 @@ use Rattle.volume_model.proofs.machine.Volumes.infos.Goals.{in-Some+in_ok-push, 
 
 pub loop-head-preserved : goal.loop-head-preserved
 loop-head-preserved c =
-    let told = λ (h : ℕ). if is_super c.args.self.now.fixed h then None else info_at c.args.self.now.fixed (volumes_in c.args.self.now) h in
+    let told = λ (h : ℕ). if is_super c.args.self.now.fixed h then None else info_at c.args.self.now.fixed
+    (volumes_in c.args.self.now) h in
     let so_far = filter_map told (range_with_len 0 c.loop-head.head) in
     let more = filter_map_range_more told c.loop-head.head in
     elim c.match-branch-2.branch [
       | in-Some+in_ok-push w ↦
           let is : Some w.in-Some.info ≡ told c.loop-head.head = sym w.in-Some.is ∙ c.in_ok-info.ensures in
-          w.infos-is ∙ w.in_ok-push.ensures.ok ∙ ap (λ xs. xs ++ w.in-Some.info ∷ []) c.loop-head.invariant ∙ ap (λ (o : Option Info). so_far ++ cons_option o []) is ∙ sym more
+          w.infos-is ∙ w.in_ok-push.ensures.ok ∙ ap (λ xs. xs ++ w.in-Some.info ∷ []) c.loop-head.invariant
+          ∙ ap (λ (o : Option Info). so_far ++ cons_option o []) is ∙ sym more
       | in_default w ↦
           let is : None ≡ told c.loop-head.head = sym w.in_default.is ∙ c.in_ok-info.ensures in
-          w.infos-is ∙ c.loop-head.invariant ∙ sym (append-nil so_far) ∙ ap (λ (o : Option Info). so_far ++ cons_option o []) is ∙ sym more
+          w.infos-is ∙ c.loop-head.invariant ∙ sym (append-nil so_far)
+          ∙ ap (λ (o : Option Info). so_far ++ cons_option o []) is ∙ sym more
     ]

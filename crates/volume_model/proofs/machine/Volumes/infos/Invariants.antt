@@ -6,4 +6,5 @@ use Rattle.volume_model.specs.Volumes.{is_super}
 use Rattle.volume_model.proofs.machine.Volumes.infos.Given as goal
 
 abbrev pub invariant-loop-head : goal.invariant-loop-head
-invariant-loop-head l = l.infos ≡ filter_map (λ h. if is_super l.self.fixed h then None else info_at l.self.fixed (volumes_in l.self) h) (range_with_len 0 l.head)
+invariant-loop-head l = l.infos ≡ filter_map (λ h.
+    if is_super l.self.fixed h then None else info_at l.self.fixed (volumes_in l.self) h) (range_with_len 0 l.head)

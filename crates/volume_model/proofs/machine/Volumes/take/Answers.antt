@@ -8,4 +8,5 @@ returns-clause-rest c =
     rw empty (set_rows _ _ _ c.self.view_is c.args.head None (in_use _ _ _ c.self.view_is c.args.head c.requires))
 
 pub returns-clause-room : goal.returns-clause-room
-returns-clause-room c = set_length _ _ _ c.self.view_is c.args.head c.take.new.self (in_use _ _ _ c.self.view_is c.args.head c.requires)
+returns-clause-room c = set_length _ _ _ c.self.view_is c.args.head c.take.new.self
+    (in_use _ _ _ c.self.view_is c.args.head c.requires)

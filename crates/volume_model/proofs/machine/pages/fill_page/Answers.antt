@@ -8,4 +8,6 @@ pub returns : goal.returns
 unfolding fill_page
 returns c =
     let eight : length c.to_le_bytes-bytes.result ≡ 8 = ap length c.to_le_bytes-bytes.ensures in
-    all_repeat c.loop-at.byte-items c.to_le_bytes-bytes.result c.loop-at-test.array_long eight (λ k lt. c.loop-at.invariant k (omega (arith, lt, c.loop-at-test.false))) ∙ ap (repeat 512) c.to_le_bytes-bytes.ensures
+    all_repeat c.loop-at.byte-items c.to_le_bytes-bytes.result c.loop-at-test.array_long eight
+    (λ k lt. c.loop-at.invariant k (omega (arith, lt, c.loop-at-test.false)))
+    ∙ ap (repeat 512) c.to_le_bytes-bytes.ensures

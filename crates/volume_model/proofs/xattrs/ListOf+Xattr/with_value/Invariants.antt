@@ -4,4 +4,5 @@ use Rattle.volume_model.proofs.xattrs.ListOf+Xattr.with_value.Given as goal
 
 abbrev pub invariant-loop-xattr : goal.invariant-loop-xattr
 invariant-loop-xattr l =
-    l.list ++ (if l.is_set then drop l.xattr-index l.xattr-items else with_value (drop l.xattr-index l.xattr-items) l.key l.value) ≡ with_value l.xattr-items l.key l.value
+    l.list ++ (if l.is_set then drop l.xattr-index l.xattr-items else with_value (drop l.xattr-index l.xattr-items)
+    l.key l.value) ≡ with_value l.xattr-items l.key l.value

@@ -1,9 +1,0 @@
-use Rattle.std.proofs.Common.{length}
-use Rattle.blob_tool.proofs.Offering.{IsOffering}
-use Rattle.blob_tool.proofs.printing.offer.Given as goal
-
-abbrev pub invariant-loop-rest : goal.invariant-loop-rest
-invariant-loop-rest g l = IsOffering g.K.Sink.tells l.fn.text l.rest (g.K.Sink.written l.fn.sink) (g.K.Sink.written l.sink) (g.K.Sink.faults l.fn.sink) (g.K.Sink.faults l.sink)
-
-abbrev pub decreases-loop-rest : goal.decreases-loop-rest
-decreases-loop-rest g l = length l.rest

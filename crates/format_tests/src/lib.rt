@@ -1,0 +1,14 @@
+//! Tests of the crates that a store's pages stand on: `page_fields`, `md_page`, `super_block`, `bit_array`, `pools` and
+//! `io_freeze`.
+#![tactic(auto)]
+
+#[cfg(test)]
+mod guards;
+#[cfg(test)]
+mod masks;
+#[cfg(test)]
+mod page;
+#[cfg(test)]
+mod pool;
+#[cfg(test)]
+mod super_page;

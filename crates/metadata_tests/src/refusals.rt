@@ -1,0 +1,123 @@
+//! Each cause of a refusal.
+
+ghost use Rattle.std.specs.Prelude.{◌≡◌, Some, IfOk};
+ghost use Rattle.blob_meta.specs.Asked.{head_in};
+
+use crate::fixtures::small;
+use blob_meta::{Flags, Meta, Metas, refusal_of};
+use descriptors::SlotMap;
+use std::alloc::Global;
+use std::test::Fail;
+use super_block::Super;
+use volume_model::{Blobtext, Command, Memory, Reply, VolumeRef, XattrList};
+
+/// What is asked, with the length of the value.
+#[derive(Clone, Copy)]
+enum Verb {
+    Set(usize),
+    Remove,
+    Tell,
+    Put(usize),
+    Sync,
+}
+
+fn value(alloc: Global, length: usize) -> Result<Blobtext, Memory> {
+    Blobtext::new(alloc, &[0x61; 4096][..length.min(4096)])
+}
+
+fn command(alloc: Global, verb: Verb, head: u32, key: Blobtext) -> Result<Command, Memory>
+    ensures { IfOk result (λ c. head_in c ≡ Some head) }
+{
+    let volume = VolumeRef::Head(head);
+    match verb {
+        Verb::Set(length) => Ok(Command::SetX {
+            volume,
+            key,
+            value: value(alloc, length)?,
+        }),
+        Verb::Remove => Ok(Command::DelX { volume, key }),
+        Verb::Tell => Ok(Command::GetX { volume, key }),
+        Verb::Put(length) => Ok(Command::Put {
+            volume,
+            key,
+            value: value(alloc, length)?,
+        }),
+        Verb::Sync => Ok(Command::Sync { volume }),
+    }
+}
+
+fn blob(alloc: Global, head: u32, data_ro: u64) -> Meta {
+    Meta {
+        id: (1 << 32) + u64::from(head),
+        flags: Flags {
+            invalid: 0,
+            data_ro,
+            md_ro: 0,
+        },
+        xattrs: XattrList::new(alloc),
+        internal: XattrList::new(alloc),
+        map: SlotMap::new(alloc),
+    }
+}
+
+/// What is answered where a blob's live attribute is `owner` alone.
+fn asked(
+    alloc: Global,
+    metas: &Metas,
+    sup: &Super,
+    verb: Verb,
+    head: u32,
+    key: &[u8],
+) -> Result<Option<Reply>, Memory> {
+    let owner = Blobtext::new(alloc, b"owner")?;
+    let live = XattrList::new(alloc).with_value(alloc, owner.bytes(), owner.bytes())?;
+    let command = command(alloc, verb, head, Blobtext::new(alloc, key)?)?;
+    match metas.get(head) {
+        Some(_) => Ok(refusal_of(metas, sup, Some(&live), &command)),
+        None => Ok(refusal_of(metas, sup, None, &command)),
+    }
+}
+
+#[test]
+fn the_first_cause_is_answered(rt: HostRuntime) -> Result<(), Fail> {
+    let alloc = rt.alloc();
+    // The super blob is at 2, a blob that can be written at 5, a read-only one at 6, and none at 9.
+    let mut metas = Metas::new(alloc);
+    metas.insert(2, blob(alloc, 2, 0))?;
+    metas.insert(5, blob(alloc, 5, 0))?;
+    metas.insert(6, blob(alloc, 6, 1))?;
+    let sup = small((1 << 32) + 2)?;
+    let cases: &[(Verb, u32, &[u8], &str)] = &[
+        (Verb::Set(3), 9, b"name", "Some(NoVolume)"),
+        (Verb::Set(3), 2, b"owner", "Some(Reserved)"),
+        (Verb::Set(3), 6, b"name", "Some(Reserved)"),
+        (Verb::Set(4059), 6, b"owner", "Some(ReadOnly)"),
+        (Verb::Set(4059), 5, b"owner", "Some(TooLong)"),
+        (Verb::Set(4058), 5, b"owner", "None"),
+        (Verb::Remove, 9, b"name", "Some(NoVolume)"),
+        (Verb::Remove, 2, b"color", "Some(Reserved)"),
+        (Verb::Remove, 6, b"uuid", "Some(Reserved)"),
+        (Verb::Remove, 6, b"color", "Some(ReadOnly)"),
+        (Verb::Remove, 5, b"color", "Some(NoValue)"),
+        (Verb::Remove, 5, b"owner", "None"),
+        (Verb::Tell, 9, b"color", "Some(NoVolume)"),
+        (Verb::Tell, 5, b"color", "Some(NoValue)"),
+        (Verb::Tell, 5, b"name", "Some(NoValue)"),
+        (Verb::Tell, 2, b"owner", "None"),
+        (Verb::Tell, 6, b"owner", "None"),
+        (Verb::Put(3), 9, b"uuid", "Some(NoVolume)"),
+        (Verb::Put(3), 5, b"uuid", "Some(Reserved)"),
+        (Verb::Put(4059), 6, b"owner", "Some(ReadOnly)"),
+        (Verb::Put(4059), 5, b"owner", "Some(TooLong)"),
+        (Verb::Put(4058), 5, b"owner", "None"),
+        (Verb::Sync, 9, b"", "Some(NoVolume)"),
+        (Verb::Sync, 2, b"", "Some(Reserved)"),
+        (Verb::Sync, 6, b"", "Some(ReadOnly)"),
+        (Verb::Sync, 5, b"", "None"),
+    ];
+    for (verb, head, key, wanted) in cases {
+        let found = asked(alloc, &metas, &sup, *verb, *head, key)?;
+        assert_eq!(rt; format!(in alloc; "{found:?}")?.as_str(), *wanted);
+    }
+    Ok(())
+}

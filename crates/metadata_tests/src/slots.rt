@@ -1,0 +1,47 @@
+//! Maps of slots and their runs.
+
+use crate::fixtures::{THREE_RUNS, list_of};
+use descriptors::{MapFault, SlotMap, runs_of, slots_of};
+use std::test::Fail;
+use volume_model::{SlotRun, TryCopy};
+
+#[test]
+fn a_map_and_its_runs(rt: HostRuntime) -> Result<(), Fail> {
+    let mut map = SlotMap::new(rt.alloc());
+    map.push_run(Some(5), 2)?;
+    map.push_run(Some(7), 1)?;
+    map.push_run(None, 3)?;
+    map.set(5, Some(9))?;
+    assert_eq!(rt;
+        (map.len(), map.get(2), map.get(3), map.get(5)),
+        (6, Some(7), None, Some(9))
+    );
+    let runs = runs_of(rt.alloc(), &map)?;
+    assert_eq!(rt; runs.as_slice(), THREE_RUNS.as_slice());
+    let mut copy = map.try_copy(rt.alloc())?;
+    copy.cut(4);
+    let runs = runs_of(rt.alloc(), &copy)?;
+    assert_eq!(rt; runs.len(), 2);
+    Ok(())
+}
+
+#[test]
+fn runs_and_their_map(rt: HostRuntime) -> Result<(), Fail> {
+    let mut runs = list_of(rt.alloc(), &THREE_RUNS[..2])?;
+    let map = slots_of(rt.alloc(), &runs)
+        .ok()
+        .ok_or("a map of five slots")?;
+    assert_eq!(rt;
+        map.as_slice(),
+        [Some(5), Some(6), Some(7), None, None].as_slice()
+    );
+    runs.push(SlotRun {
+        cluster: 0,
+        length: 1 << 20,
+    })?;
+    match slots_of(rt.alloc(), &runs) {
+        Err(MapFault::TooLarge { slots }) => assert_eq!(rt; slots, 1048581),
+        _ => assert!(rt; false, "too many slots"),
+    }
+    Ok(())
+}

@@ -1,0 +1,88 @@
+-- What a word says by the form that it has to have, and what is wrong with a word that doesn't have it.
+use Rattle.std.specs.Prelude.{ℕ, ◌==◌, ◌++◌, if◌then◌else◌, List, [], ◌∷◌, Bool, true, false, Option, Some, None, Result, Ok, Err, slice_index}
+use Rattle.std.specs.Option.{option_map}
+use Rattle.uuid.specs.Text.{parsed}
+use Rattle.volume_model.specs.declared.command.VolumeRef.{VolumeRef}
+use Rattle.volume_model.specs.declared.command.VolumeRef.TheVariants.{Head, Named}
+use Rattle.script_lang.specs.declared.fault.LineKind.{LineKind}
+use Rattle.script_lang.specs.declared.fault.LineKind.TheVariants as kind
+use Rattle.script_lang.specs.declared.form.Form.{Form}
+use Rattle.script_lang.specs.declared.form.Form.TheVariants as form
+use Rattle.script_lang.specs.declared.form.Value.{Value}
+use Rattle.script_lang.specs.declared.form.Value.TheVariants as value
+use Rattle.script_lang.specs.declared.grammar.Grammar.{Grammar}
+use Rattle.script_lang.specs.Grammar.{has_names}
+use Rattle.script_lang.specs.Words.{number_in, count_in, head_in, name_in, thickness_in, key_in, value_in}
+
+-- a volume, by its head or by its name
+abbrev pub volume_in : Grammar → List ℕ → Option VolumeRef
+volume_in grammar word =
+    if slice_index word 0 == 64 then option_map Head (head_in word)
+    else (if has_names grammar then option_map Named (name_in word) else None)
+
+-- what a word of this form says
+abbrev pub says_word : Grammar → Form → List ℕ → Option Value
+says_word grammar form.Volume word = option_map value.Volume (volume_in grammar word)
+says_word grammar form.Name word = option_map value.Name (name_in word)
+says_word grammar form.Number word = option_map value.Number (number_in word)
+says_word grammar form.Count word = option_map value.Number (count_in word)
+says_word grammar form.Thickness word = option_map value.Thick (thickness_in word)
+says_word grammar form.Uuid word = option_map value.Uuid (parsed word)
+says_word grammar form.Key word = option_map value.Text (key_in word)
+says_word grammar form.Value word = option_map value.Text (value_in word)
+
+-- what is wrong with a word that isn't of this form
+abbrev pub kind_of : Form → LineKind
+kind_of form.Volume = kind.Volume
+kind_of form.Name = kind.Volume
+kind_of form.Number = kind.Number
+kind_of form.Count = kind.Number
+kind_of form.Thickness = kind.Form
+kind_of form.Uuid = kind.Uuid
+kind_of form.Key = kind.KeyValue
+kind_of form.Value = kind.KeyValue
+
+abbrev pub is_form : LineKind → Bool
+is_form kind.Form = true
+is_form _ = false
+
+-- of two faults in a line, in their order: the first, but `Form` before all others
+abbrev pub worse : LineKind → LineKind → LineKind
+worse first later = if is_form later then later else first
+
+-- a fault after others, if there are any
+abbrev pub after : Option LineKind → LineKind → LineKind
+after None later = later
+after (Some first) later = worse first later
+
+-- a word by its form
+abbrev pub or_kind : Form → Option Value → Result (List Value) LineKind
+or_kind form (Some value) = Ok (value ∷ [])
+or_kind form None = Err (kind_of form)
+
+-- what words say, and then what further words say
+abbrev pub joined : Result (List Value) LineKind → Result (List Value) LineKind → Result (List Value) LineKind
+joined (Ok values) (Ok more) = Ok (values ++ more)
+joined (Ok values) (Err kind) = Err kind
+joined (Err kind) (Ok more) = Err kind
+joined (Err kind) (Err later) = Err (worse kind later)
+
+-- each word by its form, as far as there are words
+abbrev pub says_values : Grammar → List Form → List (List ℕ) → Result (List Value) LineKind
+says_values grammar [] words = Ok []
+says_values grammar (form ∷ forms) [] = Ok []
+says_values grammar (form ∷ forms) (word ∷ words) = joined (or_kind form (says_word grammar form word)) (says_values grammar forms words)
+
+-- a value before others; none where it is missing
+abbrev pub onto : Option Value → List Value → List Value
+onto None more = []
+onto (Some value) more = value ∷ more
+
+-- values one by one, up to the first that is missing
+abbrev pub listed : Option Value → Option Value → Option Value → Option Value → List Value
+listed first second third fourth = onto first (onto second (onto third (onto fourth [])))
+
+-- what words said so far
+abbrev pub so_far : List Value → Option LineKind → Result (List Value) LineKind
+so_far values None = Ok values
+so_far values (Some kind) = Err kind

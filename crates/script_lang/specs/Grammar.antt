@@ -1,0 +1,25 @@
+-- What is read of the grammar: the whole, or what the program serves so far.
+use Rattle.std.specs.Prelude.{ℕ, Bool, true, false}
+use Rattle.script_lang.specs.declared.grammar.Grammar.{Grammar}
+use Rattle.script_lang.specs.declared.grammar.Grammar.TheVariants as g
+use Rattle.script_lang.specs.declared.verb.Verb.{Verb}
+use Rattle.script_lang.specs.declared.verb.Verb.TheVariants as v
+
+abbrev pub serves : Grammar → Verb → Bool
+serves g.Whole verb = true
+serves g.Served v.SetX = true
+serves g.Served v.DelX = true
+serves g.Served v.GetX = true
+serves g.Served v.Put = true
+serves g.Served v.Sync = true
+serves g.Served verb = false
+
+-- how many channels there are
+abbrev pub channels_of : Grammar → ℕ
+channels_of g.Whole = 16
+channels_of g.Served = 1
+
+-- whether a volume may be named by its name, and not by its head alone
+abbrev pub has_names : Grammar → Bool
+has_names g.Whole = true
+has_names g.Served = false

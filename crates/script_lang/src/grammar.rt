@@ -1,0 +1,49 @@
+//! What is read of the grammar.
+
+ghost use Rattle.std.specs.Prelude.{◌≡◌, ◌≤◌};
+ghost use Rattle.script_lang.specs.Grammar.{serves as serves_said, channels_of, has_names as names_said};
+
+use crate::verb::Verb;
+
+/// The whole grammar of scripts, or what the program serves of it so far.
+#[derive(Clone, Copy, Debug, PartialEq, Eq)]
+pub enum Grammar {
+    Whole,
+    Served,
+}
+
+impl Grammar {
+    /// Whether a verb is read; another is as good as unknown.
+    pub fn serves(self, verb: Verb) -> bool
+        ensures { result ≡ serves_said self verb }
+    {
+        match self {
+            Grammar::Whole => true,
+            Grammar::Served => matches!(
+                verb,
+                Verb::SetX | Verb::DelX | Verb::GetX | Verb::Put | Verb::Sync
+            ),
+        }
+    }
+
+    /// How many channels there are.
+    pub fn channels(self) -> u8
+        ensures channels { result ≡ channels_of self }
+        ensures few { result ≤ 16 }
+    {
+        match self {
+            Grammar::Whole => 16,
+            Grammar::Served => 1,
+        }
+    }
+
+    /// Whether a volume may be named by its name, and not by its head alone.
+    pub fn has_names(self) -> bool
+        ensures { result ≡ names_said self }
+    {
+        match self {
+            Grammar::Whole => true,
+            Grammar::Served => false,
+        }
+    }
+}

@@ -1,0 +1,108 @@
+//! Devices with a store, for tests.
+
+use md_page::MdPage;
+use page_disk::{MemDisk, Page, PageDisk, WriteKind};
+use std::alloc::Global;
+use std::process::Abort;
+use std::test::Fail;
+use super_block::{Layout, write_super};
+
+/// The number that stands for no next page.
+pub const LAST: u32 = 0xFFFF_FFFF;
+
+/// One metadata page: its place in the region, the head of its blob, its sequence, its next place and its descriptors.
+pub type Row = (u32, u32, u32, u32, &'static [&'static [u8]]);
+
+/// Flags of zeros, those of a thin blob, and those of a blob whose data is read-only.
+pub const THICK: &[u8] = b"\x03\x18\0\0\0\0\0\0\0\0\0\0\0\0\0\0\0\0\0\0\0\0\0\0\0\0\0\0\0";
+
+pub const THIN: &[u8] = b"\x03\x18\0\0\0\x01\0\0\0\0\0\0\0\0\0\0\0\0\0\0\0\0\0\0\0\0\0\0\0";
+
+pub const READ_ONLY: &[u8] = b"\x03\x18\0\0\0\0\0\0\0\0\0\0\0\x01\0\0\0\0\0\0\0\0\0\0\0\0\0\0\0";
+
+/// A name and a uuid: with the flags 94 bytes.
+const NAMED: &[u8] = b"\x02\x0A\0\0\0\x04\0\x02\0namev\0\
+    \x02\x2D\0\0\0\x04\0\x25\0uuid11223344-5566-4788-99aa-bbccddeeff00\0";
+
+/// An attribute `k` with a value of 4062 times the letter x: they fill the page.
+const KEY: &[u8] = b"\x02\xE3\x0F\0\0\x01\0\xDE\x0Fk";
+
+const LETTERS: &[u8] = &[b'x'; 4062];
+
+/// The runs of a map, four empty slots and the clusters 7 to 9: 21 bytes.
+const RUNS: &[u8] = b"\x01\x10\0\0\0\0\0\0\0\x04\0\0\0\x07\0\0\0\x03\0\0\0";
+
+/// The descriptors one after another, and then zeros.
+fn body_of(parts: &[&[u8]]) -> [u8; 4072] {
+    let mut body = [0; 4072];
+    let mut at: usize = 0;
+    for part in parts {
+        let end = at.saturating_add(part.len());
+        if end <= 4072 {
+            body[at..end].copy_from_slice(part);
+            at = end;
+        }
+    }
+    body
+}
+
+/// Writes a metadata page to a device whose metadata region begins at page 4.
+fn put(rt: &impl Abort, disk: &mut MemDisk, row: Row) -> Result<(), Fail> {
+    let (place, head, sequence, next, parts) = row;
+    let md = MdPage {
+        id: (1 << 32) + u64::from(head),
+        sequence,
+        body: body_of(parts),
+        next,
+    };
+    let mut page: Page = [0; 4096];
+    md_page::write(&md, &mut page);
+    let at = 4 + u64::from(place);
+    assert!(rt; at < disk.pages());
+    disk.write(at, &page, WriteKind::Whole)?;
+    Ok(())
+}
+
+/// A device of so many pages with a store, which has clusters of 4 pages and so many metadata pages from page 4 on, with these
+/// in them. Its masks are zeros.
+pub fn image(
+    rt: &impl Abort,
+    alloc: Global,
+    sizes: (u64, u32),
+    rows: &[Row],
+) -> Result<MemDisk, Fail> {
+    let (pages, md_pages) = sizes;
+    let mut disk = MemDisk::new(alloc, pages, 64)?;
+    let sup = Layout::plan(pages, 4, Some(md_pages))?.new_super(u64::MAX, [0; 16]);
+    let mut page: Page = [0; 4096];
+    write_super(&sup, &mut page);
+    assert!(rt; 0 < disk.pages());
+    disk.write(0, &page, WriteKind::Whole)?;
+    for row in rows {
+        put(rt, &mut disk, *row)?;
+    }
+    disk.flush()?;
+    Ok(disk)
+}
+
+/// A device of 64 pages whose only blob, at place 0 of 16, has flags of zeros and no attribute.
+pub fn store(rt: &impl Abort, alloc: Global) -> Result<MemDisk, Fail> {
+    image(rt, alloc, (64, 16), &[(0, 0, 0, LAST, &[THICK])])
+}
+
+/// The device with two such blobs, at places 0 and 1.
+pub fn two_blobs(rt: &impl Abort, alloc: Global) -> Result<MemDisk, Fail> {
+    let rows: [Row; 2] = [(0, 0, 0, LAST, &[THICK]), (1, 1, 0, LAST, &[THICK])];
+    image(rt, alloc, (64, 16), &rows)
+}
+
+/// The device whose only blob, at place 0, is a volume with a name, a uuid, a value `k` of 4062 times the letter x, and a map:
+/// a chain of three pages, at the places 0 to 2.
+pub fn volume(rt: &impl Abort, alloc: Global, md_pages: u32) -> Result<MemDisk, Fail> {
+    let rows: [Row; 3] = [
+        (0, 0, 0, 1, &[THIN, NAMED]),
+        (1, 0, 1, 2, &[KEY, LETTERS]),
+        (2, 0, 2, LAST, &[RUNS]),
+    ];
+    image(rt, alloc, (64, md_pages), &rows)
+}

@@ -1,0 +1,3 @@
+mod Offering
+mod Taken
+mod Lines

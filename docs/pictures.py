@@ -1,0 +1,184 @@
+#!/usr/bin/env python3
+"""Draws docs/crates.svg and docs/commit.svg. Run it where a crate or a device call of the commit has changed."""
+import pathlib
+
+HERE = pathlib.Path(__file__).parent
+INK, PALE, WAY, OLD, NEW, OPEN = "#1c1c1c", "#8a8a8a", "#b3261e", "#dfe7f3", "#f6d9a8", "#ececec"
+
+
+class Picture:
+    def __init__(self, width, height):
+        self.width, self.height, self.parts = width, height, []
+
+    def add(self, part):
+        self.parts.append(part)
+
+    def box(self, x, y, w, h, fill="#ffffff", stroke=INK, dash=None):
+        more = f' stroke-dasharray="{dash}"' if dash else ""
+        self.add(f'<rect x="{x}" y="{y}" width="{w}" height="{h}" rx="5" fill="{fill}" stroke="{stroke}"{more}/>')
+
+    def text(self, x, y, words, size=14, anchor="middle", fill=INK, bold=False):
+        weight = ' font-weight="bold"' if bold else ""
+        words = words.replace("&", "&amp;").replace("<", "&lt;")
+        at = f'x="{x}" y="{y}" font-size="{size}" text-anchor="{anchor}"'
+        self.add(f'<text {at} fill="{fill}"{weight}>{words}</text>')
+
+    def arrow(self, points, colour=WAY):
+        path = " ".join(f"{x},{y}" for x, y in points)
+        line = f'fill="none" stroke="{colour}" stroke-width="2.5" marker-end="url(#tip)"'
+        self.add(f'<polyline points="{path}" {line}/>')
+
+    def badge(self, x, y, number):
+        self.add(f'<circle cx="{x}" cy="{y}" r="10" fill="{WAY}"/>')
+        self.text(x, y + 5, str(number), 13, fill="#ffffff", bold=True)
+
+    def save(self, name):
+        head = (
+            f'<svg xmlns="http://www.w3.org/2000/svg" viewBox="0 0 {self.width} {self.height}" '
+            f'width="{self.width}" height="{self.height}" font-family="DejaVu Sans Mono, monospace">\n'
+            f'<defs><marker id="tip" viewBox="0 0 10 10" refX="9" refY="5" markerWidth="7" markerHeight="7" '
+            f'orient="auto"><path d="M0,0 L10,5 L0,10 z" fill="{WAY}"/></marker></defs>\n'
+            f'<rect width="{self.width}" height="{self.height}" fill="#ffffff"/>\n'
+        )
+        (HERE / name).write_text(head + "\n".join(self.parts) + "\n</svg>\n")
+
+
+# ---- the crates in their layers
+
+COLUMN, ROW, LEFT, TOP = 170, 56, 170, 20
+# name: first column, last column, row; a crate stands on crates of lower rows alone
+CRATES = {
+    "blobtool": (1, 5, 0), "blob_tool": (1, 5, 1),
+    "script_lang": (1, 1, 2), "lvol_store": (3, 3, 2), "blob_report": (5, 5, 2),
+    "unclean_load": (2, 2, 3), "store_core": (4, 4, 4), "io_freeze": (3, 3, 5), "store_model": (4, 4, 5),
+    "md_chain": (2, 2, 6), "pools": (4, 4, 6), "blob_meta": (1, 1, 7), "md_page": (3, 3, 7),
+    "descriptors": (1, 1, 8), "super_block": (3, 3, 8),
+    "volume_model": (1, 1, 9), "page_fields": (3, 3, 9), "bit_array": (4, 4, 9),
+    "page_disk": (2, 5, 10), "out_of_memory": (1, 2, 11), "crc32c": (3, 5, 11),
+}
+BANDS = [
+    (0, 1, "the program"), (2, 2, "scripts, plans,|texts"), (3, 5, "the running|store"),
+    (6, 8, "metadata and|places"), (9, 9, "volumes, fields,|sets"), (10, 11, "the device and|the bottom"),
+]
+STEPS = [
+    "1  main opens the image, and hands over words, source, sink and device",
+    "2  the source's text becomes each channel's commands",
+    "3  the store of the image is loaded: super block, heads, chains; the device is only read",
+    "4  the driver posts a command; a put or a sync is planned from what the store shows",
+    "5  the store makes its turns: post, answer or refuse, or begin_job and job_turn; then settle",
+    "6  a turn of a job writes and flushes; its entry is logged, with the clock as its mark",
+    "7  the log is printed, an entry a line",
+]
+
+
+def place(name):
+    first, last, row = CRATES[name]
+    x = LEFT + (first - 1) * COLUMN + 8
+    return x, TOP + row * ROW + 9, (last - first + 1) * COLUMN - 16, ROW - 18
+
+
+def middle(column):
+    return LEFT + (column - 1) * COLUMN + COLUMN // 2
+
+
+def crates():
+    rows = max(row for _, _, row in CRATES.values()) + 1
+    picture = Picture(LEFT + 5 * COLUMN + 20, TOP + rows * ROW + 30 + 24 * len(STEPS))
+    for n, (first, last, name) in enumerate(BANDS):
+        y, height = TOP + first * ROW, (last - first + 1) * ROW
+        fill = "#f4f4f4" if n % 2 == 0 else "#ffffff"
+        picture.add(f'<rect x="10" y="{y}" width="{LEFT + 5 * COLUMN}" height="{height}" fill="{fill}"/>')
+        lines = name.split("|")
+        for k, line in enumerate(lines):
+            picture.text(20, y + height // 2 + 5 + 18 * k - 9 * (len(lines) - 1), line, 13, "start", PALE)
+    for name in CRATES:
+        x, y, w, h = place(name)
+        picture.box(x, y, w, h)
+        picture.text(x + w // 2, y + h // 2 + 5, name)
+
+    def top(name):
+        return place(name)[1]
+
+    def bottom(name):
+        return place(name)[1] + place(name)[3]
+
+    def down(number, column, start, end, shift=0):
+        x = middle(column) + shift
+        picture.arrow([(x, bottom(start)), (x, top(end))])
+        picture.badge(x + 16, (bottom(start) + min(top(end), bottom(start) + ROW)) // 2, number)
+
+    picture.arrow([(middle(3), bottom("blobtool")), (middle(3), top("blob_tool"))])
+    picture.badge(middle(3) + 16, (bottom("blobtool") + top("blob_tool")) // 2, 1)
+    for number, column, name in [(2, 1, "script_lang"), (4, 3, "lvol_store"), (7, 5, "blob_report")]:
+        picture.arrow([(middle(column), bottom("blob_tool")), (middle(column), top(name))])
+        picture.badge(middle(column) + 16, (bottom("blob_tool") + top(name)) // 2, number)
+    down(3, 2, "blob_tool", "unclean_load")
+    picture.arrow([(middle(2), bottom("unclean_load")), (middle(2), top("md_chain"))])
+    picture.arrow([(middle(2), bottom("md_chain")), (middle(2), top("page_disk"))])
+    down(5, 4, "blob_tool", "store_core")
+    x, y, w, h = place("store_core")
+    picture.arrow([(x + w, y + h // 2), (middle(5), y + h // 2), (middle(5), top("page_disk"))])
+    picture.badge(middle(5) + 16, y + h // 2 + ROW, 6)
+    for n, step in enumerate(STEPS):
+        picture.text(20, TOP + rows * ROW + 30 + 24 * n, step, 14, "start")
+    picture.save("crates.svg")
+
+
+# ---- the commit of a job
+
+WIDE, GAP = 224, 20
+COLUMNS = [
+    ("before the turn", None, [("old", "old or planned"), ("old", "torn")], ["each says the old", "metadata"]),
+    ("flush", 1, [("old", "planned")], ["one image: the fresh", "pages last"]),
+    ("write of the head", 2, [("old", "planned"), ("new", "planned")], ["the old metadata,", "or the new"]),
+    ("flush", 3, [("new", "planned")], ["one image: it says", "the new metadata"]),
+]
+SERVES = [
+    ["comes back to the", "log so far"],
+    ["comes back to the", "log so far"],
+    ["old: the log so far", "new: with the command"],
+    ["the log with its entry,", "whose mark is here"],
+]
+
+
+def card(picture, x, y, head, fresh):
+    picture.box(x, y, WIDE - 24, 66)
+    fills = {"old": OLD, "new": NEW, "planned": NEW, "torn": OPEN, "old or planned": OPEN}
+    for k, (name, what) in enumerate([("head", head), ("fresh", fresh)]):
+        picture.text(x + 12, y + 25 + 28 * k, name, 13, "start", PALE)
+        picture.box(x + 66, y + 8 + 28 * k, WIDE - 24 - 76, 22, fills[what])
+        picture.text(x + 66 + (WIDE - 100) // 2, y + 24 + 28 * k, what, 13)
+
+
+def commit():
+    left = 120
+    picture = Picture(left + 4 * (WIDE + GAP) + 10, 466)
+    rows = [(44, "device call"), (150, "images that"), (168, "a crash may"), (186, "leave"), (300, "say")]
+    for y, name in rows + [(360, "come back to")]:
+        picture.text(12, y, name, 13, "start", PALE)
+    for n, (call, number, images, says) in enumerate(COLUMNS):
+        x = left + n * (WIDE + GAP)
+        picture.box(x, 22, WIDE, 36, "#ffffff" if number is None else "#fbeceb", PALE if number is None else WAY)
+        picture.text(x + WIDE // 2 + (10 if number else 0), 45, call, 14, bold=number is not None)
+        if number:
+            picture.badge(x + 18, 40, number)
+        for k, (head, fresh) in enumerate(images):
+            card(picture, x + 12, 82 + 84 * k, head, fresh)
+        for k, line in enumerate(says):
+            picture.text(x + WIDE // 2, 296 + 18 * k, line, 13)
+        for k, line in enumerate(SERVES[n]):
+            picture.text(x + WIDE // 2, 356 + 18 * k, line, 13)
+        if n < 3:
+            picture.arrow([(x + WIDE + 2, 40), (x + WIDE + GAP - 2, 40)])
+    notes = [
+        "Each column is what a crash may leave behind its call; the head is written whole, so it is never torn.",
+        "Where a call fails the store stops: behind call 1 the images are those from before, behind call 2 or 3",
+        "the old and the new one. The entry is `fault` then, and the new image holds the change in progress.",
+    ]
+    for k, line in enumerate(notes):
+        picture.text(12, 412 + 20 * k, line, 13, "start")
+    picture.save("commit.svg")
+
+
+crates()
+commit()
