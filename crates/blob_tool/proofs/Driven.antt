@@ -4,15 +4,17 @@ use Rattle.std.specs.List.{AllByRecursion}
 use Rattle.std.proofs.lemmas.Bool.{cases_eq, cases_lt}
 use Rattle.page_disk.specs.declared.disk.PageDisk.{Ghosts}
 use Rattle.volume_model.specs.declared.command.Command.{Command}
+use Rattle.volume_model.specs.declared.command.Command.TheVariants as c
 use Rattle.blob_meta.specs.Asked.{IsOnHead}
-use Rattle.store_model.specs.Rows.{Row, Stage, Idle, Posted, InJob, Answered, Decided, Ended}
+use Rattle.store_model.specs.Rows.{Answered, Decided, Decision, Idle, Posted, Row, Ended}
 use Rattle.store_model.specs.Cases as kind
+use Rattle.store_core.specs.declared.rows.RowStage.{RowStage}
 use Rattle.store_core.specs.declared.rows.RowStage.TheVariants as told
 use Rattle.store_core.specs.declared.plant.SettleTurn.{SettleTurn}
 use Rattle.store_core.specs.declared.plant.SettleTurn.TheVariants as settle
 use Rattle.store_core.specs.Made.{Made}
 use Rattle.store_core.specs.Seen.{At, rows_of}
-use Rattle.store_core.specs.Stages.{is_stage}
+use Rattle.store_core.specs.Stages.{is_stage, waits_for}
 use Rattle.store_core.specs.Steps.{decided, OnlyRow}
 use Rattle.blob_tool.specs.Driving.{ended_row, IsWaiting}
 
@@ -35,22 +37,28 @@ pub record HasNext (row : Row) : Type 0 where
   pub on_head : IsOnHead command
   pub on_heads : AllByRecursion IsOnHead rest
 
+-- a command on a blob that is named by its head is one for the metadata thread
+on_head_meta : (command : Command) → IsOnHead command → waits_for command ≡ told.Meta
+on_head_meta (c.Read volume page) is = absurd (cc is)
+on_head_meta (c.Write volume page word) is = absurd (cc is)
+on_head_meta c.Flush is = absurd (cc is)
+on_head_meta _ is = refl
+
 pub next_of : (row : Row) (channel : ℕ) → is_stage row channel ≡ told.Meta → IsWaiting row → HasNext row
-next_of row channel is waiting = by row.left row.stage is waiting.on_heads refl
+next_of row channel is waiting = elim waiting.at [
+  | inl idle ↦ by row.left waiting.on_heads refl (ap (λ s. is_stage (record row { stage = s }) channel) (sym idle) ∙ is)
+  | inr ended ↦ absurd (let bad = sym (ap (λ (r : Row). is_stage r channel) ended) ∙ is in cc bad)
+]
   where
-    by : (left : List Command) (stage : Stage) → is_stage (record { left = left; stage = stage; claim = None }) channel ≡ told.Meta → AllByRecursion IsOnHead left → row.left ≡ left → HasNext row
-    by [] Idle is on e = absurd (cc is)
-    by (command ∷ rest) Idle is on e = record { command = command; rest = rest; left = e; on_head = on.0; on_heads = on.1 }
-    by left (Posted serial) is on e = absurd (cc is)
-    by left InJob is on e = absurd (cc is)
-    by left (Decided outcome) is on e = absurd (cc is)
-    by left Ended is on e = absurd (cc is)
+    by : (left : List Command) → AllByRecursion IsOnHead left → row.left ≡ left → is_stage (record row { stage = Idle }) channel ≡ told.Meta → HasNext row
+    by [] on e stage = absurd (let bad = sym (ap (λ (l : List Command). is_stage (record row { left = l; stage = Idle }) channel) e) ∙ stage in cc bad)
+    by (command ∷ rest) on e stage = record { command = command; rest = rest; left = e; on_head = on.0; on_heads = on.1 }
 
 -- what a turn of settling comes to, where the command is logged
-pub settled : {D : Type 0} (d : Ghosts D) (p q : At D) (channel : ℕ) (turn : SettleTurn) → (rows_of p.rows channel).stage ≡ Decided Answered → (turn ≡ settle.Waiting → (rows_of p.rows channel).stage ≢ Decided Answered)
+pub settled : {D : Type 0} (d : Ghosts D) (p q : At D) (channel : ℕ) (turn : SettleTurn) → (rows_of p.rows channel).stage ≡ Decided Answered → (turn ≡ settle.Waiting → (outcome : Decision) → (rows_of p.rows channel).stage ≢ Decided outcome)
     → (turn ≡ settle.Logged → Made d p q kind.settles) → (turn ≡ settle.Logged → OnlyRow p.rows q.rows channel (record (rows_of p.rows channel) { stage = Idle }))
     → OnlyRow p.rows q.rows channel (record (rows_of p.rows channel) { stage = Idle }) × (q.job ≡ p.job)
-settled d p q channel settle.Waiting is waits made row = absurd (waits refl is)
+settled d p q channel settle.Waiting is waits made row = absurd (waits refl Answered is)
 settled d p q channel settle.Logged is waits made row = (row refl, ap (λ s. s.job) (made refl).0.next)
 
 module _ {D : Type 0} (first p posted served q : At D) (channel : ℕ) (serves : Serves first p channel) (next : HasNext (rows_of p.rows channel)) (serial : ℕ)
@@ -64,7 +72,7 @@ module _ {D : Type 0} (first p posted served q : At D) (channel : ℕ) (serves :
   pub serves_on : q.job ≡ None → Serves first q channel
   serves_on none = record {
     others = λ other ne. settles.others other ne ∙ logs.others other ne ∙ posts.others other ne ∙ serves.others other ne;
-    waiting = subst IsWaiting (sym row_now) (record { on_heads = next.on_heads; at = inl refl });
+    waiting = subst IsWaiting (sym row_now) (record { on_heads = next.on_heads; at = inl refl; unclaimed = refl });
     no_job = none;
   }
 
@@ -74,17 +82,13 @@ module _ {D : Type 0} (first p posted served q : At D) (channel : ℕ) (serves :
 -- no command is left to post
 pub over : (row : Row) (channel : ℕ) → IsWaiting row → (is_stage row channel ≡ told.Meta → ⊥) → (is_stage row channel ≡ told.Over → ⊥) → row ≡ ended_row
 over row channel waiting no_meta not_over = elim waiting.at [
-  | inl idle ↦ absurd (by row.left row.stage idle no_meta not_over)
+  | inl idle ↦ absurd (by row.left waiting.on_heads refl (λ s. ap (λ x. is_stage (record row { stage = x }) channel) idle ∙ s))
   | inr ended ↦ ended
 ]
   where
-    by : (left : List Command) (stage : Stage) → stage ≡ Idle → (is_stage (record { left = left; stage = stage; claim = None }) channel ≡ told.Meta → ⊥) → (is_stage (record { left = left; stage = stage; claim = None }) channel ≡ told.Over → ⊥) → ⊥
-    by [] Idle is no_meta not_over = not_over refl
-    by (command ∷ rest) Idle is no_meta not_over = no_meta refl
-    by left (Posted serial) is no_meta not_over = cc is
-    by left InJob is no_meta not_over = cc is
-    by left (Decided outcome) is no_meta not_over = cc is
-    by left Ended is no_meta not_over = cc is
+    by : (left : List Command) → AllByRecursion IsOnHead left → row.left ≡ left → ({s : RowStage} → is_stage (record row { stage = Idle }) channel ≡ s → is_stage row channel ≡ s) → ⊥
+    by [] on e same = not_over (same (ap (λ (l : List Command). is_stage (record row { left = l; stage = Idle }) channel) e))
+    by (command ∷ rest) on e same = no_meta (same (ap (λ (l : List Command). is_stage (record row { left = l; stage = Idle }) channel) e ∙ on_head_meta command on.0))
 
 pub ended_so : {D : Type 0} (first p q : At D) (channel : ℕ) → Serves first p channel → rows_of p.rows channel ≡ record { left = []; stage = Idle; claim = None } → OnlyRow p.rows q.rows channel (record (rows_of p.rows channel) { stage = Ended })
     → OnlyRow first.rows q.rows channel ended_row

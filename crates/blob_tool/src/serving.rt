@@ -2,8 +2,8 @@
 
 ghost use Rattle.std.specs.Prelude.{◌≡◌, None};
 ghost use Rattle.blob_meta.specs.Asked.{IsOnHead};
-ghost use Rattle.store_model.specs.Rows.{InJob, Posted};
-ghost use Rattle.store_core.specs.Requests.{asked_by};
+ghost use Rattle.store_model.specs.Rows.{InJob};
+ghost use Rattle.store_core.specs.Requests.{asked_by, IsPostedBy};
 ghost use Rattle.store_core.specs.Seen.{rows_of};
 ghost use Rattle.store_core.specs.Steps.{decided, Asks, OnlyRow};
 ghost use Rattle.blob_tool.specs.Serving.{IsTaskOf};
@@ -38,7 +38,7 @@ fn command_of<'a>(request: Request<'a>) -> &'a Command
 /// What is to be done for the command of a message. On a stopped store it is refused as that.
 fn task_of<D: PageDisk>(alloc: Global, plant: &Plant<D>, right: &MdRight, msg: Msg) -> Task
     requires right { right.now ≡ plant.now.right }
-    requires posted { (rows_of plant.now.at.rows msg.channel).stage ≡ Posted msg.serial }
+    requires posted { IsPostedBy plant.now.at.rows msg }
     requires on_head { Asks plant.now.at msg.channel IsOnHead }
     ensures { IsTaskOf D.PageDisk plant.now.at msg.channel result }
 {
@@ -83,7 +83,7 @@ fn finish<D: PageDisk>(plant: &mut Plant<D>, right: &mut MdRight, channel: u8)
 /// Answers or refuses the command of a message, or does what it asks for: an entry is logged, and no job runs any more.
 pub(crate) fn serve<D: PageDisk>(alloc: Global, plant: &mut Plant<D>, right: &mut MdRight, msg: Msg)
     requires right { right.old ≡ plant.old.right }
-    requires posted { (rows_of plant.old.at.rows msg.channel).stage ≡ Posted msg.serial }
+    requires posted { IsPostedBy plant.old.at.rows msg }
     requires on_head { Asks plant.old.at msg.channel IsOnHead }
     requires no_job { plant.old.at.job ≡ None }
     ensures row { OnlyRow plant.old.at.rows plant.new.at.rows msg.channel (decided (rows_of plant.old.at.rows msg.channel)) }

@@ -141,4 +141,4 @@ begun_or_not d p q turn goes_on runs stops = by p.at.stopped refl
 -- a store that has no job or has stopped, and hasn't stopped, has no job
 pub job_over : {D : Type 0} (p : At D) → (p.job ≡ None) ⊎ IsSome p.stopped → p.stopped ≡ None → p.job ≡ None
 job_over p (inl none) runs = none
-job_over p (inr stopped) runs = absurd (let bad : IsSome None = subst IsSome runs stopped in cc bad)
+job_over p (inr stopped) runs = absurd (let bad : IsSome {T = ℕ} None = subst (λ o. IsSome {T = ℕ} o) runs stopped in cc bad)

@@ -1,4 +1,4 @@
-use Rattle.std.proofs.Common.{◌<◌, length, [], ◌≡◌, ◌⊎◌, ℕ, Bool, List, None, Some, IsSome, sym, subst, ap, ◌∙◌}
+use Rattle.std.proofs.Common.{◌↔◌, true, ◌<◌, length, [], ◌≡◌, ◌⊎◌, ℕ, Bool, List, None, Some, IsSome, sym, subst, ap, ◌∙◌}
 use Rattle.std.specs.FinMap as map
 use Rattle.bit_array.specs.Bits.{is_in}
 use Rattle.store_model.specs.Places.{held_by, Unclaimed, UsedClusters, UsedPages}
