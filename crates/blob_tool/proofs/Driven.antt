@@ -82,13 +82,13 @@ module _ {D : Type 0} (first p posted served q : At D) (channel : ℕ) (serves :
 -- no command is left to post
 pub over : (row : Row) (channel : ℕ) → IsWaiting row → (is_stage row channel ≡ told.Meta → ⊥) → (is_stage row channel ≡ told.Over → ⊥) → row ≡ ended_row
 over row channel waiting no_meta not_over = elim waiting.at [
-  | inl idle ↦ absurd (by row.left waiting.on_heads refl (λ s. ap (λ x. is_stage (record row { stage = x }) channel) idle ∙ s))
+  | inl idle ↦ absurd (by row.left waiting.on_heads refl (λ s same. ap (λ x. is_stage (record row { stage = x }) channel) idle ∙ same))
   | inr ended ↦ ended
 ]
   where
-    by : (left : List Command) → AllByRecursion IsOnHead left → row.left ≡ left → ({s : RowStage} → is_stage (record row { stage = Idle }) channel ≡ s → is_stage row channel ≡ s) → ⊥
-    by [] on e same = not_over (same (ap (λ (l : List Command). is_stage (record row { left = l; stage = Idle }) channel) e))
-    by (command ∷ rest) on e same = no_meta (same (ap (λ (l : List Command). is_stage (record row { left = l; stage = Idle }) channel) e ∙ on_head_meta command on.0))
+    by : (left : List Command) → AllByRecursion IsOnHead left → row.left ≡ left → ((s : RowStage) → is_stage (record row { stage = Idle }) channel ≡ s → is_stage row channel ≡ s) → ⊥
+    by [] on e same = not_over (same told.Over (ap (λ (l : List Command). is_stage (record row { left = l; stage = Idle }) channel) e))
+    by (command ∷ rest) on e same = no_meta (same told.Meta (ap (λ (l : List Command). is_stage (record row { left = l; stage = Idle }) channel) e ∙ on_head_meta command on.0))
 
 pub ended_so : {D : Type 0} (first p q : At D) (channel : ℕ) → Serves first p channel → rows_of p.rows channel ≡ record { left = []; stage = Idle; claim = None } → OnlyRow p.rows q.rows channel (record (rows_of p.rows channel) { stage = Ended })
     → OnlyRow first.rows q.rows channel ended_row
