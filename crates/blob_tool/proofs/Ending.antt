@@ -1,5 +1,5 @@
 -- What a run came to, by what was printed of its log.
-use Rattle.std.proofs.Common.{◌≡◌, ℕ, ◌++◌, false, Option, Some, None, Result, Ok, Err, OnOk, IsTrue, List, refl, sym, ap, subst, ◌∙◌, inl, inr}
+use Rattle.std.proofs.Common.{◌≡◌, ℕ, ◌++◌, Option, Some, None, Result, Ok, Err, OnOk, IsTrue, List, refl, sym, subst, ◌∙◌, inl, inr}
 use Rattle.page_disk.specs.Disk.{Rose}
 use Rattle.page_disk.specs.declared.disk.PageDisk as disk
 use Rattle.streams.specs.declared.source.Source as source
@@ -19,7 +19,7 @@ use Rattle.unclean_load.specs.Reading.{IsCounted}
 use Rattle.blob_report.specs.Text.{log_text}
 use Rattle.streams.specs.declared.printing.PrintFault.{PrintFault}
 use Rattle.streams.specs.declared.printing.PrintFault.TheVariants as printing
-use Rattle.blob_tool.specs.Statuses.{is_usage, of_loading, of_run}
+use Rattle.blob_tool.specs.Statuses.{of_loading, of_run}
 use Rattle.blob_tool.specs.Runs.{Ended, EndedFrom, IsLoaded, Played}
 use Rattle.blob_tool.specs.Outcome.{HasScript, NothingWritten, Outcome, RanTo, Reads}
 

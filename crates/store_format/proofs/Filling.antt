@@ -1,6 +1,6 @@
 -- Pages are written one after the other.
-use Rattle.std.proofs.Common.{◌≡◌, ◌≢◌, ◌⊎◌, ℕ, ◌+◌, ◌<◌, ◌≤◌, List, refl, ap, subst, ◌∙◌, inl, inr, ⊎_elim, arith, below_more, IsTrue, Result, OnOk, OnErr}
-use Rattle.page_disk.specs.Disk.{Image, Images, Telling, HasCause, Rose, Elapses, Wrote, WroteOrNot, Written, Puts, with_page}
+use Rattle.std.proofs.Common.{◌≡◌, ◌≢◌, ℕ, ◌+◌, ◌<◌, ◌≤◌, List, refl, ap, subst, ◌∙◌, inl, inr, ⊎_elim, arith, below_more, IsTrue, Result, OnOk, OnErr}
+use Rattle.page_disk.specs.Disk.{Image, Images, Telling, HasCause, Elapses, Wrote, WroteOrNot, Written, Puts, with_page}
 use Rattle.page_disk.specs.declared.disk.DiskFault.{DiskFault}
 use Rattle.page_disk.specs.declared.disk.WriteKind.{WriteKind}
 use Rattle.page_disk.specs.declared.disk.PageDisk.{Ghosts}

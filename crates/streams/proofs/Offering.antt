@@ -1,8 +1,7 @@
 -- A text that is offered to a sink piece by piece.
-use Rattle.std.proofs.Common.{◌≡◌, ℕ, ◌-◌, ◌≤◌, Bool, IsTrue, List, [], ◌∷◌, ◌++◌, length, take, drop, refl, sym, ap, ◌∙◌, arith, append_assoc, inl, inr}
+use Rattle.std.proofs.Common.{◌≡◌, ℕ, ◌-◌, ◌≤◌, Bool, IsTrue, List, [], ◌∷◌, ◌++◌, length, take, drop, sym, ap, ◌∙◌, arith, append_assoc, inl, inr}
 use Rattle.std.proofs.lemmas.Grind.{common_steps}
 use Rattle.page_disk.specs.Disk.{Rose}
-use Rattle.streams.specs.Printing.{IsPartOf}
 
 -- what is offered stands after what was there before, and the rest is still to be offered
 pub record IsOffering (tells : Bool) (text rest before now : List ℕ) (faults faults_now : ℕ) : Type 0 where

@@ -17,7 +17,7 @@ use Rattle.store_model.proofs.Scanning.{apart}
 use Rattle.store_model.proofs.Roots.{no_parent}
 use Rattle.unclean_load.specs.declared.fault.LoadFault.{LoadFault}
 use Rattle.unclean_load.specs.declared.fault.LoadFault.TheVariants as fault
-use Rattle.unclean_load.specs.Accepted.{SuperAt, IsFaultOf, IsSuperFault}
+use Rattle.unclean_load.specs.Accepted.{SuperAt, IsFaultOf}
 use Rattle.unclean_load.specs.Claiming.{AreChains, IsInTwo, IsTwice, IsMaskFault}
 use Rattle.unclean_load.specs.Heads.{AreWhole, AreWholeBelow, IsHeadsFault}
 use Rattle.unclean_load.specs.Reading.{AreRead, HasNoneFrom, IsChainOf}
