@@ -1,7 +1,6 @@
 -- The commands of a channel are served, one after the other, and then those of the next channel.
-use Rattle.std.proofs.Common.{◌≡◌, ◌≢◌, ℕ, ◌+◌, ◌<◌, ◌≤◌, List, [], ◌∷◌, length, None, refl, sym, ap, subst, ◌∙◌, inl, inr, arith}
+use Rattle.std.proofs.Common.{◌≡◌, ◌≢◌, ℕ, ◌<◌, ◌≤◌, List, [], ◌∷◌, length, None, refl, sym, ap, subst, ◌∙◌, inl, inr, arith}
 use Rattle.std.specs.List.{AllByRecursion}
-use Rattle.std.proofs.lemmas.Bool.{cases_eq, cases_lt}
 use Rattle.page_disk.specs.declared.disk.PageDisk.{Ghosts}
 use Rattle.volume_model.specs.declared.command.Command.{Command}
 use Rattle.volume_model.specs.declared.command.Command.TheVariants as c
@@ -26,9 +25,6 @@ pub record Serves {D : Type 0} (first now : At D) (channel : ℕ) : Type 0 where
   pub waiting : IsWaiting (rows_of now.rows channel)
   pub no_job : now.job ≡ None
 
-pub serves_at_first : {D : Type 0} (first : At D) (channel : ℕ) → IsWaiting (rows_of first.rows channel) → first.job ≡ None → Serves first first channel
-serves_at_first first channel waiting none = record { others = λ other ne. refl; waiting = waiting; no_job = none }
-
 -- a row whose first command is to be posted
 pub record HasNext (row : Row) : Type 0 where
   pub command : Command
@@ -44,61 +40,73 @@ on_head_meta (c.Write volume page word) is = absurd (cc is)
 on_head_meta c.Flush is = absurd (cc is)
 on_head_meta _ is = refl
 
+-- a waiting row whose command the metadata thread is to be asked has a first command
 pub next_of : (row : Row) (channel : ℕ) → is_stage row channel ≡ told.Meta → IsWaiting row → HasNext row
 next_of row channel is waiting = elim waiting.at [
   | inl idle ↦ by row.left waiting.on_heads refl (ap (λ s. is_stage (record row { stage = s }) channel) (sym idle) ∙ is)
   | inr ended ↦ absurd (let bad = sym (ap (λ (r : Row). is_stage r channel) ended) ∙ is in cc bad)
 ]
   where
-    by : (left : List Command) → AllByRecursion IsOnHead left → row.left ≡ left → is_stage (record row { stage = Idle }) channel ≡ told.Meta → HasNext row
-    by [] on e stage = absurd (let bad = sym (ap (λ (l : List Command). is_stage (record row { left = l; stage = Idle }) channel) e) ∙ stage in cc bad)
-    by (command ∷ rest) on e stage = record { command = command; rest = rest; left = e; on_head = on.0; on_heads = on.1 }
+    by : (left : List Command) → AllByRecursion IsOnHead left → row.left ≡ left
+        → is_stage (record row { stage = Idle }) channel ≡ told.Meta → HasNext row
+    by [] on e stage =
+        absurd (let bad = sym (ap (λ (l : List Command). is_stage (record row { left = l; stage = Idle }) channel) e)
+        ∙ stage in cc bad)
+    by (command ∷ rest) on e stage =
+        record { command = command; rest = rest; left = e; on_head = on.0; on_heads = on.1 }
 
 -- what a turn of settling comes to, where the command is logged
-pub settled : {D : Type 0} (d : Ghosts D) (p q : At D) (channel : ℕ) (turn : SettleTurn) → (rows_of p.rows channel).stage ≡ Decided Answered → (turn ≡ settle.Waiting → (outcome : Decision) → (rows_of p.rows channel).stage ≢ Decided outcome)
-    → (turn ≡ settle.Logged → Made d p q kind.settles) → (turn ≡ settle.Logged → OnlyRow p.rows q.rows channel (record (rows_of p.rows channel) { stage = Idle }))
+pub settled : {D : Type 0} (d : Ghosts D) (p q : At D) (channel : ℕ) (turn : SettleTurn)
+    → (rows_of p.rows channel).stage ≡ Decided Answered
+    → (turn ≡ settle.Waiting → (outcome : Decision) → (rows_of p.rows channel).stage ≢ Decided outcome)
+    → (turn ≡ settle.Logged → Made d p q kind.settles)
+    → (turn ≡ settle.Logged → OnlyRow p.rows q.rows channel (record (rows_of p.rows channel) { stage = Idle }))
     → OnlyRow p.rows q.rows channel (record (rows_of p.rows channel) { stage = Idle }) × (q.job ≡ p.job)
 settled d p q channel settle.Waiting is waits made row = absurd (waits refl Answered is)
 settled d p q channel settle.Logged is waits made row = (row refl, ap (λ s. s.job) (made refl).0.next)
 
-module _ {D : Type 0} (first p posted served q : At D) (channel : ℕ) (serves : Serves first p channel) (next : HasNext (rows_of p.rows channel)) (serial : ℕ)
-    (posts : OnlyRow p.rows posted.rows channel (record (rows_of p.rows channel) { stage = Posted serial })) (logs : OnlyRow posted.rows served.rows channel (decided (rows_of posted.rows channel)))
+module _ {D : Type 0} (first p posted served q : At D) (channel : ℕ) (serves : Serves first p channel)
+    (next : HasNext (rows_of p.rows channel)) (serial : ℕ)
+    (posts : OnlyRow p.rows posted.rows channel (record (rows_of p.rows channel) { stage = Posted serial }))
+    (logs : OnlyRow posted.rows served.rows channel (decided (rows_of posted.rows channel)))
     (settles : OnlyRow served.rows q.rows channel (record (rows_of served.rows channel) { stage = Idle })) where
   row_now : rows_of q.rows channel ≡ record { left = next.rest; stage = Idle; claim = None }
   row_now =
       settles.row ∙ ap (λ (r : Row). record r { stage = Idle }) (logs.row ∙ ap decided posts.row)
-      ∙ ap (λ (l : List Command). record (decided (record { left = l; stage = Posted serial; claim = None })) { stage = Idle }) next.left
+      ∙ ap (λ (l : List Command). record
+      (decided (record { left = l; stage = Posted serial; claim = None })) { stage = Idle }) next.left
 
+  -- a command is posted, logged and settled, and the channel waits again
   pub serves_on : q.job ≡ None → Serves first q channel
   serves_on none = record {
-    others = λ other ne. settles.others other ne ∙ logs.others other ne ∙ posts.others other ne ∙ serves.others other ne;
+    others =
+        λ other ne. settles.others other ne ∙ logs.others other ne ∙ posts.others other ne ∙ serves.others other ne;
     waiting = subst IsWaiting (sym row_now) (record { on_heads = next.on_heads; at = inl refl; unclaimed = refl });
     no_job = none;
   }
 
+  -- and it has one command less
   pub fewer : length (rows_of q.rows channel).left < length (rows_of p.rows channel).left
-  fewer = let new = ap (λ (r : Row). length r.left) row_now in let old = ap (λ (l : List Command). length l) next.left in omega (arith, new, old)
+  fewer =
+      let new =
+      ap (λ (r : Row). length r.left) row_now in let old =
+      ap (λ (l : List Command). length l) next.left in omega (arith, new, old)
 
 -- no command is left to post
-pub over : (row : Row) (channel : ℕ) → IsWaiting row → (is_stage row channel ≡ told.Meta → ⊥) → (is_stage row channel ≡ told.Over → ⊥) → row ≡ ended_row
+pub over : (row : Row) (channel : ℕ) → IsWaiting row → (is_stage row channel ≡ told.Meta → ⊥)
+    → (is_stage row channel ≡ told.Over → ⊥) → row ≡ ended_row
 over row channel waiting no_meta not_over = elim waiting.at [
   | inl idle ↦ absurd (by row.left waiting.on_heads refl (λ s same. ap (λ x. is_stage (record row { stage = x }) channel) idle ∙ same))
   | inr ended ↦ ended
 ]
   where
-    by : (left : List Command) → AllByRecursion IsOnHead left → row.left ≡ left → ((s : RowStage) → is_stage (record row { stage = Idle }) channel ≡ s → is_stage row channel ≡ s) → ⊥
-    by [] on e same = not_over (same told.Over (ap (λ (l : List Command). is_stage (record row { left = l; stage = Idle }) channel) e))
-    by (command ∷ rest) on e same = no_meta (same told.Meta (ap (λ (l : List Command). is_stage (record row { left = l; stage = Idle }) channel) e ∙ on_head_meta command on.0))
-
-pub ended_so : {D : Type 0} (first p q : At D) (channel : ℕ) → Serves first p channel → rows_of p.rows channel ≡ record { left = []; stage = Idle; claim = None } → OnlyRow p.rows q.rows channel (record (rows_of p.rows channel) { stage = Ended })
-    → OnlyRow first.rows q.rows channel ended_row
-ended_so first p q channel serves empty ends = record {
-  row = ends.row ∙ ap (λ (r : Row). record r { stage = Ended }) empty;
-  others = λ other ne. ends.others other ne ∙ serves.others other ne;
-}
-
-pub ended_before : {D : Type 0} (first p : At D) (channel : ℕ) → Serves first p channel → rows_of p.rows channel ≡ ended_row → OnlyRow first.rows p.rows channel ended_row
-ended_before first p channel serves ended = record { row = ended; others = serves.others }
+    by : (left : List Command) → AllByRecursion IsOnHead left → row.left ≡ left
+        → ((s : RowStage) → is_stage (record row { stage = Idle }) channel ≡ s → is_stage row channel ≡ s) → ⊥
+    by [] on e same =
+        not_over (same told.Over (ap (λ (l : List Command). is_stage (record row { left = l; stage = Idle }) channel) e))
+    by (command ∷ rest) on e same =
+        no_meta (same told.Meta (ap (λ (l : List Command). is_stage (record row { left = l; stage = Idle }) channel) e
+        ∙ on_head_meta command on.0))
 
 -- ---- all channels
 
@@ -107,22 +115,3 @@ pub record Drives {D : Type 0} (first now : At D) (end : ℕ) : Type 0 where
   pub below : (channel : ℕ) → channel < end → rows_of now.rows channel ≡ ended_row
   pub from : (channel : ℕ) → end ≤ channel → rows_of now.rows channel ≡ rows_of first.rows channel
   pub no_job : now.job ≡ None
-
-pub drives_at_first : {D : Type 0} (first : At D) → first.job ≡ None → Drives first first 0
-drives_at_first first none = record { below = λ channel lt. absurd (omega (arith, lt)); from = λ channel le. refl; no_job = none }
-
-pub drives_on : {D : Type 0} (first p q : At D) (end : ℕ) → Drives first p end → OnlyRow p.rows q.rows end ended_row → q.job ≡ None → Drives first q (end + 1)
-drives_on first p q end drives row none = record {
-  below = λ channel lt. elim (cases_eq channel end) [
-    | inl e ↦ ap (rows_of q.rows) e ∙ row.row
-    | inr ne ↦ row.others channel ne ∙ drives.below channel (omega (arith, lt, ne))
-  ];
-  from = λ channel le. row.others channel (λ e. omega (arith, e, le)) ∙ drives.from channel (omega (arith, le));
-  no_job = none;
-}
-
-pub all_ended : {D : Type 0} (first now : At D) → Drives first now 16 → ((channel : ℕ) → 16 ≤ channel → rows_of first.rows channel ≡ ended_row) → (channel : ℕ) → rows_of now.rows channel ≡ ended_row
-all_ended first now drives past channel = elim (cases_lt channel 16) [
-  | inl lt ↦ drives.below channel lt
-  | inr ge ↦ drives.from channel ge ∙ past channel ge
-]

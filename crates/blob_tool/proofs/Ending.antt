@@ -1,5 +1,5 @@
 -- What a run came to, by what was printed of its log.
-use Rattle.std.proofs.Common.{◌≡◌, ℕ, ◌++◌, false, Option, Some, None, Result, Ok, Err, OnOk, IsTrue, List, refl, sym, ap, subst, ◌∙◌, inl, inr}
+use Rattle.std.proofs.Common.{◌≡◌, ℕ, ◌++◌, Option, Some, None, Result, Ok, Err, OnOk, IsTrue, List, refl, sym, subst, ◌∙◌, inl, inr}
 use Rattle.page_disk.specs.Disk.{Rose}
 use Rattle.page_disk.specs.declared.disk.PageDisk as disk
 use Rattle.streams.specs.declared.source.Source as source
@@ -19,18 +19,28 @@ use Rattle.unclean_load.specs.Reading.{IsCounted}
 use Rattle.blob_report.specs.Text.{log_text}
 use Rattle.streams.specs.declared.printing.PrintFault.{PrintFault}
 use Rattle.streams.specs.declared.printing.PrintFault.TheVariants as printing
-use Rattle.blob_tool.specs.Statuses.{is_usage, of_loading, of_run}
+use Rattle.blob_tool.specs.Statuses.{of_loading, of_run}
 use Rattle.blob_tool.specs.Runs.{Ended, EndedFrom, IsLoaded, Played}
 use Rattle.blob_tool.specs.Outcome.{HasScript, NothingWritten, Outcome, RanTo, Reads}
 
 -- a device that was only read has one image still
-pub still_one : {D : Type 0} (d : disk.Ghosts D) (before after : D) → OnlyRead d before after → HasOneImage d before → HasOneImage d after
-still_one d before after same one =
-    (one.0, λ c. (λ held. (one.1 c).0 ((same.images one.0 c).0 held) ∙ sym (same.now one.0), λ is. (same.images one.0 c).1 ((one.1 c).1 (is ∙ same.now one.0))))
+pub still_one : {D : Type 0} (d : disk.Ghosts D) (before after : D) → OnlyRead d before after → HasOneImage d before
+    → HasOneImage d after
+still_one d before after same one = (
+  one.0,
+  λ c. (
+    λ held. (one.1 c).0 ((same.images one.0 c).0 held) ∙ sym (same.now one.0),
+    λ is. (same.images one.0 c).1 ((one.1 c).1 (is ∙ same.now one.0)),
+  ),
+)
 
-module _ {D : Type 0} (d : disk.Ghosts D) (script : List (List Command)) {K : Type 0} (k : sink.Ghosts K) (out out_now : K) (back : D) (first : At D) where
-  pub ends : (p : Played d script k out out_now back first) (stopped : Option ℕ) (printed : Result (Unit {0}) PrintFault) → p.last.stopped ≡ stopped
-      → (IsTrue k.tells → OnOk printed (k.written out_now ≡ k.written out ++ log_text p.last.log)) → (printed ≡ Err printing.Sink → Rose (k.faults out) (k.faults out_now))
+module _ {D : Type 0} (d : disk.Ghosts D) (script : List (List Command)) {K : Type 0} (k : sink.Ghosts K)
+    (out out_now : K) (back : D) (first : At D) where
+  -- how a run ended, by where it stopped and how much was printed
+  pub ends : (p : Played d script k out out_now back first) (stopped : Option ℕ)
+      (printed : Result (Unit {0}) PrintFault) → p.last.stopped ≡ stopped
+      → (IsTrue k.tells → OnOk printed (k.written out_now ≡ k.written out ++ log_text p.last.log))
+      → (printed ≡ Err printing.Sink → Rose (k.faults out) (k.faults out_now))
       → Ended d script k out out_now back first (of_run stopped printed)
   ends p stopped (Err printing.Memory) is whole rose = p
   ends p None (Err printing.Sink) is whole rose = (p, is, rose refl)
@@ -38,9 +48,11 @@ module _ {D : Type 0} (d : disk.Ghosts D) (script : List (List Command)) {K : Ty
   ends p None (Ok done) is whole rose = (p, is, whole)
   ends p (Some at) (Ok done) is whole rose = (p, is, inl whole)
 
-module _ {S : Type 0} (s : source.Ghosts S) (script script_now : S) {D : Type 0} (d : disk.Ghosts D) {K : Type 0} (k : sink.Ghosts K) (out out_now : K) (before back : D) where
+module _ {S : Type 0} (s : source.Ghosts S) (script script_now : S) {D : Type 0} (d : disk.Ghosts D) {K : Type 0}
+    (k : sink.Ghosts K) (out out_now : K) (before back : D) where
   -- what a run came to is the outcome of the call
-  ran_to : (st : Status) → RanTo s script script_now d k out out_now before back st → Outcome s script script_now d k out out_now before back st
+  ran_to : (st : Status) → RanTo s script script_now d k out out_now before back st
+      → Outcome s script script_now d k out out_now before back st
   ran_to status.Good ran = ran
   ran_to status.OutWrite ran = ran
   ran_to (status.Device at) ran = inl ran
@@ -50,35 +62,40 @@ module _ {S : Type 0} (s : source.Ghosts S) (script script_now : S) {D : Type 0}
   ran_to (status.Image fault) ran = absurd ran.ended
   ran_to status.ScriptRead ran = absurd ran.ended
 
-  pub of_a_run : (commands : List (List Command)) (loaded : Loaded D) (st : Status) → Reads s script script_now commands → ((first : At D) → IsOpened d loaded commands first → IsLoaded d commands before loaded first) → OnlyRead d before loaded.disk
+  -- what a run from the loaded store came to is the outcome of the call
+  pub of_a_run : (commands : List (List Command)) (loaded : Loaded D) (st : Status) → Reads s script script_now commands
+      → ((first : At D) → IsOpened d loaded commands first → IsLoaded d commands before loaded first)
+      → OnlyRead d before loaded.disk
       → EndedFrom d commands k out out_now back loaded st → Outcome s script script_now d k out out_now before back st
-  of_a_run commands loaded st reads opens same (inl x) = ran_to st (record { commands = commands; first = x.0; started = record { script_is = reads; loaded = loaded; as_found = opens x.0 x.1 }; ended = x.2 })
+  of_a_run commands loaded st reads opens same (inl x) =
+      ran_to st (record {
+        commands = commands;
+        first = x.0;
+        started = record { script_is = reads; loaded = loaded; as_found = opens x.0 x.1 };
+        ended = x.2;
+      })
   of_a_run commands loaded st reads opens same (inr x) =
-      subst (Outcome s script script_now d k out out_now before back) (sym x.0) (inr (record { quiet = x.1; device = subst (OnlyRead d before) (sym x.2) same }))
-
-  -- a run is no usage fault
-  ended_no_usage : (commands : List (List Command)) (first : At D) (st : Status) → Ended d commands k out out_now back first st → is_usage st ≡ false
-  ended_no_usage commands first status.Usage e = absurd e
-  ended_no_usage commands first status.Good e = refl
-  ended_no_usage commands first status.OutWrite e = refl
-  ended_no_usage commands first (status.Device at) e = refl
-  ended_no_usage commands first status.Memory e = refl
-  ended_no_usage commands first (status.Script line kind) e = refl
-  ended_no_usage commands first (status.Image fault) e = refl
-  ended_no_usage commands first status.ScriptRead e = refl
-
-  pub isnt_usage : (commands : List (List Command)) (loaded : Loaded D) (st : Status) → EndedFrom d commands k out out_now back loaded st → is_usage st ≡ false
-  isnt_usage commands loaded st (inl x) = ended_no_usage commands x.0 st x.2
-  isnt_usage commands loaded st (inr x) = ap is_usage x.0
+      subst (Outcome s script script_now d k out out_now before back) (sym x.0)
+      (inr (record { quiet = x.1; device = subst (OnlyRead d before) (sym x.2) same }))
 
   -- a store that wasn't loaded
-  pub of_a_fault : (fault : LoadFault) → NothingWritten s script script_now d k out out_now before back → HasScript s script script_now d k out out_now before back → IsCounted (d.read_faults before) (d.read_faults back) fault
-      → (IsTrue d.tells → IsFaultOf (d.pages before) (d.now before) fault) → (IsTrue d.tells → IsImageFault fault → IsAccepted (d.pages before) (d.now before) → ⊥) → Outcome s script script_now d k out out_now before back (of_loading fault)
+  pub of_a_fault : (fault : LoadFault) → NothingWritten s script script_now d k out out_now before back
+      → HasScript s script script_now d k out out_now before back
+      → IsCounted (d.read_faults before) (d.read_faults back) fault
+      → (IsTrue d.tells → IsFaultOf (d.pages before) (d.now before) fault)
+      → (IsTrue d.tells → IsImageFault fault → IsAccepted (d.pages before) (d.now before) → ⊥)
+      → Outcome s script script_now d k out out_now before back (of_loading fault)
   of_a_fault loading.ReadFault stays script counted cause refused = inr (stays, script, refl, counted)
   of_a_fault loading.Memory stays script counted cause refused = inr stays
-  of_a_fault (loading.Super why) stays script counted cause refused = (stays, script, tt, λ tells. (cause tells, refused tells tt))
-  of_a_fault (loading.Chain head why) stays script counted cause refused = (stays, script, tt, λ tells. (cause tells, refused tells tt))
-  of_a_fault (loading.Meta head why) stays script counted cause refused = (stays, script, tt, λ tells. (cause tells, refused tells tt))
-  of_a_fault (loading.MapsTooLarge slots) stays script counted cause refused = (stays, script, tt, λ tells. (cause tells, refused tells tt))
-  of_a_fault (loading.Shared cluster a b) stays script counted cause refused = (stays, script, tt, λ tells. (cause tells, refused tells tt))
-  of_a_fault (loading.NotYet head) stays script counted cause refused = (stays, script, tt, λ tells. (cause tells, refused tells tt))
+  of_a_fault (loading.Super why) stays script counted cause refused =
+      (stays, script, tt, λ tells. (cause tells, refused tells tt))
+  of_a_fault (loading.Chain head why) stays script counted cause refused =
+      (stays, script, tt, λ tells. (cause tells, refused tells tt))
+  of_a_fault (loading.Meta head why) stays script counted cause refused =
+      (stays, script, tt, λ tells. (cause tells, refused tells tt))
+  of_a_fault (loading.MapsTooLarge slots) stays script counted cause refused =
+      (stays, script, tt, λ tells. (cause tells, refused tells tt))
+  of_a_fault (loading.Shared cluster a b) stays script counted cause refused =
+      (stays, script, tt, λ tells. (cause tells, refused tells tt))
+  of_a_fault (loading.NotYet head) stays script counted cause refused =
+      (stays, script, tt, λ tells. (cause tells, refused tells tt))

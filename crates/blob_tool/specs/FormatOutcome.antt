@@ -20,8 +20,10 @@ use Rattle.blob_tool.specs.declared.status.Status.TheVariants as status
 
 -- the clusters and the metadata pages of a new store, and how many of each are free
 abbrev pub new_space : Layout → Df
-new_space plan = record { free_clusters = plan.clusters - plan.fixed_clusters; clusters = plan.clusters; free_pages = plan.md_pages; pages = plan.md_pages }
+new_space plan =
+    record { free_clusters = plan.clusters - plan.fixed_clusters; clusters = plan.clusters; free_pages = plan.md_pages; pages = plan.md_pages }
 
+-- the line that is printed of a new store
 abbrev pub new_store_text : Layout → List ℕ
 new_store_text plan = space_text (new_space plan)
 
@@ -31,13 +33,15 @@ planned pages format = layout_of pages format.cluster_pages (md_pages_of pages f
 
 -- why it has no place there
 abbrev pub planning_fault : ℕ → Format → Option SuperFault
-planning_fault pages format = plan_fault pages format.cluster_pages (md_pages_of pages format.cluster_pages format.md_pages)
+planning_fault pages format =
+    plan_fault pages format.cluster_pages (md_pages_of pages format.cluster_pages format.md_pages)
 
 module _ {D : Type 0} (d : disk.Ghosts D) (before back : D) (format : Format) where
   abbrev plan : Layout
   plan = planned (d.pages before) format
 
-  -- The device has one image, a new store with the planned layout; behind the metadata region each page reads as before.
+  -- The device has one image, a new store with the planned layout; behind the metadata region each page reads as
+  -- before.
   pub record Formatted : Type 0 where
     pub has_place : planning_fault (d.pages before) format ≡ None
     pub one_image : IsTrue d.tells → Only (d.now back) (d.images back)

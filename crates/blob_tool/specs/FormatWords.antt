@@ -8,7 +8,9 @@ use Rattle.blob_tool.specs.declared.format_words.Format.{Format}
 
 -- the bytes of a cluster, as its pages: a multiple of 4096 above 0, of fewer than 2^32 pages
 abbrev pub cluster_in : List ℕ → Option ℕ
-cluster_in word = option_and_then (λ bytes. if nat_lt 0 bytes && (bytes % 4096 == 0) then Some (bytes / 4096) else None) (number_below (4096 * 2 ^ 32) word)
+cluster_in word =
+    option_and_then (λ bytes. if nat_lt 0 bytes && (bytes % 4096 == 0) then Some (bytes / 4096) else None)
+    (number_below (4096 * 2 ^ 32) word)
 
 -- at least one metadata page, and fewer than 2^32
 abbrev pub md_pages_in : List ℕ → Option ℕ
@@ -26,18 +28,23 @@ asked_md_pages (Some word) = option_map Some (md_pages_in word)
 
 -- what the two options ask for, where each has its form
 abbrev pub of_options : Option (List ℕ) → Option (List ℕ) → Option Format
-of_options cluster md_pages = option_and_then (λ k. option_map (λ n. record { cluster_pages = k; md_pages = n }) (asked_md_pages md_pages)) (asked_cluster cluster)
+of_options cluster md_pages =
+    option_and_then (λ k. option_map (λ n. record { cluster_pages = k; md_pages = n }) (asked_md_pages md_pages))
+    (asked_cluster cluster)
 
+-- the name of the option for the bytes of a cluster
 abbrev pub is_cluster : List ℕ → Bool
 is_cluster name = bytes_eq name (codes "--cluster")
 
+-- the name of the option for the number of metadata pages
 abbrev pub is_md_pages : List ℕ → Bool
 is_md_pages name = bytes_eq name (codes "--md-pages")
 
 -- the options behind the image, in any order, each at most once
 abbrev pub options_in : List (List ℕ) → Option Format
 options_in [] = of_options None None
-options_in (name ∷ x ∷ []) = if is_cluster name then of_options (Some x) None else (if is_md_pages name then of_options None (Some x) else None)
+options_in (name ∷ x ∷ []) =
+    if is_cluster name then of_options (Some x) None else (if is_md_pages name then of_options None (Some x) else None)
 options_in (a ∷ x ∷ b ∷ y ∷ []) =
     if is_cluster a && is_md_pages b then of_options (Some x) (Some y)
     else (if is_md_pages a && is_cluster b then of_options (Some y) (Some x) else None)
@@ -45,5 +52,6 @@ options_in _ = None
 
 -- the words are `format`, an image and options
 abbrev pub format_in : List (String Global) → Option Format
-format_in (verb ∷ image ∷ options) = if bytes_eq (string_bytes verb) (codes "format") then options_in (map string_bytes options) else None
+format_in (verb ∷ image ∷ options) =
+    if bytes_eq (string_bytes verb) (codes "format") then options_in (map string_bytes options) else None
 format_in _ = None

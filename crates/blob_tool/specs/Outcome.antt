@@ -88,13 +88,18 @@ module _ {S : Type 0} (s : source.Ghosts S) (script script_now : S) where
     abbrev pub IsBadScript : ℕ → LineKind → Type 0
     IsBadScript line kind = NothingDone out out_now before back × (HasBadLine line kind ⊎ IsTooLong line)
 
+    -- the source failed, and the device isn't touched
     abbrev pub IsUnread : Type 0
     IsUnread = NothingDone out out_now before back × Rose (s.faults script) (s.faults script_now)
 
     -- the image has this fault, and isn't accepted
     abbrev pub IsBadImage : LoadFault → Type 0
-    IsBadImage fault = NothingWritten × HasScript × IsImageFault fault × (IsTrue d.tells → IsFaultOf (d.pages before) (d.now before) fault × (IsAccepted (d.pages before) (d.now before) → ⊥))
+    IsBadImage fault =
+        NothingWritten × HasScript × IsImageFault fault
+        × (IsTrue d.tells → IsFaultOf (d.pages before) (d.now before) fault
+        × (IsAccepted (d.pages before) (d.now before) → ⊥))
 
+    -- a read of the device failed while the store was loaded
     abbrev pub IsUnloaded : ℕ → Type 0
     IsUnloaded at = NothingWritten × HasScript × (at ≡ 0) × Rose (d.read_faults before) (d.read_faults back)
 

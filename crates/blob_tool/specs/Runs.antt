@@ -31,8 +31,8 @@ use Rattle.streams.specs.Printing.{IsPartOf}
 use Rattle.blob_tool.specs.Surviving.{RunSurvives}
 
 module _ {D : Type 0} (d : disk.Ghosts D) (script : List (List Command)) where
-  -- A run leads from one state of the store to another, in which every channel has ended and no job runs. Its log is a legal one
-  -- of the script's commands, and the volumes shown at the end are its replay, unless the store stopped.
+  -- A run leads from one state of the store to another, in which every channel has ended and no job runs. Its log is a
+  -- legal one of the script's commands, and the volumes shown at the end are its replay, unless the store stopped.
   pub record IsRun (first last : At D) : Type 0 where
     pub opens : Opens (state_of d first)
     pub turns : (kinds : List Kind) × Run d.tells (state_of d first) kinds (state_of d last)
@@ -40,20 +40,23 @@ module _ {D : Type 0} (d : disk.Ghosts D) (script : List (List Command)) where
     pub no_job : last.job ≡ None
     pub interleaves : Interleaves last.log script
     pub legal : IsLegal (fixed_of first.super) (shown (state_of d first)) last.log
-    -- a store that stopped has counted a failed write or flush, and its fault, if it has one, stands where it stopped; else it has
-    -- counted none, and no entry is a fault or stopped
+    -- a store that stopped has counted a failed write or flush, and its fault, if it has one, stands where it stopped;
+    -- else it has counted none, and no entry is a fault or stopped
     pub counted : (at : ℕ) → last.stopped ≡ Some at → Rose (d.write_faults first.disk) (d.write_faults last.disk)
     pub uncounted : last.stopped ≡ None → d.write_faults last.disk ≡ d.write_faults first.disk
     pub fault_at : (k : ℕ) (e : Entry) → slice_get last.log k ≡ Some e → e.reply ≡ r.Fault → last.stopped ≡ Some k
     pub quiet : last.stopped ≡ None → All (λ e. IsQuiet e.reply) last.log
-    pub replayed : last.stopped ≡ None → shown (state_of d last) ≡ replay (fixed_of first.super) (shown (state_of d first)) last.log
+    pub replayed : last.stopped ≡ None
+        → shown (state_of d last) ≡ replay (fixed_of first.super) (shown (state_of d first)) last.log
     -- power may fail at any moment, of a device that had one image
     pub survives : HasOneImage d first.disk → RunSurvives d first.super (shown (state_of d first)) last
 
-  -- A store as the device says it, whole in itself: its masks are what its chains and maps claim. It is opened with the script.
+  -- A store as the device says it, whole in itself: its masks are what its chains and maps claim. It is opened with the
+  -- script.
   pub record IsLoaded (before : D) (loaded : Loaded D) (first : At D) : Type 0 where
     pub super : IsTrue d.tells → loaded.sup ≡ super_of (d.now before 0) (d.pages before)
-    pub says : IsTrue d.tells → Says (region_of loaded.sup) (map.get loaded.metas) (map.get loaded.chains) (d.now before)
+    pub says : IsTrue d.tells
+        → Says (region_of loaded.sup) (map.get loaded.metas) (map.get loaded.chains) (d.now before)
     pub accepted : IsTrue d.tells → IsAccepted (d.pages before) (d.now before)
     pub whole : IsWhole loaded
     pub same : OnlyRead d before loaded.disk
@@ -68,6 +71,7 @@ module _ {D : Type 0} (d : disk.Ghosts D) (script : List (List Command)) where
       pub device : back ≡ last.disk
       pub printed : IsTrue k.tells → IsPartOf (k.written out) (k.written out_now) (log_text last.log)
 
+    -- the whole log's text was printed
     abbrev pub IsPrinted : {first : At D} → Played first → Type 0
     IsPrinted p = IsTrue k.tells → k.written out_now ≡ k.written out ++ log_text p.last.log
 
@@ -75,10 +79,13 @@ module _ {D : Type 0} (d : disk.Ghosts D) (script : List (List Command)) where
     abbrev pub Ended : At D → Status → Type 0
     Ended first status.Good = (p : Played first) × (p.last.stopped ≡ None) × IsPrinted p
     Ended first status.OutWrite = (p : Played first) × (p.last.stopped ≡ None) × Rose (k.faults out) (k.faults out_now)
-    Ended first (status.Device at) = (p : Played first) × (p.last.stopped ≡ Some at) × (IsPrinted p ⊎ Rose (k.faults out) (k.faults out_now))
+    Ended first (status.Device at) =
+        (p : Played first) × (p.last.stopped ≡ Some at) × (IsPrinted p ⊎ Rose (k.faults out) (k.faults out_now))
     Ended first status.Memory = Played first
     Ended first _ = ⊥
 
     -- it began, or memory ran out before: then nothing was printed, and the device is the one that was loaded
     abbrev pub EndedFrom : Loaded D → Status → Type 0
-    EndedFrom loaded s = ((first : At D) × IsOpened d loaded script first × Ended first s) ⊎ ((s ≡ status.Memory) × (out_now ≡ out) × (back ≡ loaded.disk))
+    EndedFrom loaded s =
+        ((first : At D) × IsOpened d loaded script first × Ended first s)
+        ⊎ ((s ≡ status.Memory) × (out_now ≡ out) × (back ≡ loaded.disk))

@@ -12,11 +12,13 @@ use Rattle.streams.specs.declared.printing.PrintFault.TheVariants as printing
 use Rattle.blob_tool.specs.declared.status.Status.{Status}
 use Rattle.blob_tool.specs.declared.status.Status.TheVariants as status
 
+-- a script's fault, with its line; line 0 is a text that is too long
 abbrev pub of_script : ScriptFault → Status
 of_script (script.BadLine line kind) = status.Script line kind
 of_script script.TooBig = status.Script 0 Limit
 of_script script.Memory = status.Memory
 
+-- a fault of the script's source, or a text that is too long
 abbrev pub of_reading : ReadFault → Status
 of_reading reading.Source = status.ScriptRead
 of_reading reading.TooBig = status.Script 0 Limit
@@ -35,6 +37,7 @@ of_run (Some at) printed = status.Device at
 of_run None (Err printing.Sink) = status.OutWrite
 of_run None (Ok done) = status.Good
 
+-- the status of words that are no command
 abbrev pub is_usage : Status → Bool
 is_usage status.Usage = true
 is_usage _ = false

@@ -86,7 +86,8 @@ pub(crate) fn serve<D: PageDisk>(alloc: Global, plant: &mut Plant<D>, right: &mu
     requires posted { IsPostedBy plant.old.at.rows msg }
     requires on_head { Asks plant.old.at msg.channel IsOnHead }
     requires no_job { plant.old.at.job ≡ None }
-    ensures row { OnlyRow plant.old.at.rows plant.new.at.rows msg.channel (decided (rows_of plant.old.at.rows msg.channel)) }
+    ensures row { OnlyRow plant.old.at.rows plant.new.at.rows msg.channel
+        (decided (rows_of plant.old.at.rows msg.channel)) }
     ensures no_job { plant.new.at.job ≡ None }
     ensures opening { plant.new.opening ≡ plant.old.opening }
     ensures right { (right.new ≡ right.old) × (plant.new.right ≡ plant.old.right) }

@@ -24,7 +24,8 @@ impl Ending {
         }
     }
 
-    /// The exit status. Words that aren't UTF-8 are no command, and an image that can't be opened counts as a device that fails.
+    /// The exit status. Words that aren't UTF-8 are no command, and an image that can't be opened counts as a device
+    /// that fails.
     pub fn code(&self) -> u8 {
         match self {
             Ending::Ran(Status::Good) => 0,

@@ -7,8 +7,8 @@ use std::fs::File;
 use std::io;
 use std::os::unix::fs::FileExt;
 
-/// A disk whose page p is the 4096 bytes of a file from byte 4096 p on. It tells nothing of what they hold. It has as many
-/// whole pages as the file had when it was opened; a page that the file has no longer is a fault.
+/// A disk whose page p is the 4096 bytes of a file from byte 4096 p on. It tells nothing of what they hold. It has as
+/// many whole pages as the file had when it was opened; a page that the file has no longer is a fault.
 #[derive(Drop)]
 pub struct FileDisk {
     file: File,

@@ -1,5 +1,5 @@
-//! Runs a script from standard input on the store in an image file, and prints its log to standard output; or writes a new
-//! store into the file, and prints its line. Any exit status other than 0 comes with one line on standard error.
+//! Runs a script from standard input on the store in an image file, and prints its log to standard output; or writes a
+//! new store into the file, and prints its line. Any exit status other than 0 comes with one line on standard error.
 #![tactic(auto)]
 
 mod ending;

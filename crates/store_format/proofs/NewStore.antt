@@ -29,17 +29,24 @@ use Rattle.store_format.specs.NewStore.{end_of, first_super, no_blob, no_chain, 
 
 -- ---- the super block's page
 
-pub read_as_planned : (plan : Layout) (s : Super) (page : List ℕ) (sum : ℕ) → s ≡ first_super plan → super_of page s.device_pages ≡ record s { crc = sum } → super_of page plan.device_pages ≡ record (first_super plan) { crc = sum }
+-- the page of the planned super block is read as that, with the sum that the page holds
+pub read_as_planned : (plan : Layout) (s : Super) (page : List ℕ) (sum : ℕ) → s ≡ first_super plan
+    → super_of page s.device_pages ≡ record s { crc = sum }
+    → super_of page plan.device_pages ≡ record (first_super plan) { crc = sum }
 unfolding new_super
-read_as_planned plan s page sum is read = subst (λ (t : Super). super_of page t.device_pages ≡ record t { crc = sum }) is read
+read_as_planned plan s page sum is read =
+    subst (λ (t : Super). super_of page t.device_pages ≡ record t { crc = sum }) is read
 
-pub no_fault_planned : (plan : Layout) (s : Super) (page : List ℕ) → s ≡ first_super plan → super_fault page s.device_pages ≡ None → super_fault page plan.device_pages ≡ None
+-- and it has no fault
+pub no_fault_planned : (plan : Layout) (s : Super) (page : List ℕ) → s ≡ first_super plan
+    → super_fault page s.device_pages ≡ None → super_fault page plan.device_pages ≡ None
 unfolding new_super
 no_fault_planned plan s page is none = subst (λ (t : Super). super_fault page t.device_pages ≡ None) is none
 
 -- ---- the last page that is written
 
-module _ (plan : Layout) (laid : IsLaidOut plan) (old new : Image) (page : List ℕ) (is : new ≡ with_page old 0 page) where
+module _ (plan : Layout) (laid : IsLaidOut plan) (old new : Image) (page : List ℕ)
+    (is : new ≡ with_page old 0 page) where
   stays : (p : ℕ) → p ≢ 0 → new p ≡ old p
   stays p other = ap (λ (i : Image). i p) is ∙ with_page-elsewhere old 0 page p other
 
@@ -51,27 +58,41 @@ module _ (plan : Layout) (laid : IsLaidOut plan) (old new : Image) (page : List 
     md = λ k lt. stays _ (λ e. absurd (omega (arith, e, laid))) ∙ regions.md k lt;
   }
 
+  -- over its regions the super block's page makes a new store
   pub is_new_store : page ≡ super_bytes (first_super plan) → HasNewRegions plan old → IsNewStore plan new
-  is_new_store bytes regions = record { super = ap (λ (i : Image). i 0) is ∙ with_page-here old 0 page ∙ bytes; regions = regions_stay regions }
+  is_new_store bytes regions =
+      record { super = ap (λ (i : Image). i 0) is ∙ with_page-here old 0 page ∙ bytes; regions = regions_stay regions }
 
+  -- behind the metadata region each page is as at first
   pub behind_too : (first : Image) → SameBut 1 (end_of plan) first old → SameBut 0 (end_of plan) first new
   behind_too first same p (inl before) = absurd (omega (arith, before))
   behind_too first same p (inr behind) = stays p (λ e. absurd (omega (arith, e, behind, laid))) ∙ same p (inr behind)
 
 -- what power that fails while the super block is replaced may leave
-under_way : {D : Type 0} (d : Ghosts D) (law : Telling d.now d.images d.since d.clock) (plan : Layout) → IsLaidOut plan → (first mid : D) → IsTrue d.tells → WritesOnly d 1 (end_of plan) first mid
-    → HasNewRegions plan (d.now mid) → (page : List ℕ) → page ≡ super_bytes (first_super plan) → (image : Image) → IsReplaced (d.images mid) (d.now mid) 0 page image → IsUnderWay plan (d.images first) image
+under_way : {D : Type 0} (d : Ghosts D) (law : Telling d.now d.images d.since d.clock) (plan : Layout) → IsLaidOut plan
+    → (first mid : D) → IsTrue d.tells → WritesOnly d 1 (end_of plan) first mid
+    → HasNewRegions plan (d.now mid) → (page : List ℕ) → page ≡ super_bytes (first_super plan) → (image : Image)
+    → IsReplaced (d.images mid) (d.now mid) 0 page image → IsUnderWay plan (d.images first) image
 under_way d law plan laid first mid told only regions page bytes image (inl held) = inl (only.images told image held)
 under_way d law plan laid first mid told only regions page bytes image (inr is) =
     let before = only.images told (d.now mid) (law.reads_an_image mid) in
-    inr (is_new_store plan laid (d.now mid) image page is bytes regions, (before.0, before.1, behind_too plan laid (d.now mid) image page is before.0 before.2))
+    inr (
+      is_new_store plan laid (d.now mid) image page is bytes regions,
+      (before.0, before.1, behind_too plan laid (d.now mid) image page is before.0 before.2),
+    )
 
 -- the regions are written, and then the super block is replaced, or that fails
-pub writes : {D : Type 0} (d : Ghosts D) → (IsTrue d.tells → Telling d.now d.images d.since d.clock) → (plan : Layout) → IsLaidOut plan → (first mid last : D) → WritesOnly d 1 (end_of plan) first mid → (IsTrue d.tells → HasNewRegions plan (d.now mid))
-    → (page : List ℕ) → page ≡ super_bytes (first_super plan) → LeavesOnly d mid last (IsReplaced (d.images mid) (d.now mid) 0 page)
-    → d.pages last ≡ d.pages mid → d.read_faults last ≡ d.read_faults mid → d.reads last ≡ d.reads mid → Writes d plan first last
+pub writes : {D : Type 0} (d : Ghosts D) → (IsTrue d.tells → Telling d.now d.images d.since d.clock) → (plan : Layout)
+    → IsLaidOut plan → (first mid last : D) → WritesOnly d 1 (end_of plan) first mid
+    → (IsTrue d.tells → HasNewRegions plan (d.now mid))
+    → (page : List ℕ) → page ≡ super_bytes (first_super plan)
+    → LeavesOnly d mid last (IsReplaced (d.images mid) (d.now mid) 0 page)
+    → d.pages last ≡ d.pages mid → d.read_faults last ≡ d.read_faults mid → d.reads last ≡ d.reads mid
+    → Writes d plan first last
 writes d law plan laid first mid last only regions page bytes replaced pages read_faults reads = record {
-  any_moment = λ told. joined d first mid last _ _ _ (only.any_moment told) (replaced told) (λ image x. inl x) (under_way d (law told) plan laid first mid told only (regions told) page bytes);
+  any_moment =
+      λ told. joined d first mid last _ _ _ (only.any_moment told) (replaced told) (λ image x. inl x)
+      (under_way d (law told) plan laid first mid told only (regions told) page bytes);
   pages = pages ∙ only.pages;
   read_faults = read_faults ∙ only.read_faults;
   reads = reads ∙ only.reads;
@@ -80,7 +101,8 @@ writes d law plan laid first mid last only regions page bytes replaced pages rea
 -- ---- a new store is loaded
 
 -- the number of the device's pages isn't read from the page
-same_regions : (page : List ℕ) (a b : ℕ) → ((super_of page a).md_start ≡ (super_of page b).md_start) × ((super_of page a).md_len ≡ (super_of page b).md_len)
+same_regions : (page : List ℕ) (a b : ℕ) → ((super_of page a).md_start ≡ (super_of page b).md_start)
+    × ((super_of page a).md_len ≡ (super_of page b).md_len)
 unfolding super_of
 same_regions page a b = (refl, refl)
 
@@ -88,14 +110,16 @@ given_pages : (page : List ℕ) (pages : ℕ) → (super_of page pages).device_p
 unfolding super_of
 given_pages page pages = refl
 
-planned_md : (plan : Layout) (sum : ℕ) (s : Super) → s ≡ record (first_super plan) { crc = sum } → (s.md_start ≡ plan.md_start) × (s.md_len ≡ plan.md_pages)
+planned_md : (plan : Layout) (sum : ℕ) (s : Super) → s ≡ record (first_super plan) { crc = sum }
+    → (s.md_start ≡ plan.md_start) × (s.md_len ≡ plan.md_pages)
 unfolding new_super
 planned_md plan sum s is = (ap (λ (t : Super). t.md_start) is, ap (λ (t : Super). t.md_len) is)
 
 no_head : (place : ℕ) (page : List ℕ) → page ≡ zero_page → is_head place page ≡ false
 no_head place page is = rw is (rw is_sound-zeros refl)
 
-none_together : (heads : List ℕ) → sum_by (λ (head : ℕ). option_map_or (λ (m : Meta). length m.map) (no_blob head) 0) heads ≡ 0
+none_together : (heads : List ℕ)
+    → sum_by (λ (head : ℕ). option_map_or (λ (m : Meta). length m.map) (no_blob head) 0) heads ≡ 0
 none_together [] = refl
 none_together (head ∷ heads) =
     let more = sum_by-cons (λ (head : ℕ). option_map_or (λ (m : Meta). length m.map) (no_blob head) 0) head heads in
@@ -112,7 +136,8 @@ none_lawful md_len = record {
 }
 
 module _ (plan : Layout) (laid : IsLaidOut plan) (image : Image) (new : IsNewStore plan image) (sum : ℕ)
-    (read : super_of (super_bytes (first_super plan)) plan.device_pages ≡ record (first_super plan) { crc = sum }) (none : super_fault (super_bytes (first_super plan)) plan.device_pages ≡ None) where
+    (read : super_of (super_bytes (first_super plan)) plan.device_pages ≡ record (first_super plan) { crc = sum })
+    (none : super_fault (super_bytes (first_super plan)) plan.device_pages ≡ None) where
   abbrev sup : Super
   sup = super_of (image 0) plan.device_pages
 
@@ -120,9 +145,11 @@ module _ (plan : Layout) (laid : IsLaidOut plan) (image : Image) (new : IsNewSto
   sup_is = ap (λ (page : List ℕ). super_of page plan.device_pages) new.super ∙ read
 
   -- no place of a store that begins at this one's metadata region is a head
-  no_heads : (s : Super) → (s.md_start ≡ plan.md_start) × (s.md_len ≡ plan.md_pages) → (place : ℕ) → place < s.md_len → is_head place (image (s.md_start + place)) ≡ false
+  no_heads : (s : Super) → (s.md_start ≡ plan.md_start) × (s.md_len ≡ plan.md_pages) → (place : ℕ) → place < s.md_len
+      → is_head place (image (s.md_start + place)) ≡ false
   no_heads s md place lt =
-      no_head place (image (s.md_start + place)) (ap (λ (n : ℕ). image (n + place)) md.0 ∙ new.regions.md place (omega (arith, lt, md.1)))
+      no_head place (image (s.md_start + place))
+      (ap (λ (n : ℕ). image (n + place)) md.0 ∙ new.regions.md place (omega (arith, lt, md.1)))
 
   says_nothing : Says (region_of sup) no_blob no_chain image
   says_nothing head = inr (record {
@@ -152,7 +179,8 @@ module _ (plan : Layout) (laid : IsLaidOut plan) (image : Image) (new : IsNewSto
     sum = sum;
     super_is = sup_is;
     accepted = subst (λ (n : ℕ). IsAccepted n image) same_pages
-        (accepts sup image no_blob no_chain faultless read_again says_nothing (λ head m is. absurd (cc is)) (none_lawful sup.md_len));
+        (accepts sup image no_blob no_chain faultless read_again says_nothing (λ head m is. absurd (cc is))
+        (none_lawful sup.md_len));
     holds = record {
       store = record { faultless = faultless; same = subst (IsSameStore sup) read_again refl };
       says = says_nothing;

@@ -33,8 +33,8 @@ SameBut start end old new = (page : ℕ) → IsOutside start end page → new pa
 abbrev pub IsAnyBut : ℕ → ℕ → Images → Images
 IsAnyBut start end images image = (before : Image) × images before × SameBut start end before image
 
--- No page but those from a start to an end was written, and none read: every other one stays as it was, also in each image that a
--- crash at some moment may leave.
+-- No page but those from a start to an end was written, and none read: every other one stays as it was, also in each
+-- image that a crash at some moment may leave.
 pub record WritesOnly {D : Type 0} (d : Ghosts D) (start end : ℕ) (old new : D) : Type 0 where
   pub now : IsTrue d.tells → SameBut start end (d.now old) (d.now new)
   pub images : IsTrue d.tells → (image : Image) → d.images new image → IsAnyBut start end (d.images old) image

@@ -19,14 +19,18 @@ use Rattle.store_format.specs.Filling.{IsAnyBut}
 abbrev pub first_super : Layout → Super
 first_super plan = new_super plan (2 ^ 64 - 1) (replicate 16 0)
 
+-- a page of zeros
 abbrev pub zero_page : List ℕ
 zero_page = replicate 4096 0
 
 -- The three masks, each of its type, and metadata pages of zeros stand where the layout places them.
 pub record HasNewRegions (plan : Layout) (image : Image) : Type 0 where
-  pub page_mask : (k : ℕ) → k < plan.page_mask_len → image (plan.page_mask_start + k) ≡ page_of k (mask_text 0 (new_masks plan).pages)
-  pub cluster_mask : (k : ℕ) → k < plan.cluster_mask_len → image (plan.cluster_mask_start + k) ≡ page_of k (mask_text 1 (new_masks plan).clusters)
-  pub blob_mask : (k : ℕ) → k < plan.blob_mask_len → image (plan.blob_mask_start + k) ≡ page_of k (mask_text 2 (new_masks plan).blobs)
+  pub page_mask : (k : ℕ) → k < plan.page_mask_len
+      → image (plan.page_mask_start + k) ≡ page_of k (mask_text 0 (new_masks plan).pages)
+  pub cluster_mask : (k : ℕ) → k < plan.cluster_mask_len
+      → image (plan.cluster_mask_start + k) ≡ page_of k (mask_text 1 (new_masks plan).clusters)
+  pub blob_mask : (k : ℕ) → k < plan.blob_mask_len
+      → image (plan.blob_mask_start + k) ≡ page_of k (mask_text 2 (new_masks plan).blobs)
   pub md : (k : ℕ) → k < plan.md_pages → image (plan.md_start + k) ≡ zero_page
 
 -- and so does the super block
@@ -38,25 +42,29 @@ pub record IsNewStore (plan : Layout) (image : Image) : Type 0 where
 abbrev pub end_of : Layout → ℕ
 end_of plan = plan.md_start + plan.md_pages
 
--- What power that fails may leave while a store is written: one of the old images, of which no page but those of the masks and of
--- the metadata region has changed, or the new store.
+-- What power that fails may leave while a store is written: one of the old images, of which no page but those of the
+-- masks and of the metadata region has changed, or the new store.
 abbrev pub IsUnderWay : Layout → Images → Images
-IsUnderWay plan images image = IsAnyBut 1 (end_of plan) images image ⊎ (IsNewStore plan image × IsAnyBut 0 (end_of plan) images image)
+IsUnderWay plan images image =
+    IsAnyBut 1 (end_of plan) images image ⊎ (IsNewStore plan image × IsAnyBut 0 (end_of plan) images image)
 
+-- no head has metadata
 abbrev pub no_blob : Metas
 no_blob head = None
 
+-- no head has a chain
 abbrev pub no_chain : Chains
 no_chain head = None
 
--- The image is accepted as the planned store, whose sum the page holds. It says no blob, since no metadata page is a head; and
--- whatever it says is that.
+-- The image is accepted as the planned store, whose sum the page holds. It says no blob, since no metadata page is a
+-- head; and whatever it says is that.
 pub record LoadsEmpty (plan : Layout) (image : Image) : Type 0 where
   pub sum : ℕ
   pub super_is : super_of (image 0) plan.device_pages ≡ record (first_super plan) { crc = sum }
   pub accepted : IsAccepted plan.device_pages image
   pub holds : Holds (super_of (image 0) plan.device_pages) no_blob no_chain image
-  pub no_other : (metas : Metas) (chains : Chains) → Says (region_of (super_of (image 0) plan.device_pages)) metas chains image →
+  pub no_other : (metas : Metas) (chains : Chains)
+      → Says (region_of (super_of (image 0) plan.device_pages)) metas chains image →
       (head : ℕ) → (metas head ≡ None) × (chains head ≡ None)
 
 -- A store with this layout was written, or a part of it, and no page was read.

@@ -78,7 +78,8 @@ fn write_regions<D: PageDisk>(disk: &mut D, layout: &Layout, masks: Masks) -> Re
 fn super_page(layout: &Layout) -> Page
     requires { IsPlanned layout.now }
     ensures bytes { result ≡ super_bytes (first_super layout.now) }
-    ensures read { (sum : ℕ) × (super_of result layout.now.device_pages ≡ record (first_super layout.now) { crc = sum }) }
+    ensures read { (sum : ℕ)
+        × (super_of result layout.now.device_pages ≡ record (first_super layout.now) { crc = sum }) }
     ensures no_fault { super_fault result layout.now.device_pages ≡ None }
 {
     let mut page = [0; 4096];

@@ -9,8 +9,9 @@ use std::alloc::Global;
 use std::process::Abort;
 use std::test::Fail as TestFail;
 
-/// Puts on a store of so many metadata pages, whose volume has a value of 4062 bytes and a chain of the places 0 to 2. Flags, name
-/// and uuid take 94 bytes, `k` 10 and its value, the two runs of the map 21, of which the second may stand alone on a page.
+/// Puts on a store of so many metadata pages, whose volume has a value of 4062 bytes and a chain of the places 0 to 2.
+/// Flags, name and uuid take 94 bytes, `k` 10 and its value, the two runs of the map 21, of which the second may stand
+/// alone on a page.
 struct Case {
     md_pages: u32,
     puts: &'static [Letters],
@@ -184,8 +185,8 @@ fn two_puts(alloc: Global) -> Result<Vec<u8>, TestFail> {
     Ok(script)
 }
 
-/// Runs two puts and a look on a volume with a chain of three pages, of whose device this call fails: the log has so many entries
-/// then, this is printed, and a later run finds a value of this letter.
+/// Runs two puts and a look on a volume with a chain of three pages, of whose device this call fails: the log has so
+/// many entries then, this is printed, and a later run finds a value of this letter.
 fn assert_stopped(
     rt: &impl Abort,
     alloc: Global,
@@ -210,8 +211,9 @@ fn assert_stopped(
     Ok(())
 }
 
-/// Loading reads the super block, five metadata pages and three of the chain. A put makes two writes of fresh pages, a flush, the head's write, a flush, and two writes of old pages and a flush. It is
-/// answered before these last three, and takes hold with the head's write.
+/// Loading reads the super block, five metadata pages and three of the chain. A put makes two writes of fresh pages, a
+/// flush, the head's write, a flush, and two writes of old pages and a flush. It is answered before these last three,
+/// and takes hold with the head's write.
 #[test]
 fn a_failed_call_of_a_long_put_stops_the_store_there(rt: HostRuntime) -> Result<(), TestFail> {
     let first: &[u8] = b"0 0 fault\n0 1 stopped 0\n0 2 stopped 0\n";

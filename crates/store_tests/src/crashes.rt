@@ -68,7 +68,8 @@ fn a_crash_takes_what_was_only_set(rt: HostRuntime) -> Result<(), TestFail> {
     Ok(())
 }
 
-/// The disk after so many calls of a put of a value of 4062 bytes, on a store whose chain of three pages leaves two pages clear.
+/// The disk after so many calls of a put of a value of 4062 bytes, on a store whose chain of three pages leaves two
+/// pages clear.
 fn stopped_put(rt: &impl Abort, alloc: Global, calls: u64) -> Result<MemDisk, TestFail> {
     let mut script = Vec::new(alloc);
     push_long(&mut script, b"0 put @0 k t:", (b'y', 4062))?;
@@ -94,9 +95,9 @@ fn look_put_look(alloc: Global, letter: u8) -> Result<Vec<u8>, TestFail> {
     Ok(told)
 }
 
-/// Loading reads the super block, five metadata pages and a chain of three pages. The put makes two writes of fresh pages, a
-/// flush, the head's write and a flush, and then two writes of old pages and a flush. Whenever it is cut off, two pages are
-/// clear for the next put, and once that is done the others hold zeros.
+/// Loading reads the super block, five metadata pages and a chain of three pages. The put makes two writes of fresh
+/// pages, a flush, the head's write and a flush, and then two writes of old pages and a flush. Whenever it is cut off,
+/// two pages are clear for the next put, and once that is done the others hold zeros.
 #[test]
 fn a_put_cut_off_leaves_its_pages_clear(rt: HostRuntime) -> Result<(), TestFail> {
     let alloc = rt.alloc();

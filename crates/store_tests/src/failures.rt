@@ -1,4 +1,5 @@
-//! What the program says and prints where there is no command, no script or no store, and where the source or the sink fails.
+//! What the program says and prints where there is no command, no script or no store, and where the source or the sink
+//! fails.
 
 use crate::images::store;
 use crate::runs::{run, run_from, sink, source};

@@ -63,8 +63,8 @@ fn put(rt: &impl Abort, disk: &mut MemDisk, row: Row) -> Result<(), Fail> {
     Ok(())
 }
 
-/// A device of so many pages with a store, which has clusters of 4 pages and so many metadata pages from page 4 on, with these
-/// in them. Its masks are zeros.
+/// A device of so many pages with a store, which has clusters of 4 pages and so many metadata pages from page 4 on,
+/// with these in them. Its masks are zeros.
 pub fn image(
     rt: &impl Abort,
     alloc: Global,
@@ -96,8 +96,8 @@ pub fn two_blobs(rt: &impl Abort, alloc: Global) -> Result<MemDisk, Fail> {
     image(rt, alloc, (64, 16), &rows)
 }
 
-/// The device whose only blob, at place 0, is a volume with a name, a uuid, a value `k` of 4062 times the letter x, and a map:
-/// a chain of three pages, at the places 0 to 2.
+/// The device whose only blob, at place 0, is a volume with a name, a uuid, a value `k` of 4062 times the letter x, and
+/// a map: a chain of three pages, at the places 0 to 2.
 pub fn volume(rt: &impl Abort, alloc: Global, md_pages: u32) -> Result<MemDisk, Fail> {
     let rows: [Row; 3] = [
         (0, 0, 0, 1, &[THIN, NAMED]),

@@ -11,8 +11,8 @@ use std::process::Abort;
 use std::test::Fail as TestFail;
 use volume_model::{Command, Entry, Name, Reply, TryCopy, Volumes};
 
-/// What stands once so many puts are done: how many calls of the device were made until the head of the last one was flushed, and
-/// the chain.
+/// What stands once so many puts are done: how many calls of the device were made until the head of the last one was
+/// flushed, and the chain.
 #[derive(Clone, Copy)]
 struct Point {
     puts: usize,
@@ -23,8 +23,8 @@ struct Point {
 /// The metadata pages of the store, just enough.
 const MD_PAGES: u32 = 4;
 
-/// Before the puts, and after each. Loading reads six pages. A put writes each fresh page, flushes, writes the head, and flushes.
-/// Then it overwrites each old page behind the head, and flushes, if there was one.
+/// Before the puts, and after each. Loading reads six pages. A put writes each fresh page, flushes, writes the head,
+/// and flushes. Then it overwrites each old page behind the head, and flushes, if there was one.
 const POINTS: [Point; 6] = [
     Point {
         puts: 0,
@@ -159,7 +159,8 @@ fn assert_point(
     assert_chains(rt, alloc, disk, &[(0, point.chain)])
 }
 
-/// A put whose head is written and not flushed may be there or not: it is where a crash leaves the last write, as pick 1 says.
+/// A put whose head is written and not flushed may be there or not: it is where a crash leaves the last write, as pick
+/// 1 says.
 #[test]
 fn each_crash_leaves_the_puts_that_were_done(rt: HostRuntime) -> Result<(), TestFail> {
     let alloc = rt.alloc();

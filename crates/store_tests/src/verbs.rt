@@ -23,7 +23,8 @@ fn play(
     Ok(disk)
 }
 
-/// A script, what it prints, and what a later run prints of `0 getx @0 k`, where the blob has `k` with the value 1 on the disk before.
+/// A script, what it prints, and what a later run prints of `0 getx @0 k`, where the blob has `k` with the value 1 on
+/// the disk before.
 type Case = (&'static [u8], &'static [u8], &'static [u8]);
 
 const CASES: [Case; 11] = [

@@ -7,8 +7,8 @@ pub record Caused {T E : Type 0} (before after : ℕ) (result : Result T E) : Ty
   pub later : before ≤ after
   pub cause : IsErr result → Rose before after
 
--- The first n bytes that were left stand at the head of the buffer, and are left no longer. None for a buffer that isn't
--- empty is the end.
+-- The first n bytes that were left stand at the head of the buffer, and are left no longer. None for a buffer that
+-- isn't empty is the end.
 pub record MovesBytes (left left_now buffer : List ℕ) (n : ℕ) : Type 0 where
   pub within : n ≤ length left
   pub bytes : take n buffer ≡ take n left

@@ -27,16 +27,19 @@ impl Model for ListSink {
 
     ghost Value = { Writing };
 
-    ghost view = { λ s. record { written = s.bytes.items; room = s.room; fails = s.fails.items; calls = s.calls; faults = s.faults } };
+    ghost view = { λ s.
+        record { written = s.bytes.items; room = s.room; fails = s.fails.items; calls = s.calls; faults = s.faults } };
 
     ghost invariant = { λ s. s.room ≤ vec_capacity s.bytes };
 }
 
 impl ListSink {
     /// An empty sink with room for so many bytes, which it reserves. The writes whose numbers, counted from 1, stand in
-    /// `fails` are faults, and so is a piece that goes past the room. It counts them, and takes every other piece whole.
+    /// `fails` are faults, and so is a piece that goes past the room. It counts them, and takes every other piece
+    /// whole.
     pub fn new(alloc: Global, room: u32, fails: Vec<u64>) -> Result<ListSink, Memory>
-        ensures { IfOk result (λ s. s ≡ record { written = []; room = room; fails = fails.items; calls = 0; faults = 0 }) }
+        ensures { IfOk result
+            (λ s. s ≡ record { written = []; room = room; fails = fails.items; calls = 0; faults = 0 }) }
     {
         Ok(ListSink {
             bytes: Vec::with_capacity(alloc, room as usize)?,
@@ -69,7 +72,9 @@ impl Sink for ListSink {
         ensures kept { OnErr result (self.new.written ≡ self.old.written) }
         ensures faults { Caused self.old.faults self.new.faults result }
         ensures counted { RoseByOne self.old.calls self.new.calls }
-        ensures fails { is_err result ≡ (is_failing self.old.fails self.new.calls || nat_lt self.old.room (length self.old.written + length from.now)) }
+        ensures fails { is_err result ≡
+            (is_failing self.old.fails self.new.calls || nat_lt self.old.room
+            (length self.old.written + length from.now)) }
         ensures whole { IfOk result (λ n. n ≡ length from.now) }
         ensures plan { (self.new.fails ≡ self.old.fails) × (self.new.room ≡ self.old.room) }
     {

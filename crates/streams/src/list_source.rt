@@ -8,8 +8,8 @@ ghost use Rattle.streams.specs.Streams.{Caused, MovesBytes};
 use crate::source::{Source, SourceFault};
 use std::marker::Model;
 
-/// A source of bytes in memory, of which some reads fail. Contracts see what is left, the numbers of the reads that fail, and
-/// how many reads and faults there have been.
+/// A source of bytes in memory, of which some reads fail. Contracts see what is left, the numbers of the reads that
+/// fail, and how many reads and faults there have been.
 #[derive(Debug, Drop)]
 pub struct ListSource {
     bytes: Vec<u8>,
@@ -25,14 +25,15 @@ impl Model for ListSource {
 
     ghost Value = { Reading };
 
-    ghost view = { λ s. record { left = drop s.at s.bytes.items; fails = s.fails.items; calls = s.calls; faults = s.faults } };
+    ghost view = { λ s.
+        record { left = drop s.at s.bytes.items; fails = s.fails.items; calls = s.calls; faults = s.faults } };
 
     ghost invariant = { λ s. s.at ≤ length s.bytes.items };
 }
 
 impl ListSource {
-    /// A source of these bytes. The reads whose numbers, counted from 1, stand in `fails` are faults, which it counts; every
-    /// other read gives all that the buffer takes.
+    /// A source of these bytes. The reads whose numbers, counted from 1, stand in `fails` are faults, which it counts;
+    /// every other read gives all that the buffer takes.
     pub fn new(bytes: Vec<u8>, fails: Vec<u64>) -> ListSource
         ensures { result ≡ record { left = bytes.items; fails = fails.items; calls = 0; faults = 0 } }
     {

@@ -18,8 +18,8 @@ pub trait Sink {
     /// How often a write has failed.
     ghost faults: { Self → ℕ };
 
-    /// Appends the first bytes of the piece, and answers how many: at least one of a piece that isn't empty. After a fault
-    /// nothing was written.
+    /// Appends the first bytes of the piece, and answers how many: at least one of a piece that isn't empty. After a
+    /// fault nothing was written.
     fn write(&mut self, from: &[u8]) -> Result<usize, SinkFault>
         ensures within { IfOk result (λ n. n ≤ length from.now) }
         ensures moves { IfOk result (λ n. 0 < length from.now → 0 < n) }

@@ -29,7 +29,8 @@ use Rattle.unclean_load.proofs.Slots.{one_copy}
 
 -- ---- the super block
 
-third_fails : (a b : Option SuperFault) (f : SuperFault) (rest : List (Option SuperFault)) → first_fault (a ∷ b ∷ Some f ∷ rest) ≡ None → ⊥
+third_fails : (a b : Option SuperFault) (f : SuperFault) (rest : List (Option SuperFault))
+    → first_fault (a ∷ b ∷ Some f ∷ rest) ≡ None → ⊥
 third_fails None None f rest e = cc e
 third_fails None (Some g) f rest e = cc e
 third_fails (Some g) b f rest e = cc e
@@ -42,20 +43,31 @@ faultless_by false s e = absurd (third_fails _ _ _ _ e)
 some_pages : (s : Super) → IsPlaced s → 0 < s.device_pages
 some_pages s placed =
     let some : 1 ≤ clusters_of s = let a = placed.some_fixed in let b = placed.fixed_clusters in omega (arith, a, b) in
-    let more : 1 * cluster_pages_of s ≤ clusters_of s * cluster_pages_of s = mul-le-mul_right (cluster_pages_of s) some in
+    let more : 1 * cluster_pages_of s ≤ clusters_of s * cluster_pages_of s =
+    mul-le-mul_right (cluster_pages_of s) some in
     let pages = placed.some_pages in
     let device = placed.on_device in
     omega (arith, more, pages, device)
 
 -- ---- no mark
 
-other_first : (name : List ℕ) (x : Xattr) (xs : List Xattr) → value_of (x ∷ xs) name ≡ None → (bytes_eq x.key name ≡ false) × (value_of xs name ≡ None)
+other_first : (name : List ℕ) (x : Xattr) (xs : List Xattr) → value_of (x ∷ xs) name ≡ None
+    → (bytes_eq x.key name ≡ false) × (value_of xs name ≡ None)
 other_first name x xs none = elim (cases_Bool (bytes_eq x.key name)) [
-  | inl same ↦ absurd (let e = subst (λ (b : Bool). option_map (λ (y : Xattr). y.value) (cond b (Some x) (find (λ (y : Xattr). bytes_eq y.key name) xs)) ≡ None) same none in cc e)
-  | inr other ↦ (other, subst (λ (b : Bool). option_map (λ (y : Xattr). y.value) (cond b (Some x) (find (λ (y : Xattr). bytes_eq y.key name) xs)) ≡ None) other none)
+  | inl same ↦
+      absurd (let e = subst
+      (λ (b : Bool). option_map (λ (y : Xattr). y.value)
+      (cond b (Some x) (find (λ (y : Xattr). bytes_eq y.key name) xs)) ≡ None) same none in cc e)
+  | inr other ↦ (
+    other,
+    subst
+        (λ (b : Bool). option_map (λ (y : Xattr). y.value)
+        (cond b (Some x) (find (λ (y : Xattr). bytes_eq y.key name) xs)) ≡ None) other none,
+  )
 ]
 
-none_marked : (xs : List Xattr) → value_of xs (codes "SNAP") ≡ None → value_of xs (codes "SNAPTMP") ≡ None → value_of xs (codes "SNAPRM") ≡ None → list_any (λ (x : Xattr). is_mark x.key) xs ≡ false
+none_marked : (xs : List Xattr) → value_of xs (codes "SNAP") ≡ None → value_of xs (codes "SNAPTMP") ≡ None
+    → value_of xs (codes "SNAPRM") ≡ None → list_any (λ (x : Xattr). is_mark x.key) xs ≡ false
 none_marked [] a b c = refl
 none_marked (x ∷ xs) a b c =
     let p = other_first (codes "SNAP") x xs a in
@@ -68,15 +80,27 @@ unmarked s head m root = none_marked m.internal root.no_parent root.not_made roo
 
 -- ---- the image
 
-pub accepted : ((s : Super) → IsFaultless s → IsPlaced s) → (s : Super) (image : Image) (metas : Metas) (chains : Chains) → super_fault (image 0) s.device_pages ≡ None → s ≡ super_of (image 0) s.device_pages
-    → Says (region_of s) metas chains image → AreRoots s metas → IsLawful s.md_len metas → IsAccepted s.device_pages image
+-- an image that says lawful metadata of roots is accepted
+pub accepted : ((s : Super) → IsFaultless s → IsPlaced s)
+    → (s : Super) (image : Image) (metas : Metas) (chains : Chains) → super_fault (image 0) s.device_pages ≡ None
+    → s ≡ super_of (image 0) s.device_pages
+    → Says (region_of s) metas chains image → AreRoots s metas → IsLawful s.md_len metas
+    → IsAccepted s.device_pages image
 accepted placed s image metas chains none is says roots lawful =
     let fine : fault_of (is_sound (image 0)) s ≡ None = ap (λ (t : Super). fault_of (is_sound (image 0)) t) is ∙ none in
     record {
       sup = s;
-      super_at = record { some_pages = some_pages s (placed s (faultless_by (is_sound (image 0)) s fine)); faultless = none; is = is };
+      super_at =
+          record {
+            some_pages = some_pages s
+                (placed s (faultless_by (is_sound (image 0)) s fine));
+            faultless = none;
+            is = is;
+          };
       metas = metas;
       chains = chains;
-      whole = record { says = says; few = lawful.few; unmarked = λ head m there. unmarked s head m (roots head m there) };
-      alone = λ cluster. one_copy metas cluster (λ h k i j m n a b x y. lawful.alone h k i j cluster m n a b x y) s.md_len;
+      whole =
+          record { says = says; few = lawful.few; unmarked = λ head m there. unmarked s head m (roots head m there) };
+      alone =
+          λ cluster. one_copy metas cluster (λ h k i j m n a b x y. lawful.alone h k i j cluster m n a b x y) s.md_len;
     }

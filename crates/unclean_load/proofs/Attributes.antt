@@ -1,4 +1,5 @@
--- The attributes that a chain's items say can be written again: no two of one name, and each as short as its page had room for.
+-- The attributes that a chain's items say can be written again: no two of one name, and each as short as its page had
+-- room for.
 use Rattle.std.proofs.Common.{◌≡◌, ℕ, ◌+◌, ◌-◌, ◌≤◌, Bool, true, false, cond, List, [], ◌∷◌, ◌++◌, length, take, drop, Option, Some, None, refl, ap, subst, inl, inr, arith}
 use Rattle.std.specs.Prelude.{◌==◌}
 use Rattle.std.specs.List.{AllByRecursion, filter_map}
@@ -30,7 +31,8 @@ other_names name (x ∷ xs) = elim (cases_Bool (bytes_eq x.key name)) [
 ]
 
 -- what holds of all holds of those of another name
-all_still : (P : Xattr → Type 0) (name : List ℕ) (xs : List Xattr) → AllByRecursion P xs → AllByRecursion P (others name xs)
+all_still : (P : Xattr → Type 0) (name : List ℕ) (xs : List Xattr) → AllByRecursion P xs
+    → AllByRecursion P (others name xs)
 all_still P name [] all = tt
 all_still P name (x ∷ xs) all = elim (cases_Bool (bytes_eq x.key name)) [
   | inl same ↦ rw same (all_still P name xs all.1)
@@ -63,7 +65,8 @@ IsShortItem (item.Xattr key value) = length key + length value ≤ 4063
 IsShortItem (item.InternalXattr key value) = length key + length value ≤ 4063
 IsShortItem _ = Unit {0}
 
-cut_sum : (n : ℕ) (l : List ℕ) (k : ℕ) → length l ≡ 4 + n + k → length (take n (drop 4 l)) + length (drop (4 + n) l) ≤ length l - 4
+cut_sum : (n : ℕ) (l : List ℕ) (k : ℕ) → length l ≡ 4 + n + k
+    → length (take n (drop 4 l)) + length (drop (4 + n) l) ≤ length l - 4
 cut_sum n l k e =
     let a = length-take n (drop 4 l) in
     let b = length-drop 4 l in
@@ -79,15 +82,23 @@ pair_short : (body : List ℕ) (p : List ℕ × List ℕ) → pair_in body ≡ S
 unfolding pair_in
 pair_short body p e =
     let x = both_fit _ _ _ p e in
-    subst (λ (q : List ℕ × List ℕ). length q.0 + length q.1 ≤ length body - 4) x.1 (cut_sum (number_from 0 2 body) body (number_from 2 2 body) (eqb-true _ _ x.0))
+    subst (λ (q : List ℕ × List ℕ). length q.0 + length q.1 ≤ length body - 4) x.1
+    (cut_sum (number_from 0 2 body) body (number_from 2 2 body) (eqb-true _ _ x.0))
 
-xattr_short : (o : Option (List ℕ × List ℕ)) (n : ℕ) (i : Item) → ((p : List ℕ × List ℕ) → o ≡ Some p → length p.0 + length p.1 ≤ n - 4) → n + 5 ≤ 4072 → xattr_of o ≡ Some i → IsShortItem i
+xattr_short : (o : Option (List ℕ × List ℕ)) (n : ℕ) (i : Item)
+    → ((p : List ℕ × List ℕ) → o ≡ Some p → length p.0 + length p.1 ≤ n - 4) → n + 5 ≤ 4072 → xattr_of o ≡ Some i
+    → IsShortItem i
 xattr_short None n i all fits e = absurd cc
-xattr_short (Some p) n i all fits e = let is : item.Xattr p.0 p.1 ≡ i = cc e in let x = all p refl in subst IsShortItem is (omega (arith, x, fits))
+xattr_short (Some p) n i all fits e =
+    let is : item.Xattr p.0 p.1 ≡ i = cc e in let x = all p refl in subst IsShortItem is (omega (arith, x, fits))
 
-internal_short : (o : Option (List ℕ × List ℕ)) (n : ℕ) (i : Item) → ((p : List ℕ × List ℕ) → o ≡ Some p → length p.0 + length p.1 ≤ n - 4) → n + 5 ≤ 4072 → internal_of o ≡ Some i → IsShortItem i
+internal_short : (o : Option (List ℕ × List ℕ)) (n : ℕ) (i : Item)
+    → ((p : List ℕ × List ℕ) → o ≡ Some p → length p.0 + length p.1 ≤ n - 4) → n + 5 ≤ 4072 → internal_of o ≡ Some i
+    → IsShortItem i
 internal_short None n i all fits e = absurd cc
-internal_short (Some p) n i all fits e = let is : item.InternalXattr p.0 p.1 ≡ i = cc e in let x = all p refl in subst IsShortItem is (omega (arith, x, fits))
+internal_short (Some p) n i all fits e =
+    let is : item.InternalXattr p.0 p.1 ≡ i =
+    cc e in let x = all p refl in subst IsShortItem is (omega (arith, x, fits))
 
 runs_short : (b : Bool) (runs : List SlotRun) (i : Item) → cond b None (Some (item.Rle runs)) ≡ Some i → IsShortItem i
 runs_short true runs i e = absurd cc
@@ -108,31 +119,45 @@ flags_short body i e = words_short _ _ _ _ i e
 row_short : (kind : ℕ) (body : List ℕ) (i : Item) → length body + 5 ≤ 4072 → row kind body ≡ Some i → IsShortItem i
 row_short kind body i fits e = go (kind == 1) (kind == 2) (kind == 3) (kind == 4) e
   where
-    go : (a b c d : Bool) → cond a (rle body) (cond b (xattr_of (pair_in body)) (cond c (flags body) (cond d (internal_of (pair_in body)) (Some (item.Unknown kind))))) ≡ Some i → IsShortItem i
+    go : (a b c d : Bool)
+        → cond a (rle body)
+        (cond b (xattr_of (pair_in body))
+        (cond c (flags body) (cond d (internal_of (pair_in body)) (Some (item.Unknown kind))))) ≡ Some i → IsShortItem i
     go true b c d e = rle_short body i e
     go false true c d e = xattr_short (pair_in body) (length body) i (pair_short body) fits e
     go false false true d e = flags_short body i e
     go false false false true e = internal_short (pair_in body) (length body) i (pair_short body) fits e
     go false false false false e = let is : item.Unknown kind ≡ i = cc e in subst IsShortItem is tt
 
-items_short : (body : List ℕ) (items : List Item) → length body ≤ 4072 → Spells body items → AllByRecursion IsShortItem items
+items_short : (body : List ℕ) (items : List Item) → length body ≤ 4072 → Spells body items
+    → AllByRecursion IsShortItem items
 items_short body items fits (short _ lt) = tt
 items_short body items fits (ends _ b r d z) = tt
-items_short body items fits (padding _ b r _ d z rest) = items_short r items (let x = length-drop (5 + length b) body in let y = ap length d.rest_is in omega (arith, x, y, fits)) rest
-items_short body items fits (adds _ kind b r i is d pos said rest) =
-    (row_short kind b i (let x = d.fits in omega (arith, x, fits)) said, items_short r is (let x = length-drop (5 + length b) body in let y = ap length d.rest_is in omega (arith, x, y, fits)) rest)
+items_short body items fits (padding _ b r _ d z rest) =
+    items_short r items
+    (let x = length-drop (5 + length b) body in let y = ap length d.rest_is in omega (arith, x, y, fits)) rest
+items_short body items fits (adds _ kind b r i is d pos said rest) = (
+  row_short kind b i (let x = d.fits in omega (arith, x, fits)) said,
+  items_short r is
+      (let x = length-drop (5 + length b) body in let y = ap length d.rest_is in omega (arith, x, y, fits)) rest,
+)
 
 body_long : (page : List ℕ) → length (body_of page) ≤ 4072
 unfolding body_of field
 body_long page = let x = length-take 4072 (drop 16 page) in omega (arith, x)
 
-both_short : (xs ys : List Item) → AllByRecursion IsShortItem xs → AllByRecursion IsShortItem ys → AllByRecursion IsShortItem (xs ++ ys)
+both_short : (xs ys : List Item) → AllByRecursion IsShortItem xs → AllByRecursion IsShortItem ys
+    → AllByRecursion IsShortItem (xs ++ ys)
 both_short [] ys a b = b
 both_short (x ∷ xs) ys a b = (a.0, both_short xs ys a.1 b)
 
-chain_short : (look : Look) (md_len h n : ℕ) (seen : List ℕ) (before p : ℕ) (items : List Item) (pages : List ℕ) → Links look md_len h n seen before p items pages → AllByRecursion IsShortItem items
-chain_short look md_len h n seen before p items pages (last _ _ _ _ _ lf s e) = items_short (body_of (look p)) items (body_long (look p)) s
-chain_short look md_len h n seen before p items pages (more _ _ _ _ is rest ps lf s ne l) = both_short is rest (items_short (body_of (look p)) is (body_long (look p)) s) (chain_short look md_len h _ _ _ _ rest ps l)
+chain_short : (look : Look) (md_len h n : ℕ) (seen : List ℕ) (before p : ℕ) (items : List Item) (pages : List ℕ)
+    → Links look md_len h n seen before p items pages → AllByRecursion IsShortItem items
+chain_short look md_len h n seen before p items pages (last _ _ _ _ _ lf s e) =
+    items_short (body_of (look p)) items (body_long (look p)) s
+chain_short look md_len h n seen before p items pages (more _ _ _ _ is rest ps lf s ne l) =
+    both_short is rest (items_short (body_of (look p)) is (body_long (look p)) s)
+    (chain_short look md_len h _ _ _ _ rest ps l)
 
 said_short : (items : List Item) → AllByRecursion IsShortItem items → AllByRecursion IsShort (filter_map xattr_in items)
 said_short [] all = tt
@@ -142,7 +167,8 @@ said_short (item.Rle runs ∷ items) all = said_short items all.1
 said_short (item.InternalXattr key value ∷ items) all = said_short items all.1
 said_short (item.Unknown kind ∷ items) all = said_short items all.1
 
-internal_said_short : (items : List Item) → AllByRecursion IsShortItem items → AllByRecursion IsShort (filter_map internal_in items)
+internal_said_short : (items : List Item) → AllByRecursion IsShortItem items
+    → AllByRecursion IsShort (filter_map internal_in items)
 internal_said_short [] all = tt
 internal_said_short (item.Flags a b c ∷ items) all = internal_said_short items all.1
 internal_said_short (item.Xattr key value ∷ items) all = internal_said_short items all.1
@@ -152,9 +178,22 @@ internal_said_short (item.Unknown kind ∷ items) all = internal_said_short item
 
 -- ---- both lists of a chain
 
-module _ (look : Look) (md_len h n : ℕ) (seen : List ℕ) (before p : ℕ) (items : List Item) (pages : List ℕ) (links : Links look md_len h n seen before p items pages) where
+module _ (look : Look) (md_len h n : ℕ) (seen : List ℕ) (before p : ℕ) (items : List Item) (pages : List ℕ)
+    (links : Links look md_len h n seen before p items pages) where
+  -- attributes that were read from a page can be written again
   pub xattrs_written : CanBeWritten (firsts (filter_map xattr_in items))
-  xattrs_written = record { names = distinct_firsts _; short = short_firsts _ (said_short items (chain_short look md_len h n seen before p items pages links)) }
+  xattrs_written =
+      record {
+        names = distinct_firsts _;
+        short = short_firsts _
+            (said_short items (chain_short look md_len h n seen before p items pages links));
+      }
 
+  -- and so can internal ones
   pub internal_written : CanBeWritten (firsts (filter_map internal_in items))
-  internal_written = record { names = distinct_firsts _; short = short_firsts _ (internal_said_short items (chain_short look md_len h n seen before p items pages links)) }
+  internal_written =
+      record {
+        names = distinct_firsts _;
+        short = short_firsts _
+            (internal_said_short items (chain_short look md_len h n seen before p items pages links));
+      }

@@ -1,12 +1,11 @@
 pub mod Places
 pub mod Attributes
 pub mod Roots
-pub mod Maps
 pub mod Sums
-pub mod Walk
+pub mod HeadWalk
 pub mod Marks
 pub mod Counts
 pub mod Slots
-pub mod Whole
+pub mod LoadOutcome
 pub mod Refusing
 pub mod Accepting

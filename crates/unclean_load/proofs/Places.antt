@@ -12,7 +12,8 @@ use Rattle.unclean_load.specs.Reading.{GaveHead}
 
 module _ {D : Type 0} (d : Ghosts D) (s : Super) (disk : D) (place : ℕ) where
   -- the page that was read there is the one that a look gives
-  pub gave_head : (page : List ℕ) (is : Bool) → (IsTrue d.tells → page ≡ d.now disk (s.md_start + place)) → is ≡ is_head place page → GaveHead d s disk place is
+  pub gave_head : (page : List ℕ) (is : Bool) → (IsTrue d.tells → page ≡ d.now disk (s.md_start + place))
+      → is ≡ is_head place page → GaveHead d s disk place is
   gave_head page is read same = record {
     look = with_page (region_look s (d.now disk)) place page;
     seen = λ told. known (region_look s (d.now disk)) place page (read told);

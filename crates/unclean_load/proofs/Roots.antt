@@ -23,7 +23,8 @@ use Rattle.unclean_load.proofs.Attributes.{xattrs_written, internal_written}
 
 -- ---- no mark
 
-none_named : (name : List ℕ) → ((key : List ℕ) → bytes_eq key name ≡ true → is_mark key ≡ true) → (xs : List Xattr) → list_any (λ (x : Xattr). is_mark x.key) xs ≡ false → value_of xs name ≡ None
+none_named : (name : List ℕ) → ((key : List ℕ) → bytes_eq key name ≡ true → is_mark key ≡ true) → (xs : List Xattr)
+    → list_any (λ (x : Xattr). is_mark x.key) xs ≡ false → value_of xs name ≡ None
 none_named name is [] none = refl
 none_named name is (x ∷ xs) none =
     let parts = or_parts (is_mark x.key) (list_any (λ (x : Xattr). is_mark x.key) xs) none in
@@ -36,43 +37,57 @@ is_snap : (key : List ℕ) → bytes_eq key (codes "SNAP") ≡ true → is_mark 
 is_snap key e = rw e refl
 
 is_snaptmp : (key : List ℕ) → bytes_eq key (codes "SNAPTMP") ≡ true → is_mark key ≡ true
-is_snaptmp key e = or_left (bytes_eq key (codes "SNAP") || bytes_eq key (codes "SNAPTMP")) (bytes_eq key (codes "SNAPRM")) (or_right (bytes_eq key (codes "SNAP")) (bytes_eq key (codes "SNAPTMP")) e)
+is_snaptmp key e =
+    or_left (bytes_eq key (codes "SNAP") || bytes_eq key (codes "SNAPTMP")) (bytes_eq key (codes "SNAPRM"))
+    (or_right (bytes_eq key (codes "SNAP")) (bytes_eq key (codes "SNAPTMP")) e)
 
 is_snaprm : (key : List ℕ) → bytes_eq key (codes "SNAPRM") ≡ true → is_mark key ≡ true
-is_snaprm key e = or_right (bytes_eq key (codes "SNAP") || bytes_eq key (codes "SNAPTMP")) (bytes_eq key (codes "SNAPRM")) e
+is_snaprm key e =
+    or_right (bytes_eq key (codes "SNAP") || bytes_eq key (codes "SNAPTMP")) (bytes_eq key (codes "SNAPRM")) e
 
 clear_twice : (n : ℕ) → without_bit_1 (without_bit_1 n) ≡ without_bit_1 n
 clear_twice n = omega arith
 
 -- ---- the places of a chain
 
-unseen : (look : Look) (md_len h n : ℕ) (seen : List ℕ) (before p : ℕ) (items : List Item) (pages : List ℕ) → Links look md_len h n seen before p items pages → (q : ℕ) → is_among q seen ≡ true → is_among q pages ≡ false
+unseen : (look : Look) (md_len h n : ℕ) (seen : List ℕ) (before p : ℕ) (items : List Item) (pages : List ℕ)
+    → Links look md_len h n seen before p items pages → (q : ℕ) → is_among q seen ≡ true → is_among q pages ≡ false
 unseen look md_len h n seen before p items pages (last _ _ _ _ _ lf s e) q a =
     let new = (passes (look p) md_len h n seen before p lf).new in
     elim (cases_Bool (p == q)) [
-      | inl same ↦ absurd (both_ways _ new (subst (λ (k : ℕ). is_among k seen ≡ true) (sym (Rattle.std.proofs.lemmas.Bool.eqb-true p q same)) a))
+      | inl same ↦
+          absurd (both_ways _ new
+          (subst (λ (k : ℕ). is_among k seen ≡ true) (sym (Rattle.std.proofs.lemmas.Bool.eqb-true p q same)) a))
       | inr other ↦ rw other refl
     ]
 unseen look md_len h n seen before p items pages (more _ _ _ _ is rest ps lf s ne l) q a =
     let new = (passes (look p) md_len h n seen before p lf).new in
     let later = unseen look md_len h (suc n) (p ∷ seen) p _ rest ps l q (or_right (p == q) (is_among q seen) a) in
     elim (cases_Bool (p == q)) [
-      | inl same ↦ absurd (both_ways _ new (subst (λ (k : ℕ). is_among k seen ≡ true) (sym (Rattle.std.proofs.lemmas.Bool.eqb-true p q same)) a))
+      | inl same ↦
+          absurd (both_ways _ new
+          (subst (λ (k : ℕ). is_among k seen ≡ true) (sym (Rattle.std.proofs.lemmas.Bool.eqb-true p q same)) a))
       | inr other ↦ rw other later
     ]
 
-distinct : (look : Look) (md_len h n : ℕ) (seen : List ℕ) (before p : ℕ) (items : List Item) (pages : List ℕ) → Links look md_len h n seen before p items pages → AreDistinct pages
+distinct : (look : Look) (md_len h n : ℕ) (seen : List ℕ) (before p : ℕ) (items : List Item) (pages : List ℕ)
+    → Links look md_len h n seen before p items pages → AreDistinct pages
 distinct look md_len h n seen before p items pages (last _ _ _ _ _ lf s e) = (refl, tt)
-distinct look md_len h n seen before p items pages (more _ _ _ _ is rest ps lf s ne l) =
-    (unseen look md_len h (suc n) (p ∷ seen) p _ rest ps l p (or_left (p == p) (is_among p seen) (eq-eqb p p refl)), distinct look md_len h (suc n) (p ∷ seen) p _ rest ps l)
+distinct look md_len h n seen before p items pages (more _ _ _ _ is rest ps lf s ne l) = (
+  unseen look md_len h (suc n) (p ∷ seen) p _ rest ps l p (or_left (p == p) (is_among p seen) (eq-eqb p p refl)),
+  distinct look md_len h (suc n) (p ∷ seen) p _ rest ps l,
+)
 
-from_first : (look : Look) (md_len h n : ℕ) (seen : List ℕ) (before p : ℕ) (items : List Item) (pages : List ℕ) → Links look md_len h n seen before p items pages → (rest : List ℕ) × (pages ≡ p ∷ rest)
+from_first : (look : Look) (md_len h n : ℕ) (seen : List ℕ) (before p : ℕ) (items : List Item) (pages : List ℕ)
+    → Links look md_len h n seen before p items pages → (rest : List ℕ) × (pages ≡ p ∷ rest)
 from_first look md_len h n seen before p items pages (last _ _ _ _ _ lf s e) = ([], refl)
 from_first look md_len h n seen before p items pages (more _ _ _ _ is rest ps lf s ne l) = (ps, refl)
 
 -- ---- a blob
 
-module _ (look : Look) (s : Super) (head : ℕ) (m : Meta) (pages : List ℕ) (says : MetaAt look (region_of s) head m pages) where
+module _ (look : Look) (s : Super) (head : ℕ) (m : Meta) (pages : List ℕ)
+    (says : MetaAt look (region_of s) head m pages) where
+  -- the chain that was read is one of the region, and begins with its head
   pub chain_of_region : IsChainOf s.md_len head pages
   chain_of_region = record {
     rest = (from_first look s.md_len head 0 [] head head says.items pages says.chain).0;
@@ -91,8 +106,13 @@ module _ (look : Look) (s : Super) (head : ℕ) (m : Meta) (pages : List ℕ) (s
     no_parent = none_named (codes "SNAP") is_snap (meta_of head says.items).internal none;
     not_made = none_named (codes "SNAPTMP") is_snaptmp (meta_of head says.items).internal none;
     not_removed = none_named (codes "SNAPRM") is_snaprm (meta_of head says.items).internal none;
-    faultless = subst (λ (n : Meta). meta_fault (region_of s).fixed (region_of s).clusters n ≡ None) says.meta_is says.faultless;
+    faultless =
+        subst (λ (n : Meta). meta_fault (region_of s).fixed
+        (region_of s).clusters n ≡ None) says.meta_is says.faultless;
   }
 
+  -- a blob that was read and has no mark can be held by the store
   pub root : has_mark m ≡ false → IsRoot s head m
-  root none = subst (λ (n : Meta). IsRoot s head n) (sym says.meta_is) (said_root (subst (λ (n : Meta). has_mark n ≡ false) says.meta_is none))
+  root none =
+      subst (λ (n : Meta). IsRoot s head n) (sym says.meta_is)
+      (said_root (subst (λ (n : Meta). has_mark n ≡ false) says.meta_is none))

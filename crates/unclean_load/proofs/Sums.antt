@@ -12,7 +12,8 @@ total_first : (f : ℕ → ℕ) (a n : ℕ) → total f a (suc n) ≡ f a + tota
 total_first f a n = sum_by-cons f a (range_with_len (a + 1) n)
 
 total_more : (f : ℕ → ℕ) (a n k : ℕ) → a + n ≡ k → total f a (suc n) ≡ total f a n + f k
-total_more f a zero k e = let x = total_first f a 0 in let y : f a ≡ f k = ap f (omega (arith, e)) in omega (arith, x, y)
+total_more f a zero k e =
+    let x = total_first f a 0 in let y : f a ≡ f k = ap f (omega (arith, e)) in omega (arith, x, y)
 total_more f a (suc n) k e =
     let x = total_first f a (suc n) in
     let y = total_more f (a + 1) n k (omega (arith, e)) in
@@ -30,15 +31,19 @@ total_same f g a (suc n) same =
 
 -- ---- from 0 on
 
+-- a sum with one term more
 pub sum_more : (f : ℕ → ℕ) (n : ℕ) → sum_by f (range_with_len 0 (n + 1)) ≡ sum_by f (range_with_len 0 n) + f n
 sum_more f n = subst (λ (m : ℕ). total f 0 m ≡ total f 0 n + f n) (suc_more n) (total_more f 0 n n (omega arith))
   where
     suc_more : (n : ℕ) → suc n ≡ n + 1
     suc_more n = omega arith
 
-pub sum_same : (f g : ℕ → ℕ) (n : ℕ) → ((k : ℕ) → k < n → f k ≡ g k) → sum_by f (range_with_len 0 n) ≡ sum_by g (range_with_len 0 n)
+-- sums of the same terms are the same
+pub sum_same : (f g : ℕ → ℕ) (n : ℕ) → ((k : ℕ) → k < n → f k ≡ g k)
+    → sum_by f (range_with_len 0 n) ≡ sum_by g (range_with_len 0 n)
 sum_same f g n same = total_same f g 0 n (λ k le lt. same k (omega (arith, lt)))
 
+-- a sum of more terms is no smaller
 pub sum_grows : (f : ℕ → ℕ) (m n : ℕ) → m ≤ n → sum_by f (range_with_len 0 m) ≤ sum_by f (range_with_len 0 n)
 sum_grows f m zero le = let none : m ≡ 0 = omega (arith, le) in rw none (omega arith)
 sum_grows f m (suc n) le = elim (cases_lt n m) [

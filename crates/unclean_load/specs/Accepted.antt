@@ -22,7 +22,8 @@ pub record SuperAt (pages : ℕ) (image : Image) (s : Super) : Type 0 where
   pub faultless : super_fault (image 0) pages ≡ None
   pub is : s ≡ super_of (image 0) pages
 
--- A device of so many pages is accepted: its super block has no fault, each head is whole, and no cluster stands in two slots.
+-- A device of so many pages is accepted: its super block has no fault, each head is whole, and no cluster stands in two
+-- slots.
 pub record IsAccepted (pages : ℕ) (image : Image) : Type 0 where
   pub sup : Super
   pub super_at : SuperAt pages image sup
@@ -35,7 +36,8 @@ pub record IsAccepted (pages : ℕ) (image : Image) : Type 0 where
 
 -- The super block has this fault; that of a device without pages has no signature.
 abbrev pub SuperFails : ℕ → Image → SuperFault → Type 0
-SuperFails pages image why = ((pages ≡ 0) × (why ≡ BadSignature)) ⊎ ((0 < pages) × (super_fault (image 0) pages ≡ Some why))
+SuperFails pages image why =
+    ((pages ≡ 0) × (why ≡ BadSignature)) ⊎ ((0 < pages) × (super_fault (image 0) pages ≡ Some why))
 
 -- The super block has no fault, and the first head that shows a fault shows this one.
 pub record HeadFails (pages : ℕ) (image : Image) (why : LoadFault) : Type 0 where
@@ -43,7 +45,8 @@ pub record HeadFails (pages : ℕ) (image : Image) (why : LoadFault) : Type 0 wh
   pub super_at : SuperAt pages image sup
   pub shows : ShowsFirst (look_of (region_of sup) image) (region_of sup) why
 
--- Each head is whole, but this is the least cluster that stands in two slots; the first two are in the maps of these heads.
+-- Each head is whole, but this is the least cluster that stands in two slots; the first two are in the maps of these
+-- heads.
 pub record ClusterFails (pages : ℕ) (image : Image) (cluster a b : ℕ) : Type 0 where
   pub sup : Super
   pub super_at : SuperAt pages image sup
@@ -72,8 +75,11 @@ IsSuperFault pages image (fault.Super why) = SuperFails pages image why
 IsSuperFault pages image fault.ReadFault = Unit {0}
 IsSuperFault pages image _ = ⊥
 
--- An image of a store is accepted: its super block has no fault, and it says metadata that is lawful, of blobs without parent and
--- mark.
+-- An image of a store is accepted: its super block has no fault, and it says metadata that is lawful, of blobs without
+-- parent and mark.
 abbrev pub StoresAreAccepted : Type 0
-StoresAreAccepted = (s : Super) (image : Image) (metas : Metas) (chains : Chains) → super_fault (image 0) s.device_pages ≡ None → s ≡ super_of (image 0) s.device_pages
-    → Says (region_of s) metas chains image → AreRoots s metas → IsLawful s.md_len metas → IsAccepted s.device_pages image
+StoresAreAccepted =
+    (s : Super) (image : Image) (metas : Metas) (chains : Chains) → super_fault (image 0) s.device_pages ≡ None
+    → s ≡ super_of (image 0) s.device_pages
+    → Says (region_of s) metas chains image → AreRoots s metas → IsLawful s.md_len metas
+    → IsAccepted s.device_pages image

@@ -12,11 +12,14 @@ use Rattle.unclean_load.specs.Sharing.{IsShared}
 
 -- each head and each chain is of the region
 abbrev pub AreChains : ℕ → Chains → Type 0
-AreChains md_len chains = (head : ℕ) (pages : List ℕ) → chains head ≡ Some pages → (head < md_len) × IsChainOf md_len head pages
+AreChains md_len chains =
+    (head : ℕ) (pages : List ℕ) → chains head ≡ Some pages → (head < md_len) × IsChainOf md_len head pages
 
 -- no place stands in two chains
 abbrev pub AreApart : Chains → Type 0
-AreApart chains = (h k place : ℕ) (ps qs : List ℕ) → chains h ≡ Some ps → chains k ≡ Some qs → is_among place ps ≡ true → is_among place qs ≡ true → h ≡ k
+AreApart chains =
+    (h k place : ℕ) (ps qs : List ℕ) → chains h ≡ Some ps → chains k ≡ Some qs → is_among place ps ≡ true
+    → is_among place qs ≡ true → h ≡ k
 
 -- The place stands in this head's chain, and in that of another.
 pub record IsInTwo (chains : Chains) (head place : ℕ) : Type 0 where
@@ -34,6 +37,7 @@ abbrev pub IsTwice : (ℕ → ℕ → Type 0) → ℕ → ChainFault → Type 0
 IsTwice twice head (chain.Loop place) = twice head place
 IsTwice twice head _ = ⊥
 
+-- want of memory, or a place in two chains, of which this holds
 abbrev pub IsPageFault : (ℕ → ℕ → Type 0) → LoadFault → Type 0
 IsPageFault twice (fault.Chain head why) = IsTwice twice head why
 IsPageFault twice fault.Memory = Unit {0}

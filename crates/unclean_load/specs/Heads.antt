@@ -19,8 +19,8 @@ use Rattle.unclean_load.specs.declared.fault.LoadFault.TheVariants as fault
 abbrev pub has_mark : Meta → Bool
 has_mark m = list_any (λ (x : Xattr). is_mark x.key) m.internal
 
--- Each head below a place has its chain and metadata without fault; their maps have at most 2^24 slots together; and none has
--- a mark.
+-- Each head below a place has its chain and metadata without fault; their maps have at most 2^24 slots together; and
+-- none has a mark.
 pub record AreWholeBelow (look : Look) (r : Region) (end : ℕ) (metas : Metas) (chains : Chains) : Type 0 where
   pub blobs : (head : ℕ) → head < end → BlobAt look r head (metas head) (chains head)
   pub few : slots_together end metas ≤ 2 ^ 24

@@ -26,9 +26,11 @@ pub record GaveHead {D : Type 0} (d : Ghosts D) (s : Super) (disk : D) (place : 
   pub seen : WasSeen d s disk look
   pub is_it : is ≡ is_head place (look place)
 
+-- the blob's metadata
 abbrev pub meta_in : Option Blob → Option Meta
 meta_in blob = option_map (λ (b : Blob). b.meta) blob
 
+-- the places of the blob's chain
 abbrev pub pages_in : Option Blob → Option (List ℕ)
 pages_in blob = option_map (λ (b : Blob). b.pages) blob
 
@@ -59,7 +61,8 @@ IsChainFault look r head _ = ⊥
 -- the fault of the metadata that the items say
 abbrev pub IsItemsFault : Region → ℕ → List Item → LoadFault → Type 0
 IsItemsFault r head items fault.Memory = Unit {0}
-IsItemsFault r head items (fault.Meta at why) = (at ≡ head) × (meta_fault r.fixed r.clusters (meta_of head items) ≡ Some why)
+IsItemsFault r head items (fault.Meta at why) =
+    (at ≡ head) × (meta_fault r.fixed r.clusters (meta_of head items) ≡ Some why)
 IsItemsFault r head items _ = ⊥
 
 -- a failed read, which was counted; or another fault, and no read has failed
@@ -79,9 +82,11 @@ pub record IsChainOf (md_len head : ℕ) (pages : List ℕ) : Type 0 where
 -- The metadata is that of roots, and each blob has a chain.
 pub record AreRead (s : Super) (metas : Metas) (chains : Chains) : Type 0 where
   pub roots : AreRoots s metas
-  pub chain : (head : ℕ) (m : Meta) → metas head ≡ Some m → (pages : List ℕ) × (chains head ≡ Some pages) × IsChainOf s.md_len head pages
+  pub chain : (head : ℕ) (m : Meta) → metas head ≡ Some m → (pages : List ℕ) × (chains head ≡ Some pages)
+      × IsChainOf s.md_len head pages
   pub none : (head : ℕ) → metas head ≡ None → chains head ≡ None
 
+-- no head from a place on has metadata
 abbrev pub HasNoneFrom : Metas → ℕ → Type 0
 HasNoneFrom metas end = (head : ℕ) → end ≤ head → metas head ≡ None
 

@@ -18,7 +18,8 @@ copies_in cluster map = count_by (holds cluster) map
 
 -- how many slots of the maps of the heads below a place have it
 abbrev pub copies : ℕ → Metas → ℕ → ℕ
-copies end metas cluster = sum_by (λ head. option_map_or (λ (m : Meta). copies_in cluster m.map) (metas head) 0) (range_with_len 0 end)
+copies end metas cluster =
+    sum_by (λ head. option_map_or (λ (m : Meta). copies_in cluster m.map) (metas head) 0) (range_with_len 0 end)
 
 -- The nth slot that has the cluster, by heads upwards, is of this head's map.
 pub record IsHolder (md_len : ℕ) (metas : Metas) (cluster n head : ℕ) : Type 0 where
@@ -50,5 +51,7 @@ pub record AreCounted (fixed : ℕ) (count : ℕ → ℕ) (bits : List Bool) (tw
 abbrev pub AreInside : ℕ → ℕ → List (Option ℕ) → Type 0
 AreInside fixed clusters map = (c : ℕ) → 0 < copies_in c map → (fixed ≤ c) × (c < clusters)
 
+-- the clusters of all maps are inside of the device
 abbrev pub AreAllInside : Super → Metas → Type 0
-AreAllInside s metas = (head : ℕ) (m : Meta) → metas head ≡ Some m → AreInside (fixed_clusters_of s) (clusters_of s) m.map
+AreAllInside s metas =
+    (head : ℕ) (m : Meta) → metas head ≡ Some m → AreInside (fixed_clusters_of s) (clusters_of s) m.map

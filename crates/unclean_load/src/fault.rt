@@ -21,7 +21,8 @@ pub enum LoadFault {
     /// The maps of the blobs up to the first with which they are too large have this many slots together.
     #[error("maps of {slots} slots together where at most 16777216 are possible")]
     MapsTooLarge { slots: u64 },
-    /// The least cluster that stands in two slots, and the heads of its first two; they are the same where one blob has both.
+    /// The least cluster that stands in two slots, and the heads of its first two; they are the same where one blob has
+    /// both.
     #[error("cluster {cluster} is in the map of the blob at page {a} and again in that at page {b}")]
     Shared { cluster: u32, a: u32, b: u32 },
     /// The device failed a read.

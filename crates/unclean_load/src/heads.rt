@@ -64,7 +64,8 @@ fn chain_at<D: PageDisk>(
     requires faultless { IsFaultless sup.now }
     requires device { sup.now.device_pages ≡ D.pages disk.old }
     ensures found { IfOk result (λ c. GaveChain D.PageDisk sup.now disk.old head c.pages c.items) }
-    ensures fault { IsTrue D.tells → IfErr result (λ e. IsChainFault (region_look sup.now (D.now disk.old)) (region_of sup.now) head e) }
+    ensures fault { IsTrue D.tells
+        → IfErr result (λ e. IsChainFault (region_look sup.now (D.now disk.old)) (region_of sup.now) head e) }
     ensures counted { IfErr result (λ e. IsCounted (D.read_faults disk.old) (D.read_faults disk.new) e) }
     ensures quiet { OnOk result (D.read_faults disk.new ≡ D.read_faults disk.old) }
     ensures same { OnlyRead D.PageDisk disk.old disk.new }
@@ -81,7 +82,8 @@ fn chain_at<D: PageDisk>(
 fn meta_at(alloc: Global, sup: &Super, head: u32, items: &ItemList) -> Result<Meta, LoadFault>
     requires { IsFaultless sup.now }
     ensures found { IfOk result (λ m. m ≡ meta_of head items.now) }
-    ensures no_fault { OnOk result (meta_fault (region_of sup.now).fixed (region_of sup.now).clusters (meta_of head items.now) ≡ None) }
+    ensures no_fault { OnOk result
+        (meta_fault (region_of sup.now).fixed (region_of sup.now).clusters (meta_of head items.now) ≡ None) }
     ensures fault { IfErr result (λ e. IsItemsFault (region_of sup.now) head items.now e) }
 {
     match from_items(alloc, head, items, sup) {
@@ -103,7 +105,8 @@ pub fn blob_at<D: PageDisk>(
     requires low { place < sup.now.md_len }
     requires inside { sup.now.md_start + sup.now.md_len ≤ D.pages disk.old }
     ensures found { IfOk result (λ b. SaysAt D.PageDisk sup.now disk.old place b) }
-    ensures fault { IsTrue D.tells → IfErr result (λ e. IsPlaceFault (region_look sup.now (D.now disk.old)) (region_of sup.now) place e) }
+    ensures fault { IsTrue D.tells
+        → IfErr result (λ e. IsPlaceFault (region_look sup.now (D.now disk.old)) (region_of sup.now) place e) }
     ensures counted { IfErr result (λ e. IsCounted (D.read_faults disk.old) (D.read_faults disk.new) e) }
     ensures quiet { OnOk result (D.read_faults disk.new ≡ D.read_faults disk.old) }
     ensures same { OnlyRead D.PageDisk disk.old disk.new }

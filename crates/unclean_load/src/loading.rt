@@ -43,7 +43,8 @@ fn masks_of(alloc: Global, sup: &Super, blobs: &Blobs) -> Result<Masks, LoadFaul
     ensures masks { IfOk result (λ m. AreMasks sup.now (map.get blobs.now.metas) (map.get blobs.now.chains) m) }
     ensures chains { OnOk result (HaveChains sup.now (map.get blobs.now.metas) (map.get blobs.now.chains)) }
     ensures alone { OnOk result ((cluster : ℕ) → copies sup.now.md_len (map.get blobs.now.metas) cluster ≤ 1) }
-    ensures fault { IfErr result (λ e. IsMaskFault sup.now.md_len (map.get blobs.now.metas) (map.get blobs.now.chains) e) }
+    ensures fault { IfErr result
+        (λ e. IsMaskFault sup.now.md_len (map.get blobs.now.metas) (map.get blobs.now.chains) e) }
 {
     Ok(Masks {
         pages: used_pages(alloc, &blobs.chains, sup.md_len)?,
@@ -56,7 +57,10 @@ fn masks_of(alloc: Global, sup: &Super, blobs: &Blobs) -> Result<Masks, LoadFaul
 fn read_store<D: PageDisk>(alloc: Global, disk: &mut D) -> Result<Store, LoadFault>
     // Where the device tells, this is what its image says.
     ensures super_block { IsTrue D.tells → IfOk result (λ s. SuperAt (D.pages disk.old) (D.now disk.old) s.sup) }
-    ensures found { IsTrue D.tells → IfOk result (λ s. AreWhole (look_of (region_of s.sup) (D.now disk.old)) (region_of s.sup) (map.get s.metas) (map.get s.chains)) }
+    ensures found { IsTrue D.tells
+        → IfOk result
+        (λ s. AreWhole (look_of (region_of s.sup) (D.now disk.old)) (region_of s.sup) (map.get s.metas)
+        (map.get s.chains)) }
     ensures fault { IsTrue D.tells → IfErr result (λ e. IsFaultOf (D.pages disk.old) (D.now disk.old) e) }
 
     // Whatever it tells, the store is in order.
@@ -84,18 +88,20 @@ fn read_store<D: PageDisk>(alloc: Global, disk: &mut D) -> Result<Store, LoadFau
     })
 }
 
-/// Loads a store by reading page 0 as its super block, and then each page of its metadata region. A page there is a head if it is
-/// sound, has sequence 0 and the id of its own place. What is loaded has nothing to recover, since no blob has a mark.
+/// Loads a store by reading page 0 as its super block, and then each page of its metadata region. A page there is a
+/// head if it is sound, has sequence 0 and the id of its own place. What is loaded has nothing to recover, since no
+/// blob has a mark.
 ///
-/// The device is read and nothing else, and is handed back with a fault: `Super` where the super block fails a test; `Chain`,
-/// `Meta`, `MapsTooLarge` or `NotYet` for the first head that shows one, in this order; where none does, `Shared` for the least
-/// cluster that stands in two slots; `ReadFault` where the device counted one.
+/// The device is read and nothing else, and is handed back with a fault: `Super` where the super block fails a test;
+/// `Chain`, `Meta`, `MapsTooLarge` or `NotYet` for the first head that shows one, in this order; where none does,
+/// `Shared` for the least cluster that stands in two slots; `ReadFault` where the device counted one.
 ///
-/// A device that doesn't give a page alike whenever it is read may give a page to two chains. The later chain then has the fault
-/// `Loop`.
+/// A device that doesn't give a page alike whenever it is read may give a page to two chains. The later chain then has
+/// the fault `Loop`.
 pub fn load<D: PageDisk>(alloc: Global, disk: D) -> Result<Loaded<D>, (D, LoadFault)>
     // What is loaded is what the image says, and only an accepted one is loaded.
-    ensures found { IsTrue D.tells → IfOk result (λ l. Says (region_of l.sup) (map.get l.metas) (map.get l.chains) (D.now disk)) }
+    ensures found { IsTrue D.tells
+        → IfOk result (λ l. Says (region_of l.sup) (map.get l.metas) (map.get l.chains) (D.now disk)) }
     ensures super_block { IsTrue D.tells → IfOk result (λ l. l.sup ≡ super_of (D.now disk 0) (D.pages disk)) }
     ensures accepted { IsTrue D.tells → IfOk result (λ _. IsAccepted (D.pages disk) (D.now disk)) }
 
@@ -107,7 +113,8 @@ pub fn load<D: PageDisk>(alloc: Global, disk: D) -> Result<Loaded<D>, (D, LoadFa
 
     // A fault is that of the image, and an accepted image has none: its device is loaded, or a read or memory fails.
     ensures cause { IsTrue D.tells → IfErr result (λ e. IsFaultOf (D.pages disk) (D.now disk) e.1) }
-    ensures refused { IsTrue D.tells → IfErr result (λ e. IsImageFault e.1 → IsAccepted (D.pages disk) (D.now disk) → ⊥) }
+    ensures refused { IsTrue D.tells
+        → IfErr result (λ e. IsImageFault e.1 → IsAccepted (D.pages disk) (D.now disk) → ⊥) }
     // A read fails where that is the answer, and in no other case.
     ensures counted { IfErr result (λ e. IsCounted (D.read_faults disk) (D.read_faults e.0) e.1) }
     ensures quiet { IfOk result (λ l. D.read_faults l.disk ≡ D.read_faults disk) }

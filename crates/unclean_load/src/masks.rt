@@ -15,15 +15,17 @@ use out_of_memory::Memory;
 use std::alloc::Global;
 use volume_model::PlaceList;
 
-/// Marks the places of a head's chain. One that is marked already is another chain's: on a device that gives each page alike
-/// whenever it is read there is none, since the page has the id of one blob.
+/// Marks the places of a head's chain. One that is marked already is another chain's: on a device that gives each page
+/// alike whenever it is read there is none, since the page has the id of one blob.
 fn mark_pages(bits: &mut Bits, head: u32, pages: &PlaceList) -> Result<(), LoadFault>
     requires low { AreBelow (length bits.old) pages.now }
     requires differ { AreDistinct pages.now }
     ensures count { length bits.new ≡ length bits.old }
     ensures added { OnOk result (AreAdded bits.old pages.now bits.new) }
     ensures new { OnOk result (AreNew bits.old pages.now) }
-    ensures fault { IfErr result (λ e. IsPageFault (λ at place. (at ≡ head) × (is_among place pages.now ≡ true) × (is_in bits.old place ≡ true)) e) }
+    ensures fault { IfErr result
+        (λ e. IsPageFault
+        (λ at place. (at ≡ head) × (is_among place pages.now ≡ true) × (is_in bits.old place ≡ true)) e) }
 {
     for page in pages.as_slice() {
         if bits.get(*page) {
@@ -37,8 +39,8 @@ fn mark_pages(bits: &mut Bits, head: u32, pages: &PlaceList) -> Result<(), LoadF
     Ok(())
 }
 
-/// The metadata pages that the chains have. Where the device gave a page of one chain as a page of another too, the later chain
-/// has the fault `Loop`.
+/// The metadata pages that the chains have. Where the device gave a page of one chain as a page of another too, the
+/// later chain has the fault `Loop`.
 pub fn used_pages(alloc: Global, chains: &Chains, md_len: u32) -> Result<Bits, LoadFault>
     requires { AreChains md_len (map.get chains.now) }
     ensures used { IfOk result (λ bits. UsedPages md_len bits (map.get chains.now) []) }
@@ -57,7 +59,8 @@ pub fn used_pages(alloc: Global, chains: &Chains, md_len: u32) -> Result<Bits, L
 /// The heads of the blobs.
 pub fn used_heads(alloc: Global, metas: &Metas, md_len: u32) -> Result<Bits, Memory>
     ensures count { IfOk result (λ bits. length bits ≡ md_len) }
-    ensures heads { IfOk result (λ bits. (head : ℕ) → head < md_len → (is_in bits head ≡ true) ↔ IsSome (map.get metas.now head)) }
+    ensures heads { IfOk result
+        (λ bits. (head : ℕ) → head < md_len → (is_in bits head ≡ true) ↔ IsSome (map.get metas.now head)) }
 {
     let mut bits = Bits::new(alloc, md_len)?;
     for head in 0..md_len {

@@ -45,7 +45,8 @@ impl Claims {
     fn claim(&mut self, cluster: u32)
         requires { cluster < length self.old.clusters }
         ensures count { length self.new.clusters ≡ length self.old.clusters }
-        ensures claimed { (fixed : ℕ) (count : ℕ → ℕ) → fixed ≤ cluster → AreCounted fixed count self.old.clusters self.old.twice
+        ensures claimed { (fixed : ℕ) (count : ℕ → ℕ) → fixed ≤ cluster
+            → AreCounted fixed count self.old.clusters self.old.twice
             → AreCounted fixed (λ c. count c + copies_said c (Some cluster ∷ [])) self.new.clusters self.new.twice }
     {
         if !self.clusters.get(cluster) {
@@ -62,7 +63,8 @@ impl Claims {
     fn add(&mut self, map: &SlotMap)
         requires { (c : ℕ) → 0 < copies_said c map.now → c < length self.old.clusters }
         ensures count { length self.new.clusters ≡ length self.old.clusters }
-        ensures claimed { (fixed : ℕ) (count : ℕ → ℕ) → AreInside fixed (length self.old.clusters) map.now → AreCounted fixed count self.old.clusters self.old.twice
+        ensures claimed { (fixed : ℕ) (count : ℕ → ℕ) → AreInside fixed (length self.old.clusters) map.now
+            → AreCounted fixed count self.old.clusters self.old.twice
             → AreCounted fixed (λ c. count c + copies_said c map.now) self.new.clusters self.new.twice }
     {
         for slot in map.as_slice() {
@@ -78,7 +80,8 @@ fn claims_of(alloc: Global, sup: &Super, metas: &Metas) -> Result<Claims, Memory
     requires faultless { IsFaultless sup.now }
     requires inside { AreAllInside sup.now (map.get metas.now) }
     ensures count { IfOk result (λ c. length c.clusters ≡ clusters_of sup.now) }
-    ensures counted { IfOk result (λ c. AreCounted (fixed_clusters_of sup.now) (copies sup.now.md_len (map.get metas.now)) c.clusters c.twice) }
+    ensures counted { IfOk result
+        (λ c. AreCounted (fixed_clusters_of sup.now) (copies sup.now.md_len (map.get metas.now)) c.clusters c.twice) }
 {
     regions_are_placed();
     let mut claims = Claims::new(alloc, sup.fixed_clusters(), sup.clusters())?;

@@ -82,16 +82,20 @@ impl Blobs {
     }
 }
 
-/// The blobs of the whole metadata region, or the first fault that a head shows: of its chain, of its metadata, of too many
-/// slots together, or of a mark.
+/// The blobs of the whole metadata region, or the first fault that a head shows: of its chain, of its metadata, of too
+/// many slots together, or of a mark.
 pub fn blobs_on<D: PageDisk>(alloc: Global, disk: &mut D, sup: &Super) -> Result<Blobs, LoadFault>
     requires faultless { IsFaultless sup.now }
     requires device { sup.now.device_pages ≡ D.pages disk.old }
     requires inside { sup.now.md_start + sup.now.md_len ≤ D.pages disk.old }
 
     // Where the device tells, they are what its image says.
-    ensures found { IsTrue D.tells → IfOk result (λ b. AreWholeBelow (region_look sup.now (D.now disk.old)) (region_of sup.now) sup.now.md_len (map.get b.metas) (map.get b.chains)) }
-    ensures fault { IsTrue D.tells → IfErr result (λ e. IsHeadsFault (region_look sup.now (D.now disk.old)) (region_of sup.now) e) }
+    ensures found { IsTrue D.tells
+        → IfOk result
+        (λ b. AreWholeBelow (region_look sup.now (D.now disk.old)) (region_of sup.now) sup.now.md_len (map.get b.metas)
+        (map.get b.chains)) }
+    ensures fault { IsTrue D.tells
+        → IfErr result (λ e. IsHeadsFault (region_look sup.now (D.now disk.old)) (region_of sup.now) e) }
 
     // Whatever it tells, they are in order.
     ensures read { IfOk result (λ b. AreRead sup.now (map.get b.metas) (map.get b.chains)) }

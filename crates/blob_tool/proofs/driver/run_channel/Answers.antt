@@ -19,7 +19,9 @@ loop-plant-preserved g c =
     let same : c.post-msg.result.channel ≡ channel = ap (λ (m : Msg). m.channel) c.post-msg.ensures.message in
     let logs : OnlyRow posted.rows served.rows channel (decided (rows_of posted.rows channel)) =
     subst (λ (k : ℕ). OnlyRow posted.rows served.rows k (decided (rows_of posted.rows k))) same c.serve.ensures.row in
-    let settles = settled d served after channel c.settle.result (ap (λ (r : Row). r.stage) logs.row) (λ is. (c.settle.ensures.waiting is).1) c.settle.ensures.logged c.settle.ensures.row in (
+    let settles =
+    settled d served after channel c.settle.result (ap (λ (r : Row). r.stage) logs.row)
+    (λ is. (c.settle.ensures.waiting is).1) c.settle.ensures.logged c.settle.ensures.row in (
       serves_on c.args.plant.now.at before posted served after channel serves next before.serial c.post-msg.ensures.row logs settles.0 (settles.1 ∙ c.serve.ensures.no_job),
       c.settle.ensures.opening ∙ c.serve.ensures.opening ∙ c.post-msg.ensures.opening ∙ c.loop-plant.invariant.1,
       (

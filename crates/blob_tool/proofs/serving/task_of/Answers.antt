@@ -31,8 +31,11 @@ returns-in-Ok-planned g c =
           sync_for d c.plans.ensures p running runs c.metas-metas.result.now c.sup-sup.result.now o command c.head_in.result c.metas-metas.ensures c.sup-sup.ensures c.head_in.ensures c.live-live.ensures job
           (if_ok (PlansSync c.metas-metas.result.now o command) w.plan_sync-planned.result job r w.plan_sync-planned.ensures.job)
           (if_ok (λ _. IsFirstCause c.metas-metas.result.now o command c.sup-sup.result.now None) w.plan_sync-planned.result job r w.plan_sync-planned.ensures.unrefused)
-    ] in
-    (for.0, λ _ other rest left. subst (λ (x : Command). IsJobOf (state_of d p) x job) (c.command_of-command.ensures ∙ same_first _ _ _ _ _ c.in-Ok.ensures.found.asked left) for.1)
+    ] in (
+      for.0,
+      λ _ other rest left. subst (λ (x : Command). IsJobOf (state_of d p) x job)
+          (c.command_of-command.ensures ∙ same_first _ _ _ _ _ c.in-Ok.ensures.found.asked left) for.1,
+    )
 
 pub returns-in-Err : goal.returns-in-Err
 returns-in-Err g c =
@@ -46,9 +49,12 @@ returns-in-Err g c =
     let by : IsRefusedBy (state_of d p) command reply = elim c.match-command.branch [
       | in-Put w ↦
           refused_for d c.plans.ensures p running runs c.metas-metas.result.now c.sup-sup.result.now o command c.head_in.result c.metas-metas.ensures c.sup-sup.ensures c.head_in.ensures c.live-live.ensures reply (subst IsSyncing (sym w.in-Put.is) tt)
-          (if_err (Refuses c.metas-metas.result.now o command c.sup-sup.result.now) w.plan_put-planned.result reply (sym w.planned-is ∙ c.in-Err.is) w.plan_put-planned.ensures.refused)
+          (if_err (Refuses c.metas-metas.result.now o command c.sup-sup.result.now) w.plan_put-planned.result reply
+          (sym w.planned-is ∙ c.in-Err.is) w.plan_put-planned.ensures.refused)
       | in-Sync w ↦
           refused_for d c.plans.ensures p running runs c.metas-metas.result.now c.sup-sup.result.now o command c.head_in.result c.metas-metas.ensures c.sup-sup.ensures c.head_in.ensures c.live-live.ensures reply (subst IsSyncing (sym w.in-Sync.is) tt)
-          (if_err (Refuses c.metas-metas.result.now o command c.sup-sup.result.now) w.plan_sync-planned.result reply (sym w.planned-is ∙ c.in-Err.is) w.plan_sync-planned.ensures.refused)
+          (if_err (Refuses c.metas-metas.result.now o command c.sup-sup.result.now) w.plan_sync-planned.result reply
+          (sym w.planned-is ∙ c.in-Err.is) w.plan_sync-planned.ensures.refused)
     ] in
-    subst (λ (x : Command). IsRefusedBy (state_of d p) x reply) (c.command_of-command.ensures ∙ same_first _ _ _ _ _ c.in-Ok.ensures.found.asked left) by
+    subst (λ (x : Command). IsRefusedBy (state_of d p) x reply)
+    (c.command_of-command.ensures ∙ same_first _ _ _ _ _ c.in-Ok.ensures.found.asked left) by

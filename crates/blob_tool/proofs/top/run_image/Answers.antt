@@ -24,5 +24,6 @@ returns-in-Err-load-clause-outcome g c =
     let d = g.D.PageDisk in
     subst (λ (st : Status). Outcome g.S.Source c.args.script.now c.script_of.new.source d g.K.Sink c.args.out.now c.args.out.now c.args.disk c.in-Err-load.disk st) (sym c.from.ensures)
     (of_a_fault g.S.Source c.args.script.now c.script_of.new.source d g.K.Sink c.args.out.now c.args.out.now c.args.disk c.in-Err-load.disk c.in-Err-load.fault
-    (record { quiet = refl; device = c.in-Err-load.ensures.same }) (record { commands = c.in-Ok.commands; script_is = c.in-Ok.ensures.text })
+    (record { quiet = refl; device = c.in-Err-load.ensures.same })
+    (record { commands = c.in-Ok.commands; script_is = c.in-Ok.ensures.text })
     c.in-Err-load.ensures.counted c.in-Err-load.ensures.cause c.in-Err-load.ensures.refused)

@@ -25,8 +25,11 @@ loop-index-preserved g c =
     let at : place ≡ start + index = omega arith in
     let w = c.write.ensures in
     record {
-      filled = λ told. one_more content start count index low place at (d.now old) (d.now new) ((c.in_ok-write.ensures.ok told).now ∙ ap (with_page (d.now old) place) c.put.ensures) (was.filled told);
-      only = one_written d content start count index low place at c.args.disk.now old new was.only Plain c.put.new.into c.write.result w.ok w.err w.since w.pages w.faults w.read_faults w.reads;
+      filled =
+          λ told. one_more content start count index low place at (d.now old) (d.now new)
+          ((c.in_ok-write.ensures.ok told).now ∙ ap (with_page (d.now old) place) c.put.ensures) (was.filled told);
+      only =
+          one_written d content start count index low place at c.args.disk.now old new was.only Plain c.put.new.into c.write.result w.ok w.err w.since w.pages w.faults w.read_faults w.reads;
     }
 
 pub returns-in_err-write-clause-only : goal.returns-in_err-write-clause-only

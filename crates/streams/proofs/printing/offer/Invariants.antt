@@ -3,7 +3,9 @@ use Rattle.streams.proofs.Offering.{IsOffering}
 use Rattle.streams.proofs.printing.offer.Given as goal
 
 abbrev pub invariant-loop-rest : goal.invariant-loop-rest
-invariant-loop-rest g l = IsOffering g.K.Sink.tells l.fn.text l.rest (g.K.Sink.written l.fn.sink) (g.K.Sink.written l.sink) (g.K.Sink.faults l.fn.sink) (g.K.Sink.faults l.sink)
+invariant-loop-rest g l =
+    IsOffering g.K.Sink.tells l.fn.text l.rest (g.K.Sink.written l.fn.sink) (g.K.Sink.written l.sink)
+    (g.K.Sink.faults l.fn.sink) (g.K.Sink.faults l.sink)
 
 abbrev pub decreases-loop-rest : goal.decreases-loop-rest
 decreases-loop-rest g l = length l.rest

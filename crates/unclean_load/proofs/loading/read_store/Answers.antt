@@ -10,22 +10,27 @@ use Rattle.store_model.specs.Regions.{region_of, look_of}
 use Rattle.unclean_load.specs.Accepted.{IsFaultOf}
 use Rattle.unclean_load.specs.Heads.{AreWhole, AreWholeBelow, IsHeadsFault}
 use Rattle.unclean_load.specs.Reading.{AreRead, HasNoneFrom}
-use Rattle.unclean_load.proofs.Whole.{whole_region, heads_fail, masks_fail}
+use Rattle.unclean_load.proofs.LoadOutcome.{whole_region, heads_fail, masks_fail}
 use Rattle.unclean_load.proofs.loading.read_store.Goals as goal
 
 -- what the heads say after the super block was read is what they said before
-whole_first : {D : Type 0} (d : Ghosts D) (old first : D) (s : Super) (metas : Metas) (chains : Chains) → OnlyRead d old first → (told : IsTrue d.tells)
-    → AreWholeBelow (look_of (region_of s) (d.now first)) (region_of s) s.md_len metas chains → HasNoneFrom metas s.md_len → AreRead s metas chains
+whole_first : {D : Type 0} (d : Ghosts D) (old first : D) (s : Super) (metas : Metas) (chains : Chains)
+    → OnlyRead d old first → (told : IsTrue d.tells)
+    → AreWholeBelow (look_of (region_of s) (d.now first)) (region_of s) s.md_len metas chains
+    → HasNoneFrom metas s.md_len → AreRead s metas chains
     → AreWhole (look_of (region_of s) (d.now old)) (region_of s) metas chains
 whole_first d old first s metas chains same told below none read =
-    whole_region (look_of (region_of s) (d.now old)) (region_of s) metas chains (subst (λ (image : Image). AreWholeBelow (look_of (region_of s) image) (region_of s) s.md_len metas chains) (same.now told) below) none read.none
+    whole_region (look_of (region_of s) (d.now old)) (region_of s) metas chains
+    (subst (λ (image : Image). AreWholeBelow (look_of (region_of s) image) (region_of s) s.md_len metas chains)
+    (same.now told) below) none read.none
 
 pub returns-clause-found : goal.returns-clause-found
 returns-clause-found g c =
     let d = g.D.PageDisk in
     let b = c.in_ok-blobs.blobs in
     let e = c.in_ok-blobs.ensures in
-    λ told. whole_first d c.args.disk.now c.super_on.new.disk c.in_ok-sup.sup (map.get b.metas) (map.get b.chains) c.in_ok-sup.ensures.same told (e.found told) e.no_other e.read
+    λ told. whole_first d c.args.disk.now c.super_on.new.disk c.in_ok-sup.sup (map.get b.metas)
+    (map.get b.chains) c.in_ok-sup.ensures.same told (e.found told) e.no_other e.read
 
 pub returns-in_err-blobs-clause-fault : goal.returns-in_err-blobs-clause-fault
 returns-in_err-blobs-clause-fault g c =
@@ -35,7 +40,9 @@ returns-in_err-blobs-clause-fault g c =
     let old = c.args.disk.now in
     λ told.
     let x : IsFaultOf (d.pages old) (d.now old) why =
-    heads_fail (d.pages old) (d.now old) s (c.in_ok-sup.ensures.found told) why (subst (λ (image : Image). IsHeadsFault (look_of (region_of s) image) (region_of s) why) (c.in_ok-sup.ensures.same.now told) (c.in_err-blobs.ensures.fault told)) in
+    heads_fail (d.pages old) (d.now old) s (c.in_ok-sup.ensures.found told) why
+    (subst (λ (image : Image). IsHeadsFault (look_of (region_of s) image) (region_of s) why)
+    (c.in_ok-sup.ensures.same.now told) (c.in_err-blobs.ensures.fault told)) in
     search rules
 
 pub returns-in_err-masks-clause-fault : goal.returns-in_err-masks-clause-fault
@@ -47,6 +54,10 @@ returns-in_err-masks-clause-fault g c =
     let why = c.in_err-masks.field-0.0 in
     let old = c.args.disk.now in
     λ told.
-    let whole = whole_first d old c.super_on.new.disk s (map.get b.metas) (map.get b.chains) c.in_ok-sup.ensures.same told (e.found told) e.no_other e.read in
-    let x : IsFaultOf (d.pages old) (d.now old) why = masks_fail (d.pages old) (d.now old) s (c.in_ok-sup.ensures.found told) (map.get b.metas) (map.get b.chains) whole why c.in_err-masks.ensures.fault in
+    let whole =
+    whole_first d old c.super_on.new.disk s (map.get b.metas) (map.get b.chains) c.in_ok-sup.ensures.same told
+    (e.found told) e.no_other e.read in
+    let x : IsFaultOf (d.pages old) (d.now old) why =
+    masks_fail (d.pages old) (d.now old) s (c.in_ok-sup.ensures.found told) (map.get b.metas)
+    (map.get b.chains) whole why c.in_err-masks.ensures.fault in
     search rules

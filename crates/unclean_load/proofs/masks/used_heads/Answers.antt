@@ -8,7 +8,8 @@ use Rattle.unclean_load.proofs.masks.used_heads.Goals as goal
 use Rattle.unclean_load.proofs.masks.used_heads.Goals.{then-is_some, else-is_some}
 
 pub loop-head-init : goal.loop-head-init
-loop-head-init c = no_heads (λ (head : ℕ). IsSome (map.get c.args.metas.now head)) c.args.md_len c.in_ok-bits.bits c.in_ok-bits.ensures
+loop-head-init c =
+    no_heads (λ (head : ℕ). IsSome (map.get c.args.metas.now head)) c.args.md_len c.in_ok-bits.bits c.in_ok-bits.ensures
 
 pub set-requires : goal.set-requires
 set-requires c = let x = c.loop-head.invariant.count in let y = c.loop-head-test.true in omega (arith, x, y)
@@ -26,11 +27,14 @@ loop-head-preserved c =
     let there_is = λ (head : ℕ). IsSome (map.get c.args.metas.now head) in
     elim c.if-is_some.branch [
       | then-is_some w ↦
-          rw (w.bits-is, w.set.ensures) (head_there there_is c.args.md_len c.loop-head.bits c.loop-head.head c.loop-head.invariant c.loop-head-test.true
-          (subst (λ (o : Option Meta). IsSome o) c.get.ensures (there c.get.result (sym c.is_some.ensures ∙ w.if-is_some.true))))
+          rw (w.bits-is, w.set.ensures)
+          (head_there there_is c.args.md_len c.loop-head.bits c.loop-head.head c.loop-head.invariant c.loop-head-test.true
+          (subst (λ (o : Option Meta). IsSome o) c.get.ensures
+          (there c.get.result (sym c.is_some.ensures ∙ w.if-is_some.true))))
       | else-is_some w ↦
           rw w.bits-is (no_head_there there_is c.args.md_len c.loop-head.bits c.loop-head.head c.loop-head.invariant
-          (λ x. not_there c.get.result (sym c.is_some.ensures ∙ w.if-is_some.false) (subst (λ (o : Option Meta). IsSome o) (sym c.get.ensures) x)))
+          (λ x. not_there c.get.result (sym c.is_some.ensures ∙ w.if-is_some.false)
+          (subst (λ (o : Option Meta). IsSome o) (sym c.get.ensures) x)))
     ]
 
 ended : (n m : ℕ) → n ≤ m → m ≤ n → n ≡ m
@@ -40,4 +44,6 @@ pub returns-clause-count : goal.returns-clause-count
 returns-clause-count c = c.loop-head.invariant.count
 
 pub returns-clause-heads : goal.returns-clause-heads
-returns-clause-heads c = λ head lt. c.loop-head.invariant.heads head (let e = ended _ _ c.loop-head.auto.head-end c.loop-head-test.false in omega (arith, lt, e))
+returns-clause-heads c =
+    λ head lt. c.loop-head.invariant.heads head
+    (let e = ended _ _ c.loop-head.auto.head-end c.loop-head-test.false in omega (arith, lt, e))

@@ -18,19 +18,24 @@ loop-head-init c = marked_none c.args.md_len (map.get c.args.chains.now) c.in_ok
 
 pub mark_pages-requires-clause-low : goal.mark_pages-requires-clause-low
 mark_pages-requires-clause-low c =
-    let there : map.get c.args.chains.now c.loop-head.head ≡ Some c.in-Some.pages.now = sym c.get.ensures ∙ ap option_copied c.in-Some.is in
+    let there : map.get c.args.chains.now c.loop-head.head ≡ Some c.in-Some.pages.now =
+    sym c.get.ensures ∙ ap option_copied c.in-Some.is in
     let x = (c.requires _ _ there).1 in
     let count = c.loop-head.invariant.count in
     λ place among. let y = x.low place among in omega (arith, y, count)
 
 pub mark_pages-requires-clause-differ : goal.mark_pages-requires-clause-differ
 mark_pages-requires-clause-differ c =
-    let there : map.get c.args.chains.now c.loop-head.head ≡ Some c.in-Some.pages.now = sym c.get.ensures ∙ ap option_copied c.in-Some.is in
+    let there : map.get c.args.chains.now c.loop-head.head ≡ Some c.in-Some.pages.now =
+    sym c.get.ensures ∙ ap option_copied c.in-Some.is in
     (c.requires _ _ there).1.differ
 
-twice : (chains : Chains) (head h : ℕ) (why : ChainFault) (pages : List ℕ) (bits : List Bool) → ((place : ℕ) → is_among place pages ≡ true → is_in bits place ≡ true → IsInTwo chains head place)
-    → IsTwice (λ at place. (at ≡ head) × (is_among place pages ≡ true) × (is_in bits place ≡ true)) h why → IsTwice (IsInTwo chains) h why
-twice chains head h (chain.Loop place) pages bits two x = subst (λ (k : ℕ). IsInTwo chains k place) (sym x.0) (two place x.1 x.2)
+twice : (chains : Chains) (head h : ℕ) (why : ChainFault) (pages : List ℕ) (bits : List Bool)
+    → ((place : ℕ) → is_among place pages ≡ true → is_in bits place ≡ true → IsInTwo chains head place)
+    → IsTwice (λ at place. (at ≡ head) × (is_among place pages ≡ true) × (is_in bits place ≡ true)) h why
+    → IsTwice (IsInTwo chains) h why
+twice chains head h (chain.Loop place) pages bits two x =
+    subst (λ (k : ℕ). IsInTwo chains k place) (sym x.0) (two place x.1 x.2)
 twice chains head h (chain.LinkPastEnd a b) pages bits two x = absurd x
 twice chains head h chain.ReadFault pages bits two x = absurd x
 twice chains head h (chain.Unsound a) pages bits two x = absurd x
@@ -39,8 +44,11 @@ twice chains head h (chain.WrongSequence a b d) pages bits two x = absurd x
 twice chains head h (chain.BadItem a b d) pages bits two x = absurd x
 twice chains head h chain.Memory pages bits two x = absurd x
 
-page_fault : (chains : Chains) (head : ℕ) (pages : List ℕ) (bits : List Bool) → ((place : ℕ) → is_among place pages ≡ true → is_in bits place ≡ true → IsInTwo chains head place)
-    → (why : LoadFault) → IsPageFault (λ at place. (at ≡ head) × (is_among place pages ≡ true) × (is_in bits place ≡ true)) why → IsPageFault (IsInTwo chains) why
+page_fault : (chains : Chains) (head : ℕ) (pages : List ℕ) (bits : List Bool)
+    → ((place : ℕ) → is_among place pages ≡ true → is_in bits place ≡ true → IsInTwo chains head place)
+    → (why : LoadFault)
+    → IsPageFault (λ at place. (at ≡ head) × (is_among place pages ≡ true) × (is_in bits place ≡ true)) why
+    → IsPageFault (IsInTwo chains) why
 page_fault chains head pages bits two (fault.Chain h why) x = twice chains head h why pages bits two x
 page_fault chains head pages bits two fault.Memory x = tt
 page_fault chains head pages bits two fault.ReadFault x = absurd x
@@ -53,9 +61,12 @@ page_fault chains head pages bits two (fault.NotYet page) x = absurd x
 pub returns-in_err-mark_pages-clause-fault : goal.returns-in_err-mark_pages-clause-fault
 returns-in_err-mark_pages-clause-fault c =
     let chains = map.get c.args.chains.now in
-    let there : chains c.loop-head.head ≡ Some c.in-Some.pages.now = sym c.get.ensures ∙ ap option_copied c.in-Some.is in
+    let there : chains c.loop-head.head ≡ Some c.in-Some.pages.now =
+    sym c.get.ensures ∙ ap option_copied c.in-Some.is in
     let why = c.in_err-mark_pages.field-0.0 in
-    let x : IsPageFault (IsInTwo chains) why = page_fault chains c.loop-head.head c.in-Some.pages.now c.loop-head.bits (in_two c.args.md_len chains c.loop-head.bits c.loop-head.head c.loop-head.invariant c.in-Some.pages.now there) why c.in_err-mark_pages.ensures.fault in
+    let x : IsPageFault (IsInTwo chains) why =
+    page_fault chains c.loop-head.head c.in-Some.pages.now c.loop-head.bits
+    (in_two c.args.md_len chains c.loop-head.bits c.loop-head.head c.loop-head.invariant c.in-Some.pages.now there) why c.in_err-mark_pages.ensures.fault in
     search rules
 
 pub loop-head-preserved : goal.loop-head-preserved
@@ -63,9 +74,11 @@ loop-head-preserved c =
     let chains = map.get c.args.chains.now in
     elim c.match-get.branch [
       | in-Some+in_ok-mark_pages w ↦
-          let there : chains c.loop-head.head ≡ Some w.in-Some.pages.now = sym c.get.ensures ∙ ap option_copied w.in-Some.is in
+          let there : chains c.loop-head.head ≡ Some w.in-Some.pages.now =
+          sym c.get.ensures ∙ ap option_copied w.in-Some.is in
           let e = w.in_ok-mark_pages.ensures in
-          rw w.bits-is (marked_more c.args.md_len chains c.loop-head.bits c.loop-head.head c.loop-head.invariant w.in-Some.pages.now there w.mark_pages.new.bits e.count e.added e.new)
+          rw w.bits-is
+          (marked_more c.args.md_len chains c.loop-head.bits c.loop-head.head c.loop-head.invariant w.in-Some.pages.now there w.mark_pages.new.bits e.count e.added e.new)
       | in_default w ↦
           let none : chains c.loop-head.head ≡ None = sym c.get.ensures ∙ ap option_copied w.in_default.is in
           rw w.bits-is (marked_same c.args.md_len chains c.loop-head.bits c.loop-head.head c.loop-head.invariant none)
@@ -78,10 +91,14 @@ pub returns-clause-used : goal.returns-clause-used
 returns-clause-used c =
     let chains = map.get c.args.chains.now in
     let n = c.args.md_len in
-    all_used n chains c.loop-head.bits (subst (λ (k : ℕ). Marked n chains c.loop-head.bits k) (ended _ _ c.loop-head.auto.head-end c.loop-head-test.false) c.loop-head.invariant) c.requires
+    all_used n chains c.loop-head.bits
+    (subst (λ (k : ℕ). Marked n chains c.loop-head.bits k)
+    (ended _ _ c.loop-head.auto.head-end c.loop-head-test.false) c.loop-head.invariant) c.requires
 
 pub returns-clause-apart : goal.returns-clause-apart
 returns-clause-apart c =
     let chains = map.get c.args.chains.now in
     let n = c.args.md_len in
-    all_apart n chains c.loop-head.bits (subst (λ (k : ℕ). Marked n chains c.loop-head.bits k) (ended _ _ c.loop-head.auto.head-end c.loop-head-test.false) c.loop-head.invariant) c.requires
+    all_apart n chains c.loop-head.bits
+    (subst (λ (k : ℕ). Marked n chains c.loop-head.bits k)
+    (ended _ _ c.loop-head.auto.head-end c.loop-head-test.false) c.loop-head.invariant) c.requires

@@ -6,4 +6,6 @@ use Rattle.unclean_load.proofs.sharing.claims_of.Given as goal
 
 -- the clusters of the heads so far
 abbrev pub invariant-loop-head : goal.invariant-loop-head
-invariant-loop-head l = (length l.claims.clusters ≡ clusters_of l.sup) × AreCounted (fixed_clusters_of l.sup) (copies l.head (map.get l.metas)) l.claims.clusters l.claims.twice
+invariant-loop-head l =
+    (length l.claims.clusters ≡ clusters_of l.sup)
+    × AreCounted (fixed_clusters_of l.sup) (copies l.head (map.get l.metas)) l.claims.clusters l.claims.twice

@@ -6,7 +6,9 @@ use Rattle.unclean_load.proofs.sharing.holder.Goals as goal
 use Rattle.unclean_load.proofs.sharing.holder.Goals.{in-Some+else-found-n, in_default}
 
 pub overflow_add-found : goal.overflow_add-found
-overflow_add-found c = let a = c.loop-head.invariant.1 in let b = c.copies_in-found.ensures.few in let d = c.requires.few in omega (arith, a, b, d)
+overflow_add-found c =
+    let a =
+    c.loop-head.invariant.1 in let b = c.copies_in-found.ensures.few in let d = c.requires.few in omega (arith, a, b, d)
 
 pub returns-then-found-n : goal.returns-then-found-n
 returns-then-found-n c =
@@ -18,7 +20,12 @@ returns-then-found-n c =
     let less = c.loop-head.invariant.1 in
     let more = c.copies_in-found.ensures.count in
     let all = c.if-found-n.true in
-    record { low = c.loop-head-test.true; before = omega (arith, so_far, less); here = omega (arith, next, so_far, more, all) }
+    record {
+      low = c.loop-head-test.true;
+      before = omega (arith, so_far, less);
+      here = omega
+          (arith, next, so_far, more, all);
+    }
 
 pub loop-head-preserved : goal.loop-head-preserved
 loop-head-preserved c =

@@ -8,88 +8,118 @@ use Rattle.unclean_load.specs.Heads.{AreWholeBelow}
 use Rattle.md_chain.proofs.Walks.{read_on}
 use Rattle.unclean_load.specs.declared.heads.Blob.{Blob}
 use Rattle.unclean_load.specs.Reading.{HasNoneFrom, SaysAt, IsCounted}
-use Rattle.unclean_load.proofs.Walk.{Walked, begun, none_there, one_there, inserted, place_fails, add_fails, counted_first, refused_uncounted}
+use Rattle.unclean_load.proofs.HeadWalk.{Walked, begun, none_there, one_there, inserted, place_fails, add_fails, counted_first, refused_uncounted}
 use Rattle.unclean_load.proofs.walking.blobs_on.Goals as goal
 use Rattle.unclean_load.proofs.walking.blobs_on.Goals.{in-Some+in_ok-add, in_default}
 
 pub loop-place-init : goal.loop-place-init
 loop-place-init g c =
-    subst (λ (n : ℕ). Walked g.D.PageDisk c.args.sup.now c.args.disk.now c.args.disk.now (map.get c.new-blobs.result.metas) (map.get c.new-blobs.result.chains) n 0) (sym c.new-blobs.ensures.slots)
-    (begun g.D.PageDisk c.args.sup.now c.args.disk.now (map.get c.new-blobs.result.metas) (map.get c.new-blobs.result.chains)
-    (λ k. rw c.new-blobs.ensures.metas (map.get-empty nat_cmp k)) (λ k. rw c.new-blobs.ensures.chains (map.get-empty nat_cmp k)))
+    subst (λ (n : ℕ). Walked g.D.PageDisk c.args.sup.now c.args.disk.now c.args.disk.now
+    (map.get c.new-blobs.result.metas) (map.get c.new-blobs.result.chains) n 0) (sym c.new-blobs.ensures.slots)
+    (begun g.D.PageDisk c.args.sup.now c.args.disk.now (map.get c.new-blobs.result.metas)
+    (map.get c.new-blobs.result.chains)
+    (λ k. rw c.new-blobs.ensures.metas (map.get-empty nat_cmp k))
+    (λ k. rw c.new-blobs.ensures.chains (map.get-empty nat_cmp k)))
 
 pub blob_at-requires-clause-device : goal.blob_at-requires-clause-device
 blob_at-requires-clause-device g c = c.requires.device ∙ sym c.loop-place.invariant.same.pages
 
 pub blob_at-requires-clause-inside : goal.blob_at-requires-clause-inside
-blob_at-requires-clause-inside g c = let x = c.loop-place.invariant.same.pages in let y = c.requires.inside in omega (arith, x, y)
+blob_at-requires-clause-inside g c =
+    let x = c.loop-place.invariant.same.pages in let y = c.requires.inside in omega (arith, x, y)
 
 pub add-requires : goal.add-requires
 add-requires g c = c.loop-place.invariant.few
 
 pub returns-in_err-blob-clause-same : goal.returns-in_err-blob-clause-same
-returns-in_err-blob-clause-same g c = read_on g.D.PageDisk c.args.disk.now c.loop-place.disk c.blob_at.new.disk c.loop-place.invariant.same c.blob_at.ensures.same
+returns-in_err-blob-clause-same g c =
+    read_on g.D.PageDisk c.args.disk.now c.loop-place.disk c.blob_at.new.disk c.loop-place.invariant.same c.blob_at.ensures.same
 
 pub returns-in_err-add-clause-same : goal.returns-in_err-add-clause-same
-returns-in_err-add-clause-same g c = read_on g.D.PageDisk c.args.disk.now c.loop-place.disk c.blob_at.new.disk c.loop-place.invariant.same c.blob_at.ensures.same
+returns-in_err-add-clause-same g c =
+    read_on g.D.PageDisk c.args.disk.now c.loop-place.disk c.blob_at.new.disk c.loop-place.invariant.same c.blob_at.ensures.same
 
 pub returns-in_err-blob-clause-fault : goal.returns-in_err-blob-clause-fault
 returns-in_err-blob-clause-fault g c =
     let d = g.D.PageDisk in let s = c.args.sup.now in let b = c.loop-place.blobs in let why = c.in_err-blob.field-0.0 in
-    λ told. let x = place_fails d s c.args.disk.now c.loop-place.disk (map.get b.metas) (map.get b.chains) b.slots c.loop-place.place c.loop-place.invariant why c.loop-place-test.true told (c.in_err-blob.ensures.fault told) in search rules
+    λ told. let x = place_fails d s c.args.disk.now c.loop-place.disk (map.get b.metas)
+    (map.get b.chains) b.slots c.loop-place.place c.loop-place.invariant why c.loop-place-test.true told
+    (c.in_err-blob.ensures.fault told) in search rules
 
 pub returns-in_err-blob-clause-counted : goal.returns-in_err-blob-clause-counted
 returns-in_err-blob-clause-counted g c =
     let d = g.D.PageDisk in let s = c.args.sup.now in let b = c.loop-place.blobs in let why = c.in_err-blob.field-0.0 in
-    let x : IsCounted (d.read_faults c.args.disk.now) (d.read_faults c.blob_at.new.disk) why = counted_first d s c.args.disk.now c.loop-place.disk (map.get b.metas) (map.get b.chains) b.slots c.loop-place.place c.loop-place.invariant c.blob_at.new.disk why c.in_err-blob.ensures.counted in search rules
+    let x : IsCounted (d.read_faults c.args.disk.now) (d.read_faults c.blob_at.new.disk) why =
+    counted_first d s c.args.disk.now c.loop-place.disk (map.get b.metas)
+    (map.get b.chains) b.slots c.loop-place.place c.loop-place.invariant c.blob_at.new.disk why c.in_err-blob.ensures.counted in search rules
 
 pub returns-in_err-add-clause-fault : goal.returns-in_err-add-clause-fault
 returns-in_err-add-clause-fault g c =
     let d = g.D.PageDisk in let s = c.args.sup.now in let b = c.loop-place.blobs in let why = c.in_err-add.field-0.0 in
-    let says : SaysAt d s c.loop-place.disk c.loop-place.place (Some c.in-Some.blob) = subst (λ (o : Option Blob). SaysAt d s c.loop-place.disk c.loop-place.place o) c.in-Some.is c.in_ok-blob.ensures.found in
-    λ told. let x = add_fails d s c.args.disk.now c.loop-place.disk (map.get b.metas) (map.get b.chains) b.slots c.loop-place.place c.loop-place.invariant c.in-Some.blob says why c.loop-place-test.true told c.in_err-add.ensures.fault in search rules
+    let says : SaysAt d s c.loop-place.disk c.loop-place.place (Some c.in-Some.blob) =
+    subst (λ (o : Option Blob). SaysAt d s c.loop-place.disk c.loop-place.place o) c.in-Some.is c.in_ok-blob.ensures.found in
+    λ told. let x = add_fails d s c.args.disk.now c.loop-place.disk (map.get b.metas)
+    (map.get b.chains) b.slots c.loop-place.place c.loop-place.invariant c.in-Some.blob says why c.loop-place-test.true told c.in_err-add.ensures.fault in search rules
 
 pub returns-in_err-add-clause-counted : goal.returns-in_err-add-clause-counted
 returns-in_err-add-clause-counted g c =
     let d = g.D.PageDisk in let why = c.in_err-add.field-0.0 in
     let x : IsCounted (d.read_faults c.args.disk.now) (d.read_faults c.blob_at.new.disk) why =
-    refused_uncounted (d.read_faults c.args.disk.now) (d.read_faults c.blob_at.new.disk) c.loop-place.blobs.slots c.loop-place.place c.in-Some.blob.meta why (c.in_ok-blob.ensures.quiet ∙ c.loop-place.invariant.quiet) c.in_err-add.ensures.fault in
+    refused_uncounted (d.read_faults c.args.disk.now)
+    (d.read_faults c.blob_at.new.disk) c.loop-place.blobs.slots c.loop-place.place c.in-Some.blob.meta why
+    (c.in_ok-blob.ensures.quiet ∙ c.loop-place.invariant.quiet) c.in_err-add.ensures.fault in
     search rules
 
 pub loop-place-preserved : goal.loop-place-preserved
 loop-place-preserved g c =
-    let d = g.D.PageDisk in let s = c.args.sup.now in let first = c.args.disk.now in let disk = c.loop-place.disk in let new = c.blob_at.new.disk in
+    let d =
+    g.D.PageDisk in let s =
+    c.args.sup.now in let first = c.args.disk.now in let disk = c.loop-place.disk in let new = c.blob_at.new.disk in
     let b = c.loop-place.blobs in let place = c.loop-place.place in let old = c.loop-place.invariant in
     elim c.match-branch-2.branch [
       | in-Some+in_ok-add w ↦
           let blob = w.in-Some.blob in
-          let says : SaysAt d s disk place (Some blob) = subst (λ (o : Option Blob). SaysAt d s disk place o) w.in-Some.is c.in_ok-blob.ensures.found in
+          let says : SaysAt d s disk place (Some blob) =
+          subst (λ (o : Option Blob). SaysAt d s disk place o) w.in-Some.is c.in_ok-blob.ensures.found in
           let e = w.in_ok-add.ensures in
           let few = subst (λ (n : ℕ). n ≤ 16777216) e.slots e.few in
           rw (w.blobs-is, e.metas, e.chains, e.slots)
-          (inserted d s first new b.metas b.chains (b.slots + length blob.meta.map) (place + 1) place blob.meta blob.pages
-          (one_there d s first disk (map.get b.metas) (map.get b.chains) b.slots place old new c.blob_at.ensures.same c.in_ok-blob.ensures.quiet blob says e.unmarked few))
+          (inserted d s first new b.metas b.chains (b.slots + length blob.meta.map)
+          (place + 1) place blob.meta blob.pages
+          (one_there d s first disk (map.get b.metas)
+          (map.get b.chains) b.slots place old new c.blob_at.ensures.same c.in_ok-blob.ensures.quiet blob says e.unmarked few))
       | in_default w ↦
-          let no : SaysAt d s disk place None = subst (λ (o : Option Blob). SaysAt d s disk place o) w.in_default.is c.in_ok-blob.ensures.found in
-          rw w.blobs-is (none_there d s first disk (map.get b.metas) (map.get b.chains) b.slots place old new c.blob_at.ensures.same c.in_ok-blob.ensures.quiet no)
+          let no : SaysAt d s disk place None =
+          subst (λ (o : Option Blob). SaysAt d s disk place o) w.in_default.is c.in_ok-blob.ensures.found in
+          rw w.blobs-is
+          (none_there d s first disk (map.get b.metas)
+          (map.get b.chains) b.slots place old new c.blob_at.ensures.same c.in_ok-blob.ensures.quiet no)
     ]
 
 done : (n m : ℕ) → n ≤ m → m ≤ n → n ≡ m
 done n m a b = omega (arith, a, b)
 
 pub returns-clause-found : goal.returns-clause-found
-returns-clause-found g c = λ told. subst (λ (n : ℕ). AreWholeBelow (region_look c.args.sup.now (g.D.PageDisk.now c.args.disk.now)) (region_of c.args.sup.now) n (map.get c.loop-place.blobs.metas) (map.get c.loop-place.blobs.chains)) (done _ _ c.loop-place.auto.place-end c.loop-place-test.false) (c.loop-place.invariant.told told)
+returns-clause-found g c =
+    λ told. subst
+    (λ (n : ℕ). AreWholeBelow (region_look c.args.sup.now (g.D.PageDisk.now c.args.disk.now))
+    (region_of c.args.sup.now) n (map.get c.loop-place.blobs.metas) (map.get c.loop-place.blobs.chains))
+    (done _ _ c.loop-place.auto.place-end c.loop-place-test.false) (c.loop-place.invariant.told told)
 
 pub returns-clause-read : goal.returns-clause-read
 returns-clause-read g c = c.loop-place.invariant.read
 
 pub returns-clause-no_other : goal.returns-clause-no_other
-returns-clause-no_other g c = subst (λ (n : ℕ). HasNoneFrom (map.get c.loop-place.blobs.metas) n) (done _ _ c.loop-place.auto.place-end c.loop-place-test.false) c.loop-place.invariant.none
+returns-clause-no_other g c =
+    subst (λ (n : ℕ). HasNoneFrom (map.get c.loop-place.blobs.metas) n)
+    (done _ _ c.loop-place.auto.place-end c.loop-place-test.false) c.loop-place.invariant.none
 
 pub returns-clause-few : goal.returns-clause-few
 returns-clause-few g c =
     let w = c.loop-place.invariant in
-    subst (λ (n : ℕ). slots_together n (map.get c.loop-place.blobs.metas) ≤ 16777216) (done _ _ c.loop-place.auto.place-end c.loop-place-test.false) (let a = w.count in let b = w.few in omega (arith, a, b))
+    subst (λ (n : ℕ). slots_together n (map.get c.loop-place.blobs.metas) ≤ 16777216)
+    (done _ _ c.loop-place.auto.place-end c.loop-place-test.false)
+    (let a = w.count in let b = w.few in omega (arith, a, b))
 
 pub returns-clause-same : goal.returns-clause-same
 returns-clause-same g c = c.loop-place.invariant.same

@@ -17,7 +17,7 @@ use Rattle.store_model.proofs.Scanning.{apart}
 use Rattle.store_model.proofs.Roots.{no_parent}
 use Rattle.unclean_load.specs.declared.fault.LoadFault.{LoadFault}
 use Rattle.unclean_load.specs.declared.fault.LoadFault.TheVariants as fault
-use Rattle.unclean_load.specs.Accepted.{SuperAt, IsFaultOf, IsSuperFault}
+use Rattle.unclean_load.specs.Accepted.{SuperAt, IsFaultOf}
 use Rattle.unclean_load.specs.Claiming.{AreChains, IsInTwo, IsTwice, IsMaskFault}
 use Rattle.unclean_load.specs.Heads.{AreWhole, AreWholeBelow, IsHeadsFault}
 use Rattle.unclean_load.specs.Reading.{AreRead, HasNoneFrom, IsChainOf}
@@ -27,21 +27,27 @@ use Rattle.unclean_load.proofs.Slots.{one_slot}
 -- ---- chains
 
 module _ (s : Super) (metas : Metas) (chains : Chains) (read : AreRead s metas chains) where
-  one_chain : (head : ℕ) (pages : List ℕ) (o : Option Meta) → metas head ≡ o → chains head ≡ Some pages → (head < s.md_len) × IsChainOf s.md_len head pages
+  one_chain : (head : ℕ) (pages : List ℕ) (o : Option Meta) → metas head ≡ o → chains head ≡ Some pages
+      → (head < s.md_len) × IsChainOf s.md_len head pages
   one_chain head pages None none there = let no = read.none head none in absurd (cc (no, there))
   one_chain head pages (Some m) is there =
       let x = read.chain head m is in
       let same : x.0 ≡ pages = let both = sym x.1 ∙ there in cc both in
       ((read.roots head m is).low, subst (λ (ps : List ℕ). IsChainOf s.md_len head ps) same x.2)
 
+  -- the chains that were read are chains of the region
   pub read_chains : AreChains s.md_len chains
   read_chains head pages there = one_chain head pages (metas head) refl there
 
 -- ---- the metadata is lawful
 
-pub lawful : (s : Super) (metas : Metas) → AreRoots s metas → slots_together s.md_len metas ≤ 2 ^ 24 → ((cluster : ℕ) → copies s.md_len metas cluster ≤ 1) → IsLawful s.md_len metas
+-- metadata of roots with no shared cluster and few slots is lawful
+pub lawful : (s : Super) (metas : Metas) → AreRoots s metas → slots_together s.md_len metas ≤ 2 ^ 24
+    → ((cluster : ℕ) → copies s.md_len metas cluster ≤ 1) → IsLawful s.md_len metas
 lawful s metas roots few most = record {
-  alone = λ h k i j cluster m n a b x y. one_slot metas cluster s.md_len (λ head meta there. (roots head meta there).low) (most cluster) h k i j m n a b x y;
+  alone =
+      λ h k i j cluster m n a b x y. one_slot metas cluster s.md_len (λ head meta there. (roots head meta there).low)
+      (most cluster) h k i j m n a b x y;
   parents = λ h p m there is. let none = no_parent s h m (roots h m there) in absurd (cc (none, is));
   rank = λ _. 0;
   falls = λ h p m there is. let none = no_parent s h m (roots h m there) in absurd (cc (none, is));
@@ -50,7 +56,10 @@ lawful s metas roots few most = record {
 
 -- ---- every head of the region
 
-pub whole_region : (look : Look) (r : Region) (metas : Metas) (chains : Chains) → AreWholeBelow look r r.len metas chains → HasNoneFrom metas r.len → ((head : ℕ) → metas head ≡ None → chains head ≡ None) → AreWhole look r metas chains
+-- blobs that are whole below the region's end, with none behind it, are whole
+pub whole_region : (look : Look) (r : Region) (metas : Metas) (chains : Chains)
+    → AreWholeBelow look r r.len metas chains → HasNoneFrom metas r.len
+    → ((head : ℕ) → metas head ≡ None → chains head ≡ None) → AreWhole look r metas chains
 whole_region look r metas chains below none no_chain = record {
   says = λ head. elim (cases_lt head r.len) [
     | inl lt ↦ below.blobs head lt
@@ -68,18 +77,10 @@ whole_region look r metas chains below none no_chain = record {
 -- ---- faults of an image
 
 module _ (pages : ℕ) (image : Image) where
-  pub super_fails : (why : LoadFault) → IsSuperFault pages image why → IsFaultOf pages image why
-  super_fails (fault.Super e) x = x
-  super_fails fault.ReadFault x = tt
-  super_fails fault.Memory x = tt
-  super_fails (fault.Chain head e) x = absurd x
-  super_fails (fault.Meta head e) x = absurd x
-  super_fails (fault.MapsTooLarge slots) x = absurd x
-  super_fails (fault.Shared cluster a b) x = absurd x
-  super_fails (fault.NotYet page) x = absurd x
-
   module _ (s : Super) (at : SuperAt pages image s) where
-    pub heads_fail : (why : LoadFault) → IsHeadsFault (look_of (region_of s) image) (region_of s) why → IsFaultOf pages image why
+    -- and so is the first fault that a head shows
+    pub heads_fail : (why : LoadFault) → IsHeadsFault (look_of (region_of s) image) (region_of s) why
+        → IsFaultOf pages image why
     heads_fail (fault.Super e) x = absurd x.shows
     heads_fail fault.ReadFault x = tt
     heads_fail fault.Memory x = tt
@@ -89,10 +90,12 @@ module _ (pages : ℕ) (image : Image) where
     heads_fail (fault.Shared cluster a b) x = absurd x.shows
     heads_fail (fault.NotYet page) x = record { sup = s; super_at = at; shows = x }
 
-    module _ (metas : Metas) (chains : Chains) (whole : AreWhole (look_of (region_of s) image) (region_of s) metas chains) where
+    module _ (metas : Metas) (chains : Chains)
+        (whole : AreWhole (look_of (region_of s) image) (region_of s) metas chains) where
       not_twice : (head : ℕ) (why : ChainFault) → IsTwice (IsInTwo chains) head why → ⊥
       not_twice head (chain.Loop place) x =
-          x.differs (apart (look_of (region_of s) image) (region_of s) metas chains whole.says x.other head place x.others x.pages x.other_chain x.chain x.other_among x.among)
+          x.differs (apart (look_of (region_of s) image)
+          (region_of s) metas chains whole.says x.other head place x.others x.pages x.other_chain x.chain x.other_among x.among)
       not_twice head (chain.LinkPastEnd a b) x = x
       not_twice head chain.ReadFault x = x
       not_twice head (chain.Unsound a) x = x
@@ -101,9 +104,11 @@ module _ (pages : ℕ) (image : Image) where
       not_twice head (chain.BadItem a b d) x = x
       not_twice head chain.Memory x = x
 
+      -- and so is a cluster in two slots, where all heads are whole
       pub masks_fail : (why : LoadFault) → IsMaskFault s.md_len metas chains why → IsFaultOf pages image why
       masks_fail (fault.Chain head why) x = absurd (not_twice head why x)
-      masks_fail (fault.Shared cluster a b) x = record { sup = s; super_at = at; metas = metas; chains = chains; whole = whole; shared = x }
+      masks_fail (fault.Shared cluster a b) x =
+          record { sup = s; super_at = at; metas = metas; chains = chains; whole = whole; shared = x }
       masks_fail fault.Memory x = tt
       masks_fail fault.ReadFault x = absurd x
       masks_fail (fault.Super e) x = absurd x
