@@ -1,0 +1,15 @@
+//! Tests of scripts, of plans on logical volumes and of printed lines, over public calls alone.
+#![tactic(auto)]
+
+#[cfg(test)]
+mod grammar_tests;
+#[cfg(test)]
+mod limit_tests;
+#[cfg(test)]
+mod plan_tests;
+#[cfg(test)]
+mod report_tests;
+#[cfg(test)]
+mod told;
+#[cfg(test)]
+mod word_tests;

@@ -1,0 +1,161 @@
+//! Plans of puts and syncs, each once, and each cause of a refusal.
+
+ghost use Rattle.std.specs.Prelude.{◌≡◌, Some, IfOk};
+ghost use Rattle.blob_meta.specs.Asked.{head_in};
+ghost use Rattle.lvol_store.specs.Plans.{IsPut, IsSync};
+
+use blob_meta::{Flags, Job, Meta, Metas};
+use descriptors::SlotMap;
+use lvol_store::{plan_put, plan_sync};
+use out_of_memory::Memory;
+use std::alloc::Global;
+use std::test::Fail;
+use super_block::{Layout, Super};
+use volume_model::{Blobtext, Command, Reply, VolumeRef, XattrList};
+
+fn blob(alloc: Global, head: u32, data_ro: u64) -> Meta {
+    Meta {
+        id: (1 << 32) + u64::from(head),
+        flags: Flags {
+            invalid: 0,
+            data_ro,
+            md_ro: 0,
+        },
+        xattrs: XattrList::new(alloc),
+        internal: XattrList::new(alloc),
+        map: SlotMap::new(alloc),
+    }
+}
+
+fn put(alloc: Global, head: u32, key: &[u8], value: &[u8]) -> Result<Command, Memory>
+    ensures put { IfOk result IsPut }
+    ensures head { IfOk result (λ c. head_in c ≡ Some head) }
+{
+    Ok(Command::Put {
+        volume: VolumeRef::Head(head),
+        key: Blobtext::new(alloc, key)?,
+        value: Blobtext::new(alloc, value)?,
+    })
+}
+
+fn sync(head: u32) -> Command
+    ensures sync { IsSync result }
+    ensures head { head_in result ≡ Some head }
+{
+    Command::Sync {
+        volume: VolumeRef::Head(head),
+    }
+}
+
+/// The attributes that a plan gives its blob, one a line, with the head first, or the reply.
+fn told(alloc: Global, plan: &Result<Job, Reply>) -> Result<Vec<u8>, Fail> {
+    let mut text = Vec::new(alloc);
+    match plan {
+        Err(reply) => text.extend_from_slice(format!(in alloc; "{reply:?}")?.as_bytes())?,
+        Ok(job) => {
+            for replacement in job.list.as_slice() {
+                text.extend_from_slice(format!(in alloc; "{}", replacement.head)?.as_bytes())?;
+                if let Some(meta) = &replacement.new {
+                    push_xattrs(&mut text, &meta.xattrs)?;
+                }
+            }
+        }
+    }
+    Ok(text)
+}
+
+fn push_xattrs(text: &mut Vec<u8>, xattrs: &XattrList) -> Result<(), Fail> {
+    for xattr in xattrs.as_slice() {
+        text.push(b' ')?;
+        text.extend_from_slice(xattr.key.bytes())?;
+        text.push(b'=')?;
+        text.extend_from_slice(xattr.value.bytes())?;
+    }
+    Ok(())
+}
+
+/// The super blob at 2, a blob that can be written at 5, and a read-only one at 6.
+fn metas(alloc: Global) -> Result<Metas, Memory> {
+    let mut metas = Metas::new(alloc);
+    metas.insert(2, blob(alloc, 2, 0))?;
+    metas.insert(5, blob(alloc, 5, 0))?;
+    metas.insert(6, blob(alloc, 6, 1))?;
+    Ok(metas)
+}
+
+/// Each blob's live attribute is `owner=me`, which isn't on the disk yet.
+fn live(alloc: Global) -> Result<XattrList, Memory> {
+    let owner = Blobtext::new(alloc, b"owner")?;
+    let me = Blobtext::new(alloc, b"me")?;
+    XattrList::new(alloc).with_value(alloc, owner.bytes(), me.bytes())
+}
+
+fn planned_put(
+    alloc: Global,
+    metas: &Metas,
+    sup: &Super,
+    head: u32,
+    key: &[u8],
+    value: &[u8],
+) -> Result<Result<Job, Reply>, Memory> {
+    let live = live(alloc)?;
+    let command = put(alloc, head, key, value)?;
+    match metas.get(head) {
+        Some(_) => Ok(plan_put(alloc, metas, sup, &command, 9, Some(&live))),
+        None => Ok(plan_put(alloc, metas, sup, &command, 9, None)),
+    }
+}
+
+fn planned_sync(
+    alloc: Global,
+    metas: &Metas,
+    sup: &Super,
+    head: u32,
+) -> Result<Result<Job, Reply>, Memory> {
+    let live = live(alloc)?;
+    let command = sync(head);
+    match metas.get(head) {
+        Some(_) => Ok(plan_sync(alloc, metas, sup, &command, 9, Some(&live))),
+        None => Ok(plan_sync(alloc, metas, sup, &command, 9, None)),
+    }
+}
+
+#[test]
+fn puts_are_planned_or_refused(rt: HostRuntime) -> Result<(), Fail> {
+    let alloc = rt.alloc();
+    let metas = metas(alloc)?;
+    let sup = Layout::plan(64, 4, Some(16))?.new_super((1 << 32) + 2, [0; 16]);
+    let long = [b'a'; 4059];
+    let cases: &[(u32, &[u8], &[u8], &[u8])] = &[
+        (5, b"color", b"red", b"5 owner=me color=red"),
+        (5, b"owner", b"you", b"5 owner=you"),
+        (9, b"color", b"red", b"NoVolume"),
+        (2, b"color", b"red", b"Reserved"),
+        (5, b"uuid", b"red", b"Reserved"),
+        (6, b"color", b"red", b"ReadOnly"),
+        (5, b"color", &long, b"TooLong"),
+    ];
+    for (head, key, value, wanted) in cases {
+        let plan = planned_put(alloc, &metas, &sup, *head, key, value)?;
+        assert_eq!(rt; told(alloc, &plan)?.as_slice(), *wanted);
+    }
+    Ok(())
+}
+
+#[test]
+fn syncs_are_planned_or_refused(rt: HostRuntime) -> Result<(), Fail> {
+    let alloc = rt.alloc();
+    let metas = metas(alloc)?;
+    let sup = Layout::plan(64, 4, Some(16))?.new_super((1 << 32) + 2, [0; 16]);
+    let cases: &[(u32, &[u8])] = &[
+        (5, b"5 owner=me"),
+        (9, b"NoVolume"),
+        (2, b"Reserved"),
+        (6, b"ReadOnly"),
+    ];
+    for (head, wanted) in cases {
+        let plan = planned_sync(alloc, &metas, &sup, *head)?;
+        assert_eq!(rt; told(alloc, &plan)?.as_slice(), *wanted);
+    }
+    Ok(())
+}
