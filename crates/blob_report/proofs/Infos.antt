@@ -6,15 +6,24 @@ use Rattle.volume_model.specs.declared.reply.Info.{Info}
 use Rattle.blob_report.specs.Pieces.{shown, head_text}
 use Rattle.blob_report.specs.Text.{filling_text, writing_text, info_text}
 
-regroup : (a b c d e f g h i j k l : List ℕ) → a ++ (b ++ (c ++ (d ++ (e ++ (f ++ (g ++ (h ++ (i ++ (j ++ (k ++ (l ++ []))))))))))) ≡ a ++ b ++ c ++ d ++ e ++ f ++ g ++ h ++ i ++ j ++ k ++ l
+regroup : (a b c d e f g h i j k l : List ℕ)
+    → a ++ (b ++ (c ++ (d ++ (e ++ (f ++ (g ++ (h ++ (i ++ (j ++ (k ++ (l ++ []))))))))))) ≡ a ++ b ++ c ++ d ++ e ++
+    f ++ g ++ h ++ i ++ j ++ k ++ l
 regroup a b c d e f g h i j k l = simp (append_assoc, append-nil)
 
 abbrev pub pieces_of : Info → List ℕ → List ℕ → List ℕ → List ℕ
 pieces_of info name filling writing =
-    codes "volume @" ++ (decimal info.head ++ (codes " " ++ (shown name ++ (codes " slots " ++ (decimal info.slots ++ (codes " parent " ++ (head_text info.parent
+    codes "volume @" ++ (decimal info.head ++
+    (codes " " ++ (shown name ++
+    (codes " slots " ++ (decimal info.slots ++ (codes " parent " ++ (head_text info.parent
     ++ (filling ++ (writing ++ (codes " xattrs " ++ (decimal info.xattrs ++ [])))))))))))
 
-pub pieces_are : (info : Info) (name filling writing : List ℕ) → name ≡ info.name → filling ≡ filling_text info.thin → writing ≡ writing_text info.read_only → pieces_of info name filling writing ≡ info_text info
+pub pieces_are : (info : Info) (name filling writing : List ℕ) → name ≡ info.name → filling ≡ filling_text info.thin
+    → writing ≡ writing_text info.read_only → pieces_of info name filling writing ≡ info_text info
 pieces_are info name filling writing n f w =
-    ap (λ (x : List ℕ). pieces_of info x filling writing) n ∙ ap (λ (x : List ℕ). pieces_of info info.name x writing) f ∙ ap (λ (x : List ℕ). pieces_of info info.name (filling_text info.thin) x) w
-    ∙ regroup (codes "volume @") (decimal info.head) (codes " ") (shown info.name) (codes " slots ") (decimal info.slots) (codes " parent ") (head_text info.parent) (filling_text info.thin) (writing_text info.read_only) (codes " xattrs ") (decimal info.xattrs)
+    ap (λ (x : List ℕ). pieces_of info x filling writing) n
+    ∙ ap (λ (x : List ℕ). pieces_of info info.name x writing) f
+    ∙ ap (λ (x : List ℕ). pieces_of info info.name (filling_text info.thin) x) w
+    ∙ regroup (codes "volume @") (decimal info.head) (codes " ") (shown info.name) (codes " slots ")
+    (decimal info.slots) (codes " parent ") (head_text info.parent) (filling_text info.thin)
+    (writing_text info.read_only) (codes " xattrs ") (decimal info.xattrs)

@@ -26,7 +26,8 @@ shown_byte b = if is_plain b then b ∷ [] else codes "\\x" ++ hex_byte b
 
 -- nothing is `-`, so a lone `-` is shown by its digits
 abbrev pub shown : List ℕ → List ℕ
-shown bytes = if length bytes == 0 then codes "-" else (if bytes_eq bytes (codes "-") then codes "\\x2d" else flat_map shown_byte bytes)
+shown bytes = if length bytes == 0 then codes "-" else
+    (if bytes_eq bytes (codes "-") then codes "\\x2d" else flat_map shown_byte bytes)
 
 abbrev pub head_text : Option ℕ → List ℕ
 head_text (Some head) = codes "@" ++ decimal head

@@ -20,7 +20,9 @@ value_text (byte ∷ bytes) = codes "value " ++ hex_text (byte ∷ bytes)
 
 -- free of all
 abbrev pub df_text : Df → List ℕ
-df_text df = codes "df clusters " ++ decimal df.free_clusters ++ codes " of " ++ decimal df.clusters ++ codes " pages " ++ decimal df.free_pages ++ codes " of " ++ decimal df.pages
+df_text df =
+    codes "df clusters " ++ decimal df.free_clusters ++ codes " of " ++ decimal df.clusters
+    ++ codes " pages " ++ decimal df.free_pages ++ codes " of " ++ decimal df.pages
 
 abbrev pub filling_text : Bool → List ℕ
 filling_text thin = if thin then codes " thin" else codes " thick"
@@ -31,7 +33,8 @@ writing_text read_only = if read_only then codes " ro" else codes " rw"
 -- what is known of a volume
 abbrev pub info_text : Info → List ℕ
 info_text info =
-    codes "volume @" ++ decimal info.head ++ codes " " ++ shown info.name ++ codes " slots " ++ decimal info.slots ++ codes " parent " ++ head_text info.parent
+    codes "volume @" ++ decimal info.head ++ codes " " ++ shown info.name ++ codes " slots " ++ decimal info.slots
+    ++ codes " parent " ++ head_text info.parent
     ++ filling_text info.thin ++ writing_text info.read_only ++ codes " xattrs " ++ decimal info.xattrs
 
 abbrev pub info_line : Info → List ℕ
@@ -71,7 +74,8 @@ reply_text _ = []
 
 -- the channel, the index and the reply, with single spaces, and LF
 abbrev pub entry_text : Entry → List ℕ
-entry_text entry = decimal entry.channel ++ codes " " ++ decimal entry.index ++ codes " " ++ reply_text entry.reply ++ codes "\n"
+entry_text entry =
+    decimal entry.channel ++ codes " " ++ decimal entry.index ++ codes " " ++ reply_text entry.reply ++ codes "\n"
 
 -- a line for each entry, in the log's order
 abbrev pub log_text : List Entry → List ℕ
@@ -79,4 +83,6 @@ log_text entries = flat_map entry_text entries
 
 -- what a new store has: all and free, of each kind, and LF
 abbrev pub space_text : Df → List ℕ
-space_text space = codes "clusters " ++ decimal space.clusters ++ codes " free " ++ decimal space.free_clusters ++ codes " pages " ++ decimal space.pages ++ codes " free " ++ decimal space.free_pages ++ codes "\n"
+space_text space =
+    codes "clusters " ++ decimal space.clusters ++ codes " free " ++ decimal space.free_clusters
+    ++ codes " pages " ++ decimal space.pages ++ codes " free " ++ decimal space.free_pages ++ codes "\n"

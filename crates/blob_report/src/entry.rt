@@ -92,8 +92,8 @@ fn push_line(entry: &Entry, into: &mut Vec<u8>) -> Result<(), Memory>
     Ok(())
 }
 
-/// Appends the line of an entry: the channel, the index and the reply, with single spaces, and LF. A reply with a page has no
-/// text yet. After `Memory` nothing is appended.
+/// Appends the line of an entry: the channel, the index and the reply, with single spaces, and LF. A reply with a page
+/// has no text yet. After `Memory` nothing is appended.
 pub fn render_entry(entry: &Entry, into: &mut Vec<u8>) -> Result<(), Memory>
     requires { CanPrint entry.now.reply }
     ensures ok { OnOk result (into.new.items ≡ into.old.items ++ entry_text entry.now) }

@@ -53,8 +53,8 @@ fn push_info_line(info: &Info, into: &mut Vec<u8>) -> Result<(), Memory>
     push_info(info, into)
 }
 
-/// Appends how many volumes there are, and on a line for each what is known of it. After `Memory` what was there still stands
-/// first.
+/// Appends how many volumes there are, and on a line for each what is known of it. After `Memory` what was there still
+/// stands first.
 pub fn push_list(infos: &[Info], into: &mut Vec<u8>) -> Result<(), Memory>
     ensures ok { OnOk result (into.new.items ≡ into.old.items ++ list_text infos.now) }
     ensures kept { take (length into.old.items) into.new.items ≡ into.old.items }

@@ -40,4 +40,5 @@ PlansSync metas _ _ job = ⊥
 
 -- want of memory, or the first cause
 abbrev pub Refuses : map.FinMap nat_cmp Meta → Option Xattrs → Command → Super → Reply → Type 0
-Refuses metas live command sup reply = (reply ≡ r.Memory) ⊎ (IsCause reply × IsFirstCause metas live command sup (Some reply))
+Refuses metas live command sup reply = (reply ≡ r.Memory) ⊎
+    (IsCause reply × IsFirstCause metas live command sup (Some reply))

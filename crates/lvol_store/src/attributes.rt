@@ -22,7 +22,8 @@ fn pass(
     requires live { IsLiveOf metas.now (option_copied live) command.now }
     ensures there { OnOk result (IsSome (blob_named metas.now command.now)) }
     ensures unrefused { OnOk result (IsFirstCause metas.now (option_copied live.entry) command.now sup.now None) }
-    ensures refused { IfErr result (λ reply. IsCause reply × IsFirstCause metas.now (option_copied live.entry) command.now sup.now (Some reply)) }
+    ensures refused { IfErr result
+        (λ reply. IsCause reply × IsFirstCause metas.now (option_copied live.entry) command.now sup.now (Some reply)) }
 {
     match refusal_of(metas, sup, live, command) {
         Some(reply) => Err(reply),
@@ -110,8 +111,8 @@ fn sync(
 }
 
 /// Plans a put on the blob at a head: its metadata with the live attributes, one of them set. `live` is the blob's live
-/// attributes, and `None` exactly where `metas` has no such blob. No blob is made, so the head for a new one isn't used. `Err` is
-/// the first cause for which the put is refused, or `Memory`.
+/// attributes, and `None` exactly where `metas` has no such blob. No blob is made, so the head for a new one isn't
+/// used. `Err` is the first cause for which the put is refused, or `Memory`.
 pub fn plan_put(
     alloc: Global,
     metas: &Metas,
@@ -124,16 +125,17 @@ pub fn plan_put(
     requires on_head { IsOnHead command.now }
     requires live { IsLiveOf metas.now (option_copied live) command.now }
     ensures job { IfOk result (λ job. PlansPut metas.now (option_copied live.entry) command.now job) }
-    ensures unrefused { IfOk result (λ job. IsFirstCause metas.now (option_copied live.entry) command.now sup.now None) }
+    ensures unrefused { IfOk result
+        (λ job. IsFirstCause metas.now (option_copied live.entry) command.now sup.now None) }
     ensures refused { IfErr result (Refuses metas.now (option_copied live.entry) command.now sup.now) }
 {
     pass(metas, sup, live, command)?;
     put(alloc, metas, live, command).map_err(|_| Reply::Memory)
 }
 
-/// Plans a sync of the blob at a head: its metadata with the live attributes. `live` is the blob's live attributes, and `None`
-/// exactly where `metas` has no such blob. No blob is made, so the head for a new one isn't used. `Err` is the first cause for
-/// which the sync is refused, or `Memory`.
+/// Plans a sync of the blob at a head: its metadata with the live attributes. `live` is the blob's live attributes, and
+/// `None` exactly where `metas` has no such blob. No blob is made, so the head for a new one isn't used. `Err` is the
+/// first cause for which the sync is refused, or `Memory`.
 pub fn plan_sync(
     alloc: Global,
     metas: &Metas,
@@ -146,7 +148,8 @@ pub fn plan_sync(
     requires on_head { IsOnHead command.now }
     requires live { IsLiveOf metas.now (option_copied live) command.now }
     ensures job { IfOk result (λ job. PlansSync metas.now (option_copied live.entry) command.now job) }
-    ensures unrefused { IfOk result (λ job. IsFirstCause metas.now (option_copied live.entry) command.now sup.now None) }
+    ensures unrefused { IfOk result
+        (λ job. IsFirstCause metas.now (option_copied live.entry) command.now sup.now None) }
     ensures refused { IfErr result (Refuses metas.now (option_copied live.entry) command.now sup.now) }
 {
     pass(metas, sup, live, command)?;

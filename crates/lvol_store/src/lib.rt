@@ -1,4 +1,5 @@
-//! What the commands on logical volumes make of metadata: each is planned as a job, or refused. Names and uuids as they are given.
+//! What the commands on logical volumes make of metadata: each is planned as a job, or refused. Names and uuids as they
+//! are given.
 #![tactic(auto)]
 
 mod attributes;

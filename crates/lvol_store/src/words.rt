@@ -45,7 +45,8 @@ fn is_name(text: &[u8]) -> bool
     !begins_no_name(text) && text.len() <= 63 && is_graphic(text)
 }
 
-/// The name of these bytes: 1 to 63 from 0x21 to 0x7E, the first neither `@` nor `#`. `BadName` exactly where they aren't so.
+/// The name of these bytes: 1 to 63 from 0x21 to 0x7E, the first neither `@` nor `#`. `BadName` exactly where they
+/// aren't so.
 pub fn check_name(text: &[u8]) -> Result<Name, BadName>
     ensures name { IfOk result (λ name. name ≡ text.now) }
     ensures good { OnOk result (IsName text.now) }
@@ -59,8 +60,8 @@ pub fn check_name(text: &[u8]) -> Result<Name, BadName>
     }
 }
 
-/// The sixteen bytes of the uuid that these bytes say in one of its four forms: 32 digits, the same with hyphens, this in braces
-/// or after `urn:uuid:`.
+/// The sixteen bytes of the uuid that these bytes say in one of its four forms: 32 digits, the same with hyphens, this
+/// in braces or after `urn:uuid:`.
 pub fn uuid_in(text: &[u8]) -> Option<[u8; 16]>
     ensures { result ≡ parsed text.now }
 {

@@ -26,14 +26,18 @@ mapped_none : (o : Option (List Request)) → o ≡ option_map (λ more. more) o
 mapped_none None = refl
 mapped_none (Some x) = refl
 
-mapped_twice : (request : Request) (requests : List Request) (o : Option (List Request)) → option_map (λ ys. request ∷ ys) (option_map (λ more. requests ++ more) o) ≡ option_map (λ more. request ∷ (requests ++ more)) o
+mapped_twice : (request : Request) (requests : List Request) (o : Option (List Request))
+    → option_map (λ ys. request ∷ ys) (option_map (λ more. requests ++ more) o) ≡ option_map
+    (λ more. request ∷ (requests ++ more)) o
 mapped_twice request requests None = refl
 mapped_twice request requests (Some x) = refl
 
 -- lines that all ask for something
-all_oks : (requests : List Request) (later : List (Result Request LineKind)) → all_ok (map Ok requests ++ later) ≡ option_map (λ more. requests ++ more) (all_ok later)
+all_oks : (requests : List Request) (later : List (Result Request LineKind))
+    → all_ok (map Ok requests ++ later) ≡ option_map (λ more. requests ++ more) (all_ok later)
 all_oks [] later = mapped_none (all_ok later)
-all_oks (request ∷ requests) later = ap (option_map (λ ys. request ∷ ys)) (all_oks requests later) ∙ mapped_twice request requests (all_ok later)
+all_oks (request ∷ requests) later = ap (option_map (λ ys. request ∷ ys)) (all_oks requests later)
+    ∙ mapped_twice request requests (all_ok later)
 
 just_oks : (requests : List Request) → all_ok (map Ok requests) ≡ Some requests
 just_oks [] = refl
@@ -58,15 +62,19 @@ many_pages : (requests : List Request) → 2 ^ 16 < pages_in requests → within
 many_pages requests many = ap (λ b. cond b (Some requests) None) (not_le (pages_in requests) (2 ^ 16) many)
 
 -- once the pages are too many, they stay so
-stay_many : (requests : List Request) (o : Option (List Request)) → 2 ^ 16 < pages_in requests → option_and_then within_pages (option_map (λ more. requests ++ more) o) ≡ None
+stay_many : (requests : List Request) (o : Option (List Request)) → 2 ^ 16 < pages_in requests
+    → option_and_then within_pages (option_map (λ more. requests ++ more) o) ≡ None
 stay_many requests None many = refl
-stay_many requests (Some more) many = many_pages (requests ++ more) (omega (arith, many, sum_by-append (λ (q : Request). pages_of q.commands) requests more))
+stay_many requests (Some more) many = many_pages (requests ++ more)
+    (omega (arith, many, sum_by-append (λ (q : Request). pages_of q.commands) requests more))
 
-in_few_lines : (grammar : Grammar) (ls : List (List ℕ)) (requests : List Request) → length ls ≤ 2 ^ 16 → map (says grammar) ls ≡ map Ok requests → pages_in requests ≤ 2 ^ 16
+in_few_lines : (grammar : Grammar) (ls : List (List ℕ)) (requests : List Request) → length ls ≤ 2 ^ 16
+    → map (says grammar) ls ≡ map Ok requests → pages_in requests ≤ 2 ^ 16
     → requests_in grammar ls ≡ Some requests
 unfolding requests_in
 in_few_lines grammar ls requests few good within =
-    ap (λ b. cond b (option_and_then within_pages (all_ok (map (says grammar) ls))) None) (is_le (length ls) (2 ^ 16) few)
+    ap (λ b. cond b (option_and_then within_pages (all_ok (map (says grammar) ls))) None)
+    (is_le (length ls) (2 ^ 16) few)
     ∙ ap (λ rs. option_and_then within_pages (all_ok rs)) good
     ∙ ap (option_and_then within_pages) (just_oks requests)
     ∙ few_pages requests within
@@ -75,19 +83,22 @@ none_chosen : {X : Type 0} (b : Bool) (o : Option X) → o ≡ None → cond b o
 none_chosen true o e = e
 none_chosen false o e = refl
 
-none_asked : (grammar : Grammar) (ls : List (List ℕ)) → option_and_then within_pages (all_ok (map (says grammar) ls)) ≡ None → requests_in grammar ls ≡ None
+none_asked : (grammar : Grammar) (ls : List (List ℕ))
+    → option_and_then within_pages (all_ok (map (says grammar) ls)) ≡ None → requests_in grammar ls ≡ None
 unfolding requests_in
 none_asked grammar ls e = none_chosen (nat_le (length ls) (2 ^ 16)) _ e
 
 in_many_lines : (grammar : Grammar) (ls : List (List ℕ)) → 2 ^ 16 < length ls → requests_in grammar ls ≡ None
 unfolding requests_in
-in_many_lines grammar ls many = ap (λ b. cond b (option_and_then within_pages (all_ok (map (says grammar) ls))) None) (not_le (length ls) (2 ^ 16) many)
+in_many_lines grammar ls many = ap (λ b. cond b (option_and_then within_pages (all_ok (map (says grammar) ls))) None)
+    (not_le (length ls) (2 ^ 16) many)
 
 no_script : (grammar : Grammar) (text : List ℕ) → requests_in grammar (lines text) ≡ None → reads_as grammar text ≡ None
 no_script grammar text e = none_chosen (nat_le (length text) (2 ^ 20)) _ (ap (option_map script_of) e)
 
 -- so many lines before ask for what stands in this script
-pub record IsReading (grammar : Grammar) (all left : List (List ℕ)) (script : List (List Command)) (number pages : ℕ) : Type 0 where
+pub record IsReading (grammar : Grammar) (all left : List (List ℕ)) (script : List (List Command)) (number pages : ℕ)
+    : Type 0 where
   pub before : List (List ℕ)
   pub requests : List Request
   pub whole : all ≡ before ++ left
@@ -102,7 +113,8 @@ pub record IsReading (grammar : Grammar) (all left : List (List ℕ)) (script : 
   pub heads : grammar ≡ Served → All (All IsOnHead) script
   pub unpaged : grammar ≡ Served → pages ≡ 0
 
-pub begun : (grammar : Grammar) (all left : List (List ℕ)) (script : List (List Command)) → left ≡ all → script ≡ replicate 16 [] → IsReading grammar all left script 0 0
+pub begun : (grammar : Grammar) (all left : List (List ℕ)) (script : List (List Command)) → left ≡ all
+    → script ≡ replicate 16 [] → IsReading grammar all left script 0 0
 begun grammar all left script e s = record {
   before = [];
   requests = [];
@@ -120,22 +132,27 @@ begun grammar all left script e s = record {
 }
 
 -- the list of a channel, if each list is of commands on heads
-pub heads_in : (script : List (List Command)) → All (All IsOnHead) script → (channel : ℕ) → All IsOnHead (slice_index_or script channel [])
+pub heads_in : (script : List (List Command)) → All (All IsOnHead) script → (channel : ℕ)
+    → All IsOnHead (slice_index_or script channel [])
 heads_in script all channel = elim (cases_lt channel (length script)) [
   | inl lt ↦ All-get_or (All IsOnHead) script channel [] lt all
   | inr past ↦ subst (All IsOnHead) (sym (get_or_past script channel [] past)) (All-nil IsOnHead)
 ]
 
-heads_pushed : (channel : ℕ) (commands : List Command) (script : List (List Command)) → All (All IsOnHead) script → All IsOnHead commands → All (All IsOnHead) (fold (with_command channel) script commands)
+heads_pushed : (channel : ℕ) (commands : List Command) (script : List (List Command)) → All (All IsOnHead) script
+    → All IsOnHead commands → All (All IsOnHead) (fold (with_command channel) script commands)
 heads_pushed channel [] script all on = all
 heads_pushed channel (command ∷ commands) script all on =
     heads_pushed channel commands (with_command channel script command)
-    (All-set (All IsOnHead) script channel _ (All-push IsOnHead _ command (heads_in script all channel) (All-head IsOnHead command commands on)) all)
+    (All-set (All IsOnHead) script channel _
+    (All-push IsOnHead _ command (heads_in script all channel) (All-head IsOnHead command commands on)) all)
     (All-tail IsOnHead command commands on)
 
 -- the numbers after one more request
-more_room : (commands number pages len more : ℕ) → (len ≤ 1) ⊎ (len ≡ more) → commands ≤ pages + number → (0 < pages → commands + 1 ≤ pages + number)
-    → (commands + len ≤ pages + more + (number + 1)) × (0 < pages + more → commands + len + 1 ≤ pages + more + (number + 1))
+more_room : (commands number pages len more : ℕ) → (len ≤ 1) ⊎ (len ≡ more) → commands ≤ pages + number
+    → (0 < pages → commands + 1 ≤ pages + number)
+    → (commands + len ≤ pages + more + (number + 1)) × (0 < pages + more
+    → commands + len + 1 ≤ pages + more + (number + 1))
 more_room commands number pages len more (inl few) room paged = (
   omega arith,
   λ some. elim (cases_lt 0 pages) [
@@ -152,21 +169,27 @@ more_room commands number pages len more (inr same) room paged = (
 )
 
 -- one more at the end of those that are there
-shifted : (requests : List Request) (request : Request) (later : List (Result Request LineKind)) → map Ok requests ++ Ok request ∷ later ≡ map Ok (requests ++ request ∷ []) ++ later
-shifted requests request later = sym (append_assoc (map Ok requests) (Ok request ∷ []) later) ∙ ap (λ rs. rs ++ later) (sym (map-append Ok requests (request ∷ [])))
+shifted : (requests : List Request) (request : Request) (later : List (Result Request LineKind))
+    → map Ok requests ++ Ok request ∷ later ≡ map Ok (requests ++ request ∷ []) ++ later
+shifted requests request later = sym (append_assoc (map Ok requests) (Ok request ∷ []) later)
+    ∙ ap (λ rs. rs ++ later) (sym (map-append Ok requests (request ∷ [])))
 
-module _ (grammar : Grammar) (all left : List (List ℕ)) (line : List ℕ) (rest : List (List ℕ)) (script : List (List Command)) (number pages : ℕ)
+module _ (grammar : Grammar) (all left : List (List ℕ)) (line : List ℕ) (rest : List (List ℕ))
+    (script : List (List Command)) (number pages : ℕ)
     (r : IsReading grammar all left script number pages) (e : left ≡ line ∷ rest) where
   whole_is : all ≡ r.before ++ line ∷ rest
   whole_is = r.whole ∙ ap (λ ls. r.before ++ ls) e
 
   good_before : requests_in grammar r.before ≡ Some r.requests
-  good_before = in_few_lines grammar r.before r.requests (omega (arith, r.number_is, r.fits)) r.good (omega (arith, r.pages_are, r.within))
+  good_before = in_few_lines grammar r.before r.requests (omega (arith, r.number_is, r.fits)) r.good
+      (omega (arith, r.pages_are, r.within))
 
   all_said : map (says grammar) all ≡ map Ok r.requests ++ says grammar line ∷ map (says grammar) rest
-  all_said = ap (map (says grammar)) whole_is ∙ map-append (says grammar) r.before (line ∷ rest) ∙ ap (λ cs. cs ++ says grammar line ∷ map (says grammar) rest) r.good
+  all_said = ap (map (says grammar)) whole_is ∙ map-append (says grammar) r.before (line ∷ rest)
+      ∙ ap (λ cs. cs ++ says grammar line ∷ map (says grammar) rest) r.good
 
-  first_bad : (text : List ℕ) (kind : LineKind) → length text ≤ 2 ^ 20 → all ≡ lines text → wrong_on grammar (number + 1) (pages_in r.requests) line ≡ Some kind → IsFirstBad grammar text (number + 1) kind
+  first_bad : (text : List ℕ) (kind : LineKind) → length text ≤ 2 ^ 20 → all ≡ lines text
+      → wrong_on grammar (number + 1) (pages_in r.requests) line ≡ Some kind → IsFirstBad grammar text (number + 1) kind
   first_bad text kind small is wrong = record {
     before = r.before;
     requests = r.requests;
@@ -180,90 +203,128 @@ module _ (grammar : Grammar) (all left : List (List ℕ)) (line : List ℕ) (res
   }
 
   -- within the limit of lines the line itself says what is wrong
-  wrong_here : number + 1 ≤ 2 ^ 16 → wrong_on grammar (number + 1) (pages_in r.requests) line ≡ wrong_after (pages_in r.requests) (says grammar line)
-  wrong_here few = ap (λ b. cond b (Some kind.Limit) (wrong_after (pages_in r.requests) (says grammar line))) (not_lt (2 ^ 16) (number + 1) few)
+  wrong_here : number + 1 ≤ 2 ^ 16
+      → wrong_on grammar (number + 1) (pages_in r.requests) line ≡ wrong_after (pages_in r.requests) (says grammar line)
+  wrong_here few = ap (λ b. cond b (Some kind.Limit) (wrong_after (pages_in r.requests) (says grammar line)))
+      (not_lt (2 ^ 16) (number + 1) few)
 
   module _ (request : Request) (said : says grammar line ≡ Ok request) where
-    pub one_more : (next : List (List Command)) → IsSized request.commands → (grammar ≡ Served → All IsOnHead request.commands)
+    pub one_more : (next : List (List Command)) → IsSized request.commands
+        → (grammar ≡ Served → All IsOnHead request.commands)
         → number + 1 ≤ 2 ^ 16 → pages + pages_of request.commands ≤ 2 ^ 16
         → next ≡ with_request script request → commands_in next ≡ commands_in script + length request.commands
         → IsReading grammar all rest next (number + 1) (pages + pages_of request.commands)
     one_more next sized on few within pushed count =
-        let numbers = more_room (commands_in script) number pages (length request.commands) (pages_of request.commands) sized r.room r.paged in
+        let numbers = more_room (commands_in script) number pages (length request.commands)
+        (pages_of request.commands) sized r.room r.paged in
         record {
           before = r.before ++ line ∷ [];
           requests = r.requests ++ request ∷ [];
           whole = whole_is ∙ sym (append_assoc r.before (line ∷ []) rest);
-          good = map-append (says grammar) r.before (line ∷ []) ∙ ap (λ cs. cs ++ says grammar line ∷ []) r.good ∙ ap (λ c. map Ok r.requests ++ c ∷ []) said ∙ sym (map-append Ok r.requests (request ∷ []));
-          script_is = pushed ∙ ap (λ (s : List (List Command)). with_request s request) r.script_is ∙ sym (fold_push with_request (replicate 16 []) r.requests request);
+          good = map-append (says grammar) r.before (line ∷ []) ∙ ap (λ cs. cs ++ says grammar line ∷ []) r.good
+              ∙ ap (λ c. map Ok r.requests ++ c ∷ []) said ∙ sym (map-append Ok r.requests (request ∷ []));
+          script_is = pushed ∙ ap (λ (s : List (List Command)). with_request s request) r.script_is
+              ∙ sym (fold_push with_request (replicate 16 []) r.requests request);
           number_is = omega (arith, r.number_is, length-append r.before (line ∷ []));
           fits = few;
-          pages_are = omega (arith, r.pages_are, sum_by-append (λ (q : Request). pages_of q.commands) r.requests (request ∷ []));
+          pages_are = omega (
+            arith,
+            r.pages_are,
+            sum_by-append (λ (q : Request). pages_of q.commands) r.requests
+                (request ∷ []),
+          );
           within = within;
           room = omega (arith, count, numbers.0);
           paged = λ some. let more = numbers.1 some in omega (arith, count);
-          heads = λ served. subst (All (All IsOnHead)) (sym pushed) (heads_pushed request.channel request.commands script (r.heads served) (on served));
+          heads = λ served. subst (All (All IsOnHead)) (sym pushed)
+              (heads_pushed request.channel request.commands script (r.heads served) (on served));
           unpaged = λ served. omega (arith, r.unpaged served, no_pages request.commands (on served));
         }
 
     -- with this line the pages are too many
-    pub too_many_pages : (text : List ℕ) → length text ≤ 2 ^ 20 → all ≡ lines text → number + 1 ≤ 2 ^ 16 → 2 ^ 16 < pages + pages_of request.commands
+    pub too_many_pages : (text : List ℕ) → length text ≤ 2 ^ 20 → all ≡ lines text → number + 1 ≤ 2 ^ 16
+        → 2 ^ 16 < pages + pages_of request.commands
         → IsFirstBad grammar text (number + 1) kind.Limit × (reads_as grammar text ≡ None)
     too_many_pages text small is few over =
         let more : 2 ^ 16 < pages_in r.requests + pages_of request.commands = omega (arith, over, r.pages_are) in
         let limit : wrong_after (pages_in r.requests) (says grammar line) ≡ Some kind.Limit =
-        ap (wrong_after (pages_in r.requests)) said ∙ ap (λ b. cond b (Some kind.Limit) None) (is_lt (2 ^ 16) (pages_in r.requests + pages_of request.commands) more) in
+        ap (wrong_after (pages_in r.requests)) said
+        ∙ ap (λ b. cond b (Some kind.Limit) None)
+        (is_lt (2 ^ 16) (pages_in r.requests + pages_of request.commands) more) in
         let whole : pages_in (r.requests ++ request ∷ []) ≡ pages_in r.requests + pages_of request.commands =
         omega (arith, sum_by-append (λ (q : Request). pages_of q.commands) r.requests (request ∷ [])) in
-        let asked : all_ok (map (says grammar) all) ≡ option_map (λ later. (r.requests ++ request ∷ []) ++ later) (all_ok (map (says grammar) rest)) =
-        ap all_ok (all_said ∙ ap (λ c. map Ok r.requests ++ c ∷ map (says grammar) rest) said ∙ shifted r.requests request (map (says grammar) rest)) ∙ all_oks (r.requests ++ request ∷ []) (map (says grammar) rest) in (
+        let asked : all_ok (map (says grammar) all) ≡ option_map (λ later. (r.requests ++ request ∷ []) ++ later)
+        (all_ok (map (says grammar) rest)) =
+        ap all_ok (all_said ∙ ap (λ c. map Ok r.requests ++ c ∷ map (says grammar) rest) said
+        ∙ shifted r.requests request (map (says grammar) rest))
+        ∙ all_oks (r.requests ++ request ∷ []) (map (says grammar) rest) in (
           first_bad text kind.Limit small is (wrong_here few ∙ limit),
-          no_script grammar text (ap (requests_in grammar) (sym is) ∙ none_asked grammar all (ap (option_and_then within_pages) asked ∙ stay_many (r.requests ++ request ∷ []) (all_ok (map (says grammar) rest)) (omega (arith, whole, more)))),
+          no_script grammar text (ap (requests_in grammar) (sym is)
+              ∙ none_asked grammar all (ap (option_and_then within_pages) asked
+              ∙ stay_many (r.requests ++ request ∷ []) (all_ok (map (says grammar) rest))
+              (omega (arith, whole, more)))),
         )
 
-  pub bad_line : (text : List ℕ) (kind : LineKind) → length text ≤ 2 ^ 20 → all ≡ lines text → number + 1 ≤ 2 ^ 16 → says grammar line ≡ Err kind
+  pub bad_line : (text : List ℕ) (kind : LineKind) → length text ≤ 2 ^ 20 → all ≡ lines text → number + 1 ≤ 2 ^ 16
+      → says grammar line ≡ Err kind
       → IsFirstBad grammar text (number + 1) kind × (reads_as grammar text ≡ None)
   bad_line text kind small is few said =
       let asked : all_ok (map (says grammar) all) ≡ None =
-      ap all_ok (all_said ∙ ap (λ c. map Ok r.requests ++ c ∷ map (says grammar) rest) said) ∙ all_oks r.requests (Err kind ∷ map (says grammar) rest) in (
+      ap all_ok (all_said ∙ ap (λ c. map Ok r.requests ++ c ∷ map (says grammar) rest) said)
+      ∙ all_oks r.requests (Err kind ∷ map (says grammar) rest) in (
         first_bad text kind small is (wrong_here few ∙ ap (wrong_after (pages_in r.requests)) said),
-        no_script grammar text (ap (requests_in grammar) (sym is) ∙ none_asked grammar all (ap (option_and_then within_pages) asked)),
+        no_script grammar text (ap (requests_in grammar) (sym is)
+            ∙ none_asked grammar all (ap (option_and_then within_pages) asked)),
       )
 
   pub too_many_lines : (text : List ℕ) → length text ≤ 2 ^ 20 → all ≡ lines text → 2 ^ 16 < number + 1
       → IsFirstBad grammar text (number + 1) kind.Limit × (reads_as grammar text ≡ None)
   too_many_lines text small is many =
-      let long : 2 ^ 16 < length all = omega (arith, many, r.number_is, ap length whole_is, length-append r.before (line ∷ rest)) in (
-        first_bad text kind.Limit small is (ap (λ b. cond b (Some kind.Limit) (wrong_after (pages_in r.requests) (says grammar line))) (is_lt (2 ^ 16) (number + 1) many)),
+      let long : 2 ^ 16 < length all = omega
+      (arith, many, r.number_is, ap length whole_is, length-append r.before (line ∷ rest)) in (
+        first_bad text kind.Limit small is
+            (ap (λ b. cond b (Some kind.Limit) (wrong_after (pages_in r.requests) (says grammar line)))
+            (is_lt (2 ^ 16) (number + 1) many)),
         no_script grammar text (ap (requests_in grammar) (sym is) ∙ in_many_lines grammar all long),
       )
 
-pub all_read : (grammar : Grammar) (text : List ℕ) (left : List (List ℕ)) (script : List (List Command)) (number pages : ℕ) → length text ≤ 2 ^ 20
+pub all_read : (grammar : Grammar) (text : List ℕ) (left : List (List ℕ)) (script : List (List Command))
+    (number pages : ℕ) → length text ≤ 2 ^ 20
     → IsReading grammar (lines text) left script number pages → left ≡ [] → reads_as grammar text ≡ Some script
 all_read grammar text left script number pages small r e =
     let none : r.before ++ left ≡ r.before = grind (arith, common_steps, e) in
     let asked : requests_in grammar (lines text) ≡ Some r.requests =
-    ap (requests_in grammar) (r.whole ∙ none) ∙ in_few_lines grammar r.before r.requests (omega (arith, r.number_is, r.fits)) r.good (omega (arith, r.pages_are, r.within)) in
+    ap (requests_in grammar) (r.whole ∙ none)
+    ∙ in_few_lines grammar r.before r.requests (omega (arith, r.number_is, r.fits)) r.good
+    (omega (arith, r.pages_are, r.within)) in
     ap (λ b. cond b (option_map script_of (requests_in grammar (lines text))) None) (is_le (length text) (2 ^ 20) small)
     ∙ ap (option_map script_of) asked
     ∙ ap Some (sym r.script_is)
 
 -- there is room for a request's commands
-pub pushed_room : (grammar : Grammar) (all left : List (List ℕ)) (script : List (List Command)) {number pages : ℕ} → (r : IsReading grammar all left script number pages) → (request : Request) → IsSized request.commands
-    → number + 1 ≤ 2 ^ 16 → pages + pages_of request.commands ≤ 2 ^ 16 → commands_in script + length request.commands ≤ 131071
+pub pushed_room : (grammar : Grammar) (all left : List (List ℕ)) (script : List (List Command)) {number pages : ℕ}
+    → (r : IsReading grammar all left script number pages) → (request : Request) → IsSized request.commands
+    → number + 1 ≤ 2 ^ 16 → pages + pages_of request.commands ≤ 2 ^ 16
+    → commands_in script + length request.commands ≤ 131071
 pushed_room grammar all left script {number} {pages} r request sized few within =
-    let numbers = more_room (commands_in script) number pages (length request.commands) (pages_of request.commands) sized r.room r.paged in
+    let numbers = more_room (commands_in script) number pages (length request.commands) (pages_of request.commands)
+    sized r.room r.paged in
     elim (cases_lt 0 (pages + pages_of request.commands)) [
       | inl some ↦ let more = numbers.1 some in omega arith
       | inr none ↦ let less = numbers.0 in omega arith
     ]
 
-pub served_heads : (grammar : Grammar) (all left : List (List ℕ)) (script : List (List Command)) {number pages : ℕ} → IsReading grammar all left script number pages → grammar ≡ Served → (channel : ℕ) → All IsOnHead (slice_index_or script channel [])
+pub served_heads : (grammar : Grammar) (all left : List (List ℕ)) (script : List (List Command)) {number pages : ℕ}
+    → IsReading grammar all left script number pages → grammar ≡ Served → (channel : ℕ)
+    → All IsOnHead (slice_index_or script channel [])
 served_heads grammar all left script r served = heads_in script (r.heads served)
 
-pub served_few : (grammar : Grammar) (all left : List (List ℕ)) (script : List (List Command)) {number pages : ℕ} → IsReading grammar all left script number pages → grammar ≡ Served → commands_in script ≤ 2 ^ 16
+pub served_few : (grammar : Grammar) (all left : List (List ℕ)) (script : List (List Command)) {number pages : ℕ}
+    → IsReading grammar all left script number pages → grammar ≡ Served → commands_in script ≤ 2 ^ 16
 served_few grammar all left script r served = omega (arith, r.room, r.unpaged served, r.fits)
 
 -- the same for a number of pages that is the same
-pub same_pages : (grammar : Grammar) (all left : List (List ℕ)) (script : List (List Command)) (number pages new : ℕ) → IsReading grammar all left script number pages → new ≡ pages → IsReading grammar all left script number new
-same_pages grammar all left script number pages new r e = subst (λ (n : ℕ). IsReading grammar all left script number n) (sym e) r
+pub same_pages : (grammar : Grammar) (all left : List (List ℕ)) (script : List (List Command)) (number pages new : ℕ)
+    → IsReading grammar all left script number pages → new ≡ pages → IsReading grammar all left script number new
+same_pages grammar all left script number pages new r e = subst
+    (λ (n : ℕ). IsReading grammar all left script number n) (sym e) r

@@ -22,7 +22,8 @@ not_true false e = refl
 the_rest : (place : ℕ) (xs : List ℕ) → take (length xs - (place + 1)) (drop (place + 1) xs) ≡ drop (place + 1) xs
 the_rest place xs = grind (arith, common_steps)
 
-pub cut_at : (p : ℕ → Bool) (xs : List ℕ) (place : ℕ) → position p xs ≡ Some place → slice_split p xs ≡ take place xs ∷ slice_split p (take (length xs - (place + 1)) (drop (place + 1) xs))
+pub cut_at : (p : ℕ → Bool) (xs : List ℕ) (place : ℕ) → position p xs ≡ Some place
+    → slice_split p xs ≡ take place xs ∷ slice_split p (take (length xs - (place + 1)) (drop (place + 1) xs))
 cut_at p xs place e =
     let w = when_some (ltb (position_or_len p xs) (length xs)) (position_or_len p xs) place e in
     let cut = slice_split_first p xs 0 (ltb-true _ _ w.0) in

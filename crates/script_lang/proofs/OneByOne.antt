@@ -30,9 +30,20 @@ fewer whole rest None t =
 fewer whole rest (Some value) t = omega (arith, ap length t.items)
 
 -- four at most are all that there are
-pub all_taken : (whole one two three left : List Value) (first second third fourth : Option Value) → IsTaken whole one first → IsTaken one two second → IsTaken two three third → IsTaken three left fourth
+pub all_taken : (whole one two three left : List Value) (first second third fourth : Option Value)
+    → IsTaken whole one first → IsTaken one two second → IsTaken two three third → IsTaken three left fourth
     → length whole ≤ 4 → whole ≡ listed first second third fourth
 all_taken whole one two three left first second third fourth a b c d few =
-    let none : left ≡ [] = no_more left (omega (arith, fewer whole one first a, fewer one two second b, fewer two three third c, fewer three left fourth d)) in
+    let none : left ≡ [] = no_more left
+    (omega (
+      arith,
+      fewer whole one first a,
+      fewer one two second b,
+      fewer two three third c,
+      fewer three left
+          fourth d,
+    )) in
     onto_is whole one first a
-    ∙ ap (onto first) (onto_is one two second b ∙ ap (onto second) (onto_is two three third c ∙ ap (onto third) (onto_is three left fourth d ∙ ap (onto fourth) none)))
+    ∙ ap (onto first) (onto_is one two second b
+    ∙ ap (onto second) (onto_is two three third c
+    ∙ ap (onto third) (onto_is three left fourth d ∙ ap (onto fourth) none)))

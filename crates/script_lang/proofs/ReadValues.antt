@@ -32,63 +32,85 @@ no_words grammar [] = refl
 no_words grammar (form ∷ forms) = refl
 
 -- what the first words said, so many forms being read, with what the others say
-pub record IsReading (grammar : Grammar) (forms : List Form) (words : List (List ℕ)) (index : ℕ) (left : List (List ℕ)) (values : List Value) (fault : Option LineKind) : Type 0 where
-  pub whole : joined (so_far values fault) (says_values grammar (drop index forms) left) ≡ says_values grammar forms words
+pub record IsReading (grammar : Grammar) (forms : List Form) (words : List (List ℕ)) (index : ℕ)
+    (left : List (List ℕ)) (values : List Value) (fault : Option LineKind) : Type 0 where
+  pub whole : joined (so_far values fault) (says_values grammar (drop index forms) left) ≡ says_values grammar forms
+      words
   pub few : length values ≤ index
 
 none_said : (r : Result (List Value) LineKind) → joined (so_far [] None) r ≡ r
 none_said (Ok values) = refl
 none_said (Err kind) = refl
 
-pub begun : (grammar : Grammar) (forms : List Form) (words : List (List ℕ)) → IsReading grammar forms words 0 words [] None
+pub begun : (grammar : Grammar) (forms : List Form) (words : List (List ℕ))
+    → IsReading grammar forms words 0 words [] None
 begun grammar forms words = record { whole = none_said (says_values grammar forms words); few = omega arith }
 
-said_good : (values : List Value) (fault : Option LineKind) (value : Value) → joined (so_far values fault) (Ok (value ∷ [])) ≡ so_far (values ++ value ∷ []) fault
+said_good : (values : List Value) (fault : Option LineKind) (value : Value)
+    → joined (so_far values fault) (Ok (value ∷ [])) ≡ so_far (values ++ value ∷ []) fault
 said_good values None value = refl
 said_good values (Some kind) value = refl
 
-said_bad : (values : List Value) (fault : Option LineKind) (kind : LineKind) → joined (so_far values fault) (Err kind) ≡ so_far values (Some (after fault kind))
+said_bad : (values : List Value) (fault : Option LineKind) (kind : LineKind)
+    → joined (so_far values fault) (Err kind) ≡ so_far values (Some (after fault kind))
 said_bad values None kind = refl
 said_bad values (Some first) kind = refl
 
-next_form : (forms : List Form) (index : ℕ) (d : Form) → index < length forms → drop index forms ≡ get_or forms index d ∷ drop (index + 1) forms
+next_form : (forms : List Form) (index : ℕ) (d : Form) → index < length forms
+    → drop index forms ≡ get_or forms index d ∷ drop (index + 1) forms
 next_form forms index d lt = rw add-one (drop-cons forms index d lt)
 
-module _ (grammar : Grammar) (forms : List Form) (words : List (List ℕ)) (index : ℕ) (left : List (List ℕ)) (values : List Value) (fault : Option LineKind) (r : IsReading grammar forms words index left values fault)
+module _ (grammar : Grammar) (forms : List Form) (words : List (List ℕ)) (index : ℕ) (left : List (List ℕ))
+    (values : List Value) (fault : Option LineKind) (r : IsReading grammar forms words index left values fault)
     (d : Form) (lt : index < length forms) where
   -- no word is left for this form
-  pub none_left : (ended : List (List ℕ)) → left ≡ [] → ended ≡ [] → IsReading grammar forms words (index + 1) ended values fault
+  pub none_left : (ended : List (List ℕ)) → left ≡ [] → ended ≡ []
+      → IsReading grammar forms words (index + 1) ended values fault
   none_left ended e still = record {
     whole =
         ap (λ w. joined (so_far values fault) (says_values grammar (drop (index + 1) forms) w)) still
-        ∙ ap (joined (so_far values fault)) (no_words grammar (drop (index + 1) forms) ∙ sym (no_words grammar (drop index forms)))
+        ∙ ap (joined (so_far values fault)) (no_words grammar (drop (index + 1) forms)
+        ∙ sym (no_words grammar (drop index forms)))
         ∙ ap (λ w. joined (so_far values fault) (says_values grammar (drop index forms) w)) (sym e)
         ∙ r.whole;
     few = omega (arith, r.few);
   }
 
   module _ (word : List ℕ) (rest : List (List ℕ)) (e : left ≡ word ∷ rest) where
-    split : joined (joined (so_far values fault) (or_kind (get_or forms index d) (says_word grammar (get_or forms index d) word))) (says_values grammar (drop (index + 1) forms) rest) ≡ says_values grammar forms words
+    split : joined (joined (so_far values fault)
+        (or_kind (get_or forms index d) (says_word grammar (get_or forms index d) word)))
+        (says_values grammar (drop (index + 1) forms) rest) ≡ says_values grammar forms words
     split =
-        joined_assoc (so_far values fault) (or_kind (get_or forms index d) (says_word grammar (get_or forms index d) word)) (says_values grammar (drop (index + 1) forms) rest)
-        ∙ ap (λ fs. joined (so_far values fault) (says_values grammar fs (word ∷ rest))) (sym (next_form forms index d lt))
+        joined_assoc (so_far values fault)
+        (or_kind (get_or forms index d) (says_word grammar (get_or forms index d) word))
+        (says_values grammar (drop (index + 1) forms) rest)
+        ∙ ap (λ fs. joined (so_far values fault) (says_values grammar fs (word ∷ rest)))
+        (sym (next_form forms index d lt))
         ∙ ap (λ w. joined (so_far values fault) (says_values grammar (drop index forms) w)) (sym e)
         ∙ r.whole
 
-    pub one_value : (value : Value) → says_word grammar (get_or forms index d) word ≡ Some value → IsReading grammar forms words (index + 1) rest (values ++ value ∷ []) fault
+    pub one_value : (value : Value) → says_word grammar (get_or forms index d) word ≡ Some value
+        → IsReading grammar forms words (index + 1) rest (values ++ value ∷ []) fault
     one_value value said = record {
-      whole = ap (λ a. joined a (says_values grammar (drop (index + 1) forms) rest)) (sym (ap (λ o. joined (so_far values fault) (or_kind (get_or forms index d) o)) said ∙ said_good values fault value)) ∙ split;
+      whole = ap (λ a. joined a (says_values grammar (drop (index + 1) forms) rest))
+          (sym (ap (λ o. joined (so_far values fault) (or_kind (get_or forms index d) o)) said
+          ∙ said_good values fault value)) ∙ split;
       few = omega (arith, r.few, length-append values (value ∷ []));
     }
 
-    pub one_fault : says_word grammar (get_or forms index d) word ≡ None → IsReading grammar forms words (index + 1) rest values (Some (after fault (kind_of (get_or forms index d))))
+    pub one_fault : says_word grammar (get_or forms index d) word ≡ None
+        → IsReading grammar forms words (index + 1) rest values (Some (after fault (kind_of (get_or forms index d))))
     one_fault said = record {
-      whole = ap (λ a. joined a (says_values grammar (drop (index + 1) forms) rest)) (sym (ap (λ o. joined (so_far values fault) (or_kind (get_or forms index d) o)) said ∙ said_bad values fault (kind_of (get_or forms index d)))) ∙ split;
+      whole = ap (λ a. joined a (says_values grammar (drop (index + 1) forms) rest))
+          (sym (ap (λ o. joined (so_far values fault) (or_kind (get_or forms index d) o)) said
+          ∙ said_bad values fault (kind_of (get_or forms index d)))) ∙ split;
       few = omega (arith, r.few);
     }
 
-pub all_read : (grammar : Grammar) (forms : List Form) (words left : List (List ℕ)) (index : ℕ) (values : List Value) (fault : Option LineKind)
-    → IsReading grammar forms words index left values fault → length forms ≤ index → says_values grammar forms words ≡ so_far values fault
+pub all_read : (grammar : Grammar) (forms : List Form) (words left : List (List ℕ)) (index : ℕ) (values : List Value)
+    (fault : Option LineKind)
+    → IsReading grammar forms words index left values fault → length forms ≤ index
+    → says_values grammar forms words ≡ so_far values fault
 all_read grammar forms words left index values fault r end =
     sym r.whole
     ∙ ap (λ fs. joined (so_far values fault) (says_values grammar fs left)) (none_after forms index end)
@@ -98,7 +120,10 @@ all_read grammar forms words left index values fault r end =
     none_after forms index end = grind (arith, common_steps)
 
 -- the same for values and a fault that are the same
-pub as_now : (grammar : Grammar) (forms : List Form) (words left : List (List ℕ)) (index : ℕ) (values new_values : List Value) (fault new_fault : Option LineKind)
-    → IsReading grammar forms words index left values fault → new_values ≡ values → new_fault ≡ fault → IsReading grammar forms words index left new_values new_fault
+pub as_now : (grammar : Grammar) (forms : List Form) (words left : List (List ℕ)) (index : ℕ)
+    (values new_values : List Value) (fault new_fault : Option LineKind)
+    → IsReading grammar forms words index left values fault → new_values ≡ values → new_fault ≡ fault
+    → IsReading grammar forms words index left new_values new_fault
 as_now grammar forms words left index values new_values fault new_fault r v f =
-    subst (λ (x : Option LineKind). IsReading grammar forms words index left new_values x) (sym f) (subst (λ (x : List Value). IsReading grammar forms words index left x fault) (sym v) r)
+    subst (λ (x : Option LineKind). IsReading grammar forms words index left new_values x) (sym f)
+    (subst (λ (x : List Value). IsReading grammar forms words index left x fault) (sym v) r)

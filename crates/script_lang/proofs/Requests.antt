@@ -38,7 +38,8 @@ either P false x y px py = py
 -- what holds of the commands of each verb's words holds of the commands of each line
 module _ (grammar : Grammar) (Q : List Command → Type 0) (none : Q [])
     (of_verb : (word : List ℕ) (words : List (List ℕ)) → IfOk (says_verb grammar (verb_in grammar word) words) Q) where
-  in_channel_has : (c : Option ℕ) (r : Result (List Command) LineKind) → IfOk r Q → IfOk (in_channel c r) (λ request. Q request.commands)
+  in_channel_has : (c : Option ℕ) (r : Result (List Command) LineKind) → IfOk r Q
+      → IfOk (in_channel c r) (λ request. Q request.commands)
   in_channel_has (Some c) (Ok commands) q = q
   in_channel_has (Some c) (Err kind) q = tt
   in_channel_has None (Ok commands) q = tt
@@ -47,35 +48,42 @@ module _ (grammar : Grammar) (Q : List Command → Type 0) (none : Q [])
   words_have : (words : List (List ℕ)) → IfOk (says_words grammar words) (λ request. Q request.commands)
   words_have [] = tt
   words_have (channel ∷ []) = tt
-  words_have (channel ∷ verb ∷ more) = in_channel_has (channel_in grammar channel) (says_verb grammar (verb_in grammar verb) more) (of_verb verb more)
+  words_have (channel ∷ verb ∷ more) = in_channel_has (channel_in grammar channel)
+      (says_verb grammar (verb_in grammar verb) more) (of_verb verb more)
 
   pub says_has : (line : List ℕ) → IfOk (says grammar line) (λ request. Q request.commands)
   says_has line =
       either (λ (r : Result Request LineKind). IfOk r (λ request. Q request.commands)) (is_skipped line) _ _ none
-      (either (λ (r : Result Request LineKind). IfOk r (λ request. Q request.commands)) (is_printable line && is_spaced line) _ _ (words_have (words line)) tt)
+      (either (λ (r : Result Request LineKind). IfOk r (λ request. Q request.commands))
+      (is_printable line && is_spaced line) _ _ (words_have (words line)) tt)
 
 -- one command at most, or pages alone
 abbrev pub IsSized : List Command → Type 0
 IsSized commands = (length commands ≤ 1) ⊎ (length commands ≡ pages_of commands)
 
-pages_first : (command : Command) (commands : List Command) → pages_of (command ∷ commands) ≡ 0 + cond (is_page command) 1 0 + pages_of commands
+pages_first : (command : Command) (commands : List Command)
+    → pages_of (command ∷ commands) ≡ 0 + cond (is_page command) 1 0 + pages_of commands
 pages_first command commands = sum_by-append (λ (x : Command). cond (is_page x) 1 0) (command ∷ []) commands
 
-all_pages : (f : ℕ → Command) → ((i : ℕ) → is_page (f i) ≡ true) → (is : List ℕ) → length (map f is) ≡ pages_of (map f is)
+all_pages : (f : ℕ → Command) → ((i : ℕ) → is_page (f i) ≡ true) → (is : List ℕ)
+    → length (map f is) ≡ pages_of (map f is)
 all_pages f page [] = refl
 all_pages f page (i ∷ is) =
     let one : cond {A = ℕ} (is_page (f i)) 1 0 ≡ 1 = ap (λ b. cond {A = ℕ} b 1 0) (page i) in
     omega (arith, one, pages_first (f i) (map f is), all_pages f page is)
 
-pages_sized : (page count : ℕ) (f : ℕ → Command) → ((i : ℕ) → is_page (f i) ≡ true) → IfOk (page_by_page page count f) IsSized
-pages_sized page count f pages = either (λ (r : Result (List Command) LineKind). IfOk r IsSized) (nat_lt (page + count) (2 ^ 64)) _ _ (inr (all_pages f pages (range_with_len 0 count))) tt
+pages_sized : (page count : ℕ) (f : ℕ → Command) → ((i : ℕ) → is_page (f i) ≡ true)
+    → IfOk (page_by_page page count f) IsSized
+pages_sized page count f pages = either (λ (r : Result (List Command) LineKind). IfOk r IsSized)
+    (nat_lt (page + count) (2 ^ 64)) _ _ (inr (all_pages f pages (range_with_len 0 count))) tt
 
 alone_sized : (command : Option Command) → IfOk (alone command) IsSized
 alone_sized (Some command) = inl (omega arith)
 alone_sized None = tt
 
 writes_sized : (values : List Value) → IfOk (writes values) IsSized
-writes_sized (Volume volume ∷ Number page ∷ Number count ∷ Number word ∷ []) = pages_sized page count (write_at volume page word) (λ i. refl)
+writes_sized (Volume volume ∷ Number page ∷ Number count ∷ Number word ∷ []) = pages_sized page count
+    (write_at volume page word) (λ i. refl)
 writes_sized _ = tt
 
 reads_sized : (values : List Value) → IfOk (reads values) IsSized
@@ -88,18 +96,21 @@ commands_sized v.Read values = reads_sized values
 commands_sized verb values = alone_sized (command_of verb values)
 
 module _ (Q : List Command → Type 0) where
-  said_have : (verb : Verb) → ((values : List Value) → IfOk (commands_of verb values) Q) → (r : Result (List Value) LineKind) → IfOk (commands_said verb r) Q
+  said_have : (verb : Verb) → ((values : List Value) → IfOk (commands_of verb values) Q)
+      → (r : Result (List Value) LineKind) → IfOk (commands_said verb r) Q
   said_have verb q (Ok values) = q values
   said_have verb q (Err kind) = tt
 
-verb_sized : (grammar : Grammar) (verb : Option Verb) (words : List (List ℕ)) → IfOk (says_verb grammar verb words) IsSized
+verb_sized : (grammar : Grammar) (verb : Option Verb) (words : List (List ℕ))
+    → IfOk (says_verb grammar verb words) IsSized
 verb_sized grammar None words = tt
 verb_sized grammar (Some verb) words =
     either (λ (r : Result (List Command) LineKind). IfOk r IsSized) (takes verb (length words)) _ _
     (said_have IsSized verb (commands_sized verb) (says_values grammar (forms_of verb) words)) tt
 
 pub says_sized : (grammar : Grammar) (line : List ℕ) → IfOk (says grammar line) (λ request. IsSized request.commands)
-says_sized grammar = says_has grammar IsSized (inl (omega arith)) (λ word words. verb_sized grammar (verb_in grammar word) words)
+says_sized grammar = says_has grammar IsSized (inl (omega arith))
+    (λ word words. verb_sized grammar (verb_in grammar word) words)
 
 -- each volume among the values is named by its head
 abbrev AreHeads : List Value → Type 0
@@ -120,7 +131,8 @@ plain_served v.List s = absurd (false≢true s)
 plain_served v.Df s = absurd (false≢true s)
 plain_served _ s = tt
 
-volume_served : (verb : Verb) (head : ℕ) → serves Served verb ≡ true → IfOk (alone (on_volume verb (Head head))) AreOnHeads
+volume_served : (verb : Verb) (head : ℕ) → serves Served verb ≡ true
+    → IfOk (alone (on_volume verb (Head head))) AreOnHeads
 volume_served v.Sync head s = one_head _ refl
 volume_served v.Inflate head s = absurd (false≢true s)
 volume_served v.Decouple head s = absurd (false≢true s)
@@ -129,11 +141,13 @@ volume_served v.ReadOnly head s = absurd (false≢true s)
 volume_served v.Info head s = absurd (false≢true s)
 volume_served _ head s = tt
 
-slots_served : (verb : Verb) (head slots : ℕ) → serves Served verb ≡ true → IfOk (alone (on_slots verb (Head head) slots)) AreOnHeads
+slots_served : (verb : Verb) (head slots : ℕ) → serves Served verb ≡ true
+    → IfOk (alone (on_slots verb (Head head) slots)) AreOnHeads
 slots_served v.Resize head slots s = absurd (false≢true s)
 slots_served _ head slots s = tt
 
-name_served : (verb : Verb) (head : ℕ) (name : List ℕ) → serves Served verb ≡ true → IfOk (alone (on_name verb (Head head) name)) AreOnHeads
+name_served : (verb : Verb) (head : ℕ) (name : List ℕ) → serves Served verb ≡ true
+    → IfOk (alone (on_name verb (Head head) name)) AreOnHeads
 name_served v.Snapshot head name s = absurd (false≢true s)
 name_served v.Clone head name s = absurd (false≢true s)
 name_served v.Rename head name s = absurd (false≢true s)
@@ -144,16 +158,19 @@ key_served v.DelX head key = one_head _ refl
 key_served v.GetX head key = one_head _ refl
 key_served _ head key = tt
 
-value_served : (verb : Verb) (head : ℕ) (key value : List ℕ) → IfOk (alone (on_value verb (Head head) key value)) AreOnHeads
+value_served : (verb : Verb) (head : ℕ) (key value : List ℕ)
+    → IfOk (alone (on_value verb (Head head) key value)) AreOnHeads
 value_served v.SetX head key value = one_head _ refl
 value_served v.Put head key value = one_head _ refl
 value_served _ head key value = tt
 
-creation_served : (verb : Verb) (name : List ℕ) (slots : ℕ) (thick : Bool) (uuid : Option (List ℕ)) → serves Served verb ≡ true → IfOk (alone (creation verb name slots thick uuid)) AreOnHeads
+creation_served : (verb : Verb) (name : List ℕ) (slots : ℕ) (thick : Bool) (uuid : Option (List ℕ))
+    → serves Served verb ≡ true → IfOk (alone (creation verb name slots thick uuid)) AreOnHeads
 creation_served v.Create name slots thick uuid s = absurd (false≢true s)
 creation_served _ name slots thick uuid s = tt
 
-on_served : (verb : Verb) (head : ℕ) (values : List Value) → serves Served verb ≡ true → IfOk (alone (command_on verb (Head head) values)) AreOnHeads
+on_served : (verb : Verb) (head : ℕ) (values : List Value) → serves Served verb ≡ true
+    → IfOk (alone (command_on verb (Head head) values)) AreOnHeads
 on_served verb head [] s = volume_served verb head s
 on_served verb head (Number slots ∷ []) s = slots_served verb head slots s
 on_served verb head (Name name ∷ []) s = name_served verb head name s
@@ -161,19 +178,23 @@ on_served verb head (Text key ∷ []) s = key_served verb head key
 on_served verb head (Text key ∷ Text value ∷ []) s = value_served verb head key value
 on_served verb head _ s = tt
 
-named_served : (verb : Verb) (name : List ℕ) (values : List Value) → serves Served verb ≡ true → IfOk (alone (command_of_name verb name values)) AreOnHeads
+named_served : (verb : Verb) (name : List ℕ) (values : List Value) → serves Served verb ≡ true
+    → IfOk (alone (command_of_name verb name values)) AreOnHeads
 named_served verb name (Number slots ∷ Thick thick ∷ []) s = creation_served verb name slots thick None s
-named_served verb name (Number slots ∷ Thick thick ∷ Uuid uuid ∷ []) s = creation_served verb name slots thick (Some uuid) s
+named_served verb name (Number slots ∷ Thick thick ∷ Uuid uuid ∷ []) s = creation_served verb name slots thick
+    (Some uuid) s
 named_served verb name _ s = tt
 
-one_served : (verb : Verb) (values : List Value) → serves Served verb ≡ true → AreHeads values → IfOk (alone (command_of verb values)) AreOnHeads
+one_served : (verb : Verb) (values : List Value) → serves Served verb ≡ true → AreHeads values
+    → IfOk (alone (command_of verb values)) AreOnHeads
 one_served verb [] s heads = plain_served verb s
 one_served verb (Volume (Head head) ∷ values) s heads = on_served verb head values s
 one_served verb (Volume (Named name) ∷ values) s heads = absurd heads
 one_served verb (Name name ∷ values) s heads = named_served verb name values s
 one_served verb _ s heads = tt
 
-served_heads : (verb : Verb) (values : List Value) → serves Served verb ≡ true → AreHeads values → IfOk (commands_of verb values) AreOnHeads
+served_heads : (verb : Verb) (values : List Value) → serves Served verb ≡ true → AreHeads values
+    → IfOk (commands_of verb values) AreOnHeads
 served_heads v.Write values s heads = absurd (false≢true s)
 served_heads v.Read values s heads = absurd (false≢true s)
 served_heads verb values s heads = one_served verb values s heads
@@ -194,11 +215,13 @@ joined_heads (Ok a) (Err k) ha hb = tt
 joined_heads (Err k) (Ok b) ha hb = tt
 joined_heads (Err k) (Err l) ha hb = tt
 
-no_volume : {X : Type 0} (form : Form) (C : X → Value) → ((x : X) → AreHeads (C x ∷ [])) → (o : Option X) → IfOk (or_kind form (option_map C o)) AreHeads
+no_volume : {X : Type 0} (form : Form) (C : X → Value) → ((x : X) → AreHeads (C x ∷ [])) → (o : Option X)
+    → IfOk (or_kind form (option_map C o)) AreHeads
 no_volume form C heads (Some x) = heads x
 no_volume form C heads None = tt
 
-a_head : (b : Bool) (o : Option ℕ) → IfOk (or_kind form.Volume (option_map Volume (cond b (option_map Head o) None))) AreHeads
+a_head : (b : Bool) (o : Option ℕ)
+    → IfOk (or_kind form.Volume (option_map Volume (cond b (option_map Head o) None))) AreHeads
 a_head true (Some head) = tt
 a_head true None = tt
 a_head false o = tt
@@ -216,9 +239,11 @@ word_heads form.Value word = no_volume form.Value Text (λ x. tt) (value_in word
 values_heads : (forms : List Form) (words : List (List ℕ)) → IfOk (says_values Served forms words) AreHeads
 values_heads [] words = tt
 values_heads (f ∷ forms) [] = tt
-values_heads (f ∷ forms) (word ∷ words) = joined_heads (or_kind f (says_word Served f word)) (says_values Served forms words) (word_heads f word) (values_heads forms words)
+values_heads (f ∷ forms) (word ∷ words) = joined_heads (or_kind f (says_word Served f word))
+    (says_values Served forms words) (word_heads f word) (values_heads forms words)
 
-first_passes : {X : Type 0} (p : X → Bool) (x : X) (b : Bool) → p x ≡ b → (o : Option X) → IfSome o (λ y. p y ≡ true) → IfSome (cond b (Some x) o) (λ y. p y ≡ true)
+first_passes : {X : Type 0} (p : X → Bool) (x : X) (b : Bool) → p x ≡ b → (o : Option X) → IfSome o (λ y. p y ≡ true)
+    → IfSome (cond b (Some x) o) (λ y. p y ≡ true)
 first_passes p x true e o later = e
 first_passes p x false e o later = later
 
@@ -230,19 +255,23 @@ right : (a b : Bool) → (a && b) ≡ true → b ≡ true
 right true b e = e
 right false b e = absurd (false≢true e)
 
-values_served : (verb : Verb) → serves Served verb ≡ true → (r : Result (List Value) LineKind) → IfOk r AreHeads → IfOk (commands_said verb r) AreOnHeads
+values_served : (verb : Verb) → serves Served verb ≡ true → (r : Result (List Value) LineKind) → IfOk r AreHeads
+    → IfOk (commands_said verb r) AreOnHeads
 values_served verb s (Ok values) heads = served_heads verb values s heads
 values_served verb s (Err kind) heads = tt
 
-verb_served : (word : List ℕ) (words : List (List ℕ)) (o : Option Verb) → IfSome o (λ verb. is_verb Served word verb ≡ true) → IfOk (says_verb Served o words) AreOnHeads
+verb_served : (word : List ℕ) (words : List (List ℕ)) (o : Option Verb)
+    → IfSome o (λ verb. is_verb Served word verb ≡ true) → IfOk (says_verb Served o words) AreOnHeads
 verb_served word words None e = tt
 verb_served word words (Some verb) e =
     either (λ (r : Result (List Command) LineKind). IfOk r AreOnHeads) (takes verb (length words)) _ _
-    (values_served verb (right _ _ e) (says_values Served (forms_of verb) words) (values_heads (forms_of verb) words)) tt
+    (values_served verb (right _ _ e) (says_values Served (forms_of verb) words) (values_heads (forms_of verb) words))
+    tt
 
 verb_heads : (word : List ℕ) (words : List (List ℕ)) → IfOk (says_verb Served (verb_in Served word) words) AreOnHeads
 unfolding verb_in
-verb_heads word words = verb_served word words (find (is_verb Served word) verbs) (found_passes (is_verb Served word) verbs)
+verb_heads word words = verb_served word words (find (is_verb Served word) verbs)
+    (found_passes (is_verb Served word) verbs)
 
 pub says_heads : (line : List ℕ) → IfOk (says Served line) (λ request. All IsOnHead request.commands)
 says_heads = says_has Served AreOnHeads (All-nil IsOnHead) verb_heads
@@ -256,7 +285,8 @@ not_page _ on = refl
 pub no_pages : (commands : List Command) → All IsOnHead commands → pages_of commands ≡ 0
 no_pages [] on = refl
 no_pages (command ∷ commands) on =
-    let none : cond {A = ℕ} (is_page command) 1 0 ≡ 0 = ap (λ b. cond {A = ℕ} b 1 0) (not_page command (All-head IsOnHead command commands on)) in
+    let none : cond {A = ℕ} (is_page command) 1 0 ≡ 0 = ap (λ b. cond {A = ℕ} b 1 0)
+    (not_page command (All-head IsOnHead command commands on)) in
     omega (arith, none, pages_first command commands, no_pages commands (All-tail IsOnHead command commands on))
 
 below_limit : (v limit : ℕ) (t : Bool) → nat_lt v limit ≡ t → limit ≤ 16 → IfSome (cond t (Some v) None) (λ n. n < 16)
@@ -271,25 +301,31 @@ few_channels : (grammar : Grammar) → channels_of grammar ≤ 16
 few_channels Whole = omega arith
 few_channels Served = omega arith
 
-in_channel_below : (c : Option ℕ) (r : Result (List Command) LineKind) → IfSome c (λ n. n < 16) → IfOk (in_channel c r) (λ request. request.channel < 16)
+in_channel_below : (c : Option ℕ) (r : Result (List Command) LineKind) → IfSome c (λ n. n < 16)
+    → IfOk (in_channel c r) (λ request. request.channel < 16)
 in_channel_below (Some c) (Ok commands) lt = lt
 in_channel_below (Some c) (Err kind) lt = tt
 in_channel_below None (Ok commands) lt = tt
 in_channel_below None (Err kind) lt = tt
 
-words_below : (grammar : Grammar) (words : List (List ℕ)) → IfOk (says_words grammar words) (λ request. request.channel < 16)
+words_below : (grammar : Grammar) (words : List (List ℕ))
+    → IfOk (says_words grammar words) (λ request. request.channel < 16)
 words_below grammar [] = tt
 words_below grammar (channel ∷ []) = tt
 words_below grammar (channel ∷ verb ∷ more) =
     in_channel_below (channel_in grammar channel) (says_verb grammar (verb_in grammar verb) more)
-    (is_channel (bytes_eq (decimal (digits_value 10 channel)) channel) (digits_value 10 channel) (channels_of grammar) (few_channels grammar))
+    (is_channel (bytes_eq (decimal (digits_value 10 channel)) channel) (digits_value 10 channel) (channels_of grammar)
+    (few_channels grammar))
 
 -- a line's channel is one of sixteen
 pub says_channel : (grammar : Grammar) (line : List ℕ) → IfOk (says grammar line) (λ request. request.channel < 16)
 says_channel grammar line =
-    either (λ (r : Result Request LineKind). IfOk r (λ request. request.channel < 16)) (is_skipped line) _ _ (omega arith)
-    (either (λ (r : Result Request LineKind). IfOk r (λ request. request.channel < 16)) (is_printable line && is_spaced line) _ _ (words_below grammar (words line)) tt)
+    either (λ (r : Result Request LineKind). IfOk r (λ request. request.channel < 16)) (is_skipped line) _ _
+    (omega arith)
+    (either (λ (r : Result Request LineKind). IfOk r (λ request. request.channel < 16))
+    (is_printable line && is_spaced line) _ _ (words_below grammar (words line)) tt)
 
 -- what holds of a request if there is one
-pub if_said : (P : Request → Type 0) (r : Result Request LineKind) (request : Request) → r ≡ Ok request → IfOk r P → P request
+pub if_said : (P : Request → Type 0) (r : Result Request LineKind) (request : Request) → r ≡ Ok request → IfOk r P
+    → P request
 if_said P r request e h = subst (λ (x : Result Request LineKind). IfOk x P) e h

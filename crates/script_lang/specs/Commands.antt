@@ -21,7 +21,8 @@ read_at volume page i = c.Read volume (page + i)
 
 -- a command for each of the pages, which end below 2^64
 abbrev pub page_by_page : ℕ → ℕ → (ℕ → Command) → Result (List Command) LineKind
-page_by_page page count command = if nat_lt (page + count) (2 ^ 64) then Ok (map command (range_with_len 0 count)) else Err kind.Number
+page_by_page page count command =
+    if nat_lt (page + count) (2 ^ 64) then Ok (map command (range_with_len 0 count)) else Err kind.Number
 
 -- verbs that stand alone
 abbrev pub plain : Verb → Option Command
@@ -97,7 +98,8 @@ alone None = Err kind.Form
 
 -- `VOL PAGE COUNT WORD`
 abbrev pub writes : List Value → Result (List Command) LineKind
-writes (Volume volume ∷ Number page ∷ Number count ∷ Number word ∷ []) = page_by_page page count (write_at volume page word)
+writes (Volume volume ∷ Number page ∷ Number count ∷ Number word ∷ []) =
+    page_by_page page count (write_at volume page word)
 writes _ = Err kind.Form
 
 -- `VOL PAGE COUNT`

@@ -71,7 +71,8 @@ joined (Err kind) (Err later) = Err (worse kind later)
 abbrev pub says_values : Grammar → List Form → List (List ℕ) → Result (List Value) LineKind
 says_values grammar [] words = Ok []
 says_values grammar (form ∷ forms) [] = Ok []
-says_values grammar (form ∷ forms) (word ∷ words) = joined (or_kind form (says_word grammar form word)) (says_values grammar forms words)
+says_values grammar (form ∷ forms) (word ∷ words) =
+    joined (or_kind form (says_word grammar form word)) (says_values grammar forms words)
 
 -- a value before others; none where it is missing
 abbrev pub onto : Option Value → List Value → List Value

@@ -36,7 +36,8 @@ within_pages requests = if nat_le (pages_in requests) (2 ^ 16) then Some request
 
 -- what lines ask for: at most 65,536 lines, which together read and write at most 65,536 pages
 unfoldable pub requests_in : Grammar → List (List ℕ) → Option (List Request)
-requests_in grammar lines = if nat_le (length lines) (2 ^ 16) then option_and_then within_pages (all_ok (map (says grammar) lines)) else None
+requests_in grammar lines =
+    if nat_le (length lines) (2 ^ 16) then option_and_then within_pages (all_ok (map (says grammar) lines)) else None
 
 -- a command at the end of its channel's
 abbrev pub with_command : ℕ → List (List Command) → Command → List (List Command)
@@ -52,7 +53,8 @@ script_of requests = fold with_request (replicate 16 []) requests
 
 -- the script of a text of at most 1,048,576 bytes
 abbrev pub reads_as : Grammar → List ℕ → Option (List (List Command))
-reads_as grammar text = if nat_le (length text) (2 ^ 20) then option_map script_of (requests_in grammar (lines text)) else None
+reads_as grammar text =
+    if nat_le (length text) (2 ^ 20) then option_map script_of (requests_in grammar (lines text)) else None
 
 -- what is wrong with a line after so many pages: it asks for nothing, or for a page too many
 abbrev pub wrong_after : ℕ → Result Request LineKind → Option LineKind
@@ -61,7 +63,8 @@ wrong_after pages (Ok request) = if nat_lt (2 ^ 16) (pages + pages_of request.co
 
 -- what is wrong with the line of this number, from 1, after so many pages: one too many whatever it holds
 abbrev pub wrong_on : Grammar → ℕ → ℕ → List ℕ → Option LineKind
-wrong_on grammar number pages line = if nat_lt (2 ^ 16) number then Some kind.Limit else wrong_after pages (says grammar line)
+wrong_on grammar number pages line =
+    if nat_lt (2 ^ 16) number then Some kind.Limit else wrong_after pages (says grammar line)
 
 -- the line of this number, from 1, is the first outside the grammar or over a limit, and this is wrong with it
 pub record IsFirstBad (grammar : Grammar) (text : List ℕ) (number : ℕ) (kind : LineKind) : Type 0 where

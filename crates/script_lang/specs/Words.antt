@@ -10,7 +10,9 @@ use Rattle.lvol_store.specs.Names.{is_name}
 
 -- a number below a limit as it is printed: without sign or leading zero
 abbrev pub number_below : ℕ → List ℕ → Option ℕ
-number_below limit word = if bytes_eq (decimal (digits_value 10 word)) word && nat_lt (digits_value 10 word) limit then Some (digits_value 10 word) else None
+number_below limit word =
+    if bytes_eq (decimal (digits_value 10 word)) word && nat_lt (digits_value 10 word) limit
+    then Some (digits_value 10 word) else None
 
 -- a number of at most 2^64 - 1
 abbrev pub number_in : List ℕ → Option ℕ
@@ -33,7 +35,9 @@ name_in word = if is_name word then Some word else None
 
 -- whether all clusters are claimed at once
 abbrev pub thickness_in : List ℕ → Option Bool
-thickness_in word = if bytes_eq word (codes "thin") then Some false else (if bytes_eq word (codes "thick") then Some true else None)
+thickness_in word =
+    if bytes_eq word (codes "thin") then Some false
+    else (if bytes_eq word (codes "thick") then Some true else None)
 
 -- bytes that can be seen, from 0x21 to 0x7E
 abbrev pub is_visible : List ℕ → Bool

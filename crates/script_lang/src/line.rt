@@ -72,7 +72,8 @@ fn commands_in(
     word: &[u8],
     words: Parts<'_>,
 ) -> Result<ListOf<Command>, LineFault>
-    ensures { Answers (says_verb grammar (verb_in grammar word.now) (parts words.entry.separator (option_copied words.entry.rest))) result }
+    ensures { Answers (says_verb grammar (verb_in grammar word.now)
+        (parts words.entry.separator (option_copied words.entry.rest))) result }
 {
     let Some(verb) = Verb::of(grammar, word) else {
         return Err(LineFault::Bad(LineKind::Verb));

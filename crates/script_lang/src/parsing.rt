@@ -80,7 +80,8 @@ fn push_request(alloc: Global, script: &mut Script, request: Request) -> Result<
 /// The script of a text, read by a grammar; the clauses of `parse` say what is what.
 pub fn read_script(alloc: Global, grammar: Grammar, text: &[u8]) -> Result<Script, ScriptFault>
     ensures found { IfOk result (λ script. reads_as grammar text.now ≡ Some script) }
-    ensures on_heads { IfOk result (λ script. grammar ≡ Served → (channel : ℕ) → All IsOnHead (slice_index_or script channel [])) }
+    ensures on_heads { IfOk result
+        (λ script. grammar ≡ Served → (channel : ℕ) → All IsOnHead (slice_index_or script channel [])) }
     ensures few { IfOk result (λ script. grammar ≡ Served → commands_in script ≤ 2 ^ 16) }
     ensures within { IfOk result (λ script. length text.now ≤ 2 ^ 20) }
     ensures refused { IfErr result (Refuses grammar text.now) }
@@ -119,9 +120,10 @@ pub fn read_script(alloc: Global, grammar: Grammar, text: &[u8]) -> Result<Scrip
     Ok(script)
 }
 
-/// The script of a text of at most 1,048,576 bytes, on at most 65,536 lines, which reads and writes at most 65,536 pages. Lines
-/// end with LF, the last may lack it. A line that is empty or begins with `#` asks for nothing; another is words with one space
-/// between any two: a channel, a verb and the verb's words. Read is what the program serves of the grammar so far.
+/// The script of a text of at most 1,048,576 bytes, on at most 65,536 lines, which reads and writes at most 65,536
+/// pages. Lines end with LF, the last may lack it. A line that is empty or begins with `#` asks for nothing; another is
+/// words with one space between any two: a channel, a verb and the verb's words. Read is what the program serves of the
+/// grammar so far.
 ///
 /// `BadLine` names the first line that is outside the grammar, or with which a limit is passed (`Limit`).
 pub fn parse(alloc: Global, text: &[u8]) -> Result<Script, ScriptFault>

@@ -24,10 +24,12 @@ impl<'a> Parts<'a> {
 
     /// The next part; `None` after the last.
     pub fn next_part(&mut self) -> Option<&'a [u8]>
-        ensures some { IfSome result (λ part. parts self.old.separator (option_copied self.old.rest) ≡ part.now ∷ parts self.new.separator (option_copied self.new.rest)) }
+        ensures some { IfSome result (λ part. parts self.old.separator (option_copied self.old.rest)
+            ≡ part.now ∷ parts self.new.separator (option_copied self.new.rest)) }
         ensures none { IfNone result (parts self.old.separator (option_copied self.old.rest) ≡ []) }
         ensures ended { IfNone result (parts self.new.separator (option_copied self.new.rest) ≡ []) }
-        ensures shorter { IfSome result (λ part. size_left (option_copied self.new.rest) < size_left (option_copied self.old.rest)) }
+        ensures shorter { IfSome result
+            (λ part. size_left (option_copied self.new.rest) < size_left (option_copied self.old.rest)) }
     {
         let text = self.rest?;
         let (part, rest) = cut(text, self.separator);

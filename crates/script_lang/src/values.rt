@@ -40,7 +40,8 @@ pub fn read_values(
     forms: &[Form],
     mut words: Parts<'_>,
 ) -> Result<ListOf<Value>, LineFault>
-    ensures said { Answers (says_values grammar forms.now (parts words.entry.separator (option_copied words.entry.rest))) result }
+    ensures said { Answers
+        (says_values grammar forms.now (parts words.entry.separator (option_copied words.entry.rest))) result }
     ensures few { IfOk result (λ values. length values ≤ length forms.now) }
 {
     let mut values = ListOf::new(alloc);

@@ -5,4 +5,5 @@ use Rattle.blob_report.specs.Text.{info_line}
 use Rattle.blob_report.proofs.volume.push_list.Given as goal
 
 abbrev pub invariant-loop-info : goal.invariant-loop-info
-invariant-loop-info l = l.into.items ≡ l.fn.into.items ++ (codes "list " ++ decimal (length l.infos) ++ flat_map info_line (take l.info-index l.infos))
+invariant-loop-info l = l.into.items ≡ l.fn.into.items ++
+    (codes "list " ++ decimal (length l.infos) ++ flat_map info_line (take l.info-index l.infos))

@@ -5,7 +5,8 @@ use Rattle.script_lang.proofs.ByLines.{IsReading}
 use Rattle.script_lang.proofs.parsing.read_script.Given as goal
 
 abbrev pub invariant-loop-line : goal.invariant-loop-line
-invariant-loop-line l = IsReading l.grammar (lines l.text) (parts l.lines.separator (option_copied l.lines.rest)) l.script l.number l.pages
+invariant-loop-line l = IsReading l.grammar (lines l.text) (parts l.lines.separator (option_copied l.lines.rest))
+    l.script l.number l.pages
 
 abbrev pub decreases-loop-line : goal.decreases-loop-line
 decreases-loop-line l = size_left (option_copied l.lines.rest)
