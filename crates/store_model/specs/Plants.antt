@@ -1,5 +1,5 @@
 -- The state of a running store, as plain data. Contracts compute it from what they see of the program's value.
-use Rattle.std.specs.Prelude.{◌≡◌, ◌⊎◌, ℕ, ◌+◌, ◌%◌, ◌^◌, ◌==◌, if◌then◌else◌, Bool, List, [], ◌∷◌, ◌++◌, Option, None}
+use Rattle.std.specs.Prelude.{Some, ◌-◌, length, ◌≡◌, ◌⊎◌, ℕ, ◌+◌, ◌%◌, ◌^◌, ◌==◌, if◌then◌else◌, Bool, List, [], ◌∷◌, ◌++◌, Option, None}
 use Rattle.std.specs.Option.{option_map, option_map_or}
 use Rattle.super_block.specs.declared.page.Super.{Super}
 use Rattle.volume_model.specs.Volumes.{Volumes}
@@ -32,6 +32,15 @@ pub record Job : Type 0 where
   -- the places that stood behind the head
   pub old : List ℕ
   pub phase : Phase
+
+-- the pages that a job has left to write
+abbrev pub pages_in : Job → Phase → ℕ
+pages_in j (Writing written) = (length j.fresh - written) + 1 + length j.old
+pages_in j (Erasing erased) = length j.old - erased
+
+abbrev pub pages_left : Option Job → ℕ
+pages_left None = 0
+pages_left (Some j) = pages_in j j.phase
 
 -- the page that is planned for a place
 abbrev pub page_in : List PlannedPage → Look

@@ -17,7 +17,7 @@ use Rattle.store_model.specs.Maps.{Metas, Chains}
 use Rattle.store_model.specs.Regions.{region_of}
 use Rattle.store_model.specs.Shown.{fixed_of}
 use Rattle.store_model.specs.Rows.{Copying, entries_of, InJob, OpenClaim, Posted, Ended, Ready, Stage}
-use Rattle.store_model.specs.Plants.{Job, Writing, Plant, shown}
+use Rattle.store_model.specs.Plants.{pages_in, Job, Writing, Plant, shown}
 use Rattle.store_model.specs.Places.{AreDistinct, ClaimsDiffer, held_by, IsClaimed, UsedPages, UsedClusters}
 use Rattle.store_model.specs.Jobs.{JobStands}
 
@@ -94,5 +94,7 @@ pub record Facts (s : Super) (first : Volumes) (script : ℕ → List Command) (
   -- one mark for the loading and one for each entry, none of the future
   pub counted : length p.marks ≡ length p.log + 1
   pub past : All (λ t. t ≤ p.device.clock) p.marks
-  -- a store stops with its job, after some entries
-  pub halted : (at : ℕ) → p.stopped ≡ Some at → (at ≤ length p.log) × (p.job ≡ None)
+  -- a store stops behind some of its entries
+  pub halted : (at : ℕ) → p.stopped ≡ Some at → at ≤ length p.log
+  -- a job that runs has something left to do
+  pub unfinished : (job : Job) → p.job ≡ Some job → 0 < pages_in job job.phase

@@ -1,0 +1,33 @@
+-- The turn breaks_down.
+use Rattle.std.specs.Prelude.{◌≡◌, ◌⊎◌, ℕ, List, ◌∷◌, None, Some}
+use Rattle.volume_model.specs.declared.command.Command.{Command}
+use Rattle.volume_model.specs.declared.reply.Reply.TheVariants as r
+use Rattle.store_model.specs.Rows.{InJob}
+use Rattle.store_model.specs.Plants.{Erasing, Job, logged, Plant, Writing}
+use Rattle.store_model.specs.Touches.{TurnKind, untouched}
+
+-- The command that the job serves has no entry yet, and is logged as stopped.
+pub record IsUnlogged (p : Plant) (j : Job) (at : ℕ) (q : Plant) : Type 0 where
+  pub written : ℕ
+  pub in_phase : j.phase ≡ Writing written
+  pub command : Command
+  pub rest : List Command
+  pub row : p.rows j.channel ≡ record { left = command ∷ rest; stage = InJob; claim = None }
+  pub next : q ≡ logged (record p { job = None }) j.channel command rest (r.Stopped at) p.device
+
+-- It was logged at the job's commit.
+pub record WasLogged (p : Plant) (j : Job) (q : Plant) : Type 0 where
+  pub erased : ℕ
+  pub in_phase : j.phase ≡ Erasing erased
+  pub next : q ≡ record p { job = None }
+
+-- A turn of the job on a stopped store: no device call, and no job runs any more.
+pub record BreaksDown (p q : Plant) : Type 0 where
+  pub job : Job
+  pub is : p.job ≡ Some job
+  pub at : ℕ
+  pub stands : p.stopped ≡ Some at
+  pub ends : IsUnlogged p job at q ⊎ WasLogged p job q
+
+abbrev pub kind : TurnKind
+kind = record { Case = λ told p q. BreaksDown p q; touch = λ told p q t. untouched; OfJob = Unit {0} }
