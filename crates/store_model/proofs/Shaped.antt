@@ -4,7 +4,7 @@ use Rattle.std.proofs.lemmas.Bool.{cases_eq}
 use Rattle.volume_model.specs.declared.command.Command.{Command}
 use Rattle.store_model.specs.Rows.{OpenClaim, Row, Rows, Idle, Posted, InJob, Answered, Decided, Ended, with_row}
 use Rattle.store_model.specs.Plants.{Job, Writing, Erasing, Plant}
-use Rattle.store_model.specs.Standing.{MayClaim, IsShaped}
+use Rattle.store_model.specs.Standing.{IsServedRow, MayClaim, IsShaped}
 use Rattle.store_model.proofs.RowsKept.{row_here, row_other}
 
 -- the job that serves a channel
@@ -54,8 +54,9 @@ module _ (p : Plant) (shaped : IsShaped p) (q : Plant) (channel : ℕ) (row : Ro
   given_back : (c : ℕ) → Serves q c → (job : Job) × (written : ℕ) × (q.job ≡ Some job) × (job.channel ≡ c) × (job.phase ≡ Writing written)
   given_back c x = (x.job, x.written, x.is, x.channel_is, x.phase)
 
-  pub shaped_with : MayBe q channel row → IsShaped q
-  shaped_with may = record {
+  pub shaped_with : MayBe q channel row → ((job : Job) (written : ℕ) → q.job ≡ Some job → job.phase ≡ Writing written → IsServedRow (q.rows job.channel)) → IsShaped q
+  shaped_with may served = record {
+    served = served;
     posted = λ c serial is. elim (cases_eq c channel) [
       | inl e ↦ subst (λ (r : Row). r.left ≢ []) (sym (here c e)) (may.posted serial (sym (ap (λ (r : Row). r.stage) (here c e)) ∙ is))
       | inr ne ↦ subst (λ (r : Row). r.left ≢ []) (sym (there c ne)) (shaped.posted c serial (sym (ap (λ (r : Row). r.stage) (there c ne)) ∙ is))
@@ -75,8 +76,10 @@ module _ (p : Plant) (shaped : IsShaped p) (q : Plant) (channel : ℕ) (row : Ro
   }
 
 -- with the rows as they were
-pub shaped_same : (p q : Plant) → IsShaped p → q.rows ≡ p.rows → ((c : ℕ) → (p.rows c).stage ≡ InJob → Serves q c) → IsShaped q
-shaped_same p q shaped rows served = record {
+pub shaped_same : (p q : Plant) → IsShaped p → q.rows ≡ p.rows → ((c : ℕ) → (p.rows c).stage ≡ InJob → Serves q c)
+    → ((job : Job) (written : ℕ) → q.job ≡ Some job → job.phase ≡ Writing written → IsServedRow (p.rows job.channel)) → IsShaped q
+shaped_same p q shaped rows served serving = record {
+  served = λ job written is phase. subst (λ (r : Rows). IsServedRow (r job.channel)) (sym rows) (serving job written is phase);
   posted = λ c serial is. subst (λ (r : Rows). (r c).left ≢ []) (sym rows) (shaped.posted c serial (sym (ap (λ (r : Rows). (r c).stage) rows) ∙ is));
   in_job = λ c is. let x = served c (sym (ap (λ (r : Rows). (r c).stage) rows) ∙ is) in (x.job, x.written, x.is, x.channel_is, x.phase);
   ended = λ c is. ap (λ (r : Rows). (r c).left) rows ∙ shaped.ended c (sym (ap (λ (r : Rows). (r c).stage) rows) ∙ is);
@@ -94,6 +97,14 @@ no_claim p shaped channel never = by (p.rows channel).claim refl
     by : (o : Option OpenClaim) → (p.rows channel).claim ≡ o → (p.rows channel).claim ≡ None
     by None is = is
     by (Some claim) is = absurd (never (shaped.claims channel claim is))
+
+-- the row that the job serves stays where the job does and another row changes
+pub served_still : (p q : Plant) → IsShaped p → q.job ≡ p.job → (channel : ℕ) (row : Row) → q.rows ≡ with_row p.rows channel row → ((p.rows channel).stage ≡ InJob → ⊥)
+    → (job : Job) (written : ℕ) → q.job ≡ Some job → job.phase ≡ Writing written → IsServedRow (q.rows job.channel)
+served_still p q shaped same channel row rows free job written is phase =
+    let x = shaped.served job written (sym same ∙ is) phase in
+    let apart : job.channel ≢ channel = λ e. free (ap (λ k. (p.rows k).stage) (sym e) ∙ ap (λ (r : Row). r.stage) x.is) in
+    record { command = x.command; rest = x.rest; is = ap (λ (r : Rows). r job.channel) rows ∙ row_other p.rows channel row job.channel apart ∙ x.is }
 
 -- ---- rows of one stage
 

@@ -16,7 +16,7 @@ use Rattle.md_chain.specs.Chain.{blob_id, is_among}
 use Rattle.store_model.specs.Maps.{Metas, Chains}
 use Rattle.store_model.specs.Regions.{region_of}
 use Rattle.store_model.specs.Shown.{fixed_of}
-use Rattle.store_model.specs.Rows.{Copying, entries_of, InJob, OpenClaim, Posted, Ended, Ready, Stage}
+use Rattle.store_model.specs.Rows.{Copying, entries_of, InJob, OpenClaim, Posted, Ended, Ready, Row, Stage}
 use Rattle.store_model.specs.Plants.{pages_in, Job, Writing, Plant, shown}
 use Rattle.store_model.specs.Places.{AreDistinct, ClaimsDiffer, held_by, IsClaimed, UsedPages, UsedClusters}
 use Rattle.store_model.specs.Jobs.{JobStands}
@@ -63,11 +63,19 @@ MayClaim (Posted serial) = Unit {0}
 MayClaim InJob = Unit {0}
 MayClaim _ = ⊥
 
+-- a row whose first command a job serves
+pub record IsServedRow (row : Row) : Type 0 where
+  pub command : Command
+  pub rest : List Command
+  pub is : row ≡ record { left = command ∷ rest; stage = InJob; claim = None }
+
 -- how rows stand to the job
 pub record IsShaped (p : Plant) : Type 0 where
   -- what is posted or in the job is a command, and an ended channel has none left
   pub posted : (channel serial : ℕ) → (p.rows channel).stage ≡ Posted serial → (p.rows channel).left ≢ []
   pub in_job : (channel : ℕ) → (p.rows channel).stage ≡ InJob → (job : Job) × (written : ℕ) × (p.job ≡ Some job) × (job.channel ≡ channel) × (job.phase ≡ Writing written)
+  -- and a job serves a command until its head is written
+  pub served : (job : Job) (written : ℕ) → p.job ≡ Some job → job.phase ≡ Writing written → IsServedRow (p.rows job.channel)
   pub ended : (channel : ℕ) → (p.rows channel).stage ≡ Ended → (p.rows channel).left ≡ []
   -- a claim is held from when it is made until its insert is decided
   pub claims : (channel : ℕ) (claim : OpenClaim) → (p.rows channel).claim ≡ Some claim → MayClaim (p.rows channel).stage

@@ -35,7 +35,7 @@ module _ (known : Known) (j : Job) (is : known.p.job ≡ Some j) (at : ℕ) (sta
         legal = kept.legal;
         well = λ runs. absurd (runs_here known at runs stands);
         way = kept.way;
-        shaped = shaped_with p facts.shaped now j.channel _ refl (no_other known j is j.channel refl now) (decided_may now j.channel t.rest);
+        shaped = shaped_with p facts.shaped now j.channel _ refl (no_other known j is j.channel refl now) (decided_may now j.channel t.rest) (λ job written bad phase. absurd (cc bad));
         counted = kept.counted;
         past = kept.past;
         halted = λ n halts.
@@ -56,7 +56,7 @@ module _ (known : Known) (j : Job) (is : known.p.job ≡ Some j) (at : ℕ) (sta
         legal = facts.legal;
         well = λ runs. absurd (runs_here known at runs stands);
         way = way_kept script p facts.way now refl (λ c. refl);
-        shaped = shaped_same p now facts.shaped refl (none_here known j t.erased is t.in_phase now);
+        shaped = shaped_same p now facts.shaped refl (none_here known j t.erased is t.in_phase now) (λ job written bad phase. absurd (cc bad));
         counted = facts.counted;
         past = facts.past;
         halted = facts.halted;
