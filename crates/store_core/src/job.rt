@@ -1,5 +1,10 @@
 //! The running job.
 
+ghost use Rattle.std.specs.Prelude.{◌≡◌};
+ghost use Rattle.std.specs.Option.{option_and_then, option_map};
+ghost use Rattle.store_core.specs.JobTurns.{waits_for_job};
+ghost use Rattle.store_core.specs.Jobs.{job_seen};
+
 use blob_meta::Meta;
 use md_chain::Plan;
 use std::snapshot::Snapshot;
@@ -39,4 +44,19 @@ pub(crate) enum Work {
 pub(crate) struct RunningJob {
     pub(crate) work: Work,
     pub(crate) old: PlaceList,
+}
+
+/// The channel whose command waits for the commit of a job.
+pub(crate) fn waiting_for(job: &Option<RunningJob>) -> Option<u8>
+    ensures { result ≡ option_and_then waits_for_job (option_map job_seen job.now) }
+{
+    match job {
+        Some(
+            RunningJob {
+                work: Work::Writing { planned, .. },
+                ..
+            },
+        ) => Some(planned.channel),
+        _ => None,
+    }
 }
