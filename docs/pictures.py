@@ -45,24 +45,25 @@ class Picture:
 
 # ---- the crates in their layers
 
-COLUMN, ROW, LEFT, TOP = 170, 56, 170, 20
+COLUMNS_WIDE, COLUMN, ROW, LEFT, TOP = 6, 150, 56, 170, 20
 # name: first column, last column, row; a crate stands on crates of lower rows alone
 CRATES = {
-    "blobtool": (1, 5, 0), "blob_tool": (1, 5, 1),
-    "script_lang": (1, 1, 2), "lvol_store": (3, 3, 2), "blob_report": (5, 5, 2),
-    "unclean_load": (2, 2, 3), "store_core": (4, 4, 4), "io_freeze": (3, 3, 5), "store_model": (4, 4, 5),
-    "md_chain": (2, 2, 6), "pools": (4, 4, 6), "blob_meta": (1, 1, 7), "md_page": (3, 3, 7),
-    "descriptors": (1, 1, 8), "super_block": (3, 3, 8),
-    "volume_model": (1, 1, 9), "page_fields": (3, 3, 9), "bit_array": (4, 4, 9),
-    "page_disk": (2, 5, 10), "out_of_memory": (1, 2, 11), "crc32c": (3, 5, 11),
+    "blobtool": (1, 6, 0), "blob_tool": (1, 6, 1),
+    "script_lang": (1, 1, 2), "store_format": (5, 5, 2), "streams": (6, 6, 2),
+    "lvol_store": (3, 3, 3), "blob_report": (6, 6, 3),
+    "unclean_load": (2, 2, 4), "store_core": (4, 4, 5), "io_freeze": (3, 3, 6), "store_model": (4, 4, 6),
+    "md_chain": (2, 2, 7), "pools": (4, 4, 7), "blob_meta": (1, 1, 8), "md_page": (3, 3, 8),
+    "descriptors": (1, 1, 9), "super_block": (3, 3, 9),
+    "volume_model": (1, 1, 10), "page_fields": (3, 3, 10), "bit_array": (4, 4, 10),
+    "page_disk": (2, 6, 11), "out_of_memory": (1, 2, 12), "crc32c": (3, 6, 12),
 }
 BANDS = [
-    (0, 1, "the program"), (2, 2, "scripts, plans,|texts"), (3, 5, "the running|store"),
-    (6, 8, "metadata and|places"), (9, 9, "volumes, fields,|sets"), (10, 11, "the device and|the bottom"),
+    (0, 1, "the program"), (2, 3, "scripts, plans,|texts, a new|store"), (4, 6, "the running|store"),
+    (7, 9, "metadata and|places"), (10, 10, "volumes, fields,|sets"), (11, 12, "the device and|the bottom"),
 ]
 STEPS = [
     "1  main opens the image, and hands over words, source, sink and device",
-    "2  the source's text becomes each channel's commands",
+    "2  the source is read to its end, and the text becomes each channel's commands",
     "3  the store of the image is loaded: super block, heads, chains; the device is only read",
     "4  the driver posts a command; a put or a sync is planned from what the store shows",
     "5  the store makes its turns: post, answer or refuse, or begin_job and job_turn; then settle",
@@ -83,11 +84,11 @@ def middle(column):
 
 def crates():
     rows = max(row for _, _, row in CRATES.values()) + 1
-    picture = Picture(LEFT + 5 * COLUMN + 20, TOP + rows * ROW + 30 + 24 * len(STEPS))
+    picture = Picture(LEFT + COLUMNS_WIDE * COLUMN + 20, TOP + rows * ROW + 30 + 24 * len(STEPS))
     for n, (first, last, name) in enumerate(BANDS):
         y, height = TOP + first * ROW, (last - first + 1) * ROW
         fill = "#f4f4f4" if n % 2 == 0 else "#ffffff"
-        picture.add(f'<rect x="10" y="{y}" width="{LEFT + 5 * COLUMN}" height="{height}" fill="{fill}"/>')
+        picture.add(f'<rect x="10" y="{y}" width="{LEFT + COLUMNS_WIDE * COLUMN}" height="{height}" fill="{fill}"/>')
         lines = name.split("|")
         for k, line in enumerate(lines):
             picture.text(20, y + height // 2 + 5 + 18 * k - 9 * (len(lines) - 1), line, 13, "start", PALE)
@@ -102,16 +103,18 @@ def crates():
     def bottom(name):
         return place(name)[1] + place(name)[3]
 
-    def down(number, column, start, end, shift=0):
-        x = middle(column) + shift
+    def down(number, column, start, end):
+        x = middle(column)
         picture.arrow([(x, bottom(start)), (x, top(end))])
         picture.badge(x + 16, (bottom(start) + min(top(end), bottom(start) + ROW)) // 2, number)
 
     picture.arrow([(middle(3), bottom("blobtool")), (middle(3), top("blob_tool"))])
     picture.badge(middle(3) + 16, (bottom("blobtool") + top("blob_tool")) // 2, 1)
-    for number, column, name in [(2, 1, "script_lang"), (4, 3, "lvol_store"), (7, 5, "blob_report")]:
+    for number, column, name in [(2, 1, "script_lang"), (7, 6, "streams")]:
         picture.arrow([(middle(column), bottom("blob_tool")), (middle(column), top(name))])
         picture.badge(middle(column) + 16, (bottom("blob_tool") + top(name)) // 2, number)
+    picture.arrow([(middle(6), bottom("streams")), (middle(6), top("blob_report"))])
+    down(4, 3, "blob_tool", "lvol_store")
     down(3, 2, "blob_tool", "unclean_load")
     picture.arrow([(middle(2), bottom("unclean_load")), (middle(2), top("md_chain"))])
     picture.arrow([(middle(2), bottom("md_chain")), (middle(2), top("page_disk"))])
