@@ -65,7 +65,7 @@ mod tests {
     use std::io;
     use std::test::Fail;
 
-    /// TakesAtMost one byte a write, after a write that a signal cut off; fails at the third, and takes nothing after.
+    /// Takes one byte a write, after a write that a signal cut off; fails at the third, and takes nothing after.
     struct Faulty(u8);
 
     impl Drop for Faulty {

@@ -252,8 +252,8 @@ fn a_store_with_a_chain_of_three_pages_is_loaded_whole(rt: HostRuntime) -> Resul
     )?;
     assert_eq!(rt;
         text.as_str(),
-        "4294967298 [Some(7), Some(8), None,
-            Some(9)] [Xattr { key: Blobtext { bytes: [110, 97, 109, 101] }, value: Blobtext { bytes: [97, 0] } }]"
+        "4294967298 [Some(7), Some(8), None, Some(9)] \
+            [Xattr { key: Blobtext { bytes: [110, 97, 109, 101] }, value: Blobtext { bytes: [97, 0] } }]"
     );
     let places = chains.get(2).expect(&rt, "its chain");
     assert_eq!(rt;

@@ -18,7 +18,7 @@ pub trait Source {
     /// How often a read has failed.
     ghost faults: { Self → ℕ };
 
-    /// MovesBytes the next bytes into the head of the buffer, and answers how many. 0 for a buffer that isn't empty is
+    /// Moves the next bytes into the head of the buffer, and answers how many. 0 for a buffer that isn't empty is
     /// the end. After a fault all that was left is still left.
     fn read(&mut self, into: &mut [u8]) -> Result<usize, SourceFault>
         ensures within { IfOk result (λ n. n ≤ length into.new) }
