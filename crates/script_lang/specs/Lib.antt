@@ -7,3 +7,5 @@ pub mod Commands
 pub mod Lines
 pub mod Script
 pub mod Answered
+pub mod Schedules
+pub mod Reading
