@@ -4,6 +4,7 @@
 mod commands;
 mod fault;
 mod form;
+mod generator;
 mod grammar;
 mod line;
 mod parsing;
@@ -15,6 +16,7 @@ mod verb;
 mod words;
 
 pub use fault::{LineKind, ScriptFault};
+pub use generator::{Generator, generate, generate_line};
 pub use grammar::Grammar;
 pub use parsing::{parse, read_script};
 pub use reading::parse_schedule;
