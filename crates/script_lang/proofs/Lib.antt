@@ -1,5 +1,10 @@
 pub mod Cuts
 pub mod Numbers
+pub mod Schedules
+pub mod ScheduleReads
+pub mod ScheduleTexts
+pub mod ScheduleLengths
+pub mod ScheduleAnswers
 pub mod ReadValues
 pub mod Pages
 pub mod OneByOne

@@ -7,3 +7,6 @@ pub mod Commands
 pub mod Lines
 pub mod Script
 pub mod Answered
+pub mod Generator
+pub mod Schedules
+pub mod Reading

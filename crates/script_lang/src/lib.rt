@@ -4,15 +4,21 @@
 mod commands;
 mod fault;
 mod form;
+mod generator;
 mod grammar;
 mod line;
 mod parsing;
 mod parts;
+mod reading;
+mod schedule;
 mod values;
 mod verb;
 mod words;
 
 pub use fault::{LineKind, ScriptFault};
+pub use generator::{Generator, generate, generate_line};
 pub use grammar::Grammar;
 pub use parsing::{parse, read_script};
+pub use reading::parse_schedule;
+pub use schedule::{Actor, Part, Schedule, ScheduleFault};
 pub use words::number_below;

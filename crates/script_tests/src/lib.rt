@@ -1,6 +1,9 @@
-//! Tests of scripts, of plans on logical volumes and of printed lines, over public calls alone.
+//! Tests of scripts, schedules and generated scripts, of plans on logical volumes and of printed lines, over public
+//! calls alone.
 #![tactic(auto)]
 
+#[cfg(test)]
+mod generator_tests;
 #[cfg(test)]
 mod grammar_tests;
 #[cfg(test)]
@@ -9,6 +12,8 @@ mod limit_tests;
 mod plan_tests;
 #[cfg(test)]
 mod report_tests;
+#[cfg(test)]
+mod schedule_tests;
 #[cfg(test)]
 mod told;
 #[cfg(test)]
