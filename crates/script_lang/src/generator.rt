@@ -200,7 +200,7 @@ pub fn generate_line(number: u32, size: u32, line: u32, into: &mut Vec<u8>) -> R
 }
 
 /// The whole text of the script of a number: four lines that make volumes, then `size` drawn ones.
-pub fn generate(alloc: Global, number: u32, size: u32) -> Result<Vec<u8>, Memory>
+pub fn generate_text(alloc: Global, number: u32, size: u32) -> Result<Vec<u8>, Memory>
     requires number { number < 2 ^ 31 }
     requires size { size ≤ 65000 }
     ensures { IfOk result (λ text. text.items ≡ said.generated number size) }

@@ -16,7 +16,7 @@ mod verb;
 mod words;
 
 pub use fault::{LineKind, ScriptFault};
-pub use generator::{Generator, generate, generate_line};
+pub use generator::{Generator, generate_line, generate_text};
 pub use grammar::Grammar;
 pub use parsing::{parse, read_script};
 pub use reading::parse_schedule;

@@ -1,6 +1,6 @@
 use Rattle.std.proofs.Common.{◌≡◌}
 use Rattle.script_lang.specs.Generator.{generated_lines}
-use Rattle.script_lang.proofs.generator.generate.Given as goal
+use Rattle.script_lang.proofs.generator.generate_text.Given as goal
 
 abbrev pub invariant-loop : goal.invariant-loop
 invariant-loop l =

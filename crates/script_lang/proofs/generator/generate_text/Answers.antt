@@ -2,7 +2,7 @@ use Rattle.std.proofs.Common.{◌≡◌, ℕ, zero, suc, ◌+◌, List, ◌++◌
 use Rattle.std.proofs.lemmas.List.{append-nil}
 use Rattle.std.specs.List.{flat_map, range_with_len}
 use Rattle.script_lang.specs.Generator.{generated_line, generated_lines}
-use Rattle.script_lang.proofs.generator.generate.Goals as goal
+use Rattle.script_lang.proofs.generator.generate_text.Goals as goal
 
 flat_map_last : (f : ℕ → List ℕ) (a n : ℕ)
     → flat_map f (range_with_len a (suc n)) ≡ flat_map f (range_with_len a n) ++ f (a + n)
