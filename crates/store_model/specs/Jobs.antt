@@ -1,24 +1,44 @@
 -- What a command asks a job to do, and what is known of a job while it runs.
-use Rattle.std.specs.Prelude.{◌≡◌, ℕ, ◌+◌, ◌<◌, ◌≤◌, Bool, List, ◌∷◌, length, map, Some, None}
+use Rattle.std.specs.Prelude.{◌≡◌, ◌⊎◌, ℕ, ◌+◌, ◌*◌, ◌<◌, ◌≤◌, if◌then◌else◌, Bool, true, false, List, [], ◌∷◌, ◌++◌, length, map, Option, Some, None}
+use Rattle.std.specs.List.{flat_map, range_with_len}
+use Rattle.std.specs.Option.{option_map}
+use Rattle.page_disk.specs.Disk.{Image}
 use Rattle.pools.specs.Pool.{clear_in}
 use Rattle.descriptors.specs.declared.item.Item.{Item}
-use Rattle.volume_model.specs.Volumes.{Volume}
-use Rattle.volume_model.specs.Steps.{change, named_head}
+use Rattle.super_block.specs.declared.page.Super.{Super}
+use Rattle.super_block.specs.Numbers.{cluster_pages_of, fixed_clusters_of}
+use Rattle.volume_model.specs.Volumes.{Volume, Volumes, zero_page}
+use Rattle.volume_model.specs.Xattrs.{Xattrs}
+use Rattle.volume_model.specs.Steps.{Allowed, change, named_head}
 use Rattle.volume_model.specs.Refusals.{refusal}
 use Rattle.volume_model.specs.declared.command.Command.{Command}
 use Rattle.volume_model.specs.declared.command.Command.TheVariants as c
+use Rattle.volume_model.specs.declared.reply.Reply.{Reply}
 use Rattle.volume_model.specs.declared.reply.Reply.TheVariants as r
 use Rattle.blob_meta.specs.declared.meta.Meta.{Meta}
+use Rattle.blob_meta.specs.declared.job.Job.{Job as Changes}
+use Rattle.blob_meta.specs.declared.job.Replacement.{Replacement}
 use Rattle.blob_meta.specs.Items.{IsItemsOf}
+use Rattle.blob_meta.specs.Jobs.{job_of_one}
+use Rattle.blob_meta.specs.Resolving.{IsLawful}
+use Rattle.md_chain.specs.Chain.{is_among}
 use Rattle.md_chain.specs.Packing.{parts_of}
 use Rattle.md_chain.specs.Planned.{chain_pages}
 use Rattle.md_chain.specs.declared.plan.PlannedPage.{PlannedPage}
+use Rattle.store_model.specs.Maps.{Map, Metas, Chains}
 use Rattle.store_model.specs.Regions.{region_of}
 use Rattle.store_model.specs.Scans.{MetaAt}
 use Rattle.store_model.specs.Shown.{fixed_of}
+use Rattle.store_model.specs.Agreeing.{shown_by}
+use Rattle.store_model.specs.Recovers.{IsDone}
 use Rattle.store_model.specs.Rows.{InJob}
-use Rattle.store_model.specs.Places.{AreDistinct}
-use Rattle.store_model.specs.Plants.{Job, Phase, Writing, Erasing, Plant, planned_at, shown}
+use Rattle.store_model.specs.Roots.{CanBeWritten, IsRoot}
+use Rattle.store_model.specs.Inserting.{with_slot}
+use Rattle.store_model.specs.Places.{all_set, AreDistinct, AreLeastClear, IsMapped}
+use Rattle.store_model.specs.Phases.{Phase, Marks, Zeros, Writes, Replaces, Erases, Frees, Replacing, page_in, held_in, taken_by, taken_in, has_commit, replaced, rechained}
+use Rattle.store_model.specs.Plants.{ForCommand, Job, Plant, live_of, shown}
+
+-- ---- what a command asks for
 
 -- the verbs that replace a blob's metadata so that its attributes are synced
 abbrev pub IsSyncing : Command → Type 0
@@ -37,6 +57,16 @@ pub record AsksFor (p : Plant) (command : Command) (head : ℕ) (new : Meta) : T
   pub after : Volume
   pub step : change (fixed_of p.super) (shown p) command r.Ok head ≡ Some after
   pub new_is : new ≡ record old { xattrs = after.synced }
+
+-- The changes that a command asks for, and the reply of their commit: a verb that syncs has one replacement.
+pub record IsJobFor (p : Plant) (command : Command) (changes : Changes) (reply : Reply) : Type 0 where
+  pub head : ℕ
+  pub new : Meta
+  pub is : changes ≡ job_of_one head new
+  pub asks : AsksFor p command head new
+  pub reply_is : reply ≡ r.Ok
+
+-- ---- how it is laid on pages
 
 -- how many fresh pages the metadata needs: those of its chain but for the head
 pub record Needs (new : Meta) (count : ℕ) : Type 0 where
@@ -60,28 +90,126 @@ pub record IsPacked (new : Meta) (head : ℕ) (fresh : List ℕ) (planned : List
 abbrev pub places_of : List PlannedPage → List ℕ
 places_of plan = map (λ x. x.place) plan
 
--- what the plan of a job says: the new metadata, by a chain of the head and the fresh places
-abbrev pub IsPlanned : Plant → Job → Type 0
-IsPlanned p j = MetaAt (planned_at j) (region_of p.super) j.head j.new (j.head ∷ j.fresh)
+-- what the pages of a blob come to: new metadata is packed on its head and on the least clear pages, as many as it needs; for a blob
+-- that is erased the head's page is one of zeros
+abbrev pub IsPlanned : List Bool → Option Meta → Replacing → Type 0
+IsPlanned pages (Some new) r =
+    Needs new (length r.fresh) × AreLeastClear pages (taken_by r) × IsPacked new r.head r.fresh r.planned
+IsPlanned pages None r =
+    (r.fresh ≡ []) × (r.makes ≡ false) × (r.planned ≡ record { place = r.head; page = zero_page } ∷ [])
 
-module _ (p : Plant) (j : Job) where
-  -- the command that waits for the job
-  pub record IsServed : Type 0 where
-    pub command : Command
-    pub rest : List Command
-    pub row : p.rows j.channel ≡ record { left = command ∷ rest; stage = InJob; claim = None }
-    pub asks : AsksFor p command j.head j.new
+-- The clusters in maps before and after a replacement: one that no map has any more is freed, and one that none had was claimed.
+pub record MovesClusters (s : Super) (base later : Metas) (freed claimed : List ℕ) : Type 0 where
+  pub kept : (cluster : ℕ) → IsMapped base cluster → IsMapped later cluster ⊎ (is_among cluster freed ≡ true)
+  pub let_go : (cluster : ℕ) → is_among cluster freed ≡ true
+      → (fixed_clusters_of s ≤ cluster) × IsMapped base cluster × ¬ IsMapped later cluster
+  pub gained : (cluster : ℕ) → IsMapped later cluster → IsMapped base cluster ⊎ (is_among cluster claimed ≡ true)
+  pub filled : (cluster : ℕ) → is_among cluster claimed ≡ true → IsMapped later cluster
 
-  abbrev pub StandsAt : Phase → Type 0
-  -- The head isn't written yet: the command waits for it, and the chain is the old one.
-  StandsAt (Writing written) = (written ≤ length j.fresh) × IsServed × (p.chains j.head ≡ Some (j.head ∷ j.old))
-  -- It is: the command is logged, the chain is the new one, and some old page is left.
-  StandsAt (Erasing erased) = (erased < length j.old) × (p.base j.head ≡ Some j.new) × (p.chains j.head ≡ Some (j.head ∷ j.fresh))
+-- A replacement over this metadata and these chains, laid on pages of these that are clear.
+pub record IsLaid (s : Super) (base : Metas) (chains : Chains) (pages : List Bool) (claimed : List ℕ) (x : Replacement) (r : Replacing) : Type 0 where
+  pub head : r.head ≡ x.head
+  pub new : r.new ≡ x.new
+  pub chain : chains r.head ≡ (if r.makes then None else Some (r.head ∷ r.old))
+  pub planned : IsPlanned pages x.new r
+  pub clusters : MovesClusters s base (replaced base r) r.freed claimed
 
-  -- A job that runs is planned, on places that differ.
-  pub record JobStands : Type 0 where
-    pub planned : IsPlanned p j
-    pub places : places_of j.planned ≡ j.head ∷ j.fresh
-    pub fresh : AreDistinct j.fresh
-    pub old : AreDistinct j.old
-    pub stands : StandsAt j.phase
+-- each over what the one before it leaves
+abbrev pub AreLaid : Super → Metas → Chains → List Bool → List ℕ → List Replacement → List Replacing → Type 0
+AreLaid s base chains pages claimed [] [] = Unit {0}
+AreLaid s base chains pages claimed (x ∷ xs) (r ∷ rs) =
+    IsLaid s base chains pages claimed x r
+    × AreLaid s (replaced base r) (rechained chains r) (all_set pages (taken_by r) true) [] xs rs
+AreLaid s base chains pages claimed _ _ = ⊥
+
+-- ---- clusters of zeros
+
+-- the metadata with these clusters in these slots
+abbrev pub with_clusters : Meta → List ℕ → List ℕ → Meta
+with_clusters m (place ∷ slots) (cluster ∷ clusters) = with_clusters (with_slot m place cluster) slots clusters
+with_clusters m _ _ = m
+
+-- the first replacement's metadata with them
+abbrev pub with_zeroed : List Replacement → List ℕ → List ℕ → List Replacement
+with_zeroed [] slots clusters = []
+with_zeroed (x ∷ xs) slots clusters = record x { new = option_map (λ m. with_clusters m slots clusters) x.new } ∷ xs
+
+-- each page of these clusters is overwritten with zeros
+abbrev pub zeroing : Super → List ℕ → List Phase
+zeroing s clusters =
+    flat_map (λ cluster. map (λ page. Zeros (cluster * cluster_pages_of s + page)) (range_with_len 0 (cluster_pages_of s))) clusters
+
+-- ---- what is left of a job
+
+-- A replacement can be made once its fresh pages are written: it is planned on places that differ, and leaves lawful metadata.
+pub record CanReplace (s : Super) (base : Metas) (chains : Chains) (claimed written : List ℕ) (r : Replacing) : Type 0 where
+  pub all : written ≡ r.fresh
+  pub says : (m : Meta) → r.new ≡ Some m → MetaAt (page_in r.planned) (region_of s) r.head m (r.head ∷ r.fresh)
+  pub root : (m : Meta) → r.new ≡ Some m → IsRoot s r.head m
+  pub chain : chains r.head ≡ (if r.makes then None else Some (r.head ∷ r.old))
+  pub lawful : IsLawful s.md_len (replaced base r)
+  pub clusters : MovesClusters s base (replaced base r) r.freed claimed
+
+-- What is left can be done, phase by phase, over this metadata and these chains, where these fresh pages are written. A place that is
+-- erased is held, and what a replacement leaves is cleared before the next one is made.
+abbrev pub Lays : Super → Metas → Chains → List ℕ → List ℕ → List Phase → Type 0
+Lays s base chains claimed written [] = written ≡ []
+Lays s base chains claimed written (Marks ∷ rest) = Lays s base chains claimed written rest
+Lays s base chains claimed written (Zeros page ∷ rest) = Lays s base chains claimed written rest
+Lays s base chains claimed written (Writes place ∷ rest) = Lays s base chains claimed (written ++ place ∷ []) rest
+Lays s base chains claimed written (Replaces r commit ∷ rest) =
+    CanReplace s base chains claimed written r × (held_in rest ≡ r.old ++ taken_in rest)
+    × Lays s (replaced base r) (rechained chains r) [] [] rest
+Lays s base chains claimed written (Erases place ∷ rest) =
+    (written ≡ []) × (is_among place (held_in rest) ≡ true) × Lays s base chains claimed [] rest
+Lays s base chains claimed written (Frees place old ∷ rest) =
+    (written ≡ []) × (is_among place old ≡ true) × (held_in rest ≡ taken_in rest) × Lays s base chains claimed [] rest
+
+-- the volumes that this metadata shows with these live attributes, by what a device holds
+abbrev pub shown_of : Super → Metas → Map Xattrs → Image → Volumes
+shown_of s base live image = shown_by (fixed_of s) image base live
+
+-- The volumes are shown as they are while these phases are made, whatever a device holds.
+abbrev pub Keeps : Super → Metas → Map Xattrs → List Phase → Type 0
+Keeps s base live [] = Unit {0}
+Keeps s base live (Replaces r commit ∷ rest) =
+    ((image : Image) → shown_of s (replaced base r) live image ≡ shown_of s base live image)
+    × Keeps s (replaced base r) live rest
+Keeps s base live (_ ∷ rest) = Keeps s base live rest
+
+-- On whatever device, the command may be done with this reply, and may fail; then the metadata shows its step.
+pub record IsStep (s : Super) (base later : Metas) (live : Map Xattrs) (command : Command) (reply : Reply) : Type 0 where
+  pub done : IsDone reply
+  pub allowed : (image : Image) → Allowed (fixed_of s) (shown_of s base live image) command reply
+  pub may_fail : (image : Image) → Allowed (fixed_of s) (shown_of s base live image) command r.Fault
+  pub shows : (image : Image)
+      → shown_of s later (live_of (change (fixed_of s) (shown_of s base live image) command reply)) image
+      ≡ change (fixed_of s) (shown_of s base live image) command reply
+  pub writable : (image : Image) (head : ℕ) (v : Volume)
+      → change (fixed_of s) (shown_of s base live image) command reply head ≡ Some v → CanBeWritten v.live
+
+-- The volumes are shown as they are up to the commit, and from it on as the command's step makes them.
+abbrev pub Does : Super → Metas → Map Xattrs → Command → List Phase → Type 0
+Does s base live command [] = ⊥
+Does s base live command (Replaces r (Some reply) ∷ rest) =
+    IsStep s base (replaced base r) live command reply
+    × ((image : Image) → Keeps s (replaced base r) (live_of (change (fixed_of s) (shown_of s base live image) command reply)) rest)
+Does s base live command (Replaces r None ∷ rest) =
+    ((image : Image) → shown_of s (replaced base r) live image ≡ shown_of s base live image)
+    × Does s (replaced base r) live command rest
+Does s base live command (_ ∷ rest) = Does s base live command rest
+
+-- The command of a channel waits for these phases.
+pub record IsServed (p : Plant) (channel : ℕ) (todo : List Phase) : Type 0 where
+  pub command : Command
+  pub rest : List Command
+  pub row : p.rows channel ≡ record { left = command ∷ rest; stage = InJob; claim = None }
+  pub does : Does p.super p.base p.live command todo
+
+-- What is left of a running job can be done, on places that differ; its command waits for the commit, and behind that, or where it
+-- serves none, the volumes are shown as they are.
+pub record JobStands (p : Plant) (j : Job) : Type 0 where
+  pub lays : Lays p.super p.base p.chains j.claimed j.written j.todo
+  pub distinct : AreDistinct (held_in j.todo)
+  pub served : (channel : ℕ) → j.serves ≡ ForCommand channel → has_commit j.todo ≡ true → IsServed p channel j.todo
+  pub keeps : has_commit j.todo ≡ false → Keeps p.super p.base p.live j.todo

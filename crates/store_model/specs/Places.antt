@@ -1,5 +1,6 @@
 -- Which metadata pages and which clusters are in use, and which places a job takes.
 use Rattle.std.specs.Prelude.{◌≡◌, ◌⊎◌, ℕ, ◌<◌, ◌≤◌, Bool, true, false, List, [], ◌∷◌, length, slice_set, Option, Some, None}
+use Rattle.std.specs.Option.{option_map_or}
 use Rattle.bit_array.specs.Bits.{is_in, IsLeastClear}
 use Rattle.super_block.specs.declared.page.Super.{Super}
 use Rattle.super_block.specs.Numbers.{clusters_of, fixed_clusters_of}
@@ -8,7 +9,8 @@ use Rattle.blob_meta.specs.Parents.{slot}
 use Rattle.md_chain.specs.Chain.{is_among}
 use Rattle.store_model.specs.Maps.{Metas, Chains}
 use Rattle.store_model.specs.Rows.{OpenClaim, Rows}
-use Rattle.store_model.specs.Plants.{Job, Phase, Writing, Erasing}
+use Rattle.store_model.specs.Phases.{held_in}
+use Rattle.store_model.specs.Plants.{Job}
 
 -- these places are set, or cleared, one after another
 abbrev pub all_set : List Bool → List ℕ → Bool → List Bool
@@ -30,14 +32,9 @@ abbrev pub AreLeastClear : List Bool → List ℕ → Type 0
 AreLeastClear bits [] = Unit {0}
 AreLeastClear bits (p ∷ ps) = IsLeastClear bits p × AreLeastClear (slice_set bits p true) ps
 
--- the places that a job holds: fresh pages that no chain has yet, or old ones that aren't erased yet
+-- the places that a job holds
 abbrev pub held_by : Option Job → List ℕ
-held_by None = []
-held_by (Some j) = held j.phase
-  where
-    held : Phase → List ℕ
-    held (Writing written) = j.fresh
-    held (Erasing erased) = j.old
+held_by o = option_map_or (λ j. held_in j.todo) o []
 
 -- some chain has the place
 pub record IsLinked (chains : Chains) (place : ℕ) : Type 0 where
@@ -69,13 +66,24 @@ pub record IsClaimed (rows : Rows) (cluster : ℕ) : Type 0 where
   pub held : (rows channel).claim ≡ Some claim
   pub is : claim.cluster ≡ cluster
 
+-- the clusters that a job has claimed and no map has yet
+abbrev pub claimed_by : Option Job → List ℕ
+claimed_by o = option_map_or (λ j. j.claimed) o []
+
+-- a row or the job has an open claim of the cluster
+abbrev pub HasClaim : Rows → Option Job → ℕ → Type 0
+HasClaim rows job cluster = IsClaimed rows cluster ⊎ (is_among cluster (claimed_by job) ≡ true)
+
 -- no cluster is claimed
 abbrev pub Unclaimed : ℕ → Type 0
 Unclaimed cluster = ⊥
 
--- no two rows have claimed one cluster
-abbrev pub ClaimsDiffer : Rows → Type 0
-ClaimsDiffer rows = (channel other : ℕ) (x y : OpenClaim) → (rows channel).claim ≡ Some x → (rows other).claim ≡ Some y → x.cluster ≡ y.cluster → channel ≡ other
+-- no two rows have claimed one cluster, nor a row and the job
+pub record ClaimsDiffer (all : Rows) (running : Option Job) : Type 0 where
+  pub rows : (channel other : ℕ) (x y : OpenClaim) → (all channel).claim ≡ Some x → (all other).claim ≡ Some y
+      → x.cluster ≡ y.cluster → channel ≡ other
+  pub job : (channel : ℕ) (x : OpenClaim) → (all channel).claim ≡ Some x
+      → is_among x.cluster (claimed_by running) ≡ false
 
 -- The clusters in use are the fixed ones, those of the maps, and those of open claims, which are others.
 pub record UsedClusters (s : Super) (bits : List Bool) (metas : Metas) (claimed : ℕ → Type 0) : Type 0 where

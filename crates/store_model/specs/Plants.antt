@@ -1,5 +1,5 @@
 -- The state of a running store, as plain data. Contracts compute it from what they see of the program's value.
-use Rattle.std.specs.Prelude.{Some, ◌-◌, length, ◌≡◌, ◌⊎◌, ℕ, ◌+◌, ◌%◌, ◌^◌, ◌==◌, if◌then◌else◌, Bool, List, [], ◌∷◌, ◌++◌, Option, None}
+use Rattle.std.specs.Prelude.{Some, length, ◌≡◌, ◌⊎◌, ℕ, ◌+◌, ◌%◌, ◌^◌, ◌==◌, if◌then◌else◌, Bool, List, [], ◌∷◌, ◌++◌, Option, None}
 use Rattle.std.specs.Option.{option_map, option_map_or}
 use Rattle.super_block.specs.declared.page.Super.{Super}
 use Rattle.volume_model.specs.Volumes.{Volumes}
@@ -9,46 +9,48 @@ use Rattle.volume_model.specs.declared.reply.Reply.{Reply}
 use Rattle.volume_model.specs.declared.reply.Entry.{Entry}
 use Rattle.blob_meta.specs.declared.meta.Meta.{Meta}
 use Rattle.md_chain.specs.Chain.{Look}
-use Rattle.md_chain.specs.declared.plan.PlannedPage.{PlannedPage}
 use Rattle.store_model.specs.Maps.{Map, Metas, Chains}
+use Rattle.store_model.specs.Phases.{Phase, has_commit, planned_in}
 use Rattle.store_model.specs.Shown.{fixed_of, volume_of}
 use Rattle.store_model.specs.Device.{Device}
 use Rattle.store_model.specs.Rows.{Rows, Stage, with_row, entry_of, Idle, Answered, Decided, Ended}
 
--- How far a job has come: so many of its fresh pages are written; or its head is, and so many of the old pages are overwritten.
-pub data Phase : Type 0 where
-  Writing : (written : ℕ) → Phase
-  Erasing : (erased : ℕ) → Phase
+-- For whom a job is done: the command of a channel, the insert of a cluster that a channel claimed, or a repair.
+pub data Service : Type 0 where
+  ForCommand : (channel : ℕ) → Service
+  ForInsert : (channel : ℕ) → Service
+  ForRepair : Service
 
--- A job: the metadata of the blob at a head is replaced, for a command of a channel. The head's page is replaced in place; the
--- pages behind it go to fresh places, and those that stood behind it are erased.
+-- The running job.
 pub record Job : Type 0 where
-  pub channel : ℕ
-  pub head : ℕ
-  pub new : Meta
-  -- the places behind the head, and the pages of the new chain, the head's first
-  pub fresh : List ℕ
-  pub planned : List PlannedPage
-  -- the places that stood behind the head
-  pub old : List ℕ
-  pub phase : Phase
+  pub serves : Service
+  -- the blob that is neither read nor written while the job runs
+  pub freeze : Option ℕ
+  -- the clusters that it has claimed and no map has yet
+  pub claimed : List ℕ
+  -- the fresh places of the next replacement whose pages are written
+  pub written : List ℕ
+  -- what is left to do, a turn each
+  pub todo : List Phase
 
--- the pages that a job has left to write
-abbrev pub pages_in : Job → Phase → ℕ
-pages_in j (Writing written) = (length j.fresh - written) + 1 + length j.old
-pages_in j (Erasing erased) = length j.old - erased
+-- how many turns are left
+abbrev pub turns_left : Option Job → ℕ
+turns_left o = option_map_or (λ j. length j.todo) o 0
 
-abbrev pub pages_left : Option Job → ℕ
-pages_left None = 0
-pages_left (Some j) = pages_in j j.phase
-
--- the page that is planned for a place
-abbrev pub page_in : List PlannedPage → Look
-page_in [] place = []
-page_in (x ∷ xs) place = if place == x.place then x.page else page_in xs place
-
+-- the pages that are planned for the next replacement
 abbrev pub planned_at : Job → Look
-planned_at j = page_in j.planned
+planned_at j = planned_in j.todo
+
+-- the channel whose row waits for the job: that of an insert to its end, that of a command to its commit
+abbrev pub waiting : Service → List Phase → Option ℕ
+waiting (ForCommand channel) todo = if has_commit todo then Some channel else None
+waiting (ForInsert channel) todo = Some channel
+waiting ForRepair todo = None
+
+-- the job once a phase is done, if something is left to do
+abbrev pub going_on : Job → List ℕ → List Phase → Option Job
+going_on j written [] = None
+going_on j written (x ∷ xs) = Some (record j { written = written; todo = x ∷ xs })
 
 pub record Plant : Type 0 where
   pub super : Super
@@ -74,6 +76,10 @@ pub record Plant : Type 0 where
 -- the volumes that are shown
 abbrev pub shown : Plant → Volumes
 shown p head = option_map (λ m. volume_of (fixed_of p.super).cluster_pages p.device.reads p.base p.super.md_len (option_map_or (λ xs. xs) (p.live head) []) head m) (p.base head)
+
+-- the attributes of volumes as they are read
+abbrev pub live_of : Volumes → Map Xattrs
+live_of v head = option_map (λ x. x.live) (v head)
 
 -- serial numbers are drawn from one counter of 64 bits
 abbrev pub next_serial : ℕ → ℕ

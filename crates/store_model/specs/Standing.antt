@@ -13,33 +13,15 @@ use Rattle.blob_meta.specs.Faults.{meta_fault}
 use Rattle.blob_meta.specs.Items.{HasDistinctNames}
 use Rattle.blob_meta.specs.Resolving.{IsLawful}
 use Rattle.md_chain.specs.Chain.{blob_id, is_among}
+pub use Rattle.store_model.specs.Roots.{CanBeWritten, IsRoot, AreRoots}
 use Rattle.store_model.specs.Maps.{Metas, Chains}
 use Rattle.store_model.specs.Regions.{region_of}
 use Rattle.store_model.specs.Shown.{fixed_of}
 use Rattle.store_model.specs.Rows.{Copying, entries_of, InJob, OpenClaim, Posted, Ended, Ready, Row, Stage}
-use Rattle.store_model.specs.Plants.{pages_in, Job, Writing, Plant, shown}
-use Rattle.store_model.specs.Places.{AreDistinct, ClaimsDiffer, held_by, IsClaimed, UsedPages, UsedClusters}
+use Rattle.store_model.specs.Plants.{ForCommand, Job, Plant, shown, waiting}
+use Rattle.store_model.specs.Phases.{has_commit}
+use Rattle.store_model.specs.Places.{AreDistinct, ClaimsDiffer, HasClaim, held_by, UsedPages, UsedClusters}
 use Rattle.store_model.specs.Jobs.{JobStands}
-
--- attributes that can be written: no two of one name, and each fits the body of a page
-pub record CanBeWritten (xattrs : Xattrs) : Type 0 where
-  pub names : HasDistinctNames xattrs
-  pub short : AllByRecursion (λ (x : Xattr). length x.key + length x.value ≤ 4063) xattrs
-
--- the metadata of a blob that the store can hold now: in the region, without fault, with no parent and no mark
-pub record IsRoot (s : Super) (head : ℕ) (m : Meta) : Type 0 where
-  pub low : head < s.md_len
-  pub id : m.id ≡ blob_id head
-  pub clear : without_bit_1 m.flags.invalid ≡ m.flags.invalid
-  pub xattrs : CanBeWritten m.xattrs
-  pub internal : CanBeWritten m.internal
-  pub no_parent : value_of m.internal (codes "SNAP") ≡ None
-  pub not_made : value_of m.internal (codes "SNAPTMP") ≡ None
-  pub not_removed : value_of m.internal (codes "SNAPRM") ≡ None
-  pub faultless : meta_fault (region_of s).fixed (region_of s).clusters m ≡ None
-
-abbrev pub AreRoots : Super → Metas → Type 0
-AreRoots s metas = (head : ℕ) (m : Meta) → metas head ≡ Some m → IsRoot s head m
 
 -- Each blob has a chain, which begins with its head; no place stands in two chains, or twice in one; each is of the region.
 pub record HaveChains (s : Super) (metas : Metas) (chains : Chains) : Type 0 where
@@ -73,9 +55,11 @@ pub record IsServedRow (row : Row) : Type 0 where
 pub record IsShaped (p : Plant) : Type 0 where
   -- what is posted or in the job is a command, and an ended channel has none left
   pub posted : (channel serial : ℕ) → (p.rows channel).stage ≡ Posted serial → (p.rows channel).left ≢ []
-  pub in_job : (channel : ℕ) → (p.rows channel).stage ≡ InJob → (job : Job) × (written : ℕ) × (p.job ≡ Some job) × (job.channel ≡ channel) × (job.phase ≡ Writing written)
-  -- and a job serves a command until its head is written
-  pub served : (job : Job) (written : ℕ) → p.job ≡ Some job → job.phase ≡ Writing written → IsServedRow (p.rows job.channel)
+  pub in_job : (channel : ℕ) → (p.rows channel).stage ≡ InJob
+      → (job : Job) × (p.job ≡ Some job) × (waiting job.serves job.todo ≡ Some channel)
+  -- and a job serves a command until its commit
+  pub served : (job : Job) (channel : ℕ) → p.job ≡ Some job → job.serves ≡ ForCommand channel
+      → has_commit job.todo ≡ true → IsServedRow (p.rows channel)
   pub ended : (channel : ℕ) → (p.rows channel).stage ≡ Ended → (p.rows channel).left ≡ []
   -- a claim is held from when it is made until its insert is decided
   pub claims : (channel : ℕ) (claim : OpenClaim) → (p.rows channel).claim ≡ Some claim → MayClaim (p.rows channel).stage
@@ -86,8 +70,8 @@ pub record RunsWell (first : Volumes) (p : Plant) : Type 0 where
   pub live : (head : ℕ) (m : Meta) → p.base head ≡ Some m → (xattrs : Xattrs) × (p.live head ≡ Some xattrs) × CanBeWritten xattrs
   pub no_live : (head : ℕ) → p.base head ≡ None → p.live head ≡ None
   pub pages : UsedPages p.super.md_len p.pages p.chains (held_by p.job)
-  pub clusters : UsedClusters p.super p.clusters p.base (IsClaimed p.rows)
-  pub claims : ClaimsDiffer p.rows
+  pub clusters : UsedClusters p.super p.clusters p.base (HasClaim p.rows p.job)
+  pub claims : ClaimsDiffer p.rows p.job
   pub job : (job : Job) → p.job ≡ Some job → JobStands p job
   pub replayed : shown p ≡ replay (fixed_of p.super) first p.log
 
@@ -105,4 +89,4 @@ pub record Facts (s : Super) (first : Volumes) (script : ℕ → List Command) (
   -- a store stops behind some of its entries
   pub halted : (at : ℕ) → p.stopped ≡ Some at → at ≤ length p.log
   -- a job that runs has something left to do
-  pub unfinished : (job : Job) → p.job ≡ Some job → 0 < pages_in job job.phase
+  pub unfinished : (job : Job) → p.job ≡ Some job → job.todo ≢ []

@@ -1,24 +1,25 @@
 -- The turn breaks_down.
-use Rattle.std.specs.Prelude.{◌≡◌, ◌⊎◌, ℕ, List, ◌∷◌, None, Some}
+use Rattle.std.specs.Prelude.{◌≡◌, ◌⊎◌, ℕ, List, ◌∷◌, Option, Some, None, Bool, true}
 use Rattle.volume_model.specs.declared.command.Command.{Command}
 use Rattle.volume_model.specs.declared.reply.Reply.TheVariants as r
 use Rattle.store_model.specs.Rows.{InJob}
-use Rattle.store_model.specs.Plants.{Erasing, Job, logged, Plant, Writing}
+use Rattle.store_model.specs.Phases.{has_commit}
+use Rattle.store_model.specs.Plants.{ForCommand, Job, logged, Plant, waiting}
 use Rattle.store_model.specs.Touches.{TurnKind, untouched}
 
 -- The command that the job serves has no entry yet, and is logged as stopped.
 pub record IsUnlogged (p : Plant) (j : Job) (at : ℕ) (q : Plant) : Type 0 where
-  pub written : ℕ
-  pub in_phase : j.phase ≡ Writing written
+  pub channel : ℕ
+  pub serves : j.serves ≡ ForCommand channel
+  pub waits : has_commit j.todo ≡ true
   pub command : Command
   pub rest : List Command
-  pub row : p.rows j.channel ≡ record { left = command ∷ rest; stage = InJob; claim = None }
-  pub next : q ≡ logged (record p { job = None }) j.channel command rest (r.Stopped at) p.device
+  pub row : p.rows channel ≡ record { left = command ∷ rest; stage = InJob; claim = None }
+  pub next : q ≡ logged (record p { job = None }) channel command rest (r.Stopped at) p.device
 
--- It was logged at the job's commit.
+-- It was logged at the job's commit, or the job serves none.
 pub record WasLogged (p : Plant) (j : Job) (q : Plant) : Type 0 where
-  pub erased : ℕ
-  pub in_phase : j.phase ≡ Erasing erased
+  pub waits : waiting j.serves j.todo ≡ None
   pub next : q ≡ record p { job = None }
 
 -- A turn of the job on a stopped store: no device call, and no job runs any more.

@@ -1,0 +1,95 @@
+-- What a job does: replacements of metadata, one after another, by phases of which each is one turn.
+use Rattle.std.specs.Prelude.{ℕ, ◌-◌, ◌==◌, if◌then◌else◌, Bool, true, false, List, [], ◌∷◌, ◌++◌, map, Option, Some, None}
+use Rattle.std.specs.Option.{option_map, option_map_or}
+use Rattle.volume_model.specs.declared.reply.Reply.{Reply}
+use Rattle.blob_meta.specs.declared.meta.Meta.{Meta}
+use Rattle.md_chain.specs.Chain.{Look}
+use Rattle.md_chain.specs.declared.plan.PlannedPage.{PlannedPage}
+use Rattle.store_model.specs.Maps.{Metas, Chains}
+
+-- The metadata of the blob at a head replaced by new metadata, or, where there is none, the blob erased, as it is laid on pages: the
+-- head's page is replaced in place, those behind it go to fresh places, and those that stood behind it are erased.
+pub record Replacing : Type 0 where
+  pub head : ℕ
+  pub new : Option Meta
+  -- the blob is new, so that its head is one of the places that are taken
+  pub makes : Bool
+  -- the places behind the head, and the pages of the new chain, the head's first
+  pub fresh : List ℕ
+  pub planned : List PlannedPage
+  -- the places that stood behind the head, and the clusters that no map has any more
+  pub old : List ℕ
+  pub freed : List ℕ
+
+-- One turn of a job. The super block says that the store is in use; a page of a claimed cluster is overwritten with zeros; a page of
+-- the next chain goes to its fresh place; a head's page is replaced, which is the job's commit where a reply is to be logged with it;
+-- an old page is overwritten with zeros; the last of them is, and behind a flush all are clear.
+pub data Phase : Type 0 where
+  Marks : Phase
+  Zeros : (page : ℕ) → Phase
+  Writes : (place : ℕ) → Phase
+  Replaces : (replacing : Replacing) (commit : Option Reply) → Phase
+  Erases : (place : ℕ) → Phase
+  Frees : (place : ℕ) (old : List ℕ) → Phase
+
+-- the old places are erased one after another, and all are clear behind the last
+abbrev pub erasing : List ℕ → List ℕ → List Phase
+erasing old [] = []
+erasing old (place ∷ []) = Frees place old ∷ []
+erasing old (place ∷ next ∷ places) = Erases place ∷ erasing old (next ∷ places)
+
+-- one replacement: the fresh pages, the head, and the old pages
+abbrev pub phases_of : Replacing → Option Reply → List Phase
+phases_of r commit = map (λ place. Writes place) r.fresh ++ Replaces r commit ∷ erasing r.old r.old
+
+-- all of a list, of which the one with this number, from 1, is the commit, with this reply
+abbrev pub todo_of : List Replacing → ℕ → Reply → List Phase
+todo_of [] number reply = []
+todo_of (r ∷ rs) number reply = phases_of r (if number == 1 then Some reply else None) ++ todo_of rs (number - 1) reply
+
+-- whether the commit is still to come
+abbrev pub has_commit : List Phase → Bool
+has_commit [] = false
+has_commit (Replaces r commit ∷ rest) = option_map_or (λ reply. true) commit (has_commit rest)
+has_commit (_ ∷ rest) = has_commit rest
+
+-- the next replacement
+abbrev pub next_replacing : List Phase → Option Replacing
+next_replacing [] = None
+next_replacing (Replaces r commit ∷ rest) = Some r
+next_replacing (_ ∷ rest) = next_replacing rest
+
+-- the page that is planned for a place
+abbrev pub page_in : List PlannedPage → Look
+page_in [] place = []
+page_in (x ∷ xs) place = if place == x.place then x.page else page_in xs place
+
+-- the pages that are planned for the next replacement
+abbrev pub planned_in : List Phase → Look
+planned_in [] place = []
+planned_in (Replaces r commit ∷ rest) place = page_in r.planned place
+planned_in (_ ∷ rest) place = planned_in rest place
+
+-- the places that a replacement takes
+abbrev pub taken_by : Replacing → List ℕ
+taken_by r = if r.makes then r.head ∷ r.fresh else r.fresh
+
+-- the places that all replacements to come take
+abbrev pub taken_in : List Phase → List ℕ
+taken_in [] = []
+taken_in (Replaces r commit ∷ rest) = taken_by r ++ taken_in rest
+taken_in (_ ∷ rest) = taken_in rest
+
+-- the places that what is left of a job holds: those that it takes for chains to come, and old ones that aren't clear yet
+abbrev pub held_in : List Phase → List ℕ
+held_in [] = []
+held_in (Replaces r commit ∷ rest) = taken_by r ++ taken_in rest
+held_in (Frees place old ∷ rest) = old ++ taken_in rest
+held_in (_ ∷ rest) = held_in rest
+
+-- the metadata and the chains once the replacement is made
+abbrev pub replaced : Metas → Replacing → Metas
+replaced base r head = if head == r.head then r.new else base head
+
+abbrev pub rechained : Chains → Replacing → Chains
+rechained chains r head = if head == r.head then option_map (λ m. r.head ∷ r.fresh) r.new else chains head

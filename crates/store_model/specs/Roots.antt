@@ -1,0 +1,33 @@
+-- Which metadata the store can hold.
+use Rattle.std.specs.Prelude.{◌≡◌, ℕ, ◌+◌, ◌<◌, ◌≤◌, length, Some, None, codes}
+use Rattle.std.specs.List.{AllByRecursion}
+use Rattle.volume_model.specs.Xattrs.{Xattrs, value_of}
+use Rattle.volume_model.specs.declared.text.Xattr.{Xattr}
+use Rattle.super_block.specs.declared.page.Super.{Super}
+use Rattle.blob_meta.specs.declared.meta.Meta.{Meta}
+use Rattle.blob_meta.specs.Says.{without_bit_1}
+use Rattle.blob_meta.specs.Faults.{meta_fault}
+use Rattle.blob_meta.specs.Items.{HasDistinctNames}
+use Rattle.md_chain.specs.Chain.{blob_id}
+use Rattle.store_model.specs.Maps.{Metas}
+use Rattle.store_model.specs.Regions.{region_of}
+
+-- attributes that can be written: no two of one name, and each fits the body of a page
+pub record CanBeWritten (xattrs : Xattrs) : Type 0 where
+  pub names : HasDistinctNames xattrs
+  pub short : AllByRecursion (λ (x : Xattr). length x.key + length x.value ≤ 4063) xattrs
+
+-- the metadata of a blob that the store can hold now: in the region, without fault, with no parent and no mark
+pub record IsRoot (s : Super) (head : ℕ) (m : Meta) : Type 0 where
+  pub low : head < s.md_len
+  pub id : m.id ≡ blob_id head
+  pub clear : without_bit_1 m.flags.invalid ≡ m.flags.invalid
+  pub xattrs : CanBeWritten m.xattrs
+  pub internal : CanBeWritten m.internal
+  pub no_parent : value_of m.internal (codes "SNAP") ≡ None
+  pub not_made : value_of m.internal (codes "SNAPTMP") ≡ None
+  pub not_removed : value_of m.internal (codes "SNAPRM") ≡ None
+  pub faultless : meta_fault (region_of s).fixed (region_of s).clusters m ≡ None
+
+abbrev pub AreRoots : Super → Metas → Type 0
+AreRoots s metas = (head : ℕ) (m : Meta) → metas head ≡ Some m → IsRoot s head m
