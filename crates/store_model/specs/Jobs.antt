@@ -30,13 +30,13 @@ use Rattle.store_model.specs.Regions.{region_of}
 use Rattle.store_model.specs.Scans.{MetaAt}
 use Rattle.store_model.specs.Shown.{fixed_of}
 use Rattle.store_model.specs.Agreeing.{shown_by}
-use Rattle.store_model.specs.Recovers.{IsDone}
+use Rattle.store_model.specs.Recovers.{IsChangeDone}
 use Rattle.store_model.specs.Rows.{InJob}
 use Rattle.store_model.specs.Roots.{CanBeWritten, IsRoot}
 use Rattle.store_model.specs.Inserting.{with_slot}
 use Rattle.store_model.specs.Places.{all_set, AreDistinct, AreLeastClear, IsMapped}
 use Rattle.store_model.specs.Phases.{Phase, Marks, Zeros, Writes, Replaces, Erases, Frees, Replacing, page_in, held_in, taken_by, taken_in, has_commit, replaced, rechained}
-use Rattle.store_model.specs.Plants.{ForCommand, Job, Plant, live_of, shown}
+use Rattle.store_model.specs.StoreState.{ForCommand, JobState, StoreState, live_of, shown}
 
 -- ---- what a command asks for
 
@@ -48,7 +48,7 @@ IsSyncing _ = ⊥
 
 -- A command that nothing refuses, with the blob that it means and the metadata that it makes: as it was, but that the attributes
 -- are those which the step makes synced.
-pub record AsksFor (p : Plant) (command : Command) (head : ℕ) (new : Meta) : Type 0 where
+pub record AsksFor (p : StoreState) (command : Command) (head : ℕ) (new : Meta) : Type 0 where
   pub syncing : IsSyncing command
   pub asked : refusal (fixed_of p.super) (shown p) command ≡ None
   pub found : named_head (fixed_of p.super) (shown p) command ≡ Some head
@@ -59,7 +59,7 @@ pub record AsksFor (p : Plant) (command : Command) (head : ℕ) (new : Meta) : T
   pub new_is : new ≡ record old { xattrs = after.synced }
 
 -- The changes that a command asks for, and the reply of their commit: a verb that syncs has one replacement.
-pub record IsJobFor (p : Plant) (command : Command) (changes : Changes) (reply : Reply) : Type 0 where
+pub record IsJobFor (p : StoreState) (command : Command) (changes : Changes) (reply : Reply) : Type 0 where
   pub head : ℕ
   pub new : Meta
   pub is : changes ≡ job_of_one head new
@@ -92,10 +92,10 @@ places_of plan = map (λ x. x.place) plan
 
 -- what the pages of a blob come to: new metadata is packed on its head and on the least clear pages, as many as it needs; for a blob
 -- that is erased the head's page is one of zeros
-abbrev pub IsPlanned : List Bool → Option Meta → Replacing → Type 0
-IsPlanned pages (Some new) r =
+abbrev pub IsJobPlanned : List Bool → Option Meta → Replacing → Type 0
+IsJobPlanned pages (Some new) r =
     Needs new (length r.fresh) × AreLeastClear pages (taken_by r) × IsPacked new r.head r.fresh r.planned
-IsPlanned pages None r =
+IsJobPlanned pages None r =
     (r.fresh ≡ []) × (r.makes ≡ false) × (r.planned ≡ record { place = r.head; page = zero_page } ∷ [])
 
 -- The clusters in maps before and after a replacement: one that no map has any more is freed, and one that none had was claimed.
@@ -111,7 +111,7 @@ pub record IsLaid (s : Super) (base : Metas) (chains : Chains) (pages : List Boo
   pub head : r.head ≡ x.head
   pub new : r.new ≡ x.new
   pub chain : chains r.head ≡ (if r.makes then None else Some (r.head ∷ r.old))
-  pub planned : IsPlanned pages x.new r
+  pub planned : IsJobPlanned pages x.new r
   pub clusters : MovesClusters s base (replaced base r) r.freed claimed
 
 -- each over what the one before it leaves
@@ -179,7 +179,7 @@ Keeps s base live (_ ∷ rest) = Keeps s base live rest
 
 -- On whatever device, the command may be done with this reply, and may fail; then the metadata shows its step.
 pub record IsStep (s : Super) (base later : Metas) (live : Map Xattrs) (command : Command) (reply : Reply) : Type 0 where
-  pub done : IsDone reply
+  pub done : IsChangeDone reply
   pub allowed : (image : Image) → Allowed (fixed_of s) (shown_of s base live image) command reply
   pub may_fail : (image : Image) → Allowed (fixed_of s) (shown_of s base live image) command r.Fault
   pub shows : (image : Image)
@@ -200,7 +200,7 @@ Does s base live command (Replaces r None ∷ rest) =
 Does s base live command (_ ∷ rest) = Does s base live command rest
 
 -- The command of a channel waits for these phases.
-pub record IsServed (p : Plant) (channel : ℕ) (todo : List Phase) : Type 0 where
+pub record IsServed (p : StoreState) (channel : ℕ) (todo : List Phase) : Type 0 where
   pub command : Command
   pub rest : List Command
   pub row : p.rows channel ≡ record { left = command ∷ rest; stage = InJob; claim = None }
@@ -208,7 +208,7 @@ pub record IsServed (p : Plant) (channel : ℕ) (todo : List Phase) : Type 0 whe
 
 -- What is left of a running job can be done, on places that differ; its command waits for the commit, and behind that, or where it
 -- serves none, the volumes are shown as they are.
-pub record JobStands (p : Plant) (j : Job) : Type 0 where
+pub record JobStands (p : StoreState) (j : JobState) : Type 0 where
   pub lays : Lays p.super p.base p.chains j.claimed j.written j.todo
   pub distinct : AreDistinct (held_in j.todo)
   pub served : (channel : ℕ) → j.serves ≡ ForCommand channel → has_commit j.todo ≡ true → IsServed p channel j.todo

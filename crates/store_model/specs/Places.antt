@@ -10,7 +10,7 @@ use Rattle.md_chain.specs.Chain.{is_among}
 use Rattle.store_model.specs.Maps.{Metas, Chains}
 use Rattle.store_model.specs.Rows.{OpenClaim, Rows}
 use Rattle.store_model.specs.Phases.{held_in}
-use Rattle.store_model.specs.Plants.{Job}
+use Rattle.store_model.specs.StoreState.{JobState}
 
 -- these places are set, or cleared, one after another
 abbrev pub all_set : List Bool → List ℕ → Bool → List Bool
@@ -33,7 +33,7 @@ AreLeastClear bits [] = Unit {0}
 AreLeastClear bits (p ∷ ps) = IsLeastClear bits p × AreLeastClear (slice_set bits p true) ps
 
 -- the places that a job holds
-abbrev pub held_by : Option Job → List ℕ
+abbrev pub held_by : Option JobState → List ℕ
 held_by o = option_map_or (λ j. held_in j.todo) o []
 
 -- some chain has the place
@@ -67,11 +67,11 @@ pub record IsClaimed (rows : Rows) (cluster : ℕ) : Type 0 where
   pub is : claim.cluster ≡ cluster
 
 -- the clusters that a job has claimed and no map has yet
-abbrev pub claimed_by : Option Job → List ℕ
+abbrev pub claimed_by : Option JobState → List ℕ
 claimed_by o = option_map_or (λ j. j.claimed) o []
 
 -- a row or the job has an open claim of the cluster
-abbrev pub HasClaim : Rows → Option Job → ℕ → Type 0
+abbrev pub HasClaim : Rows → Option JobState → ℕ → Type 0
 HasClaim rows job cluster = IsClaimed rows cluster ⊎ (is_among cluster (claimed_by job) ≡ true)
 
 -- no cluster is claimed
@@ -79,7 +79,7 @@ abbrev pub Unclaimed : ℕ → Type 0
 Unclaimed cluster = ⊥
 
 -- no two rows have claimed one cluster, nor a row and the job
-pub record ClaimsDiffer (all : Rows) (running : Option Job) : Type 0 where
+pub record ClaimsDiffer (all : Rows) (running : Option JobState) : Type 0 where
   pub rows : (channel other : ℕ) (x y : OpenClaim) → (all channel).claim ≡ Some x → (all other).claim ≡ Some y
       → x.cluster ≡ y.cluster → channel ≡ other
   pub job : (channel : ℕ) (x : OpenClaim) → (all channel).claim ≡ Some x

@@ -4,11 +4,11 @@ use Rattle.volume_model.specs.declared.command.Command.{Command}
 use Rattle.volume_model.specs.declared.reply.Reply.TheVariants as r
 use Rattle.store_model.specs.Rows.{InJob}
 use Rattle.store_model.specs.Phases.{has_commit}
-use Rattle.store_model.specs.Plants.{ForCommand, Job, logged, Plant, waiting}
+use Rattle.store_model.specs.StoreState.{ForCommand, JobState, logged, StoreState, waiting}
 use Rattle.store_model.specs.Touches.{TurnKind, untouched}
 
 -- The command that the job serves has no entry yet, and is logged as stopped.
-pub record IsUnlogged (p : Plant) (j : Job) (at : ℕ) (q : Plant) : Type 0 where
+pub record IsUnlogged (p : StoreState) (j : JobState) (at : ℕ) (q : StoreState) : Type 0 where
   pub channel : ℕ
   pub serves : j.serves ≡ ForCommand channel
   pub waits : has_commit j.todo ≡ true
@@ -18,13 +18,13 @@ pub record IsUnlogged (p : Plant) (j : Job) (at : ℕ) (q : Plant) : Type 0 wher
   pub next : q ≡ logged (record p { job = None }) channel command rest (r.Stopped at) p.device
 
 -- It was logged at the job's commit, or the job serves none.
-pub record WasLogged (p : Plant) (j : Job) (q : Plant) : Type 0 where
+pub record WasLogged (p : StoreState) (j : JobState) (q : StoreState) : Type 0 where
   pub waits : waiting j.serves j.todo ≡ None
   pub next : q ≡ record p { job = None }
 
 -- A turn of the job on a stopped store: no device call, and no job runs any more.
-pub record BreaksDown (p q : Plant) : Type 0 where
-  pub job : Job
+pub record BreaksDown (p q : StoreState) : Type 0 where
+  pub job : JobState
   pub is : p.job ≡ Some job
   pub at : ℕ
   pub stands : p.stopped ≡ Some at

@@ -18,7 +18,7 @@ use Rattle.store_model.specs.Maps.{Metas, Chains}
 use Rattle.store_model.specs.Regions.{region_of}
 use Rattle.store_model.specs.Shown.{fixed_of}
 use Rattle.store_model.specs.Rows.{Copying, entries_of, InJob, OpenClaim, Posted, Ended, Ready, Row, Stage}
-use Rattle.store_model.specs.Plants.{ForCommand, Job, Plant, shown, waiting}
+use Rattle.store_model.specs.StoreState.{ForCommand, JobState, StoreState, shown, waiting}
 use Rattle.store_model.specs.Phases.{has_commit}
 use Rattle.store_model.specs.Places.{AreDistinct, ClaimsDiffer, HasClaim, held_by, UsedPages, UsedClusters}
 use Rattle.store_model.specs.Jobs.{JobStands}
@@ -32,7 +32,7 @@ pub record HaveChains (s : Super) (metas : Metas) (chains : Chains) : Type 0 whe
   pub differ : (head : ℕ) (pages : List ℕ) → chains head ≡ Some pages → AreDistinct pages
 
 -- Of each channel, the commands so far, numbered in the log, and those that are left are all of the script's.
-pub record OnItsWay (p : Plant) (script : ℕ → List Command) (channel : ℕ) : Type 0 where
+pub record OnItsWay (p : StoreState) (script : ℕ → List Command) (channel : ℕ) : Type 0 where
   pub made : List Command
   pub numbered : Numbered 0 (entries_of channel p.log) made
   pub all : made ++ (p.rows channel).left ≡ script channel
@@ -52,30 +52,30 @@ pub record IsServedRow (row : Row) : Type 0 where
   pub is : row ≡ record { left = command ∷ rest; stage = InJob; claim = None }
 
 -- how rows stand to the job
-pub record IsShaped (p : Plant) : Type 0 where
+pub record IsShaped (p : StoreState) : Type 0 where
   -- what is posted or in the job is a command, and an ended channel has none left
   pub posted : (channel serial : ℕ) → (p.rows channel).stage ≡ Posted serial → (p.rows channel).left ≢ []
   pub in_job : (channel : ℕ) → (p.rows channel).stage ≡ InJob
-      → (job : Job) × (p.job ≡ Some job) × (waiting job.serves job.todo ≡ Some channel)
+      → (job : JobState) × (p.job ≡ Some job) × (waiting job.serves job.todo ≡ Some channel)
   -- and a job serves a command until its commit
-  pub served : (job : Job) (channel : ℕ) → p.job ≡ Some job → job.serves ≡ ForCommand channel
+  pub served : (job : JobState) (channel : ℕ) → p.job ≡ Some job → job.serves ≡ ForCommand channel
       → has_commit job.todo ≡ true → IsServedRow (p.rows channel)
   pub ended : (channel : ℕ) → (p.rows channel).stage ≡ Ended → (p.rows channel).left ≡ []
   -- a claim is held from when it is made until its insert is decided
   pub claims : (channel : ℕ) (claim : OpenClaim) → (p.rows channel).claim ≡ Some claim → MayClaim (p.rows channel).stage
 
 -- while the store runs: what it has in memory is what the device says, and the volumes shown are the log's replay
-pub record RunsWell (first : Volumes) (p : Plant) : Type 0 where
+pub record RunsWell (first : Volumes) (p : StoreState) : Type 0 where
   pub chains : HaveChains p.super p.base p.chains
   pub live : (head : ℕ) (m : Meta) → p.base head ≡ Some m → (xattrs : Xattrs) × (p.live head ≡ Some xattrs) × CanBeWritten xattrs
   pub no_live : (head : ℕ) → p.base head ≡ None → p.live head ≡ None
   pub pages : UsedPages p.super.md_len p.pages p.chains (held_by p.job)
   pub clusters : UsedClusters p.super p.clusters p.base (HasClaim p.rows p.job)
   pub claims : ClaimsDiffer p.rows p.job
-  pub job : (job : Job) → p.job ≡ Some job → JobStands p job
+  pub job : (job : JobState) → p.job ≡ Some job → JobStands p job
   pub replayed : shown p ≡ replay (fixed_of p.super) first p.log
 
-pub record Facts (s : Super) (first : Volumes) (script : ℕ → List Command) (p : Plant) : Type 0 where
+pub record RunInvariant (s : Super) (first : Volumes) (script : ℕ → List Command) (p : StoreState) : Type 0 where
   pub super : p.super ≡ s
   pub roots : AreRoots s p.base
   pub lawful : IsLawful s.md_len p.base
@@ -89,4 +89,4 @@ pub record Facts (s : Super) (first : Volumes) (script : ℕ → List Command) (
   -- a store stops behind some of its entries
   pub halted : (at : ℕ) → p.stopped ≡ Some at → at ≤ length p.log
   -- a job that runs has something left to do
-  pub unfinished : (job : Job) → p.job ≡ Some job → job.todo ≢ []
+  pub unfinished : (job : JobState) → p.job ≡ Some job → job.todo ≢ []

@@ -22,7 +22,7 @@ pub data Service : Type 0 where
   ForRepair : Service
 
 -- The running job.
-pub record Job : Type 0 where
+pub record JobState : Type 0 where
   pub serves : Service
   -- the blob that is neither read nor written while the job runs
   pub freeze : Option ℕ
@@ -34,11 +34,11 @@ pub record Job : Type 0 where
   pub todo : List Phase
 
 -- how many turns are left
-abbrev pub turns_left : Option Job → ℕ
+abbrev pub turns_left : Option JobState → ℕ
 turns_left o = option_map_or (λ j. length j.todo) o 0
 
 -- the pages that are planned for the next replacement
-abbrev pub planned_at : Job → Look
+abbrev pub planned_at : JobState → Look
 planned_at j = planned_in j.todo
 
 -- the channel whose row waits for the job: that of an insert to its end, that of a command to its commit
@@ -48,11 +48,11 @@ waiting (ForInsert channel) todo = Some channel
 waiting ForRepair todo = None
 
 -- the job once a phase is done, if something is left to do
-abbrev pub going_on : Job → List ℕ → List Phase → Option Job
+abbrev pub going_on : JobState → List ℕ → List Phase → Option JobState
 going_on j written [] = None
 going_on j written (x ∷ xs) = Some (record j { written = written; todo = x ∷ xs })
 
-pub record Plant : Type 0 where
+pub record StoreState : Type 0 where
   pub super : Super
   -- the metadata as the device says it, and the places of each blob's chain
   pub base : Metas
@@ -63,7 +63,7 @@ pub record Plant : Type 0 where
   pub pages : List Bool
   pub clusters : List Bool
   pub rows : Rows
-  pub job : Option Job
+  pub job : Option JobState
   -- the number under which the next command is posted
   pub serial : ℕ
   pub log : List Entry
@@ -74,7 +74,7 @@ pub record Plant : Type 0 where
   pub device : Device
 
 -- the volumes that are shown
-abbrev pub shown : Plant → Volumes
+abbrev pub shown : StoreState → Volumes
 shown p head = option_map (λ m. volume_of (fixed_of p.super).cluster_pages p.device.reads p.base p.super.md_len (option_map_or (λ xs. xs) (p.live head) []) head m) (p.base head)
 
 -- the attributes of volumes as they are read
@@ -87,7 +87,7 @@ next_serial n = (n + 1) % 2 ^ 64
 
 -- One entry is logged: the command leaves its row, which is at this stage then and has no claim; and the clock at the exit is the
 -- entry's mark.
-abbrev pub logged_to : Stage → Plant → ℕ → Command → List Command → Reply → Device → Plant
+abbrev pub logged_to : Stage → StoreState → ℕ → Command → List Command → Reply → Device → StoreState
 logged_to next p channel command rest reply d = record p {
   rows = with_row p.rows channel (record { left = rest; stage = next; claim = None });
   log = p.log ++ entry_of p.log channel command reply ∷ [];
@@ -96,15 +96,15 @@ logged_to next p channel command rest reply d = record p {
 }
 
 -- in a turn of the metadata thread: the channel is to be told
-abbrev pub logged : Plant → ℕ → Command → List Command → Reply → Device → Plant
+abbrev pub logged : StoreState → ℕ → Command → List Command → Reply → Device → StoreState
 logged = logged_to (Decided Answered)
 
 -- in a turn of the channel's own: it goes on with its next command
-abbrev pub logged_here : Plant → ℕ → Command → List Command → Reply → Device → Plant
+abbrev pub logged_here : StoreState → ℕ → Command → List Command → Reply → Device → StoreState
 logged_here = logged_to Idle
 
 -- how a run begins: nothing is posted, nothing logged, no job runs, and nothing has failed
-pub record Opens (p : Plant) : Type 0 where
+pub record Opens (p : StoreState) : Type 0 where
   pub waits : (channel : ℕ) → ((p.rows channel).stage ≡ Idle) ⊎ (p.rows channel ≡ record { left = []; stage = Ended; claim = None })
   pub unclaimed : (channel : ℕ) → (p.rows channel).claim ≡ None
   pub log : p.log ≡ []
