@@ -1,5 +1,5 @@
 -- What is known of a job and of used places, on a state with the same parts.
-use Rattle.std.proofs.Common.{◌≡◌, ℕ, ◌<◌, ◌≤◌, Bool, List, ◌∷◌, length, Option, Some, None, refl, sym, ◌∙◌, ap, subst, inl, inr}
+use Rattle.std.proofs.Common.{◌≡◌, ℕ, ◌<◌, ◌≤◌, Bool, List, ◌∷◌, length, Option, Some, None, refl, sym, ◌∙◌, ap, subst, inl, inr, true}
 use Rattle.std.specs.Option.{option_map}
 use Rattle.std.proofs.Math.Path.{fun_ext}
 use Rattle.volume_model.specs.Volumes.{Volume, Volumes}
@@ -15,13 +15,14 @@ use Rattle.store_model.specs.Regions.{region_of}
 use Rattle.store_model.specs.Scans.{MetaAt}
 use Rattle.store_model.specs.Shown.{fixed_of, volume_of}
 use Rattle.store_model.specs.Rows.{Rows, Row, InJob}
-use Rattle.store_model.specs.StoreState.{JobState, Phase, Writing, Erasing, StoreState, planned_at, shown}
+use Rattle.store_model.specs.StoreState.{JobState, StoreState, planned_at, shown, ForCommand}
 use Rattle.store_model.specs.Places.{IsClaimed, UsedClusters, IsMapped}
-use Rattle.store_model.specs.Jobs.{AsksFor, IsServed, StandsAt, JobStands}
+use Rattle.store_model.specs.Jobs.{AsksFor, IsServed, JobStands}
 use Rattle.store_model.specs.Cases.{live_of}
 use Rattle.store_model.specs.RunInvariant.{CanBeWritten, RunsWell}
 use Rattle.store_model.proofs.Shows.{or_empty}
 use Rattle.store_model.proofs.Writable.{AllWritable, OnlyLive}
+use Rattle.store_model.specs.Phases.{has_commit}
 
 module _ (p q : StoreState) (super : q.super ≡ p.super) (base : q.base ≡ p.base) (same : shown q ≡ shown p) where
   pub asks_same : (command : Command) (head : ℕ) (new : Meta) → AsksFor p command head new → AsksFor q command head new
@@ -36,32 +37,23 @@ module _ (p q : StoreState) (super : q.super ≡ p.super) (base : q.base ≡ p.b
     new_is = a.new_is;
   }
 
-  pub served_same : (j : JobState) → q.rows j.channel ≡ p.rows j.channel → IsServed p j → IsServed q j
-  served_same j row x = record { command = x.command; rest = x.rest; row = row ∙ x.row; asks = asks_same x.command j.head j.new x.asks }
+-- a job stands on a state with the same metadata, chains and attributes, where its command's row is the same
+pub stands_same : (p q : StoreState) → q.super ≡ p.super → q.base ≡ p.base → q.chains ≡ p.chains → q.live ≡ p.live → (j : JobState)
+    → ((channel : ℕ) → j.serves ≡ ForCommand channel → has_commit j.todo ≡ true → q.rows channel ≡ p.rows channel)
+    → JobStands p j → JobStands q j
+stands_same p q super base chains live j rows x = record {
+  lays = rw (super, base, chains) x.lays;
+  distinct = x.distinct;
+  served = λ channel serves waits.
+      let y = x.served channel serves waits in
+      record { command = y.command; rest = y.rest; row = rows channel serves waits ∙ y.row; does = rw (super, base, live) y.does };
+  keeps = λ none. rw (super, base, live) (x.keeps none);
+}
 
-  module _ (chains : q.chains ≡ p.chains) where
-    stands_at : (j : JobState) (phase : Phase) → ((written : ℕ) → phase ≡ Writing written → q.rows j.channel ≡ p.rows j.channel) → StandsAt p j phase → StandsAt q j phase
-    stands_at j (Writing written) row x = (x.0, served_same j (row written refl) x.1, ap (λ (m : Map (List ℕ)). m j.head) chains ∙ x.2)
-    stands_at j (Erasing erased) row x = (x.0, ap (λ (m : Map Meta). m j.head) base ∙ x.1, ap (λ (m : Map (List ℕ)). m j.head) chains ∙ x.2)
-
-    pub stands_same : (j : JobState) → ((written : ℕ) → j.phase ≡ Writing written → q.rows j.channel ≡ p.rows j.channel) → JobStands p j → JobStands q j
-    stands_same j row x = record {
-      planned = subst (λ (t : Super). MetaAt (planned_at j) (region_of t) j.head j.new (j.head ∷ j.fresh)) (sym super) x.planned;
-      places = x.places;
-      fresh = x.fresh;
-      old = x.old;
-      stands = stands_at j j.phase row x.stands;
-    }
-
--- the command that a job serves before its commit
-pub served_by : (p : StoreState) (j : JobState) (written : ℕ) → JobStands p j → j.phase ≡ Writing written → (written ≤ length j.fresh) × IsServed p j × (p.chains j.head ≡ Some (j.head ∷ j.old))
-served_by p j written x phase = subst (StandsAt p j) phase x.stands
-
-pub erased_by : (p : StoreState) (j : JobState) (erased : ℕ) → JobStands p j → j.phase ≡ Erasing erased → (erased < length j.old) × (p.base j.head ≡ Some j.new) × (p.chains j.head ≡ Some (j.head ∷ j.fresh))
-erased_by p j erased x phase = subst (StandsAt p j) phase x.stands
-
-pub row_in_job : (p : StoreState) (j : JobState) (written : ℕ) → JobStands p j → j.phase ≡ Writing written → (p.rows j.channel).stage ≡ InJob
-row_in_job p j written x phase = ap (λ (r : Row). r.stage) (served_by p j written x phase).1.row
+-- the row of a command that waits for the commit is in the job
+pub row_in_job : (p : StoreState) (j : JobState) → JobStands p j → (channel : ℕ) → j.serves ≡ ForCommand channel → has_commit j.todo ≡ true
+    → (p.rows channel).stage ≡ InJob
+row_in_job p j x channel serves waits = ap (λ (r : Row). r.stage) (x.served channel serves waits).row
 
 pub clusters_same : (s : Super) (bits : List Bool) (metas others : Map Meta) (rows : Rows) → ((c : ℕ) → IsMapped metas c → IsMapped others c) → ((c : ℕ) → IsMapped others c → IsMapped metas c)
     → UsedClusters s bits metas (IsClaimed rows) → UsedClusters s bits others (IsClaimed rows)
@@ -79,8 +71,12 @@ clusters_same s bits metas others rows there back u = record {
 
 -- ---- live attributes
 
-pub all_writable : (first : Volumes) (p : StoreState) → RunsWell first p → AllWritable (shown p)
-all_writable first p well h x is = at (p.base h) refl is
+-- each blob has live attributes that can be written
+abbrev pub HaveLive : StoreState → Type 0
+HaveLive p = (head : ℕ) (m : Meta) → p.base head ≡ Some m → (xattrs : Xattrs) × (p.live head ≡ Some xattrs) × CanBeWritten xattrs
+
+pub live_writable : (p : StoreState) → HaveLive p → AllWritable (shown p)
+live_writable p live h x is = at (p.base h) refl is
   where
     shown_by : Option Meta → Option Volume
     shown_by o = option_map (λ m. volume_of (fixed_of p.super).cluster_pages p.device.reads p.base p.super.md_len (or_empty (p.live h)) h m) o
@@ -88,10 +84,13 @@ all_writable first p well h x is = at (p.base h) refl is
     at : (o : Option Meta) → p.base h ≡ o → shown_by o ≡ Some x → CanBeWritten x.live
     at None there made = absurd (cc made)
     at (Some m) there made =
-        let l = well.live h m there in
-        let live : or_empty (p.live h) ≡ l.0 = ap or_empty l.1 in
+        let l = live h m there in
+        let same : or_empty (p.live h) ≡ l.0 = ap or_empty l.1 in
         let e : volume_of (fixed_of p.super).cluster_pages p.device.reads p.base p.super.md_len (or_empty (p.live h)) h m ≡ x = cc made in
-        subst CanBeWritten (sym live ∙ ap (λ (y : Volume). y.live) e) l.2
+        subst CanBeWritten (sym same ∙ ap (λ (y : Volume). y.live) e) l.2
+
+pub all_writable : (first : Volumes) (p : StoreState) → RunsWell first p → AllWritable (shown p)
+all_writable first p well = live_writable p well.live
 
 module _ (p q : StoreState) (w : Volumes) (only : OnlyLive (shown p) w) (super : q.super ≡ p.super) (base : q.base ≡ p.base) (reads : q.device.reads ≡ p.device.reads) (live : q.live ≡ live_of w) where
   abbrev with_live : ℕ → Xattrs → Option Meta → Option Volume

@@ -1,40 +1,49 @@
 -- How rows stand to the job, when one row changes.
-use Rattle.std.proofs.Common.{Option, ◌≡◌, ◌≢◌, ℕ, List, [], ◌∷◌, Some, None, refl, sym, ◌∙◌, ap, subst, inl, inr}
+use Rattle.std.proofs.Common.{Option, ◌≡◌, ◌≢◌, ℕ, List, [], ◌∷◌, Some, None, refl, sym, ◌∙◌, ap, subst, inl, inr, false, true}
 use Rattle.std.proofs.lemmas.Bool.{cases_eq}
 use Rattle.volume_model.specs.declared.command.Command.{Command}
 use Rattle.store_model.specs.Rows.{OpenClaim, Row, Rows, Idle, Posted, InJob, Answered, Decided, Ended, with_row}
-use Rattle.store_model.specs.StoreState.{JobState, Writing, Erasing, StoreState}
+use Rattle.store_model.specs.StoreState.{JobState, StoreState, ForCommand, waiting}
 use Rattle.store_model.specs.RunInvariant.{IsServedRow, MayClaim, IsShaped}
 use Rattle.store_model.proofs.RowsKept.{row_here, row_other}
+use Rattle.store_model.specs.Phases.{has_commit}
 
--- the job that serves a channel
+-- the job for which a channel waits
 pub record Serves (p : StoreState) (channel : ℕ) : Type 0 where
   pub job : JobState
-  pub written : ℕ
   pub is : p.job ≡ Some job
-  pub channel_is : job.channel ≡ channel
-  pub phase : job.phase ≡ Writing written
+  pub waits : waiting job.serves job.todo ≡ Some channel
 
 pub serves : (p : StoreState) → IsShaped p → (channel : ℕ) → (p.rows channel).stage ≡ InJob → Serves p channel
-serves p shaped channel is = let x = shaped.in_job channel is in record { job = x.0; written = x.1; is = x.2; channel_is = x.3; phase = x.4 }
+serves p shaped channel is = let x = shaped.in_job channel is in record { job = x.0; is = x.1; waits = x.2 }
 
--- no channel is in a job that has committed
-pub none_erasing : (p : StoreState) → IsShaped p → (job : JobState) (erased : ℕ) → p.job ≡ Some job → job.phase ≡ Erasing erased → (channel : ℕ) → (p.rows channel).stage ≡ InJob → ⊥
-none_erasing p shaped job erased is phase channel in_job =
+-- no channel is in a job for which none waits
+pub none_waiting : (p : StoreState) → IsShaped p → (job : JobState) → p.job ≡ Some job → waiting job.serves job.todo ≡ None
+    → (channel : ℕ) → (p.rows channel).stage ≡ InJob → ⊥
+none_waiting p shaped job is none channel in_job =
     let x = serves p shaped channel in_job in
     let same : x.job ≡ job = let both = sym x.is ∙ is in cc both in
-    let bad : Writing x.written ≡ Erasing erased = sym x.phase ∙ ap (λ (j : JobState). j.phase) same ∙ phase in
+    let bad : Some channel ≡ None = sym x.waits ∙ ap (λ (j : JobState). waiting j.serves j.todo) same ∙ none in
     cc bad
 
 pub none_without : (p : StoreState) → IsShaped p → p.job ≡ None → (channel : ℕ) → (p.rows channel).stage ≡ InJob → ⊥
 none_without p shaped none channel in_job = let x = serves p shaped channel in_job in let bad = sym x.is ∙ none in cc bad
 
--- the row of a job's channel is the one in the job
-pub only_served : (p : StoreState) → IsShaped p → (job : JobState) → p.job ≡ Some job → (channel : ℕ) → (p.rows channel).stage ≡ InJob → channel ≡ job.channel
-only_served p shaped job is channel in_job =
+-- only the channel that waits for a job is in it
+pub only_served : (p : StoreState) → IsShaped p → (job : JobState) → p.job ≡ Some job → (waits : ℕ) → waiting job.serves job.todo ≡ Some waits
+    → (channel : ℕ) → (p.rows channel).stage ≡ InJob → channel ≡ waits
+only_served p shaped job is waits known channel in_job =
     let x = serves p shaped channel in_job in
     let same : x.job ≡ job = let both = sym x.is ∙ is in cc both in
-    sym x.channel_is ∙ ap (λ (j : JobState). j.channel) same
+    let both : Some channel ≡ Some waits = sym x.waits ∙ ap (λ (j : JobState). waiting j.serves j.todo) same ∙ known in
+    cc both
+
+-- the channel of a command that waits for its commit
+pub waits_for_commit : (j : JobState) (channel : ℕ) → j.serves ≡ ForCommand channel → has_commit j.todo ≡ true → waiting j.serves j.todo ≡ Some channel
+waits_for_commit j channel serves commit = rw (serves, commit) refl
+
+pub waits_no_more : (j : JobState) (channel : ℕ) → j.serves ≡ ForCommand channel → has_commit j.todo ≡ false → waiting j.serves j.todo ≡ None
+waits_no_more j channel serves commit = rw (serves, commit) refl
 
 -- what a row may be
 pub record MayBe (p : StoreState) (channel : ℕ) (row : Row) : Type 0 where
@@ -51,10 +60,10 @@ module _ (p : StoreState) (shaped : IsShaped p) (q : StoreState) (channel : ℕ)
   there : (c : ℕ) → c ≢ channel → q.rows c ≡ p.rows c
   there c ne = ap (λ (r : Rows). r c) rows ∙ row_other p.rows channel row c ne
 
-  given_back : (c : ℕ) → Serves q c → (job : JobState) × (written : ℕ) × (q.job ≡ Some job) × (job.channel ≡ c) × (job.phase ≡ Writing written)
-  given_back c x = (x.job, x.written, x.is, x.channel_is, x.phase)
+  given_back : (c : ℕ) → Serves q c → (job : JobState) × (q.job ≡ Some job) × (waiting job.serves job.todo ≡ Some c)
+  given_back c x = (x.job, x.is, x.waits)
 
-  pub shaped_with : MayBe q channel row → ((job : JobState) (written : ℕ) → q.job ≡ Some job → job.phase ≡ Writing written → IsServedRow (q.rows job.channel)) → IsShaped q
+  pub shaped_with : MayBe q channel row → ((job : JobState) (c : ℕ) → q.job ≡ Some job → job.serves ≡ ForCommand c → has_commit job.todo ≡ true → IsServedRow (q.rows c)) → IsShaped q
   shaped_with may served = record {
     served = served;
     posted = λ c serial is. elim (cases_eq c channel) [
@@ -77,18 +86,18 @@ module _ (p : StoreState) (shaped : IsShaped p) (q : StoreState) (channel : ℕ)
 
 -- with the rows as they were
 pub shaped_same : (p q : StoreState) → IsShaped p → q.rows ≡ p.rows → ((c : ℕ) → (p.rows c).stage ≡ InJob → Serves q c)
-    → ((job : JobState) (written : ℕ) → q.job ≡ Some job → job.phase ≡ Writing written → IsServedRow (p.rows job.channel)) → IsShaped q
+    → ((job : JobState) (c : ℕ) → q.job ≡ Some job → job.serves ≡ ForCommand c → has_commit job.todo ≡ true → IsServedRow (p.rows c)) → IsShaped q
 shaped_same p q shaped rows served serving = record {
-  served = λ job written is phase. subst (λ (r : Rows). IsServedRow (r job.channel)) (sym rows) (serving job written is phase);
+  served = λ job c is serves waits. subst (λ (r : Rows). IsServedRow (r c)) (sym rows) (serving job c is serves waits);
   posted = λ c serial is. subst (λ (r : Rows). (r c).left ≢ []) (sym rows) (shaped.posted c serial (sym (ap (λ (r : Rows). (r c).stage) rows) ∙ is));
-  in_job = λ c is. let x = served c (sym (ap (λ (r : Rows). (r c).stage) rows) ∙ is) in (x.job, x.written, x.is, x.channel_is, x.phase);
+  in_job = λ c is. let x = served c (sym (ap (λ (r : Rows). (r c).stage) rows) ∙ is) in (x.job, x.is, x.waits);
   ended = λ c is. ap (λ (r : Rows). (r c).left) rows ∙ shaped.ended c (sym (ap (λ (r : Rows). (r c).stage) rows) ∙ is);
   claims = λ c claim is. subst (λ (r : Rows). MayClaim (r c).stage) (sym rows) (shaped.claims c claim (sym (ap (λ (r : Rows). (r c).claim) rows) ∙ is));
 }
 
 -- the same job serves
 pub serves_same : (p q : StoreState) → q.job ≡ p.job → (channel : ℕ) → Serves p channel → Serves q channel
-serves_same p q job channel x = record { job = x.job; written = x.written; is = job ∙ x.is; channel_is = x.channel_is; phase = x.phase }
+serves_same p q job channel x = record { job = x.job; is = job ∙ x.is; waits = x.waits }
 
 -- a row at a stage that holds no claim has none
 pub no_claim : (p : StoreState) → IsShaped p → (channel : ℕ) → (MayClaim (p.rows channel).stage → ⊥) → (p.rows channel).claim ≡ None
@@ -100,11 +109,11 @@ no_claim p shaped channel never = by (p.rows channel).claim refl
 
 -- the row that the job serves stays where the job does and another row changes
 pub served_still : (p q : StoreState) → IsShaped p → q.job ≡ p.job → (channel : ℕ) (row : Row) → q.rows ≡ with_row p.rows channel row → ((p.rows channel).stage ≡ InJob → ⊥)
-    → (job : JobState) (written : ℕ) → q.job ≡ Some job → job.phase ≡ Writing written → IsServedRow (q.rows job.channel)
-served_still p q shaped same channel row rows free job written is phase =
-    let x = shaped.served job written (sym same ∙ is) phase in
-    let apart : job.channel ≢ channel = λ e. free (ap (λ k. (p.rows k).stage) (sym e) ∙ ap (λ (r : Row). r.stage) x.is) in
-    record { command = x.command; rest = x.rest; is = ap (λ (r : Rows). r job.channel) rows ∙ row_other p.rows channel row job.channel apart ∙ x.is }
+    → (job : JobState) (c : ℕ) → q.job ≡ Some job → job.serves ≡ ForCommand c → has_commit job.todo ≡ true → IsServedRow (q.rows c)
+served_still p q shaped same channel row rows free job c is serves waits =
+    let x = shaped.served job c (sym same ∙ is) serves waits in
+    let apart : c ≢ channel = λ e. free (ap (λ k. (p.rows k).stage) (sym e) ∙ ap (λ (r : Row). r.stage) x.is) in
+    record { command = x.command; rest = x.rest; is = ap (λ (r : Rows). r c) rows ∙ row_other p.rows channel row c apart ∙ x.is }
 
 -- ---- rows of one stage
 

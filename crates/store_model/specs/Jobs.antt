@@ -90,12 +90,18 @@ pub record IsPacked (new : Meta) (head : ℕ) (fresh : List ℕ) (planned : List
 abbrev pub places_of : List PlannedPage → List ℕ
 places_of plan = map (λ x. x.place) plan
 
--- what the pages of a blob come to: new metadata is packed on its head and on the least clear pages, as many as it needs; for a blob
--- that is erased the head's page is one of zeros
-abbrev pub IsJobPlanned : List Bool → Option Meta → Replacing → Type 0
-IsJobPlanned pages (Some new) r =
-    Needs new (length r.fresh) × AreLeastClear pages (taken_by r) × IsPacked new r.head r.fresh r.planned
-IsJobPlanned pages None r =
+-- New metadata is packed on the blob's head and on the least clear pages, as many as it needs, and is read from these.
+pub record IsPlannedFor (s : Super) (pages : List Bool) (new : Meta) (r : Replacing) : Type 0 where
+  pub needs : Needs new (length r.fresh)
+  pub least : AreLeastClear pages (taken_by r)
+  pub packed : IsPacked new r.head r.fresh r.planned
+  pub places : places_of r.planned ≡ r.head ∷ r.fresh
+  pub says : MetaAt (page_in r.planned) (region_of s) r.head new (r.head ∷ r.fresh)
+
+-- For a blob that is erased the head's page is one of zeros.
+abbrev pub IsJobPlanned : Super → List Bool → Option Meta → Replacing → Type 0
+IsJobPlanned s pages (Some new) r = IsPlannedFor s pages new r
+IsJobPlanned s pages None r =
     (r.fresh ≡ []) × (r.makes ≡ false) × (r.planned ≡ record { place = r.head; page = zero_page } ∷ [])
 
 -- The clusters in maps before and after a replacement: one that no map has any more is freed, and one that none had was claimed.
@@ -111,7 +117,7 @@ pub record IsLaid (s : Super) (base : Metas) (chains : Chains) (pages : List Boo
   pub head : r.head ≡ x.head
   pub new : r.new ≡ x.new
   pub chain : chains r.head ≡ (if r.makes then None else Some (r.head ∷ r.old))
-  pub planned : IsJobPlanned pages x.new r
+  pub planned : IsJobPlanned s pages x.new r
   pub clusters : MovesClusters s base (replaced base r) r.freed claimed
 
 -- each over what the one before it leaves
@@ -144,8 +150,10 @@ zeroing s clusters =
 -- A replacement can be made once its fresh pages are written: it is planned on places that differ, and leaves lawful metadata.
 pub record CanReplace (s : Super) (base : Metas) (chains : Chains) (claimed written : List ℕ) (r : Replacing) : Type 0 where
   pub all : written ≡ r.fresh
+  pub places : places_of r.planned ≡ r.head ∷ r.fresh
   pub says : (m : Meta) → r.new ≡ Some m → MetaAt (page_in r.planned) (region_of s) r.head m (r.head ∷ r.fresh)
   pub root : (m : Meta) → r.new ≡ Some m → IsRoot s r.head m
+  pub gone : r.new ≡ None → r.fresh ≡ []
   pub chain : chains r.head ≡ (if r.makes then None else Some (r.head ∷ r.old))
   pub lawful : IsLawful s.md_len (replaced base r)
   pub clusters : MovesClusters s base (replaced base r) r.freed claimed
@@ -153,7 +161,7 @@ pub record CanReplace (s : Super) (base : Metas) (chains : Chains) (claimed writ
 -- What is left can be done, phase by phase, over this metadata and these chains, where these fresh pages are written. A place that is
 -- erased is held, and what a replacement leaves is cleared before the next one is made.
 abbrev pub Lays : Super → Metas → Chains → List ℕ → List ℕ → List Phase → Type 0
-Lays s base chains claimed written [] = written ≡ []
+Lays s base chains claimed written [] = (written ≡ []) × (claimed ≡ [])
 Lays s base chains claimed written (Marks ∷ rest) = Lays s base chains claimed written rest
 Lays s base chains claimed written (Zeros page ∷ rest) = Lays s base chains claimed written rest
 Lays s base chains claimed written (Writes place ∷ rest) = Lays s base chains claimed (written ++ place ∷ []) rest
@@ -192,7 +200,7 @@ pub record IsStep (s : Super) (base later : Metas) (live : Map Xattrs) (command 
 abbrev pub Does : Super → Metas → Map Xattrs → Command → List Phase → Type 0
 Does s base live command [] = ⊥
 Does s base live command (Replaces r (Some reply) ∷ rest) =
-    IsStep s base (replaced base r) live command reply
+    IsStep s base (replaced base r) live command reply × (has_commit rest ≡ false)
     × ((image : Image) → Keeps s (replaced base r) (live_of (change (fixed_of s) (shown_of s base live image) command reply)) rest)
 Does s base live command (Replaces r None ∷ rest) =
     ((image : Image) → shown_of s (replaced base r) live image ≡ shown_of s base live image)

@@ -1,8 +1,8 @@
 -- The turn breaks_down.
-use Rattle.std.proofs.Common.{◌≡◌, ◌∷◌, ◌<◌, ◌+◌, [], ℕ, length, length-append, None, Some, ap, arith, inl, inr, refl, subst, sym, ◌∙◌}
+use Rattle.std.proofs.Common.{◌≡◌, ◌∷◌, ◌<◌, ◌+◌, [], ℕ, length, length-append, None, Some, ap, arith, inl, inr, refl, subst, sym, ◌∙◌, List, ◌≢◌}
 use Rattle.volume_model.specs.declared.reply.Reply.TheVariants as r
 use Rattle.store_model.specs.Rows.{Answered, Decided, entry_of, InJob, Row}
-use Rattle.store_model.specs.StoreState.{Erasing, JobState, logged, pages_left_in, pages_left, StoreState, Writing}
+use Rattle.store_model.specs.StoreState.{JobState, logged, StoreState, turns_left}
 use Rattle.store_model.specs.Cases.BreakDown as case
 use Rattle.store_model.specs.Cases.BreakDown.{BreaksDown, IsUnlogged, WasLogged}
 use Rattle.store_model.specs.RunInvariant.{RunInvariant}
@@ -10,10 +10,11 @@ use Rattle.store_model.proofs.Known.{Known}
 use Rattle.store_model.proofs.Over.{Effect, halt, nothing, stays, TurnLaw}
 use Rattle.store_model.proofs.Progress.{clears, JobLaw, logs, no_job}
 use Rattle.store_model.proofs.Shapes.{Idles, untouched_images}
-use Rattle.store_model.proofs.Shaped.{decided_may, shaped_same, shaped_with}
+use Rattle.store_model.proofs.Shaped.{decided_may, shaped_same, shaped_with, waits_for_commit}
 use Rattle.store_model.proofs.JobKept.{no_other, none_here}
 use Rattle.store_model.proofs.StateKept.{log_kept, LogKept, runs_here}
 use Rattle.store_model.proofs.RowsKept.{way_kept}
+use Rattle.store_model.specs.Phases.{Phase}
 
 -- ---- it keeps what every state has
 
@@ -23,9 +24,9 @@ module _ (known : Known) (j : JobState) (is : known.p.job ≡ Some j) (at : ℕ)
   keeps_unlogged : (q : StoreState) → IsUnlogged p j at q → RunInvariant s first script q
   keeps_unlogged q t =
       let base : StoreState = record p { job = None } in
-      let now : StoreState = logged base j.channel t.command t.rest (r.Stopped at) p.device in
+      let now : StoreState = logged base t.channel t.command t.rest (r.Stopped at) p.device in
       let kept : LogKept known now =
-      log_kept known (Decided Answered) base j.channel t.command t.rest (r.Stopped at) p.device refl refl refl (ap (λ (row : Row). row.left) t.row) (omega arith) tt in
+      log_kept known (Decided Answered) base t.channel t.command t.rest (r.Stopped at) p.device refl refl refl (ap (λ (row : Row). row.left) t.row) (omega arith) tt in
       let low = facts.halted at stands in
       let done : RunInvariant s first script now =
       record {
@@ -35,12 +36,13 @@ module _ (known : Known) (j : JobState) (is : known.p.job ≡ Some j) (at : ℕ)
         legal = kept.legal;
         well = λ runs. absurd (runs_here known at runs stands);
         way = kept.way;
-        shaped = shaped_with p facts.shaped now j.channel _ refl (no_other known j is j.channel refl now) (decided_may now j.channel t.rest) (λ job written bad phase. absurd (cc bad));
+        shaped = shaped_with p facts.shaped now t.channel _ refl (no_other known j is t.channel (waits_for_commit j t.channel t.serves t.waits) now) (decided_may now t.channel t.rest)
+            (λ job c bad serves waits. absurd (cc bad));
         counted = kept.counted;
         past = kept.past;
         halted = λ n halts.
             let below = facts.halted n halts in
-            omega (arith, below, length-append p.log (entry_of p.log j.channel t.command (r.Stopped at) ∷ []));
+            omega (arith, below, length-append p.log (entry_of p.log t.channel t.command (r.Stopped at) ∷ []));
         unfinished = λ job bad. absurd (cc bad);
       } in
       subst (RunInvariant s first script) (sym t.next) done
@@ -56,7 +58,7 @@ module _ (known : Known) (j : JobState) (is : known.p.job ≡ Some j) (at : ℕ)
         legal = facts.legal;
         well = λ runs. absurd (runs_here known at runs stands);
         way = way_kept script p facts.way now refl (λ c. refl);
-        shaped = shaped_same p now facts.shaped refl (none_here known j t.erased is t.in_phase now) (λ job written bad phase. absurd (cc bad));
+        shaped = shaped_same p now facts.shaped refl (none_here known j is t.waits now) (λ job c bad serves waits. absurd (cc bad));
         counted = facts.counted;
         past = facts.past;
         halted = facts.halted;
@@ -67,32 +69,36 @@ module _ (known : Known) (j : JobState) (is : known.p.job ≡ Some j) (at : ℕ)
 -- ---- the job is done
 
 module _ (known : Known) (q : StoreState) (t : BreaksDown known.p q) where
-  less : q.job ≡ None → pages_left q.job < pages_left known.p.job
+  less : q.job ≡ None → turns_left q.job < turns_left known.p.job
   less none =
-      let some : 0 < pages_left_in t.job t.job.phase = known.facts.unfinished t.job t.is in
-      let before : pages_left known.p.job ≡ pages_left_in t.job t.job.phase = ap pages_left t.is in
-      let then : pages_left q.job ≡ 0 = ap pages_left none in
+      let before : turns_left known.p.job ≡ length t.job.todo = ap turns_left t.is in
+      let then : turns_left q.job ≡ 0 = ap turns_left none in
+      let some : 0 < length t.job.todo = some_left t.job.todo (known.facts.unfinished t.job t.is) in
       omega (arith, some, before, then)
+    where
+      some_left : (l : List Phase) → l ≢ [] → 0 < length l
+      some_left [] some = absurd (some refl)
+      some_left (x ∷ xs) some = omega arith
 
   job_law : JobLaw known.p q
   job_law = elim t.ends [
     | inl x ↦
         let none : q.job ≡ None = ap (λ (v : StoreState). v.job) x.next in
         record {
-          progress = logs x.written (record { job = t.job; is = t.is; in_phase = x.in_phase }) x.command x.rest x.row (ap (λ (v : StoreState). v.rows) x.next) (no_job q.job none);
+          progress = logs t.job t.is x.channel (waits_for_commit t.job x.channel x.serves x.waits) x.command x.rest x.row (ap (λ (v : StoreState). v.rows) x.next) (no_job q.job none);
           less = less none;
         }
     | inr x ↦
         let none : q.job ≡ None = ap (λ (v : StoreState). v.job) x.next in
         record {
-          progress = clears x.erased (record { job = t.job; is = t.is; in_phase = x.in_phase }) (ap (λ (v : StoreState). v.rows) x.next) (no_job q.job none);
+          progress = clears t.job t.is x.waits (ap (λ (v : StoreState). v.rows) x.next) (no_job q.job none);
           less = less none;
         }
   ]
 
 effect_of : (p q : StoreState) → BreaksDown p q → Effect p q
 effect_of p q t = elim t.ends [
-  | inl x ↦ subst (Effect p) (sym x.next) (record { goes = stays refl refl; logs = halt (entry_of p.log t.job.channel x.command (r.Stopped t.at)) t.at refl refl refl t.stands })
+  | inl x ↦ subst (Effect p) (sym x.next) (record { goes = stays refl refl; logs = halt (entry_of p.log x.channel x.command (r.Stopped t.at)) t.at refl refl refl t.stands })
   | inr x ↦ subst (Effect p) (sym x.next) (record { goes = stays refl refl; logs = nothing refl refl })
 ]
 
