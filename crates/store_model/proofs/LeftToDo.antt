@@ -211,7 +211,7 @@ may_fail s base live command [] does image = absurd does
 may_fail s base live command (Marks ∷ rest) does image = may_fail s base live command rest does image
 may_fail s base live command (Zeros page ∷ rest) does image = may_fail s base live command rest does image
 may_fail s base live command (Writes place ∷ rest) does image = may_fail s base live command rest does image
-may_fail s base live command (Replaces x (Some reply) ∷ rest) does image = does.0.may_fail image
+may_fail s base live command (Replaces x (Some commit) ∷ rest) does image = does.0.may_fail image
 may_fail s base live command (Replaces x None ∷ rest) does image =
     subst (λ (v : Volumes). Allowed (fixed_of s) v command r.Fault) (does.0 image) (may_fail s (replaced base x) live command rest does.1 image)
 may_fail s base live command (Erases place ∷ rest) does image = may_fail s base live command rest does image

@@ -35,7 +35,7 @@ use Rattle.store_model.specs.Rows.{InJob}
 use Rattle.store_model.specs.Roots.{CanBeWritten, IsRoot}
 use Rattle.store_model.specs.Inserting.{with_slot}
 use Rattle.store_model.specs.Places.{all_set, AreDistinct, AreLeastClear, IsMapped}
-use Rattle.store_model.specs.Phases.{Phase, Marks, Zeros, Writes, Replaces, Erases, Frees, Replacing, page_in, held_in, taken_by, taken_in, has_commit, replaced, rechained}
+use Rattle.store_model.specs.Phases.{Phase, Committing, with_live, Marks, Zeros, Writes, Replaces, Erases, Frees, Replacing, page_in, held_in, taken_by, taken_in, has_commit, replaced, rechained}
 use Rattle.store_model.specs.StoreState.{ForCommand, JobState, StoreState, live_of, shown}
 
 -- ---- what a command asks for
@@ -58,13 +58,14 @@ pub record AsksFor (p : StoreState) (command : Command) (head : ℕ) (new : Meta
   pub step : change (fixed_of p.super) (shown p) command r.Ok head ≡ Some after
   pub new_is : new ≡ record old { xattrs = after.synced }
 
--- The changes that a command asks for, and the reply of their commit: a verb that syncs has one replacement.
-pub record IsJobFor (p : StoreState) (command : Command) (changes : Changes) (reply : Reply) : Type 0 where
+-- The changes that a command asks for, and what their commit makes: a verb that syncs has one replacement, with which the blob's
+-- attributes are read as they are synced.
+pub record IsJobFor (p : StoreState) (command : Command) (changes : Changes) (commit : Committing) : Type 0 where
   pub head : ℕ
   pub new : Meta
   pub is : changes ≡ job_of_one head new
   pub asks : AsksFor p command head new
-  pub reply_is : reply ≡ r.Ok
+  pub commit_is : commit ≡ record { reply = r.Ok; live = Some new.xattrs }
 
 -- ---- how it is laid on pages
 
@@ -186,22 +187,24 @@ Keeps s base live (Replaces r commit ∷ rest) =
 Keeps s base live (_ ∷ rest) = Keeps s base live rest
 
 -- On whatever device, the command may be done with this reply, and may fail; then the metadata shows its step.
-pub record IsStep (s : Super) (base later : Metas) (live : Map Xattrs) (command : Command) (reply : Reply) : Type 0 where
-  pub done : IsChangeDone reply
-  pub allowed : (image : Image) → Allowed (fixed_of s) (shown_of s base live image) command reply
+pub record IsStep (s : Super) (base : Metas) (replacing : Replacing) (live : Map Xattrs) (command : Command) (commit : Committing) : Type 0 where
+  pub done : IsChangeDone commit.reply
+  pub allowed : (image : Image) → Allowed (fixed_of s) (shown_of s base live image) command commit.reply
   pub may_fail : (image : Image) → Allowed (fixed_of s) (shown_of s base live image) command r.Fault
   pub shows : (image : Image)
-      → shown_of s later (live_of (change (fixed_of s) (shown_of s base live image) command reply)) image
-      ≡ change (fixed_of s) (shown_of s base live image) command reply
+      → shown_of s (replaced base replacing) (live_of (change (fixed_of s) (shown_of s base live image) command commit.reply)) image
+      ≡ change (fixed_of s) (shown_of s base live image) command commit.reply
+  pub lives : (image : Image)
+      → live_of (change (fixed_of s) (shown_of s base live image) command commit.reply) ≡ with_live live replacing.head commit.live
   pub writable : (image : Image) (head : ℕ) (v : Volume)
-      → change (fixed_of s) (shown_of s base live image) command reply head ≡ Some v → CanBeWritten v.live
+      → change (fixed_of s) (shown_of s base live image) command commit.reply head ≡ Some v → CanBeWritten v.live
 
 -- The volumes are shown as they are up to the commit, and from it on as the command's step makes them.
 abbrev pub Does : Super → Metas → Map Xattrs → Command → List Phase → Type 0
 Does s base live command [] = ⊥
-Does s base live command (Replaces r (Some reply) ∷ rest) =
-    IsStep s base (replaced base r) live command reply × (has_commit rest ≡ false)
-    × ((image : Image) → Keeps s (replaced base r) (live_of (change (fixed_of s) (shown_of s base live image) command reply)) rest)
+Does s base live command (Replaces r (Some commit) ∷ rest) =
+    IsStep s base r live command commit × (has_commit rest ≡ false)
+    × ((image : Image) → Keeps s (replaced base r) (live_of (change (fixed_of s) (shown_of s base live image) command commit.reply)) rest)
 Does s base live command (Replaces r None ∷ rest) =
     ((image : Image) → shown_of s (replaced base r) live image ≡ shown_of s base live image)
     × Does s (replaced base r) live command rest

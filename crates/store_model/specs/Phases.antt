@@ -5,7 +5,8 @@ use Rattle.volume_model.specs.declared.reply.Reply.{Reply}
 use Rattle.blob_meta.specs.declared.meta.Meta.{Meta}
 use Rattle.md_chain.specs.Chain.{Look}
 use Rattle.md_chain.specs.declared.plan.PlannedPage.{PlannedPage}
-use Rattle.store_model.specs.Maps.{Metas, Chains}
+use Rattle.volume_model.specs.Xattrs.{Xattrs}
+use Rattle.store_model.specs.Maps.{Map, Metas, Chains, with_entry}
 
 -- The metadata of the blob at a head replaced by new metadata, or, where there is none, the blob erased, as it is laid on pages: the
 -- head's page is replaced in place, those behind it go to fresh places, and those that stood behind it are erased.
@@ -21,14 +22,19 @@ pub record Replacing : Type 0 where
   pub old : List ℕ
   pub freed : List ℕ
 
+-- What a commit makes: the reply that is logged with it, and the blob's attributes as they are read from then on, if they are others.
+pub record Committing : Type 0 where
+  pub reply : Reply
+  pub live : Option Xattrs
+
 -- One turn of a job. The super block says that the store is in use; a page of a claimed cluster is overwritten with zeros; a page of
--- the next chain goes to its fresh place; a head's page is replaced, which is the job's commit where a reply is to be logged with it;
+-- the next chain goes to its fresh place; a head's page is replaced, which may be the job's commit;
 -- an old page is overwritten with zeros; the last of them is, and behind a flush all are clear.
 pub data Phase : Type 0 where
   Marks : Phase
   Zeros : (page : ℕ) → Phase
   Writes : (place : ℕ) → Phase
-  Replaces : (replacing : Replacing) (commit : Option Reply) → Phase
+  Replaces : (replacing : Replacing) (commit : Option Committing) → Phase
   Erases : (place : ℕ) → Phase
   Frees : (place : ℕ) (old : List ℕ) → Phase
 
@@ -39,18 +45,18 @@ erasing old (place ∷ []) = Frees place old ∷ []
 erasing old (place ∷ next ∷ places) = Erases place ∷ erasing old (next ∷ places)
 
 -- one replacement: the fresh pages, the head, and the old pages
-abbrev pub phases_of : Replacing → Option Reply → List Phase
+abbrev pub phases_of : Replacing → Option Committing → List Phase
 phases_of r commit = map (λ place. Writes place) r.fresh ++ Replaces r commit ∷ erasing r.old r.old
 
--- all of a list, of which the one with this number, from 1, is the commit, with this reply
-abbrev pub todo_of : List Replacing → ℕ → Reply → List Phase
-todo_of [] number reply = []
-todo_of (r ∷ rs) number reply = phases_of r (if number == 1 then Some reply else None) ++ todo_of rs (number - 1) reply
+-- all of a list, of which the one with this number, from 1, is the commit
+abbrev pub todo_of : List Replacing → ℕ → Committing → List Phase
+todo_of [] number commit = []
+todo_of (r ∷ rs) number commit = phases_of r (if number == 1 then Some commit else None) ++ todo_of rs (number - 1) commit
 
 -- whether the commit is still to come
 abbrev pub has_commit : List Phase → Bool
 has_commit [] = false
-has_commit (Replaces r commit ∷ rest) = option_map_or (λ reply. true) commit (has_commit rest)
+has_commit (Replaces r commit ∷ rest) = option_map_or (λ x. true) commit (has_commit rest)
 has_commit (_ ∷ rest) = has_commit rest
 
 -- the next replacement
@@ -93,3 +99,8 @@ replaced base r head = if head == r.head then r.new else base head
 
 abbrev pub rechained : Chains → Replacing → Chains
 rechained chains r head = if head == r.head then option_map (λ m. r.head ∷ r.fresh) r.new else chains head
+
+-- the attributes as they are read behind a commit
+abbrev pub with_live : Map Xattrs → ℕ → Option Xattrs → Map Xattrs
+with_live live head None = live
+with_live live head (Some xattrs) = with_entry live head xattrs
