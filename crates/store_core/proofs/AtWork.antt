@@ -35,79 +35,170 @@ page_of (y ∷ ys) (suc k) x distinct is =
     let ne : x.place ≢ y.place = λ e. both_ways (is_among y.place (places_of ys)) distinct.0 (subst (λ q. is_among q (places_of ys) ≡ true) e among) in
     rw (ne_eqb x.place y.place ne) (page_of ys k x distinct.1 is)
 
-module _ (p : StoreState) (r : IsRunning p) (runs : p.stopped ≡ None) (j : JobState) (is : p.job ≡ Some j) where
+-- ---- places of a list
+
+pub got : {A : Type 0} (l : List A) (k : ℕ) (d : A) → k < length l → slice_get l k ≡ Some (get_or l k d)
+got [] k d lt = absurd (omega (arith, lt))
+got (x ∷ xs) zero d lt = refl
+got (x ∷ xs) (suc k) d lt = got xs k d (omega (arith, lt))
+
+pub drop_at : (l : List ℕ) (k x : ℕ) → slice_get l k ≡ Some x → drop k l ≡ x ∷ drop (suc k) l
+drop_at [] k x is = absurd (cc is)
+drop_at (y ∷ ys) zero x is = let e : y ≡ x = cc is in ap (λ n. n ∷ ys) e
+drop_at (y ∷ ys) (suc k) x is = drop_at ys k x is
+
+pub take_at : (l : List ℕ) (k x : ℕ) → slice_get l k ≡ Some x → take (suc k) l ≡ take k l ++ x ∷ []
+take_at [] k x is = absurd (cc is)
+take_at (y ∷ ys) zero x is = let e : y ≡ x = cc is in ap (λ n. n ∷ []) e
+take_at (y ∷ ys) (suc k) x is = ap (λ l. y ∷ l) (take_at ys k x is)
+
+pub drop_end : (l : List ℕ) → drop (length l) l ≡ []
+drop_end [] = refl
+drop_end (x ∷ xs) = drop_end xs
+
+take_drop : (k : ℕ) (l : List ℕ) → take k l ++ drop k l ≡ l
+take_drop zero l = refl
+take_drop (suc k) [] = refl
+take_drop (suc k) (x ∷ xs) = ap (λ t. x ∷ t) (take_drop k xs)
+
+-- ---- a job of which fresh pages are written
+
+module _ (p : StoreState) (r : IsRunning p) (runs : p.stopped ≡ None) where
   pub well : RunsWell r.first p
   well = r.facts.well runs
 
-  pub stands : JobStands p j
-  stands = well.job j is
-
   -- a place that is held is in use, and so of the region
-  held_low : (held : List ℕ) → held_by p.job ≡ held → (x : ℕ) → is_among x held ≡ true → x < p.super.md_len
-  held_low held e x among =
-      let in_use = well.pages.held_too x (subst (λ l. is_among x l ≡ true) (sym e) among) in
-      let low : x < length p.pages = within p.pages x in_use in
+  held_low : (x : ℕ) → is_among x (held_by p.job) ≡ true → x < p.super.md_len
+  held_low x among =
+      let low : x < length p.pages = within p.pages x (well.pages.held_too x among) in
       omega (arith, low, well.pages.count)
 
-  -- ---- before the commit
+  module _ (channel : ℕ) (planned : Planned) (old : List ℕ) (written : ℕ) (is : p.job ≡ Some (writing_job channel planned old written)) where
+    abbrev j : JobState
+    j = writing_job channel planned old written
 
-  module _ (written : ℕ) (phase : j.phase ≡ Writing written) where
-    pub served : (written ≤ length j.fresh) × IsServed p j × (p.chains j.head ≡ Some (j.head ∷ j.old))
-    served = served_by p j written stands phase
+    abbrev fresh : List ℕ
+    fresh = drop 1 planned.chain
 
-    held_fresh : held_by p.job ≡ j.fresh
-    held_fresh = ap held_by is ∙ rw phase refl
+    abbrev replacing : Replacing
+    replacing = replacing_of planned old
 
-    linked_head : IsLinked p.chains j.head
-    linked_head = record { head = j.head; pages = j.head ∷ j.old; chain = served.2; among = among_first j.head j.old }
+    -- what comes behind the fresh pages
+    abbrev pub behind : List Phase
+    behind = Replaces replacing (Some (commit_of planned)) ∷ erasing old old []
 
-    distinct : AreDistinct (places_of j.planned)
+    pub stands : JobStands p j
+    stands = well.job j is
+
+    lays : Lays p.super p.base p.chains [] fresh behind
+    lays = subst (λ w. Lays p.super p.base p.chains [] w behind) (take_drop written fresh) (lays_reached p.super p.base p.chains [] (take written fresh) (drop written fresh) behind stands.lays)
+
+    pub can : CanReplace p.super p.base p.chains [] fresh replacing
+    can = lays.0
+
+    pub waits : has_commit j.todo ≡ true
+    waits = commit_behind (drop written fresh) behind
+
+    pub served : IsServed p channel j.todo
+    served = stands.served channel refl waits
+
+    pub step : IsStep p.super p.base replacing p.live served.command (commit_of planned)
+    step = (does_reached p.super p.base p.live served.command (drop written fresh) behind served.does).0
+
+    held_fresh : (x : ℕ) → is_among x fresh ≡ true → is_among x (held_by p.job) ≡ true
+    held_fresh x among =
+        let held : held_by p.job ≡ fresh ++ taken_in (erasing old old []) = ap held_by is ∙ held_behind (drop written fresh) behind in
+        subst (λ l. is_among x l ≡ true) (sym held) (among_left x fresh (taken_in (erasing old old [])) among)
+
+    linked_head : IsLinked p.chains planned.head
+    linked_head = record { head = planned.head; pages = planned.head ∷ old; chain = can.chain; among = among_first planned.head old }
+
+    distinct : AreDistinct (places_of planned.pages)
     distinct =
-        let apart : is_among j.head j.fresh ≡ false = elim (cases_Bool (is_among j.head j.fresh)) [
-          | inl among ↦ absurd (well.pages.apart j.head (subst (λ l. is_among j.head l ≡ true) (sym held_fresh) among) linked_head)
+        let apart : is_among planned.head fresh ≡ false = elim (cases_Bool (is_among planned.head fresh)) [
+          | inl among ↦ absurd (well.pages.apart planned.head (held_fresh planned.head among) linked_head)
           | inr out ↦ out
         ] in
-        subst AreDistinct (sym stands.places) (apart, stands.fresh)
+        let differ : AreDistinct (fresh ++ taken_in (erasing old old [])) = subst AreDistinct (held_behind (drop written fresh) behind) stands.distinct in
+        subst AreDistinct (sym can.places) (apart, distinct_left fresh (taken_in (erasing old old [])) differ)
 
     -- the next fresh page
-    pub next_place : (k : ℕ) (x : PlannedPage) → slice_get j.planned (suc k) ≡ Some x → slice_get j.fresh k ≡ Some x.place
-    next_place k x at = sym (ap (λ l. slice_get l (suc k)) stands.places) ∙ place_of j.planned (suc k) x at
+    pub next_place : (k : ℕ) (x : PlannedPage) → slice_get planned.pages (suc k) ≡ Some x → slice_get fresh k ≡ Some x.place
+    next_place k x at = sym (ap (λ l. slice_get l (suc k)) can.places) ∙ place_of planned.pages (suc k) x at
 
-    pub next_page : (k : ℕ) (x : PlannedPage) → slice_get j.planned k ≡ Some x → planned_at j x.place ≡ x.page
-    next_page k x at = page_of j.planned k x distinct at
+    pub next_page : (k : ℕ) (x : PlannedPage) → slice_get planned.pages k ≡ Some x → planned_at j x.place ≡ x.page
+    next_page k x at = planned_behind (drop written fresh) behind x.place ∙ page_of planned.pages k x distinct at
 
-    pub next_low : (k : ℕ) (x : PlannedPage) → slice_get j.planned (suc k) ≡ Some x → x.place < p.super.md_len
-    next_low k x at = held_low j.fresh held_fresh x.place (among_at j.fresh k x.place (next_place k x at))
+    pub next_low : (k : ℕ) (x : PlannedPage) → slice_get planned.pages (suc k) ≡ Some x → x.place < p.super.md_len
+    next_low k x at = held_low x.place (held_fresh x.place (among_at fresh k x.place (next_place k x at)))
 
     -- the head's
-    head_place : (x : PlannedPage) → slice_get j.planned zero ≡ Some x → j.head ≡ x.place
-    head_place x at = let both = sym (ap (λ l. slice_get l zero) stands.places) ∙ place_of j.planned zero x at in cc both
+    pub head_page : (x : PlannedPage) → slice_get planned.pages zero ≡ Some x → page_in planned.pages planned.head ≡ x.page
+    head_page x at =
+        let here : planned.head ≡ x.place = let both = sym (ap (λ l. slice_get l zero) can.places) ∙ place_of planned.pages zero x at in cc both in
+        ap (page_in planned.pages) here ∙ page_of planned.pages zero x distinct at
 
-    pub head_page : (x : PlannedPage) → slice_get j.planned zero ≡ Some x → planned_at j j.head ≡ x.page
-    head_page x at = ap (planned_at j) (head_place x at) ∙ next_page zero x at
-
-    pub head_low : j.head < p.super.md_len
-    head_low = well.chains.low j.head j.head (j.head ∷ j.old) served.2 (among_first j.head j.old)
+    pub head_low : planned.head < p.super.md_len
+    head_low = well.chains.low planned.head planned.head (planned.head ∷ old) can.chain (among_first planned.head old)
 
     -- the plan has a page for the head, and one for each fresh place
-    pub pages_planned : length j.planned ≡ suc (length j.fresh)
-    pages_planned = sym (length_places j.planned) ∙ ap (λ (l : List ℕ). length l) stands.places
+    pub pages_planned : length planned.pages ≡ suc (length fresh)
+    pages_planned = sym (length_places planned.pages) ∙ ap (λ (l : List ℕ). length l) can.places
       where
         length_places : (plan : List PlannedPage) → length (places_of plan) ≡ length plan
         length_places [] = refl
         length_places (x ∷ xs) = ap suc (length_places xs)
 
-  -- ---- behind the commit
+    -- the blob has its metadata
+    pub has_meta : (m : Meta) × (p.base planned.head ≡ Some m)
+    has_meta = by (p.base planned.head) refl
+      where
+        by : (o : Option Meta) → p.base planned.head ≡ o → (m : Meta) × (p.base planned.head ≡ Some m)
+        by None none = absurd (let bad = sym (well.chains.none planned.head none) ∙ can.chain in cc bad)
+        by (Some m) some = (m, some)
 
-  module _ (erased : ℕ) (phase : j.phase ≡ Erasing erased) where
-    pub erasing : erased < length j.old
-    erasing = (erased_by p j erased stands phase).0
+  -- ---- a job behind its commit
 
-    pub held_old : held_by p.job ≡ j.old
-    held_old = ap held_by is ∙ rw phase refl
+  module _ (channel : ℕ) (old : List ℕ) (erased : ℕ) (is : p.job ≡ Some (erasing_job channel old erased)) where
+    -- an old page is left
+    pub some_erasing : erased < length old
+    some_erasing = elim (cases_lt erased (length old)) [
+      | inl lt ↦ lt
+      | inr ge ↦ absurd (r.facts.unfinished (erasing_job channel old erased) is (ap (λ l. erasing old l []) (drop_all old erased ge)))
+    ]
+      where
+        drop_all : (l : List ℕ) (k : ℕ) → length l ≤ k → drop k l ≡ []
+        drop_all [] zero le = refl
+        drop_all [] (suc k) le = refl
+        drop_all (x ∷ xs) zero le = absurd (omega (arith, le))
+        drop_all (x ∷ xs) (suc k) le = drop_all xs k (omega (arith, le))
 
-    pub old_low : (x : ℕ) → is_among x j.old ≡ true → x < p.super.md_len
-    old_low = held_low j.old held_old
+    -- what is left
+    pub one_more : (place : ℕ) → slice_get old erased ≡ Some place → erased + 1 < length old → (erasing_job channel old erased).todo ≡ Erases place ∷ (erasing_job channel old (suc erased)).todo
+    one_more place at more =
+        let next = get_or old (suc erased) 0 in
+        let got_next : slice_get old (suc erased) ≡ Some next = got old (suc erased) 0 (omega (arith, more)) in
+        ap (λ l. erasing old l []) (drop_at old erased place at ∙ ap (λ l. place ∷ l) (drop_at old (suc erased) next got_next))
+        ∙ ap (λ l. Erases place ∷ erasing old l []) (sym (drop_at old (suc erased) next got_next))
 
-    pub old_in_use : All (λ x. is_in p.pages x ≡ true) j.old
-    old_in_use k d low = well.pages.held_too (get_or j.old k d) (subst (λ l. is_among (get_or j.old k d) l ≡ true) (sym held_old) (among_get j.old k d low))
+    pub last_one : (place : ℕ) → slice_get old erased ≡ Some place → erased + 1 ≡ length old → (erasing_job channel old erased).todo ≡ Frees place old ∷ []
+    last_one place at last =
+        let none : drop (suc erased) old ≡ [] = ap (λ n. drop n old) (sym (add-one erased) ∙ last) ∙ drop_end old in
+        ap (λ l. erasing old l []) (drop_at old erased place at ∙ ap (λ l. place ∷ l) none)
+
+    pub waits_for_none : waiting (ForCommand channel) (erasing_job channel old erased).todo ≡ None
+    waits_for_none = ap (λ b. if b then Some channel else None) (no_commit old (drop erased old))
+
+    held_here : held_by p.job ≡ old
+    held_here = ap held_by is ∙ held_clearing old (drop erased old) (λ none. absurd (r.facts.unfinished (erasing_job channel old erased) is (ap (λ l. erasing old l []) none)))
+
+    pub old_low : (x : ℕ) → is_among x old ≡ true → x < p.super.md_len
+    old_low x among = held_low x (subst (λ l. is_among x l ≡ true) (sym held_here) among)
+
+    pub old_in_use : All (λ x. is_in p.pages x ≡ true) old
+    old_in_use k d low = well.pages.held_too (get_or old k d) (subst (λ l. is_among (get_or old k d) l ≡ true) (sym held_here) (among_get old k d low))
+
+    pub old_distinct : AreDistinct old
+    old_distinct =
+        let held : held_in (erasing_job channel old erased).todo ≡ old = sym (ap held_by is) ∙ held_here in
+        subst AreDistinct held (well.job (erasing_job channel old erased) is).distinct

@@ -15,34 +15,45 @@ use Rattle.store_core.specs.Steps.{logged_at}
 use Rattle.store_core.proofs.Entered.{disk_same, entered}
 use Rattle.store_core.proofs.Posting.{low_of}
 
--- a job whose command waits for its commit, in this channel
+-- a job that serves a command, which waits for its commit in this channel
 pub record WaitsIn (o : Option JobState) (channel : ℕ) : Type 0 where
   pub job : JobState
   pub is : o ≡ Some job
-  pub written : ℕ
-  pub in_phase : job.phase ≡ Writing written
-  pub channel_is : job.channel ≡ channel
+  pub serves : job.serves ≡ ForCommand channel
+  pub commit : has_commit job.todo ≡ true
 
-by_phase : (job : JobState) (phase : Phase) (channel : ℕ) → job.phase ≡ phase → waits_for_job job ≡ Some channel → WaitsIn (Some job) channel
-by_phase job (Writing written) channel is waits =
-    let here : waits_for_job job ≡ Some job.channel = ap (λ (p : Phase). waits_for_job (record job { phase = p })) is in
-    record { job = job; is = refl; written = written; in_phase = is; channel_is = let both : Some job.channel ≡ Some channel = sym here ∙ waits in cc both }
-by_phase job (Erasing erased) channel is waits =
-    let here : waits_for_job job ≡ None = ap (λ (p : Phase). waits_for_job (record job { phase = p })) is in
-    absurd (let bad : None ≡ Some channel = sym here ∙ waits in cc bad)
+-- the jobs that run serve commands
+abbrev ForCommands : Option JobState → Type 0
+ForCommands o = (job : JobState) → o ≡ Some job → (channel : ℕ) × (job.serves ≡ ForCommand channel)
 
-pub waits_in : (o : Option JobState) (channel : ℕ) → option_and_then waits_for_job o ≡ Some channel → WaitsIn o channel
-waits_in None channel waits = absurd (cc waits)
-waits_in (Some job) channel waits = by_phase job job.phase channel refl waits
+waits_by : (job : JobState) (here channel : ℕ) (commit : Bool) → job.serves ≡ ForCommand here → has_commit job.todo ≡ commit → waits_for_job job ≡ Some channel → WaitsIn (Some job) channel
+waits_by job here channel true serves commit waits =
+    let both : Some here ≡ Some channel = sym (waits_for_commit job here serves commit) ∙ waits in
+    let e : here ≡ channel = cc both in
+    record { job = job; is = refl; serves = serves ∙ ap (λ n. ForCommand n) e; commit = commit }
+waits_by job here channel false serves commit waits = absurd (let bad = sym (waits_no_more job here serves commit) ∙ waits in cc bad)
+
+pub waits_in : (o : Option JobState) (channel : ℕ) → ForCommands o → option_and_then waits_for_job o ≡ Some channel → WaitsIn o channel
+waits_in None channel all waits = absurd (cc waits)
+waits_in (Some job) channel all waits = let x = all job refl in waits_by job x.0 channel (has_commit job.todo) x.1 refl waits
+
+-- what is seen of a running job serves a command
+pub for_commands : (o : Option RunningJob) → ForCommands (option_map job_seen o)
+for_commands None job is = absurd (cc is)
+for_commands (Some j) job is = by j.work refl
+  where
+    by : (w : Work) → j.work ≡ w → (channel : ℕ) × (job.serves ≡ ForCommand channel)
+    by (work.Writing planned written) e = (j.channel, let same : job_seen j ≡ job = cc is in ap (λ (k : JobState). k.serves) (sym same ∙ (rw e refl)))
+    by (work.Erasing erased) e = (j.channel, let same : job_seen j ≡ job = cc is in ap (λ (k : JobState). k.serves) (sym same ∙ (rw e refl)))
 
 -- a stopped store with a job whose command waits in a channel
 module _ {D : Type 0} (d : Ghosts D) (p : StoreView D) (running : IsRunning (state_of d p)) (sixteen : length p.rows ≡ 16) (channel : ℕ)
-    (waits : option_and_then waits_for_job p.job ≡ Some channel) where
+    (all : ForCommands p.job) (waits : option_and_then waits_for_job p.job ≡ Some channel) where
   abbrev w : WaitsIn p.job channel
-  w = waits_in p.job channel waits
+  w = waits_in p.job channel all waits
 
   served : IsServedRow (rows_of p.rows channel)
-  served = subst (λ (k : ℕ). IsServedRow (rows_of p.rows k)) w.channel_is (running.facts.shaped.served w.job w.written w.is w.in_phase)
+  served = running.facts.shaped.served w.job channel w.is w.serves w.commit
 
   pub low : channel < 16
   low = low_of p.rows channel InJob sixteen (ap (λ (r : Row). r.stage) served.is) (λ e. cc e)
@@ -66,12 +77,13 @@ module _ {D : Type 0} (d : Ghosts D) (p : StoreView D) (running : IsRunning (sta
           at = at;
           stands = stands;
           ends = inl (record {
-            written = w.written;
-            in_phase = w.in_phase;
+            channel = channel;
+            serves = w.serves;
+            waits = w.commit;
             command = served.command;
             rest = served.rest;
-            row = subst (λ (k : ℕ). rows_of p.rows k ≡ record { left = served.command ∷ served.rest; stage = InJob; claim = None }) (sym w.channel_is) served.is;
-            next = subst (λ (k : ℕ). state_of d new ≡ logged (record (state_of d p) { job = None }) k served.command served.rest (Stopped at) (device_of d p.disk)) (sym w.channel_is) next;
+            row = served.is;
+            next = next;
           });
         },
         disk_same d (record p { job = None }) new channel served.command served.rest (Stopped at) below is,

@@ -201,26 +201,44 @@ module _ {D : Type 0} (d : Ghosts D) (p : StoreView D) (channel : ℕ) (low : ch
   pub row_is : (row : Row) → row ≡ slice_index_or p.rows channel row → row ≡ record { left = command ∷ rest; stage = Posted posted.serial; claim = None }
   row_is row is = is ∙ get_or_default p.rows channel row (record { left = []; stage = Ended; claim = None }) low ∙ posted.waits.row
 
-  pub begun : p.job ≡ None → (j : JobState) → j.channel ≡ channel → AsksFor s command j.head j.new → j.phase ≡ Writing 0 → s.chains j.head ≡ Some (j.head ∷ j.old)
-      → (after : List Bool) → IsReady s j.head j.new after j.planned j.fresh → (row : Row) → row ≡ in_job → Begins s (state_of d (record p { rows = slice_set p.rows channel row; pages = after; job = Some j }))
-  begun no_job j serves asks phase chain after is row row_now = record {
+  -- no cluster is freed or taken by a verb that syncs
+  moves_none : (head : ℕ) (new : Meta) → AsksFor s command head new → MovesClusters s.super s.base (with_entry s.base head new) [] []
+  moves_none head new asks = record {
+    kept = λ c is. inl (mapped_still s.base head asks.old new asks.after.synced asks.there asks.new_is c is);
+    let_go = λ c bad. absurd (cc bad);
+    gained = λ c is. inl (mapped_was s.base head asks.old new asks.after.synced asks.there asks.new_is c is);
+    filled = λ c bad. absurd (cc bad);
+  }
+
+  pub begun : p.job ≡ None → (planned : Planned) (old : List ℕ) → AsksFor s command planned.head planned.new → planned.live ≡ planned.new.xattrs → s.chains planned.head ≡ Some (planned.head ∷ old)
+      → (after : List Bool) → IsReady s planned.head planned.new after planned.pages (drop 1 planned.chain) → (row : Row) → row ≡ in_job
+      → Begins s (state_of d (record p { rows = slice_set p.rows channel row; pages = after; job = Some (writing_job channel planned old 0) }))
+  begun no_job planned old asks live chain after is row row_now = record {
     posted = is_posted;
     runs = runs;
     no_job = no_job;
-    job = j;
-    serves = serves;
-    asks = asks;
-    needs = is.needs;
-    least = is.least;
-    packed = is.packed;
-    planned = is.planned;
-    places = is.places;
-    chain = chain;
-    phase = phase;
+    changes = job_of_one planned.head planned.new;
+    commit = commit_of planned;
+    asked = record { head = planned.head; new = planned.new; is = refl; asks = asks; commit_is = ap (λ (xs : Xattrs). record { reply = r.Ok; live = Some xs }) live };
+    claimed = [];
+    clusters = tt;
+    one_each = refl;
+    list = replacing_of planned old ∷ [];
+    laid = (
+      record {
+        head = refl;
+        new = refl;
+        chain = chain;
+        planned = record { needs = is.needs; least = is.least; packed = is.packed; places = is.places; says = is.planned };
+        clusters = moves_none planned.head planned.new asks;
+      },
+      tt,
+    );
     next =
-        ap (λ (r : Row). state_of d (record p { rows = slice_set p.rows channel r; pages = after; job = Some j })) row_now
-        ∙ ap (λ (rows : Rows). record s { rows = rows; pages = after; job = Some j }) (rows_set p.rows channel in_job low)
-        ∙ ap (λ (bits : List Bool). record s { rows = with_row s.rows channel in_job; pages = bits; job = Some j }) is.taken;
+        ap (λ (r : Row). state_of d (record p { rows = slice_set p.rows channel r; pages = after; job = Some (writing_job channel planned old 0) })) row_now
+        ∙ ap (λ (rows : Rows). record s { rows = rows; pages = after; job = Some (writing_job channel planned old 0) }) (rows_set p.rows channel in_job low)
+        ∙ ap (λ (bits : List Bool). record s { rows = with_row s.rows channel in_job; pages = bits; job = Some (writing_job channel planned old 0) })
+        (is.taken ∙ ap (λ l. all_set p.pages l true) (sym (append-nil (drop 1 planned.chain))));
   }
 
   pub refused : (reply : Reply) → IsRefusedAtBegin s command reply → (after : List Bool) → after ≡ p.pages → (new : StoreView D)

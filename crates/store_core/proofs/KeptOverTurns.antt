@@ -65,10 +65,10 @@ module _ {D : Type 0} (d : Ghosts D) (laws : CrashLaws) (law : IsTrue d.tells �
       survives = λ one. turns.survives d (over one) kind made.0 made.1;
     }
 
-    pub leaves_here : HasOneImage d p.opening.disk → p.at.stopped ≡ None → (job : JobState) → p.at.job ≡ Some job → CallsLeaveOnly d p.at.disk q.disk (OldOrNew p.opening.super (map.get p.at.metas) (map.get p.at.chains) job)
+    pub leaves_here : HasOneImage d p.opening.disk → p.at.stopped ≡ None → (job : JobState) → p.at.job ≡ Some job → CallsLeaveOnly d p.at.disk q.disk (OldOrNew p.opening.super (map.get p.at.metas) (map.get p.at.chains) job.todo)
     unfolding over
     leaves_here one runs job is _ = turns.leaves_old_or_new d (over one) kind made.0 made.1 runs job is
 
   pub leaves_old_or_new : (p : WithOpening D) (q : StoreView D) (job : JobState) → StoreInvariant d p → TurnsJob d p.at q → HasOneImage d p.opening.disk → p.at.stopped ≡ None → p.at.job ≡ Some job
-      → CallsLeaveOnly d p.at.disk q.disk (OldOrNew p.opening.super (map.get p.at.metas) (map.get p.at.chains) job)
+      → CallsLeaveOnly d p.at.disk q.disk (OldOrNew p.opening.super (map.get p.at.metas) (map.get p.at.chains) job.todo)
   leaves_old_or_new p q job kept turn one runs is = leaves_here p q turn.kind kept turn.made one runs job is

@@ -60,7 +60,7 @@ pub record IsPrepared (chains : map.FinMap nat_cmp (List ℕ)) (head : ℕ) (met
 -- the job that begins with it
 abbrev pub first_job : Prepared → ℕ → ℕ → Meta → RunningJob
 first_job x channel head meta =
-    record { work = work.Writing (record { channel = channel; head = head; new = meta; live = x.live; chain = x.laid.chain; pages = x.laid.pages }) 0; old = x.old }
+    record { channel = channel; work = work.Writing (record { head = head; new = meta; live = x.live; chain = x.laid.chain; pages = x.laid.pages }) 0; old = x.old }
 
 -- a job of one replacement, which is its commit
 pub record ReplacesOne (job : Job) : Type 0 where

@@ -1,56 +1,135 @@
 -- What contracts see of the running job.
-use Rattle.std.specs.Prelude.{ℕ, ◌==◌, if◌then◌else◌, List, ◌∷◌, drop, refl, ◌≡◌}
-use Rattle.std.specs.Coded.{Coded, code_by, coded×, coded_ℕ, coded_list}
+use Rattle.std.specs.Prelude.{◌≡◌, ◌⊎◌, ℕ, ◌==◌, if◌then◌else◌, Bool, false, List, [], ◌∷◌, Option, None, Some, drop, take, refl, inl, inr}
+use Rattle.std.specs.Coded.{Coded, code_by, coded×, coded⊎, coded_ℕ, coded_bool, coded_list, coded_option}
+use Rattle.volume_model.specs.declared.reply.Reply.{Reply}
+use Rattle.volume_model.specs.declared.reply.Reply.TheVariants as r
+use Rattle.volume_model.specs.contracts.reply.Reply as reply
+use Rattle.volume_model.specs.contracts.text.Xattr as xattr
+use Rattle.volume_model.specs.declared.text.Xattr.{Xattr}
 use Rattle.blob_meta.specs.declared.meta.Meta.{Meta}
 use Rattle.blob_meta.specs.contracts.meta.Meta as meta
 use Rattle.md_chain.specs.declared.plan.PlannedPage.{PlannedPage}
 use Rattle.md_chain.specs.contracts.plan.PlannedPage as planned_page
-use Rattle.store_model.specs.StoreState.{JobState, Phase, Writing, Erasing}
+use Rattle.store_model.specs.Phases.{Committing, Phase, Marks, Zeros, Writes, Replaces, Erases, Frees, Replacing, writing, erasing}
+use Rattle.store_model.specs.StoreState.{JobState, Service, ForCommand, ForInsert, ForRepair}
 use Rattle.store_core.specs.declared.job.Planned.{Planned}
 use Rattle.store_core.specs.declared.job.RunningJob.{RunningJob}
 use Rattle.store_core.specs.declared.job.Work.{Work}
 use Rattle.store_core.specs.declared.job.Work.TheVariants as work
 
-abbrev pub phase_in : Phase → ℕ × ℕ
-phase_in (Writing n) = (0, n)
-phase_in (Erasing n) = (1, n)
+-- ---- what is planned, as the model has it
 
-abbrev pub phase_out : ℕ × ℕ → Phase
-phase_out p = if p.0 == 0 then Writing p.1 else Erasing p.1
+-- the replacement of a blob that is there, which leaves its clusters as they are
+abbrev pub replacing_of : Planned → List ℕ → Replacing
+replacing_of p old = record { head = p.head; new = Some p.new; makes = false; fresh = drop 1 p.chain; planned = p.pages; old = old; freed = [] }
 
-pub phase_back : (p : Phase) → phase_out (phase_in p) ≡ p
-phase_back (Writing n) = refl
-phase_back (Erasing n) = refl
+-- its commit, with which the attributes are read as they are synced
+abbrev pub commit_of : Planned → Committing
+commit_of p = record { reply = r.Ok; live = Some p.live }
 
-abbrev pub phase_code : Coded Phase
-phase_code = code_by (ℕ × ℕ) (coded× coded_ℕ coded_ℕ) phase_in phase_out phase_back
+-- a job of which so many fresh pages are written
+abbrev pub writing_job : ℕ → Planned → List ℕ → ℕ → JobState
+writing_job channel p old written = record {
+  serves = ForCommand channel;
+  freeze = None;
+  claimed = [];
+  written = take written (drop 1 p.chain);
+  todo = writing (drop written (drop 1 p.chain)) (Replaces (replacing_of p old) (Some (commit_of p)) ∷ erasing old old []);
+}
 
-abbrev pub job_code : Coded JobState
-job_code =
-    code_by (ℕ × (ℕ × (Meta × (List ℕ × (List PlannedPage × (List ℕ × Phase))))))
-    (coded× coded_ℕ (coded× coded_ℕ (coded× meta.the_row.coded (coded× (coded_list coded_ℕ) (coded× (coded_list planned_page.the_row.coded) (coded× (coded_list coded_ℕ) phase_code))))))
-    (λ j. (j.channel, (j.head, (j.new, (j.fresh, (j.planned, (j.old, j.phase)))))))
-    (λ p. record { channel = p.0; head = p.1.0; new = p.1.1.0; fresh = p.1.1.1.0; planned = p.1.1.1.1.0; old = p.1.1.1.1.1.0; phase = p.1.1.1.1.1.1 }) (λ _. refl)
-
--- what is planned, with the old places and the phase
-abbrev pub job_of : Planned → List ℕ → Phase → JobState
-job_of p old phase = record { channel = p.channel; head = p.head; new = p.new; fresh = drop 1 p.chain; planned = p.pages; old = old; phase = phase }
+-- a job behind its commit, of which so many old pages are overwritten
+abbrev pub erasing_job : ℕ → List ℕ → ℕ → JobState
+erasing_job channel old erased = record {
+  serves = ForCommand channel;
+  freeze = None;
+  claimed = [];
+  written = [];
+  todo = erasing old (drop erased old) [];
+}
 
 abbrev pub job_seen : RunningJob → JobState
 job_seen j = seen j.work
   where
     seen : Work → JobState
-    seen (work.Writing planned written) = job_of planned j.old (Writing written)
-    seen (work.Erasing did erased) = job_of did.value j.old (Erasing erased)
+    seen (work.Writing planned written) = writing_job j.channel planned j.old written
+    seen (work.Erasing erased) = erasing_job j.channel j.old erased
 
--- The chain that is to be written begins with its head, and the attributes are those of the new metadata.
-pub record IsMatched (p : Planned) : Type 0 where
-  pub chain : p.chain ≡ p.head ∷ drop 1 p.chain
-  pub live : p.live ≡ p.new.xattrs
+-- The chain that is to be written begins with its head.
+abbrev pub IsMatched : Planned → Type 0
+IsMatched p = p.chain ≡ p.head ∷ drop 1 p.chain
 
 abbrev pub IsHeaded : RunningJob → Type 0
 IsHeaded j = headed j.work
   where
     headed : Work → Type 0
     headed (work.Writing planned written) = IsMatched planned
-    headed (work.Erasing did erased) = Unit {0}
+    headed (work.Erasing erased) = Unit {0}
+
+-- ---- the codes by which contracts store it
+
+abbrev pub replacing_code : Coded Replacing
+replacing_code =
+    code_by (ℕ × (Option Meta × (Bool × (List ℕ × (List PlannedPage × (List ℕ × List ℕ))))))
+    (coded× coded_ℕ (coded× (coded_option meta.the_row.coded) (coded× coded_bool (coded× (coded_list coded_ℕ) (coded× (coded_list planned_page.the_row.coded) (coded× (coded_list coded_ℕ) (coded_list coded_ℕ)))))))
+    (λ x. (x.head, (x.new, (x.makes, (x.fresh, (x.planned, (x.old, x.freed)))))))
+    (λ p. record { head = p.0; new = p.1.0; makes = p.1.1.0; fresh = p.1.1.1.0; planned = p.1.1.1.1.0; old = p.1.1.1.1.1.0; freed = p.1.1.1.1.1.1 }) (λ _. refl)
+
+abbrev pub committing_code : Coded Committing
+committing_code =
+    code_by (Reply × Option (List Xattr)) (coded× reply.the_row.coded (coded_option (coded_list xattr.the_row.coded)))
+    (λ x. (x.reply, x.live)) (λ p. record { reply = p.0; live = p.1 }) (λ _. refl)
+
+-- a phase is one of these
+abbrev pub PhaseSum : Type 0
+PhaseSum = ℕ ⊎ (ℕ ⊎ (ℕ ⊎ ((Replacing × Option Committing) ⊎ (ℕ ⊎ (ℕ × List ℕ)))))
+
+abbrev pub phase_in : Phase → PhaseSum
+phase_in Marks = inl 0
+phase_in (Zeros page) = inr (inl page)
+phase_in (Writes place) = inr (inr (inl place))
+phase_in (Replaces replacing commit) = inr (inr (inr (inl (replacing, commit))))
+phase_in (Erases place) = inr (inr (inr (inr (inl place))))
+phase_in (Frees place old) = inr (inr (inr (inr (inr (place, old)))))
+
+abbrev pub phase_out : PhaseSum → Phase
+phase_out (inl n) = Marks
+phase_out (inr (inl page)) = Zeros page
+phase_out (inr (inr (inl place))) = Writes place
+phase_out (inr (inr (inr (inl p)))) = Replaces p.0 p.1
+phase_out (inr (inr (inr (inr (inl place))))) = Erases place
+phase_out (inr (inr (inr (inr (inr p))))) = Frees p.0 p.1
+
+pub phase_back : (p : Phase) → phase_out (phase_in p) ≡ p
+phase_back Marks = refl
+phase_back (Zeros page) = refl
+phase_back (Writes place) = refl
+phase_back (Replaces replacing commit) = refl
+phase_back (Erases place) = refl
+phase_back (Frees place old) = refl
+
+abbrev pub phase_code : Coded Phase
+phase_code =
+    code_by PhaseSum
+    (coded⊎ coded_ℕ (coded⊎ coded_ℕ (coded⊎ coded_ℕ (coded⊎ (coded× replacing_code (coded_option committing_code)) (coded⊎ coded_ℕ (coded× coded_ℕ (coded_list coded_ℕ)))))))
+    phase_in phase_out phase_back
+
+abbrev pub service_in : Service → ℕ × ℕ
+service_in (ForCommand channel) = (0, channel)
+service_in (ForInsert channel) = (1, channel)
+service_in ForRepair = (2, 0)
+
+abbrev pub service_out : ℕ × ℕ → Service
+service_out p = if p.0 == 0 then ForCommand p.1 else (if p.0 == 1 then ForInsert p.1 else ForRepair)
+
+pub service_back : (x : Service) → service_out (service_in x) ≡ x
+service_back (ForCommand channel) = refl
+service_back (ForInsert channel) = refl
+service_back ForRepair = refl
+
+abbrev pub job_code : Coded JobState
+job_code =
+    code_by ((ℕ × ℕ) × (Option ℕ × (List ℕ × (List ℕ × List Phase))))
+    (coded× (coded× coded_ℕ coded_ℕ) (coded× (coded_option coded_ℕ) (coded× (coded_list coded_ℕ) (coded× (coded_list coded_ℕ) (coded_list phase_code)))))
+    (λ j. (service_in j.serves, (j.freeze, (j.claimed, (j.written, j.todo)))))
+    (λ p. record { serves = service_out p.0; freeze = p.1.0; claimed = p.1.1.0; written = p.1.1.1.0; todo = p.1.1.1.1 })
+    (λ j. ap (λ x. record j { serves = x }) (service_back j.serves))

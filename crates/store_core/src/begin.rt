@@ -70,7 +70,6 @@ impl Prepared {
         ensures { result ≡ first_job self channel head new }
     {
         let planned = Planned {
-            channel,
             head,
             new,
             live: self.live,
@@ -78,6 +77,7 @@ impl Prepared {
             pages: self.laid.pages,
         };
         RunningJob {
+            channel,
             work: Work::Writing {
                 planned,
                 written: 0,

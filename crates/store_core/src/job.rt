@@ -7,14 +7,11 @@ ghost use Rattle.store_core.specs.Jobs.{job_seen};
 
 use blob_meta::Meta;
 use md_chain::Plan;
-use std::snapshot::Snapshot;
 use volume_model::{PlaceList, XattrList};
 
 /// What a job writes: new metadata of the blob at a head, as a chain of pages.
 #[derive(Drop)]
 pub(crate) struct Planned {
-    /// The channel whose command the job serves.
-    pub(crate) channel: u8,
     pub(crate) head: u32,
     pub(crate) new: Meta,
     /// The attributes of the new metadata once more, as they are read from the commit on.
@@ -24,7 +21,7 @@ pub(crate) struct Planned {
     pub(crate) pages: Plan,
 }
 
-/// How far a job has come. Once the head is written, what was planned is known to contracts alone, and takes no bytes.
+/// How far a job has come.
 #[derive(Drop)]
 pub(crate) enum Work {
     /// So many of the pages behind the head are written.
@@ -34,14 +31,14 @@ pub(crate) enum Work {
     },
     /// So many of the old pages are overwritten.
     Erasing {
-        did: Snapshot<Planned>,
         erased: usize,
     },
 }
 
-/// The running job, with the places that stood behind the head before it.
+/// The running job: the channel whose command it serves, and the places that stood behind the head before it.
 #[derive(Drop)]
 pub(crate) struct RunningJob {
+    pub(crate) channel: u8,
     pub(crate) work: Work,
     pub(crate) old: PlaceList,
 }
@@ -53,10 +50,11 @@ pub(crate) fn waiting_for(job: &Option<RunningJob>) -> Option<u8>
     match job {
         Some(
             RunningJob {
-                work: Work::Writing { planned, .. },
+                channel,
+                work: Work::Writing { .. },
                 ..
             },
-        ) => Some(planned.channel),
+        ) => Some(*channel),
         _ => None,
     }
 }

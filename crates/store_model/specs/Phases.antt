@@ -38,20 +38,25 @@ pub data Phase : Type 0 where
   Erases : (place : ℕ) → Phase
   Frees : (place : ℕ) (old : List ℕ) → Phase
 
--- the old places are erased one after another, and all are clear behind the last
-abbrev pub erasing : List ℕ → List ℕ → List Phase
-erasing old [] = []
-erasing old (place ∷ []) = Frees place old ∷ []
-erasing old (place ∷ next ∷ places) = Erases place ∷ erasing old (next ∷ places)
+-- pages go to these fresh places, and then come the others
+abbrev pub writing : List ℕ → List Phase → List Phase
+writing [] others = others
+writing (place ∷ places) others = Writes place ∷ writing places others
+
+-- these old places are erased one after another, and all old ones are clear behind the last; then come the others
+abbrev pub erasing : List ℕ → List ℕ → List Phase → List Phase
+erasing old [] others = others
+erasing old (place ∷ []) others = Frees place old ∷ others
+erasing old (place ∷ next ∷ places) others = Erases place ∷ erasing old (next ∷ places) others
 
 -- one replacement: the fresh pages, the head, and the old pages
-abbrev pub phases_of : Replacing → Option Committing → List Phase
-phases_of r commit = map (λ place. Writes place) r.fresh ++ Replaces r commit ∷ erasing r.old r.old
+abbrev pub phases_of : Replacing → Option Committing → List Phase → List Phase
+phases_of r commit others = writing r.fresh (Replaces r commit ∷ erasing r.old r.old others)
 
 -- all of a list, of which the one with this number, from 1, is the commit
 abbrev pub todo_of : List Replacing → ℕ → Committing → List Phase
 todo_of [] number commit = []
-todo_of (r ∷ rs) number commit = phases_of r (if number == 1 then Some commit else None) ++ todo_of rs (number - 1) commit
+todo_of (r ∷ rs) number commit = phases_of r (if number == 1 then Some commit else None) (todo_of rs (number - 1) commit)
 
 -- whether the commit is still to come
 abbrev pub has_commit : List Phase → Bool

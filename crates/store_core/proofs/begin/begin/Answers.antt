@@ -46,7 +46,8 @@ returns-in-Ok-Some-clause-began g c = λ _.
     let is : IsPrepared c.args.running.now.chains c.args.head c.args.new c.args.running.now.pages.bits c.prepare.new.pages.bits x =
     subst (λ (o : Option Prepared). IfSome o (IsPrepared c.args.running.now.chains c.args.head c.args.new c.args.running.now.pages.bits c.prepare.new.pages.bits)) c.in-Ok-Some.field-0-is c.in-Ok-Some.ensures.some in
     let row = row_is d p c.args.channel low posted c.requires.runs c.index_mut.result.now c.index_mut.ensures.value in
-    let begins = begun d p c.args.channel low posted c.requires.runs no_job (job_seen (first_job x c.args.channel c.args.head c.args.new)) refl asks refl is.behind c.prepare.new.pages.bits
+    let planned : Planned = record { head = c.args.head; new = c.args.new; live = x.live; chain = x.laid.chain; pages = x.laid.pages } in
+    let begins = begun d p c.args.channel low posted c.requires.runs no_job planned x.old asks is.live is.behind c.prepare.new.pages.bits
     (ready (state_of d p) c.requires.running c.requires.runs waits.command c.args.head c.args.new asks no_job c.args.running.now.chains c.prepare.new.pages.bits x is)
     c.serve.new.self (c.serve.ensures ∙ ap (λ (r : Row). record r { stage = InJob }) row) in (
       subst (λ (j : RunningJob). Begins (state_of d p) (state_of d (record p { rows = slice_set p.rows c.args.channel c.serve.new.self; pages = c.prepare.new.pages.bits; job = Some (job_seen j) }))) {x = first_job x c.args.channel c.args.head c.args.new} (sym c.job.ensures) begins,

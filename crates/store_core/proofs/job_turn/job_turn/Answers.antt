@@ -1,36 +1,48 @@
 use Rattle.std.proofs.Common.{◌≡◌, Option, Some, length, drop, refl, sym, ◌∙◌, ap, subst, arith}
 use Rattle.std.specs.Option.{option_map}
-use Rattle.store_model.specs.StoreState.{Writing, Erasing}
+use Rattle.store_model.specs.StoreState.{JobState}
 use Rattle.store_core.specs.declared.job.RunningJob.{RunningJob}
 use Rattle.store_core.specs.declared.job.Work.{Work}
-use Rattle.store_core.specs.Jobs.{job_of, job_seen}
+use Rattle.store_core.specs.Jobs.{commit_of, job_seen, replacing_of, writing_job}
 use Rattle.store_core.specs.JobTurns.{TurnsJob}
 use Rattle.store_core.specs.StoreInvariant.{IsRunning}
 use Rattle.store_core.specs.Running.{view_of}
 use Rattle.store_core.specs.StoreView.{state_of}
-use Rattle.store_core.proofs.AtWork.{erasing, pages_planned, served}
+use Rattle.store_core.proofs.AtWork.{pages_planned, some_erasing}
 use Rattle.store_core.proofs.job_turn.job_turn.Goals as goal
 
 -- what is seen of the job that was taken out
-seen_work : (o taken : Option RunningJob) (j : RunningJob) (w : Work) → taken ≡ o → taken ≡ Some j → j.work ≡ w → option_map job_seen o ≡ Some (job_seen (record { work = w; old = j.old }))
-seen_work o taken j w value is work = ap (λ x. option_map job_seen x) (sym value ∙ is) ∙ ap (λ v. Some (job_seen (record { work = v; old = j.old }))) work
+seen_work : (o taken : Option RunningJob) (j : RunningJob) (w : Work) → taken ≡ o → taken ≡ Some j → j.work ≡ w → option_map job_seen o ≡ Some (job_seen (record { channel = j.channel; work = w; old = j.old }))
+seen_work o taken j w value is work = ap (λ x. option_map job_seen x) (sym value ∙ is) ∙ ap (λ v. Some (job_seen (record { channel = j.channel; work = v; old = j.old }))) work
+
+-- all fresh pages are written
+all_written : (channel : ℕ) (planned : Planned) (old : List ℕ) (written : ℕ) → length (drop 1 planned.chain) ≤ written → writing_job channel planned old written ≡ writing_job channel planned old (length (drop 1 planned.chain))
+all_written channel planned old written le = ap (λ (x : List ℕ × List ℕ). at x.0 x.1) (past (drop 1 planned.chain) written le)
+  where
+    at : List ℕ → List ℕ → JobState
+    at done left = record (writing_job channel planned old written) { written = done; todo = writing left (Replaces (replacing_of planned old) (Some (commit_of planned)) ∷ erasing old old []) }
+
+    past : (l : List ℕ) (n : ℕ) → length l ≤ n → (take n l, drop n l) ≡ (take (length l) l, drop (length l) l)
+    past [] zero le = refl
+    past [] (suc n) le = refl
+    past (x ∷ xs) zero le = absurd (omega (arith, le))
+    past (x ∷ xs) (suc n) le = ap (λ (p : List ℕ × List ℕ). (x ∷ p.0, p.1)) (past xs n (omega (arith, le)))
 
 pub overflow_sub-fresh : goal.overflow_sub-fresh
 overflow_sub-fresh g c =
     let is = seen_work c.args.running.now.job c.take.result c.in-Some.field-0 _ c.take.ensures.value c.in-Some.is c.in-Writing.is in
-    let pages = pages_planned (state_of g.D.PageDisk (view_of c.args.running.now)) c.requires.running c.requires.not_stopped (job_of c.in-Writing.planned c.in-Some.field-0.old (Writing c.in-Writing.written)) is c.in-Writing.written refl in
+    let pages = pages_planned (state_of g.D.PageDisk (view_of c.args.running.now)) c.requires.running c.requires.not_stopped c.in-Some.field-0.channel c.in-Writing.planned c.in-Some.field-0.old c.in-Writing.written is in
     let len = c.len-fresh.ensures in
     omega (arith, pages, len)
 
 pub commit-requires-clause-at_work : goal.commit-requires-clause-at_work
 commit-requires-clause-at_work g c =
     let is = seen_work c.args.running.now.job c.take.result c.in-Some.field-0 _ c.take.ensures.value c.in-Some.is c.in-Writing.is in
-    let pages = pages_planned (state_of g.D.PageDisk (view_of c.args.running.now)) c.requires.running c.requires.not_stopped (job_of c.in-Writing.planned c.in-Some.field-0.old (Writing c.in-Writing.written)) is c.in-Writing.written refl in
-    let few = (served (state_of g.D.PageDisk (view_of c.args.running.now)) c.requires.running c.requires.not_stopped (job_of c.in-Writing.planned c.in-Some.field-0.old (Writing c.in-Writing.written)) is c.in-Writing.written refl).0 in
+    let pages = pages_planned (state_of g.D.PageDisk (view_of c.args.running.now)) c.requires.running c.requires.not_stopped c.in-Some.field-0.channel c.in-Writing.planned c.in-Some.field-0.old c.in-Writing.written is in
     let len = c.len-fresh.ensures in
     let none = c.if-written-fresh.false in
-    let all : c.in-Writing.written ≡ length (drop 1 c.in-Writing.planned.chain) = omega (arith, pages, few, len, none) in
-    let whole = is ∙ ap (λ n. Some (job_of c.in-Writing.planned c.in-Some.field-0.old (Writing n))) all in
+    let all : length (drop 1 c.in-Writing.planned.chain) ≤ c.in-Writing.written = omega (arith, pages, len, none) in
+    let whole = is ∙ ap (λ (j : JobState). Some j) (all_written c.in-Some.field-0.channel c.in-Writing.planned c.in-Some.field-0.old c.in-Writing.written all) in
     record {
       taken = ap (λ o. option_map job_seen o) c.take.ensures.after;
       not_stopped = c.requires.not_stopped;
@@ -40,14 +52,14 @@ commit-requires-clause-at_work g c =
 pub overflow_sub-last : goal.overflow_sub-last
 overflow_sub-last g c =
     let is = seen_work c.args.running.now.job c.take.result c.in-Some.field-0 _ c.take.ensures.value c.in-Some.is c.in-Erasing.is in
-    let some = erasing (state_of g.D.PageDisk (view_of c.args.running.now)) c.requires.running c.requires.not_stopped (job_of c.in-Erasing.did.value c.in-Some.field-0.old (Erasing c.in-Erasing.erased)) is c.in-Erasing.erased refl in
+    let some = some_erasing (state_of g.D.PageDisk (view_of c.args.running.now)) c.requires.running c.requires.not_stopped c.in-Some.field-0.channel c.in-Some.field-0.old c.in-Erasing.erased is in
     let len = c.len-last.ensures in
     omega (arith, some, len)
 
 pub free-requires-clause-last : goal.free-requires-clause-last
 free-requires-clause-last g c =
     let is = seen_work c.args.running.now.job c.take.result c.in-Some.field-0 _ c.take.ensures.value c.in-Some.is c.in-Erasing.is in
-    let some = erasing (state_of g.D.PageDisk (view_of c.args.running.now)) c.requires.running c.requires.not_stopped (job_of c.in-Erasing.did.value c.in-Some.field-0.old (Erasing c.in-Erasing.erased)) is c.in-Erasing.erased refl in
+    let some = some_erasing (state_of g.D.PageDisk (view_of c.args.running.now)) c.requires.running c.requires.not_stopped c.in-Some.field-0.channel c.in-Some.field-0.old c.in-Erasing.erased is in
     let len = c.len-last.ensures in
     let none = c.if-erased-last.false in
     omega (arith, some, len, none)
@@ -55,10 +67,9 @@ free-requires-clause-last g c =
 pub returns-else-written-fresh-clause-case : goal.returns-else-written-fresh-clause-case
 returns-else-written-fresh-clause-case g c =
     let is = seen_work c.args.running.now.job c.take.result c.in-Some.field-0 _ c.take.ensures.value c.in-Some.is c.in-Writing.is in
-    let pages = pages_planned (state_of g.D.PageDisk (view_of c.args.running.now)) c.requires.running c.requires.not_stopped (job_of c.in-Writing.planned c.in-Some.field-0.old (Writing c.in-Writing.written)) is c.in-Writing.written refl in
-    let few = (served (state_of g.D.PageDisk (view_of c.args.running.now)) c.requires.running c.requires.not_stopped (job_of c.in-Writing.planned c.in-Some.field-0.old (Writing c.in-Writing.written)) is c.in-Writing.written refl).0 in
+    let pages = pages_planned (state_of g.D.PageDisk (view_of c.args.running.now)) c.requires.running c.requires.not_stopped c.in-Some.field-0.channel c.in-Writing.planned c.in-Some.field-0.old c.in-Writing.written is in
     let len = c.len-fresh.ensures in
     let none = c.if-written-fresh.false in
-    let all : c.in-Writing.written ≡ length (drop 1 c.in-Writing.planned.chain) = omega (arith, pages, few, len, none) in
-    let whole = is ∙ ap (λ n. Some (job_of c.in-Writing.planned c.in-Some.field-0.old (Writing n))) all in
+    let all : length (drop 1 c.in-Writing.planned.chain) ≤ c.in-Writing.written = omega (arith, pages, len, none) in
+    let whole = is ∙ ap (λ (j : JobState). Some j) (all_written c.in-Some.field-0.channel c.in-Writing.planned c.in-Some.field-0.old c.in-Writing.written all) in
     subst (λ k. TurnsJob g.D.PageDisk (record (view_of c.args.running.now) { job = k }) (view_of c.commit.new.running)) (sym whole) c.commit.ensures.case
