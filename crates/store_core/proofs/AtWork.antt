@@ -1,22 +1,32 @@
 -- What is known of the running job: the pages of its plan, and its places.
-use Rattle.std.proofs.Common.{◌≡◌, ◌≢◌, ℕ, zero, suc, ◌<◌, ◌≤◌, true, false, All, List, [], ◌∷◌, length, get_or, Some, None, refl, sym, ◌∙◌, ap, subst, arith, inl, inr}
+use Rattle.std.proofs.Common.{◌≡◌, ◌≢◌, ℕ, zero, suc, ◌<◌, ◌≤◌, true, false, All, List, [], ◌∷◌, length, get_or, Some, None, refl, sym, ◌∙◌, ap, subst, arith, inl, inr, drop, take, ◌++◌, ◌+◌, Option, add-one}
 use Rattle.std.specs.Prelude.{slice_get}
-use Rattle.std.proofs.lemmas.Bool.{cases_Bool, both_ways, eq-eqb, ne_eqb}
+use Rattle.std.proofs.lemmas.Bool.{cases_Bool, both_ways, eq-eqb, ne_eqb, cases_lt}
 use Rattle.bit_array.specs.Bits.{is_in}
 use Rattle.md_chain.specs.Chain.{is_among}
 use Rattle.md_chain.specs.declared.plan.PlannedPage.{PlannedPage}
-use Rattle.store_model.specs.StoreState.{JobState, Writing, Erasing, StoreState, page_in, planned_at}
+use Rattle.store_model.specs.StoreState.{JobState, StoreState, planned_at, waiting, ForCommand}
 use Rattle.store_model.specs.Places.{held_by, AreDistinct, IsLinked}
-use Rattle.store_model.specs.Jobs.{places_of, IsServed, JobStands}
+use Rattle.store_model.specs.Jobs.{places_of, IsServed, JobStands, CanReplace, IsStep, Lays}
 use Rattle.store_model.specs.RunInvariant.{RunsWell}
-use Rattle.store_model.proofs.JobKept.{among_at}
-use Rattle.store_model.proofs.Moved.{served_by, erased_by}
-use Rattle.store_model.proofs.Sets.{among_first}
+use Rattle.store_model.proofs.Sets.{among_first, among_later}
 use Rattle.store_model.proofs.Used.{within}
 use Rattle.store_core.specs.StoreInvariant.{IsRunning}
 use Rattle.store_core.proofs.Cleared.{among_get}
+use Rattle.store_core.specs.declared.job.Planned.{Planned}
+use Rattle.store_core.specs.Jobs.{erasing_job, writing_job, commit_of, replacing_of}
+use Rattle.store_model.specs.Phases.{page_in, held_in, Erases, Frees, Phase, Replacing, erasing, has_commit, taken_in, Replaces}
+use Rattle.store_model.proofs.Phases.{held_clearing, planned_behind, commit_behind, held_behind, lays_reached, does_reached, no_commit}
+use Rattle.blob_meta.specs.declared.meta.Meta.{Meta}
+use Rattle.store_model.proofs.LeftToDo.{among_left, distinct_left}
+use Rattle.std.specs.Prelude.{if◌then◌else◌}
 
 -- ---- the pages of a plan
+
+pub among_at : (ps : List ℕ) (k place : ℕ) → slice_get ps k ≡ Some place → is_among place ps ≡ true
+among_at [] k place is = absurd (cc is)
+among_at (p ∷ ps) zero place is = let e : p ≡ place = cc is in subst (λ x. is_among x (p ∷ ps) ≡ true) e (among_first p ps)
+among_at (p ∷ ps) (suc k) place is = among_later place p ps (among_at ps k place is)
 
 place_of : (plan : List PlannedPage) (k : ℕ) (x : PlannedPage) → slice_get plan k ≡ Some x → slice_get (places_of plan) k ≡ Some x.place
 place_of [] k x is = absurd (cc is)
@@ -42,15 +52,15 @@ got [] k d lt = absurd (omega (arith, lt))
 got (x ∷ xs) zero d lt = refl
 got (x ∷ xs) (suc k) d lt = got xs k d (omega (arith, lt))
 
-pub drop_at : (l : List ℕ) (k x : ℕ) → slice_get l k ≡ Some x → drop k l ≡ x ∷ drop (suc k) l
-drop_at [] k x is = absurd (cc is)
-drop_at (y ∷ ys) zero x is = let e : y ≡ x = cc is in ap (λ n. n ∷ ys) e
-drop_at (y ∷ ys) (suc k) x is = drop_at ys k x is
+pub drop_one : (l : List ℕ) (k x : ℕ) → slice_get l k ≡ Some x → drop k l ≡ x ∷ drop (suc k) l
+drop_one [] k x is = absurd (cc is)
+drop_one (y ∷ ys) zero x is = let e : y ≡ x = cc is in ap (λ n. n ∷ ys) e
+drop_one (y ∷ ys) (suc k) x is = drop_one ys k x is
 
-pub take_at : (l : List ℕ) (k x : ℕ) → slice_get l k ≡ Some x → take (suc k) l ≡ take k l ++ x ∷ []
-take_at [] k x is = absurd (cc is)
-take_at (y ∷ ys) zero x is = let e : y ≡ x = cc is in ap (λ n. n ∷ []) e
-take_at (y ∷ ys) (suc k) x is = ap (λ l. y ∷ l) (take_at ys k x is)
+pub take_one : (l : List ℕ) (k x : ℕ) → slice_get l k ≡ Some x → take (suc k) l ≡ take k l ++ x ∷ []
+take_one [] k x is = absurd (cc is)
+take_one (y ∷ ys) zero x is = let e : y ≡ x = cc is in ap (λ n. n ∷ []) e
+take_one (y ∷ ys) (suc k) x is = ap (λ l. y ∷ l) (take_one ys k x is)
 
 pub drop_end : (l : List ℕ) → drop (length l) l ≡ []
 drop_end [] = refl
@@ -178,13 +188,13 @@ module _ (p : StoreState) (r : IsRunning p) (runs : p.stopped ≡ None) where
     one_more place at more =
         let next = get_or old (suc erased) 0 in
         let got_next : slice_get old (suc erased) ≡ Some next = got old (suc erased) 0 (omega (arith, more)) in
-        ap (λ l. erasing old l []) (drop_at old erased place at ∙ ap (λ l. place ∷ l) (drop_at old (suc erased) next got_next))
-        ∙ ap (λ l. Erases place ∷ erasing old l []) (sym (drop_at old (suc erased) next got_next))
+        ap (λ l. erasing old l []) (drop_one old erased place at ∙ ap (λ l. place ∷ l) (drop_one old (suc erased) next got_next))
+        ∙ ap (λ l. Erases place ∷ erasing old l []) (sym (drop_one old (suc erased) next got_next))
 
     pub last_one : (place : ℕ) → slice_get old erased ≡ Some place → erased + 1 ≡ length old → (erasing_job channel old erased).todo ≡ Frees place old ∷ []
     last_one place at last =
         let none : drop (suc erased) old ≡ [] = ap (λ n. drop n old) (sym (add-one erased) ∙ last) ∙ drop_end old in
-        ap (λ l. erasing old l []) (drop_at old erased place at ∙ ap (λ l. place ∷ l) none)
+        ap (λ l. erasing old l []) (drop_one old erased place at ∙ ap (λ l. place ∷ l) none)
 
     pub waits_for_none : waiting (ForCommand channel) (erasing_job channel old erased).todo ≡ None
     waits_for_none = ap (λ b. if b then Some channel else None) (no_commit old (drop erased old))

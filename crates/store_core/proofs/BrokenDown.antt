@@ -1,11 +1,11 @@
 -- The end of a job on a stopped store.
-use Rattle.std.proofs.Common.{◌≡◌, ℕ, ◌<◌, List, ◌∷◌, length, Option, Some, None, refl, sym, ◌∙◌, ap, subst, inl, arith}
+use Rattle.std.proofs.Common.{false, ◌≡◌, ℕ, ◌<◌, List, ◌∷◌, length, Option, Some, None, refl, sym, ◌∙◌, ap, subst, inl, arith, Bool, option_map, true}
 use Rattle.std.specs.Option.{option_and_then}
 use Rattle.page_disk.specs.declared.disk.PageDisk.{Ghosts}
 use Rattle.volume_model.specs.declared.command.Command.{Command}
 use Rattle.volume_model.specs.declared.reply.Reply.TheVariants.{Stopped}
 use Rattle.store_model.specs.Rows.{Ended, InJob, Row}
-use Rattle.store_model.specs.StoreState.{Erasing, JobState, logged, Phase, StoreState, Writing}
+use Rattle.store_model.specs.StoreState.{JobState, logged, StoreState, ForCommand}
 use Rattle.store_model.specs.RunInvariant.{IsServedRow}
 use Rattle.store_model.specs.Cases.{BreaksDown}
 use Rattle.store_core.specs.JobTurns.{waits_for_job}
@@ -14,6 +14,12 @@ use Rattle.store_core.specs.StoreView.{StoreView, device_of, rows_of, state_of}
 use Rattle.store_core.specs.Steps.{logged_at}
 use Rattle.store_core.proofs.Entered.{disk_same, entered}
 use Rattle.store_core.proofs.Posting.{low_of}
+use Rattle.store_core.specs.declared.job.RunningJob.{RunningJob}
+use Rattle.store_model.specs.Phases.{has_commit}
+use Rattle.store_model.proofs.Shaped.{waits_for_commit, waits_no_more}
+use Rattle.store_core.specs.Jobs.{job_seen}
+use Rattle.store_core.specs.declared.job.Work.{Work}
+use Rattle.store_core.specs.declared.job.Work.TheVariants as work
 
 -- a job that serves a command, which waits for its commit in this channel
 pub record WaitsIn (o : Option JobState) (channel : ℕ) : Type 0 where
@@ -40,11 +46,11 @@ waits_in (Some job) channel all waits = let x = all job refl in waits_by job x.0
 -- what is seen of a running job serves a command
 pub for_commands : (o : Option RunningJob) → ForCommands (option_map job_seen o)
 for_commands None job is = absurd (cc is)
-for_commands (Some j) job is = by j.work refl
+for_commands (Some j) job is = let same : job_seen j ≡ job = cc is in (j.channel, ap (λ (k : JobState). k.serves) (sym same) ∙ by j.work refl)
   where
-    by : (w : Work) → j.work ≡ w → (channel : ℕ) × (job.serves ≡ ForCommand channel)
-    by (work.Writing planned written) e = (j.channel, let same : job_seen j ≡ job = cc is in ap (λ (k : JobState). k.serves) (sym same ∙ (rw e refl)))
-    by (work.Erasing erased) e = (j.channel, let same : job_seen j ≡ job = cc is in ap (λ (k : JobState). k.serves) (sym same ∙ (rw e refl)))
+    by : (w : Work) → j.work ≡ w → (job_seen j).serves ≡ ForCommand j.channel
+    by (work.Writing planned written) e = rw e refl
+    by (work.Erasing erased) e = rw e refl
 
 -- a stopped store with a job whose command waits in a channel
 module _ {D : Type 0} (d : Ghosts D) (p : StoreView D) (running : IsRunning (state_of d p)) (sixteen : length p.rows ≡ 16) (channel : ℕ)

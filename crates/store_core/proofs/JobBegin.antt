@@ -1,5 +1,5 @@
 -- What a job is made of before it begins.
-use Rattle.std.proofs.Common.{◌≡◌, ℕ, suc, ◌+◌, ◌<◌, ◌^◌, Bool, true, false, List, [], ◌∷◌, length, get_or, drop, nat_eq, All, Some, None, refl, sym, ◌∙◌, ap, subst, arith, inl, inr}
+use Rattle.std.proofs.Common.{◌≡◌, ℕ, suc, ◌+◌, ◌<◌, ◌^◌, Bool, true, false, List, [], ◌∷◌, length, get_or, drop, nat_eq, All, Some, None, refl, sym, ◌∙◌, ap, subst, arith, inl, inr, append-nil}
 use Rattle.std.specs.List.{AllByRecursion, IsDistinct}
 use Rattle.std.specs.Ordering.{nat_cmp}
 use Rattle.std.specs.FinMap as map
@@ -28,9 +28,9 @@ use Rattle.md_chain.proofs.Saying.{written_say}
 use Rattle.store_model.specs.Regions.{region_of}
 use Rattle.store_model.specs.Scans.{MetaAt}
 use Rattle.store_model.specs.Rows.{with_row, Ended, InJob, Posted, Row, Rows}
-use Rattle.store_model.specs.StoreState.{JobState, StoreState, Writing, logged, page_in}
+use Rattle.store_model.specs.StoreState.{JobState, StoreState, logged}
 use Rattle.store_model.specs.Places.{all_set, held_by, AreDistinct, AreLeastClear, IsLinked, UsedPages}
-use Rattle.store_model.specs.Jobs.{places_of, AsksFor, IsPacked, IsSyncing, Needs}
+use Rattle.store_model.specs.Jobs.{places_of, AsksFor, IsPacked, IsSyncing, Needs, MovesClusters}
 use Rattle.store_model.specs.Cases.{Begins, IsPosted, IsRefusedAtBegin, Refuses}
 use Rattle.store_model.specs.RunInvariant.{CanBeWritten, IsRoot, RunsWell}
 use Rattle.store_model.proofs.StateBegins.{writable_root}
@@ -40,11 +40,17 @@ use Rattle.store_core.specs.StoreInvariant.{IsRunning}
 use Rattle.store_core.specs.StoreView.{StoreView, device_of, rows_of, state_of}
 use Rattle.store_core.specs.Steps.{logged_at, IsPostedAt}
 use Rattle.store_core.specs.declared.begin.Prepared.{Prepared}
-use Rattle.store_core.proofs.AtWork.{page_of}
+use Rattle.store_core.proofs.AtWork.{page_of, got}
 use Rattle.store_core.proofs.Cleared.{among_get}
 use Rattle.store_core.proofs.Entered.{disk_same, entered}
-use Rattle.store_core.proofs.JobTurned.{got}
 use Rattle.store_core.proofs.Rowing.{rows_set}
+use Rattle.store_core.specs.declared.job.Planned.{Planned}
+use Rattle.store_model.specs.Phases.{page_in}
+use Rattle.store_model.specs.Maps.{with_entry}
+use Rattle.store_core.specs.Jobs.{writing_job, commit_of, replacing_of}
+use Rattle.blob_meta.specs.Jobs.{job_of_one}
+use Rattle.store_model.proofs.Replaced.{mapped_still, mapped_was}
+use Rattle.volume_model.specs.declared.reply.Reply.TheVariants as r
 
 -- ---- places that are taken, and clear again
 

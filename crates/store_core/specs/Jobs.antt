@@ -1,5 +1,5 @@
 -- What contracts see of the running job.
-use Rattle.std.specs.Prelude.{◌≡◌, ◌⊎◌, ℕ, ◌==◌, if◌then◌else◌, Bool, false, List, [], ◌∷◌, Option, None, Some, drop, take, refl, inl, inr}
+use Rattle.std.specs.Prelude.{◌≡◌, ◌⊎◌, ℕ, ◌==◌, if◌then◌else◌, Bool, false, List, [], ◌∷◌, Option, None, Some, drop, take, refl}
 use Rattle.std.specs.Coded.{Coded, code_by, coded×, coded⊎, coded_ℕ, coded_bool, coded_list, coded_option}
 use Rattle.volume_model.specs.declared.reply.Reply.{Reply}
 use Rattle.volume_model.specs.declared.reply.Reply.TheVariants as r
@@ -16,6 +16,7 @@ use Rattle.store_core.specs.declared.job.Planned.{Planned}
 use Rattle.store_core.specs.declared.job.RunningJob.{RunningJob}
 use Rattle.store_core.specs.declared.job.Work.{Work}
 use Rattle.store_core.specs.declared.job.Work.TheVariants as work
+use Rattle.std.proofs.Common.{ap, inl, inr}
 
 -- ---- what is planned, as the model has it
 

@@ -47,14 +47,11 @@ pub(crate) struct RunningJob {
 pub(crate) fn waiting_for(job: &Option<RunningJob>) -> Option<u8>
     ensures { result ≡ option_and_then waits_for_job (option_map job_seen job.now) }
 {
-    match job {
-        Some(
-            RunningJob {
-                channel,
-                work: Work::Writing { .. },
-                ..
-            },
-        ) => Some(*channel),
-        _ => None,
+    let Some(running) = job else {
+        return None;
+    };
+    match &running.work {
+        Work::Writing { .. } => Some(running.channel),
+        Work::Erasing { .. } => None,
     }
 }

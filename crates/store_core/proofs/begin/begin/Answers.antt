@@ -14,6 +14,7 @@ use Rattle.store_core.specs.StoreView.{state_of}
 use Rattle.store_core.specs.declared.job.RunningJob.{RunningJob}
 use Rattle.store_core.proofs.JobBegin.{all_fit, begun, has_chain, may_lack, ready, refused, root, row_is}
 use Rattle.store_core.proofs.begin.begin.Goals as goal
+use Rattle.store_core.specs.declared.job.Planned.{Planned}
 
 pub prepare-requires-clause-chain : goal.prepare-requires-clause-chain
 prepare-requires-clause-chain g c =

@@ -3,7 +3,7 @@ use Rattle.std.specs.Option.{option_and_then}
 use Rattle.store_core.specs.Running.{view_of}
 use Rattle.store_core.specs.StoreView.{StoreView}
 use Rattle.store_core.specs.JobTurns.{waits_for_job}
-use Rattle.store_core.proofs.BrokenDown.{broken_down, low, some_left, stopped_still}
+use Rattle.store_core.proofs.BrokenDown.{broken_down, low, some_left, stopped_still, for_commands}
 use Rattle.store_core.proofs.job_turn.break_down.Goals as goal
 
 pub log-requires-clause-channel : goal.log-requires-clause-channel

@@ -2,18 +2,17 @@ use Rattle.std.proofs.Common.{◌≡◌, ℕ, ◌+◌, ◌≤◌, ◌<◌, [], L
 use Rattle.page_disk.specs.Moments.{IsReplaced, CallsLeaveOnly}
 use Rattle.md_chain.specs.declared.plan.PlannedPage.{PlannedPage}
 use Rattle.store_model.specs.Rows.{Row}
-use Rattle.store_model.specs.StoreState.{Writing, Erasing}
 use Rattle.store_model.specs.Cases.{WritesOnePage}
-use Rattle.store_core.specs.Jobs.{job_of}
 use Rattle.store_core.specs.JobTurns.{answer_of, with_job, TurnsJob}
 use Rattle.store_core.specs.declared.job.Planned.{Planned}
 use Rattle.store_core.specs.declared.job_turn.JobTurn.TheVariants as turn
 use Rattle.store_core.specs.Running.{view_of, InOrder}
 use Rattle.store_core.specs.StoreView.{device_of, rows_of}
-use Rattle.store_core.proofs.JobTurned.{channel_low, got, on_err, on_ok, planned_some, row_some}
+use Rattle.store_core.proofs.JobTurned.{channel_low, on_err, on_ok, planned_some, row_some}
 use Rattle.store_core.proofs.JobCommitted.{chain_there, committed_done, committed_more, done_answer, failed_committing, head_below, live_there, meta_there, more_answer}
 use Rattle.store_core.proofs.Maps.{heads_stay}
 use Rattle.store_core.proofs.job_turn.commit.Goals as goal
+use Rattle.store_core.proofs.AtWork.{got}
 
 -- the head's page of the plan
 abbrev first : List PlannedPage → PlannedPage

@@ -2,13 +2,12 @@ use Rattle.std.proofs.Common.{◌<◌, ◌+◌, ℕ, List, length, get_or, refl,
 use Rattle.page_disk.specs.Disk.{Written}
 use Rattle.page_disk.specs.Moments.{CallsLeaveOnly}
 use Rattle.page_disk.specs.declared.disk.WriteKind.TheVariants.{Plain}
-use Rattle.store_model.specs.StoreState.{Erasing}
 use Rattle.store_model.specs.Cases.{WritesOnePage}
-use Rattle.store_core.specs.Jobs.{job_of}
 use Rattle.store_core.specs.Running.{view_of}
 use Rattle.store_core.specs.StoreView.{device_of}
-use Rattle.store_core.proofs.JobTurned.{broke_off, erased_one, got, old_below, on_err, on_ok, zeros}
+use Rattle.store_core.proofs.JobTurned.{broke_off, erased_one, old_below, on_err, on_ok, zeros, broke_erasing}
 use Rattle.store_core.proofs.job_turn.erase.Goals as goal
+use Rattle.store_core.proofs.AtWork.{got}
 
 pub write_one-requires : goal.write_one-requires
 write_one-requires g c =
@@ -26,6 +25,7 @@ returns-then-is_err-clause-case g c =
     broke_erasing g.D.PageDisk (view_of c.args.running.now) c.args.channel c.args.old c.args.erased c.requires.at_work c.write_one.new.disk (get_or c.args.old c.args.erased 0) c.page_at-page.result
     (c.page_at-page.ensures ∙ ap (λ x. c.args.running.now.sup.md_start + x) same) (got c.args.old c.args.erased 0 low)
     (subst (λ page. CallsLeaveOnly g.D.PageDisk c.args.running.now.disk c.write_one.new.disk (Written (g.D.PageDisk.images c.args.running.now.disk) c.page_at-page.result Plain page)) zeros c.write_one.ensures.any_moment)
+    c.requires.left
     (on_err c.write_one.result _ (sym c.is_err.ensures.value ∙ c.if-is_err.true) c.write_one.ensures.fails) (view_of c.stop.new.running) c.stop.ensures.stopped
 
 pub returns-clause-case : goal.returns-clause-case

@@ -2,13 +2,12 @@ use Rattle.std.proofs.Common.{◌<◌, ◌+◌, ℕ, List, length, get_or, refl,
 use Rattle.page_disk.specs.Disk.{Written}
 use Rattle.page_disk.specs.Moments.{CallsLeaveOnly}
 use Rattle.page_disk.specs.declared.disk.WriteKind.TheVariants.{Plain}
-use Rattle.store_model.specs.StoreState.{Erasing}
 use Rattle.store_model.specs.Cases.{WritesOnePage}
-use Rattle.store_core.specs.Jobs.{job_of}
 use Rattle.store_core.specs.Running.{view_of}
 use Rattle.store_core.specs.StoreView.{device_of}
-use Rattle.store_core.proofs.JobTurned.{broke_off, freed_all, got, old_below, old_distinct, old_used, on_err, on_ok, zeros}
+use Rattle.store_core.proofs.JobTurned.{broke_off, freed_all, old_below, old_used, on_err, on_ok, zeros, broke_freeing, old_differ}
 use Rattle.store_core.proofs.job_turn.free.Goals as goal
+use Rattle.store_core.proofs.AtWork.{got}
 
 pub write_last-requires : goal.write_last-requires
 write_last-requires g c =
@@ -26,6 +25,7 @@ returns-then-is_err-clause-case g c =
     broke_freeing g.D.PageDisk (view_of c.args.running.now) c.args.channel c.args.old c.args.erased c.requires.at_work c.write_last.new.disk (get_or c.args.old c.args.erased 0) c.page_at-page.result
     (c.page_at-page.ensures ∙ ap (λ x. c.args.running.now.sup.md_start + x) same) (got c.args.old c.args.erased 0 low)
     (subst (λ page. CallsLeaveOnly g.D.PageDisk c.args.running.now.disk c.write_last.new.disk (Written (g.D.PageDisk.images c.args.running.now.disk) c.page_at-page.result Plain page)) zeros c.write_last.ensures.any_moment)
+    c.requires.last
     (on_err c.write_last.result _ (sym c.is_err.ensures.value ∙ c.if-is_err.true) c.write_last.ensures.fails) (view_of c.stop.new.running) c.stop.ensures.stopped
 
 pub clear_places-requires-clause-distinct : goal.clear_places-requires-clause-distinct

@@ -1,4 +1,4 @@
-use Rattle.std.proofs.Common.{◌≡◌, Option, Some, length, drop, refl, sym, ◌∙◌, ap, subst, arith}
+use Rattle.std.proofs.Common.{zero, [], ◌∷◌, ◌≡◌, Option, Some, length, drop, refl, sym, ◌∙◌, ap, subst, arith, ℕ, ◌≤◌, List, ◌∷◌, take, suc}
 use Rattle.std.specs.Option.{option_map}
 use Rattle.store_model.specs.StoreState.{JobState}
 use Rattle.store_core.specs.declared.job.RunningJob.{RunningJob}
@@ -10,6 +10,8 @@ use Rattle.store_core.specs.Running.{view_of}
 use Rattle.store_core.specs.StoreView.{state_of}
 use Rattle.store_core.proofs.AtWork.{pages_planned, some_erasing}
 use Rattle.store_core.proofs.job_turn.job_turn.Goals as goal
+use Rattle.store_core.specs.declared.job.Planned.{Planned}
+use Rattle.store_model.specs.Phases.{writing, Replaces, erasing}
 
 -- what is seen of the job that was taken out
 seen_work : (o taken : Option RunningJob) (j : RunningJob) (w : Work) → taken ≡ o → taken ≡ Some j → j.work ≡ w → option_map job_seen o ≡ Some (job_seen (record { channel = j.channel; work = w; old = j.old }))
@@ -17,16 +19,26 @@ seen_work o taken j w value is work = ap (λ x. option_map job_seen x) (sym valu
 
 -- all fresh pages are written
 all_written : (channel : ℕ) (planned : Planned) (old : List ℕ) (written : ℕ) → length (drop 1 planned.chain) ≤ written → writing_job channel planned old written ≡ writing_job channel planned old (length (drop 1 planned.chain))
-all_written channel planned old written le = ap (λ (x : List ℕ × List ℕ). at x.0 x.1) (past (drop 1 planned.chain) written le)
+all_written channel planned old written le =
+    ap (λ done. at done (drop written fresh)) (took fresh written le ∙ sym (took fresh (length fresh) (omega arith))) ∙ ap (at (take (length fresh) fresh)) (dropped fresh written le ∙ sym (dropped fresh (length fresh) (omega arith)))
   where
+    fresh : List ℕ
+    fresh = drop 1 planned.chain
+
     at : List ℕ → List ℕ → JobState
     at done left = record (writing_job channel planned old written) { written = done; todo = writing left (Replaces (replacing_of planned old) (Some (commit_of planned)) ∷ erasing old old []) }
 
-    past : (l : List ℕ) (n : ℕ) → length l ≤ n → (take n l, drop n l) ≡ (take (length l) l, drop (length l) l)
-    past [] zero le = refl
-    past [] (suc n) le = refl
-    past (x ∷ xs) zero le = absurd (omega (arith, le))
-    past (x ∷ xs) (suc n) le = ap (λ (p : List ℕ × List ℕ). (x ∷ p.0, p.1)) (past xs n (omega (arith, le)))
+    took : (l : List ℕ) (n : ℕ) → length l ≤ n → take n l ≡ l
+    took [] zero le = refl
+    took [] (suc n) le = refl
+    took (x ∷ xs) zero le = absurd (omega (arith, le))
+    took (x ∷ xs) (suc n) le = ap (λ l. x ∷ l) (took xs n (omega (arith, le)))
+
+    dropped : (l : List ℕ) (n : ℕ) → length l ≤ n → drop n l ≡ []
+    dropped [] zero le = refl
+    dropped [] (suc n) le = refl
+    dropped (x ∷ xs) zero le = absurd (omega (arith, le))
+    dropped (x ∷ xs) (suc n) le = dropped xs n (omega (arith, le))
 
 pub overflow_sub-fresh : goal.overflow_sub-fresh
 overflow_sub-fresh g c =

@@ -3,13 +3,12 @@ use Rattle.page_disk.specs.Disk.{Written}
 use Rattle.page_disk.specs.Moments.{CallsLeaveOnly}
 use Rattle.page_disk.specs.declared.disk.WriteKind.TheVariants.{Plain}
 use Rattle.md_chain.specs.declared.plan.PlannedPage.{PlannedPage}
-use Rattle.store_model.specs.StoreState.{Writing}
 use Rattle.store_model.specs.Cases.{WritesOnePage}
-use Rattle.store_core.specs.Jobs.{job_of}
 use Rattle.store_core.specs.Running.{view_of}
 use Rattle.store_core.specs.StoreView.{device_of}
-use Rattle.store_core.proofs.JobTurned.{channel_low, failed_writing, fresh_low, got, on_err, on_ok, row_some, wrote_fresh}
+use Rattle.store_core.proofs.JobTurned.{channel_low, failed_writing, fresh_low, on_err, on_ok, row_some, wrote_fresh}
 use Rattle.store_core.proofs.job_turn.write_fresh.Goals as goal
+use Rattle.store_core.proofs.AtWork.{got}
 
 -- the next page of the plan
 abbrev next : List PlannedPage → ℕ → PlannedPage

@@ -1,7 +1,7 @@
 use Rattle.std.proofs.Common.{◌↔◌, true, ◌<◌, length, [], ◌≡◌, ◌⊎◌, ℕ, Bool, List, None, Some, IsSome, sym, subst, ap, ◌∙◌}
 use Rattle.std.specs.FinMap as map
 use Rattle.bit_array.specs.Bits.{is_in}
-use Rattle.store_model.specs.Places.{held_by, Unclaimed, UsedClusters, UsedPages}
+use Rattle.store_model.specs.Places.{held_by, Unclaimed, UsedClusters, UsedPages, claimed_by}
 use Rattle.store_model.proofs.Claims.{unclaimed_used}
 use Rattle.store_core.specs.Running.{view_of}
 use Rattle.store_core.specs.StoreView.{StoreView, WithOpening, rows_of, state_of}
@@ -23,7 +23,7 @@ returns-clause-masks g c =
     let well = c.self.invariant.0.facts.well runs in
     let heads = c.self.invariant.1.heads in
     let used : UsedPages p.super.md_len p.pages (map.get p.chains) [] = subst (UsedPages p.super.md_len p.pages (map.get p.chains)) (ap held_by (job_over p no_job runs)) well.pages in
-    let mapped : UsedClusters p.super p.clusters (map.get p.metas) Unclaimed = unclaimed_used (rows_of p.rows) unclaimed p.super p.clusters (map.get p.metas) well.clusters in
+    let mapped : UsedClusters p.super p.clusters (map.get p.metas) Unclaimed = unclaimed_used (rows_of p.rows) p.job unclaimed (ap claimed_by (job_over p no_job runs)) p.super p.clusters (map.get p.metas) well.clusters in
     record {
       pages = subst (λ (bits : List Bool). UsedPages p.super.md_len bits (map.get p.chains) []) (sym is.pages) used;
       clusters = subst (λ (bits : List Bool). UsedClusters p.super bits (map.get p.metas) Unclaimed) (sym is.clusters) mapped;
