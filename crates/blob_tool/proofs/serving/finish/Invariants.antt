@@ -1,5 +1,5 @@
 use Rattle.std.proofs.Common.{◌≡◌}
-use Rattle.blob_tool.specs.Driving.{pages_left}
+use Rattle.blob_tool.specs.Driving.{turns_left}
 use Rattle.blob_tool.proofs.Finishing.{Finishing}
 use Rattle.blob_tool.proofs.serving.finish.Given as goal
 
@@ -9,4 +9,4 @@ invariant-loop-plant g l =
     × ((l.right ≡ l.initial.right) × (l.plant.right ≡ l.initial.plant.right))
 
 abbrev pub decreases-loop-plant : goal.decreases-loop-plant
-decreases-loop-plant g l = pages_left l.plant.at.job
+decreases-loop-plant g l = turns_left l.plant.at.job
