@@ -1,10 +1,9 @@
 -- A script that is read line by line.
-use Rattle.std.proofs.Common.{◌≡◌, ◌⊎◌, inl, inr, ℕ, ◌+◌, ◌^◌, ◌<◌, ◌≤◌, List, [], ◌∷◌, ◌++◌, map, length, Option, Some, None, Result, Ok, Err, true, false, Bool, refl, sym, ap, subst, ◌∙◌, arith, append_assoc, length-append, slice_index_or}
-use Rattle.std.specs.Prelude.{nat_le, nat_lt, cond, replicate, fold}
+use Rattle.std.proofs.Common.{◌≡◌, ◌⊎◌, inl, inr, ℕ, ◌+◌, ◌^◌, ◌<◌, ◌≤◌, List, [], ◌∷◌, ◌++◌, map, length, Some, None, Result, Ok, Err, refl, sym, ap, subst, ◌∙◌, arith, append_assoc, length-append, slice_index_or}
+use Rattle.std.specs.Prelude.{cond, replicate, fold}
 use Rattle.std.specs.List.{All}
 use Rattle.std.specs.Option.{option_map, option_and_then}
-use Rattle.std.proofs.lemmas.Bool.{cases_lt}
-use Rattle.std.proofs.lemmas.Bool.Decides.{nat_tests}
+use Rattle.std.proofs.lemmas.Bool.{cases_lt, le-leb, lt-ltb}
 use Rattle.std.proofs.lemmas.List.Elements.{All-nil, All-push, All-set, All-replicate, All-get_or, All-head, All-tail}
 use Rattle.std.proofs.lemmas.List.Sums.{fold_push, sum_by-append}
 use Rattle.std.proofs.lemmas.List.{map-append, get_or_past}
@@ -20,81 +19,9 @@ use Rattle.script_lang.specs.declared.line.LineRequest.{LineRequest}
 use Rattle.script_lang.specs.Commands.{pages_of}
 use Rattle.script_lang.specs.Lines.{says}
 use Rattle.script_lang.specs.Script.{lines, all_ok, pages_of_requests, within_pages, requests_in, with_command, with_request, script_of, reads_as, wrong_after, wrong_on, IsFirstBad}
-use Rattle.script_lang.proofs.Requests.{IsSized, no_pages}
-
-mapped_none : (o : Option (List LineRequest)) → o ≡ option_map (λ more. more) o
-mapped_none None = refl
-mapped_none (Some x) = refl
-
-mapped_twice : (request : LineRequest) (requests : List LineRequest) (o : Option (List LineRequest))
-    → option_map (λ ys. request ∷ ys) (option_map (λ more. requests ++ more) o) ≡ option_map
-    (λ more. request ∷ (requests ++ more)) o
-mapped_twice request requests None = refl
-mapped_twice request requests (Some x) = refl
-
--- lines that all ask for something
-all_oks : (requests : List LineRequest) (later : List (Result LineRequest LineKind))
-    → all_ok (map Ok requests ++ later) ≡ option_map (λ more. requests ++ more) (all_ok later)
-all_oks [] later = mapped_none (all_ok later)
-all_oks (request ∷ requests) later = ap (option_map (λ ys. request ∷ ys)) (all_oks requests later)
-    ∙ mapped_twice request requests (all_ok later)
-
-just_oks : (requests : List LineRequest) → all_ok (map Ok requests) ≡ Some requests
-just_oks [] = refl
-just_oks (request ∷ requests) = ap (option_map (λ ys. request ∷ ys)) (just_oks requests)
-
-is_le : (a b : ℕ) → a ≤ b → nat_le a b ≡ true
-is_le a b h = grind (arith, nat_tests, h)
-
-not_le : (a b : ℕ) → b < a → nat_le a b ≡ false
-not_le a b h = grind (arith, nat_tests, h)
-
-is_lt : (a b : ℕ) → a < b → nat_lt a b ≡ true
-is_lt a b h = grind (arith, nat_tests, h)
-
-not_lt : (a b : ℕ) → b ≤ a → nat_lt a b ≡ false
-not_lt a b h = grind (arith, nat_tests, h)
-
-few_pages : (requests : List LineRequest) → pages_of_requests requests ≤ 2 ^ 16 → within_pages requests ≡ Some requests
-few_pages requests few = ap (λ b. cond b (Some requests) None) (is_le (pages_of_requests requests) (2 ^ 16) few)
-
-many_pages : (requests : List LineRequest) → 2 ^ 16 < pages_of_requests requests → within_pages requests ≡ None
-many_pages requests many = ap (λ b. cond b (Some requests) None) (not_le (pages_of_requests requests) (2 ^ 16) many)
-
--- once the pages are too many, they stay so
-stay_many : (requests : List LineRequest) (o : Option (List LineRequest)) → 2 ^ 16 < pages_of_requests requests
-    → option_and_then within_pages (option_map (λ more. requests ++ more) o) ≡ None
-stay_many requests None many = refl
-stay_many requests (Some more) many = many_pages (requests ++ more)
-    (omega (arith, many, sum_by-append (λ (q : LineRequest). pages_of q.commands) requests more))
-
-in_few_lines : (grammar : Grammar) (ls : List (List ℕ)) (requests : List LineRequest) → length ls ≤ 2 ^ 16
-    → map (says grammar) ls ≡ map Ok requests → pages_of_requests requests ≤ 2 ^ 16
-    → requests_in grammar ls ≡ Some requests
-unfolding requests_in
-in_few_lines grammar ls requests few good within =
-    ap (λ b. cond b (option_and_then within_pages (all_ok (map (says grammar) ls))) None)
-    (is_le (length ls) (2 ^ 16) few)
-    ∙ ap (λ rs. option_and_then within_pages (all_ok rs)) good
-    ∙ ap (option_and_then within_pages) (just_oks requests)
-    ∙ few_pages requests within
-
-none_chosen : {X : Type 0} (b : Bool) (o : Option X) → o ≡ None → cond b o None ≡ None
-none_chosen true o e = e
-none_chosen false o e = refl
-
-none_asked : (grammar : Grammar) (ls : List (List ℕ))
-    → option_and_then within_pages (all_ok (map (says grammar) ls)) ≡ None → requests_in grammar ls ≡ None
-unfolding requests_in
-none_asked grammar ls e = none_chosen (nat_le (length ls) (2 ^ 16)) _ e
-
-in_many_lines : (grammar : Grammar) (ls : List (List ℕ)) → 2 ^ 16 < length ls → requests_in grammar ls ≡ None
-unfolding requests_in
-in_many_lines grammar ls many = ap (λ b. cond b (option_and_then within_pages (all_ok (map (says grammar) ls))) None)
-    (not_le (length ls) (2 ^ 16) many)
-
-no_script : (grammar : Grammar) (text : List ℕ) → requests_in grammar (lines text) ≡ None → reads_as grammar text ≡ None
-no_script grammar text e = none_chosen (nat_le (length text) (2 ^ 20)) _ (ap (option_map script_of) e)
+use Rattle.script_lang.proofs.Requests.{IsSized}
+use Rattle.script_lang.proofs.ServedHeads.{no_pages}
+use Rattle.script_lang.proofs.ScriptLimits.{all_oks, not_lt, stay_many, in_few_lines, none_asked, in_many_lines, no_script}
 
 -- so many lines before ask for what stands in this script
 pub record IsReading (grammar : Grammar) (all left : List (List ℕ)) (script : List (List Command)) (number pages : ℕ)
@@ -113,6 +40,7 @@ pub record IsReading (grammar : Grammar) (all left : List (List ℕ)) (script : 
   pub heads : grammar ≡ Served → All (All IsOnHead) script
   pub unpaged : grammar ≡ Served → pages ≡ 0
 
+-- before the first line nothing is asked for
 pub begun : (grammar : Grammar) (all left : List (List ℕ)) (script : List (List Command)) → left ≡ all
     → script ≡ replicate 16 [] → IsReading grammar all left script 0 0
 begun grammar all left script e s = record {
@@ -209,6 +137,7 @@ module _ (grammar : Grammar) (all left : List (List ℕ)) (line : List ℕ) (res
       (not_lt (2 ^ 16) (number + 1) few)
 
   module _ (request : LineRequest) (said : says grammar line ≡ Ok request) where
+    -- one line more, within the limits, adds what it asks for
     pub one_more : (next : List (List Command)) → IsSized request.commands
         → (grammar ≡ Served → All IsOnHead request.commands)
         → number + 1 ≤ 2 ^ 16 → pages + pages_of request.commands ≤ 2 ^ 16
@@ -250,7 +179,7 @@ module _ (grammar : Grammar) (all left : List (List ℕ)) (line : List ℕ) (res
         let limit : wrong_after (pages_of_requests r.requests) (says grammar line) ≡ Some kind.Limit =
         ap (wrong_after (pages_of_requests r.requests)) said
         ∙ ap (λ b. cond b (Some kind.Limit) None)
-        (is_lt (2 ^ 16) (pages_of_requests r.requests + pages_of request.commands) more) in
+        (lt-ltb (2 ^ 16) (pages_of_requests r.requests + pages_of request.commands) more) in
         let whole : pages_of_requests (r.requests ++ request ∷ []) ≡ pages_of_requests r.requests + pages_of request.commands =
         omega (arith, sum_by-append (λ (q : LineRequest). pages_of q.commands) r.requests (request ∷ [])) in
         let asked : all_ok (map (says grammar) all) ≡ option_map (λ later. (r.requests ++ request ∷ []) ++ later)
@@ -284,10 +213,11 @@ module _ (grammar : Grammar) (all left : List (List ℕ)) (line : List ℕ) (res
       (arith, many, r.number_is, ap length whole_is, length-append r.before (line ∷ rest)) in (
         first_bad text kind.Limit small is
             (ap (λ b. cond b (Some kind.Limit) (wrong_after (pages_of_requests r.requests) (says grammar line)))
-            (is_lt (2 ^ 16) (number + 1) many)),
+            (lt-ltb (2 ^ 16) (number + 1) many)),
         no_script grammar text (ap (requests_in grammar) (sym is) ∙ in_many_lines grammar all long),
       )
 
+-- after the last line the text is read
 pub all_read : (grammar : Grammar) (text : List ℕ) (left : List (List ℕ)) (script : List (List Command))
     (number pages : ℕ) → length text ≤ 2 ^ 20
     → IsReading grammar (lines text) left script number pages → left ≡ [] → reads_as grammar text ≡ Some script
@@ -297,7 +227,8 @@ all_read grammar text left script number pages small r e =
     ap (requests_in grammar) (r.whole ∙ none)
     ∙ in_few_lines grammar r.before r.requests (omega (arith, r.number_is, r.fits)) r.good
     (omega (arith, r.pages_are, r.within)) in
-    ap (λ b. cond b (option_map script_of (requests_in grammar (lines text))) None) (is_le (length text) (2 ^ 20) small)
+    ap (λ b. cond b (option_map script_of (requests_in grammar (lines text))) None)
+    (le-leb (length text) (2 ^ 20) small)
     ∙ ap (option_map script_of) asked
     ∙ ap Some (sym r.script_is)
 
@@ -314,11 +245,13 @@ pushed_room grammar all left script {number} {pages} r request sized few within 
       | inr none ↦ let less = numbers.0 in omega arith
     ]
 
+-- as served, each command is on a blob named by its head
 pub served_heads : (grammar : Grammar) (all left : List (List ℕ)) (script : List (List Command)) {number pages : ℕ}
     → IsReading grammar all left script number pages → grammar ≡ Served → (channel : ℕ)
     → All IsOnHead (slice_index_or script channel [])
 served_heads grammar all left script r served = heads_in script (r.heads served)
 
+-- as served, there is a command a line at most
 pub served_few : (grammar : Grammar) (all left : List (List ℕ)) (script : List (List Command)) {number pages : ℕ}
     → IsReading grammar all left script number pages → grammar ≡ Served → commands_in script ≤ 2 ^ 16
 served_few grammar all left script r served = omega (arith, r.room, r.unpaged served, r.fits)

@@ -8,6 +8,7 @@ use Rattle.std.proofs.lemmas.Str.{IsUtf8-from_ascii}
 use Rattle.std.proofs.lemmas.Fmt.{IsAscii-decimal, decimal_is_IsNumeral, parse-decimal}
 use Rattle.script_lang.specs.Words.{number_below}
 
+-- a word that is a number as it is printed
 pub is_number : (limit n : ℕ) (word : List ℕ) → limit ≤ 2 ^ 64 → n < limit → decimal n ≡ word
     → number_below limit word ≡ Some n
 is_number limit n word most small e =
@@ -16,7 +17,8 @@ is_number limit n word most small e =
     let less : ltb n limit ≡ true = lt-ltb n limit small in
     rw v (rw same (rw less refl))
 
-both : (a b : Bool) → (a && b) ≡ true → (a ≡ true) × (b ≡ true)
+-- both of two tests
+pub both : (a b : Bool) → (a && b) ≡ true → (a ≡ true) × (b ≡ true)
 both true true e = (refl, refl)
 both true false e = absurd (cc)
 both false b e = absurd (cc)

@@ -8,7 +8,9 @@ use Rattle.script_lang.specs.Schedules.{IsSchedule, IsNoSchedule, GoesOn, IsFirs
 use Rattle.script_lang.specs.Reading.{reading, ended, after_byte, HasRoom}
 use Rattle.script_lang.proofs.ScheduleReads.{run, run_then, run_one, run_none, one_schedule, no_end, stopped}
 use Rattle.script_lang.proofs.ScheduleLengths.{front_length}
-use Rattle.script_lang.proofs.ScheduleTexts.{Reads, none_read, byte_read, goes_on, schedule_read}
+use Rattle.script_lang.proofs.ScheduleTexts.{Reads, none_read}
+use Rattle.script_lang.proofs.ScheduleBytes.{byte_read}
+use Rattle.script_lang.proofs.ScheduleEnds.{goes_on, schedule_read}
 
 -- so many bytes are read
 pub record IsReadTo (text : List ℕ) (n : ℕ) (r : Reading) : Type 0 where

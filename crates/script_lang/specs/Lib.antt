@@ -8,5 +8,6 @@ pub mod Lines
 pub mod Script
 pub mod Answered
 pub mod Generator
+pub mod Generated
 pub mod Schedules
 pub mod Reading

@@ -1,86 +1,32 @@
-//! Generated scripts, line by line.
+//! Generated scripts: their draws, and their lines one by one.
 
-ghost use Rattle.std.specs.Prelude.{◌≡◌, ◌+◌, ◌-◌, ◌*◌, ◌/◌, ◌%◌, ◌<◌, ◌≤◌, ◌^◌, ◌++◌, codes, decimal, OnOk, IfOk};
-ghost use Rattle.script_lang.specs.Generator as said;
+ghost use Rattle.std.specs.Prelude.{◌≡◌, ◌+◌, ◌-◌, ◌*◌, ◌/◌, ◌%◌, ◌<◌, ◌≤◌, ◌^◌, ◌++◌, codes, length, Some, OnOk, IfOk};
+ghost use Rattle.std.specs.Option.{option_map};
+ghost use Rattle.volume_model.specs.Scripts.{commands_in};
+ghost use Rattle.script_lang.specs.declared.grammar.Grammar.TheVariants.{Whole};
+ghost use Rattle.script_lang.specs.Generated as said;
+ghost use Rattle.script_lang.specs.Generator as draws;
+ghost use Rattle.script_lang.specs.Script.{lines, reads_as, requests_in, script_of, with_request};
 
-use itoa::Buffer;
+use crate::generated::{GeneratedCommand, GeneratedLine};
 use out_of_memory::Memory;
 use std::alloc::Global;
+use volume_model::Script;
 
 /// The state after one draw.
 #[tactic(auto, unfolding(crate::specs::Generator::after_draw))]
 fn after_draw(state: u32) -> u32
     requires { state < 2 ^ 31 }
-    ensures state { result ≡ said.after_draw state }
+    ensures state { result ≡ draws.after_draw state }
     ensures range { result < 2 ^ 31 }
 {
     ((u64::from(state) * 1103515245 + 12345) % (1 << 31)) as u32
 }
 
-fn push_number(number: u32, into: &mut Vec<u8>) -> Result<(), Memory>
-    ensures { OnOk result (into.new.items ≡ into.old.items ++ decimal number) }
-{
-    into.extend_from_slice(Buffer::new().format(number).as_bytes())?;
-    Ok(())
-}
-
-/// Appends the name of a channel's volume.
-fn push_volume(channel: u32, into: &mut Vec<u8>) -> Result<(), Memory>
-    ensures { OnOk result (into.new.items ≡ into.old.items ++ said.volume_name channel) }
-{
-    into.push(b'v')?;
-    push_number(channel, into)
-}
-
-/// Appends ` write vC P 1 W`.
-fn push_write(channel: u32, page: u32, word: u32, into: &mut Vec<u8>) -> Result<(), Memory>
-    ensures { OnOk result (into.new.items ≡ into.old.items ++ said.write_words channel page word) }
-{
-    into.extend_from_slice(b" write ")?;
-    push_volume(channel, into)?;
-    into.push(b' ')?;
-    push_number(page, into)?;
-    into.extend_from_slice(b" 1 ")?;
-    push_number(word, into)
-}
-
-/// Appends ` read vC P 1`.
-fn push_read(channel: u32, page: u32, into: &mut Vec<u8>) -> Result<(), Memory>
-    ensures { OnOk result (into.new.items ≡ into.old.items ++ said.read_words channel page) }
-{
-    into.extend_from_slice(b" read ")?;
-    push_volume(channel, into)?;
-    into.push(b' ')?;
-    push_number(page, into)?;
-    into.extend_from_slice(b" 1")?;
-    Ok(())
-}
-
-/// Appends ` put vC k t:N`.
-fn push_put(channel: u32, number: u32, into: &mut Vec<u8>) -> Result<(), Memory>
-    ensures { OnOk result (into.new.items ≡ into.old.items ++ said.put_words channel number) }
-{
-    into.extend_from_slice(b" put ")?;
-    push_volume(channel, into)?;
-    into.extend_from_slice(b" k t:")?;
-    push_number(number, into)
-}
-
-/// Appends the line that makes the volume of a channel, without its LF.
-fn push_making(channel: u32, into: &mut Vec<u8>) -> Result<(), Memory>
-    ensures { OnOk result (into.new.items ≡ into.old.items ++ said.making_line channel) }
-{
-    push_number(channel, into)?;
-    into.extend_from_slice(b" create ")?;
-    push_volume(channel, into)?;
-    into.extend_from_slice(b" 8 thin")?;
-    Ok(())
-}
-
 /// The state after a line: writes and reads take four draws, a flush two, a put three.
 fn after_line(state: u32) -> u32
     requires { state < 2 ^ 31 }
-    ensures state { result ≡ said.after_line state }
+    ensures state { result ≡ draws.after_line state }
     ensures range { result < 2 ^ 31 }
 {
     let second = after_draw(after_draw(state));
@@ -94,11 +40,13 @@ fn after_line(state: u32) -> u32
     }
 }
 
-/// Appends the line that the draws from a state make, without its LF: in the order drawn, the channel, the kind of
-/// line, and what this kind asks for.
-fn push_drawn(state: u32, into: &mut Vec<u8>) -> Result<(), Memory>
+/// The line that the draws from a state make: in the order drawn, the channel, the kind of line, and what this kind
+/// asks for.
+fn drawn_line(state: u32) -> GeneratedLine
     requires { state < 2 ^ 31 }
-    ensures { OnOk result (into.new.items ≡ into.old.items ++ said.drawn_line state) }
+    ensures line { result ≡ said.drawn_line state }
+    ensures channel { result.channel < 4 }
+    ensures drawn { said.AreDrawn result.command }
 {
     let first = after_draw(state);
     let second = after_draw(first);
@@ -106,17 +54,26 @@ fn push_drawn(state: u32, into: &mut Vec<u8>) -> Result<(), Memory>
     let fourth = after_draw(third);
     let channel = first / 65536 % 4;
     let kind = second / 65536 % 8;
-    push_number(channel, into)?;
-    if kind < 4 {
-        push_write(channel, third / 65536 % 32, fourth / 65536 % 32768, into)
+    let command = if kind < 4 {
+        GeneratedCommand::Write {
+            volume: channel,
+            page: third / 65536 % 32,
+            word: fourth / 65536 % 32768,
+        }
     } else if kind < 6 {
-        push_read(third / 65536 % 4, fourth / 65536 % 32, into)
+        GeneratedCommand::Read {
+            volume: third / 65536 % 4,
+            page: fourth / 65536 % 32,
+        }
     } else if kind < 7 {
-        into.extend_from_slice(b" flush")?;
-        Ok(())
+        GeneratedCommand::Flush
     } else {
-        push_put(channel, third / 65536 % 1000, into)
-    }
+        GeneratedCommand::Put {
+            volume: channel,
+            value: third / 65536 % 1000,
+        }
+    };
+    GeneratedLine { channel, command }
 }
 
 /// The lines of a generated script, one by one. The first four make the volumes `v0` to `v3`; each further line is made
@@ -127,7 +84,7 @@ pub struct Generator {
     pub line: u32,
     state: u32,
     ghost in_range: { state < 2 ^ 31 },
-    ghost is_next: { state ≡ said.before_line number (line - 4) },
+    ghost is_next: { state ≡ draws.before_line number (line - 4) },
 }
 
 impl Generator {
@@ -161,25 +118,51 @@ impl Generator {
         }
     }
 
+    /// The next line.
+    fn next_line(&self) -> GeneratedLine
+        ensures line { result ≡ said.generated_line self.now.number self.now.line }
+        ensures channel { result.channel < 4 }
+        ensures drawn { said.AreDrawn result.command }
+    {
+        if self.line < 4 {
+            GeneratedLine {
+                channel: self.line,
+                command: GeneratedCommand::Create { volume: self.line },
+            }
+        } else {
+            drawn_line(self.state)
+        }
+    }
+
     /// Appends the next line with its LF, and moves on. After `Memory` a part of the line may stand there.
-    #[tactic(auto, unfolding(crate::specs::Generator::before_line))]
     pub fn push_line(&mut self, into: &mut Vec<u8>) -> Result<(), Memory>
         requires { self.old.line < 2 ^ 32 - 1 }
-        ensures line { OnOk result
-            (into.new.items ≡ into.old.items ++ said.generated_line self.old.number self.old.line ++ codes "\n") }
+        ensures line { OnOk result (into.new.items
+            ≡ into.old.items ++ said.text_of (said.generated_line self.old.number self.old.line) ++ codes "\n") }
         ensures number { self.new.number ≡ self.old.number }
         ensures next { self.new.line ≡ self.old.line + 1 }
     {
-        let line = self.line;
-        let state = self.state;
+        let line = self.next_line();
         self.skip_line();
-        if line < 4 {
-            push_making(line, into)?;
-        } else {
-            push_drawn(state, into)?;
-        }
+        line.push_text(into)?;
         into.push(b'\n')?;
         Ok(())
+    }
+
+    /// Appends the command of the next line to those of its channel, and moves on.
+    fn push_command(&mut self, alloc: Global, script: &mut Script) -> Result<(), Memory>
+        requires line { self.old.line < 2 ^ 32 - 1 }
+        requires room { commands_in script.old < 131071 }
+        ensures script { OnOk result (script.new
+            ≡ with_request script.old (said.request_of (said.generated_line self.old.number self.old.line))) }
+        ensures one_more { OnOk result (commands_in script.new ≡ commands_in script.old + 1) }
+        ensures number { self.new.number ≡ self.old.number }
+        ensures next { self.new.line ≡ self.old.line + 1 }
+    {
+        let line = self.next_line();
+        self.skip_line();
+        let command = line.command.command(alloc)?;
+        script.push(line.channel as u8, command)
     }
 }
 
@@ -190,7 +173,8 @@ pub fn generate_line(number: u32, size: u32, line: u32, into: &mut Vec<u8>) -> R
     requires number { number < 2 ^ 31 }
     requires size { size ≤ 65000 }
     requires line { line < size + 4 }
-    ensures { OnOk result (into.new.items ≡ into.old.items ++ said.generated_line number line ++ codes "\n") }
+    ensures { OnOk result
+        (into.new.items ≡ into.old.items ++ said.text_of (said.generated_line number line) ++ codes "\n") }
 {
     let mut generator = Generator::new(number);
     for _ in 0..line {
@@ -199,11 +183,15 @@ pub fn generate_line(number: u32, size: u32, line: u32, into: &mut Vec<u8>) -> R
     generator.push_line(into)
 }
 
-/// The whole text of the script of a number: four lines that make volumes, then `size` drawn ones.
+/// The whole text of the script of a number: four lines that make volumes, then `size` drawn ones. They are lines of
+/// the whole grammar, and within its limits on lines and pages; the text may have more bytes than a script may have.
 pub fn generate_text(alloc: Global, number: u32, size: u32) -> Result<Vec<u8>, Memory>
     requires number { number < 2 ^ 31 }
     requires size { size ≤ 65000 }
-    ensures { IfOk result (λ text. text.items ≡ said.generated number size) }
+    ensures text { IfOk result (λ text. text.items ≡ said.generated number size) }
+    ensures grammar { IfOk result
+        (λ text. requests_in Whole (lines text.items) ≡ Some (said.generated_requests number (size + 4))) }
+    ensures short { IfOk result (λ text. length text.items ≤ 22 * (size + 4)) }
 {
     let mut text = Vec::new(alloc);
     let mut generator = Generator::new(number);
@@ -211,4 +199,23 @@ pub fn generate_text(alloc: Global, number: u32, size: u32) -> Result<Vec<u8>, M
         generator.push_line(&mut text)?;
     }
     Ok(text)
+}
+
+/// The script of a number: the commands of the lines of its text. Each of these lines is of the whole grammar, so
+/// `read_script` reads this script in the text, unless the text is too long for it.
+pub fn generate(alloc: Global, number: u32, size: u32) -> Result<Script, Memory>
+    requires number { number < 2 ^ 31 }
+    requires size { size ≤ 65000 }
+    ensures script { IfOk result (λ script. script ≡ script_of (said.generated_requests number (size + 4))) }
+    ensures lines { IfOk result
+        (λ script. option_map script_of (requests_in Whole (lines (said.generated number size))) ≡ Some script) }
+    ensures read { IfOk result (λ script. length (said.generated number size) ≤ 2 ^ 20
+        → reads_as Whole (said.generated number size) ≡ Some script) }
+{
+    let mut script = Script::new(alloc);
+    let mut generator = Generator::new(number);
+    for _ in 0..size + 4 {
+        generator.push_command(alloc, &mut script)?;
+    }
+    Ok(script)
 }

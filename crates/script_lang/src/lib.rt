@@ -4,9 +4,11 @@
 mod commands;
 mod fault;
 mod form;
+mod generated;
 mod generator;
 mod grammar;
 mod line;
+mod page_commands;
 mod parsing;
 mod parts;
 mod reading;
@@ -16,7 +18,7 @@ mod verb;
 mod words;
 
 pub use fault::{LineKind, ScriptFault};
-pub use generator::{Generator, generate_line, generate_text};
+pub use generator::{Generator, generate, generate_line, generate_text};
 pub use grammar::Grammar;
 pub use parsing::{parse, read_script};
 pub use reading::parse_schedule;

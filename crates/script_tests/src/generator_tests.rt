@@ -1,6 +1,7 @@
 //! Generated scripts.
 
-use script_lang::{Grammar, generate_line, generate_text, read_script};
+use crate::told::{told, told_of};
+use script_lang::{Grammar, generate, generate_line, generate_text};
 use std::test::Fail;
 
 /// A script whose draws are those of the first ten of the generator from 1.
@@ -19,17 +20,22 @@ fn the_first_draws(rt: HostRuntime) -> Result<(), Fail> {
     Ok(())
 }
 
-/// Every generated line is a line of a script with one command.
+/// The commands of this script; and the largest text is longer than a script may be, while the script is made.
 #[test]
-fn generated_scripts_are_scripts(rt: HostRuntime) -> Result<(), Fail> {
+fn the_scripts_of_numbers(rt: HostRuntime) -> Result<(), Fail> {
     let alloc = rt.alloc();
-    let text = generate_text(alloc, 2147483647, 400)?;
-    let script = read_script(alloc, Grammar::Whole, text.as_slice())?;
+    let script = generate(alloc, 1, 3)?;
+    let wanted: &[u8] =
+        b"0 create v0 8 thin;1 create v1 8 thin;1 write v1 11 5627;2 create v2 8 thin;2 flush;2 write v2 20 4086;3 create v3 8 thin;";
+    assert_eq!(rt; told_of(alloc, &script)?.as_slice(), wanted);
+    let text = generate_text(alloc, 1, 65000)?;
+    let said = told(alloc, Grammar::Whole, text.as_slice())?;
+    assert_eq!(rt; said.as_slice(), b"too big".as_slice());
+    let script = generate(alloc, 1, 65000)?;
     let mut commands: usize = 0;
     for channel in 0..4 {
         commands = script.commands(channel).len().wrapping_add(commands);
     }
-    assert_eq!(rt; script.channels(), 4);
-    assert_eq!(rt; commands, 404);
+    assert_eq!(rt; commands, 65004);
     Ok(())
 }

@@ -4,7 +4,7 @@ use out_of_memory::Memory;
 use script_lang::{Grammar, ScriptFault, read_script};
 use std::alloc::Global;
 use std::test::Fail;
-use volume_model::{Command, PageWord, VolumeRef};
+use volume_model::{Command, PageWord, Script, VolumeRef};
 
 fn push_number(into: &mut Vec<u8>, alloc: Global, number: u64) -> Result<(), Fail> {
     into.extend_from_slice(format!(in alloc; " {number}")?.as_bytes())?;
@@ -118,25 +118,28 @@ fn push_words(into: &mut Vec<u8>, alloc: Global, command: &Command) -> Result<()
     Ok(())
 }
 
-/// What a text is by a grammar: the commands of each channel, with `;` after each, or the line at fault and its kind.
-pub fn told(alloc: Global, grammar: Grammar, text: &[u8]) -> Result<Vec<u8>, Fail> {
+/// The commands of each channel, with `;` after each.
+pub fn told_of(alloc: Global, script: &Script) -> Result<Vec<u8>, Fail> {
     let mut into = Vec::new(alloc);
-    match read_script(alloc, grammar, text) {
-        Ok(script) => {
-            for channel in 0..16u8 {
-                for command in script.commands(channel) {
-                    into.extend_from_slice(format!(in alloc; "{channel} ")?.as_bytes())?;
-                    into.extend_from_slice(verb(command))?;
-                    push_words(&mut into, alloc, command)?;
-                    into.push(b';')?;
-                }
-            }
+    for channel in 0..16u8 {
+        for command in script.commands(channel) {
+            into.extend_from_slice(format!(in alloc; "{channel} ")?.as_bytes())?;
+            into.extend_from_slice(verb(command))?;
+            push_words(&mut into, alloc, command)?;
+            into.push(b';')?;
         }
-        Err(ScriptFault::BadLine { line, kind }) => {
-            into.extend_from_slice(format!(in alloc; "{line} {kind:?}")?.as_bytes())?;
-        }
-        Err(ScriptFault::TooBig) => into.extend_from_slice(b"too big")?,
-        Err(ScriptFault::Memory) => into.extend_from_slice(b"no memory")?,
     }
     Ok(into)
+}
+
+/// What a text is by a grammar: its commands, or the line at fault and its kind.
+pub fn told(alloc: Global, grammar: Grammar, text: &[u8]) -> Result<Vec<u8>, Fail> {
+    match read_script(alloc, grammar, text) {
+        Ok(script) => told_of(alloc, &script),
+        Err(ScriptFault::BadLine { line, kind }) => {
+            Ok(Vec::from_slice(alloc, format!(in alloc; "{line} {kind:?}")?.as_bytes())?)
+        }
+        Err(ScriptFault::TooBig) => Ok(Vec::from_slice(alloc, b"too big")?),
+        Err(ScriptFault::Memory) => Ok(Vec::from_slice(alloc, b"no memory")?),
+    }
 }

@@ -2,7 +2,8 @@ use Rattle.std.proofs.Common.{◌≡◌, ℕ, ◌+◌, ◌-◌, ◌≤◌, suc, 
 use Rattle.script_lang.specs.Generator.{before_line, after_line}
 use Rattle.script_lang.proofs.generator.Generator.skip_line.Goals as goal
 
-after_one : (number line : ℕ) → 4 ≤ line → before_line number (line + 1 - 4) ≡ after_line (before_line number (line - 4))
+after_one : (number line : ℕ) → 4 ≤ line
+    → before_line number (line + 1 - 4) ≡ after_line (before_line number (line - 4))
 unfolding before_line
 after_one number line drawn = let e : line + 1 - 4 ≡ suc (line - 4) = omega arith in rw e refl
 
