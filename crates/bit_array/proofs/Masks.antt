@@ -11,7 +11,7 @@ use Rattle.std.proofs.lemmas.List.FromFn.{length-map-range_with_len, get_or-map-
 use Rattle.std.proofs.lemmas.Nat.Bits.{bit_at-zero, bit_at-suc, bit_at_lowest}
 use Rattle.bit_array.specs.Bits.{is_in}
 use Rattle.bit_array.specs.Fault.{head_fault, length_in}
-use Rattle.bit_array.specs.Mask.{bit_value, bits_in, mask_pages, mask_text, packed, packed_byte, page_of, text_bit}
+use Rattle.bit_array.specs.Mask.{bit_value, bits_in, mask_pages, mask_text, packed, packed_byte, text_page, text_bit}
 
 -- a text says a set of the length that is wanted
 pub length-bits_in : (len : ℕ) (text : List ℕ) → length (bits_in len text) ≡ len
@@ -168,11 +168,11 @@ length-mask_text kind bits =
 
 -- a byte of a page is a byte of the text
 pub get_or-page_of : (index : ℕ) (text : List ℕ) (k : ℕ) → k < 4096
-    → get_or (page_of index text) k 0 ≡ get_or text (4096 * index + k) 0
+    → get_or (text_page index text) k 0 ≡ get_or text (4096 * index + k) 0
 get_or-page_of index text k h = get_or-take 4096 (drop (4096 * index) text) k 0 h ∙ get_or-drop (4096 * index) text k 0
 
 -- a page of a text has 4096 bytes
-pub length-page_of : (index : ℕ) (text : List ℕ) → 4096 * (index + 1) ≤ length text → length (page_of index text) ≡ 4096
+pub length-page_of : (index : ℕ) (text : List ℕ) → 4096 * (index + 1) ≤ length text → length (text_page index text) ≡ 4096
 length-page_of index text h =
     length-take-le 4096 (drop (4096 * index) text) (rw length-drop (omega arith))
 
@@ -180,7 +180,7 @@ length-page_of index text h =
 pub is_page : (kind index : ℕ) (bits : List Bool) (page : List ℕ) → length page ≡ 4096
     → index < mask_pages (length bits)
     → ((k : ℕ) → k < 4096 → get_or page k 0 ≡ get_or (mask_text kind bits) (4096 * index + k) 0)
-    → page ≡ page_of index (mask_text kind bits)
+    → page ≡ text_page index (mask_text kind bits)
 is_page kind index bits page long below same =
     ext_get_or 0 _ _ (long ∙ sym (length-page_of index (mask_text kind bits) (rw length-mask_text (omega arith))))
     (λ k h.
@@ -224,15 +224,15 @@ bits_in-mask_text kind bits =
 
 -- the head of the first page
 first_page-at : (kind k index : ℕ) (bits : List Bool) → index ≡ 0 → k < 5
-    → get_or (page_of index (mask_text kind bits)) k 0 ≡ get_or (mask_text kind bits) k 0
+    → get_or (text_page index (mask_text kind bits)) k 0 ≡ get_or (mask_text kind bits) k 0
 first_page-at kind k index bits e h =
     let place : 4096 * index + k ≡ k = omega arith in
     get_or-page_of index (mask_text kind bits) k (omega arith) ∙ ap (λ (j : ℕ). get_or (mask_text kind bits) j 0) place
 
 first_page-len : (kind index : ℕ) (bits : List Bool) → index ≡ 0
-    → take 4 (drop 1 (page_of index (mask_text kind bits))) ≡ to_le_bytes w32 (length bits)
+    → take 4 (drop 1 (text_page index (mask_text kind bits))) ≡ to_le_bytes w32 (length bits)
 first_page-len kind index bits e =
-    let page = page_of index (mask_text kind bits) in
+    let page = text_page index (mask_text kind bits) in
     let page_len : length page ≡ 4096 =
     length-page_of index (mask_text kind bits) (rw length-mask_text (omega arith)) in
     let rest : length (drop 1 page) ≡ length page - 1 = length-drop 1 page in
@@ -255,13 +255,13 @@ no_fault kind len page first second =
     rw (same_kind, same_len) refl
 
 first_page-fault : (kind index : ℕ) (bits : List Bool) → index ≡ 0 → length bits < 2 ^ 32
-    → head_fault kind (length bits) (page_of index (mask_text kind bits)) ≡ None
+    → head_fault kind (length bits) (text_page index (mask_text kind bits)) ≡ None
 first_page-fault kind index bits e h =
-    no_fault kind (length bits) (page_of index (mask_text kind bits))
+    no_fault kind (length bits) (text_page index (mask_text kind bits))
     (first_page-at kind 0 index bits e (omega arith) ∙ mask_text-kind kind bits)
     (ap (from_le_bytes w32) (first_page-len kind index bits e) ∙ from_le_bytes-to_le_bytes_4 (length bits) h)
 
 -- a set's text has no fault in its head
 pub head_fault-mask_text : (kind : ℕ) (bits : List Bool) → length bits < 2 ^ 32
-    → head_fault kind (length bits) (page_of 0 (mask_text kind bits)) ≡ None
+    → head_fault kind (length bits) (text_page 0 (mask_text kind bits)) ≡ None
 head_fault-mask_text kind bits h = first_page-fault kind 0 bits refl h

@@ -1,7 +1,7 @@
 -- Why a mask isn't read: its first page has another type, or else another number of bits.
 use Rattle.std.specs.Prelude.{ℕ, ◌==◌, if◌then◌else◌, Option, Some, None, List, length, take, drop, slice_index}
 use Rattle.std.specs.Int.{from_le_bytes, w32}
-use Rattle.bit_array.specs.Reading.{Reading}
+use Rattle.bit_array.specs.Reading.{MaskReading}
 use Rattle.bit_array.specs.declared.reader.MaskFault.{MaskFault}
 use Rattle.bit_array.specs.declared.reader.MaskFault.TheVariants.{BadType, BadLength}
 
@@ -17,6 +17,6 @@ head_fault kind len page =
     else Some (BadType (slice_index page 0))
 
 -- the fault that the next page shows: only the first one has a head
-abbrev pub next_fault : Reading → List ℕ → Option MaskFault
+abbrev pub next_fault : MaskReading → List ℕ → Option MaskFault
 next_fault reading page =
     if reading.fed == 0 then head_fault reading.kind (length reading.bits) page else None

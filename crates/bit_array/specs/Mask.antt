@@ -29,8 +29,8 @@ mask_text kind bits =
     map (packed_byte bits) (range_with_len 0 (4096 * mask_pages (length bits) - 5))
 
 -- a page of a text, counted from 0
-abbrev pub page_of : ℕ → List ℕ → List ℕ
-page_of index text = take 4096 (drop (4096 * index) text)
+abbrev pub text_page : ℕ → List ℕ → List ℕ
+text_page index text = take 4096 (drop (4096 * index) text)
 
 -- whether a text has the bit of a place set
 abbrev pub text_bit : List ℕ → ℕ → Bool

@@ -2,7 +2,7 @@
 
 ghost use Rattle.std.specs.Prelude.{◌≡◌, ◌+◌, ◌*◌, ◌^◌, ◌<◌, ℕ, Bool, None, List, length, slice_index};
 ghost use Rattle.bit_array.specs.Fault.{head_fault};
-ghost use Rattle.bit_array.specs.Mask.{bit_value, bits_in, mask_pages, mask_text, packed_byte, page_of};
+ghost use Rattle.bit_array.specs.Mask.{bit_value, bits_in, mask_pages, mask_text, packed_byte, text_page};
 
 use crate::bits::Bits;
 
@@ -19,7 +19,7 @@ impl Bits {
     /// zeros fill the last page.
     pub fn mask_page(&self, kind: u8, index: u32, into: &mut [u8; 4096])
         requires { index < mask_pages (length self.now) }
-        ensures { into.new ≡ page_of index (mask_text kind self.now) }
+        ensures { into.new ≡ text_page index (mask_text kind self.now) }
     {
         let first = 4096 * index as u64;
         for (at, byte) in into.iter_mut().enumerate() {
@@ -68,5 +68,5 @@ impl Bits {
 pub fn masks_read_back()
     ensures bits { (kind : ℕ) (bits : List Bool) → bits_in (length bits) (mask_text kind bits) ≡ bits }
     ensures head { (kind : ℕ) (bits : List Bool) → length bits < 2 ^ 32
-        → head_fault kind (length bits) (page_of 0 (mask_text kind bits)) ≡ None }
+        → head_fault kind (length bits) (text_page 0 (mask_text kind bits)) ≡ None }
 {}

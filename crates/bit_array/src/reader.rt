@@ -30,9 +30,9 @@ pub struct MaskReader {
 }
 
 impl Model for MaskReader {
-    ghost use Rattle.bit_array.specs.Reading.{Reading};
+    ghost use Rattle.bit_array.specs.Reading.{MaskReading};
 
-    ghost Value = { Reading };
+    ghost Value = { MaskReading };
 
     ghost view = { λ r. record { kind = r.kind; fed = r.fed; bits = r.bits } };
 }

@@ -17,26 +17,26 @@ use Rattle.blob_meta.specs.declared.meta.Meta.{Meta}
 use Rattle.blob_meta.specs.Parents.{head_of_id, is_read_only}
 
 -- the head by which an attribute command names its volume
-abbrev pub head_in : Command → Option ℕ
-head_in (c.SetX (Head h) key value) = Some h
-head_in (c.DelX (Head h) key) = Some h
-head_in (c.GetX (Head h) key) = Some h
-head_in (c.Put (Head h) key value) = Some h
-head_in (c.Sync (Head h)) = Some h
-head_in _ = None
+abbrev pub asked_head : Command → Option ℕ
+asked_head (c.SetX (Head h) key value) = Some h
+asked_head (c.DelX (Head h) key) = Some h
+asked_head (c.GetX (Head h) key) = Some h
+asked_head (c.Put (Head h) key value) = Some h
+asked_head (c.Sync (Head h)) = Some h
+asked_head _ = None
 
 -- an attribute command that names its volume by its head
 abbrev pub IsOnHead : Command → Type 0
-IsOnHead command = IsSome (head_in command)
+IsOnHead command = IsSome (asked_head command)
 
 -- the causes for which such a command may be refused
-abbrev pub IsCause : Reply → Type 0
-IsCause r.NoVolume = Unit {0}
-IsCause r.Reserved = Unit {0}
-IsCause r.ReadOnly = Unit {0}
-IsCause r.TooLong = Unit {0}
-IsCause r.NoValue = Unit {0}
-IsCause _ = ⊥
+abbrev pub IsAttributeCause : Reply → Type 0
+IsAttributeCause r.NoVolume = Unit {0}
+IsAttributeCause r.Reserved = Unit {0}
+IsAttributeCause r.ReadOnly = Unit {0}
+IsAttributeCause r.TooLong = Unit {0}
+IsAttributeCause r.NoValue = Unit {0}
+IsAttributeCause _ = ⊥
 
 -- what is asked for is there
 abbrev pub HasValue : Option Xattrs → Command → Type 0
@@ -49,7 +49,7 @@ first_cause causes = option_map (λ cause. cause.1) (find (λ cause. cause.0) ca
 
 -- the blob there
 abbrev pub blob_named : map.FinMap nat_cmp Meta → Command → Option Meta
-blob_named metas command = option_and_then (λ h. map.get metas h) (head_in command)
+blob_named metas command = option_and_then (λ h. map.get metas h) (asked_head command)
 
 module _ (metas : map.FinMap nat_cmp Meta) (live : Option Xattrs) (command : Command) where
   -- live attributes are given exactly where the blob is there
@@ -59,8 +59,8 @@ module _ (metas : map.FinMap nat_cmp Meta) (live : Option Xattrs) (command : Com
   -- Volumes show, at the command's head, a volume exactly where the blob is there; it has these live attributes, and is
   -- read-only as the blob's flags say.
   pub record ShowsBlob (v : Volumes) : Type 0 where
-    pub live_is : option_map (λ (x : Volume). x.live) (option_and_then v (head_in command)) ≡ live
-    pub read_only_is : option_map (λ (x : Volume). x.read_only) (option_and_then v (head_in command))
+    pub live_is : option_map (λ (x : Volume). x.live) (option_and_then v (asked_head command)) ≡ live
+    pub read_only_is : option_map (λ (x : Volume). x.read_only) (option_and_then v (asked_head command))
         ≡ option_map (λ (m : Meta). is_read_only m.flags) (blob_named metas command)
 
   -- The first cause for which the command is refused, if there is one, in all volumes that show the blob so.

@@ -3,7 +3,7 @@
 use Rattle.std.specs.Prelude.{◌≡◌, ℕ, ◌+◌, ◌*◌, ◌/◌, ◌^◌, ◌<◌, ◌≤◌, Bool, true, false, if◌then◌else◌, List, length, Option, Some, None, codes}
 use Rattle.std.specs.List.{range_with_len, sum_by}
 use Rattle.std.specs.Option.{option_map_or, option_and_then}
-use Rattle.volume_model.specs.Volumes.{is_head}
+use Rattle.volume_model.specs.Volumes.{is_given_head}
 use Rattle.volume_model.specs.Xattrs.{value_of, without}
 use Rattle.blob_meta.specs.declared.meta.Meta.{Meta}
 use Rattle.blob_meta.specs.Parents.{named_in, parent_of, slot, is_read_only}
@@ -22,7 +22,7 @@ without_marks m = record m {
 
 -- A marked blob is kept exactly where the blob that its mark names is there, and has it for its parent.
 abbrev pub is_kept : (ℕ → Option Meta) → ℕ → List ℕ → Bool
-is_kept metas head mark = option_map_or (λ m. is_head head (parent_of m)) (option_and_then metas (named_in mark)) false
+is_kept metas head mark = option_map_or (λ m. is_given_head head (parent_of m)) (option_and_then metas (named_in mark)) false
 
 -- what becomes of one blob
 abbrev pub resolved_one : (ℕ → Option Meta) → ℕ → Meta → Option Meta

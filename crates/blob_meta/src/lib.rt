@@ -19,5 +19,5 @@ pub use looking_up::find;
 pub use meta::{Flags, Meta};
 pub use out_of_memory::Memory;
 pub use reading::from_items;
-pub use refusal::{head_in, refusal_of};
+pub use refusal::{asked_head, refusal_of};
 pub use writing::{items_say, to_items};

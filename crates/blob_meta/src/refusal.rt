@@ -1,11 +1,11 @@
 //! Why a command on the attributes of a blob is refused.
 
 ghost use Rattle.std.specs.Prelude.{◌≡◌, ◌+◌, ◌∷◌, [], Some, nat_lt, length, is_none, option_copied, IsSome, IfSome, IfNone};
-ghost use Rattle.volume_model.specs.Volumes.{is_head};
+ghost use Rattle.volume_model.specs.Volumes.{is_given_head};
 ghost use Rattle.volume_model.specs.Xattrs.{value_of};
 ghost use Rattle.volume_model.specs.Refusals.{is_reserved as reserved_said};
 ghost use Rattle.volume_model.specs.declared.reply.Reply.TheVariants as r;
-ghost use Rattle.blob_meta.specs.Asked.{head_in as head_said, blob_named, first_cause, HasValue, IsOnHead, IsCause, IsLiveOf, IsFirstCause};
+ghost use Rattle.blob_meta.specs.Asked.{asked_head as head_said, blob_named, first_cause, HasValue, IsOnHead, IsAttributeCause, IsLiveOf, IsFirstCause};
 ghost use Rattle.blob_meta.specs.Parents.{head_of_id, is_read_only as read_only_said};
 
 use crate::head_map::Metas;
@@ -14,7 +14,7 @@ use super_block::Super;
 use volume_model::{Blobtext, Command, Reply, VolumeRef, XattrList};
 
 /// The head by which an attribute command names its volume.
-pub fn head_in(command: &Command) -> u32
+pub fn asked_head(command: &Command) -> u32
     requires { IsOnHead command.now }
     ensures { head_said command.now ≡ Some result }
 {
@@ -44,7 +44,7 @@ pub fn head_in(command: &Command) -> u32
 
 /// Whether the super block names the head as the super blob's.
 fn is_super(sup: &Super, head: u32) -> bool
-    ensures { result ≡ is_head head (head_of_id sup.now.super_blob) }
+    ensures { result ≡ is_given_head head (head_of_id sup.now.super_blob) }
 {
     sup.super_blob == (1 << 32) + u64::from(head)
 }
@@ -71,7 +71,7 @@ fn is_too_long(key: &[u8], value: &[u8]) -> bool
 
 /// Why no attribute is synced.
 fn refusal_of_sync(reserved: bool, read_only: bool) -> Option<Reply>
-    ensures caused { IfSome result IsCause }
+    ensures caused { IfSome result IsAttributeCause }
     ensures first { result ≡ first_cause ((reserved, r.Reserved) ∷ (read_only, r.ReadOnly) ∷ []) }
 {
     if reserved {
@@ -85,7 +85,7 @@ fn refusal_of_sync(reserved: bool, read_only: bool) -> Option<Reply>
 
 /// Why the key isn't given the value.
 fn refusal_of_set(reserved: bool, read_only: bool, key: &[u8], value: &[u8]) -> Option<Reply>
-    ensures caused { IfSome result IsCause }
+    ensures caused { IfSome result IsAttributeCause }
     ensures first { result ≡ first_cause ((reserved, r.Reserved) ∷ (read_only, r.ReadOnly)
         ∷ (nat_lt 4063 (length key.now + length value.now), r.TooLong) ∷ []) }
 {
@@ -107,7 +107,7 @@ fn refusal_of_removal(
     live: &XattrList,
     key: &Blobtext,
 ) -> Option<Reply>
-    ensures caused { IfSome result IsCause }
+    ensures caused { IfSome result IsAttributeCause }
     ensures first { result ≡ first_cause ((reserved, r.Reserved) ∷ (read_only, r.ReadOnly)
         ∷ (is_none (value_of live.now key.now), r.NoValue) ∷ []) }
 {
@@ -122,7 +122,7 @@ fn refusal_of_removal(
 
 /// Why the value of the key isn't told.
 fn refusal_of_look(live: &XattrList, key: &Blobtext) -> Option<Reply>
-    ensures caused { IfSome result IsCause }
+    ensures caused { IfSome result IsAttributeCause }
     ensures first { result ≡ first_cause ((is_none (value_of live.now key.now), r.NoValue) ∷ []) }
     ensures value { IfNone result (IsSome (value_of live.now key.now)) }
 {
@@ -146,12 +146,12 @@ pub fn refusal_of(
 ) -> Option<Reply>
     requires on_head { IsOnHead command.now }
     requires live { IsLiveOf metas.now (option_copied live) command.now }
-    ensures caused { IfSome result IsCause }
+    ensures caused { IfSome result IsAttributeCause }
     ensures there { IfNone result (IsSome (blob_named metas.now command.now)) }
     ensures value { IfNone result (HasValue (option_copied live.entry) command.now) }
     ensures first { IsFirstCause metas.now (option_copied live.entry) command.now sup.now result }
 {
-    let head = head_in(command);
+    let head = asked_head(command);
     let (Some(meta), Some(live)) = (metas.get(head), live) else {
         return Some(Reply::NoVolume);
     };

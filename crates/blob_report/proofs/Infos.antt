@@ -3,7 +3,7 @@ use Rattle.std.proofs.Common.{◌≡◌, ℕ, List, [], ◌++◌, ap, ◌∙◌,
 use Rattle.std.specs.Prelude.{codes}
 use Rattle.std.proofs.lemmas.List.{append-nil}
 use Rattle.volume_model.specs.declared.reply.Info.{Info}
-use Rattle.blob_report.specs.Pieces.{shown, head_text}
+use Rattle.blob_report.specs.Pieces.{shown_bytes, head_text}
 use Rattle.blob_report.specs.Text.{filling_text, writing_text, info_text}
 
 regroup : (a b c d e f g h i j k l : List ℕ)
@@ -14,7 +14,7 @@ regroup a b c d e f g h i j k l = simp (append_assoc, append-nil)
 abbrev pub pieces_of : Info → List ℕ → List ℕ → List ℕ → List ℕ
 pieces_of info name filling writing =
     codes "volume @" ++ (decimal info.head ++
-    (codes " " ++ (shown name ++
+    (codes " " ++ (shown_bytes name ++
     (codes " slots " ++ (decimal info.slots ++ (codes " parent " ++ (head_text info.parent
     ++ (filling ++ (writing ++ (codes " xattrs " ++ (decimal info.xattrs ++ [])))))))))))
 
@@ -24,6 +24,6 @@ pieces_are info name filling writing n f w =
     ap (λ (x : List ℕ). pieces_of info x filling writing) n
     ∙ ap (λ (x : List ℕ). pieces_of info info.name x writing) f
     ∙ ap (λ (x : List ℕ). pieces_of info info.name (filling_text info.thin) x) w
-    ∙ regroup (codes "volume @") (decimal info.head) (codes " ") (shown info.name) (codes " slots ")
+    ∙ regroup (codes "volume @") (decimal info.head) (codes " ") (shown_bytes info.name) (codes " slots ")
     (decimal info.slots) (codes " parent ") (head_text info.parent) (filling_text info.thin)
     (writing_text info.read_only) (codes " xattrs ") (decimal info.xattrs)

@@ -25,8 +25,8 @@ abbrev pub shown_byte : ℕ → List ℕ
 shown_byte b = if is_plain b then b ∷ [] else codes "\\x" ++ hex_byte b
 
 -- nothing is `-`, so a lone `-` is shown by its digits
-abbrev pub shown : List ℕ → List ℕ
-shown bytes = if length bytes == 0 then codes "-" else
+abbrev pub shown_bytes : List ℕ → List ℕ
+shown_bytes bytes = if length bytes == 0 then codes "-" else
     (if bytes_eq bytes (codes "-") then codes "\\x2d" else flat_map shown_byte bytes)
 
 abbrev pub head_text : Option ℕ → List ℕ
@@ -38,7 +38,7 @@ piece_text (piece.Words words) = words.now
 piece_text (piece.Number number) = decimal number
 piece_text (piece.Long number) = decimal number
 piece_text (piece.Head head) = head_text head
-piece_text (piece.Shown bytes) = shown bytes.now
+piece_text (piece.Shown bytes) = shown_bytes bytes.now
 piece_text (piece.Hex bytes) = hex_text bytes.now
 
 abbrev pub pieces_text : List Piece → List ℕ

@@ -6,7 +6,7 @@ use Rattle.volume_model.specs.declared.reply.Info.{Info}
 use Rattle.volume_model.specs.declared.reply.Reply.{Reply}
 use Rattle.volume_model.specs.declared.reply.Reply.TheVariants as r
 use Rattle.volume_model.specs.declared.reply.Entry.{Entry}
-use Rattle.blob_report.specs.Pieces.{hex_text, shown, head_text}
+use Rattle.blob_report.specs.Pieces.{hex_text, shown_bytes, head_text}
 
 -- a reply that has a text so far: any but a page
 abbrev pub CanPrint : Reply → Type 0
@@ -33,7 +33,7 @@ writing_text read_only = if read_only then codes " ro" else codes " rw"
 -- what is known of a volume
 abbrev pub info_text : Info → List ℕ
 info_text info =
-    codes "volume @" ++ decimal info.head ++ codes " " ++ shown info.name ++ codes " slots " ++ decimal info.slots
+    codes "volume @" ++ decimal info.head ++ codes " " ++ shown_bytes info.name ++ codes " slots " ++ decimal info.slots
     ++ codes " parent " ++ head_text info.parent
     ++ filling_text info.thin ++ writing_text info.read_only ++ codes " xattrs " ++ decimal info.xattrs
 

@@ -2,7 +2,7 @@
 
 ghost use Rattle.std.specs.Prelude.{◌≡◌, ◌++◌, decimal, length, take, OnOk, OnErr};
 ghost use Rattle.std.specs.List.{flat_map};
-ghost use Rattle.blob_report.specs.Pieces.{hex_byte, hex_text, is_plain as plain_said, shown_byte, shown, head_text, piece_text, pieces_text};
+ghost use Rattle.blob_report.specs.Pieces.{hex_byte, hex_text, is_plain as plain_said, shown_byte, shown_bytes, head_text, piece_text, pieces_text};
 
 use itoa::Buffer;
 use out_of_memory::Memory;
@@ -90,7 +90,7 @@ fn push_each_shown(bytes: &[u8], into: &mut Vec<u8>) -> Result<(), Memory>
 
 /// Appends bytes as they are shown. After `Memory` what was there still stands first.
 fn push_shown(bytes: &[u8], into: &mut Vec<u8>) -> Result<(), Memory>
-    ensures ok { OnOk result (into.new.items ≡ into.old.items ++ shown bytes.now) }
+    ensures ok { OnOk result (into.new.items ≡ into.old.items ++ shown_bytes bytes.now) }
     ensures kept { take (length into.old.items) into.new.items ≡ into.old.items }
 {
     if bytes.is_empty() {

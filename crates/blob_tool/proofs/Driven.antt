@@ -11,8 +11,8 @@ use Rattle.store_core.specs.declared.rows.RowStage.{RowStage}
 use Rattle.store_core.specs.declared.rows.RowStage.TheVariants as told
 use Rattle.store_core.specs.declared.plant.SettleTurn.{SettleTurn}
 use Rattle.store_core.specs.declared.plant.SettleTurn.TheVariants as settle
-use Rattle.store_core.specs.Made.{Made}
-use Rattle.store_core.specs.Seen.{At, rows_of}
+use Rattle.store_core.specs.TurnMade.{TurnMade}
+use Rattle.store_core.specs.StoreView.{StoreView, rows_of}
 use Rattle.store_core.specs.Stages.{is_stage, waits_for}
 use Rattle.store_core.specs.Steps.{decided, OnlyRow}
 use Rattle.blob_tool.specs.Driving.{ended_row, IsWaiting}
@@ -20,7 +20,7 @@ use Rattle.blob_tool.specs.Driving.{ended_row, IsWaiting}
 -- ---- one channel
 
 -- the other rows are as they were at first, this one waits, and no job runs
-pub record Serves {D : Type 0} (first now : At D) (channel : ℕ) : Type 0 where
+pub record Serves {D : Type 0} (first now : StoreView D) (channel : ℕ) : Type 0 where
   pub others : (other : ℕ) → other ≢ channel → rows_of now.rows other ≡ rows_of first.rows other
   pub waiting : IsWaiting (rows_of now.rows channel)
   pub no_job : now.job ≡ None
@@ -56,16 +56,16 @@ next_of row channel is waiting = elim waiting.at [
         record { command = command; rest = rest; left = e; on_head = on.0; on_heads = on.1 }
 
 -- what a turn of settling comes to, where the command is logged
-pub settled : {D : Type 0} (d : Ghosts D) (p q : At D) (channel : ℕ) (turn : SettleTurn)
+pub settled : {D : Type 0} (d : Ghosts D) (p q : StoreView D) (channel : ℕ) (turn : SettleTurn)
     → (rows_of p.rows channel).stage ≡ Decided Answered
     → (turn ≡ settle.Waiting → (outcome : Decision) → (rows_of p.rows channel).stage ≢ Decided outcome)
-    → (turn ≡ settle.Logged → Made d p q kind.settles)
+    → (turn ≡ settle.Logged → TurnMade d p q kind.settles)
     → (turn ≡ settle.Logged → OnlyRow p.rows q.rows channel (record (rows_of p.rows channel) { stage = Idle }))
     → OnlyRow p.rows q.rows channel (record (rows_of p.rows channel) { stage = Idle }) × (q.job ≡ p.job)
 settled d p q channel settle.Waiting is waits made row = absurd (waits refl Answered is)
 settled d p q channel settle.Logged is waits made row = (row refl, ap (λ s. s.job) (made refl).0.next)
 
-module _ {D : Type 0} (first p posted served q : At D) (channel : ℕ) (serves : Serves first p channel)
+module _ {D : Type 0} (first p posted served q : StoreView D) (channel : ℕ) (serves : Serves first p channel)
     (next : HasNext (rows_of p.rows channel)) (serial : ℕ)
     (posts : OnlyRow p.rows posted.rows channel (record (rows_of p.rows channel) { stage = Posted serial }))
     (logs : OnlyRow posted.rows served.rows channel (decided (rows_of posted.rows channel)))
@@ -111,7 +111,7 @@ over row channel waiting no_meta not_over = elim waiting.at [
 -- ---- all channels
 
 -- the channels below this one have ended, and the others are as they were at first
-pub record Drives {D : Type 0} (first now : At D) (end : ℕ) : Type 0 where
+pub record Drives {D : Type 0} (first now : StoreView D) (end : ℕ) : Type 0 where
   pub below : (channel : ℕ) → channel < end → rows_of now.rows channel ≡ ended_row
   pub from : (channel : ℕ) → end ≤ channel → rows_of now.rows channel ≡ rows_of first.rows channel
   pub no_job : now.job ≡ None

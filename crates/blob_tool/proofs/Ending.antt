@@ -10,18 +10,18 @@ use Rattle.volume_model.specs.declared.command.Command.{Command}
 use Rattle.md_chain.specs.Reading.{OnlyRead}
 use Rattle.store_core.specs.declared.loaded.Loaded.{Loaded}
 use Rattle.store_core.specs.Opening.{IsOpened}
-use Rattle.store_core.specs.Seen.{At}
+use Rattle.store_core.specs.StoreView.{StoreView}
 use Rattle.store_core.specs.Surviving.{HasOneImage}
 use Rattle.unclean_load.specs.declared.fault.LoadFault.{LoadFault}
 use Rattle.unclean_load.specs.declared.fault.LoadFault.TheVariants as loading
 use Rattle.unclean_load.specs.Accepted.{IsAccepted, IsFaultOf, IsImageFault}
-use Rattle.unclean_load.specs.Reading.{IsCounted}
+use Rattle.unclean_load.specs.Reading.{IsFaultCounted}
 use Rattle.blob_report.specs.Text.{log_text}
 use Rattle.streams.specs.declared.printing.PrintFault.{PrintFault}
 use Rattle.streams.specs.declared.printing.PrintFault.TheVariants as printing
 use Rattle.blob_tool.specs.Statuses.{of_loading, of_run}
 use Rattle.blob_tool.specs.Runs.{Ended, EndedFrom, IsLoaded, Played}
-use Rattle.blob_tool.specs.Outcome.{HasScript, NothingWritten, Outcome, RanTo, Reads}
+use Rattle.blob_tool.specs.Outcome.{HasScript, NothingWritten, Outcome, RanTo, ReadsScript}
 
 -- a device that was only read has one image still
 pub still_one : {D : Type 0} (d : disk.Ghosts D) (before after : D) → OnlyRead d before after → HasOneImage d before
@@ -35,7 +35,7 @@ still_one d before after same one = (
 )
 
 module _ {D : Type 0} (d : disk.Ghosts D) (script : List (List Command)) {K : Type 0} (k : sink.Ghosts K)
-    (out out_now : K) (back : D) (first : At D) where
+    (out out_now : K) (back : D) (first : StoreView D) where
   -- how a run ended, by where it stopped and how much was printed
   pub ends : (p : Played d script k out out_now back first) (stopped : Option ℕ)
       (printed : Result (Unit {0}) PrintFault) → p.last.stopped ≡ stopped
@@ -63,8 +63,8 @@ module _ {S : Type 0} (s : source.Ghosts S) (script script_now : S) {D : Type 0}
   ran_to status.ScriptRead ran = absurd ran.ended
 
   -- what a run from the loaded store came to is the outcome of the call
-  pub of_a_run : (commands : List (List Command)) (loaded : Loaded D) (st : Status) → Reads s script script_now commands
-      → ((first : At D) → IsOpened d loaded commands first → IsLoaded d commands before loaded first)
+  pub of_a_run : (commands : List (List Command)) (loaded : Loaded D) (st : Status) → ReadsScript s script script_now commands
+      → ((first : StoreView D) → IsOpened d loaded commands first → IsLoaded d commands before loaded first)
       → OnlyRead d before loaded.disk
       → EndedFrom d commands k out out_now back loaded st → Outcome s script script_now d k out out_now before back st
   of_a_run commands loaded st reads opens same (inl x) =
@@ -81,7 +81,7 @@ module _ {S : Type 0} (s : source.Ghosts S) (script script_now : S) {D : Type 0}
   -- a store that wasn't loaded
   pub of_a_fault : (fault : LoadFault) → NothingWritten s script script_now d k out out_now before back
       → HasScript s script script_now d k out out_now before back
-      → IsCounted (d.read_faults before) (d.read_faults back) fault
+      → IsFaultCounted (d.read_faults before) (d.read_faults back) fault
       → (IsTrue d.tells → IsFaultOf (d.pages before) (d.now before) fault)
       → (IsTrue d.tells → IsImageFault fault → IsAccepted (d.pages before) (d.now before) → ⊥)
       → Outcome s script script_now d k out out_now before back (of_loading fault)

@@ -14,24 +14,24 @@ use Rattle.volume_model.specs.declared.reply.Reply.TheVariants as r
 use Rattle.super_block.specs.declared.page.Super.{Super}
 use Rattle.blob_meta.specs.declared.meta.Meta.{Meta}
 use Rattle.blob_meta.specs.declared.job.Job.{Job}
-use Rattle.blob_meta.specs.Asked.{head_in, IsCause, IsFirstCause}
-use Rattle.lvol_store.specs.Plans.{PlansPut, PlansSync, Refuses}
+use Rattle.blob_meta.specs.Asked.{asked_head, IsAttributeCause, IsFirstCause}
+use Rattle.lvol_store.specs.Plans.{PlansPut, PlansSync, RefusesPlan}
 use Rattle.store_model.specs.Shown.{fixed_of}
-use Rattle.store_model.specs.Plants.{shown}
+use Rattle.store_model.specs.StoreState.{shown}
 use Rattle.store_model.specs.Jobs.{IsSyncing}
 use Rattle.store_model.specs.Cases.{IsRefusedBy}
 use Rattle.store_core.specs.Begins.{IsJobOf, ReplacesOne}
-use Rattle.store_core.specs.Kept.{IsRunning, Kept}
+use Rattle.store_core.specs.StoreInvariant.{IsRunning, StoreInvariant}
 use Rattle.store_core.specs.Planning.{HasBlob, PlanLaws}
-use Rattle.store_core.specs.Seen.{At, Both, state_of}
+use Rattle.store_core.specs.StoreView.{StoreView, WithOpening, state_of}
 
 -- a store has what every state of a run has
-pub is_running : {D : Type 0} (d : Ghosts D) (b : Both D) → Kept d b → IsRunning (state_of d b.at)
+pub is_running : {D : Type 0} (d : Ghosts D) (b : WithOpening D) → StoreInvariant d b → IsRunning (state_of d b.at)
 is_running d b kept =
     record { store = b.opening.super; first = _; script = _; placed = kept.placed; facts = kept.facts }
 
 -- what a job is for the command that it was planned for
-abbrev pub IsFor : {D : Type 0} → Ghosts D → At D → Command → Job → Type 0
+abbrev pub IsFor : {D : Type 0} → Ghosts D → StoreView D → Command → Job → Type 0
 IsFor d p command job = ReplacesOne job × IsJobOf (state_of d p) command job
 
 -- a store that stopped at no number of entries hasn't stopped
@@ -52,10 +52,10 @@ pub same_first : (left : List Command) (a b : Command) (rest more : List Command
     → a ≡ b
 same_first left a b rest more x y = let e : a ∷ rest ≡ b ∷ more = sym x ∙ y in cc e
 
-module _ {D : Type 0} (d : Ghosts D) (laws : PlanLaws d) (p : At D) (running : IsRunning (state_of d p))
+module _ {D : Type 0} (d : Ghosts D) (laws : PlanLaws d) (p : StoreView D) (running : IsRunning (state_of d p))
     (runs : p.stopped ≡ None) where
   -- the job that is planned for a put is what the put asks for
-  pub put_job : (command : Command) (o : Option Xattrs) (head : ℕ) (job : Job) → head_in command ≡ Some head
+  pub put_job : (command : Command) (o : Option Xattrs) (head : ℕ) (job : Job) → asked_head command ≡ Some head
       → map.get p.live head ≡ o → PlansPut p.metas o command job → IsFirstCause p.metas o command p.super None
       → IsFor d p command job
   put_job (c.Put (Head h) key value) (Some live) head job named is plan cause =
@@ -69,7 +69,7 @@ module _ {D : Type 0} (d : Ghosts D) (laws : PlanLaws d) (p : At D) (running : I
   put_job command None head job named is plan cause = absurd plan
 
   -- the job that is planned for a sync is what the sync asks for
-  pub sync_job : (command : Command) (o : Option Xattrs) (head : ℕ) (job : Job) → head_in command ≡ Some head
+  pub sync_job : (command : Command) (o : Option Xattrs) (head : ℕ) (job : Job) → asked_head command ≡ Some head
       → map.get p.live head ≡ o → PlansSync p.metas o command job → IsFirstCause p.metas o command p.super None
       → IsFor d p command job
   sync_job (c.Sync (Head h)) (Some live) head job named is plan cause =
@@ -87,7 +87,7 @@ module _ {D : Type 0} (d : Ghosts D) (laws : PlanLaws d) (p : At D) (running : I
   lacks_memory (c.Sync volume) is = tt
   lacks_memory _ is = absurd is
 
-  by_cause : (command : Command) (reply : Reply) → IsCause reply
+  by_cause : (command : Command) (reply : Reply) → IsAttributeCause reply
       → refusal (fixed_of p.super) (shown (state_of d p)) command ≡ Some reply
       → IsRefusedBy (state_of d p) command reply
   by_cause command r.NoVolume cause is = (tt, is)
@@ -98,8 +98,8 @@ module _ {D : Type 0} (d : Ghosts D) (laws : PlanLaws d) (p : At D) (running : I
   by_cause command _ cause is = absurd cause
 
   -- a command that the plan refuses is refused for its first cause, or for want of memory
-  pub refused : (command : Command) (head : ℕ) (reply : Reply) → IsSyncing command → head_in command ≡ Some head
-      → Refuses p.metas (map.get p.live head) command p.super reply → IsRefusedBy (state_of d p) command reply
+  pub refused : (command : Command) (head : ℕ) (reply : Reply) → IsSyncing command → asked_head command ≡ Some head
+      → RefusesPlan p.metas (map.get p.live head) command p.super reply → IsRefusedBy (state_of d p) command reply
   refused command head reply syncing named (inl memory) =
       subst (λ (x : Reply). IsRefusedBy (state_of d p) command x) (sym memory) (lacks_memory command syncing)
   refused command head reply syncing named (inr x) =
@@ -108,7 +108,7 @@ module _ {D : Type 0} (d : Ghosts D) (laws : PlanLaws d) (p : At D) (running : I
 
   -- from what is given of the store
   module _ (metas : map.FinMap nat_cmp Meta) (sup : Super) (o : Option Xattrs) (command : Command) (head : ℕ)
-      (m : metas ≡ p.metas) (s : sup ≡ p.super) (named : head_in command ≡ Some head)
+      (m : metas ≡ p.metas) (s : sup ≡ p.super) (named : asked_head command ≡ Some head)
       (is : o ≡ map.get p.live head) where
     cause_now : (first : Option Reply) → IsFirstCause metas o command sup first
         → IsFirstCause p.metas o command p.super first
@@ -131,7 +131,7 @@ module _ {D : Type 0} (d : Ghosts D) (laws : PlanLaws d) (p : At D) (running : I
         (subst (λ (metas : map.FinMap nat_cmp Meta). PlansSync metas o command job) m plan) (cause_now None cause)
 
     -- the same of a refusal
-    pub refused_for : (reply : Reply) → IsSyncing command → Refuses metas o command sup reply
+    pub refused_for : (reply : Reply) → IsSyncing command → RefusesPlan metas o command sup reply
         → IsRefusedBy (state_of d p) command reply
     refused_for reply syncing (inl memory) = refused command head reply syncing named (inl memory)
     refused_for reply syncing (inr x) =

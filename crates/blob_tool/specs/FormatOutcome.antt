@@ -10,7 +10,7 @@ use Rattle.unclean_load.specs.declared.fault.LoadFault.{LoadFault}
 use Rattle.unclean_load.specs.declared.fault.LoadFault.TheVariants as loading
 use Rattle.blob_report.specs.Text.{space_text}
 use Rattle.store_format.specs.Filling.{SameBut}
-use Rattle.store_format.specs.NewStore.{end_of, IsNewStore, LoadsEmpty, Writes}
+use Rattle.store_format.specs.NewStore.{md_end_of, IsNewStore, LoadsEmpty, Writes}
 use Rattle.streams.specs.Printing.{IsPartOf}
 use Rattle.streams.specs.declared.sink.Sink as sink
 use Rattle.blob_tool.specs.Outcome.{NothingDone}
@@ -28,8 +28,8 @@ abbrev pub new_store_text : Layout → List ℕ
 new_store_text plan = space_text (new_space plan)
 
 -- the layout that is asked for, on a device of so many pages
-abbrev pub planned : ℕ → Format → Layout
-planned pages format = layout_of pages format.cluster_pages (md_pages_of pages format.cluster_pages format.md_pages)
+abbrev pub planned_layout : ℕ → Format → Layout
+planned_layout pages format = layout_of pages format.cluster_pages (md_pages_of pages format.cluster_pages format.md_pages)
 
 -- why it has no place there
 abbrev pub planning_fault : ℕ → Format → Option SuperFault
@@ -38,7 +38,7 @@ planning_fault pages format =
 
 module _ {D : Type 0} (d : disk.Ghosts D) (before back : D) (format : Format) where
   abbrev plan : Layout
-  plan = planned (d.pages before) format
+  plan = planned_layout (d.pages before) format
 
   -- The device has one image, a new store with the planned layout; behind the metadata region each page reads as
   -- before.
@@ -47,7 +47,7 @@ module _ {D : Type 0} (d : disk.Ghosts D) (before back : D) (format : Format) wh
     pub one_image : IsTrue d.tells → Only (d.now back) (d.images back)
     pub store : IsTrue d.tells → IsNewStore plan (d.now back)
     pub loads : IsTrue d.tells → LoadsEmpty plan (d.now back)
-    pub behind : IsTrue d.tells → SameBut 0 (end_of plan) (d.now before) (d.now back)
+    pub behind : IsTrue d.tells → SameBut 0 (md_end_of plan) (d.now before) (d.now back)
     pub writes : Writes d plan before back
 
   module _ {K : Type 0} (k : sink.Ghosts K) (out out_now : K) where

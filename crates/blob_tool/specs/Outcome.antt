@@ -10,7 +10,7 @@ use Rattle.script_lang.specs.Script.{reads, IsFirstBad}
 use Rattle.script_lang.specs.declared.grammar.Grammar.TheVariants.{Served}
 use Rattle.script_lang.specs.declared.fault.LineKind.{LineKind}
 use Rattle.store_core.specs.declared.loaded.Loaded.{Loaded}
-use Rattle.store_core.specs.Seen.{At}
+use Rattle.store_core.specs.StoreView.{StoreView}
 use Rattle.unclean_load.specs.Accepted.{IsAccepted, IsFaultOf, IsImageFault}
 use Rattle.unclean_load.specs.declared.fault.LoadFault.{LoadFault}
 use Rattle.streams.specs.declared.source.Source as source
@@ -48,7 +48,7 @@ module _ {S : Type 0} (s : source.Ghosts S) (script script_now : S) where
     pub long : IsTrue s.tells → 2 ^ 20 < length (s.left script)
 
   -- the whole text is a script with these commands of each channel
-  pub record Reads (commands : List (List Command)) : Type 0 where
+  pub record ReadsScript (commands : List (List Command)) : Type 0 where
     pub text : List ℕ
     pub is_text : IsText text
     pub reads_as : reads text ≡ Some commands
@@ -62,15 +62,15 @@ module _ {S : Type 0} (s : source.Ghosts S) (script script_now : S) where
 
   module _ {D : Type 0} (d : disk.Ghosts D) {K : Type 0} (k : sink.Ghosts K) (out out_now : K) (before back : D) where
     -- the whole text was a script, and the store was loaded and opened with its commands
-    pub record Started (commands : List (List Command)) (first : At D) : Type 0 where
-      pub script_is : Reads commands
+    pub record Started (commands : List (List Command)) (first : StoreView D) : Type 0 where
+      pub script_is : ReadsScript commands
       pub loaded : Loaded D
       pub as_found : IsLoaded d commands before loaded first
 
     -- a run, and what it came to
     pub record RanTo (status : Status) : Type 0 where
       pub commands : List (List Command)
-      pub first : At D
+      pub first : StoreView D
       pub started : Started commands first
       pub ended : Ended d commands k out out_now back first status
 
@@ -82,7 +82,7 @@ module _ {S : Type 0} (s : source.Ghosts S) (script script_now : S) where
     -- the text was a script, whatever the device holds
     pub record HasScript : Type 0 where
       pub commands : List (List Command)
-      pub script_is : Reads commands
+      pub script_is : ReadsScript commands
 
     -- the script is none, or can't be read: then the device isn't touched
     abbrev pub IsBadScript : ℕ → LineKind → Type 0

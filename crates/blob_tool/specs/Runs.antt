@@ -14,13 +14,13 @@ use Rattle.store_model.specs.Regions.{region_of}
 use Rattle.store_model.specs.Scans.{Says}
 use Rattle.store_model.specs.Shown.{fixed_of}
 use Rattle.store_model.specs.Cases.{IsQuiet}
-use Rattle.store_model.specs.Plants.{Opens, shown}
+use Rattle.store_model.specs.StoreState.{Opens, shown}
 use Rattle.store_model.specs.Cases.{Kind, Run}
 use Rattle.store_core.specs.declared.loaded.Loaded.{Loaded}
 use Rattle.store_core.specs.Opening.{IsOpened}
-use Rattle.store_core.specs.Seen.{At, rows_of, state_of}
+use Rattle.store_core.specs.StoreView.{StoreView, rows_of, state_of}
 use Rattle.store_core.specs.Surviving.{HasOneImage}
-use Rattle.store_core.specs.Whole.{IsWhole}
+use Rattle.store_core.specs.LoadedWhole.{IsWhole}
 use Rattle.unclean_load.specs.Accepted.{IsAccepted}
 use Rattle.blob_report.specs.Text.{log_text}
 use Rattle.streams.specs.declared.sink.Sink as sink
@@ -33,7 +33,7 @@ use Rattle.blob_tool.specs.Surviving.{RunSurvives}
 module _ {D : Type 0} (d : disk.Ghosts D) (script : List (List Command)) where
   -- A run leads from one state of the store to another, in which every channel has ended and no job runs. Its log is a
   -- legal one of the script's commands, and the volumes shown at the end are its replay, unless the store stopped.
-  pub record IsRun (first last : At D) : Type 0 where
+  pub record IsRun (first last : StoreView D) : Type 0 where
     pub opens : Opens (state_of d first)
     pub turns : (kinds : List Kind) × Run d.tells (state_of d first) kinds (state_of d last)
     pub over : (channel : ℕ) → rows_of last.rows channel ≡ ended_row
@@ -53,7 +53,7 @@ module _ {D : Type 0} (d : disk.Ghosts D) (script : List (List Command)) where
 
   -- A store as the device says it, whole in itself: its masks are what its chains and maps claim. It is opened with the
   -- script.
-  pub record IsLoaded (before : D) (loaded : Loaded D) (first : At D) : Type 0 where
+  pub record IsLoaded (before : D) (loaded : Loaded D) (first : StoreView D) : Type 0 where
     pub super : IsTrue d.tells → loaded.sup ≡ super_of (d.now before 0) (d.pages before)
     pub says : IsTrue d.tells
         → Says (region_of loaded.sup) (map.get loaded.metas) (map.get loaded.chains) (d.now before)
@@ -65,18 +65,18 @@ module _ {D : Type 0} (d : disk.Ghosts D) (script : List (List Command)) where
 
   module _ {K : Type 0} (k : sink.Ghosts K) (out out_now : K) (back : D) where
     -- a run from this state, on the device that is handed back, and of the text of its log as much as was printed
-    pub record Played (first : At D) : Type 0 where
-      pub last : At D
+    pub record Played (first : StoreView D) : Type 0 where
+      pub last : StoreView D
       pub run : IsRun first last
       pub device : back ≡ last.disk
       pub printed : IsTrue k.tells → IsPartOf (k.written out) (k.written out_now) (log_text last.log)
 
     -- the whole log's text was printed
-    abbrev pub IsPrinted : {first : At D} → Played first → Type 0
+    abbrev pub IsPrinted : {first : StoreView D} → Played first → Type 0
     IsPrinted p = IsTrue k.tells → k.written out_now ≡ k.written out ++ log_text p.last.log
 
     -- what a run came to: it was printed whole, or the sink failed; it stopped; or memory ran out
-    abbrev pub Ended : At D → Status → Type 0
+    abbrev pub Ended : StoreView D → Status → Type 0
     Ended first status.Good = (p : Played first) × (p.last.stopped ≡ None) × IsPrinted p
     Ended first status.OutWrite = (p : Played first) × (p.last.stopped ≡ None) × Rose (k.faults out) (k.faults out_now)
     Ended first (status.Device at) =
@@ -87,5 +87,5 @@ module _ {D : Type 0} (d : disk.Ghosts D) (script : List (List Command)) where
     -- it began, or memory ran out before: then nothing was printed, and the device is the one that was loaded
     abbrev pub EndedFrom : Loaded D → Status → Type 0
     EndedFrom loaded s =
-        ((first : At D) × IsOpened d loaded script first × Ended first s)
+        ((first : StoreView D) × IsOpened d loaded script first × Ended first s)
         ⊎ ((s ≡ status.Memory) × (out_now ≡ out) × (back ≡ loaded.disk))

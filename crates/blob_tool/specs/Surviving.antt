@@ -7,12 +7,12 @@ use Rattle.page_disk.specs.declared.disk.PageDisk.{Ghosts}
 use Rattle.super_block.specs.declared.page.Super.{Super}
 use Rattle.volume_model.specs.Volumes.{Volumes}
 use Rattle.store_model.specs.Recovers.{Recovers, RecoversAt, RecoversFrom}
-use Rattle.store_core.specs.Seen.{At}
-use Rattle.store_core.specs.Surviving.{Holds}
+use Rattle.store_core.specs.StoreView.{StoreView}
+use Rattle.store_core.specs.Surviving.{HoldsMetadata}
 use Rattle.unclean_load.specs.Accepted.{IsAccepted}
 
 -- a store that began with this super block and these volumes, at the end of its run
-module _ {D : Type 0} (d : Ghosts D) (s : Super) (first : Volumes) (p : At D) where
+module _ {D : Type 0} (d : Ghosts D) (s : Super) (first : Volumes) (p : StoreView D) where
   -- a load accepts the image, which comes back to a prefix of the log of at least so many entries, or to that with the
   -- change in progress
   abbrev pub RunComesBack : ℕ → Image → Type 0
@@ -25,7 +25,7 @@ module _ {D : Type 0} (d : Ghosts D) (s : Super) (first : Volumes) (p : At D) wh
     -- Where the store didn't stop the device has one image. It holds just the metadata that the store has in memory,
     -- and comes back to the whole log.
     pub one_image : p.stopped ≡ None → Only (d.now p.disk) (d.images p.disk)
-    pub holds : p.stopped ≡ None → Holds s (map.get p.metas) (map.get p.chains) (d.now p.disk)
+    pub holds : p.stopped ≡ None → HoldsMetadata s (map.get p.metas) (map.get p.chains) (d.now p.disk)
     pub whole : p.stopped ≡ None → IsAccepted s.device_pages (d.now p.disk) × Recovers s first p.log (d.now p.disk)
     -- Where it stopped each image comes back to the entries before the failed turn, or to these with its command done.
     pub stopped : (at : ℕ) → p.stopped ≡ Some at → (image : Image) → d.images p.disk image

@@ -4,11 +4,11 @@ ghost use Rattle.std.specs.Prelude.{◌≡◌, None};
 ghost use Rattle.blob_meta.specs.Asked.{IsOnHead};
 ghost use Rattle.store_model.specs.Rows.{InJob};
 ghost use Rattle.store_core.specs.Requests.{asked_by, IsPostedBy};
-ghost use Rattle.store_core.specs.Seen.{rows_of};
+ghost use Rattle.store_core.specs.StoreView.{rows_of};
 ghost use Rattle.store_core.specs.Steps.{decided, Asks, OnlyRow};
 ghost use Rattle.blob_tool.specs.Serving.{IsTaskOf};
 
-use blob_meta::{Job, head_in};
+use blob_meta::{Job, asked_head};
 use lvol_store::{plan_put, plan_sync};
 use page_disk::PageDisk;
 use std::alloc::Global;
@@ -52,7 +52,7 @@ fn task_of<D: PageDisk>(alloc: Global, plant: &Plant<D>, right: &MdRight, msg: M
     };
     let command = command_of(request);
     let (metas, sup, new) = (plant.metas(), plant.sup(), plant.next_head());
-    let live = plant.live(head_in(command));
+    let live = plant.live(asked_head(command));
     let planned = match command {
         Command::Put { .. } => plan_put(alloc, metas, sup, command, new, live),
         Command::Sync { .. } => plan_sync(alloc, metas, sup, command, new, live),

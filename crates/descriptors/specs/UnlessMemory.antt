@@ -6,14 +6,14 @@ use Rattle.descriptors.specs.declared.rows.RowFault.{RowFault}
 use Rattle.descriptors.specs.declared.rows.RowFault.TheVariants as faults
 
 -- `Bad` comes only where the definition gives nothing
-abbrev pub Fails : {X : Type 0} → RowFault → Option X → Type 0
-Fails faults.Bad read = read ≡ None
-Fails faults.Memory read = Unit {0}
+abbrev pub FailsToGive : {X : Type 0} → RowFault → Option X → Type 0
+FailsToGive faults.Bad read = read ≡ None
+FailsToGive faults.Memory read = Unit {0}
 
 -- a value is the one of the definition
 abbrev pub Gives : {X : Type 0} → Result X RowFault → Option X → Type 0
 Gives (Ok x) read = read ≡ Some x
-Gives (Err e) read = Fails e read
+Gives (Err e) read = FailsToGive e read
 
 -- runs are those of the definition
 abbrev pub RunsGive : Result (List SlotRun) Memory → List SlotRun → Type 0

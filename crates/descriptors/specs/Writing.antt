@@ -19,12 +19,12 @@ unfoldable pub flags_bytes : ℕ → ℕ → ℕ → List ℕ
 flags_bytes invalid data_ro md_ro = number_bytes 8 invalid ++ (number_bytes 8 data_ro ++ number_bytes 8 md_ro)
 
 -- the type of an item's descriptor
-abbrev pub kind_of : Item → ℕ
-kind_of (Rle runs) = 1
-kind_of (Xattr key value) = 2
-kind_of (Flags invalid data_ro md_ro) = 3
-kind_of (InternalXattr key value) = 4
-kind_of (Unknown kind) = kind
+abbrev pub kind_of_item : Item → ℕ
+kind_of_item (Rle runs) = 1
+kind_of_item (Xattr key value) = 2
+kind_of_item (Flags invalid data_ro md_ro) = 3
+kind_of_item (InternalXattr key value) = 4
+kind_of_item (Unknown kind) = kind
 
 -- the bytes after the head; those of an unknown type aren't known
 abbrev pub body_of : Item → List ℕ
@@ -40,7 +40,7 @@ framed kind body = kind ∷ (number_bytes 4 (length body) ++ body)
 
 -- the descriptor of an item
 abbrev pub item_bytes : Item → List ℕ
-item_bytes item = framed (kind_of item) (body_of item)
+item_bytes item = framed (kind_of_item item) (body_of item)
 
 -- how many bytes it takes
 abbrev pub item_size : Item → ℕ

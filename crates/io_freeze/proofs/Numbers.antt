@@ -6,7 +6,7 @@ use Rattle.std.specs.Cmp.{nat_cmp_total}
 use Rattle.std.proofs.lemmas.Bool.{cases_eq}
 use Rattle.std.proofs.lemmas.List.Elements.{All-cons, All-nil, All-weaker}
 use Rattle.std.proofs.lemmas.List.Kept.{AllPairs-cons}
-use Rattle.io_freeze.specs.Calls.{Call, after_all, all_drawn_by}
+use Rattle.io_freeze.specs.Calls.{GuardsCall, guards_after_all, all_drawn_by}
 use Rattle.io_freeze.specs.Calls.Call.{Add, Remove, Freeze, Release, Renew}
 use Rattle.io_freeze.specs.Guards.{GuardsState, frozen_at, released, removed, renewed}
 use Rattle.io_freeze.proofs.Found.{tied, tied-same, tied-apart}
@@ -19,7 +19,7 @@ more_above g numbers rest =
     (All-weaker (λ n. g.drawn + 1 < n) (λ n. g.drawn < n) (λ n lt. omega arith) numbers rest)
 
 -- each number that is drawn is above all that were drawn before
-pub drawn-above : (g : GuardsState) (calls : List Call) → All (λ number. g.drawn < number) (all_drawn_by g calls)
+pub drawn-above : (g : GuardsState) (calls : List GuardsCall) → All (λ number. g.drawn < number) (all_drawn_by g calls)
 drawn-above g [] = All-nil (λ n. g.drawn < n)
 drawn-above g (Add head ∷ calls) =
     more_above g (all_drawn_by (renewed g head) calls) (drawn-above (renewed g head) calls)
@@ -30,7 +30,7 @@ drawn-above g (Renew head ∷ calls) =
     more_above g (all_drawn_by (renewed g head) calls) (drawn-above (renewed g head) calls)
 
 -- the numbers that are drawn rise
-pub drawn-rises : (g : GuardsState) (calls : List Call)
+pub drawn-rises : (g : GuardsState) (calls : List GuardsCall)
     → AllPairs (λ earlier later. earlier < later) (all_drawn_by g calls)
 drawn-rises g [] = λ i j d lt within. absurd (omega arith)
 drawn-rises g (Add head ∷ calls) =
@@ -82,8 +82,8 @@ after_a_remove g at head number numbers (inl has) =
     ]
 
 -- a generation was there before the calls, or they drew it
-pub had_or_drawn : (g : GuardsState) (calls : List Call) (head number : ℕ)
-    → map.get (after_all g calls).generations head ≡ Some number → HadOrDrawn g (all_drawn_by g calls) head number
+pub had_or_drawn : (g : GuardsState) (calls : List GuardsCall) (head number : ℕ)
+    → map.get (guards_after_all g calls).generations head ≡ Some number → HadOrDrawn g (all_drawn_by g calls) head number
 had_or_drawn g [] head number has = inl has
 had_or_drawn g (Add at ∷ calls) head number has =
     after_a_draw g at head number _ (had_or_drawn (renewed g at) calls head number has)

@@ -12,7 +12,7 @@ use Rattle.volume_model.specs.declared.reply.Reply.TheVariants as r
 use Rattle.blob_meta.specs.declared.meta.Meta.{Meta}
 use Rattle.blob_meta.specs.declared.job.Job.{Job}
 use Rattle.blob_meta.specs.Jobs.{job_of_one}
-use Rattle.blob_meta.specs.Asked.{IsCause, IsFirstCause}
+use Rattle.blob_meta.specs.Asked.{IsAttributeCause, IsFirstCause}
 
 abbrev pub IsPut : Command → Type 0
 IsPut (c.Put volume key value) = Unit {0}
@@ -39,6 +39,6 @@ PlansSync metas (Some live) (c.Sync (Head head)) job = GivesXattrs metas head li
 PlansSync metas _ _ job = ⊥
 
 -- want of memory, or the first cause
-abbrev pub Refuses : map.FinMap nat_cmp Meta → Option Xattrs → Command → Super → Reply → Type 0
-Refuses metas live command sup reply = (reply ≡ r.Memory) ⊎
-    (IsCause reply × IsFirstCause metas live command sup (Some reply))
+abbrev pub RefusesPlan : map.FinMap nat_cmp Meta → Option Xattrs → Command → Super → Reply → Type 0
+RefusesPlan metas live command sup reply = (reply ≡ r.Memory) ⊎
+    (IsAttributeCause reply × IsFirstCause metas live command sup (Some reply))

@@ -2,8 +2,8 @@
 
 ghost use Rattle.std.specs.Prelude.{◌≡◌, Some, None, IsSome, OnOk, IfOk, IfErr, option_copied};
 ghost use Rattle.std.specs.FinMap as map;
-ghost use Rattle.blob_meta.specs.Asked.{blob_named, IsOnHead, IsCause, IsLiveOf, IsFirstCause};
-ghost use Rattle.lvol_store.specs.Plans.{IsPut, IsSync, GivesXattrs, PlansPut, PlansSync, Refuses};
+ghost use Rattle.blob_meta.specs.Asked.{blob_named, IsOnHead, IsAttributeCause, IsLiveOf, IsFirstCause};
+ghost use Rattle.lvol_store.specs.Plans.{IsPut, IsSync, GivesXattrs, PlansPut, PlansSync, RefusesPlan};
 
 use blob_meta::{Job, Meta, Metas, refusal_of};
 use out_of_memory::Memory;
@@ -23,7 +23,7 @@ fn pass(
     ensures there { OnOk result (IsSome (blob_named metas.now command.now)) }
     ensures unrefused { OnOk result (IsFirstCause metas.now (option_copied live.entry) command.now sup.now None) }
     ensures refused { IfErr result
-        (λ reply. IsCause reply × IsFirstCause metas.now (option_copied live.entry) command.now sup.now (Some reply)) }
+        (λ reply. IsAttributeCause reply × IsFirstCause metas.now (option_copied live.entry) command.now sup.now (Some reply)) }
 {
     match refusal_of(metas, sup, live, command) {
         Some(reply) => Err(reply),
@@ -127,7 +127,7 @@ pub fn plan_put(
     ensures job { IfOk result (λ job. PlansPut metas.now (option_copied live.entry) command.now job) }
     ensures unrefused { IfOk result
         (λ job. IsFirstCause metas.now (option_copied live.entry) command.now sup.now None) }
-    ensures refused { IfErr result (Refuses metas.now (option_copied live.entry) command.now sup.now) }
+    ensures refused { IfErr result (RefusesPlan metas.now (option_copied live.entry) command.now sup.now) }
 {
     pass(metas, sup, live, command)?;
     put(alloc, metas, live, command).map_err(|_| Reply::Memory)
@@ -150,7 +150,7 @@ pub fn plan_sync(
     ensures job { IfOk result (λ job. PlansSync metas.now (option_copied live.entry) command.now job) }
     ensures unrefused { IfOk result
         (λ job. IsFirstCause metas.now (option_copied live.entry) command.now sup.now None) }
-    ensures refused { IfErr result (Refuses metas.now (option_copied live.entry) command.now sup.now) }
+    ensures refused { IfErr result (RefusesPlan metas.now (option_copied live.entry) command.now sup.now) }
 {
     pass(metas, sup, live, command)?;
     sync(alloc, metas, live, command).map_err(|_| Reply::Memory)

@@ -1,7 +1,7 @@
 pub mod OneChain
 pub mod Links
-pub mod Walking
-pub mod Walks
+pub mod PageWalk
+pub mod DeviceWalk
 pub mod RunPieces
 pub mod Plannable
 pub mod Fitting

@@ -1,7 +1,7 @@
 //! Each cause of a refusal.
 
 ghost use Rattle.std.specs.Prelude.{◌≡◌, Some, IfOk};
-ghost use Rattle.blob_meta.specs.Asked.{head_in};
+ghost use Rattle.blob_meta.specs.Asked.{asked_head};
 
 use crate::fixtures::small;
 use blob_meta::{Flags, Meta, Metas, refusal_of};
@@ -26,7 +26,7 @@ fn value(alloc: Global, length: usize) -> Result<Blobtext, Memory> {
 }
 
 fn command(alloc: Global, verb: Verb, head: u32, key: Blobtext) -> Result<Command, Memory>
-    ensures { IfOk result (λ c. head_in c ≡ Some head) }
+    ensures { IfOk result (λ c. asked_head c ≡ Some head) }
 {
     let volume = VolumeRef::Head(head);
     match verb {

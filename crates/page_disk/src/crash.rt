@@ -2,7 +2,7 @@
 ghost use Rattle.std.specs.Prelude.{◌≡◌, ◌⊎◌, ◌≤◌, ◌<◌, ◌-◌, ◌∷◌, [], length, get_or, false, ℕ, List, IfOk, OnOk};
 ghost use Rattle.crc32c.specs.Crc.{is_sound};
 ghost use Rattle.page_disk.specs.Disk.{Only, with_page};
-ghost use Rattle.page_disk.specs.Record.{base_image, begun, read_after, image_of, images_of, IsWrite, ImagesFrom};
+ghost use Rattle.page_disk.specs.Record.{base_image, record_begun, read_after, image_of, images_of, IsWrite, ImagesFrom};
 ghost use Rattle.page_disk.specs.Crash.{crash_image, left_after, left_of, remains_by, with_unsound, torn_by, TookOrNot, TookUnsound};
 ghost use Rattle.page_disk.specs.declared.record.Call.TheVariants.{Flush, Write};
 ghost use Rattle.page_disk.specs.declared.disk.WriteKind.TheVariants.{Plain};
@@ -31,7 +31,7 @@ impl MemDisk {
     /// the new one. 2 and 3 leave a torn page of a plain write: the new page with these bits of its last byte turned,
     /// or the old page where that one would be sound. Of a whole write they leave the old page.
     pub fn crash(&self, pick: u64) -> Result<MemDisk, Memory>
-        ensures begun { IfOk result (λ d. d ≡ begun self.now.pages self.now.room d.base) }
+        ensures begun { IfOk result (λ d. d ≡ record_begun self.now.pages self.now.room d.base) }
         ensures picked { IfOk result (λ d. image_of d ≡ crash_image pick self.now) }
         ensures image { IfOk result (λ d. images_of self.now (image_of d)) }
         ensures one { IfOk result (λ d. Only (image_of d) (images_of d)) }

@@ -1,7 +1,7 @@
 // A disk in memory: the pages with which it began, and a record of every write and flush since.
 ghost use Rattle.std.specs.Prelude.{◌≡◌, ◌≤◌, ◌<◌, ◌+◌, ◌++◌, ◌∷◌, true, length, ℕ, IfOk, IsOk, OnOk, OnErr, ◌↔◌, []};
 ghost use Rattle.std.specs.HashMap.{spare};
-ghost use Rattle.page_disk.specs.Record.{base_image, begun, read_after, image_of, images_of, since_of, zeros, IsIndex, IsWrite, content_of};
+ghost use Rattle.page_disk.specs.Record.{base_image, record_begun, read_after, image_of, images_of, since_of, zeros, IsIndex, IsWrite, content_of};
 ghost use Rattle.page_disk.specs.Disk.{Only, Wrote, HasCause, RoseByOne, last_count};
 ghost use Rattle.page_disk.specs.declared.record.Call.TheVariants.{Write, Flush};
 ghost use Rattle.page_disk.specs.RecordLaws.{reads_one, since_end, counts_end};
@@ -59,7 +59,7 @@ impl Model for MemDisk {
 impl MemDisk {
     /// A disk of so many pages, all zeros, with room for so many writes and flushes.
     pub fn new(alloc: Global, pages: u64, room: u32) -> Result<MemDisk, Memory>
-        ensures begun { IfOk result (λ d. d ≡ begun pages room []) }
+        ensures begun { IfOk result (λ d. d ≡ record_begun pages room []) }
         ensures zeros { IfOk result (λ d. (p : ℕ) → image_of d p ≡ zeros) }
         ensures one { IfOk result (λ d. Only (image_of d) (images_of d)) }
     {
@@ -74,7 +74,7 @@ impl MemDisk {
         room: u32,
         base: HashMap<u64, Page>,
     ) -> Result<MemDisk, Memory>
-        ensures { IfOk result (λ d. d ≡ begun pages room base.entries) }
+        ensures { IfOk result (λ d. d ≡ record_begun pages room base.entries) }
     {
         let calls = Vec::with_capacity(alloc, room as usize)?;
         let newest = HashMap::with_capacity(alloc, room as usize)?;

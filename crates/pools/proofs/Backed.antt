@@ -8,23 +8,23 @@ use Rattle.std.proofs.lemmas.List.Kept.{AllPairs-filter}
 use Rattle.std.proofs.lemmas.List.Filters.{length-filter_both}
 use Rattle.std.proofs.lemmas.List.Sums.{length-filter}
 use Rattle.bit_array.specs.Bits.{is_in, member_count, IsLeastClear}
-use Rattle.pools.specs.Pool.{PoolState, IsBacked, claimed, clear_in, freed, given_back, kept, without}
+use Rattle.pools.specs.Pool.{PoolState, IsBacked, claimed, clear_in, freed, given_back, kept, claims_without}
 
 passes_apart : (c at : ℕ) → not (eqb c at) ≡ true → c ≢ at
 passes_apart c at passed same = both_ways (not (eqb c at)) (ap not (eq-eqb c at same)) passed
 
 -- the claims that are left aren't the one that ended
-without-apart : (claims : List ℕ) (at : ℕ) → All (λ c. c ≢ at) (without claims at)
+without-apart : (claims : List ℕ) (at : ℕ) → All (λ c. c ≢ at) (claims_without claims at)
 without-apart claims at =
-    All-weaker (λ c. not (eqb c at) ≡ true) (λ c. c ≢ at) (λ c. passes_apart c at) (without claims at)
+    All-weaker (λ c. not (eqb c at) ≡ true) (λ c. c ≢ at) (λ c. passes_apart c at) (claims_without claims at)
     (filter_passes (λ c. not (eqb c at)) claims)
 
 -- claims of which none is the one that ended stay
-without-none : (claims : List ℕ) (at : ℕ) → All (λ c. c ≢ at) claims → without claims at ≡ claims
+without-none : (claims : List ℕ) (at : ℕ) → All (λ c. c ≢ at) claims → claims_without claims at ≡ claims
 without-none [] at none = refl
 without-none (c ∷ claims) at none =
     let other : eqb c at ≡ false = ne_eqb c at (All-head (λ c. c ≢ at) c claims none) in
-    ap (λ (b : Bool). cond (not b) (c ∷ without claims at) (without claims at)) other
+    ap (λ (b : Bool). cond (not b) (c ∷ claims_without claims at) (claims_without claims at)) other
     ∙ ap (λ (rest : List ℕ). c ∷ rest) (without-none claims at (All-tail (λ c. c ≢ at) c claims none))
 
 -- after a claim was kept
@@ -73,8 +73,8 @@ given_back-claimed p at was least =
     let bits : slice_set (slice_set p.bits at true) at false ≡ p.bits = set_back p.bits at least.within least.clear in
     let none : All (λ c. c ≢ at) p.claims = λ k d h same.
     both_ways (is_in p.bits at) least.clear (ap (is_in p.bits) (sym same) ∙ was.in_use k d h) in
-    let claims : without (at ∷ p.claims) at ≡ p.claims =
-    ap (λ (b : Bool). cond (not b) (at ∷ without p.claims at) (without p.claims at)) (eq-eqb at at refl)
+    let claims : claims_without (at ∷ p.claims) at ≡ p.claims =
+    ap (λ (b : Bool). cond (not b) (at ∷ claims_without p.claims at) (claims_without p.claims at)) (eq-eqb at at refl)
     ∙ without-none p.claims at none in
     λ i. record { bits = bits i; claims = claims i }
 

@@ -12,8 +12,8 @@ abbrev pub clear_in : List Bool → ℕ
 clear_in bits = count_by not bits
 
 -- the claims but for one
-abbrev pub without : List ℕ → ℕ → List ℕ
-without claims at = filter (λ c. not (c == at)) claims
+abbrev pub claims_without : List ℕ → ℕ → List ℕ
+claims_without claims at = filter (λ c. not (c == at)) claims
 
 -- a clear place is claimed
 abbrev pub claimed : PoolState → ℕ → PoolState
@@ -21,11 +21,11 @@ claimed p at = record { bits = slice_set p.bits at true; claims = at ∷ p.claim
 
 -- an open claim is given back: its place is clear again
 abbrev pub given_back : PoolState → ℕ → PoolState
-given_back p at = record { bits = slice_set p.bits at false; claims = without p.claims at }
+given_back p at = record { bits = slice_set p.bits at false; claims = claims_without p.claims at }
 
 -- an open claim ends, and its place stays in use
 abbrev pub kept : PoolState → ℕ → PoolState
-kept p at = record { bits = p.bits; claims = without p.claims at }
+kept p at = record { bits = p.bits; claims = claims_without p.claims at }
 
 -- a place in use that isn't claimed is clear again
 abbrev pub freed : PoolState → ℕ → PoolState

@@ -1,7 +1,7 @@
 //! The list of a pool's open claims, which only contracts read: it takes no bytes.
 
 ghost use Rattle.std.specs.Prelude.{◌≡◌, ◌∷◌};
-ghost use Rattle.pools.specs.Pool.{without};
+ghost use Rattle.pools.specs.Pool.{claims_without};
 
 use boxcar::tag::{Names, Tag};
 
@@ -16,7 +16,7 @@ impl Names<(&Tag, u32)> for Begun {
 struct Ended;
 
 impl Names<(&Tag, u32)> for Ended {
-    ghost numbers = { λ x. without x.0.now.numbers x.1 };
+    ghost numbers = { λ x. claims_without x.0.now.numbers x.1 };
 }
 
 /// The list with one claim more.
@@ -27,8 +27,8 @@ pub(crate) fn with(claims: &Tag, at: u32) -> Tag
 }
 
 /// The list without this claim.
-pub(crate) fn without(claims: &Tag, at: u32) -> Tag
-    ensures { result.numbers ≡ without claims.now.numbers at }
+pub(crate) fn claims_without(claims: &Tag, at: u32) -> Tag
+    ensures { result.numbers ≡ claims_without claims.now.numbers at }
 {
     Tag::of::<_, Ended>(&(claims, at))
 }

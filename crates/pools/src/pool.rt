@@ -1,6 +1,6 @@
 //! A pool of places, and the claims that it hands out.
 
-use crate::claims::{with, without};
+use crate::claims::{claims_without, with};
 use bit_array::Bits;
 use boxcar::tag::Tag;
 use std::marker::{Model, PhantomData};
@@ -111,7 +111,7 @@ impl<K> Pool<K> {
     {
         let Claim { at: place } = claim;
         self.bits.clear(place);
-        self.claims = without(&self.claims, place);
+        self.claims = claims_without(&self.claims, place);
     }
 
     /// Ends a claim, and its place stays in use. It gives the place.
@@ -121,7 +121,7 @@ impl<K> Pool<K> {
         ensures kept { self.new ≡ kept self.old claim }
     {
         let Claim { at } = claim;
-        self.claims = without(&self.claims, at);
+        self.claims = claims_without(&self.claims, at);
         at
     }
 

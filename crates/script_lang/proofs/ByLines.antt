@@ -16,30 +16,30 @@ use Rattle.script_lang.specs.declared.fault.LineKind.{LineKind}
 use Rattle.script_lang.specs.declared.fault.LineKind.TheVariants as kind
 use Rattle.script_lang.specs.declared.grammar.Grammar.{Grammar}
 use Rattle.script_lang.specs.declared.grammar.Grammar.TheVariants.{Served}
-use Rattle.script_lang.specs.declared.line.Request.{Request}
+use Rattle.script_lang.specs.declared.line.LineRequest.{LineRequest}
 use Rattle.script_lang.specs.Commands.{pages_of}
 use Rattle.script_lang.specs.Lines.{says}
-use Rattle.script_lang.specs.Script.{lines, all_ok, pages_in, within_pages, requests_in, with_command, with_request, script_of, reads_as, wrong_after, wrong_on, IsFirstBad}
+use Rattle.script_lang.specs.Script.{lines, all_ok, pages_of_requests, within_pages, requests_in, with_command, with_request, script_of, reads_as, wrong_after, wrong_on, IsFirstBad}
 use Rattle.script_lang.proofs.Requests.{IsSized, no_pages}
 
-mapped_none : (o : Option (List Request)) → o ≡ option_map (λ more. more) o
+mapped_none : (o : Option (List LineRequest)) → o ≡ option_map (λ more. more) o
 mapped_none None = refl
 mapped_none (Some x) = refl
 
-mapped_twice : (request : Request) (requests : List Request) (o : Option (List Request))
+mapped_twice : (request : LineRequest) (requests : List LineRequest) (o : Option (List LineRequest))
     → option_map (λ ys. request ∷ ys) (option_map (λ more. requests ++ more) o) ≡ option_map
     (λ more. request ∷ (requests ++ more)) o
 mapped_twice request requests None = refl
 mapped_twice request requests (Some x) = refl
 
 -- lines that all ask for something
-all_oks : (requests : List Request) (later : List (Result Request LineKind))
+all_oks : (requests : List LineRequest) (later : List (Result LineRequest LineKind))
     → all_ok (map Ok requests ++ later) ≡ option_map (λ more. requests ++ more) (all_ok later)
 all_oks [] later = mapped_none (all_ok later)
 all_oks (request ∷ requests) later = ap (option_map (λ ys. request ∷ ys)) (all_oks requests later)
     ∙ mapped_twice request requests (all_ok later)
 
-just_oks : (requests : List Request) → all_ok (map Ok requests) ≡ Some requests
+just_oks : (requests : List LineRequest) → all_ok (map Ok requests) ≡ Some requests
 just_oks [] = refl
 just_oks (request ∷ requests) = ap (option_map (λ ys. request ∷ ys)) (just_oks requests)
 
@@ -55,21 +55,21 @@ is_lt a b h = grind (arith, nat_tests, h)
 not_lt : (a b : ℕ) → b ≤ a → nat_lt a b ≡ false
 not_lt a b h = grind (arith, nat_tests, h)
 
-few_pages : (requests : List Request) → pages_in requests ≤ 2 ^ 16 → within_pages requests ≡ Some requests
-few_pages requests few = ap (λ b. cond b (Some requests) None) (is_le (pages_in requests) (2 ^ 16) few)
+few_pages : (requests : List LineRequest) → pages_of_requests requests ≤ 2 ^ 16 → within_pages requests ≡ Some requests
+few_pages requests few = ap (λ b. cond b (Some requests) None) (is_le (pages_of_requests requests) (2 ^ 16) few)
 
-many_pages : (requests : List Request) → 2 ^ 16 < pages_in requests → within_pages requests ≡ None
-many_pages requests many = ap (λ b. cond b (Some requests) None) (not_le (pages_in requests) (2 ^ 16) many)
+many_pages : (requests : List LineRequest) → 2 ^ 16 < pages_of_requests requests → within_pages requests ≡ None
+many_pages requests many = ap (λ b. cond b (Some requests) None) (not_le (pages_of_requests requests) (2 ^ 16) many)
 
 -- once the pages are too many, they stay so
-stay_many : (requests : List Request) (o : Option (List Request)) → 2 ^ 16 < pages_in requests
+stay_many : (requests : List LineRequest) (o : Option (List LineRequest)) → 2 ^ 16 < pages_of_requests requests
     → option_and_then within_pages (option_map (λ more. requests ++ more) o) ≡ None
 stay_many requests None many = refl
 stay_many requests (Some more) many = many_pages (requests ++ more)
-    (omega (arith, many, sum_by-append (λ (q : Request). pages_of q.commands) requests more))
+    (omega (arith, many, sum_by-append (λ (q : LineRequest). pages_of q.commands) requests more))
 
-in_few_lines : (grammar : Grammar) (ls : List (List ℕ)) (requests : List Request) → length ls ≤ 2 ^ 16
-    → map (says grammar) ls ≡ map Ok requests → pages_in requests ≤ 2 ^ 16
+in_few_lines : (grammar : Grammar) (ls : List (List ℕ)) (requests : List LineRequest) → length ls ≤ 2 ^ 16
+    → map (says grammar) ls ≡ map Ok requests → pages_of_requests requests ≤ 2 ^ 16
     → requests_in grammar ls ≡ Some requests
 unfolding requests_in
 in_few_lines grammar ls requests few good within =
@@ -100,13 +100,13 @@ no_script grammar text e = none_chosen (nat_le (length text) (2 ^ 20)) _ (ap (op
 pub record IsReading (grammar : Grammar) (all left : List (List ℕ)) (script : List (List Command)) (number pages : ℕ)
     : Type 0 where
   pub before : List (List ℕ)
-  pub requests : List Request
+  pub requests : List LineRequest
   pub whole : all ≡ before ++ left
   pub good : map (says grammar) before ≡ map Ok requests
   pub script_is : script ≡ script_of requests
   pub number_is : number ≡ length before
   pub fits : number ≤ 2 ^ 16
-  pub pages_are : pages ≡ pages_in requests
+  pub pages_are : pages ≡ pages_of_requests requests
   pub within : pages ≤ 2 ^ 16
   pub room : commands_in script ≤ pages + number
   pub paged : 0 < pages → commands_in script + 1 ≤ pages + number
@@ -169,7 +169,7 @@ more_room commands number pages len more (inr same) room paged = (
 )
 
 -- one more at the end of those that are there
-shifted : (requests : List Request) (request : Request) (later : List (Result Request LineKind))
+shifted : (requests : List LineRequest) (request : LineRequest) (later : List (Result LineRequest LineKind))
     → map Ok requests ++ Ok request ∷ later ≡ map Ok (requests ++ request ∷ []) ++ later
 shifted requests request later = sym (append_assoc (map Ok requests) (Ok request ∷ []) later)
     ∙ ap (λ rs. rs ++ later) (sym (map-append Ok requests (request ∷ [])))
@@ -189,7 +189,7 @@ module _ (grammar : Grammar) (all left : List (List ℕ)) (line : List ℕ) (res
       ∙ ap (λ cs. cs ++ says grammar line ∷ map (says grammar) rest) r.good
 
   first_bad : (text : List ℕ) (kind : LineKind) → length text ≤ 2 ^ 20 → all ≡ lines text
-      → wrong_on grammar (number + 1) (pages_in r.requests) line ≡ Some kind → IsFirstBad grammar text (number + 1) kind
+      → wrong_on grammar (number + 1) (pages_of_requests r.requests) line ≡ Some kind → IsFirstBad grammar text (number + 1) kind
   first_bad text kind small is wrong = record {
     before = r.before;
     requests = r.requests;
@@ -204,11 +204,11 @@ module _ (grammar : Grammar) (all left : List (List ℕ)) (line : List ℕ) (res
 
   -- within the limit of lines the line itself says what is wrong
   wrong_here : number + 1 ≤ 2 ^ 16
-      → wrong_on grammar (number + 1) (pages_in r.requests) line ≡ wrong_after (pages_in r.requests) (says grammar line)
-  wrong_here few = ap (λ b. cond b (Some kind.Limit) (wrong_after (pages_in r.requests) (says grammar line)))
+      → wrong_on grammar (number + 1) (pages_of_requests r.requests) line ≡ wrong_after (pages_of_requests r.requests) (says grammar line)
+  wrong_here few = ap (λ b. cond b (Some kind.Limit) (wrong_after (pages_of_requests r.requests) (says grammar line)))
       (not_lt (2 ^ 16) (number + 1) few)
 
-  module _ (request : Request) (said : says grammar line ≡ Ok request) where
+  module _ (request : LineRequest) (said : says grammar line ≡ Ok request) where
     pub one_more : (next : List (List Command)) → IsSized request.commands
         → (grammar ≡ Served → All IsOnHead request.commands)
         → number + 1 ≤ 2 ^ 16 → pages + pages_of request.commands ≤ 2 ^ 16
@@ -230,7 +230,7 @@ module _ (grammar : Grammar) (all left : List (List ℕ)) (line : List ℕ) (res
           pages_are = omega (
             arith,
             r.pages_are,
-            sum_by-append (λ (q : Request). pages_of q.commands) r.requests
+            sum_by-append (λ (q : LineRequest). pages_of q.commands) r.requests
                 (request ∷ []),
           );
           within = within;
@@ -246,13 +246,13 @@ module _ (grammar : Grammar) (all left : List (List ℕ)) (line : List ℕ) (res
         → 2 ^ 16 < pages + pages_of request.commands
         → IsFirstBad grammar text (number + 1) kind.Limit × (reads_as grammar text ≡ None)
     too_many_pages text small is few over =
-        let more : 2 ^ 16 < pages_in r.requests + pages_of request.commands = omega (arith, over, r.pages_are) in
-        let limit : wrong_after (pages_in r.requests) (says grammar line) ≡ Some kind.Limit =
-        ap (wrong_after (pages_in r.requests)) said
+        let more : 2 ^ 16 < pages_of_requests r.requests + pages_of request.commands = omega (arith, over, r.pages_are) in
+        let limit : wrong_after (pages_of_requests r.requests) (says grammar line) ≡ Some kind.Limit =
+        ap (wrong_after (pages_of_requests r.requests)) said
         ∙ ap (λ b. cond b (Some kind.Limit) None)
-        (is_lt (2 ^ 16) (pages_in r.requests + pages_of request.commands) more) in
-        let whole : pages_in (r.requests ++ request ∷ []) ≡ pages_in r.requests + pages_of request.commands =
-        omega (arith, sum_by-append (λ (q : Request). pages_of q.commands) r.requests (request ∷ [])) in
+        (is_lt (2 ^ 16) (pages_of_requests r.requests + pages_of request.commands) more) in
+        let whole : pages_of_requests (r.requests ++ request ∷ []) ≡ pages_of_requests r.requests + pages_of request.commands =
+        omega (arith, sum_by-append (λ (q : LineRequest). pages_of q.commands) r.requests (request ∷ [])) in
         let asked : all_ok (map (says grammar) all) ≡ option_map (λ later. (r.requests ++ request ∷ []) ++ later)
         (all_ok (map (says grammar) rest)) =
         ap all_ok (all_said ∙ ap (λ c. map Ok r.requests ++ c ∷ map (says grammar) rest) said
@@ -272,7 +272,7 @@ module _ (grammar : Grammar) (all left : List (List ℕ)) (line : List ℕ) (res
       let asked : all_ok (map (says grammar) all) ≡ None =
       ap all_ok (all_said ∙ ap (λ c. map Ok r.requests ++ c ∷ map (says grammar) rest) said)
       ∙ all_oks r.requests (Err kind ∷ map (says grammar) rest) in (
-        first_bad text kind small is (wrong_here few ∙ ap (wrong_after (pages_in r.requests)) said),
+        first_bad text kind small is (wrong_here few ∙ ap (wrong_after (pages_of_requests r.requests)) said),
         no_script grammar text (ap (requests_in grammar) (sym is)
             ∙ none_asked grammar all (ap (option_and_then within_pages) asked)),
       )
@@ -283,7 +283,7 @@ module _ (grammar : Grammar) (all left : List (List ℕ)) (line : List ℕ) (res
       let long : 2 ^ 16 < length all = omega
       (arith, many, r.number_is, ap length whole_is, length-append r.before (line ∷ rest)) in (
         first_bad text kind.Limit small is
-            (ap (λ b. cond b (Some kind.Limit) (wrong_after (pages_in r.requests) (says grammar line)))
+            (ap (λ b. cond b (Some kind.Limit) (wrong_after (pages_of_requests r.requests) (says grammar line)))
             (is_lt (2 ^ 16) (number + 1) many)),
         no_script grammar text (ap (requests_in grammar) (sym is) ∙ in_many_lines grammar all long),
       )
@@ -303,7 +303,7 @@ all_read grammar text left script number pages small r e =
 
 -- there is room for a request's commands
 pub pushed_room : (grammar : Grammar) (all left : List (List ℕ)) (script : List (List Command)) {number pages : ℕ}
-    → (r : IsReading grammar all left script number pages) → (request : Request) → IsSized request.commands
+    → (r : IsReading grammar all left script number pages) → (request : LineRequest) → IsSized request.commands
     → number + 1 ≤ 2 ^ 16 → pages + pages_of request.commands ≤ 2 ^ 16
     → commands_in script + length request.commands ≤ 131071
 pushed_room grammar all left script {number} {pages} r request sized few within =

@@ -6,7 +6,7 @@ use Rattle.script_lang.specs.declared.fault.LineKind.TheVariants as kind
 use Rattle.script_lang.specs.declared.form.Form.{Form}
 use Rattle.script_lang.specs.declared.form.Value.{Value}
 use Rattle.script_lang.specs.declared.grammar.Grammar.{Grammar}
-use Rattle.script_lang.specs.Forms.{says_word, says_values, joined, or_kind, kind_of, worse, after, so_far}
+use Rattle.script_lang.specs.Forms.{says_word, says_values, joined, or_kind, kind_of_form, worse, fault_after, so_far}
 
 worse_assoc : (a b c : LineKind) → worse (worse a b) c ≡ worse a (worse b c)
 worse_assoc a b kind.Form = refl
@@ -52,7 +52,7 @@ said_good values None value = refl
 said_good values (Some kind) value = refl
 
 said_bad : (values : List Value) (fault : Option LineKind) (kind : LineKind)
-    → joined (so_far values fault) (Err kind) ≡ so_far values (Some (after fault kind))
+    → joined (so_far values fault) (Err kind) ≡ so_far values (Some (fault_after fault kind))
 said_bad values None kind = refl
 said_bad values (Some first) kind = refl
 
@@ -99,11 +99,11 @@ module _ (grammar : Grammar) (forms : List Form) (words : List (List ℕ)) (inde
     }
 
     pub one_fault : says_word grammar (get_or forms index d) word ≡ None
-        → IsReading grammar forms words (index + 1) rest values (Some (after fault (kind_of (get_or forms index d))))
+        → IsReading grammar forms words (index + 1) rest values (Some (fault_after fault (kind_of_form (get_or forms index d))))
     one_fault said = record {
       whole = ap (λ a. joined a (says_values grammar (drop (index + 1) forms) rest))
           (sym (ap (λ o. joined (so_far values fault) (or_kind (get_or forms index d) o)) said
-          ∙ said_bad values fault (kind_of (get_or forms index d)))) ∙ split;
+          ∙ said_bad values fault (kind_of_form (get_or forms index d)))) ∙ split;
       few = omega (arith, r.few);
     }
 

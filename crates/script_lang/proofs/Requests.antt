@@ -19,10 +19,10 @@ use Rattle.script_lang.specs.declared.form.Value.{Value}
 use Rattle.script_lang.specs.declared.form.Value.TheVariants.{Volume, Name, Number, Thick, Uuid, Text}
 use Rattle.script_lang.specs.declared.grammar.Grammar.{Grammar}
 use Rattle.script_lang.specs.declared.grammar.Grammar.TheVariants.{Served, Whole}
-use Rattle.script_lang.specs.declared.line.Request.{Request}
+use Rattle.script_lang.specs.declared.line.LineRequest.{LineRequest}
 use Rattle.script_lang.specs.declared.verb.Verb.{Verb}
 use Rattle.script_lang.specs.declared.verb.Verb.TheVariants as v
-use Rattle.script_lang.specs.Commands.{commands_of, command_of, alone, plain, on_volume, on_slots, on_name, on_key, on_value, creation, command_on, command_of_name, writes, reads, page_by_page, write_at, read_at, is_page, pages_of}
+use Rattle.script_lang.specs.Commands.{commands_of, command_of, alone, plain, command_on_volume, on_slots, on_name, on_key, on_value, creation, command_on, command_of_name, write_commands, read_commands, page_by_page, write_at, read_at, is_page, pages_of}
 use Rattle.script_lang.specs.Forms.{says_word, says_values, joined, or_kind}
 use Rattle.script_lang.specs.Grammar.{serves, channels_of}
 use Rattle.script_lang.specs.Lines.{says, says_words, says_verb, commands_said, in_channel, channel_in, is_skipped, is_printable, is_spaced, words}
@@ -53,8 +53,8 @@ module _ (grammar : Grammar) (Q : List Command → Type 0) (none : Q [])
 
   pub says_has : (line : List ℕ) → IfOk (says grammar line) (λ request. Q request.commands)
   says_has line =
-      either (λ (r : Result Request LineKind). IfOk r (λ request. Q request.commands)) (is_skipped line) _ _ none
-      (either (λ (r : Result Request LineKind). IfOk r (λ request. Q request.commands))
+      either (λ (r : Result LineRequest LineKind). IfOk r (λ request. Q request.commands)) (is_skipped line) _ _ none
+      (either (λ (r : Result LineRequest LineKind). IfOk r (λ request. Q request.commands))
       (is_printable line && is_spaced line) _ _ (words_have (words line)) tt)
 
 -- one command at most, or pages alone
@@ -81,12 +81,12 @@ alone_sized : (command : Option Command) → IfOk (alone command) IsSized
 alone_sized (Some command) = inl (omega arith)
 alone_sized None = tt
 
-writes_sized : (values : List Value) → IfOk (writes values) IsSized
+writes_sized : (values : List Value) → IfOk (write_commands values) IsSized
 writes_sized (Volume volume ∷ Number page ∷ Number count ∷ Number word ∷ []) = pages_sized page count
     (write_at volume page word) (λ i. refl)
 writes_sized _ = tt
 
-reads_sized : (values : List Value) → IfOk (reads values) IsSized
+reads_sized : (values : List Value) → IfOk (read_commands values) IsSized
 reads_sized (Volume volume ∷ Number page ∷ Number count ∷ []) = pages_sized page count (read_at volume page) (λ i. refl)
 reads_sized _ = tt
 
@@ -132,7 +132,7 @@ plain_served v.Df s = absurd (false≢true s)
 plain_served _ s = tt
 
 volume_served : (verb : Verb) (head : ℕ) → serves Served verb ≡ true
-    → IfOk (alone (on_volume verb (Head head))) AreOnHeads
+    → IfOk (alone (command_on_volume verb (Head head))) AreOnHeads
 volume_served v.Sync head s = one_head _ refl
 volume_served v.Inflate head s = absurd (false≢true s)
 volume_served v.Decouple head s = absurd (false≢true s)
@@ -320,12 +320,12 @@ words_below grammar (channel ∷ verb ∷ more) =
 -- a line's channel is one of sixteen
 pub says_channel : (grammar : Grammar) (line : List ℕ) → IfOk (says grammar line) (λ request. request.channel < 16)
 says_channel grammar line =
-    either (λ (r : Result Request LineKind). IfOk r (λ request. request.channel < 16)) (is_skipped line) _ _
+    either (λ (r : Result LineRequest LineKind). IfOk r (λ request. request.channel < 16)) (is_skipped line) _ _
     (omega arith)
-    (either (λ (r : Result Request LineKind). IfOk r (λ request. request.channel < 16))
+    (either (λ (r : Result LineRequest LineKind). IfOk r (λ request. request.channel < 16))
     (is_printable line && is_spaced line) _ _ (words_below grammar (words line)) tt)
 
 -- what holds of a request if there is one
-pub if_said : (P : Request → Type 0) (r : Result Request LineKind) (request : Request) → r ≡ Ok request → IfOk r P
+pub if_said : (P : LineRequest → Type 0) (r : Result LineRequest LineKind) (request : LineRequest) → r ≡ Ok request → IfOk r P
     → P request
-if_said P r request e h = subst (λ (x : Result Request LineKind). IfOk x P) e h
+if_said P r request e h = subst (λ (x : Result LineRequest LineKind). IfOk x P) e h

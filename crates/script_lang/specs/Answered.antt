@@ -5,7 +5,7 @@ use Rattle.script_lang.specs.declared.fault.LineFault.{LineFault}
 use Rattle.script_lang.specs.declared.fault.LineFault.TheVariants.{Bad, Memory}
 
 -- the answer is what was said, or memory ran out
-abbrev pub Answers : {X : Type 0} → Result X LineKind → Result X LineFault → Type 0
-Answers said (Ok x) = said ≡ Ok x
-Answers said (Err (Bad kind)) = said ≡ Err kind
-Answers said (Err Memory) = Unit {0}
+abbrev pub AnswersAsSaid : {X : Type 0} → Result X LineKind → Result X LineFault → Type 0
+AnswersAsSaid said (Ok x) = said ≡ Ok x
+AnswersAsSaid said (Err (Bad kind)) = said ≡ Err kind
+AnswersAsSaid said (Err Memory) = Unit {0}

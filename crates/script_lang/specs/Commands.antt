@@ -32,14 +32,14 @@ plain v.Df = Some c.Df
 plain _ = None
 
 -- `VOL`
-abbrev pub on_volume : Verb → VolumeRef → Option Command
-on_volume v.Sync volume = Some (c.Sync volume)
-on_volume v.Inflate volume = Some (c.Inflate volume)
-on_volume v.Decouple volume = Some (c.Decouple volume)
-on_volume v.Delete volume = Some (c.Delete volume)
-on_volume v.ReadOnly volume = Some (c.ReadOnly volume)
-on_volume v.Info volume = Some (c.Info volume)
-on_volume _ volume = None
+abbrev pub command_on_volume : Verb → VolumeRef → Option Command
+command_on_volume v.Sync volume = Some (c.Sync volume)
+command_on_volume v.Inflate volume = Some (c.Inflate volume)
+command_on_volume v.Decouple volume = Some (c.Decouple volume)
+command_on_volume v.Delete volume = Some (c.Delete volume)
+command_on_volume v.ReadOnly volume = Some (c.ReadOnly volume)
+command_on_volume v.Info volume = Some (c.Info volume)
+command_on_volume _ volume = None
 
 -- `VOL NUMBER`
 abbrev pub on_slots : Verb → VolumeRef → ℕ → Option Command
@@ -72,7 +72,7 @@ creation _ name slots thick uuid = None
 
 -- the command of a verb on a volume, with the values of the words after it
 abbrev pub command_on : Verb → VolumeRef → List Value → Option Command
-command_on verb volume [] = on_volume verb volume
+command_on verb volume [] = command_on_volume verb volume
 command_on verb volume (Number slots ∷ []) = on_slots verb volume slots
 command_on verb volume (Name name ∷ []) = on_name verb volume name
 command_on verb volume (Text key ∷ []) = on_key verb volume key
@@ -97,20 +97,20 @@ alone (Some command) = Ok (command ∷ [])
 alone None = Err kind.Form
 
 -- `VOL PAGE COUNT WORD`
-abbrev pub writes : List Value → Result (List Command) LineKind
-writes (Volume volume ∷ Number page ∷ Number count ∷ Number word ∷ []) =
+abbrev pub write_commands : List Value → Result (List Command) LineKind
+write_commands (Volume volume ∷ Number page ∷ Number count ∷ Number word ∷ []) =
     page_by_page page count (write_at volume page word)
-writes _ = Err kind.Form
+write_commands _ = Err kind.Form
 
 -- `VOL PAGE COUNT`
-abbrev pub reads : List Value → Result (List Command) LineKind
-reads (Volume volume ∷ Number page ∷ Number count ∷ []) = page_by_page page count (read_at volume page)
-reads _ = Err kind.Form
+abbrev pub read_commands : List Value → Result (List Command) LineKind
+read_commands (Volume volume ∷ Number page ∷ Number count ∷ []) = page_by_page page count (read_at volume page)
+read_commands _ = Err kind.Form
 
 -- the commands of a verb and its values
 abbrev pub commands_of : Verb → List Value → Result (List Command) LineKind
-commands_of v.Write values = writes values
-commands_of v.Read values = reads values
+commands_of v.Write values = write_commands values
+commands_of v.Read values = read_commands values
 commands_of verb values = alone (command_of verb values)
 
 -- a command that reads or writes a page

@@ -32,15 +32,15 @@ says_word grammar form.Key word = option_map value.Text (key_in word)
 says_word grammar form.Value word = option_map value.Text (value_in word)
 
 -- what is wrong with a word that isn't of this form
-abbrev pub kind_of : Form → LineKind
-kind_of form.Volume = kind.Volume
-kind_of form.Name = kind.Volume
-kind_of form.Number = kind.Number
-kind_of form.Count = kind.Number
-kind_of form.Thickness = kind.Form
-kind_of form.Uuid = kind.Uuid
-kind_of form.Key = kind.KeyValue
-kind_of form.Value = kind.KeyValue
+abbrev pub kind_of_form : Form → LineKind
+kind_of_form form.Volume = kind.Volume
+kind_of_form form.Name = kind.Volume
+kind_of_form form.Number = kind.Number
+kind_of_form form.Count = kind.Number
+kind_of_form form.Thickness = kind.Form
+kind_of_form form.Uuid = kind.Uuid
+kind_of_form form.Key = kind.KeyValue
+kind_of_form form.Value = kind.KeyValue
 
 abbrev pub is_form : LineKind → Bool
 is_form kind.Form = true
@@ -51,14 +51,14 @@ abbrev pub worse : LineKind → LineKind → LineKind
 worse first later = if is_form later then later else first
 
 -- a fault after others, if there are any
-abbrev pub after : Option LineKind → LineKind → LineKind
-after None later = later
-after (Some first) later = worse first later
+abbrev pub fault_after : Option LineKind → LineKind → LineKind
+fault_after None later = later
+fault_after (Some first) later = worse first later
 
 -- a word by its form
 abbrev pub or_kind : Form → Option Value → Result (List Value) LineKind
 or_kind form (Some value) = Ok (value ∷ [])
-or_kind form None = Err (kind_of form)
+or_kind form None = Err (kind_of_form form)
 
 -- what words say, and then what further words say
 abbrev pub joined : Result (List Value) LineKind → Result (List Value) LineKind → Result (List Value) LineKind

@@ -6,7 +6,7 @@ use Rattle.script_lang.specs.declared.fault.LineKind.{LineKind}
 use Rattle.script_lang.specs.declared.fault.LineKind.TheVariants as kind
 use Rattle.script_lang.specs.declared.form.Value.{Value}
 use Rattle.script_lang.specs.declared.grammar.Grammar.{Grammar}
-use Rattle.script_lang.specs.declared.line.Request.{Request}
+use Rattle.script_lang.specs.declared.line.LineRequest.{LineRequest}
 use Rattle.script_lang.specs.declared.verb.Verb.{Verb}
 use Rattle.script_lang.specs.Commands.{commands_of}
 use Rattle.script_lang.specs.Forms.{says_values, worse}
@@ -45,7 +45,7 @@ says_verb grammar (Some verb) words =
     if takes verb (length words) then commands_said verb (says_values grammar (forms_of verb) words) else Err kind.Form
 
 -- commands in a channel; a bad channel stands before what is wrong with later words
-abbrev pub in_channel : Option ℕ → Result (List Command) LineKind → Result Request LineKind
+abbrev pub in_channel : Option ℕ → Result (List Command) LineKind → Result LineRequest LineKind
 in_channel (Some channel) (Ok commands) = Ok (record { channel = channel; commands = commands })
 in_channel (Some channel) (Err kind) = Err kind
 in_channel None (Ok commands) = Err kind.Channel
@@ -55,16 +55,16 @@ abbrev pub channel_in : Grammar → List ℕ → Option ℕ
 channel_in grammar word = number_below (channels_of grammar) word
 
 -- a channel, a verb and the words of this verb
-abbrev pub says_words : Grammar → List (List ℕ) → Result Request LineKind
+abbrev pub says_words : Grammar → List (List ℕ) → Result LineRequest LineKind
 says_words grammar (channel ∷ verb ∷ words) =
     in_channel (channel_in grammar channel) (says_verb grammar (verb_in grammar verb) words)
 says_words grammar _ = Err kind.Form
 
-abbrev pub no_request : Request
+abbrev pub no_request : LineRequest
 no_request = record { channel = 0; commands = [] }
 
 -- what a line asks for, or what is wrong with it: the first word at fault, but `Form` before all others
-abbrev pub says : Grammar → List ℕ → Result Request LineKind
+abbrev pub says : Grammar → List ℕ → Result LineRequest LineKind
 says grammar line =
     if is_skipped line then Ok no_request
     else (if is_printable line && is_spaced line then says_words grammar (words line) else Err kind.Form)

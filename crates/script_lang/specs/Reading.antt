@@ -87,6 +87,6 @@ ReadsOn said r true = said ≡ Some r
 ReadsOn said r false = said ≡ None
 
 -- the steps at an end, with an empty part begun, or that there is no end
-abbrev pub Ends : Option (List Actor) → Reading → Bool → Type 0
-Ends said r true = (said ≡ Some r.schedule) × (r.actors ≡ []) × (r.place ≡ Start)
-Ends said r false = said ≡ None
+abbrev pub ReadsToEnd : Option (List Actor) → Reading → Bool → Type 0
+ReadsToEnd said r true = (said ≡ Some r.schedule) × (r.actors ≡ []) × (r.place ≡ Start)
+ReadsToEnd said r false = said ≡ None

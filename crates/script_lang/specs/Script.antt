@@ -8,7 +8,7 @@ use Rattle.script_lang.specs.declared.fault.ScriptFault.{ScriptFault}
 use Rattle.script_lang.specs.declared.fault.ScriptFault.TheVariants as fault
 use Rattle.script_lang.specs.declared.grammar.Grammar.{Grammar}
 use Rattle.script_lang.specs.declared.grammar.Grammar.TheVariants as g
-use Rattle.script_lang.specs.declared.line.Request.{Request}
+use Rattle.script_lang.specs.declared.line.LineRequest.{LineRequest}
 use Rattle.script_lang.specs.Commands.{pages_of}
 use Rattle.script_lang.specs.Lines.{says}
 use Rattle.script_lang.specs.Parts.{parts}
@@ -28,14 +28,14 @@ all_ok (Err kind ∷ xs) = None
 all_ok (Ok x ∷ xs) = option_map (λ ys. x ∷ ys) (all_ok xs)
 
 -- how many pages requests read and write
-abbrev pub pages_in : List Request → ℕ
-pages_in requests = sum_by (λ request. pages_of request.commands) requests
+abbrev pub pages_of_requests : List LineRequest → ℕ
+pages_of_requests requests = sum_by (λ request. pages_of request.commands) requests
 
-abbrev pub within_pages : List Request → Option (List Request)
-within_pages requests = if nat_le (pages_in requests) (2 ^ 16) then Some requests else None
+abbrev pub within_pages : List LineRequest → Option (List LineRequest)
+within_pages requests = if nat_le (pages_of_requests requests) (2 ^ 16) then Some requests else None
 
 -- what lines ask for: at most 65,536 lines, which together read and write at most 65,536 pages
-unfoldable pub requests_in : Grammar → List (List ℕ) → Option (List Request)
+unfoldable pub requests_in : Grammar → List (List ℕ) → Option (List LineRequest)
 requests_in grammar lines =
     if nat_le (length lines) (2 ^ 16) then option_and_then within_pages (all_ok (map (says grammar) lines)) else None
 
@@ -44,11 +44,11 @@ abbrev pub with_command : ℕ → List (List Command) → Command → List (List
 with_command channel script command = slice_set script channel (slice_index_or script channel [] ++ command ∷ [])
 
 -- a request's commands at the end of its channel's, in order
-abbrev pub with_request : List (List Command) → Request → List (List Command)
+abbrev pub with_request : List (List Command) → LineRequest → List (List Command)
 with_request script request = fold (with_command request.channel) script request.commands
 
 -- sixteen channels, each with its commands in the order of the lines
-abbrev pub script_of : List Request → List (List Command)
+abbrev pub script_of : List LineRequest → List (List Command)
 script_of requests = fold with_request (replicate 16 []) requests
 
 -- the script of a text of at most 1,048,576 bytes
@@ -57,7 +57,7 @@ reads_as grammar text =
     if nat_le (length text) (2 ^ 20) then option_map script_of (requests_in grammar (lines text)) else None
 
 -- what is wrong with a line after so many pages: it asks for nothing, or for a page too many
-abbrev pub wrong_after : ℕ → Result Request LineKind → Option LineKind
+abbrev pub wrong_after : ℕ → Result LineRequest LineKind → Option LineKind
 wrong_after pages (Err kind) = Some kind
 wrong_after pages (Ok request) = if nat_lt (2 ^ 16) (pages + pages_of request.commands) then Some kind.Limit else None
 
@@ -69,13 +69,13 @@ wrong_on grammar number pages line =
 -- the line of this number, from 1, is the first outside the grammar or over a limit, and this is wrong with it
 pub record IsFirstBad (grammar : Grammar) (text : List ℕ) (number : ℕ) (kind : LineKind) : Type 0 where
   pub before : List (List ℕ)
-  pub requests : List Request
+  pub requests : List LineRequest
   pub line : List ℕ
   pub after : List (List ℕ)
   pub small : length text ≤ 2 ^ 20
   pub lines_are : lines text ≡ before ++ line ∷ after
   pub good : requests_in grammar before ≡ Some requests
-  pub bad : wrong_on grammar number (pages_in requests) line ≡ Some kind
+  pub bad : wrong_on grammar number (pages_of_requests requests) line ≡ Some kind
   pub number_is : number ≡ length before + 1
 
 -- why a text isn't taken
@@ -85,9 +85,9 @@ Why grammar text fault.TooBig = 2 ^ 20 < length text
 Why grammar text fault.Memory = Unit {0}
 
 -- a refused text is no script
-abbrev pub Refuses : Grammar → List ℕ → ScriptFault → Type 0
-Refuses grammar text fault.Memory = Unit {0}
-Refuses grammar text _ = reads_as grammar text ≡ None
+abbrev pub RefusesText : Grammar → List ℕ → ScriptFault → Type 0
+RefusesText grammar text fault.Memory = Unit {0}
+RefusesText grammar text _ = reads_as grammar text ≡ None
 
 -- the script that the program serves
 abbrev pub reads : List ℕ → Option (List (List Command))

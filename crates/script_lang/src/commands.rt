@@ -2,7 +2,7 @@
 
 ghost use Rattle.std.specs.Prelude.{◌≡◌, ◌+◌, ◌<◌, ◌≤◌, ◌^◌, nat_lt, ◌∷◌, map, length, IfOk};
 ghost use Rattle.std.specs.List.{range_with_len};
-ghost use Rattle.script_lang.specs.Answered.{Answers};
+ghost use Rattle.script_lang.specs.Answered.{AnswersAsSaid};
 ghost use Rattle.script_lang.specs.Commands as said;
 ghost use Rattle.script_lang.specs.Forms.{listed};
 
@@ -15,7 +15,7 @@ use volume_model::{Blobtext, Command, ListOf, Name, PageWord, TryCopy, VolumeRef
 
 /// The writes of so many pages; page i of them, from 0, has 512 copies of the word plus i.
 #[tactic(auto, using(crate::proofs::Pages::one_page_more))]
-fn writes(
+fn write_commands(
     alloc: Global,
     volume: &VolumeRef,
     page: u64,
@@ -38,7 +38,7 @@ fn writes(
 
 /// The reads of so many pages.
 #[tactic(auto, using(crate::proofs::Pages::one_page_more))]
-fn reads(
+fn read_commands(
     alloc: Global,
     volume: &VolumeRef,
     page: u64,
@@ -77,8 +77,8 @@ fn plain(verb: Verb) -> Option<Command>
 }
 
 /// The command of `VOL`.
-fn on_volume(verb: Verb, volume: VolumeRef) -> Option<Command>
-    ensures { result ≡ said.on_volume verb volume }
+fn command_on_volume(verb: Verb, volume: VolumeRef) -> Option<Command>
+    ensures { result ≡ said.command_on_volume verb volume }
 {
     Some(match verb {
         Verb::Sync => Command::Sync { volume },
@@ -167,7 +167,7 @@ fn command_on(
     ensures { result ≡ said.command_on verb volume (listed first second third None) }
 {
     match first {
-        None => on_volume(verb, volume),
+        None => command_on_volume(verb, volume),
         Some(Value::Number(slots)) => match second {
             None => on_slots(verb, volume, slots),
             Some(_second) => None,
@@ -231,7 +231,7 @@ fn command(
 
 /// The one command, if there is one.
 fn alone(alloc: Global, command: Option<Command>) -> Result<ListOf<Command>, LineFault>
-    ensures { Answers (said.alone command) result }
+    ensures { AnswersAsSaid (said.alone command) result }
 {
     let Some(command) = command else {
         return Err(LineFault::Bad(LineKind::Form));
@@ -266,7 +266,7 @@ fn writing(
     second: Option<Value>,
     third: Option<Value>,
 ) -> Result<ListOf<Command>, LineFault>
-    ensures { Answers (said.writes (Value.Volume volume ∷ listed first second third None)) result }
+    ensures { AnswersAsSaid (said.write_commands (Value.Volume volume ∷ listed first second third None)) result }
 {
     let Some(Value::Number(page)) = first else {
         return Err(LineFault::Bad(LineKind::Form));
@@ -280,7 +280,7 @@ fn writing(
     if !are_pages(page, count) {
         return Err(LineFault::Bad(LineKind::Number));
     }
-    Ok(writes(alloc, &volume, page, count, word)?)
+    Ok(write_commands(alloc, &volume, page, count, word)?)
 }
 
 /// The commands of `read VOL PAGE COUNT`, with the values of the words after `VOL`.
@@ -291,7 +291,7 @@ fn reading(
     second: Option<Value>,
     third: Option<Value>,
 ) -> Result<ListOf<Command>, LineFault>
-    ensures { Answers (said.reads (Value.Volume volume ∷ listed first second third None)) result }
+    ensures { AnswersAsSaid (said.read_commands (Value.Volume volume ∷ listed first second third None)) result }
 {
     let Some(Value::Number(page)) = first else {
         return Err(LineFault::Bad(LineKind::Form));
@@ -305,7 +305,7 @@ fn reading(
     if !are_pages(page, count) {
         return Err(LineFault::Bad(LineKind::Number));
     }
-    Ok(reads(alloc, &volume, page, count)?)
+    Ok(read_commands(alloc, &volume, page, count)?)
 }
 
 /// The commands of a verb and the values of its words.
@@ -315,7 +315,7 @@ pub fn commands(
     values: ListOf<Value>,
 ) -> Result<ListOf<Command>, LineFault>
     requires { length values ≤ 4 }
-    ensures { Answers (said.commands_of verb values) result }
+    ensures { AnswersAsSaid (said.commands_of verb values) result }
 {
     let (first, second, third, fourth) = one_by_one(alloc, values);
     match verb {

@@ -2,7 +2,7 @@
 
 ghost use Rattle.std.specs.Prelude.{◌≡◌, IfOk};
 ghost use Rattle.std.specs.Option.{option_copied, option_map};
-ghost use Rattle.script_lang.specs.Forms.{volume_in, says_word, kind_of};
+ghost use Rattle.script_lang.specs.Forms.{volume_in, says_word, kind_of_form};
 
 use crate::fault::LineKind;
 use crate::grammar::Grammar;
@@ -84,7 +84,7 @@ impl Form {
 
     /// What is wrong with a word that isn't of this form.
     pub fn kind(self) -> LineKind
-        ensures { result ≡ kind_of self }
+        ensures { result ≡ kind_of_form self }
     {
         match self {
             Form::Volume | Form::Name => LineKind::Volume,

@@ -2,7 +2,7 @@
 
 ghost use Rattle.std.specs.Prelude.{◌≡◌, ◌==◌};
 ghost use Rattle.std.specs.Option.{option_copied};
-ghost use Rattle.script_lang.specs.Answered.{Answers};
+ghost use Rattle.script_lang.specs.Answered.{AnswersAsSaid};
 ghost use Rattle.script_lang.specs.Lines.{is_printable as printable_said, is_spaced as spaced_said, is_skipped as skipped_said, says, says_verb};
 ghost use Rattle.script_lang.specs.Parts.{parts};
 ghost use Rattle.script_lang.specs.Verbs.{verb_in};
@@ -12,7 +12,7 @@ ghost use Rattle.script_lang.specs.Grammar.{channels_of};
 use crate::commands::commands;
 use crate::fault::{LineFault, LineKind};
 use crate::grammar::Grammar;
-use crate::parts::Parts;
+use crate::parts::TextParts;
 use crate::values::{read_values, worse};
 use crate::verb::Verb;
 use crate::words::number_below;
@@ -21,7 +21,7 @@ use volume_model::{Command, ListOf};
 
 /// What a line asks for: commands in a channel, and none on a line that is skipped.
 #[derive(Debug, Drop)]
-pub struct Request {
+pub struct LineRequest {
     pub channel: u8,
     pub commands: ListOf<Command>,
 }
@@ -36,7 +36,7 @@ fn is_printable(line: &[u8]) -> bool
 fn is_spaced(line: &[u8]) -> bool
     ensures { result ≡ spaced_said line.now }
 {
-    let mut words = Parts::of(line, b' ');
+    let mut words = TextParts::of(line, b' ');
     while let Some(word) = words.next_part() {
         if word.is_empty() {
             return false;
@@ -70,9 +70,9 @@ fn commands_in(
     alloc: Global,
     grammar: Grammar,
     word: &[u8],
-    words: Parts<'_>,
+    words: TextParts<'_>,
 ) -> Result<ListOf<Command>, LineFault>
-    ensures { Answers (says_verb grammar (verb_in grammar word.now)
+    ensures { AnswersAsSaid (says_verb grammar (verb_in grammar word.now)
         (parts words.entry.separator (option_copied words.entry.rest))) result }
 {
     let Some(verb) = Verb::of(grammar, word) else {
@@ -86,11 +86,11 @@ fn commands_in(
 }
 
 /// What a line asks for, or what is wrong with it: the first word at fault, but `Form` before all others.
-pub fn read_line(alloc: Global, grammar: Grammar, line: &[u8]) -> Result<Request, LineFault>
-    ensures { Answers (says grammar line.now) result }
+pub fn read_line(alloc: Global, grammar: Grammar, line: &[u8]) -> Result<LineRequest, LineFault>
+    ensures { AnswersAsSaid (says grammar line.now) result }
 {
     if is_skipped(line) {
-        return Ok(Request {
+        return Ok(LineRequest {
             channel: 0,
             commands: ListOf::new(alloc),
         });
@@ -98,7 +98,7 @@ pub fn read_line(alloc: Global, grammar: Grammar, line: &[u8]) -> Result<Request
     if !is_printable(line) || !is_spaced(line) {
         return Err(LineFault::Bad(LineKind::Form));
     }
-    let mut words = Parts::of(line, b' ');
+    let mut words = TextParts::of(line, b' ');
     let Some(first) = words.next_part() else {
         return Err(LineFault::Bad(LineKind::Form));
     };
@@ -108,7 +108,7 @@ pub fn read_line(alloc: Global, grammar: Grammar, line: &[u8]) -> Result<Request
     let channel = channel(grammar, first);
     match commands_in(alloc, grammar, verb, words) {
         Ok(commands) => match channel {
-            Some(channel) => Ok(Request { channel, commands }),
+            Some(channel) => Ok(LineRequest { channel, commands }),
             None => Err(LineFault::Bad(LineKind::Channel)),
         },
         Err(LineFault::Bad(kind)) => match channel {

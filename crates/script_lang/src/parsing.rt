@@ -8,12 +8,12 @@ ghost use Rattle.blob_meta.specs.Asked.{IsOnHead};
 ghost use Rattle.script_lang.specs.declared.grammar.Grammar.TheVariants.{Served};
 ghost use Rattle.script_lang.specs.Commands.{pages_of, is_page as page_said};
 ghost use Rattle.script_lang.specs.Parts.{parts, size_left};
-ghost use Rattle.script_lang.specs.Script.{lines as lines_said, reads, reads_as, with_request, Why, Refuses};
+ghost use Rattle.script_lang.specs.Script.{lines as lines_said, reads, reads_as, with_request, Why, RefusesText};
 
 use crate::fault::{LineFault, LineKind, ScriptFault};
 use crate::grammar::Grammar;
-use crate::line::{Request, read_line};
-use crate::parts::Parts;
+use crate::line::{LineRequest, read_line};
+use crate::parts::TextParts;
 use out_of_memory::Memory;
 use std::alloc::Global;
 use volume_model::{Command, Script};
@@ -28,7 +28,7 @@ const MAX_LINES: u32 = 1 << 16;
 const MAX_PAGES: usize = 1 << 16;
 
 /// The lines of a text; the last may lack its LF.
-fn lines(text: &[u8]) -> Parts<'_>
+fn lines(text: &[u8]) -> TextParts<'_>
     ensures lines { parts result.separator (option_copied result.rest) ≡ lines_said text.now }
     ensures size { size_left (option_copied result.rest) ≤ length text.now + 1 }
 {
@@ -37,7 +37,7 @@ fn lines(text: &[u8]) -> Parts<'_>
         [body @ .., b'\n'] => Some(body),
         _ => Some(text),
     };
-    Parts {
+    TextParts {
         rest,
         separator: b'\n',
     }
@@ -63,7 +63,7 @@ fn pages_of(commands: &[Command]) -> usize
 }
 
 /// Appends a request's commands to those of its channel.
-fn push_request(alloc: Global, script: &mut Script, request: Request) -> Result<(), Memory>
+fn push_request(alloc: Global, script: &mut Script, request: LineRequest) -> Result<(), Memory>
     requires channel { request.channel < 16 }
     requires room { commands_in script.old + length request.commands ≤ 131071 }
     ensures ok { OnOk result (script.new ≡ with_request script.old request) }
@@ -84,7 +84,7 @@ pub fn read_script(alloc: Global, grammar: Grammar, text: &[u8]) -> Result<Scrip
         (λ script. grammar ≡ Served → (channel : ℕ) → All IsOnHead (slice_index_or script channel [])) }
     ensures few { IfOk result (λ script. grammar ≡ Served → commands_in script ≤ 2 ^ 16) }
     ensures within { IfOk result (λ script. length text.now ≤ 2 ^ 20) }
-    ensures refused { IfErr result (Refuses grammar text.now) }
+    ensures refused { IfErr result (RefusesText grammar text.now) }
     ensures why { IfErr result (Why grammar text.now) }
 {
     if text.len() > MAX_BYTES {
@@ -131,7 +131,7 @@ pub fn parse(alloc: Global, text: &[u8]) -> Result<Script, ScriptFault>
     ensures on_heads { IfOk result (λ script. (channel : ℕ) → All IsOnHead (slice_index_or script channel [])) }
     ensures few { IfOk result (λ script. commands_in script ≤ 2 ^ 16) }
     ensures within { IfOk result (λ script. length text.now ≤ 2 ^ 20) }
-    ensures refused { IfErr result (Refuses Served text.now) }
+    ensures refused { IfErr result (RefusesText Served text.now) }
     ensures why { IfErr result (Why Served text.now) }
 {
     read_script(alloc, Grammar::Served, text)

@@ -6,17 +6,17 @@ ghost use Rattle.script_lang.specs.Parts.{parts, size_left};
 
 /// What is left of a text that is cut at each separator; nothing, not even an empty text, after the last part.
 #[derive(Drop)]
-pub struct Parts<'a> {
+pub struct TextParts<'a> {
     pub rest: Option<&'a [u8]>,
     pub separator: u8,
 }
 
-impl<'a> Parts<'a> {
+impl<'a> TextParts<'a> {
     /// All parts of a text.
-    pub fn of(text: &'a [u8], separator: u8) -> Parts<'a>
+    pub fn of(text: &'a [u8], separator: u8) -> TextParts<'a>
         ensures { parts result.separator (option_copied result.rest) ≡ parts separator (Some text.now) }
     {
-        Parts {
+        TextParts {
             rest: Some(text),
             separator,
         }

@@ -2,7 +2,7 @@
 
 ghost use Rattle.std.specs.Prelude.{◌≡◌, ◌+◌, ◌*◌, ◌≤◌, ◌<◌, ◌^◌, ◌++◌, ◌∷◌, [], List, length, Bool, true, false, Option, Some, None, IfOk, IfErr, Result, Ok, Err};
 ghost use Rattle.script_lang.specs.declared.schedule.Actor.{Actor};
-ghost use Rattle.script_lang.specs.Reading.{reading, fits as fits_said, goes_on_as_number as number_said, after_start, after_actor, with_count, after_count, ended_at, ended, with_comma, within_part, after_byte, HasRoomAt, HasRoom, ReadsOn, Ends};
+ghost use Rattle.script_lang.specs.Reading.{reading, fits as fits_said, goes_on_as_number as number_said, after_start, after_actor, with_count, after_count, ended_at, ended, with_comma, within_part, after_byte, HasRoomAt, HasRoom, ReadsOn, ReadsToEnd};
 ghost use Rattle.script_lang.specs.Schedules.{IsSchedule, RefusesSchedule, WhyNoSchedule};
 
 use crate::schedule::{Actor, Part, Schedule, ScheduleFault};
@@ -119,7 +119,7 @@ impl Reading {
     /// Ends the part, if it may end here.
     fn end(&mut self, alloc: Global) -> Result<bool, Memory>
         requires { HasRoom self.old }
-        ensures said { IfOk result (Ends (ended self.old) self.new) }
+        ensures said { IfOk result (ReadsToEnd (ended self.old) self.new) }
         ensures few { IfOk result (λ ends. length self.new.schedule ≤ 2 ^ 16) }
     {
         let count = match self.place {

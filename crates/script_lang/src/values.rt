@@ -2,14 +2,14 @@
 
 ghost use Rattle.std.specs.Prelude.{◌≡◌, ◌≤◌, length, IfOk};
 ghost use Rattle.std.specs.Option.{option_copied};
-ghost use Rattle.script_lang.specs.Answered.{Answers};
-ghost use Rattle.script_lang.specs.Forms.{says_values, worse as worse_said, after};
+ghost use Rattle.script_lang.specs.Answered.{AnswersAsSaid};
+ghost use Rattle.script_lang.specs.Forms.{says_values, worse as worse_said, fault_after};
 ghost use Rattle.script_lang.specs.Parts.{parts};
 
 use crate::fault::{LineFault, LineKind};
 use crate::form::{Form, Value};
 use crate::grammar::Grammar;
-use crate::parts::Parts;
+use crate::parts::TextParts;
 use std::alloc::Global;
 use volume_model::ListOf;
 
@@ -25,7 +25,7 @@ pub fn worse(first: LineKind, later: LineKind) -> LineKind
 
 /// A fault after another, or alone.
 fn with_fault(first: Option<LineKind>, later: LineKind) -> LineKind
-    ensures { result ≡ after first later }
+    ensures { result ≡ fault_after first later }
 {
     match first {
         Some(first) => worse(first, later),
@@ -38,9 +38,9 @@ pub fn read_values(
     alloc: Global,
     grammar: Grammar,
     forms: &[Form],
-    mut words: Parts<'_>,
+    mut words: TextParts<'_>,
 ) -> Result<ListOf<Value>, LineFault>
-    ensures said { Answers
+    ensures said { AnswersAsSaid
         (says_values grammar forms.now (parts words.entry.separator (option_copied words.entry.rest))) result }
     ensures few { IfOk result (λ values. length values ≤ length forms.now) }
 {

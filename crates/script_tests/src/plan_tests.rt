@@ -1,7 +1,7 @@
 //! Plans of puts and syncs, each once, and each cause of a refusal.
 
 ghost use Rattle.std.specs.Prelude.{◌≡◌, Some, IfOk};
-ghost use Rattle.blob_meta.specs.Asked.{head_in};
+ghost use Rattle.blob_meta.specs.Asked.{asked_head};
 ghost use Rattle.lvol_store.specs.Plans.{IsPut, IsSync};
 
 use blob_meta::{Flags, Job, Meta, Metas};
@@ -29,7 +29,7 @@ fn blob(alloc: Global, head: u32, data_ro: u64) -> Meta {
 
 fn put(alloc: Global, head: u32, key: &[u8], value: &[u8]) -> Result<Command, Memory>
     ensures put { IfOk result IsPut }
-    ensures head { IfOk result (λ c. head_in c ≡ Some head) }
+    ensures head { IfOk result (λ c. asked_head c ≡ Some head) }
 {
     Ok(Command::Put {
         volume: VolumeRef::Head(head),
@@ -40,7 +40,7 @@ fn put(alloc: Global, head: u32, key: &[u8], value: &[u8]) -> Result<Command, Me
 
 fn sync(head: u32) -> Command
     ensures sync { IsSync result }
-    ensures head { head_in result ≡ Some head }
+    ensures head { asked_head result ≡ Some head }
 {
     Command::Sync {
         volume: VolumeRef::Head(head),

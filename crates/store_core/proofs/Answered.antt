@@ -16,25 +16,25 @@ use Rattle.volume_model.specs.declared.command.Command.TheVariants as c
 use Rattle.volume_model.specs.declared.reply.Reply.{Reply}
 use Rattle.volume_model.specs.declared.reply.Reply.TheVariants as r
 use Rattle.blob_meta.specs.declared.meta.Meta.{Meta}
-use Rattle.blob_meta.specs.Asked.{head_in, IsCause, ShowsBlob}
+use Rattle.blob_meta.specs.Asked.{asked_head, IsAttributeCause, ShowsBlob}
 use Rattle.blob_meta.specs.Parents.{is_read_only}
-use Rattle.store_model.specs.Maps.{Map, given}
+use Rattle.store_model.specs.Maps.{Map, with_entry}
 use Rattle.store_model.specs.Shown.{fixed_of, volume_of}
 use Rattle.store_model.specs.Cases.{IsQuiet}
-use Rattle.store_model.specs.Plants.{Plant, shown}
+use Rattle.store_model.specs.StoreState.{StoreState, shown}
 use Rattle.store_model.specs.Cases.{IsInMemory, live_of}
-use Rattle.store_model.specs.Standing.{RunsWell}
-use Rattle.store_model.proofs.Given.{given_here, given_elsewhere}
+use Rattle.store_model.specs.RunInvariant.{RunsWell}
+use Rattle.store_model.proofs.WithEntry.{given_here, given_elsewhere}
 use Rattle.store_model.proofs.Shows.{or_empty}
 use Rattle.store_model.proofs.Synced.{edited_here, edited_there}
 use Rattle.store_core.specs.declared.answering.Effect.{Effect}
 use Rattle.store_core.specs.declared.answering.NewLive.{NewLive}
 use Rattle.store_core.proofs.Maps.{insert_given}
-use Rattle.store_core.specs.Answering.{ComesTo, Does}
+use Rattle.store_core.specs.Answering.{ComesTo, DoesVerb}
 
 -- ---- what a running store shows of a blob
 
-module _ (first : Volumes) (p : Plant) (well : RunsWell first p) where
+module _ (first : Volumes) (p : StoreState) (well : RunsWell first p) where
   abbrev by_live : ℕ → Xattrs → Option Meta → Option Volume
   by_live h xs o = option_map (λ m. volume_of (fixed_of p.super).cluster_pages p.device.reads p.base p.super.md_len xs h m) o
 
@@ -51,7 +51,7 @@ module _ (first : Volumes) (p : Plant) (well : RunsWell first p) where
   read_only_at h (Some m) = refl
 
   -- they show the blob that a command names
-  pub shows_blob : (metas : map.FinMap nat_cmp Meta) (command : Command) (head : ℕ) → p.base ≡ map.get metas → head_in command ≡ Some head → ShowsBlob metas (p.live head) command (shown p)
+  pub shows_blob : (metas : map.FinMap nat_cmp Meta) (command : Command) (head : ℕ) → p.base ≡ map.get metas → asked_head command ≡ Some head → ShowsBlob metas (p.live head) command (shown p)
   shows_blob metas command head base named = record {
     live_is = ap (λ o. option_map (λ (x : Volume). x.live) (option_and_then (shown p) o)) named ∙ live_at head (p.base head) refl;
     read_only_is = ap (λ o. option_map (λ (x : Volume). x.read_only) (option_and_then (shown p) o)) named ∙ read_only_at head (p.base head) ∙ ap (λ (m : Map Meta). option_map (λ (x : Meta). is_read_only x.flags) (m head)) base
@@ -62,7 +62,7 @@ module _ (first : Volumes) (p : Plant) (well : RunsWell first p) where
 
 abbrev pub live_after : Map Xattrs → Option NewLive → Map Xattrs
 live_after live None = live
-live_after live (Some new) = given live new.head new.xattrs
+live_after live (Some new) = with_entry live new.head new.xattrs
 
 pub record Answered (f : Fixed) (v : Volumes) (live : Map Xattrs) (command : Command) (reply : Reply) (new : Option NewLive) : Type 0 where
   pub allowed : Allowed f v command reply
@@ -70,7 +70,7 @@ pub record Answered (f : Fixed) (v : Volumes) (live : Map Xattrs) (command : Com
   pub live_is : live_after live new ≡ live_of (change f v command reply)
 
 module _ (f : Fixed) (v : Volumes) where
-  refused_allowed : (command : Command) (reply : Reply) → IsCause reply → refusal f v command ≡ Some reply → Allowed f v command reply × IsQuiet reply
+  refused_allowed : (command : Command) (reply : Reply) → IsAttributeCause reply → refusal f v command ≡ Some reply → Allowed f v command reply × IsQuiet reply
   refused_allowed command r.NoVolume cause is = (is, tt)
   refused_allowed command r.Reserved cause is = (is, tt)
   refused_allowed command r.ReadOnly cause is = (is, tt)
@@ -78,7 +78,7 @@ module _ (f : Fixed) (v : Volumes) where
   refused_allowed command r.NoValue cause is = (is, tt)
   refused_allowed command _ cause is = absurd cause
 
-  by_cause : (w : Reply → Volumes) → w r.NoVolume ≡ v → w r.Reserved ≡ v → w r.ReadOnly ≡ v → w r.TooLong ≡ v → w r.NoValue ≡ v → (reply : Reply) → IsCause reply → w reply ≡ v
+  by_cause : (w : Reply → Volumes) → w r.NoVolume ≡ v → w r.Reserved ≡ v → w r.ReadOnly ≡ v → w r.TooLong ≡ v → w r.NoValue ≡ v → (reply : Reply) → IsAttributeCause reply → w reply ≡ v
   by_cause w a b e g h r.NoVolume cause = a
   by_cause w a b e g h r.Reserved cause = b
   by_cause w a b e g h r.ReadOnly cause = e
@@ -86,7 +86,7 @@ module _ (f : Fixed) (v : Volumes) where
   by_cause w a b e g h r.NoValue cause = h
   by_cause w a b e g h _ cause = absurd cause
 
-  refused_same : (command : Command) (reply : Reply) → IsInMemory command → IsCause reply → change f v command reply ≡ v
+  refused_same : (command : Command) (reply : Reply) → IsInMemory command → IsAttributeCause reply → change f v command reply ≡ v
   refused_same (c.SetX volume key value) reply is cause = by_cause (λ x. change f v (c.SetX volume key value) x) refl refl refl refl refl reply cause
   refused_same (c.DelX volume key) reply is cause = by_cause (λ x. change f v (c.DelX volume key) x) refl refl refl refl refl reply cause
   refused_same (c.GetX volume key) reply is cause = by_cause (λ x. change f v (c.GetX volume key) x) refl refl refl refl refl reply cause
@@ -104,7 +104,7 @@ module _ (f : Fixed) (v : Volumes) where
     pub meant : head_of f v (Head head) ≡ Some head
     meant = let there = found.1 in rw there refl
 
-    changed : (new : Xattrs → Xattrs) → given live head (new mine) ≡ live_of (edited_at f v (head_of f v (Head head)) (λ x. record x { live = new x.live }))
+    changed : (new : Xattrs → Xattrs) → with_entry live head (new mine) ≡ live_of (edited_at f v (head_of f v (Head head)) (λ x. record x { live = new x.live }))
     changed new = fun_ext (λ k. elim (cases_eq k head) [
       | inl e ↦
           given_here live head (new mine) k e ∙ ap (λ (xs : Xattrs). Some (new xs)) (sym found.2)
@@ -116,14 +116,14 @@ module _ (f : Fixed) (v : Volumes) where
           ∙ ap (λ o. option_map (λ (x : Volume). x.live) o) (sym (edited_there f v (head_of f v (Head head)) (λ (x : Volume). record x { live = new x.live }) head meant k ne))
     ])
 
-    done : (command : Command) (reply : Reply) (new : Option NewLive) → head_in command ≡ Some head → refusal f v command ≡ None → Does (Some mine) command reply new → Answered f v live command reply new
+    done : (command : Command) (reply : Reply) (new : Option NewLive) → asked_head command ≡ Some head → refusal f v command ≡ None → DoesVerb (Some mine) command reply new → Answered f v live command reply new
     done (c.SetX (Head h) key value) reply new named none does =
         let e : h ≡ head = cc named in
         let whole : Answered f v live (c.SetX (Head h) key value) r.Ok (Some (record { head = h; xattrs = with_value mine key value })) =
         record {
           allowed = (none, tt);
           quiet = tt;
-          live_is = subst (λ k. given live k (with_value mine key value) ≡ live_of (edited_at f v (head_of f v (Head k)) (λ x. record x { live = with_value x.live key value }))) (sym e) (changed (λ xs. with_value xs key value));
+          live_is = subst (λ k. with_entry live k (with_value mine key value) ≡ live_of (edited_at f v (head_of f v (Head k)) (λ x. record x { live = with_value x.live key value }))) (sym e) (changed (λ xs. with_value xs key value));
         } in
         subst (λ (x : Reply). Answered f v live (c.SetX (Head h) key value) x new) (sym does.0) (subst (λ (n : Option NewLive). Answered f v live (c.SetX (Head h) key value) r.Ok n) (sym does.1) whole)
     done (c.DelX (Head h) key) reply new named none does =
@@ -132,7 +132,7 @@ module _ (f : Fixed) (v : Volumes) where
         record {
           allowed = (none, tt);
           quiet = tt;
-          live_is = subst (λ k. given live k (without mine key) ≡ live_of (edited_at f v (head_of f v (Head k)) (λ x. record x { live = without x.live key }))) (sym e) (changed (λ xs. without xs key));
+          live_is = subst (λ k. with_entry live k (without mine key) ≡ live_of (edited_at f v (head_of f v (Head k)) (λ x. record x { live = without x.live key }))) (sym e) (changed (λ xs. without xs key));
         } in
         subst (λ (x : Reply). Answered f v live (c.DelX (Head h) key) x new) (sym does.0) (subst (λ (n : Option NewLive). Answered f v live (c.DelX (Head h) key) r.Ok n) (sym does.1) whole)
     done (c.GetX (Head h) key) reply new named none does =
@@ -147,7 +147,7 @@ module _ (f : Fixed) (v : Volumes) where
 
 -- ---- an effect in the volumes that are shown
 
-pub answered_by : (first : Volumes) (p : Plant) (metas : map.FinMap nat_cmp Meta) (command : Command) (head : ℕ) (e : Effect) → RunsWell first p → p.base ≡ map.get metas → head_in command ≡ Some head → IsInMemory command
+pub answered_by : (first : Volumes) (p : StoreState) (metas : map.FinMap nat_cmp Meta) (command : Command) (head : ℕ) (e : Effect) → RunsWell first p → p.base ≡ map.get metas → asked_head command ≡ Some head → IsInMemory command
     → ComesTo metas (p.live head) command p.super e → Answered (fixed_of p.super) (shown p) p.live command e.reply e.live
 answered_by first p metas command head e well base named in_memory (inl x) =
     let f = fixed_of p.super in
@@ -163,12 +163,12 @@ answered_by first p metas command head e well base named in_memory (inr x) = by 
     none : refusal (fixed_of p.super) (shown p) command ≡ None
     none = x.none (fixed_of p.super) (shown p) refl (shows_blob first p well metas command head base named)
 
-    by : (o : Option Xattrs) → p.live head ≡ o → Does o command e.reply e.live → Answered (fixed_of p.super) (shown p) p.live command e.reply e.live
+    by : (o : Option Xattrs) → p.live head ≡ o → DoesVerb o command e.reply e.live → Answered (fixed_of p.super) (shown p) p.live command e.reply e.live
     by None is does = absurd does
     by (Some mine) is does = done (fixed_of p.super) (shown p) p.live (live_same first p well) head mine is command e.reply e.live named none does
 
 -- want of memory answers a command in memory
-pub answered_memory : (first : Volumes) (p : Plant) (command : Command) → RunsWell first p → IsInMemory command → Answered (fixed_of p.super) (shown p) p.live command r.Memory None
+pub answered_memory : (first : Volumes) (p : StoreState) (command : Command) → RunsWell first p → IsInMemory command → Answered (fixed_of p.super) (shown p) p.live command r.Memory None
 answered_memory first p (c.SetX volume key value) well is = record { allowed = tt; quiet = tt; live_is = sym (live_same first p well) }
 answered_memory first p (c.DelX volume key) well is = record { allowed = tt; quiet = tt; live_is = sym (live_same first p well) }
 answered_memory first p (c.GetX volume key) well is = record { allowed = tt; quiet = tt; live_is = sym (live_same first p well) }

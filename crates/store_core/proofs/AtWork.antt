@@ -5,15 +5,15 @@ use Rattle.std.proofs.lemmas.Bool.{cases_Bool, both_ways, eq-eqb, ne_eqb}
 use Rattle.bit_array.specs.Bits.{is_in}
 use Rattle.md_chain.specs.Chain.{is_among}
 use Rattle.md_chain.specs.declared.plan.PlannedPage.{PlannedPage}
-use Rattle.store_model.specs.Plants.{Job, Writing, Erasing, Plant, page_in, planned_at}
+use Rattle.store_model.specs.StoreState.{JobState, Writing, Erasing, StoreState, page_in, planned_at}
 use Rattle.store_model.specs.Places.{held_by, AreDistinct, IsLinked}
 use Rattle.store_model.specs.Jobs.{places_of, IsServed, JobStands}
-use Rattle.store_model.specs.Standing.{RunsWell}
+use Rattle.store_model.specs.RunInvariant.{RunsWell}
 use Rattle.store_model.proofs.JobKept.{among_at}
 use Rattle.store_model.proofs.Moved.{served_by, erased_by}
 use Rattle.store_model.proofs.Sets.{among_first}
 use Rattle.store_model.proofs.Used.{within}
-use Rattle.store_core.specs.Kept.{IsRunning}
+use Rattle.store_core.specs.StoreInvariant.{IsRunning}
 use Rattle.store_core.proofs.Cleared.{among_get}
 
 -- ---- the pages of a plan
@@ -35,7 +35,7 @@ page_of (y ∷ ys) (suc k) x distinct is =
     let ne : x.place ≢ y.place = λ e. both_ways (is_among y.place (places_of ys)) distinct.0 (subst (λ q. is_among q (places_of ys) ≡ true) e among) in
     rw (ne_eqb x.place y.place ne) (page_of ys k x distinct.1 is)
 
-module _ (p : Plant) (r : IsRunning p) (runs : p.stopped ≡ None) (j : Job) (is : p.job ≡ Some j) where
+module _ (p : StoreState) (r : IsRunning p) (runs : p.stopped ≡ None) (j : JobState) (is : p.job ≡ Some j) where
   pub well : RunsWell r.first p
   well = r.facts.well runs
 

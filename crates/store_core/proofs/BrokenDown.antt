@@ -5,25 +5,25 @@ use Rattle.page_disk.specs.declared.disk.PageDisk.{Ghosts}
 use Rattle.volume_model.specs.declared.command.Command.{Command}
 use Rattle.volume_model.specs.declared.reply.Reply.TheVariants.{Stopped}
 use Rattle.store_model.specs.Rows.{Ended, InJob, Row}
-use Rattle.store_model.specs.Plants.{Erasing, Job, logged, Phase, Plant, Writing}
-use Rattle.store_model.specs.Standing.{IsServedRow}
+use Rattle.store_model.specs.StoreState.{Erasing, JobState, logged, Phase, StoreState, Writing}
+use Rattle.store_model.specs.RunInvariant.{IsServedRow}
 use Rattle.store_model.specs.Cases.{BreaksDown}
 use Rattle.store_core.specs.JobTurns.{waits_for_job}
-use Rattle.store_core.specs.Kept.{IsRunning}
-use Rattle.store_core.specs.Seen.{At, device_of, rows_of, state_of}
+use Rattle.store_core.specs.StoreInvariant.{IsRunning}
+use Rattle.store_core.specs.StoreView.{StoreView, device_of, rows_of, state_of}
 use Rattle.store_core.specs.Steps.{logged_at}
 use Rattle.store_core.proofs.Entered.{disk_same, entered}
 use Rattle.store_core.proofs.Posting.{low_of}
 
 -- a job whose command waits for its commit, in this channel
-pub record WaitsIn (o : Option Job) (channel : ℕ) : Type 0 where
-  pub job : Job
+pub record WaitsIn (o : Option JobState) (channel : ℕ) : Type 0 where
+  pub job : JobState
   pub is : o ≡ Some job
   pub written : ℕ
   pub in_phase : job.phase ≡ Writing written
   pub channel_is : job.channel ≡ channel
 
-by_phase : (job : Job) (phase : Phase) (channel : ℕ) → job.phase ≡ phase → waits_for_job job ≡ Some channel → WaitsIn (Some job) channel
+by_phase : (job : JobState) (phase : Phase) (channel : ℕ) → job.phase ≡ phase → waits_for_job job ≡ Some channel → WaitsIn (Some job) channel
 by_phase job (Writing written) channel is waits =
     let here : waits_for_job job ≡ Some job.channel = ap (λ (p : Phase). waits_for_job (record job { phase = p })) is in
     record { job = job; is = refl; written = written; in_phase = is; channel_is = let both : Some job.channel ≡ Some channel = sym here ∙ waits in cc both }
@@ -31,12 +31,12 @@ by_phase job (Erasing erased) channel is waits =
     let here : waits_for_job job ≡ None = ap (λ (p : Phase). waits_for_job (record job { phase = p })) is in
     absurd (let bad : None ≡ Some channel = sym here ∙ waits in cc bad)
 
-pub waits_in : (o : Option Job) (channel : ℕ) → option_and_then waits_for_job o ≡ Some channel → WaitsIn o channel
+pub waits_in : (o : Option JobState) (channel : ℕ) → option_and_then waits_for_job o ≡ Some channel → WaitsIn o channel
 waits_in None channel waits = absurd (cc waits)
 waits_in (Some job) channel waits = by_phase job job.phase channel refl waits
 
 -- a stopped store with a job whose command waits in a channel
-module _ {D : Type 0} (d : Ghosts D) (p : At D) (running : IsRunning (state_of d p)) (sixteen : length p.rows ≡ 16) (channel : ℕ)
+module _ {D : Type 0} (d : Ghosts D) (p : StoreView D) (running : IsRunning (state_of d p)) (sixteen : length p.rows ≡ 16) (channel : ℕ)
     (waits : option_and_then waits_for_job p.job ≡ Some channel) where
   abbrev w : WaitsIn p.job channel
   w = waits_in p.job channel waits
@@ -51,7 +51,7 @@ module _ {D : Type 0} (d : Ghosts D) (p : At D) (running : IsRunning (state_of d
   some_left = let n = ap (λ (r : Row). length r.left) served.is in omega (arith, n)
 
   -- its command is logged as stopped, and no job runs any more
-  pub broken_down : (at : ℕ) → p.stopped ≡ Some at → (new : At D)
+  pub broken_down : (at : ℕ) → p.stopped ≡ Some at → (new : StoreView D)
       → ((command : Command) (rest : List Command) → (rows_of p.rows channel).left ≡ command ∷ rest
       → new ≡ logged_at (record p { job = None }) channel command rest (Stopped at) (d.clock new.disk))
       → BreaksDown (state_of d p) (state_of d new) × (new.disk ≡ p.disk)
@@ -77,9 +77,9 @@ module _ {D : Type 0} (d : Ghosts D) (p : At D) (running : IsRunning (state_of d
         disk_same d (record p { job = None }) new channel served.command served.rest (Stopped at) below is,
       )
 
-  pub stopped_still : (at : ℕ) → p.stopped ≡ Some at → (new : At D)
+  pub stopped_still : (at : ℕ) → p.stopped ≡ Some at → (new : StoreView D)
       → ((command : Command) (rest : List Command) → (rows_of p.rows channel).left ≡ command ∷ rest
       → new ≡ logged_at (record p { job = None }) channel command rest (Stopped at) (d.clock new.disk))
       → new.stopped ≡ Some at
   stopped_still at stands new entry =
-      ap (λ (a : At D). a.stopped) (entry served.command served.rest (ap (λ (r : Row). r.left) served.is)) ∙ stands
+      ap (λ (a : StoreView D). a.stopped) (entry served.command served.rest (ap (λ (r : Row). r.left) served.is)) ∙ stands

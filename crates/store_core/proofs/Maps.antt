@@ -8,14 +8,14 @@ use Rattle.std.proofs.Math.Path.{fun_ext}
 use Rattle.std.proofs.lemmas.Bool.Decides.{nat_tests}
 use Rattle.std.proofs.lemmas.Bool.{cases_eq}
 use Rattle.blob_meta.specs.declared.meta.Meta.{Meta}
-use Rattle.store_model.specs.Maps.{given}
-use Rattle.store_model.proofs.Given.{given_here, given_elsewhere}
+use Rattle.store_model.specs.Maps.{with_entry}
+use Rattle.store_model.proofs.WithEntry.{given_here, given_elsewhere}
 use Rattle.store_core.specs.Running.{AreHeads}
 
 is_key : (q k : ℕ) → eq_by_cmp nat_cmp q k ≡ eqb q k
 is_key q k = grind (arith, nat_tests)
 
-pub insert_given : {X : Type 0} (m : FinMap nat_cmp X) (head : ℕ) (x : X) → get (insert m head x) ≡ given (get m) head x
+pub insert_given : {X : Type 0} (m : FinMap nat_cmp X) (head : ℕ) (x : X) → get (insert m head x) ≡ with_entry (get m) head x
 insert_given m head x = fun_ext (λ q. get-insert nat_cmp_total m head x q ∙ ap (λ b. cond b (Some x) (get m q)) (is_key q head))
 
 -- the heads stay the same where a blob that is there has other metadata

@@ -5,9 +5,9 @@ use Rattle.page_disk.specs.Disk.{HasCause, Image, with_page}
 use Rattle.page_disk.specs.declared.disk.PageDisk.{Ghosts}
 use Rattle.page_disk.specs.declared.disk.DiskFault.{DiskFault}
 use Rattle.volume_model.specs.Volumes.{zero_page}
-use Rattle.store_model.specs.Cases.{Moves, read_after}
+use Rattle.store_model.specs.Cases.{WritesOnePage, read_after}
 use Rattle.store_model.specs.Cases.{FailsToReplace}
-use Rattle.store_core.specs.Seen.{device_of}
+use Rattle.store_core.specs.StoreView.{device_of}
 
 read_told : (tells : Bool) (old new : Image) (place : ℕ) (page : List ℕ) → (IsTrue tells → new ≡ with_page old place page)
     → (if tells then new else (λ p. zero_page)) ≡ read_after tells (if tells then old else (λ p. zero_page)) place page
@@ -16,11 +16,11 @@ read_told false old new place page is = refl
 
 module _ {D T : Type 0} (d : Ghosts D) (r : Result T DiskFault) (old new : D) (place : ℕ) (page : List ℕ) (calls : ℕ) where
   pub moves : (IsTrue d.tells → OnOk r (d.now new ≡ with_page (d.now old) place page)) → OnOk r (d.clock old + calls ≤ d.clock new) → d.read_faults new ≡ d.read_faults old
-      → OnOk r (d.write_faults new ≡ d.write_faults old) → d.reads new ≡ d.reads old → OnOk r (Moves d.tells (device_of d old) place page calls (device_of d new))
+      → OnOk r (d.write_faults new ≡ d.write_faults old) → d.reads new ≡ d.reads old → OnOk r (WritesOnePage d.tells (device_of d old) place page calls (device_of d new))
   moves written rises read_faults no_fault reads = by r written rises no_fault
     where
       by : (x : Result T DiskFault) → (IsTrue d.tells → OnOk x (d.now new ≡ with_page (d.now old) place page)) → OnOk x (d.clock old + calls ≤ d.clock new)
-          → OnOk x (d.write_faults new ≡ d.write_faults old) → OnOk x (Moves d.tells (device_of d old) place page calls (device_of d new))
+          → OnOk x (d.write_faults new ≡ d.write_faults old) → OnOk x (WritesOnePage d.tells (device_of d old) place page calls (device_of d new))
       by (Ok x) written rises no_fault = record {
         reads = read_told d.tells (d.now old) (d.now new) place page written;
         clock = rises;

@@ -12,23 +12,23 @@ use Rattle.volume_model.specs.declared.command.VolumeRef.TheVariants.{Head}
 use Rattle.volume_model.specs.declared.command.Command.{Command}
 use Rattle.volume_model.specs.declared.command.Command.TheVariants as c
 use Rattle.blob_meta.specs.declared.meta.Meta.{Meta}
-use Rattle.blob_meta.specs.Asked.{head_in, IsFirstCause, IsLiveOf, ShowsBlob}
+use Rattle.blob_meta.specs.Asked.{asked_head, IsFirstCause, IsLiveOf, ShowsBlob}
 use Rattle.store_model.specs.Maps.{Map}
 use Rattle.store_model.specs.Shown.{fixed_of}
-use Rattle.store_model.specs.Plants.{Plant, shown}
+use Rattle.store_model.specs.StoreState.{StoreState, shown}
 use Rattle.store_model.specs.Jobs.{AsksFor}
-use Rattle.store_model.specs.Standing.{RunsWell}
+use Rattle.store_model.specs.RunInvariant.{RunsWell}
 use Rattle.store_model.proofs.Synced.{edited_here}
 use Rattle.store_core.specs.Planning.{PlanLaws}
-use Rattle.store_core.specs.Seen.{state_of}
+use Rattle.store_core.specs.StoreView.{state_of}
 use Rattle.store_core.proofs.Answered.{found, live_same, meant, shows_blob}
 
-module _ (first : Volumes) (p : Plant) (well : RunsWell first p) (metas : map.FinMap nat_cmp Meta) (base : p.base ≡ map.get metas) where
+module _ (first : Volumes) (p : StoreState) (well : RunsWell first p) (metas : map.FinMap nat_cmp Meta) (base : p.base ≡ map.get metas) where
   live_there : (head : ℕ) (o : Option Meta) → p.base head ≡ o → is_some (p.live head) ≡ is_some o
   live_there head None is = ap is_some (well.no_live head is)
   live_there head (Some m) is = ap is_some (well.live head m is).1
 
-  pub is_live_of : (command : Command) (head : ℕ) → head_in command ≡ Some head → IsLiveOf metas (p.live head) command
+  pub is_live_of : (command : Command) (head : ℕ) → asked_head command ≡ Some head → IsLiveOf metas (p.live head) command
   is_live_of command head named =
       live_there head (p.base head) refl ∙ ap (λ (m : Map Meta). is_some (m head)) base ∙ ap (λ o. is_some (option_and_then (λ h. map.get metas h) o)) (sym named)
 
@@ -49,7 +49,7 @@ module _ (first : Volumes) (p : Plant) (well : RunsWell first p) (metas : map.Fi
     edited_now : (edit : Volume → Volume) → edited_at f v (head_of f v (Head head)) edit head ≡ Some (edit here.0)
     edited_now edit = edited_here f v (head_of f v (Head head)) edit head (meant f v p.live (live_same first p well) head live is_live) ∙ ap (option_map edit) here.1
 
-    unrefused : (command : Command) → head_in command ≡ Some head → IsFirstCause metas (Some live) command p.super None → refusal f v command ≡ None
+    unrefused : (command : Command) → asked_head command ≡ Some head → IsFirstCause metas (Some live) command p.super None → refusal f v command ≡ None
     unrefused command named cause = cause f v refl (subst (λ (o : Option Xattrs). ShowsBlob metas o command v) is_live (shows_blob first p well metas command head base named))
 
     pub asks_put : (key value : Text) → IsFirstCause metas (Some live) (c.Put (Head head) key value) p.super None → AsksFor p (c.Put (Head head) key value) head (record old { xattrs = with_value live key value })

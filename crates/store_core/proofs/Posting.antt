@@ -13,13 +13,13 @@ use Rattle.store_core.specs.declared.rows.RowStage.TheVariants.{Meta, Over}
 use Rattle.store_core.specs.declared.begin.BeginTurn.{BeginTurn}
 use Rattle.store_core.specs.declared.begin.BeginTurn.TheVariants as begin
 use Rattle.store_core.specs.Begins.{BeginsOrNot}
-use Rattle.store_core.specs.Kept.{IsRunning, Kept}
-use Rattle.store_core.specs.Made.{Made}
-use Rattle.store_core.specs.Seen.{At, Both, rows_of, state_of}
+use Rattle.store_core.specs.StoreInvariant.{IsRunning, StoreInvariant}
+use Rattle.store_core.specs.TurnMade.{TurnMade}
+use Rattle.store_core.specs.StoreView.{StoreView, WithOpening, rows_of, state_of}
 use Rattle.store_core.specs.Requests.{IsPostedBy}
 use Rattle.store_core.specs.Stages.{is_stage, waits_for}
 use Rattle.store_core.specs.Steps.{IsPostedAt, WaitsForMetadata}
-use Rattle.store_model.specs.Standing.{IsShaped, MayClaim}
+use Rattle.store_model.specs.RunInvariant.{IsShaped, MayClaim}
 use Rattle.store_model.proofs.Shaped.{no_claim}
 
 -- a row that hasn't ended is that of one of the channels
@@ -76,7 +76,7 @@ at_over left (Decided outcome) claim channel is = absurd (cc is)
 at_over left Ended claim channel is = absurd (cc is)
 
 -- a store in which no row holds a claim but where it may
-module _ {D : Type 0} (d : Ghosts D) (p : At D) (shaped : IsShaped (state_of d p)) (channel : ℕ) where
+module _ {D : Type 0} (d : Ghosts D) (p : StoreView D) (shaped : IsShaped (state_of d p)) (channel : ℕ) where
   -- a row that waits for its first command to be done holds no claim
   idle_unclaimed : (rows_of p.rows channel).stage ≡ Idle → (rows_of p.rows channel).claim ≡ None
   idle_unclaimed idle = no_claim (state_of d p) shaped channel (λ may. subst MayClaim idle may)
@@ -106,39 +106,39 @@ module _ {D : Type 0} (d : Ghosts D) (p : At D) (shaped : IsShaped (state_of d p
   decided_unclaimed outcome is = no_claim (state_of d p) shaped channel (λ may. subst MayClaim is may)
 
 -- a command that is posted, by what is kept
-pub posted_at : {D : Type 0} (d : Ghosts D) (p : Both D) (msg : Msg) → Kept d p → IsPostedBy p.at.rows msg → IsPostedAt p.at msg.channel
+pub posted_at : {D : Type 0} (d : Ghosts D) (p : WithOpening D) (msg : Msg) → StoreInvariant d p → IsPostedBy p.at.rows msg → IsPostedAt p.at msg.channel
 posted_at d p msg kept is = by (rows_of p.at.rows msg.channel).left refl
   where
     by : (left : List Command) → (rows_of p.at.rows msg.channel).left ≡ left → IsPostedAt p.at msg.channel
     by [] none = absurd (kept.facts.shaped.posted msg.channel msg.serial is.stage none)
     by (command ∷ rest) some = record { serial = msg.serial; waits = record { command = command; rest = rest; row = λ i. record { left = some i; stage = is.stage i; claim = is.unclaimed i } } }
 
-pub kept_running : {D : Type 0} (d : Ghosts D) (p : Both D) → Kept d p → IsRunning (state_of d p.at)
+pub kept_running : {D : Type 0} (d : Ghosts D) (p : WithOpening D) → StoreInvariant d p → IsRunning (state_of d p.at)
 kept_running d p kept = record { store = p.opening.super; first = _; script = _; placed = kept.placed; facts = kept.facts }
 
 -- one of two cases, by whether the store is stopped
-pub either : {D : Type 0} (d : Ghosts D) (p : Both D) (q : At D) (a b : kind.Kind) → ((k : kind.Kind) → Made d p.at q k → Kept d (record { at = q; opening = p.opening; right = p.right })) → (p.at.stopped ≡ None → Made d p.at q a) → (IsSome p.at.stopped → Made d p.at q b)
-    → Kept d (record { at = q; opening = p.opening; right = p.right })
+pub either : {D : Type 0} (d : Ghosts D) (p : WithOpening D) (q : StoreView D) (a b : kind.Kind) → ((k : kind.Kind) → TurnMade d p.at q k → StoreInvariant d (record { at = q; opening = p.opening; right = p.right })) → (p.at.stopped ≡ None → TurnMade d p.at q a) → (IsSome p.at.stopped → TurnMade d p.at q b)
+    → StoreInvariant d (record { at = q; opening = p.opening; right = p.right })
 either d p q a b goes_on runs stops = by p.at.stopped refl
   where
-    by : (o : Option ℕ) → p.at.stopped ≡ o → Kept d (record { at = q; opening = p.opening; right = p.right })
+    by : (o : Option ℕ) → p.at.stopped ≡ o → StoreInvariant d (record { at = q; opening = p.opening; right = p.right })
     by None is = goes_on a (runs is)
     by (Some at) is = goes_on b (stops (subst IsSome (sym is) refl))
 
 -- a job that begins or not, by whether the store is stopped
-pub begun_or_not : {D : Type 0} (d : Ghosts D) (p : Both D) (q : At D) (turn : BeginTurn) → ((k : kind.Kind) → Made d p.at q k → Kept d (record { at = q; opening = p.opening; right = p.right })) → (p.at.stopped ≡ None → BeginsOrNot d p.at q turn)
-    → (IsSome p.at.stopped → (turn ≡ begin.Logged) × Made d p.at q kind.halts) → Kept d (record { at = q; opening = p.opening; right = p.right })
+pub begun_or_not : {D : Type 0} (d : Ghosts D) (p : WithOpening D) (q : StoreView D) (turn : BeginTurn) → ((k : kind.Kind) → TurnMade d p.at q k → StoreInvariant d (record { at = q; opening = p.opening; right = p.right })) → (p.at.stopped ≡ None → BeginsOrNot d p.at q turn)
+    → (IsSome p.at.stopped → (turn ≡ begin.Logged) × TurnMade d p.at q kind.halts) → StoreInvariant d (record { at = q; opening = p.opening; right = p.right })
 begun_or_not d p q turn goes_on runs stops = by p.at.stopped refl
   where
-    made : (t : BeginTurn) → BeginsOrNot d p.at q t → Kept d (record { at = q; opening = p.opening; right = p.right })
+    made : (t : BeginTurn) → BeginsOrNot d p.at q t → StoreInvariant d (record { at = q; opening = p.opening; right = p.right })
     made begin.Began x = goes_on kind.begins x
     made begin.Logged x = goes_on kind.refuses x
 
-    by : (o : Option ℕ) → p.at.stopped ≡ o → Kept d (record { at = q; opening = p.opening; right = p.right })
+    by : (o : Option ℕ) → p.at.stopped ≡ o → StoreInvariant d (record { at = q; opening = p.opening; right = p.right })
     by None is = made turn (runs is)
     by (Some at) is = goes_on kind.halts (stops (subst IsSome (sym is) refl)).1
 
 -- a store that has no job or has stopped, and hasn't stopped, has no job
-pub job_over : {D : Type 0} (p : At D) → (p.job ≡ None) ⊎ IsSome p.stopped → p.stopped ≡ None → p.job ≡ None
+pub job_over : {D : Type 0} (p : StoreView D) → (p.job ≡ None) ⊎ IsSome p.stopped → p.stopped ≡ None → p.job ≡ None
 job_over p (inl none) runs = none
 job_over p (inr stopped) runs = absurd (let bad : IsSome {T = ℕ} None = subst (λ o. IsSome {T = ℕ} o) runs stopped in cc bad)

@@ -7,8 +7,8 @@ use Rattle.page_disk.specs.declared.disk.PageDisk.{Ghosts}
 use Rattle.volume_model.specs.declared.command.Command.{Command}
 use Rattle.volume_model.specs.declared.reply.Reply.{Reply}
 use Rattle.store_model.specs.Rows.{Row, Rows, Answered, Decided, Ended, with_row, entry_of}
-use Rattle.store_model.specs.Plants.{logged}
-use Rattle.store_core.specs.Seen.{At, device_of, rows_of, state_of}
+use Rattle.store_model.specs.StoreState.{logged}
+use Rattle.store_core.specs.StoreView.{StoreView, device_of, rows_of, state_of}
 use Rattle.store_core.specs.Steps.{decided, logged_at, OnlyRow}
 
 -- a list with an item has a first one
@@ -33,7 +33,7 @@ module _ (rows : List Row) (channel : ℕ) (row : Row) (low : channel < length r
   rows_set = fun_ext row_at
 
 -- with an entry logged, the state is the one in which it is
-pub state_logged : {D : Type 0} (d : Ghosts D) (p : At D) (channel : ℕ) (command : Command) (rest : List Command) (reply : Reply) → channel < length p.rows
+pub state_logged : {D : Type 0} (d : Ghosts D) (p : StoreView D) (channel : ℕ) (command : Command) (rest : List Command) (reply : Reply) → channel < length p.rows
     → state_of d (logged_at p channel command rest reply (d.clock p.disk)) ≡ logged (state_of d p) channel command rest reply (device_of d p.disk)
 state_logged d p channel command rest reply low =
     ap (λ (rows : Rows). record (state_of d p) { rows = rows; log = p.log ++ entry_of p.log channel command reply ∷ []; marks = p.marks ++ d.clock p.disk ∷ [] })

@@ -14,15 +14,15 @@ use Rattle.volume_model.specs.declared.command.Command.{Command}
 use Rattle.blob_meta.specs.declared.meta.Meta.{Meta}
 use Rattle.io_freeze.specs.Guards.{GuardsState, no_guards, renewed}
 use Rattle.store_model.specs.Maps.{Metas}
-use Rattle.store_model.specs.PlantLaws.{IsLoadedWith}
-use Rattle.store_model.specs.Plants.{Opens}
-use Rattle.store_model.specs.Standing.{AreRoots}
+use Rattle.store_model.specs.StateLaws.{IsLoadedWith}
+use Rattle.store_model.specs.StoreState.{Opens}
+use Rattle.store_model.specs.RunInvariant.{AreRoots}
 use Rattle.store_model.specs.Rows.{Row, Idle, Ended}
-use Rattle.store_model.proofs.Given.{given_here, given_elsewhere}
+use Rattle.store_model.proofs.WithEntry.{given_here, given_elsewhere}
 use Rattle.store_core.specs.declared.loaded.Loaded.{Loaded}
 use Rattle.store_core.specs.Opening.{AreRows, IsLiveAtStart, opened_with, row_at_start}
-use Rattle.store_core.specs.Seen.{rows_of, state_of}
-use Rattle.store_core.specs.Whole.{IsWhole}
+use Rattle.store_core.specs.StoreView.{rows_of, state_of}
+use Rattle.store_core.specs.LoadedWhole.{IsWhole}
 use Rattle.store_core.proofs.Maps.{insert_given}
 
 -- the live attributes of the blobs whose heads are below this

@@ -10,27 +10,27 @@ use Rattle.volume_model.specs.declared.command.Command.TheVariants as c
 use Rattle.volume_model.specs.declared.reply.Reply.{Reply}
 use Rattle.volume_model.specs.declared.reply.Reply.TheVariants as r
 use Rattle.blob_meta.specs.declared.meta.Meta.{Meta}
-use Rattle.blob_meta.specs.Asked.{IsCause, IsFirstCause}
+use Rattle.blob_meta.specs.Asked.{IsAttributeCause, IsFirstCause}
 use Rattle.store_core.specs.declared.answering.Effect.{Effect}
 use Rattle.store_core.specs.declared.answering.NewLive.{NewLive}
 
 -- a command that nothing refuses, with its reply and new live attributes
-abbrev pub Does : Option Xattrs → Command → Reply → Option NewLive → Type 0
-Does (Some live) (c.SetX (Head head) key value) reply new = (reply ≡ r.Ok) × (new ≡ Some (record { head = head; xattrs = with_value live key value }))
-Does (Some live) (c.DelX (Head head) key) reply new = (reply ≡ r.Ok) × (new ≡ Some (record { head = head; xattrs = without live key }))
-Does (Some live) (c.GetX (Head head) key) reply new = (new ≡ None) × ((value : _) × (reply ≡ r.Value value) × (value_of live key ≡ Some value))
-Does live command reply new = ⊥
+abbrev pub DoesVerb : Option Xattrs → Command → Reply → Option NewLive → Type 0
+DoesVerb (Some live) (c.SetX (Head head) key value) reply new = (reply ≡ r.Ok) × (new ≡ Some (record { head = head; xattrs = with_value live key value }))
+DoesVerb (Some live) (c.DelX (Head head) key) reply new = (reply ≡ r.Ok) × (new ≡ Some (record { head = head; xattrs = without live key }))
+DoesVerb (Some live) (c.GetX (Head head) key) reply new = (new ≡ None) × ((value : _) × (reply ≡ r.Value value) × (value_of live key ≡ Some value))
+DoesVerb live command reply new = ⊥
 
 module _ (metas : map.FinMap nat_cmp Meta) (live : Option Xattrs) (command : Command) (sup : Super) (e : Effect) where
   -- the first cause that holds, and nothing else
-  pub record IsRefused : Type 0 where
-    pub cause : IsCause e.reply
+  pub record IsVerbRefused : Type 0 where
+    pub cause : IsAttributeCause e.reply
     pub first : IsFirstCause metas live command sup (Some e.reply)
     pub none : e.live ≡ None
 
-  pub record IsDone : Type 0 where
+  pub record IsVerbDone : Type 0 where
     pub none : IsFirstCause metas live command sup None
-    pub does : Does live command e.reply e.live
+    pub does : DoesVerb live command e.reply e.live
 
   abbrev pub ComesTo : Type 0
-  ComesTo = IsRefused ⊎ IsDone
+  ComesTo = IsVerbRefused ⊎ IsVerbDone

@@ -12,14 +12,14 @@ use Rattle.md_chain.specs.Planned.{chain_pages, written_items}
 use Rattle.store_model.specs.Places.{all_set, AreLeastClear}
 use Rattle.page_disk.specs.declared.disk.PageDisk.{Ghosts}
 use Rattle.volume_model.specs.declared.command.Command.{Command}
-use Rattle.blob_meta.specs.declared.job.Job.{Job as Given}
+use Rattle.blob_meta.specs.declared.job.Job.{Job}
 use Rattle.blob_meta.specs.Jobs.{job_of_one}
-use Rattle.store_model.specs.Plants.{Plant}
+use Rattle.store_model.specs.StoreState.{StoreState}
 use Rattle.store_model.specs.Cases as kind
 use Rattle.store_model.specs.Jobs.{AsksFor}
 pub use Rattle.store_model.specs.Jobs.{LacksPages}
-use Rattle.store_core.specs.Made.{Made}
-use Rattle.store_core.specs.Seen.{At}
+use Rattle.store_core.specs.TurnMade.{TurnMade}
+use Rattle.store_core.specs.StoreView.{StoreView}
 use Rattle.store_core.specs.Steps.{decided}
 use Rattle.store_model.specs.Rows.{Row, InJob}
 use Rattle.store_core.specs.declared.begin.BeginTurn.{BeginTurn}
@@ -63,24 +63,24 @@ first_job x channel head meta =
     record { work = work.Writing (record { channel = channel; head = head; new = meta; live = x.live; chain = x.laid.chain; pages = x.laid.pages }) 0; old = x.old }
 
 -- a job of one replacement, which is its commit
-pub record ReplacesOne (job : Given) : Type 0 where
+pub record ReplacesOne (job : Job) : Type 0 where
   pub head : ℕ
   pub new : Meta
   pub is : job ≡ job_of_one head new
 
 -- the job that a command asks for
-pub record IsJobOf (p : Plant) (command : Command) (job : Given) : Type 0 where
+pub record IsJobOf (p : StoreState) (command : Command) (job : Job) : Type 0 where
   pub head : ℕ
   pub new : Meta
   pub is : job ≡ job_of_one head new
   pub asks : AsksFor p command head new
 
 -- the job begins, or its command is logged: too few pages are clear, or memory ran out
-abbrev pub BeginsOrNot : {D : Type 0} → Ghosts D → At D → At D → BeginTurn → Type 0
-BeginsOrNot d p q begin.Began = Made d p q kind.begins
-BeginsOrNot d p q begin.Logged = Made d p q kind.refuses
+abbrev pub BeginsOrNot : {D : Type 0} → Ghosts D → StoreView D → StoreView D → BeginTurn → Type 0
+BeginsOrNot d p q begin.Began = TurnMade d p q kind.begins
+BeginsOrNot d p q begin.Logged = TurnMade d p q kind.refuses
 
 -- the row of the channel then: the job serves it, or its first command is logged
-abbrev pub begun : BeginTurn → Row → Row
-begun begin.Began row = record row { stage = InJob }
-begun begin.Logged row = decided row
+abbrev pub row_begun : BeginTurn → Row → Row
+row_begun begin.Began row = record row { stage = InJob }
+row_begun begin.Logged row = decided row

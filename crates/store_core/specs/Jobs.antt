@@ -5,7 +5,7 @@ use Rattle.blob_meta.specs.declared.meta.Meta.{Meta}
 use Rattle.blob_meta.specs.contracts.meta.Meta as meta
 use Rattle.md_chain.specs.declared.plan.PlannedPage.{PlannedPage}
 use Rattle.md_chain.specs.contracts.plan.PlannedPage as planned_page
-use Rattle.store_model.specs.Plants.{Job, Phase, Writing, Erasing}
+use Rattle.store_model.specs.StoreState.{JobState, Phase, Writing, Erasing}
 use Rattle.store_core.specs.declared.job.Planned.{Planned}
 use Rattle.store_core.specs.declared.job.RunningJob.{RunningJob}
 use Rattle.store_core.specs.declared.job.Work.{Work}
@@ -25,7 +25,7 @@ phase_back (Erasing n) = refl
 abbrev pub phase_code : Coded Phase
 phase_code = code_by (ℕ × ℕ) (coded× coded_ℕ coded_ℕ) phase_in phase_out phase_back
 
-abbrev pub job_code : Coded Job
+abbrev pub job_code : Coded JobState
 job_code =
     code_by (ℕ × (ℕ × (Meta × (List ℕ × (List PlannedPage × (List ℕ × Phase))))))
     (coded× coded_ℕ (coded× coded_ℕ (coded× meta.the_row.coded (coded× (coded_list coded_ℕ) (coded× (coded_list planned_page.the_row.coded) (coded× (coded_list coded_ℕ) phase_code))))))
@@ -33,13 +33,13 @@ job_code =
     (λ p. record { channel = p.0; head = p.1.0; new = p.1.1.0; fresh = p.1.1.1.0; planned = p.1.1.1.1.0; old = p.1.1.1.1.1.0; phase = p.1.1.1.1.1.1 }) (λ _. refl)
 
 -- what is planned, with the old places and the phase
-abbrev pub job_of : Planned → List ℕ → Phase → Job
+abbrev pub job_of : Planned → List ℕ → Phase → JobState
 job_of p old phase = record { channel = p.channel; head = p.head; new = p.new; fresh = drop 1 p.chain; planned = p.pages; old = old; phase = phase }
 
-abbrev pub job_seen : RunningJob → Job
+abbrev pub job_seen : RunningJob → JobState
 job_seen j = seen j.work
   where
-    seen : Work → Job
+    seen : Work → JobState
     seen (work.Writing planned written) = job_of planned j.old (Writing written)
     seen (work.Erasing did erased) = job_of did.value j.old (Erasing erased)
 

@@ -1,12 +1,12 @@
-pub mod Whole
+pub mod LoadedWhole
 pub mod Stages
 pub mod Jobs
-pub mod Seen
+pub mod StoreView
 pub mod Running
 pub mod Steps
-pub mod Made
+pub mod TurnMade
 pub mod Surviving
-pub mod Kept
+pub mod StoreInvariant
 pub mod Answering
 pub mod JobTurns
 pub mod Begins

@@ -11,7 +11,7 @@ use Rattle.store_model.specs.Rows.{Row, Idle, Ended}
 use Rattle.store_core.specs.declared.loaded.Loaded.{Loaded}
 use Rattle.store_core.specs.declared.starting.AtStart.{AtStart}
 use Rattle.store_core.specs.Running.{left_in}
-use Rattle.store_core.specs.Seen.{At, rows_of}
+use Rattle.store_core.specs.StoreView.{StoreView, rows_of}
 
 -- each blob's attributes are live as they are synced
 abbrev pub IsLiveAtStart : map.FinMap nat_cmp Meta → map.FinMap nat_cmp Xattrs → Type 0
@@ -30,7 +30,7 @@ pub record AreRows (script : List (List Command)) (rows : List Row) : Type 0 whe
   pub above : (channel : ℕ) → nat_lt channel channels ≡ false → slice_index_or script channel [] ≡ []
 
 -- the state of a store that was loaded so, with these live attributes and rows, of which nothing is posted or logged
-abbrev pub opened_with : {D : Type 0} → Ghosts D → Loaded D → map.FinMap nat_cmp Xattrs → List Row → At D
+abbrev pub opened_with : {D : Type 0} → Ghosts D → Loaded D → map.FinMap nat_cmp Xattrs → List Row → StoreView D
 opened_with d loaded live rows = record {
   disk = loaded.disk;
   super = loaded.sup;
@@ -48,7 +48,7 @@ opened_with d loaded live rows = record {
 }
 
 -- A store as it was loaded, with a script of which nothing is posted.
-pub record IsOpened {D : Type 0} (d : Ghosts D) (loaded : Loaded D) (script : List (List Command)) (p : At D) : Type 0 where
+pub record IsOpened {D : Type 0} (d : Ghosts D) (loaded : Loaded D) (script : List (List Command)) (p : StoreView D) : Type 0 where
   pub live : IsLiveAtStart loaded.metas p.live
   pub rows : AreRows script p.rows
   pub at : p ≡ opened_with d loaded p.live p.rows

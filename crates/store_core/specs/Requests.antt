@@ -6,7 +6,7 @@ use Rattle.store_model.specs.Rows.{Row, Stage, Posted}
 use Rattle.store_core.specs.declared.requests.Request.{Request}
 use Rattle.store_core.specs.declared.requests.Request.TheVariants as request
 use Rattle.store_core.specs.declared.requests.Stale.{Stale}
-use Rattle.store_core.specs.Seen.{rows_of}
+use Rattle.store_core.specs.StoreView.{rows_of}
 
 -- the number under which a row is posted, if it is
 abbrev pub posted_in : Stage → Option ℕ

@@ -9,10 +9,10 @@ use Rattle.page_disk.specs.declared.disk.PageDisk.{Ghosts}
 use Rattle.store_model.specs.Rows.{Row, entries_of}
 use Rattle.store_core.specs.Jobs.{job_seen, IsHeaded}
 use Rattle.store_core.specs.declared.running.Running.{Running}
-use Rattle.store_core.specs.Seen.{At, Both}
+use Rattle.store_core.specs.StoreView.{StoreView, WithOpening}
 
-abbrev pub at_of : {D : Type 0} → Running D → At D
-at_of running = record {
+abbrev pub view_of : {D : Type 0} → Running D → StoreView D
+view_of running = record {
   disk = running.disk;
   super = running.sup;
   metas = running.metas;
@@ -28,8 +28,8 @@ at_of running = record {
   stopped = running.stopped;
 }
 
-abbrev pub both : {D : Type 0} → Running D → Running D → ℕ → Both D
-both running opening right = record { at = at_of running; opening = at_of opening; right = right }
+abbrev pub with_opening : {D : Type 0} → Running D → Running D → ℕ → WithOpening D
+with_opening running opening right = record { at = view_of running; opening = view_of opening; right = right }
 
 -- how many commands are left in all rows
 abbrev pub left_in : List Row → ℕ

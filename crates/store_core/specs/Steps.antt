@@ -3,14 +3,14 @@ use Rattle.std.specs.Prelude.{None, ◌≡◌, ◌≢◌, ℕ, ◌<◌, List, []
 use Rattle.volume_model.specs.declared.command.Command.{Command}
 use Rattle.volume_model.specs.declared.reply.Reply.{Reply}
 use Rattle.store_model.specs.Rows.{Answered, Decided, entry_of, Idle, IsForMetadata, Posted, Row, Stage}
-use Rattle.store_core.specs.Seen.{At, rows_of}
+use Rattle.store_core.specs.StoreView.{StoreView, rows_of}
 
 -- one row is another
-abbrev pub with_row_at : {D : Type 0} → At D → ℕ → Row → At D
+abbrev pub with_row_at : {D : Type 0} → StoreView D → ℕ → Row → StoreView D
 with_row_at p channel row = record p { rows = slice_set p.rows channel row }
 
 -- a channel, and its row
-pub record HasRow {D : Type 0} (p : At D) (channel : ℕ) (row : Row) : Type 0 where
+pub record HasRow {D : Type 0} (p : StoreView D) (channel : ℕ) (row : Row) : Type 0 where
   pub low : channel < length p.rows
   pub is : rows_of p.rows channel ≡ row
 
@@ -24,7 +24,7 @@ abbrev pub decided : Row → Row
 decided row = record { left = drop 1 row.left; stage = Decided Answered; claim = None }
 
 -- an entry is logged, with its mark
-abbrev pub logged_at : {D : Type 0} → At D → ℕ → Command → List Command → Reply → ℕ → At D
+abbrev pub logged_at : {D : Type 0} → StoreView D → ℕ → Command → List Command → Reply → ℕ → StoreView D
 logged_at p channel command rest reply mark = record p {
   rows = slice_set p.rows channel (record { left = rest; stage = Decided Answered; claim = None });
   log = p.log ++ entry_of p.log channel command reply ∷ [];
@@ -32,23 +32,23 @@ logged_at p channel command rest reply mark = record p {
 }
 
 -- a channel whose first command is at this stage
-pub record Waits {D : Type 0} (p : At D) (channel : ℕ) (stage : Stage) : Type 0 where
+pub record Waits {D : Type 0} (p : StoreView D) (channel : ℕ) (stage : Stage) : Type 0 where
   pub command : Command
   pub rest : List Command
   pub row : rows_of p.rows channel ≡ record { left = command ∷ rest; stage = stage; claim = None }
 
 -- a channel whose first command is for the metadata thread, and of which nothing was done
-pub record WaitsForMetadata {D : Type 0} (p : At D) (channel : ℕ) : Type 0 where
+pub record WaitsForMetadata {D : Type 0} (p : StoreView D) (channel : ℕ) : Type 0 where
   pub command : Command
   pub rest : List Command
   pub is_meta : IsForMetadata command
   pub row : rows_of p.rows channel ≡ record { left = command ∷ rest; stage = Idle; claim = None }
 
 -- the command of a channel that is posted
-pub record IsPostedAt {D : Type 0} (p : At D) (channel : ℕ) : Type 0 where
+pub record IsPostedAt {D : Type 0} (p : StoreView D) (channel : ℕ) : Type 0 where
   pub serial : ℕ
   pub waits : Waits p channel (Posted serial)
 
 -- the first command of a channel has this
-abbrev pub Asks : {D : Type 0} → At D → ℕ → (Command → Type 0) → Type 0
+abbrev pub Asks : {D : Type 0} → StoreView D → ℕ → (Command → Type 0) → Type 0
 Asks p channel P = (command : Command) (rest : List Command) → (rows_of p.rows channel).left ≡ command ∷ rest → P command

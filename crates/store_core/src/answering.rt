@@ -5,18 +5,18 @@ ghost use Rattle.std.specs.FinMap as map;
 ghost use Rattle.blob_meta.specs.Asked.{HasValue, IsOnHead, IsLiveOf};
 ghost use Rattle.store_model.specs.Cases.{IsInMemory};
 ghost use Rattle.store_model.specs.Cases as kind;
-ghost use Rattle.store_core.specs.Answering.{ComesTo, Does};
-ghost use Rattle.store_core.specs.Kept.{IsRunning};
-ghost use Rattle.store_core.specs.Made.{Made};
-ghost use Rattle.store_core.specs.Running.{at_of, InOrder};
-ghost use Rattle.store_core.specs.Seen.{rows_of, state_of};
+ghost use Rattle.store_core.specs.Answering.{ComesTo, DoesVerb};
+ghost use Rattle.store_core.specs.StoreInvariant.{IsRunning};
+ghost use Rattle.store_core.specs.TurnMade.{TurnMade};
+ghost use Rattle.store_core.specs.Running.{view_of, InOrder};
+ghost use Rattle.store_core.specs.StoreView.{rows_of, state_of};
 ghost use Rattle.store_core.specs.Steps.{decided, Asks, IsPostedAt, OnlyRow};
 
 use crate::logging::log;
 use crate::refusing::halt;
 use crate::rows::first_of;
 use crate::running::Running;
-use blob_meta::{HeadMap, Metas, head_in, refusal_of};
+use blob_meta::{HeadMap, Metas, asked_head, refusal_of};
 use out_of_memory::Memory;
 use page_disk::PageDisk;
 use std::alloc::Global;
@@ -42,7 +42,7 @@ fn done(alloc: Global, live: &XattrList, command: &Command) -> Result<Effect, Me
     requires on_head { IsOnHead command.now }
     requires in_memory { IsInMemory command.now }
     requires found { HasValue (Some live.now) command.now }
-    ensures { IfOk result (λ e. Does (Some live.now) command.now e.reply e.live) }
+    ensures { IfOk result (λ e. DoesVerb (Some live.now) command.now e.reply e.live) }
 {
     match command {
         Command::SetX {
@@ -120,17 +120,17 @@ fn keep_live(live: &mut HeadMap<XattrList>, new: Option<NewLive>)
 pub(crate) fn answer<D: PageDisk>(running: &mut Running<D>, channel: u8)
     requires order { InOrder D.PageDisk running.old }
     requires channel { channel < 16 }
-    requires posted { IsPostedAt (at_of running.old) channel }
-    requires in_memory { Asks (at_of running.old) channel (λ command. IsOnHead command × IsInMemory command) }
-    requires running { IsRunning (state_of D.PageDisk (at_of running.old)) }
+    requires posted { IsPostedAt (view_of running.old) channel }
+    requires in_memory { Asks (view_of running.old) channel (λ command. IsOnHead command × IsInMemory command) }
+    requires running { IsRunning (state_of D.PageDisk (view_of running.old)) }
     requires runs { running.old.stopped ≡ None }
     requires no_job { running.old.job ≡ None }
-    ensures case { Made D.PageDisk (at_of running.old) (at_of running.new) kind.answers }
+    ensures case { TurnMade D.PageDisk (view_of running.old) (view_of running.new) kind.answers }
     ensures row { OnlyRow running.old.rows.items running.new.rows.items channel (decided (rows_of running.old.rows.items channel)) }
     ensures order { InOrder D.PageDisk running.new }
 {
     let command = first_of(&running.rows, channel);
-    let live = running.live.get(head_in(command));
+    let live = running.live.get(asked_head(command));
     match effect_of(running.alloc, &running.metas, &running.sup, live, command) {
         Ok(Effect { reply, live }) => {
             keep_live(&mut running.live, live);
@@ -144,12 +144,12 @@ pub(crate) fn answer<D: PageDisk>(running: &mut Running<D>, channel: u8)
 pub(crate) fn answer_or_halt<D: PageDisk>(running: &mut Running<D>, channel: u8)
     requires order { InOrder D.PageDisk running.old }
     requires channel { channel < 16 }
-    requires posted { IsPostedAt (at_of running.old) channel }
-    requires in_memory { Asks (at_of running.old) channel (λ command. IsOnHead command × IsInMemory command) }
-    requires running { IsRunning (state_of D.PageDisk (at_of running.old)) }
+    requires posted { IsPostedAt (view_of running.old) channel }
+    requires in_memory { Asks (view_of running.old) channel (λ command. IsOnHead command × IsInMemory command) }
+    requires running { IsRunning (state_of D.PageDisk (view_of running.old)) }
     requires no_job { running.old.job ≡ None }
-    ensures answered { running.old.stopped ≡ None → Made D.PageDisk (at_of running.old) (at_of running.new) kind.answers }
-    ensures halted { IsSome running.old.stopped → Made D.PageDisk (at_of running.old) (at_of running.new) kind.halts }
+    ensures answered { running.old.stopped ≡ None → TurnMade D.PageDisk (view_of running.old) (view_of running.new) kind.answers }
+    ensures halted { IsSome running.old.stopped → TurnMade D.PageDisk (view_of running.old) (view_of running.new) kind.halts }
     ensures row { OnlyRow running.old.rows.items running.new.rows.items channel (decided (rows_of running.old.rows.items channel)) }
     ensures order { InOrder D.PageDisk running.new }
 {

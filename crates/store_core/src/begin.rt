@@ -10,11 +10,11 @@ ghost use Rattle.md_chain.specs.Packing.{parts_of, ArePlannable, AreFew, FitsPag
 ghost use Rattle.store_model.specs.Cases as kind;
 ghost use Rattle.store_model.specs.Jobs.{AsksFor};
 ghost use Rattle.store_core.specs.declared.begin.BeginTurn.TheVariants.{Began, Logged};
-ghost use Rattle.store_core.specs.Begins.{begun, BeginsOrNot, HasChain, IsJobOf, ReplacesOne, IsLaid, IsPrepared, IsTaken, LacksPages};
-ghost use Rattle.store_core.specs.Kept.{IsRunning};
-ghost use Rattle.store_core.specs.Made.{Made};
-ghost use Rattle.store_core.specs.Running.{at_of, InOrder};
-ghost use Rattle.store_core.specs.Seen.{rows_of, state_of};
+ghost use Rattle.store_core.specs.Begins.{row_begun, BeginsOrNot, HasChain, IsJobOf, ReplacesOne, IsLaid, IsPrepared, IsTaken, LacksPages};
+ghost use Rattle.store_core.specs.StoreInvariant.{IsRunning};
+ghost use Rattle.store_core.specs.TurnMade.{TurnMade};
+ghost use Rattle.store_core.specs.Running.{view_of, InOrder};
+ghost use Rattle.store_core.specs.StoreView.{rows_of, state_of};
 ghost use Rattle.store_core.specs.Steps.{Asks, IsPostedAt, OnlyRow};
 
 use crate::clearing::clear_places;
@@ -98,14 +98,14 @@ pub(crate) fn begin<D: PageDisk>(
 ) -> BeginTurn
     requires order { InOrder D.PageDisk running.old }
     requires channel { channel < 16 }
-    requires posted { IsPostedAt (at_of running.old) channel }
-    requires asks { Asks (at_of running.old) channel (λ command. AsksFor (state_of D.PageDisk (at_of running.old)) command head new) }
-    requires running { IsRunning (state_of D.PageDisk (at_of running.old)) }
+    requires posted { IsPostedAt (view_of running.old) channel }
+    requires asks { Asks (view_of running.old) channel (λ command. AsksFor (state_of D.PageDisk (view_of running.old)) command head new) }
+    requires running { IsRunning (state_of D.PageDisk (view_of running.old)) }
     requires runs { running.old.stopped ≡ None }
     requires no_job { running.old.job ≡ None }
-    ensures began { result ≡ Began → Made D.PageDisk (at_of running.old) (at_of running.new) kind.begins }
-    ensures logged { result ≡ Logged → Made D.PageDisk (at_of running.old) (at_of running.new) kind.refuses }
-    ensures row { OnlyRow running.old.rows.items running.new.rows.items channel (begun result (rows_of running.old.rows.items channel)) }
+    ensures began { result ≡ Began → TurnMade D.PageDisk (view_of running.old) (view_of running.new) kind.begins }
+    ensures logged { result ≡ Logged → TurnMade D.PageDisk (view_of running.old) (view_of running.new) kind.refuses }
+    ensures row { OnlyRow running.old.rows.items running.new.rows.items channel (row_begun result (rows_of running.old.rows.items channel)) }
     ensures order { InOrder D.PageDisk running.new }
 {
     match prepare(
@@ -139,14 +139,14 @@ pub(crate) fn begin_or_halt<D: PageDisk>(
 ) -> BeginTurn
     requires order { InOrder D.PageDisk running.old }
     requires channel { channel < 16 }
-    requires posted { IsPostedAt (at_of running.old) channel }
+    requires posted { IsPostedAt (view_of running.old) channel }
     requires replaces { ReplacesOne job }
-    requires asks { running.old.stopped ≡ None → Asks (at_of running.old) channel (λ command. IsJobOf (state_of D.PageDisk (at_of running.old)) command job) }
-    requires running { IsRunning (state_of D.PageDisk (at_of running.old)) }
+    requires asks { running.old.stopped ≡ None → Asks (view_of running.old) channel (λ command. IsJobOf (state_of D.PageDisk (view_of running.old)) command job) }
+    requires running { IsRunning (state_of D.PageDisk (view_of running.old)) }
     requires no_job { running.old.job ≡ None }
-    ensures begins { running.old.stopped ≡ None → BeginsOrNot D.PageDisk (at_of running.old) (at_of running.new) result }
-    ensures halted { IsSome running.old.stopped → (result ≡ Logged) × Made D.PageDisk (at_of running.old) (at_of running.new) kind.halts }
-    ensures row { OnlyRow running.old.rows.items running.new.rows.items channel (begun result (rows_of running.old.rows.items channel)) }
+    ensures begins { running.old.stopped ≡ None → BeginsOrNot D.PageDisk (view_of running.old) (view_of running.new) result }
+    ensures halted { IsSome running.old.stopped → (result ≡ Logged) × TurnMade D.PageDisk (view_of running.old) (view_of running.new) kind.halts }
+    ensures row { OnlyRow running.old.rows.items running.new.rows.items channel (row_begun result (rows_of running.old.rows.items channel)) }
     ensures order { InOrder D.PageDisk running.new }
 {
     if running.stopped.is_some() {

@@ -3,8 +3,8 @@
 ghost use Rattle.std.specs.Prelude.{◌≡◌, ◌<◌, ◌∷◌, List, length};
 ghost use Rattle.volume_model.specs.declared.command.Command.{Command as ACommand};
 ghost use Rattle.store_model.specs.Rows.{Stage as AStage};
-ghost use Rattle.store_core.specs.Running.{at_of, InOrder};
-ghost use Rattle.store_core.specs.Seen.{rows_of};
+ghost use Rattle.store_core.specs.Running.{view_of, InOrder};
+ghost use Rattle.store_core.specs.StoreView.{rows_of};
 ghost use Rattle.store_core.specs.Steps.{decided, logged_at, OnlyRow};
 
 use crate::running::Running;
@@ -17,7 +17,7 @@ pub(crate) fn log<D: PageDisk>(running: &mut Running<D>, channel: u8, reply: Rep
     requires channel { channel < 16 }
     requires left { 0 < length (rows_of running.old.rows.items channel).left }
     ensures logged { (command : ACommand) (rest : List ACommand) → (rows_of running.old.rows.items channel).left ≡ command ∷ rest →
-        at_of running.new ≡ logged_at (at_of running.old) channel command rest reply (D.clock running.new.disk) }
+        view_of running.new ≡ logged_at (view_of running.old) channel command rest reply (D.clock running.new.disk) }
     ensures row { OnlyRow running.old.rows.items running.new.rows.items channel (decided (rows_of running.old.rows.items channel)) }
     ensures order { InOrder D.PageDisk running.new }
 {

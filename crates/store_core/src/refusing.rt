@@ -3,9 +3,9 @@
 ghost use Rattle.std.specs.Prelude.{◌≡◌, ◌<◌, None, IsSome};
 ghost use Rattle.store_model.specs.Cases.{IsRefusedBy};
 ghost use Rattle.store_model.specs.Cases as kind;
-ghost use Rattle.store_core.specs.Made.{Made};
-ghost use Rattle.store_core.specs.Running.{at_of, InOrder};
-ghost use Rattle.store_core.specs.Seen.{rows_of, state_of};
+ghost use Rattle.store_core.specs.TurnMade.{TurnMade};
+ghost use Rattle.store_core.specs.Running.{view_of, InOrder};
+ghost use Rattle.store_core.specs.StoreView.{rows_of, state_of};
 ghost use Rattle.store_core.specs.Steps.{decided, Asks, IsPostedAt, OnlyRow};
 
 use crate::logging::log;
@@ -17,10 +17,10 @@ use volume_model::Reply;
 pub(crate) fn refuse<D: PageDisk>(running: &mut Running<D>, channel: u8, reply: Reply)
     requires order { InOrder D.PageDisk running.old }
     requires channel { channel < 16 }
-    requires posted { IsPostedAt (at_of running.old) channel }
-    requires why { Asks (at_of running.old) channel (λ command. IsRefusedBy (state_of D.PageDisk (at_of running.old)) command reply) }
+    requires posted { IsPostedAt (view_of running.old) channel }
+    requires why { Asks (view_of running.old) channel (λ command. IsRefusedBy (state_of D.PageDisk (view_of running.old)) command reply) }
     requires runs { running.old.stopped ≡ None }
-    ensures case { Made D.PageDisk (at_of running.old) (at_of running.new) kind.refuses }
+    ensures case { TurnMade D.PageDisk (view_of running.old) (view_of running.new) kind.refuses }
     ensures row { OnlyRow running.old.rows.items running.new.rows.items channel (decided (rows_of running.old.rows.items channel)) }
     ensures order { InOrder D.PageDisk running.new }
 {
@@ -31,9 +31,9 @@ pub(crate) fn refuse<D: PageDisk>(running: &mut Running<D>, channel: u8, reply: 
 pub(crate) fn halt<D: PageDisk>(running: &mut Running<D>, channel: u8)
     requires order { InOrder D.PageDisk running.old }
     requires channel { channel < 16 }
-    requires posted { IsPostedAt (at_of running.old) channel }
+    requires posted { IsPostedAt (view_of running.old) channel }
     requires stopped { IsSome running.old.stopped }
-    ensures case { Made D.PageDisk (at_of running.old) (at_of running.new) kind.halts }
+    ensures case { TurnMade D.PageDisk (view_of running.old) (view_of running.new) kind.halts }
     ensures row { OnlyRow running.old.rows.items running.new.rows.items channel (decided (rows_of running.old.rows.items channel)) }
     ensures order { InOrder D.PageDisk running.new }
 {
@@ -47,10 +47,10 @@ pub(crate) fn halt<D: PageDisk>(running: &mut Running<D>, channel: u8)
 pub(crate) fn refuse_or_halt<D: PageDisk>(running: &mut Running<D>, channel: u8, reply: Reply)
     requires order { InOrder D.PageDisk running.old }
     requires channel { channel < 16 }
-    requires posted { IsPostedAt (at_of running.old) channel }
-    requires why { running.old.stopped ≡ None → Asks (at_of running.old) channel (λ command. IsRefusedBy (state_of D.PageDisk (at_of running.old)) command reply) }
-    ensures refused { running.old.stopped ≡ None → Made D.PageDisk (at_of running.old) (at_of running.new) kind.refuses }
-    ensures halted { IsSome running.old.stopped → Made D.PageDisk (at_of running.old) (at_of running.new) kind.halts }
+    requires posted { IsPostedAt (view_of running.old) channel }
+    requires why { running.old.stopped ≡ None → Asks (view_of running.old) channel (λ command. IsRefusedBy (state_of D.PageDisk (view_of running.old)) command reply) }
+    ensures refused { running.old.stopped ≡ None → TurnMade D.PageDisk (view_of running.old) (view_of running.new) kind.refuses }
+    ensures halted { IsSome running.old.stopped → TurnMade D.PageDisk (view_of running.old) (view_of running.new) kind.halts }
     ensures row { OnlyRow running.old.rows.items running.new.rows.items channel (decided (rows_of running.old.rows.items channel)) }
     ensures order { InOrder D.PageDisk running.new }
 {

@@ -2,7 +2,7 @@
 
 ghost use Rattle.std.specs.Prelude.{None, ◌≡◌, ◌<◌, ◌∷◌, List, length};
 ghost use Rattle.volume_model.specs.declared.command.Command.{Command as ACommand};
-ghost use Rattle.store_core.specs.Seen.{rows_of};
+ghost use Rattle.store_core.specs.StoreView.{rows_of};
 
 use std::alloc::Global;
 use std::collections::VecDeque;

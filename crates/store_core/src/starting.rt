@@ -4,7 +4,7 @@ ghost use Rattle.std.specs.Prelude.{◌≡◌, ◌+◌, ◌<◌, ◌≤◌, ◌^
 ghost use Rattle.std.specs.FinMap as map;
 ghost use Rattle.volume_model.specs.declared.command.Command.{Command as ACommand};
 ghost use Rattle.store_core.specs.Opening.{AreRows, IsAtStart, IsLiveAtStart, opened_with};
-ghost use Rattle.store_core.specs.Running.{at_of, AreHeads, InOrder, left_in};
+ghost use Rattle.store_core.specs.Running.{view_of, AreHeads, InOrder, left_in};
 
 use crate::loaded::Loaded;
 use crate::rows::Row;
@@ -65,7 +65,7 @@ pub(crate) fn running_at_start<D: PageDisk>(
     requires parts { (script : List (List ACommand)) × IsAtStart loaded.metas script (D.clock loaded.disk) parts }
     requires inside { loaded.sup.md_start + loaded.sup.md_len ≤ D.pages loaded.disk }
     requires heads { AreHeads loaded.sup.md_len (map.get loaded.metas) loaded.masks.blobs }
-    ensures at { at_of result ≡ opened_with D.PageDisk loaded parts.live parts.rows.items }
+    ensures at { view_of result ≡ opened_with D.PageDisk loaded parts.live parts.rows.items }
     ensures order { InOrder D.PageDisk result }
 {
     let Loaded {

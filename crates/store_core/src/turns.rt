@@ -3,9 +3,9 @@
 ghost use Rattle.std.specs.Prelude.{None, ◌≡◌, ◌<◌, [], IfSome, IsErr};
 ghost use Rattle.store_model.specs.Cases as kind;
 ghost use Rattle.store_model.specs.Rows.{Decided, Decision, Ended, Idle, Posted};
-ghost use Rattle.store_core.specs.Running.{at_of, InOrder};
-ghost use Rattle.store_core.specs.Seen.{rows_of};
-ghost use Rattle.store_core.specs.Made.{Made};
+ghost use Rattle.store_core.specs.Running.{view_of, InOrder};
+ghost use Rattle.store_core.specs.StoreView.{rows_of};
+ghost use Rattle.store_core.specs.TurnMade.{TurnMade};
 ghost use Rattle.store_core.specs.Steps.{OnlyRow, WaitsForMetadata};
 
 use crate::running::Running;
@@ -16,8 +16,8 @@ use volume_model::Msg;
 pub(crate) fn post<D: PageDisk>(running: &mut Running<D>, channel: u8) -> Msg
     requires order { InOrder D.PageDisk running.old }
     requires channel { channel < 16 }
-    requires waits { WaitsForMetadata (at_of running.old) channel }
-    ensures case { Made D.PageDisk (at_of running.old) (at_of running.new) kind.posts }
+    requires waits { WaitsForMetadata (view_of running.old) channel }
+    ensures case { TurnMade D.PageDisk (view_of running.old) (view_of running.new) kind.posts }
     ensures message { result ≡ record { channel = channel; serial = running.old.serial } }
     ensures row { OnlyRow running.old.rows.items running.new.rows.items channel (record (rows_of running.old.rows.items channel) { stage = Posted running.old.serial }) }
     ensures order { InOrder D.PageDisk running.new }
@@ -34,7 +34,7 @@ pub(crate) fn settle<D: PageDisk>(running: &mut Running<D>, channel: u8)
     requires channel { channel < 16 }
     requires decided { (outcome : Decision) × ((rows_of running.old.rows.items channel).stage ≡ Decided outcome) }
     requires unclaimed { (rows_of running.old.rows.items channel).claim ≡ None }
-    ensures case { Made D.PageDisk (at_of running.old) (at_of running.new) kind.settles }
+    ensures case { TurnMade D.PageDisk (view_of running.old) (view_of running.new) kind.settles }
     ensures row { OnlyRow running.old.rows.items running.new.rows.items channel (record (rows_of running.old.rows.items channel) { stage = Idle }) }
     ensures order { InOrder D.PageDisk running.new }
 {
@@ -46,7 +46,7 @@ pub(crate) fn end<D: PageDisk>(running: &mut Running<D>, channel: u8)
     requires order { InOrder D.PageDisk running.old }
     requires channel { channel < 16 }
     requires over { rows_of running.old.rows.items channel ≡ record { left = []; stage = Idle; claim = None } }
-    ensures case { Made D.PageDisk (at_of running.old) (at_of running.new) kind.ends }
+    ensures case { TurnMade D.PageDisk (view_of running.old) (view_of running.new) kind.ends }
     ensures row { OnlyRow running.old.rows.items running.new.rows.items channel (record (rows_of running.old.rows.items channel) { stage = Ended }) }
     ensures order { InOrder D.PageDisk running.new }
 {

@@ -1,8 +1,8 @@
 -- Runs of pages that are written one after the other.
 use Rattle.std.specs.Prelude.{◌≡◌, ◌⊎◌, ℕ, ◌+◌, ◌<◌, ◌≤◌, List, length, replicate, IsTrue}
-use Rattle.bit_array.specs.Mask.{mask_pages, mask_text, page_of}
+use Rattle.bit_array.specs.Mask.{mask_pages, mask_text, text_page}
 use Rattle.page_disk.specs.Disk.{Image, Images}
-use Rattle.page_disk.specs.Moments.{LeavesOnly}
+use Rattle.page_disk.specs.Moments.{CallsLeaveOnly}
 use Rattle.page_disk.specs.declared.disk.PageDisk.{Ghosts}
 use Rattle.store_format.specs.declared.content.Content.{Content}
 use Rattle.store_format.specs.declared.content.Content.TheVariants.{Zeros, Mask}
@@ -10,7 +10,7 @@ use Rattle.store_format.specs.declared.content.Content.TheVariants.{Zeros, Mask}
 -- the page at an index of the content
 abbrev pub page_at : Content → ℕ → List ℕ
 page_at Zeros index = replicate 4096 0
-page_at (Mask kind bits) index = page_of index (mask_text kind bits)
+page_at (Mask kind bits) index = text_page index (mask_text kind bits)
 
 -- the content has so many pages
 abbrev pub HasPages : Content → ℕ → Type 0
@@ -38,7 +38,7 @@ IsAnyBut start end images image = (before : Image) × images before × SameBut s
 pub record WritesOnly {D : Type 0} (d : Ghosts D) (start end : ℕ) (old new : D) : Type 0 where
   pub now : IsTrue d.tells → SameBut start end (d.now old) (d.now new)
   pub images : IsTrue d.tells → (image : Image) → d.images new image → IsAnyBut start end (d.images old) image
-  pub any_moment : LeavesOnly d old new (IsAnyBut start end (d.images old))
+  pub any_moment : CallsLeaveOnly d old new (IsAnyBut start end (d.images old))
   pub pages : d.pages new ≡ d.pages old
   pub write_faults : d.write_faults old ≤ d.write_faults new
   pub read_faults : d.read_faults new ≡ d.read_faults old

@@ -6,7 +6,7 @@ ghost use Rattle.super_block.specs.Faults.{super_fault};
 ghost use Rattle.super_block.specs.Layout.{IsPlanned, new_masks};
 ghost use Rattle.super_block.specs.Page.{super_bytes, super_of};
 ghost use Rattle.store_format.specs.Filling.{Filled, HasPages, SameBut, WritesOnly};
-ghost use Rattle.store_format.specs.NewStore.{first_super, end_of, HasNewRegions, IsNewStore, LoadsEmpty, Writes};
+ghost use Rattle.store_format.specs.NewStore.{first_super, md_end_of, HasNewRegions, IsNewStore, LoadsEmpty, Writes};
 
 use crate::content::Content;
 use page_disk::{DiskFault, Page, PageDisk, WriteKind, replace_page};
@@ -41,7 +41,7 @@ fn write_regions<D: PageDisk>(disk: &mut D, layout: &Layout, masks: Masks) -> Re
     requires masks { masks ≡ new_masks layout.now }
     requires device { D.pages disk.old ≡ layout.now.device_pages }
     ensures regions { IsTrue D.tells → OnOk result (HasNewRegions layout.now (D.now disk.new)) }
-    ensures only { WritesOnly D.PageDisk 1 (end_of layout.now) disk.old disk.new }
+    ensures only { WritesOnly D.PageDisk 1 (md_end_of layout.now) disk.old disk.new }
     ensures faults { HasCause (D.write_faults disk.old) (D.write_faults disk.new) result }
 {
     layouts_are_placed();
@@ -98,7 +98,7 @@ pub fn write_store<D: PageDisk>(
     requires device { D.pages disk.old ≡ layout.now.device_pages }
     ensures store { IsTrue D.tells → OnOk result (IsNewStore layout.now (D.now disk.new)) }
     ensures loads { IsTrue D.tells → OnOk result (LoadsEmpty layout.now (D.now disk.new)) }
-    ensures behind { IsTrue D.tells → OnOk result (SameBut 0 (end_of layout.now) (D.now disk.old) (D.now disk.new)) }
+    ensures behind { IsTrue D.tells → OnOk result (SameBut 0 (md_end_of layout.now) (D.now disk.old) (D.now disk.new)) }
     ensures one_image { IsTrue D.tells → OnOk result (Only (D.now disk.new) (D.images disk.new)) }
     ensures writes { Writes D.PageDisk layout.now disk.old disk.new }
     ensures faults { HasCause (D.write_faults disk.old) (D.write_faults disk.new) result }

@@ -9,13 +9,13 @@ use Rattle.super_block.specs.declared.page.Super.{Super}
 use Rattle.volume_model.specs.Volumes.{Volume, Volumes}
 use Rattle.volume_model.specs.Steps.{Allowed, IsRefusal}
 use Rattle.volume_model.specs.Logs.{replay, stable, IsSettled, SettlesNothing}
-use Rattle.volume_model.proofs.Refused.{refused}
+use Rattle.volume_model.proofs.RefusalsChangeNothing.{refused}
 use Rattle.volume_model.proofs.Replays.{replay_push}
 use Rattle.volume_model.specs.declared.reply.Reply.TheVariants as r
 use Rattle.volume_model.specs.declared.reply.Entry.{Entry}
 use Rattle.blob_meta.specs.Resolving.{resolved}
 use Rattle.store_model.specs.Shown.{fixed_of, shows}
-use Rattle.store_model.specs.Recovers.{AgreeAt, IsDone, Recovers, InProgress, RecoversAt, RecoversFrom}
+use Rattle.store_model.specs.Recovers.{AgreeAt, IsChangeDone, Recovers, InProgress, RecoversAt, RecoversFrom}
 
 -- ---- as many entries as are asked for
 
@@ -125,7 +125,7 @@ module _ (s : Super) (first : Volumes) (log : List Entry) (e : Entry) where
 
 -- ---- a verb that failed, and whose change is there
 
-module _ (s : Super) (first : Volumes) (log : List Entry) (done : Entry) (is : IsDone done.reply) (may : Allowed (fixed_of s) (replay (fixed_of s) first log) done.command done.reply) where
+module _ (s : Super) (first : Volumes) (log : List Entry) (done : Entry) (is : IsChangeDone done.reply) (may : Allowed (fixed_of s) (replay (fixed_of s) first log) done.command done.reply) where
   abbrev fault : Entry
   fault = record done { reply = r.Fault }
 

@@ -9,10 +9,10 @@ use Rattle.volume_model.specs.Volumes.{zero_page}
 use Rattle.blob_meta.specs.declared.meta.Meta.{Meta}
 use Rattle.md_chain.specs.Chain.{Look, blob_id, is_among}
 use Rattle.md_chain.proofs.Links.{agree_by, later}
-use Rattle.store_model.specs.Maps.{Metas, Chains, given}
-use Rattle.store_model.specs.Regions.{Region}
+use Rattle.store_model.specs.Maps.{Metas, Chains, with_entry}
+use Rattle.store_model.specs.Regions.{MdRegion}
 use Rattle.store_model.specs.Scans.{is_head, MetaAt, Scanned}
-use Rattle.store_model.proofs.Given.{given_here, given_elsewhere}
+use Rattle.store_model.proofs.WithEntry.{given_here, given_elsewhere}
 use Rattle.store_model.proofs.Sets.{among_either}
 use Rattle.store_model.proofs.Scanning.{head_replaced, heads_apart, meta_kept}
 
@@ -29,14 +29,14 @@ zero_id = refl
 pub zeros_no_head : (place : ℕ) → is_head place zero_page ≡ false
 zeros_no_head place = and_right (is_sound zero_page && (sequence_of zero_page == 0)) (id_of zero_page == blob_id place) (ne_eqb (id_of zero_page) (blob_id place) (λ e. let x = sym zero_id ∙ e in omega (arith, x)))
 
-pub fresh_no_head : (planned : Look) (r : Region) (head : ℕ) (new : Meta) (fresh : List ℕ) (place : ℕ) → MetaAt planned r head new (head ∷ fresh) → is_among place fresh ≡ true → is_head place (planned place) ≡ false
+pub fresh_no_head : (planned : Look) (r : MdRegion) (head : ℕ) (new : Meta) (fresh : List ℕ) (place : ℕ) → MetaAt planned r head new (head ∷ fresh) → is_among place fresh ≡ true → is_head place (planned place) ≡ false
 fresh_no_head planned r head new fresh place x among = late_no_head place (planned place) ((later planned r.len head 0 [] head head x.items head fresh x.chain).1 place among).late
 
-pub head_written : (look other planned : Look) (r : Region) (metas : Metas) (chains : Chains) (head : ℕ) (new : Meta) (fresh old : List ℕ) → Scanned look r metas chains → MetaAt planned r head new (head ∷ fresh) → chains head ≡ Some (head ∷ old)
-    → ((place : ℕ) → is_among place fresh ≡ true → look place ≡ planned place) → other head ≡ planned head → ((place : ℕ) → place ≢ head → other place ≡ look place) → Scanned other r (given metas head new) (given chains head (head ∷ fresh))
+pub head_written : (look other planned : Look) (r : MdRegion) (metas : Metas) (chains : Chains) (head : ℕ) (new : Meta) (fresh old : List ℕ) → Scanned look r metas chains → MetaAt planned r head new (head ∷ fresh) → chains head ≡ Some (head ∷ old)
+    → ((place : ℕ) → is_among place fresh ≡ true → look place ≡ planned place) → other head ≡ planned head → ((place : ℕ) → place ≢ head → other place ≡ look place) → Scanned other r (with_entry metas head new) (with_entry chains head (head ∷ fresh))
 head_written look other planned r metas chains head new fresh old said says there written here elsewhere =
     head_replaced look r metas chains said other head
-    (λ k ps ne is. false_from_ne_true _ (λ t. ne (sym (heads_apart look r metas chains said head k (head ∷ old) ps there is t)))) elsewhere (given metas head new) (given chains head (head ∷ fresh)) new (head ∷ fresh)
+    (λ k ps ne is. false_from_ne_true _ (λ t. ne (sym (heads_apart look r metas chains said head k (head ∷ old) ps there is t)))) elsewhere (with_entry metas head new) (with_entry chains head (head ∷ fresh)) new (head ∷ fresh)
     (meta_kept planned other r head new (head ∷ fresh) (agree_by planned other (head ∷ fresh) (λ q among. elim (cases_eq q head) [
       | inl e ↦ subst (λ k. other k ≡ planned k) (sym e) here
       | inr ne ↦ elsewhere q ne ∙ written q (elim (among_either q head fresh among) [ inl e ↦ absurd (ne e) | inr later ↦ later ])

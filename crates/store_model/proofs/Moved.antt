@@ -15,15 +15,15 @@ use Rattle.store_model.specs.Regions.{region_of}
 use Rattle.store_model.specs.Scans.{MetaAt}
 use Rattle.store_model.specs.Shown.{fixed_of, volume_of}
 use Rattle.store_model.specs.Rows.{Rows, Row, InJob}
-use Rattle.store_model.specs.Plants.{Job, Phase, Writing, Erasing, Plant, planned_at, shown}
+use Rattle.store_model.specs.StoreState.{JobState, Phase, Writing, Erasing, StoreState, planned_at, shown}
 use Rattle.store_model.specs.Places.{IsClaimed, UsedClusters, IsMapped}
 use Rattle.store_model.specs.Jobs.{AsksFor, IsServed, StandsAt, JobStands}
 use Rattle.store_model.specs.Cases.{live_of}
-use Rattle.store_model.specs.Standing.{CanBeWritten, RunsWell}
+use Rattle.store_model.specs.RunInvariant.{CanBeWritten, RunsWell}
 use Rattle.store_model.proofs.Shows.{or_empty}
 use Rattle.store_model.proofs.Writable.{AllWritable, OnlyLive}
 
-module _ (p q : Plant) (super : q.super ≡ p.super) (base : q.base ≡ p.base) (same : shown q ≡ shown p) where
+module _ (p q : StoreState) (super : q.super ≡ p.super) (base : q.base ≡ p.base) (same : shown q ≡ shown p) where
   pub asks_same : (command : Command) (head : ℕ) (new : Meta) → AsksFor p command head new → AsksFor q command head new
   asks_same command head new a = record {
     syncing = a.syncing;
@@ -36,15 +36,15 @@ module _ (p q : Plant) (super : q.super ≡ p.super) (base : q.base ≡ p.base) 
     new_is = a.new_is;
   }
 
-  pub served_same : (j : Job) → q.rows j.channel ≡ p.rows j.channel → IsServed p j → IsServed q j
+  pub served_same : (j : JobState) → q.rows j.channel ≡ p.rows j.channel → IsServed p j → IsServed q j
   served_same j row x = record { command = x.command; rest = x.rest; row = row ∙ x.row; asks = asks_same x.command j.head j.new x.asks }
 
   module _ (chains : q.chains ≡ p.chains) where
-    stands_at : (j : Job) (phase : Phase) → ((written : ℕ) → phase ≡ Writing written → q.rows j.channel ≡ p.rows j.channel) → StandsAt p j phase → StandsAt q j phase
+    stands_at : (j : JobState) (phase : Phase) → ((written : ℕ) → phase ≡ Writing written → q.rows j.channel ≡ p.rows j.channel) → StandsAt p j phase → StandsAt q j phase
     stands_at j (Writing written) row x = (x.0, served_same j (row written refl) x.1, ap (λ (m : Map (List ℕ)). m j.head) chains ∙ x.2)
     stands_at j (Erasing erased) row x = (x.0, ap (λ (m : Map Meta). m j.head) base ∙ x.1, ap (λ (m : Map (List ℕ)). m j.head) chains ∙ x.2)
 
-    pub stands_same : (j : Job) → ((written : ℕ) → j.phase ≡ Writing written → q.rows j.channel ≡ p.rows j.channel) → JobStands p j → JobStands q j
+    pub stands_same : (j : JobState) → ((written : ℕ) → j.phase ≡ Writing written → q.rows j.channel ≡ p.rows j.channel) → JobStands p j → JobStands q j
     stands_same j row x = record {
       planned = subst (λ (t : Super). MetaAt (planned_at j) (region_of t) j.head j.new (j.head ∷ j.fresh)) (sym super) x.planned;
       places = x.places;
@@ -54,13 +54,13 @@ module _ (p q : Plant) (super : q.super ≡ p.super) (base : q.base ≡ p.base) 
     }
 
 -- the command that a job serves before its commit
-pub served_by : (p : Plant) (j : Job) (written : ℕ) → JobStands p j → j.phase ≡ Writing written → (written ≤ length j.fresh) × IsServed p j × (p.chains j.head ≡ Some (j.head ∷ j.old))
+pub served_by : (p : StoreState) (j : JobState) (written : ℕ) → JobStands p j → j.phase ≡ Writing written → (written ≤ length j.fresh) × IsServed p j × (p.chains j.head ≡ Some (j.head ∷ j.old))
 served_by p j written x phase = subst (StandsAt p j) phase x.stands
 
-pub erased_by : (p : Plant) (j : Job) (erased : ℕ) → JobStands p j → j.phase ≡ Erasing erased → (erased < length j.old) × (p.base j.head ≡ Some j.new) × (p.chains j.head ≡ Some (j.head ∷ j.fresh))
+pub erased_by : (p : StoreState) (j : JobState) (erased : ℕ) → JobStands p j → j.phase ≡ Erasing erased → (erased < length j.old) × (p.base j.head ≡ Some j.new) × (p.chains j.head ≡ Some (j.head ∷ j.fresh))
 erased_by p j erased x phase = subst (StandsAt p j) phase x.stands
 
-pub row_in_job : (p : Plant) (j : Job) (written : ℕ) → JobStands p j → j.phase ≡ Writing written → (p.rows j.channel).stage ≡ InJob
+pub row_in_job : (p : StoreState) (j : JobState) (written : ℕ) → JobStands p j → j.phase ≡ Writing written → (p.rows j.channel).stage ≡ InJob
 row_in_job p j written x phase = ap (λ (r : Row). r.stage) (served_by p j written x phase).1.row
 
 pub clusters_same : (s : Super) (bits : List Bool) (metas others : Map Meta) (rows : Rows) → ((c : ℕ) → IsMapped metas c → IsMapped others c) → ((c : ℕ) → IsMapped others c → IsMapped metas c)
@@ -79,7 +79,7 @@ clusters_same s bits metas others rows there back u = record {
 
 -- ---- live attributes
 
-pub all_writable : (first : Volumes) (p : Plant) → RunsWell first p → AllWritable (shown p)
+pub all_writable : (first : Volumes) (p : StoreState) → RunsWell first p → AllWritable (shown p)
 all_writable first p well h x is = at (p.base h) refl is
   where
     shown_by : Option Meta → Option Volume
@@ -93,7 +93,7 @@ all_writable first p well h x is = at (p.base h) refl is
         let e : volume_of (fixed_of p.super).cluster_pages p.device.reads p.base p.super.md_len (or_empty (p.live h)) h m ≡ x = cc made in
         subst CanBeWritten (sym live ∙ ap (λ (y : Volume). y.live) e) l.2
 
-module _ (p q : Plant) (w : Volumes) (only : OnlyLive (shown p) w) (super : q.super ≡ p.super) (base : q.base ≡ p.base) (reads : q.device.reads ≡ p.device.reads) (live : q.live ≡ live_of w) where
+module _ (p q : StoreState) (w : Volumes) (only : OnlyLive (shown p) w) (super : q.super ≡ p.super) (base : q.base ≡ p.base) (reads : q.device.reads ≡ p.device.reads) (live : q.live ≡ live_of w) where
   abbrev with_live : ℕ → Xattrs → Option Meta → Option Volume
   with_live h xs o = option_map (λ m. volume_of (fixed_of p.super).cluster_pages p.device.reads p.base p.super.md_len xs h m) o
 
@@ -105,7 +105,7 @@ module _ (p q : Plant) (w : Volumes) (only : OnlyLive (shown p) w) (super : q.su
   shown_live = fun_ext (λ h. (rw (super, base, reads, live) refl) ∙ again h (or_empty (live_of w h)) (p.base h) ∙ sym (only h))
 
 -- each blob has live attributes that can be written
-module _ (p : Plant) (w : Volumes) (only : OnlyLive (shown p) w) (can : AllWritable w) where
+module _ (p : StoreState) (w : Volumes) (only : OnlyLive (shown p) w) (can : AllWritable w) where
   pub live_now : (head : ℕ) (m : Meta) → p.base head ≡ Some m → (xattrs : Xattrs) × (live_of w head ≡ Some xattrs) × CanBeWritten xattrs
   live_now head m there =
       let v : Volume = volume_of (fixed_of p.super).cluster_pages p.device.reads p.base p.super.md_len (or_empty (p.live head)) head m in

@@ -6,11 +6,11 @@ use Rattle.blob_meta.specs.Says.{meta_of}
 use Rattle.md_chain.specs.Chain.{Look}
 use Rattle.md_chain.proofs.OneChain.{one_chain}
 use Rattle.store_model.specs.Maps.{Metas, Chains}
-use Rattle.store_model.specs.Regions.{Region}
+use Rattle.store_model.specs.Regions.{MdRegion}
 use Rattle.store_model.specs.Scans.{head_at, Scanned}
 use Rattle.store_model.proofs.Scanning.{is_at}
 
-pub one_scan : (look : Look) (r : Region) (m n : Metas) (c d : Chains) → Scanned look r m c → Scanned look r n d → (h : ℕ) → (m h ≡ n h) × (c h ≡ d h)
+pub one_scan : (look : Look) (r : MdRegion) (m n : Metas) (c d : Chains) → Scanned look r m c → Scanned look r n d → (h : ℕ) → (m h ≡ n h) × (c h ≡ d h)
 one_scan look r m n c d x y h = elim (x h) [
   | inl a ↦ elim (y h) [
     | inl b ↦

@@ -16,11 +16,11 @@ use Rattle.volume_model.specs.declared.reply.Reply.TheVariants as r
 use Rattle.blob_meta.specs.declared.meta.Meta.{Meta}
 use Rattle.blob_meta.specs.Parents.{named_in, slot, parent_of, is_read_only}
 use Rattle.blob_meta.specs.Resolving.{IsLawful, slots_together}
-use Rattle.store_model.specs.Maps.{Metas, given}
+use Rattle.store_model.specs.Maps.{Metas, with_entry}
 use Rattle.store_model.specs.Places.{IsMapped}
 use Rattle.store_model.specs.Jobs.{IsSyncing}
-use Rattle.store_model.specs.Standing.{CanBeWritten, IsRoot, AreRoots}
-use Rattle.store_model.proofs.Given.{given_here, given_elsewhere}
+use Rattle.store_model.specs.RunInvariant.{CanBeWritten, IsRoot, AreRoots}
+use Rattle.store_model.proofs.WithEntry.{given_here, given_elsewhere}
 use Rattle.store_model.proofs.Synced.{edited_here}
 use Rattle.store_model.proofs.Writable.{AllWritable, written_with, put_within}
 
@@ -62,7 +62,7 @@ new_root s head old new xattrs root is can =
 
 -- ---- the whole map
 
-pub roots_given : (s : Super) (metas : Metas) (head : ℕ) (new : Meta) → AreRoots s metas → IsRoot s head new → AreRoots s (given metas head new)
+pub roots_given : (s : Super) (metas : Metas) (head : ℕ) (new : Meta) → AreRoots s metas → IsRoot s head new → AreRoots s (with_entry metas head new)
 roots_given s metas head new roots root h m is = elim (cases_eq h head) [
   | inl e ↦
       let one : new ≡ m = let both = sym (given_here metas head new h e) ∙ is in cc both in
@@ -72,7 +72,7 @@ roots_given s metas head new roots root h m is = elim (cases_eq h head) [
 
 module _ (metas : Metas) (head : ℕ) (old new : Meta) (xattrs : Xattrs) (there : metas head ≡ Some old) (is : new ≡ record old { xattrs = xattrs }) where
   -- each blob has the map that it had
-  same_map : (h : ℕ) → option_map (λ (m : Meta). m.map) (given metas head new h) ≡ option_map (λ (m : Meta). m.map) (metas h)
+  same_map : (h : ℕ) → option_map (λ (m : Meta). m.map) (with_entry metas head new h) ≡ option_map (λ (m : Meta). m.map) (metas h)
   same_map h = elim (cases_eq h head) [
     | inl e ↦
         ap (λ o. option_map (λ (m : Meta). m.map) o) (given_here metas head new h e) ∙ ap (λ (m : Meta). Some m.map) is
@@ -87,7 +87,7 @@ module _ (metas : Metas) (head : ℕ) (old new : Meta) (xattrs : Xattrs) (there 
     pub internal : m.internal ≡ before.internal
     pub flags : m.flags ≡ before.flags
 
-  pub was_there : (h : ℕ) (m : Meta) → given metas head new h ≡ Some m → Was h m
+  pub was_there : (h : ℕ) (m : Meta) → with_entry metas head new h ≡ Some m → Was h m
   was_there h m now = elim (cases_eq h head) [
     | inl e ↦
         let one : m ≡ new = let both = sym now ∙ given_here metas head new h e in cc both in
@@ -102,12 +102,12 @@ module _ (metas : Metas) (head : ℕ) (old new : Meta) (xattrs : Xattrs) (there 
   parent_was : (m before : Meta) (p : ℕ) → m.internal ≡ before.internal → parent_of m ≡ Some p → parent_of before ≡ Some p
   parent_was m before p internal parent = subst (λ xs. option_and_then named_in (value_of xs (codes "SNAP")) ≡ Some p) internal parent
 
-  pub mapped_was : (cluster : ℕ) → IsMapped (given metas head new) cluster → IsMapped metas cluster
+  pub mapped_was : (cluster : ℕ) → IsMapped (with_entry metas head new) cluster → IsMapped metas cluster
   mapped_was cluster x =
       let w = was_there x.head x.meta x.there in
       record { head = x.head; meta = w.before; there = w.was; place = x.place; in_slot = slot_was x.meta w.before x.place cluster w.map x.in_slot }
 
-  still : (h : ℕ) (m : Meta) → metas h ≡ Some m → (n : Meta) × (given metas head new h ≡ Some n) × (n.map ≡ m.map) × (n.flags ≡ m.flags)
+  still : (h : ℕ) (m : Meta) → metas h ≡ Some m → (n : Meta) × (with_entry metas head new h ≡ Some n) × (n.map ≡ m.map) × (n.flags ≡ m.flags)
   still h m was = elim (cases_eq h head) [
     | inl e ↦
         let one : old ≡ m = let both = sym there ∙ sym (ap metas e) ∙ was in cc both in
@@ -115,21 +115,21 @@ module _ (metas : Metas) (head : ℕ) (old new : Meta) (xattrs : Xattrs) (there 
     | inr ne ↦ (m, given_elsewhere metas head new h ne ∙ was, refl, refl)
   ]
 
-  pub mapped_still : (cluster : ℕ) → IsMapped metas cluster → IsMapped (given metas head new) cluster
+  pub mapped_still : (cluster : ℕ) → IsMapped metas cluster → IsMapped (with_entry metas head new) cluster
   mapped_still cluster x =
       let w = still x.head x.meta x.there in
       record { head = x.head; meta = w.0; there = w.1; place = x.place; in_slot = slot_was x.meta w.0 x.place cluster (sym w.2) x.in_slot }
 
-  slots_at_same : (h : ℕ) → option_map_or (λ (m : Meta). length m.map) (given metas head new h) 0 ≡ option_map_or (λ (m : Meta). length m.map) (metas h) 0
-  slots_at_same h = mapped (given metas head new h) ∙ ap (λ o. option_map_or length o 0) (same_map h) ∙ sym (mapped (metas h))
+  slots_at_same : (h : ℕ) → option_map_or (λ (m : Meta). length m.map) (with_entry metas head new h) 0 ≡ option_map_or (λ (m : Meta). length m.map) (metas h) 0
+  slots_at_same h = mapped (with_entry metas head new h) ∙ ap (λ o. option_map_or length o 0) (same_map h) ∙ sym (mapped (metas h))
     where
       mapped : (o : Option Meta) → option_map_or (λ (m : Meta). length m.map) o 0 ≡ option_map_or length (option_map (λ (m : Meta). m.map) o) 0
       mapped None = refl
       mapped (Some m) = refl
 
-  pub lawful_given : (md_len : ℕ) → IsLawful md_len metas → IsLawful md_len (given metas head new)
+  pub lawful_given : (md_len : ℕ) → IsLawful md_len metas → IsLawful md_len (with_entry metas head new)
   lawful_given md_len law =
-      let slots : slots_together md_len (given metas head new) ≡ slots_together md_len metas = ap (λ f. sum_by f (range_with_len 0 md_len)) (fun_ext slots_at_same) in
+      let slots : slots_together md_len (with_entry metas head new) ≡ slots_together md_len metas = ap (λ f. sum_by f (range_with_len 0 md_len)) (fun_ext slots_at_same) in
       record {
         alone = λ h k i j cluster m n hm kn si sj.
             let a = was_there h m hm in

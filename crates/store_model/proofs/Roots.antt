@@ -12,7 +12,7 @@ use Rattle.blob_meta.specs.Faults.{is_thin}
 use Rattle.blob_meta.specs.Parents.{parent_of, slot, is_read_only, is_locked}
 use Rattle.store_model.specs.Maps.{Metas}
 use Rattle.store_model.specs.Shown.{content, content_by, volume_of}
-use Rattle.store_model.specs.Standing.{IsRoot}
+use Rattle.store_model.specs.RunInvariant.{IsRoot}
 
 -- a page of a blob without a parent: that of its cluster, or zeros
 abbrev pub root_page : ℕ → Image → Meta → ℕ → Page

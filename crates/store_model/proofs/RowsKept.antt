@@ -8,8 +8,8 @@ use Rattle.volume_model.specs.declared.command.Command.{Command}
 use Rattle.volume_model.specs.declared.reply.Reply.{Reply}
 use Rattle.volume_model.specs.declared.reply.Entry.{Entry}
 use Rattle.store_model.specs.Rows.{Row, Rows, Stage, with_row, entries_of, entry_of}
-use Rattle.store_model.specs.Plants.{Plant}
-use Rattle.store_model.specs.Standing.{OnItsWay}
+use Rattle.store_model.specs.StoreState.{StoreState}
+use Rattle.store_model.specs.RunInvariant.{OnItsWay}
 use Rattle.store_model.proofs.Numbering.{numbered-push}
 
 module _ (rows : Rows) (channel : ℕ) (row : Row) where
@@ -25,7 +25,7 @@ entries_more channel log e is = filter-append (λ (x : Entry). eqb x.channel cha
 entries_same : (channel : ℕ) (log : List Entry) (e : Entry) → e.channel ≢ channel → entries_of channel (log ++ e ∷ []) ≡ entries_of channel log
 entries_same channel log e ne = filter-append (λ (x : Entry). eqb x.channel channel) log (e ∷ []) ∙ rw (ne_eqb e.channel channel ne) (append-nil (entries_of channel log))
 
-module _ (script : ℕ → List Command) (p : Plant) (way : (c : ℕ) → OnItsWay p script c) (q : Plant) where
+module _ (script : ℕ → List Command) (p : StoreState) (way : (c : ℕ) → OnItsWay p script c) (q : StoreState) where
   -- no command leaves its row, and nothing is logged
   pub way_kept : q.log ≡ p.log → ((c : ℕ) → (q.rows c).left ≡ (p.rows c).left) → (c : ℕ) → OnItsWay q script c
   way_kept log left c =

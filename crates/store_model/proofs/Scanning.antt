@@ -7,10 +7,10 @@ use Rattle.md_chain.specs.Chain.{Look, is_among, Agree}
 use Rattle.md_chain.proofs.OneChain.{kept}
 use Rattle.md_chain.proofs.Links.{Linked, linked, begins, first, agree_by}
 use Rattle.store_model.specs.Maps.{Metas, Chains, Changed}
-use Rattle.store_model.specs.Regions.{Region}
+use Rattle.store_model.specs.Regions.{MdRegion}
 use Rattle.store_model.specs.Scans.{MetaAt, is_head, head_at, BlobAt, Scanned, Unlinked}
 
-pub meta_kept : (look other : Look) (r : Region) (h : ℕ) (m : Meta) (ps : List ℕ) → Agree look other ps → MetaAt look r h m ps → MetaAt other r h m ps
+pub meta_kept : (look other : Look) (r : MdRegion) (h : ℕ) (m : Meta) (ps : List ℕ) → Agree look other ps → MetaAt look r h m ps → MetaAt other r h m ps
 meta_kept look other r h m ps same x = record { items = x.items; chain = kept look r.len h other 0 [] h h x.items ps same x.chain; faultless = x.faultless; meta_is = x.meta_is }
 
 -- a page that would be no head isn't one
@@ -18,14 +18,14 @@ pub not_head : (look : Look) (len h : ℕ) (page : List ℕ) → look h ≡ page
 not_head look len h page is quiet = and_right (nat_lt h len) (is_head h (look h)) (ap (λ (x : List ℕ). is_head h x) is ∙ quiet)
 
 -- one entry stays: the pages of its chain stay, and no head is new
-pub entry_kept : (look other : Look) (r : Region) (h : ℕ) (m : Option Meta) (c : Option (List ℕ)) → BlobAt look r h m c
+pub entry_kept : (look other : Look) (r : MdRegion) (h : ℕ) (m : Option Meta) (c : Option (List ℕ)) → BlobAt look r h m c
     → ((ps : List ℕ) → c ≡ Some ps → (q : ℕ) → is_among q ps ≡ true → other q ≡ look q) → (head_at look r.len h ≡ false → head_at other r.len h ≡ false) → BlobAt other r h m c
 entry_kept look other r h m c (inl b) same none =
     inl (record { meta = b.meta; pages = b.pages; says = meta_kept look other r h b.meta b.pages (agree_by look other b.pages (same b.pages b.pages_are)) b.says; meta_is = b.meta_is; pages_are = b.pages_are })
 entry_kept look other r h m c (inr b) same none = inr (record { no_head = none b.no_head; no_meta = b.no_meta; no_chain = b.no_chain })
 
 -- the chain of an entry
-pub chain_of : (look : Look) (r : Region) (h : ℕ) (m : Option Meta) (c : Option (List ℕ)) (ps : List ℕ) → c ≡ Some ps → BlobAt look r h m c → (q : ℕ) → is_among q ps ≡ true → Linked (look q) r.len h 0 q
+pub chain_of : (look : Look) (r : MdRegion) (h : ℕ) (m : Option Meta) (c : Option (List ℕ)) (ps : List ℕ) → c ≡ Some ps → BlobAt look r h m c → (q : ℕ) → is_among q ps ≡ true → Linked (look q) r.len h 0 q
 chain_of look r h m c ps is (inl b) q a =
     let one : b.pages ≡ ps = let e = sym b.pages_are ∙ is in cc e in
     linked look r.len h 0 [] h h b.says.items b.pages b.says.chain q (subst (λ (l : List ℕ). is_among q l ≡ true) (sym one) a)
@@ -34,7 +34,7 @@ chain_of look r h m c ps is (inr b) q a = absurd (let e = sym b.no_chain ∙ is 
 one_id : (a b : ℕ) → 2 ^ 32 + a ≡ 2 ^ 32 + b → a ≡ b
 one_id a b e = omega (arith, e)
 
-module _ (look : Look) (r : Region) (metas : Metas) (chains : Chains) (said : Scanned look r metas chains) where
+module _ (look : Look) (r : MdRegion) (metas : Metas) (chains : Chains) (said : Scanned look r metas chains) where
   -- no page is in two chains
   pub apart : (h k p : ℕ) (ps qs : List ℕ) → chains h ≡ Some ps → chains k ≡ Some qs → is_among p ps ≡ true → is_among p qs ≡ true → h ≡ k
   apart h k p ps qs a b x y =
@@ -99,7 +99,7 @@ module _ (look : Look) (r : Region) (metas : Metas) (chains : Chains) (said : Sc
       ]
 
 -- a head has a chain that begins at it
-pub is_at : (look : Look) (r : Region) (h : ℕ) (m : Meta) (ps : List ℕ) → MetaAt look r h m ps → head_at look r.len h ≡ true
+pub is_at : (look : Look) (r : MdRegion) (h : ℕ) (m : Meta) (ps : List ℕ) → MetaAt look r h m ps → head_at look r.len h ≡ true
 is_at look r h m ps x =
     let t = first look r.len h 0 [] h h x.items ps x.chain in
     and_from _ _ (lt-ltb h r.len t.low) (and_from _ _ (and_from _ _ t.sound (eq-eqb _ _ t.sequence)) (eq-eqb _ _ t.id))

@@ -16,9 +16,9 @@ use Rattle.blob_meta.specs.Parents.{slot}
 use Rattle.store_model.specs.Maps.{Map, Metas}
 use Rattle.store_model.specs.Shown.{volume_of}
 use Rattle.store_model.specs.Device.{Device}
-use Rattle.store_model.specs.Plants.{Plant, shown}
+use Rattle.store_model.specs.StoreState.{StoreState, shown}
 use Rattle.store_model.specs.Cases.{read_after}
-use Rattle.store_model.specs.Standing.{IsRoot, AreRoots}
+use Rattle.store_model.specs.RunInvariant.{IsRoot, AreRoots}
 use Rattle.store_model.proofs.Inside.{inside_slot}
 use Rattle.store_model.proofs.Roots.{root_page, root_volume, volume_root, no_parent}
 
@@ -35,7 +35,7 @@ module _ (s : Super) (metas : Metas) (roots : AreRoots s metas) where
   root_at k image live head None is = refl
   root_at k image live head (Some m) is = ap (λ v. Some v) (volume_root k image metas s.md_len (or_empty (live head)) head m is (no_parent s head m (roots head m is)))
 
-  pub shown_as_roots : (p : Plant) → p.super ≡ s → p.base ≡ metas → shown p ≡ shown_roots (cluster_pages_of s) p.device.reads p.live metas
+  pub shown_as_roots : (p : StoreState) → p.super ≡ s → p.base ≡ metas → shown p ≡ shown_roots (cluster_pages_of s) p.device.reads p.live metas
   shown_as_roots p super base = fun_ext (λ head. (rw (super, base) refl) ∙ root_at (cluster_pages_of s) p.device.reads p.live head (metas head) refl)
 
   -- two images with the same pages behind the fixed clusters
@@ -73,7 +73,7 @@ behind_region true s image place page placed low q behind =
     rw (ne_eqb q (s.md_start + place) ne) refl
 behind_region false s image place page placed low q behind = refl
 
-pub shown_written : (told : Bool) (s : Super) (p : Plant) (d : Device) (place : ℕ) (page : List ℕ) → p.super ≡ s → AreRoots s p.base → IsPlaced s → place < s.md_len
+pub shown_written : (told : Bool) (s : Super) (p : StoreState) (d : Device) (place : ℕ) (page : List ℕ) → p.super ≡ s → AreRoots s p.base → IsPlaced s → place < s.md_len
     → d.reads ≡ read_after told p.device.reads (s.md_start + place) page → shown (record p { device = d }) ≡ shown p
 shown_written told s p d place page super roots placed low reads =
     shown_as_roots s p.base roots (record p { device = d }) super refl

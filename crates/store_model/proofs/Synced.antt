@@ -12,13 +12,13 @@ use Rattle.volume_model.specs.declared.command.Command.{Command}
 use Rattle.volume_model.specs.declared.command.Command.TheVariants as c
 use Rattle.volume_model.specs.declared.reply.Reply.TheVariants as r
 use Rattle.blob_meta.specs.declared.meta.Meta.{Meta}
-use Rattle.store_model.specs.Maps.{Map, given}
+use Rattle.store_model.specs.Maps.{Map, with_entry}
 use Rattle.store_model.specs.Shown.{fixed_of}
-use Rattle.store_model.specs.Plants.{Plant, shown}
+use Rattle.store_model.specs.StoreState.{StoreState, shown}
 use Rattle.store_model.specs.Jobs.{AsksFor, IsSyncing}
 use Rattle.store_model.specs.Cases.{live_of}
-use Rattle.store_model.specs.Standing.{AreRoots}
-use Rattle.store_model.proofs.Given.{given_here, given_elsewhere}
+use Rattle.store_model.specs.RunInvariant.{AreRoots}
+use Rattle.store_model.proofs.WithEntry.{given_here, given_elsewhere}
 use Rattle.store_model.proofs.Roots.{root_volume}
 use Rattle.store_model.proofs.Shows.{or_empty, shown_roots, shown_as_roots, roots_same}
 
@@ -61,8 +61,8 @@ syncs_to f v (c.Sync volume) head after is found step = syncs_by f v _ _ (λ x. 
     same k = refl
 syncs_to f v _ head after is found step = absurd is
 
-module _ (s : Super) (p : Plant) (super : p.super ≡ s) (roots : AreRoots s p.base) (command : Command) (head : ℕ) (new : Meta) (asks : AsksFor p command head new)
-    (new_roots : AreRoots s (given p.base head new)) where
+module _ (s : Super) (p : StoreState) (super : p.super ≡ s) (roots : AreRoots s p.base) (command : Command) (head : ℕ) (new : Meta) (asks : AsksFor p command head new)
+    (new_roots : AreRoots s (with_entry p.base head new)) where
   abbrev k : ℕ
   k = cluster_pages_of s
 
@@ -75,7 +75,7 @@ module _ (s : Super) (p : Plant) (super : p.super ≡ s) (roots : AreRoots s p.b
   was : Some to.before ≡ Some (root_volume k p.device.reads (or_empty (p.live head)) asks.old)
   was = sym to.was ∙ ap (λ (v : Volumes). v head) (shown_as_roots s p.base roots p super refl) ∙ ap (λ o. option_map (λ m. root_volume k p.device.reads (or_empty (p.live head)) m) o) asks.there
 
-  here : option_map (λ m. root_volume k p.device.reads (or_empty (live_of w head)) m) (given p.base head new head) ≡ w head
+  here : option_map (λ m. root_volume k p.device.reads (or_empty (live_of w head)) m) (with_entry p.base head new head) ≡ w head
   here =
       let x : to.before ≡ root_volume k p.device.reads (or_empty (p.live head)) asks.old = let e = was in cc e in
       let l : asks.after.live ≡ asks.after.synced = ap (λ (y : Volume). y.live) to.is in
@@ -86,7 +86,7 @@ module _ (s : Super) (p : Plant) (super : p.super ≡ s) (roots : AreRoots s p.b
       ∙ ap (λ (y : Volume). Some (record y { live = asks.after.synced; synced = asks.after.synced })) (sym x)
       ∙ ap (λ (y : Volume). Some y) (sym to.is) ∙ sym asks.step
 
-  elsewhere : (h : ℕ) → h ≢ head → (o : Option Meta) → p.base h ≡ o → option_map (λ m. root_volume k p.device.reads (or_empty (live_of w h)) m) (given p.base head new h) ≡ w h
+  elsewhere : (h : ℕ) → h ≢ head → (o : Option Meta) → p.base h ≡ o → option_map (λ m. root_volume k p.device.reads (or_empty (live_of w h)) m) (with_entry p.base head new h) ≡ w h
   elsewhere h ne o is =
       let shows : shown p h ≡ option_map (λ m. root_volume k p.device.reads (or_empty (p.live h)) m) o =
       ap (λ (v : Volumes). v h) (shown_as_roots s p.base roots p super refl) ∙ ap (λ b. option_map (λ m. root_volume k p.device.reads (or_empty (p.live h)) m) b) is in
@@ -101,15 +101,15 @@ module _ (s : Super) (p : Plant) (super : p.super ≡ s) (roots : AreRoots s p.b
       read_again (Some m) = refl
 
   -- once the head is written, what is shown is the step's
-  pub shown_synced : (q : Plant) → q.super ≡ s → q.base ≡ given p.base head new → q.live ≡ live_of w → 0 < k
+  pub shown_synced : (q : StoreState) → q.super ≡ s → q.base ≡ with_entry p.base head new → q.live ≡ live_of w → 0 < k
       → ((page : ℕ) → fixed_clusters_of s * k ≤ page → q.device.reads page ≡ p.device.reads page) → shown q ≡ w
   shown_synced q q_super base live some same =
-      shown_as_roots s (given p.base head new) new_roots q q_super base ∙ ap (λ (l : Map Xattrs). shown_roots k q.device.reads l (given p.base head new)) live
-      ∙ roots_same s (given p.base head new) new_roots p.device.reads q.device.reads same some (live_of w)
+      shown_as_roots s (with_entry p.base head new) new_roots q q_super base ∙ ap (λ (l : Map Xattrs). shown_roots k q.device.reads l (with_entry p.base head new)) live
+      ∙ roots_same s (with_entry p.base head new) new_roots p.device.reads q.device.reads same some (live_of w)
       ∙ fun_ext (λ h. at h)
     where
-      at : (h : ℕ) → shown_roots k p.device.reads (live_of w) (given p.base head new) h ≡ w h
+      at : (h : ℕ) → shown_roots k p.device.reads (live_of w) (with_entry p.base head new) h ≡ w h
       at h = elim (cases_eq h head) [
-        | inl e ↦ subst (λ n. shown_roots k p.device.reads (live_of w) (given p.base head new) n ≡ w n) (sym e) here
+        | inl e ↦ subst (λ n. shown_roots k p.device.reads (live_of w) (with_entry p.base head new) n ≡ w n) (sym e) here
         | inr ne ↦ elsewhere h ne (p.base h) refl
       ]

@@ -6,10 +6,10 @@ use Rattle.bit_array.specs.Bits.{is_in}
 use Rattle.super_block.specs.declared.page.Super.{Super}
 use Rattle.blob_meta.specs.declared.meta.Meta.{Meta}
 use Rattle.md_chain.specs.Chain.{is_among}
-use Rattle.store_model.specs.Maps.{Metas, Chains, given}
+use Rattle.store_model.specs.Maps.{Metas, Chains, with_entry}
 use Rattle.store_model.specs.Places.{all_set, AreLeastClear, AreDistinct, IsLinked, UsedPages}
-use Rattle.store_model.specs.Standing.{HaveChains}
-use Rattle.store_model.proofs.Given.{given_here, given_elsewhere}
+use Rattle.store_model.specs.RunInvariant.{HaveChains}
+use Rattle.store_model.proofs.WithEntry.{given_here, given_elsewhere}
 use Rattle.store_model.proofs.Sets.{all_set_in, all_set_out, among_either, among_first, among_later, length_all_set, were_clear, AllBelow}
 
 pub within : (bits : List Bool) (x : ℕ) → is_in bits x ≡ true → x < length bits
@@ -58,7 +58,7 @@ module _ (md_len : ℕ) (bits : List Bool) (chains : Chains) where
 module _ (s : Super) (metas : Metas) (chains : Chains) (have : HaveChains s metas chains) (bits : List Bool) (head : ℕ) (old fresh : List ℕ) (there : chains head ≡ Some (head ∷ old))
     (u : UsedPages s.md_len bits chains fresh) where
   abbrev now : Chains
-  now = given chains head (head ∷ fresh)
+  now = with_entry chains head (head ∷ fresh)
 
   linked_new : (x : ℕ) → is_among x (head ∷ fresh) ≡ true → IsLinked now x
   linked_new x among = record { head = head; pages = head ∷ fresh; chain = given_here chains head (head ∷ fresh) head refl; among = among }
@@ -121,7 +121,7 @@ module _ (s : Super) (metas : Metas) (chains : Chains) (have : HaveChains s meta
         | inr later ↦ u.apart x later (record { head = h; pages = pages; chain = was; among = among })
       ]
 
-  pub chains_committed : (new : Meta) → AreDistinct fresh → AllBelow s.md_len (head ∷ fresh) → HaveChains s (given metas head new) now
+  pub chains_committed : (new : Meta) → AreDistinct fresh → AllBelow s.md_len (head ∷ fresh) → HaveChains s (with_entry metas head new) now
   chains_committed new distinct low =
       let clear : is_among head fresh ≡ false = elim (cases_Bool (is_among head fresh)) [ inl among ↦ absurd (u.apart head among linked_head) | inr apart ↦ apart ] in
       let pages_here : (h : ℕ) (pages : List ℕ) → h ≡ head → now h ≡ Some pages → pages ≡ head ∷ fresh =

@@ -19,7 +19,7 @@ use Rattle.volume_model.specs.declared.reply.Reply.{Reply}
 use Rattle.volume_model.specs.declared.reply.Reply.TheVariants as r
 use Rattle.blob_meta.specs.Items.{HasDistinctNames}
 use Rattle.store_model.specs.Cases.{IsInMemory, live_of}
-use Rattle.store_model.specs.Standing.{CanBeWritten}
+use Rattle.store_model.specs.RunInvariant.{CanBeWritten}
 use Rattle.store_model.proofs.Refusals.{RefusalsChangeNothing}
 use Rattle.store_model.proofs.Synced.{edited_here, edited_there}
 use Rattle.store_model.proofs.Shows.{or_empty}

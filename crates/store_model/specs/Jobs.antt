@@ -18,7 +18,7 @@ use Rattle.store_model.specs.Scans.{MetaAt}
 use Rattle.store_model.specs.Shown.{fixed_of}
 use Rattle.store_model.specs.Rows.{InJob}
 use Rattle.store_model.specs.Places.{AreDistinct}
-use Rattle.store_model.specs.Plants.{Job, Phase, Writing, Erasing, Plant, planned_at, shown}
+use Rattle.store_model.specs.StoreState.{JobState, Phase, Writing, Erasing, StoreState, planned_at, shown}
 
 -- the verbs that replace a blob's metadata so that its attributes are synced
 abbrev pub IsSyncing : Command → Type 0
@@ -28,7 +28,7 @@ IsSyncing _ = ⊥
 
 -- A command that nothing refuses, with the blob that it means and the metadata that it makes: as it was, but that the attributes
 -- are those which the step makes synced.
-pub record AsksFor (p : Plant) (command : Command) (head : ℕ) (new : Meta) : Type 0 where
+pub record AsksFor (p : StoreState) (command : Command) (head : ℕ) (new : Meta) : Type 0 where
   pub syncing : IsSyncing command
   pub asked : refusal (fixed_of p.super) (shown p) command ≡ None
   pub found : named_head (fixed_of p.super) (shown p) command ≡ Some head
@@ -61,10 +61,10 @@ abbrev pub places_of : List PlannedPage → List ℕ
 places_of plan = map (λ x. x.place) plan
 
 -- what the plan of a job says: the new metadata, by a chain of the head and the fresh places
-abbrev pub IsPlanned : Plant → Job → Type 0
-IsPlanned p j = MetaAt (planned_at j) (region_of p.super) j.head j.new (j.head ∷ j.fresh)
+abbrev pub IsJobPlanned : StoreState → JobState → Type 0
+IsJobPlanned p j = MetaAt (planned_at j) (region_of p.super) j.head j.new (j.head ∷ j.fresh)
 
-module _ (p : Plant) (j : Job) where
+module _ (p : StoreState) (j : JobState) where
   -- the command that waits for the job
   pub record IsServed : Type 0 where
     pub command : Command
@@ -80,7 +80,7 @@ module _ (p : Plant) (j : Job) where
 
   -- A job that runs is planned, on places that differ.
   pub record JobStands : Type 0 where
-    pub planned : IsPlanned p j
+    pub planned : IsJobPlanned p j
     pub places : places_of j.planned ≡ j.head ∷ j.fresh
     pub fresh : AreDistinct j.fresh
     pub old : AreDistinct j.old

@@ -10,23 +10,23 @@ use Rattle.volume_model.specs.declared.reply.Entry.{Entry}
 use Rattle.blob_meta.specs.Resolving.{resolved}
 use Rattle.md_chain.specs.Chain.{Look, is_among}
 use Rattle.store_model.specs.Maps.{Metas, Chains}
-use Rattle.store_model.specs.Regions.{region_of, Region}
+use Rattle.store_model.specs.Regions.{region_of, MdRegion}
 use Rattle.store_model.specs.Scans.{head_at, is_head, Says, Scanned, Unlinked}
 use Rattle.store_model.specs.Shown.{fixed_of, shows}
-use Rattle.store_model.specs.Recovers.{AreSynced, IsDone, Recovers, RecoversAt, RecoversFrom}
+use Rattle.store_model.specs.Recovers.{AreSynced, IsChangeDone, Recovers, RecoversAt, RecoversFrom}
 
 -- ---- what a scan says
 
 pub record ScanLaws : Type 0 where
   -- an image says one thing
-  pub one : (look : Look) (r : Region) (m n : Metas) (c d : Chains) → Scanned look r m c → Scanned look r n d → (head : ℕ) → (m head ≡ n head) × (c head ≡ d head)
+  pub one : (look : Look) (r : MdRegion) (m n : Metas) (c d : Chains) → Scanned look r m c → Scanned look r n d → (head : ℕ) → (m head ≡ n head) × (c head ≡ d head)
   -- no page is in two chains, and none that no chain has is a head
-  pub apart : (look : Look) (r : Region) (metas : Metas) (chains : Chains) → Scanned look r metas chains →
+  pub apart : (look : Look) (r : MdRegion) (metas : Metas) (chains : Chains) → Scanned look r metas chains →
       (h k p : ℕ) (ps qs : List ℕ) → chains h ≡ Some ps → chains k ≡ Some qs → is_among p ps ≡ true → is_among p qs ≡ true → h ≡ k
-  pub no_head : (look : Look) (r : Region) (metas : Metas) (chains : Chains) → Scanned look r metas chains → (p : ℕ) → Unlinked chains p → head_at look r.len p ≡ false
+  pub no_head : (look : Look) (r : MdRegion) (metas : Metas) (chains : Chains) → Scanned look r metas chains → (p : ℕ) → Unlinked chains p → head_at look r.len p ≡ false
   -- what is said doesn't depend on pages outside of the region, nor on a page in no chain that is changed to one that would be no head
-  pub region : (look other : Look) (r : Region) (metas : Metas) (chains : Chains) → Scanned look r metas chains → ((q : ℕ) → q < r.len → other q ≡ look q) → Scanned other r metas chains
-  pub unlinked : (look other : Look) (r : Region) (metas : Metas) (chains : Chains) (p : ℕ) (page : List ℕ) → Scanned look r metas chains →
+  pub region : (look other : Look) (r : MdRegion) (metas : Metas) (chains : Chains) → Scanned look r metas chains → ((q : ℕ) → q < r.len → other q ≡ look q) → Scanned other r metas chains
+  pub unlinked : (look other : Look) (r : MdRegion) (metas : Metas) (chains : Chains) (p : ℕ) (page : List ℕ) → Scanned look r metas chains →
       Unlinked chains p → is_head p page ≡ false → other p ≡ page → ((q : ℕ) → q ≢ p → other q ≡ look q) → Scanned other r metas chains
 
 -- ---- what an image recovers
@@ -45,7 +45,7 @@ pub record GrowthLaws : Type 0 where
   pub still_at : (s : Super) (first : Volumes) (log : List Entry) (e : Entry) (n : ℕ) (image : Image) → n ≤ length log → RecoversAt s first log n image → RecoversAt s first (log ++ e ∷ []) n image
   pub idle : (s : Super) (first : Volumes) (log : List Entry) (e : Entry) (image : Image) → IsRefusal e.reply → RecoversFrom s first log (length log) image → RecoversFrom s first (log ++ e ∷ []) (length log + 1) image
   -- the new entry is the fault of a verb that might be done, and whose change is there
-  pub failed : (s : Super) (first : Volumes) (log : List Entry) (done : Entry) (least : ℕ) (image : Image) → IsDone done.reply → Allowed (fixed_of s) (replay (fixed_of s) first log) done.command done.reply → least ≤ length log + 1 → Recovers s first (log ++ done ∷ []) image →
+  pub failed : (s : Super) (first : Volumes) (log : List Entry) (done : Entry) (least : ℕ) (image : Image) → IsChangeDone done.reply → Allowed (fixed_of s) (replay (fixed_of s) first log) done.command done.reply → least ≤ length log + 1 → Recovers s first (log ++ done ∷ []) image →
       RecoversFrom s first (log ++ record done { reply = Fault } ∷ []) least image
-  pub failed_at : (s : Super) (first : Volumes) (log : List Entry) (done : Entry) (image : Image) → IsDone done.reply → Allowed (fixed_of s) (replay (fixed_of s) first log) done.command done.reply → Recovers s first (log ++ done ∷ []) image →
+  pub failed_at : (s : Super) (first : Volumes) (log : List Entry) (done : Entry) (image : Image) → IsChangeDone done.reply → Allowed (fixed_of s) (replay (fixed_of s) first log) done.command done.reply → Recovers s first (log ++ done ∷ []) image →
       RecoversAt s first (log ++ record done { reply = Fault } ∷ []) (length log) image

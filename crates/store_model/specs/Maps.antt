@@ -13,8 +13,8 @@ abbrev pub Chains : Type 0
 Chains = Map (List ℕ)
 
 -- the map with one entry given
-abbrev pub given : {X : Type 0} → Map X → ℕ → X → Map X
-given m head x = λ q. if q == head then Some x else m q
+abbrev pub with_entry : {X : Type 0} → Map X → ℕ → X → Map X
+with_entry m head x = λ q. if q == head then Some x else m q
 
 -- one entry is another, or new, or gone
 pub record Changed {X : Type 0} (old : Map X) (head : ℕ) (entry : Option X) (new : Map X) : Type 0 where

@@ -8,7 +8,7 @@ use Rattle.blob_meta.specs.Parents.{slot}
 use Rattle.md_chain.specs.Chain.{is_among}
 use Rattle.store_model.specs.Maps.{Metas, Chains}
 use Rattle.store_model.specs.Rows.{OpenClaim, Rows}
-use Rattle.store_model.specs.Plants.{Job, Phase, Writing, Erasing}
+use Rattle.store_model.specs.StoreState.{JobState, Phase, Writing, Erasing}
 
 -- these places are set, or cleared, one after another
 abbrev pub all_set : List Bool → List ℕ → Bool → List Bool
@@ -31,7 +31,7 @@ AreLeastClear bits [] = Unit {0}
 AreLeastClear bits (p ∷ ps) = IsLeastClear bits p × AreLeastClear (slice_set bits p true) ps
 
 -- the places that a job holds: fresh pages that no chain has yet, or old ones that aren't erased yet
-abbrev pub held_by : Option Job → List ℕ
+abbrev pub held_by : Option JobState → List ℕ
 held_by None = []
 held_by (Some j) = held j.phase
   where

@@ -37,10 +37,10 @@ AgreeAt settled (Some v) (Some w) = IsSameBut settled v w
 AgreeAt settled _ _ = ⊥
 
 -- the reply of a verb that changed metadata
-abbrev pub IsDone : Reply → Type 0
-IsDone r.Ok = Unit {0}
-IsDone (r.Made head) = Unit {0}
-IsDone _ = ⊥
+abbrev pub IsChangeDone : Reply → Type 0
+IsChangeDone r.Ok = Unit {0}
+IsChangeDone (r.Made head) = Unit {0}
+IsChangeDone _ = ⊥
 
 -- the log from these volumes on
 module _ (s : Super) (first : Volumes) where
@@ -49,7 +49,7 @@ module _ (s : Super) (first : Volumes) where
     pub place : ℕ
     pub reached : place ≤ n
     pub failed : slice_get log place ≡ Some (record done { reply = r.Fault })
-    pub is_done : IsDone done.reply
+    pub is_done : IsChangeDone done.reply
     pub allowed : Allowed (fixed_of s) (replay (fixed_of s) first (take n log)) done.command done.reply
 
   -- volumes that are those of the log as it survives: synced attributes, and the content of settled pages

@@ -5,7 +5,7 @@ use Rattle.super_block.specs.declared.page.Super.{Super}
 use Rattle.super_block.specs.Numbers.{clusters_of, fixed_clusters_of}
 use Rattle.md_chain.specs.Chain.{Look}
 
-pub record Region : Type 0 where
+pub record MdRegion : Type 0 where
   -- the first page and the number of pages
   pub start : ℕ
   pub len : ℕ
@@ -13,13 +13,13 @@ pub record Region : Type 0 where
   pub fixed : ℕ
   pub clusters : ℕ
 
-abbrev pub region_of : Super → Region
+abbrev pub region_of : Super → MdRegion
 region_of s = record { start = s.md_start; len = s.md_len; fixed = fixed_clusters_of s; clusters = clusters_of s }
 
 -- the page at each place of the region
-abbrev pub look_of : Region → Image → Look
+abbrev pub look_of : MdRegion → Image → Look
 look_of r image place = image (r.start + place)
 
 -- a page that isn't of the region
-abbrev pub Outside : Region → ℕ → Type 0
+abbrev pub Outside : MdRegion → ℕ → Type 0
 Outside r page = (page < r.start) ⊎ (r.start + r.len ≤ page)

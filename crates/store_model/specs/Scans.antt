@@ -9,7 +9,7 @@ use Rattle.blob_meta.specs.Says.{meta_of}
 use Rattle.blob_meta.specs.Faults.{meta_fault}
 use Rattle.md_chain.specs.Chain.{Look, Chain, blob_id, is_among}
 use Rattle.store_model.specs.Maps.{Metas, Chains}
-use Rattle.store_model.specs.Regions.{Region, look_of}
+use Rattle.store_model.specs.Regions.{MdRegion, look_of}
 
 -- a sound page of sequence 0 with the id of its own place
 abbrev pub is_head : ℕ → List ℕ → Bool
@@ -19,14 +19,14 @@ abbrev pub head_at : Look → ℕ → ℕ → Bool
 head_at look len place = nat_lt place len && is_head place (look place)
 
 -- The head has a chain of these pages, whose items say this metadata, and it has no fault.
-pub record MetaAt (look : Look) (r : Region) (head : ℕ) (meta : Meta) (pages : List ℕ) : Type 0 where
+pub record MetaAt (look : Look) (r : MdRegion) (head : ℕ) (meta : Meta) (pages : List ℕ) : Type 0 where
   pub items : List Item
   pub chain : Chain look r.len head items pages
   pub meta_is : meta ≡ meta_of head items
   pub faultless : meta_fault r.fixed r.clusters meta ≡ None
 
 -- a blob, with its metadata and the places of its chain
-pub record Blob (look : Look) (r : Region) (head : ℕ) (m : Option Meta) (c : Option (List ℕ)) : Type 0 where
+pub record SomeBlob (look : Look) (r : MdRegion) (head : ℕ) (m : Option Meta) (c : Option (List ℕ)) : Type 0 where
   pub meta : Meta
   pub pages : List ℕ
   pub says : MetaAt look r head meta pages
@@ -34,23 +34,23 @@ pub record Blob (look : Look) (r : Region) (head : ℕ) (m : Option Meta) (c : O
   pub pages_are : c ≡ Some pages
 
 -- no head, and nothing said of it
-pub record NoBlob (look : Look) (r : Region) (head : ℕ) (m : Option Meta) (c : Option (List ℕ)) : Type 0 where
+pub record NoBlob (look : Look) (r : MdRegion) (head : ℕ) (m : Option Meta) (c : Option (List ℕ)) : Type 0 where
   pub no_head : head_at look r.len head ≡ false
   pub no_meta : m ≡ None
   pub no_chain : c ≡ None
 
-abbrev pub BlobAt : Look → Region → ℕ → Option Meta → Option (List ℕ) → Type 0
-BlobAt look r head m c = Blob look r head m c ⊎ NoBlob look r head m c
+abbrev pub BlobAt : Look → MdRegion → ℕ → Option Meta → Option (List ℕ) → Type 0
+BlobAt look r head m c = SomeBlob look r head m c ⊎ NoBlob look r head m c
 
 -- The maps have the metadata and the chain of each head, and nothing else.
-abbrev pub Scanned : Look → Region → Metas → Chains → Type 0
+abbrev pub Scanned : Look → MdRegion → Metas → Chains → Type 0
 Scanned look r metas chains = (head : ℕ) → BlobAt look r head (metas head) (chains head)
 
 -- An image says this metadata, by these chains.
-abbrev pub Says : Region → Metas → Chains → Image → Type 0
+abbrev pub Says : MdRegion → Metas → Chains → Image → Type 0
 Says r metas chains image = Scanned (look_of r image) r metas chains
 
-abbrev pub AllSay : Region → Images → Metas → Chains → Type 0
+abbrev pub AllSay : MdRegion → Images → Metas → Chains → Type 0
 AllSay r images metas chains = (image : Image) → images image → Says r metas chains image
 
 -- no chain has the place

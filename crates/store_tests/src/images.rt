@@ -11,7 +11,7 @@ use super_block::{Layout, write_super};
 pub const LAST: u32 = 0xFFFF_FFFF;
 
 /// One metadata page: its place in the region, the head of its blob, its sequence, its next place and its descriptors.
-pub type Row = (u32, u32, u32, u32, &'static [&'static [u8]]);
+pub type PageRow = (u32, u32, u32, u32, &'static [&'static [u8]]);
 
 /// Flags of zeros, those of a thin blob, and those of a blob whose data is read-only.
 pub const THICK: &[u8] = b"\x03\x18\0\0\0\0\0\0\0\0\0\0\0\0\0\0\0\0\0\0\0\0\0\0\0\0\0\0\0";
@@ -47,7 +47,7 @@ fn body_of(parts: &[&[u8]]) -> [u8; 4072] {
 }
 
 /// Writes a metadata page to a device whose metadata region begins at page 4.
-fn put(rt: &impl Abort, disk: &mut MemDisk, row: Row) -> Result<(), Fail> {
+fn put(rt: &impl Abort, disk: &mut MemDisk, row: PageRow) -> Result<(), Fail> {
     let (place, head, sequence, next, parts) = row;
     let md = MdPage {
         id: (1 << 32) + u64::from(head),
@@ -69,7 +69,7 @@ pub fn image(
     rt: &impl Abort,
     alloc: Global,
     sizes: (u64, u32),
-    rows: &[Row],
+    rows: &[PageRow],
 ) -> Result<MemDisk, Fail> {
     let (pages, md_pages) = sizes;
     let mut disk = MemDisk::new(alloc, pages, 64)?;
@@ -92,14 +92,14 @@ pub fn store(rt: &impl Abort, alloc: Global) -> Result<MemDisk, Fail> {
 
 /// The device with two such blobs, at places 0 and 1.
 pub fn two_blobs(rt: &impl Abort, alloc: Global) -> Result<MemDisk, Fail> {
-    let rows: [Row; 2] = [(0, 0, 0, LAST, &[THICK]), (1, 1, 0, LAST, &[THICK])];
+    let rows: [PageRow; 2] = [(0, 0, 0, LAST, &[THICK]), (1, 1, 0, LAST, &[THICK])];
     image(rt, alloc, (64, 16), &rows)
 }
 
 /// The device whose only blob, at place 0, is a volume with a name, a uuid, a value `k` of 4062 times the letter x, and
 /// a map: a chain of three pages, at the places 0 to 2.
 pub fn volume(rt: &impl Abort, alloc: Global, md_pages: u32) -> Result<MemDisk, Fail> {
-    let rows: [Row; 3] = [
+    let rows: [PageRow; 3] = [
         (0, 0, 0, 1, &[THIN, NAMED]),
         (1, 0, 1, 2, &[KEY, LETTERS]),
         (2, 0, 2, LAST, &[RUNS]),

@@ -1,6 +1,6 @@
 //! Each fault of an image with its numbers, and a store that is loaded whole.
 
-use crate::images::{LAST, Row, THICK, THIN, image};
+use crate::images::{LAST, PageRow, THICK, THIN, image};
 use bit_array::Bits;
 use blob_meta::{Chains, Metas};
 use page_disk::{CallKind, Fail, FaultDisk, MemDisk, PageDisk};
@@ -23,7 +23,7 @@ const ONE: &[u8] = b"\x01\x08\0\0\0\0\0\0\0\x01\0\0\0";
 
 /// The metadata pages of a store with 16 of them, and the text of what comes of loading it.
 struct Case {
-    pages: &'static [Row],
+    pages: &'static [PageRow],
     text: &'static str,
 }
 
@@ -193,7 +193,7 @@ fn each_fault_of_an_image_says_its_numbers(rt: HostRuntime) -> Result<(), TestFa
 
 /// A store of 32 metadata pages with 16 blobs of 2^20 empty slots each, and so many more of one slot.
 fn many_slots(rt: &impl Abort, alloc: Global, more: u32) -> Result<MemDisk, TestFail> {
-    let mut rows: Vec<Row> = Vec::new(alloc);
+    let mut rows: Vec<PageRow> = Vec::new(alloc);
     for head in 0..16 {
         rows.push((head, head, 0, LAST, &[THIN, MILLION]))?;
     }
@@ -226,7 +226,7 @@ fn members(alloc: Global, bits: &Bits) -> Result<String, TestFail> {
 
 #[test]
 fn a_store_with_a_chain_of_three_pages_is_loaded_whole(rt: HostRuntime) -> Result<(), TestFail> {
-    let chain: [Row; 3] = [
+    let chain: [PageRow; 3] = [
         (2, 2, 0, 9, &[THIN, NAME]),
         (9, 2, 1, 3, &[b"\x01\x08\0\0\0\x07\0\0\0\x02\0\0\0"]),
         (

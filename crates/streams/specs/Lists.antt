@@ -4,7 +4,7 @@ use Rattle.std.specs.List.{list_any}
 
 -- The bytes that are left, the numbers of the reads that fail, from 1, how many reads there have been, and how many
 -- faults.
-pub record Reading : Type 0 where
+pub record SourceState : Type 0 where
   pub left : List ℕ
   pub fails : List ℕ
   pub calls : ℕ
@@ -12,7 +12,7 @@ pub record Reading : Type 0 where
 
 -- The bytes that were taken, for how many there is room, the numbers of the writes that fail, from 1, how many writes
 -- there have been, and how many faults.
-pub record Writing : Type 0 where
+pub record SinkState : Type 0 where
   pub written : List ℕ
   pub room : ℕ
   pub fails : List ℕ

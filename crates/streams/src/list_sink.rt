@@ -23,9 +23,9 @@ pub struct ListSink {
 
 impl Model for ListSink {
     ghost use Rattle.std.specs.Prelude.{◌≤◌, vec_capacity};
-    ghost use Rattle.streams.specs.Lists.{Writing};
+    ghost use Rattle.streams.specs.Lists.{SinkState};
 
-    ghost Value = { Writing };
+    ghost Value = { SinkState };
 
     ghost view = { λ s.
         record { written = s.bytes.items; room = s.room; fails = s.fails.items; calls = s.calls; faults = s.faults } };

@@ -21,9 +21,9 @@ pub struct ListSource {
 
 impl Model for ListSource {
     ghost use Rattle.std.specs.Prelude.{◌≤◌, length, drop};
-    ghost use Rattle.streams.specs.Lists.{Reading};
+    ghost use Rattle.streams.specs.Lists.{SourceState};
 
-    ghost Value = { Reading };
+    ghost Value = { SourceState };
 
     ghost view = { λ s.
         record { left = drop s.at s.bytes.items; fails = s.fails.items; calls = s.calls; faults = s.faults } };

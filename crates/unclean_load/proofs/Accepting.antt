@@ -22,7 +22,7 @@ use Rattle.blob_meta.specs.Resolving.{IsLawful}
 use Rattle.store_model.specs.Maps.{Metas, Chains}
 use Rattle.store_model.specs.Regions.{region_of}
 use Rattle.store_model.specs.Scans.{Says}
-use Rattle.store_model.specs.Standing.{AreRoots, IsRoot}
+use Rattle.store_model.specs.RunInvariant.{AreRoots, IsRoot}
 use Rattle.unclean_load.specs.Accepted.{IsAccepted}
 use Rattle.unclean_load.specs.Heads.{has_mark}
 use Rattle.unclean_load.proofs.Slots.{one_copy}

@@ -19,7 +19,7 @@ use Rattle.blob_meta.specs.Says.{firsts, xattr_in, internal_in}
 use Rattle.blob_meta.specs.Items.{HasDistinctNames}
 use Rattle.blob_meta.proofs.Firsts.{others, turned}
 use Rattle.md_chain.specs.Chain.{Look, Links, last, more}
-use Rattle.store_model.specs.Standing.{CanBeWritten}
+use Rattle.store_model.specs.RunInvariant.{CanBeWritten}
 
 -- ---- names
 

@@ -12,18 +12,18 @@ use Rattle.blob_meta.specs.declared.meta.Meta.{Meta}
 use Rattle.blob_meta.specs.Resolving.{slots_together}
 use Rattle.md_chain.specs.Chain.{Look}
 use Rattle.md_chain.specs.Reading.{OnlyRead, region_look}
-use Rattle.md_chain.proofs.Walks.{no_read, read_on}
-use Rattle.store_model.specs.Maps.{Metas, Chains, given}
-use Rattle.store_model.specs.Regions.{Region, region_of}
+use Rattle.md_chain.proofs.DeviceWalk.{no_read, read_on}
+use Rattle.store_model.specs.Maps.{Metas, Chains, with_entry}
+use Rattle.store_model.specs.Regions.{MdRegion, region_of}
 use Rattle.store_model.specs.Scans.{is_head, MetaAt, BlobAt}
-use Rattle.store_model.specs.Standing.{IsRoot}
-use Rattle.store_model.proofs.Given.{given_here, given_elsewhere}
+use Rattle.store_model.specs.RunInvariant.{IsRoot}
+use Rattle.store_model.proofs.WithEntry.{given_here, given_elsewhere}
 use Rattle.store_model.proofs.Scanning.{is_at}
 use Rattle.unclean_load.specs.declared.fault.LoadFault.{LoadFault}
 use Rattle.unclean_load.specs.declared.fault.LoadFault.TheVariants as fault
 use Rattle.unclean_load.specs.declared.heads.Blob.{Blob}
 use Rattle.unclean_load.specs.Heads.{has_mark, AreWholeBelow, Shows, ShowsFirst, IsHeadsFault}
-use Rattle.unclean_load.specs.Reading.{SaysAt, IsBlobFault, IsPlaceFault, AreRead, HasNoneFrom, IsChainOf, IsRefused, meta_in, pages_in, IsCounted}
+use Rattle.unclean_load.specs.Reading.{SaysAt, IsBlobFault, IsPlaceFault, AreRead, HasNoneFrom, IsChainOf, IsBlobRefused, meta_in, chain_in, IsFaultCounted}
 use Rattle.store_core.proofs.Maps.{insert_given}
 use Rattle.unclean_load.proofs.Roots.{root, chain_of_region}
 use Rattle.unclean_load.proofs.Sums.{sum_more, sum_same}
@@ -56,7 +56,7 @@ slots_same metas other place same =
     (λ k lt. ap (λ (o : Option Meta). option_map_or (λ (m : Meta). length m.map) o 0) (same k lt))
 
 -- what the maps say of a head that a place has
-the_one : (look : Look) (r : Region) (place : ℕ) (blob : Blob) → BlobAt look r place (Some blob.meta) (Some blob.pages)
+the_one : (look : Look) (r : MdRegion) (place : ℕ) (blob : Blob) → BlobAt look r place (Some blob.meta) (Some blob.pages)
     → MetaAt look r place blob.meta blob.pages
 the_one look r place blob (inl w) =
     let m : w.meta ≡ blob.meta = let e = w.meta_is in cc e in
@@ -95,9 +95,9 @@ module _ {D : Type 0} (d : Ghosts D) (s : Super) (first : D) where
     look_first told = ap (λ (image : Image). region_look s image) (w.same.now told)
 
     blob_first : (blob : Option Blob) → SaysAt d s disk place blob → IsTrue d.tells
-        → BlobAt (region_look s (d.now first)) (region_of s) place (meta_in blob) (pages_in blob)
+        → BlobAt (region_look s (d.now first)) (region_of s) place (meta_in blob) (chain_in blob)
     blob_first blob x told =
-        subst (λ (look : Look). BlobAt look (region_of s) place (meta_in blob) (pages_in blob))
+        subst (λ (look : Look). BlobAt look (region_of s) place (meta_in blob) (chain_in blob))
         (x.seen told ∙ look_first told) x.blob_at
 
     -- ---- the place has no head
@@ -139,10 +139,10 @@ module _ {D : Type 0} (d : Ghosts D) (s : Super) (first : D) where
       module _ (blob : Blob) (x : SaysAt d s disk place (Some blob)) (unmarked : has_mark blob.meta ≡ false)
           (few : slots + length blob.meta.map ≤ 2 ^ 24) where
         abbrev metas_now : Metas
-        metas_now = given metas place blob.meta
+        metas_now = with_entry metas place blob.meta
 
         abbrev chains_now : Chains
-        chains_now = given chains place blob.pages
+        chains_now = with_entry chains place blob.pages
 
         meta_here : (k : ℕ) → k ≡ place → metas_now k ≡ Some blob.meta
         meta_here = given_here metas place blob.meta
@@ -274,7 +274,7 @@ module _ {D : Type 0} (d : Ghosts D) (s : Super) (first : D) where
           (is_at (region_look s (d.now first)) (region_of s) place blob.meta blob.pages (says_first told))).1
 
       -- a blob that is refused is the first head with a fault
-      pub add_fails : (why : LoadFault) → place < s.md_len → IsTrue d.tells → IsRefused slots place blob.meta why
+      pub add_fails : (why : LoadFault) → place < s.md_len → IsTrue d.tells → IsBlobRefused slots place blob.meta why
           → IsHeadsFault (region_look s (d.now first)) (region_of s) why
       add_fails fault.Memory low told y = tt
       add_fails (fault.MapsTooLarge n) low told y =
@@ -306,13 +306,13 @@ module _ {D : Type 0} (d : Ghosts D) (s : Super) (first : D) where
       add_fails (fault.Shared cluster a b) low told y = absurd y
 
     -- a failed read that was counted since is counted since the beginning
-    pub counted_first : (new : D) (why : LoadFault) → IsCounted (d.read_faults disk) (d.read_faults new) why
-        → IsCounted (d.read_faults first) (d.read_faults new) why
-    counted_first new why x = subst (λ (n : ℕ). IsCounted n (d.read_faults new) why) w.quiet x
+    pub counted_first : (new : D) (why : LoadFault) → IsFaultCounted (d.read_faults disk) (d.read_faults new) why
+        → IsFaultCounted (d.read_faults first) (d.read_faults new) why
+    counted_first new why x = subst (λ (n : ℕ). IsFaultCounted n (d.read_faults new) why) w.quiet x
 
 -- a blob is refused for a cause that no read counts
-pub refused_uncounted : (old new before head : ℕ) (m : Meta) (why : LoadFault) → new ≡ old → IsRefused before head m why
-    → IsCounted old new why
+pub refused_uncounted : (old new before head : ℕ) (m : Meta) (why : LoadFault) → new ≡ old → IsBlobRefused before head m why
+    → IsFaultCounted old new why
 refused_uncounted old new before head m fault.ReadFault same x = absurd x
 refused_uncounted old new before head m fault.Memory same x = same
 refused_uncounted old new before head m (fault.Super e) same x = same
@@ -327,10 +327,10 @@ module _ {D : Type 0} (d : Ghosts D) (s : Super) (first disk : D) (metas : map.F
     (chains : map.FinMap nat_cmp (List ℕ)) where
   -- what holds with the blob given holds with it put into the maps
   pub inserted : (slots place head : ℕ) (m : Meta) (pages : List ℕ)
-      → Walked d s first disk (given (map.get metas) head m) (given (map.get chains) head pages) slots place
+      → Walked d s first disk (with_entry (map.get metas) head m) (with_entry (map.get chains) head pages) slots place
       → Walked d s first disk (map.get (map.insert metas head m)) (map.get (map.insert chains head pages)) slots place
   inserted slots place head m pages w =
       subst (λ (f : Metas). Walked d s first disk f (map.get (map.insert chains head pages)) slots place)
       (sym (insert_given metas head m))
-      (subst (λ (f : Chains). Walked d s first disk (given (map.get metas) head m) f slots place)
+      (subst (λ (f : Chains). Walked d s first disk (with_entry (map.get metas) head m) f slots place)
       (sym (insert_given chains head pages)) w)

@@ -11,8 +11,8 @@ use Rattle.md_chain.specs.Chain.{Look}
 use Rattle.md_chain.specs.declared.fault.ChainFault.{ChainFault}
 use Rattle.md_chain.specs.declared.fault.ChainFault.TheVariants as chain
 use Rattle.store_model.specs.Maps.{Metas, Chains}
-use Rattle.store_model.specs.Regions.{Region, region_of, look_of}
-use Rattle.store_model.specs.Standing.{AreRoots}
+use Rattle.store_model.specs.Regions.{MdRegion, region_of, look_of}
+use Rattle.store_model.specs.RunInvariant.{AreRoots}
 use Rattle.store_model.proofs.Scanning.{apart}
 use Rattle.store_model.proofs.Roots.{no_parent}
 use Rattle.unclean_load.specs.declared.fault.LoadFault.{LoadFault}
@@ -57,7 +57,7 @@ lawful s metas roots few most = record {
 -- ---- every head of the region
 
 -- blobs that are whole below the region's end, with none behind it, are whole
-pub whole_region : (look : Look) (r : Region) (metas : Metas) (chains : Chains)
+pub whole_region : (look : Look) (r : MdRegion) (metas : Metas) (chains : Chains)
     → AreWholeBelow look r r.len metas chains → HasNoneFrom metas r.len
     → ((head : ℕ) → metas head ≡ None → chains head ≡ None) → AreWhole look r metas chains
 whole_region look r metas chains below none no_chain = record {

@@ -6,11 +6,11 @@ use Rattle.std.proofs.lemmas.List.{get_or-set_same, get_or-set_other, length-set
 use Rattle.std.proofs.Math.ListN.{get_or-eq_default}
 use Rattle.bit_array.specs.Bits.{is_in}
 use Rattle.md_chain.specs.Chain.{is_among}
-use Rattle.md_chain.proofs.Walking.{among-more}
+use Rattle.md_chain.proofs.PageWalk.{among-more}
 use Rattle.store_model.specs.Maps.{Chains}
 use Rattle.store_model.specs.Places.{AreDistinct, IsLinked, UsedPages}
 use Rattle.store_model.proofs.Sets.{among_first, among_later}
-use Rattle.unclean_load.specs.Claiming.{AreAdded, AreApart, AreChains, AreNew, IsInTwo}
+use Rattle.unclean_load.specs.Claiming.{AreAdded, ChainsAreApart, AreChains, AreNew, IsInTwo}
 
 or_false : (b : Bool) → b ≡ (b || false)
 or_false true = refl
@@ -224,7 +224,7 @@ module _ (md_len : ℕ) (chains : Chains) where
     }
 
     -- and then no place is in two chains
-    pub all_apart : AreApart chains
+    pub all_apart : ChainsAreApart chains
     all_apart h k place ps qs x y a b = m.apart h k place ps qs (low h ps x).0 (low k qs y).0 x y a b
 
 -- ---- the heads below a place

@@ -6,7 +6,7 @@ use Rattle.page_disk.proofs.Images.{with_page-here}
 use Rattle.page_disk.specs.declared.disk.PageDisk.{Ghosts}
 use Rattle.super_block.specs.declared.page.Super.{Super}
 use Rattle.md_chain.specs.Reading.{region_look}
-use Rattle.md_chain.proofs.Walking.{known}
+use Rattle.md_chain.proofs.PageWalk.{known}
 use Rattle.store_model.specs.Scans.{is_head}
 use Rattle.unclean_load.specs.Reading.{GaveHead}
 

@@ -11,8 +11,8 @@ use Rattle.blob_meta.specs.Resolving.{slots_together}
 use Rattle.md_chain.specs.Chain.{Look}
 use Rattle.md_chain.proofs.OneChain.{one_chain, not_both_ways}
 use Rattle.store_model.specs.Maps.{Metas, Chains}
-use Rattle.store_model.specs.Regions.{Region, region_of, look_of}
-use Rattle.store_model.specs.Scans.{MetaAt, Blob, BlobAt, head_at}
+use Rattle.store_model.specs.Regions.{MdRegion, region_of, look_of}
+use Rattle.store_model.specs.Scans.{MetaAt, SomeBlob, BlobAt, head_at}
 use Rattle.store_model.proofs.Scanning.{is_at}
 use Rattle.store_model.proofs.One.{one_scan}
 use Rattle.unclean_load.specs.declared.fault.LoadFault.{LoadFault}
@@ -26,12 +26,12 @@ use Rattle.unclean_load.proofs.HeadWalk.{slots_more, slots_same}
 
 -- ---- a place says one thing
 
-one_meta : (look : Look) (r : Region) (h : ℕ) (m n : Meta) (ps qs : List ℕ) → MetaAt look r h m ps
+one_meta : (look : Look) (r : MdRegion) (h : ℕ) (m n : Meta) (ps qs : List ℕ) → MetaAt look r h m ps
     → MetaAt look r h n qs → m ≡ n
 one_meta look r h m n ps qs x y =
     x.meta_is ∙ ap (meta_of h) (one_chain look r.len h 0 [] h h x.items y.items ps qs x.chain y.chain).0 ∙ sym y.meta_is
 
-one_place : (look : Look) (r : Region) (h : ℕ) (m n : Option Meta) (c d : Option (List ℕ)) → BlobAt look r h m c
+one_place : (look : Look) (r : MdRegion) (h : ℕ) (m n : Option Meta) (c d : Option (List ℕ)) → BlobAt look r h m c
     → BlobAt look r h n d → m ≡ n
 one_place look r h m n c d (inl x) (inl y) =
     x.meta_is ∙ ap (λ (v : Meta). Some v) (one_meta look r h x.meta y.meta x.pages y.pages x.says y.says)
@@ -44,12 +44,12 @@ one_place look r h m n c d (inr x) (inr y) = x.no_meta ∙ sym y.no_meta
 
 -- ---- no head shows a fault
 
-module _ (look : Look) (r : Region) (metas : Metas) (chains : Chains) (whole : AreWhole look r metas chains)
+module _ (look : Look) (r : MdRegion) (metas : Metas) (chains : Chains) (whole : AreWhole look r metas chains)
     (why : LoadFault) (x : ShowsFirst look r why) where
   abbrev h : ℕ
   h = x.head
 
-  blob_there : Blob look r h (metas h) (chains h)
+  blob_there : SomeBlob look r h (metas h) (chains h)
   blob_there = elim (whole.says h) [
     | inl w ↦ w
     | inr w ↦ absurd (both_ways (head_at look r.len h) w.no_head (and_from _ _ (lt-ltb h r.len x.low) x.is))

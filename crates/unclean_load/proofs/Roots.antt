@@ -16,7 +16,7 @@ use Rattle.md_chain.proofs.Links.{passes, first, linked}
 use Rattle.store_model.specs.Regions.{region_of}
 use Rattle.store_model.specs.Scans.{MetaAt}
 use Rattle.store_model.specs.Places.{AreDistinct}
-use Rattle.store_model.specs.Standing.{IsRoot}
+use Rattle.store_model.specs.RunInvariant.{IsRoot}
 use Rattle.unclean_load.specs.Heads.{has_mark}
 use Rattle.unclean_load.specs.Reading.{IsChainOf}
 use Rattle.unclean_load.proofs.Attributes.{xattrs_written, internal_written}

@@ -10,7 +10,7 @@ use Rattle.blob_meta.specs.declared.meta.Meta.{Meta}
 use Rattle.blob_meta.specs.Parents.{slot}
 use Rattle.store_model.specs.Maps.{Metas}
 use Rattle.store_model.specs.Places.{IsMapped}
-use Rattle.store_model.specs.Standing.{AreRoots}
+use Rattle.store_model.specs.RunInvariant.{AreRoots}
 use Rattle.store_model.proofs.Inside.{inside_slot}
 use Rattle.unclean_load.specs.Sharing.{holds, copies_in, copies, AreAllInside}
 use Rattle.unclean_load.proofs.Counts.{copies_none, copies_some, copies_grow}

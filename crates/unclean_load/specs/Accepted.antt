@@ -9,7 +9,7 @@ use Rattle.super_block.specs.Faults.{super_fault}
 use Rattle.store_model.specs.Maps.{Metas, Chains}
 use Rattle.store_model.specs.Regions.{region_of, look_of}
 use Rattle.store_model.specs.Scans.{Says}
-use Rattle.store_model.specs.Standing.{AreRoots}
+use Rattle.store_model.specs.RunInvariant.{AreRoots}
 use Rattle.blob_meta.specs.Resolving.{IsLawful}
 use Rattle.unclean_load.specs.declared.fault.LoadFault.{LoadFault}
 use Rattle.unclean_load.specs.declared.fault.LoadFault.TheVariants as fault

@@ -16,8 +16,8 @@ AreChains md_len chains =
     (head : ℕ) (pages : List ℕ) → chains head ≡ Some pages → (head < md_len) × IsChainOf md_len head pages
 
 -- no place stands in two chains
-abbrev pub AreApart : Chains → Type 0
-AreApart chains =
+abbrev pub ChainsAreApart : Chains → Type 0
+ChainsAreApart chains =
     (h k place : ℕ) (ps qs : List ℕ) → chains h ≡ Some ps → chains k ≡ Some qs → is_among place ps ≡ true
     → is_among place qs ≡ true → h ≡ k
 

@@ -10,7 +10,7 @@ use Rattle.blob_meta.specs.Faults.{meta_fault, is_mark}
 use Rattle.blob_meta.specs.Resolving.{slots_together}
 use Rattle.md_chain.specs.Chain.{Look, Chain, IsBroken}
 use Rattle.store_model.specs.Maps.{Metas, Chains}
-use Rattle.store_model.specs.Regions.{Region}
+use Rattle.store_model.specs.Regions.{MdRegion}
 use Rattle.store_model.specs.Scans.{is_head, MetaAt, BlobAt, Scanned}
 use Rattle.unclean_load.specs.declared.fault.LoadFault.{LoadFault}
 use Rattle.unclean_load.specs.declared.fault.LoadFault.TheVariants as fault
@@ -21,20 +21,20 @@ has_mark m = list_any (λ (x : Xattr). is_mark x.key) m.internal
 
 -- Each head below a place has its chain and metadata without fault; their maps have at most 2^24 slots together; and
 -- none has a mark.
-pub record AreWholeBelow (look : Look) (r : Region) (end : ℕ) (metas : Metas) (chains : Chains) : Type 0 where
+pub record AreWholeBelow (look : Look) (r : MdRegion) (end : ℕ) (metas : Metas) (chains : Chains) : Type 0 where
   pub blobs : (head : ℕ) → head < end → BlobAt look r head (metas head) (chains head)
   pub few : slots_together end metas ≤ 2 ^ 24
   pub unmarked : (head : ℕ) (m : Meta) → head < end → metas head ≡ Some m → has_mark m ≡ false
 
 -- The head has a chain, and the metadata that its items say has this fault.
-pub record SaysWrong (look : Look) (r : Region) (head : ℕ) (why : MetaFault) : Type 0 where
+pub record SaysWrong (look : Look) (r : MdRegion) (head : ℕ) (why : MetaFault) : Type 0 where
   pub items : List Item
   pub pages : List ℕ
   pub chain : Chain look r.len head items pages
   pub is : meta_fault r.fixed r.clusters (meta_of head items) ≡ Some why
 
 -- The head has metadata without fault, whose map and those of the heads before it have this many slots, more than 2^24.
-pub record IsTooMuch (look : Look) (r : Region) (before : Metas) (head slots : ℕ) : Type 0 where
+pub record IsTooMuch (look : Look) (r : MdRegion) (before : Metas) (head slots : ℕ) : Type 0 where
   pub meta : Meta
   pub pages : List ℕ
   pub says : MetaAt look r head meta pages
@@ -42,7 +42,7 @@ pub record IsTooMuch (look : Look) (r : Region) (before : Metas) (head slots : �
   pub many : 2 ^ 24 < slots
 
 -- The head has metadata without fault, and so far there are at most 2^24 slots, but it has a mark.
-pub record IsMarked (look : Look) (r : Region) (before : Metas) (head : ℕ) : Type 0 where
+pub record IsMarked (look : Look) (r : MdRegion) (before : Metas) (head : ℕ) : Type 0 where
   pub meta : Meta
   pub pages : List ℕ
   pub says : MetaAt look r head meta pages
@@ -50,7 +50,7 @@ pub record IsMarked (look : Look) (r : Region) (before : Metas) (head : ℕ) : T
   pub marked : has_mark meta ≡ true
 
 -- The fault that a head shows, where the heads before it have this metadata.
-abbrev pub Shows : Look → Region → Metas → ℕ → LoadFault → Type 0
+abbrev pub Shows : Look → MdRegion → Metas → ℕ → LoadFault → Type 0
 Shows look r before head (fault.Chain at why) = (at ≡ head) × IsBroken look r.len head why
 Shows look r before head (fault.Meta at why) = (at ≡ head) × SaysWrong look r head why
 Shows look r before head (fault.MapsTooLarge slots) = IsTooMuch look r before head slots
@@ -58,7 +58,7 @@ Shows look r before head (fault.NotYet at) = (at ≡ head) × IsMarked look r be
 Shows look r before head _ = ⊥
 
 -- The first head that shows a fault shows this one: all before it are whole.
-pub record ShowsFirst (look : Look) (r : Region) (why : LoadFault) : Type 0 where
+pub record ShowsFirst (look : Look) (r : MdRegion) (why : LoadFault) : Type 0 where
   pub head : ℕ
   pub low : head < r.len
   pub is : is_head head (look head) ≡ true
@@ -68,13 +68,13 @@ pub record ShowsFirst (look : Look) (r : Region) (why : LoadFault) : Type 0 wher
   pub shows : Shows look r metas head why
 
 -- A fault that comes of the heads is the first that one shows; a failed read and want of memory have causes elsewhere.
-abbrev pub IsHeadsFault : Look → Region → LoadFault → Type 0
+abbrev pub IsHeadsFault : Look → MdRegion → LoadFault → Type 0
 IsHeadsFault look r fault.ReadFault = Unit {0}
 IsHeadsFault look r fault.Memory = Unit {0}
 IsHeadsFault look r why = ShowsFirst look r why
 
 -- Every head of the region is whole: these are their metadata and chains.
-pub record AreWhole (look : Look) (r : Region) (metas : Metas) (chains : Chains) : Type 0 where
+pub record AreWhole (look : Look) (r : MdRegion) (metas : Metas) (chains : Chains) : Type 0 where
   pub says : Scanned look r metas chains
   pub few : slots_together r.len metas ≤ 2 ^ 24
   pub unmarked : (head : ℕ) (m : Meta) → metas head ≡ Some m → has_mark m ≡ false

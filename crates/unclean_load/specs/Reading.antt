@@ -11,9 +11,9 @@ use Rattle.blob_meta.specs.Faults.{meta_fault}
 use Rattle.md_chain.specs.Chain.{Look, is_among, IsBroken}
 use Rattle.md_chain.specs.Reading.{WasSeen}
 use Rattle.store_model.specs.Maps.{Metas, Chains}
-use Rattle.store_model.specs.Regions.{Region, region_of}
+use Rattle.store_model.specs.Regions.{MdRegion, region_of}
 use Rattle.store_model.specs.Scans.{is_head, BlobAt}
-use Rattle.store_model.specs.Standing.{AreRoots}
+use Rattle.store_model.specs.RunInvariant.{AreRoots}
 use Rattle.store_model.specs.Places.{AreDistinct}
 use Rattle.unclean_load.specs.declared.heads.Blob.{Blob}
 use Rattle.unclean_load.specs.declared.fault.LoadFault.{LoadFault}
@@ -31,44 +31,44 @@ abbrev pub meta_in : Option Blob → Option Meta
 meta_in blob = option_map (λ (b : Blob). b.meta) blob
 
 -- the places of the blob's chain
-abbrev pub pages_in : Option Blob → Option (List ℕ)
-pages_in blob = option_map (λ (b : Blob). b.pages) blob
+abbrev pub chain_in : Option Blob → Option (List ℕ)
+chain_in blob = option_map (λ (b : Blob). b.pages) blob
 
 -- the blob that the pages which the device gave say of a place
 pub record SaysAt {D : Type 0} (d : Ghosts D) (s : Super) (disk : D) (place : ℕ) (blob : Option Blob) : Type 0 where
   pub look : Look
   pub seen : WasSeen d s disk look
-  pub blob_at : BlobAt look (region_of s) place (meta_in blob) (pages_in blob)
+  pub blob_at : BlobAt look (region_of s) place (meta_in blob) (chain_in blob)
 
 -- the page is a head, and the fault is that of its chain or of its metadata
-pub record IsBlobFault (look : Look) (r : Region) (place : ℕ) (why : LoadFault) : Type 0 where
+pub record IsBlobFault (look : Look) (r : MdRegion) (place : ℕ) (why : LoadFault) : Type 0 where
   pub head : is_head place (look place) ≡ true
   pub shows : (before : Metas) → Shows look r before place why
 
 -- a failed read and want of memory have other causes
-abbrev pub IsPlaceFault : Look → Region → ℕ → LoadFault → Type 0
+abbrev pub IsPlaceFault : Look → MdRegion → ℕ → LoadFault → Type 0
 IsPlaceFault look r place fault.ReadFault = Unit {0}
 IsPlaceFault look r place fault.Memory = Unit {0}
 IsPlaceFault look r place why = IsBlobFault look r place why
 
 -- the first fault of a head's chain
-abbrev pub IsChainFault : Look → Region → ℕ → LoadFault → Type 0
+abbrev pub IsChainFault : Look → MdRegion → ℕ → LoadFault → Type 0
 IsChainFault look r head fault.ReadFault = Unit {0}
 IsChainFault look r head fault.Memory = Unit {0}
 IsChainFault look r head (fault.Chain at why) = (at ≡ head) × IsBroken look r.len head why
 IsChainFault look r head _ = ⊥
 
 -- the fault of the metadata that the items say
-abbrev pub IsItemsFault : Region → ℕ → List Item → LoadFault → Type 0
+abbrev pub IsItemsFault : MdRegion → ℕ → List Item → LoadFault → Type 0
 IsItemsFault r head items fault.Memory = Unit {0}
 IsItemsFault r head items (fault.Meta at why) =
     (at ≡ head) × (meta_fault r.fixed r.clusters (meta_of head items) ≡ Some why)
 IsItemsFault r head items _ = ⊥
 
 -- a failed read, which was counted; or another fault, and no read has failed
-abbrev pub IsCounted : ℕ → ℕ → LoadFault → Type 0
-IsCounted old new fault.ReadFault = Rose old new
-IsCounted old new _ = new ≡ old
+abbrev pub IsFaultCounted : ℕ → ℕ → LoadFault → Type 0
+IsFaultCounted old new fault.ReadFault = Rose old new
+IsFaultCounted old new _ = new ≡ old
 
 -- ---- the blobs of a region, whatever the device tells
 
@@ -91,8 +91,8 @@ abbrev pub HasNoneFrom : Metas → ℕ → Type 0
 HasNoneFrom metas end = (head : ℕ) → end ≤ head → metas head ≡ None
 
 -- why a blob isn't added to others with so many slots
-abbrev pub IsRefused : ℕ → ℕ → Meta → LoadFault → Type 0
-IsRefused before head m fault.Memory = Unit {0}
-IsRefused before head m (fault.MapsTooLarge slots) = (slots ≡ before + length m.map) × (2 ^ 24 < slots)
-IsRefused before head m (fault.NotYet at) = (at ≡ head) × (before + length m.map ≤ 2 ^ 24) × (has_mark m ≡ true)
-IsRefused before head m _ = ⊥
+abbrev pub IsBlobRefused : ℕ → ℕ → Meta → LoadFault → Type 0
+IsBlobRefused before head m fault.Memory = Unit {0}
+IsBlobRefused before head m (fault.MapsTooLarge slots) = (slots ≡ before + length m.map) × (2 ^ 24 < slots)
+IsBlobRefused before head m (fault.NotYet at) = (at ≡ head) × (before + length m.map ≤ 2 ^ 24) × (has_mark m ≡ true)
+IsBlobRefused before head m _ = ⊥

@@ -7,7 +7,7 @@ ghost use Rattle.md_chain.specs.Reading.{GaveChain, OnlyRead, region_look};
 ghost use Rattle.store_model.specs.Regions.{region_of};
 ghost use Rattle.store_model.specs.Scans.{is_head as is_head_said};
 ghost use Rattle.super_block.specs.Faults.{IsFaultless};
-ghost use Rattle.unclean_load.specs.Reading.{GaveHead, IsChainFault, IsCounted, IsItemsFault, IsPlaceFault, SaysAt};
+ghost use Rattle.unclean_load.specs.Reading.{GaveHead, IsChainFault, IsFaultCounted, IsItemsFault, IsPlaceFault, SaysAt};
 ghost use Rattle.unclean_load.specs.declared.fault.LoadFault.TheVariants as fault;
 
 use crate::fault::LoadFault;
@@ -42,7 +42,7 @@ fn is_head_on<D: PageDisk>(disk: &mut D, sup: &Super, place: u32) -> Result<bool
     requires inside { sup.now.md_start + sup.now.md_len ≤ D.pages disk.old }
     ensures found { IfOk result (λ is. GaveHead D.PageDisk sup.now disk.old place is) }
     ensures fault { IfErr result (λ e. e ≡ fault.ReadFault) }
-    ensures counted { IfErr result (λ e. IsCounted (D.read_faults disk.old) (D.read_faults disk.new) e) }
+    ensures counted { IfErr result (λ e. IsFaultCounted (D.read_faults disk.old) (D.read_faults disk.new) e) }
     ensures quiet { OnOk result (D.read_faults disk.new ≡ D.read_faults disk.old) }
     ensures same { OnlyRead D.PageDisk disk.old disk.new }
 {
@@ -66,7 +66,7 @@ fn chain_at<D: PageDisk>(
     ensures found { IfOk result (λ c. GaveChain D.PageDisk sup.now disk.old head c.pages c.items) }
     ensures fault { IsTrue D.tells
         → IfErr result (λ e. IsChainFault (region_look sup.now (D.now disk.old)) (region_of sup.now) head e) }
-    ensures counted { IfErr result (λ e. IsCounted (D.read_faults disk.old) (D.read_faults disk.new) e) }
+    ensures counted { IfErr result (λ e. IsFaultCounted (D.read_faults disk.old) (D.read_faults disk.new) e) }
     ensures quiet { OnOk result (D.read_faults disk.new ≡ D.read_faults disk.old) }
     ensures same { OnlyRead D.PageDisk disk.old disk.new }
 {
@@ -107,7 +107,7 @@ pub fn blob_at<D: PageDisk>(
     ensures found { IfOk result (λ b. SaysAt D.PageDisk sup.now disk.old place b) }
     ensures fault { IsTrue D.tells
         → IfErr result (λ e. IsPlaceFault (region_look sup.now (D.now disk.old)) (region_of sup.now) place e) }
-    ensures counted { IfErr result (λ e. IsCounted (D.read_faults disk.old) (D.read_faults disk.new) e) }
+    ensures counted { IfErr result (λ e. IsFaultCounted (D.read_faults disk.old) (D.read_faults disk.new) e) }
     ensures quiet { OnOk result (D.read_faults disk.new ≡ D.read_faults disk.old) }
     ensures same { OnlyRead D.PageDisk disk.old disk.new }
 {

@@ -4,16 +4,16 @@ ghost use Rattle.std.specs.Prelude.{◌≡◌, ◌≤◌, ◌+◌, ◌^◌, ℕ,
 ghost use Rattle.std.specs.FinMap as map;
 ghost use Rattle.blob_meta.specs.Resolving.{IsLawful, slots_together};
 ghost use Rattle.md_chain.specs.Reading.{OnlyRead};
-ghost use Rattle.store_core.specs.Whole.{AreMasks, IsWhole};
+ghost use Rattle.store_core.specs.LoadedWhole.{AreMasks, IsWhole};
 ghost use Rattle.store_model.specs.Regions.{region_of, look_of};
 ghost use Rattle.store_model.specs.Scans.{Says};
-ghost use Rattle.store_model.specs.Standing.{AreRoots, HaveChains};
+ghost use Rattle.store_model.specs.RunInvariant.{AreRoots, HaveChains};
 ghost use Rattle.super_block.specs.Faults.{IsFaultless};
 ghost use Rattle.super_block.specs.Page.{super_of};
 ghost use Rattle.unclean_load.specs.Accepted.{IsAccepted, IsFaultOf, IsImageFault, SuperAt};
 ghost use Rattle.unclean_load.specs.Claiming.{IsMaskFault};
 ghost use Rattle.unclean_load.specs.Heads.{AreWhole};
-ghost use Rattle.unclean_load.specs.Reading.{AreRead, IsCounted};
+ghost use Rattle.unclean_load.specs.Reading.{AreRead, IsFaultCounted};
 ghost use Rattle.unclean_load.specs.Sharing.{copies};
 
 use crate::fault::LoadFault;
@@ -73,7 +73,7 @@ fn read_store<D: PageDisk>(alloc: Global, disk: &mut D) -> Result<Store, LoadFau
     ensures chains { IfOk result (λ s. HaveChains s.sup (map.get s.metas) (map.get s.chains)) }
     ensures masks { IfOk result (λ s. AreMasks s.sup (map.get s.metas) (map.get s.chains) s.masks) }
 
-    ensures counted { IfErr result (λ e. IsCounted (D.read_faults disk.old) (D.read_faults disk.new) e) }
+    ensures counted { IfErr result (λ e. IsFaultCounted (D.read_faults disk.old) (D.read_faults disk.new) e) }
     ensures quiet { OnOk result (D.read_faults disk.new ≡ D.read_faults disk.old) }
     ensures same { OnlyRead D.PageDisk disk.old disk.new }
 {
@@ -116,7 +116,7 @@ pub fn load<D: PageDisk>(alloc: Global, disk: D) -> Result<Loaded<D>, (D, LoadFa
     ensures refused { IsTrue D.tells
         → IfErr result (λ e. IsImageFault e.1 → IsAccepted (D.pages disk) (D.now disk) → ⊥) }
     // A read fails where that is the answer, and in no other case.
-    ensures counted { IfErr result (λ e. IsCounted (D.read_faults disk) (D.read_faults e.0) e.1) }
+    ensures counted { IfErr result (λ e. IsFaultCounted (D.read_faults disk) (D.read_faults e.0) e.1) }
     ensures quiet { IfOk result (λ l. D.read_faults l.disk ≡ D.read_faults disk) }
 
     ensures same { MatchResult result (λ l. OnlyRead D.PageDisk disk l.disk) (λ e. OnlyRead D.PageDisk disk e.0) }

@@ -5,7 +5,7 @@ ghost use Rattle.std.specs.FinMap as map;
 ghost use Rattle.bit_array.specs.Bits.{is_in};
 ghost use Rattle.md_chain.specs.Chain.{is_among};
 ghost use Rattle.store_model.specs.Places.{AreDistinct, UsedPages};
-ghost use Rattle.unclean_load.specs.Claiming.{AreAdded, AreApart, AreBelow, AreChains, AreNew, IsInTwo, IsPageFault};
+ghost use Rattle.unclean_load.specs.Claiming.{AreAdded, ChainsAreApart, AreBelow, AreChains, AreNew, IsInTwo, IsPageFault};
 
 use crate::fault::LoadFault;
 use bit_array::Bits;
@@ -44,7 +44,7 @@ fn mark_pages(bits: &mut Bits, head: u32, pages: &PlaceList) -> Result<(), LoadF
 pub fn used_pages(alloc: Global, chains: &Chains, md_len: u32) -> Result<Bits, LoadFault>
     requires { AreChains md_len (map.get chains.now) }
     ensures used { IfOk result (λ bits. UsedPages md_len bits (map.get chains.now) []) }
-    ensures apart { OnOk result (AreApart (map.get chains.now)) }
+    ensures apart { OnOk result (ChainsAreApart (map.get chains.now)) }
     ensures fault { IfErr result (λ e. IsPageFault (IsInTwo (map.get chains.now)) e) }
 {
     let mut bits = Bits::new(alloc, md_len)?;

@@ -3,7 +3,7 @@
 ghost use Rattle.std.specs.Prelude.{◌≡◌, ◌+◌, ◌^◌, ◌<◌, ◌≤◌, ◌∷◌, [], ℕ, Some, length, OnOk, IfOk, IfErr};
 ghost use Rattle.std.specs.FinMap as map;
 ghost use Rattle.store_model.specs.Places.{Unclaimed, UsedClusters};
-ghost use Rattle.store_model.specs.Standing.{AreRoots};
+ghost use Rattle.store_model.specs.RunInvariant.{AreRoots};
 ghost use Rattle.super_block.specs.Faults.{IsFaultless};
 ghost use Rattle.super_block.specs.Numbers.{clusters_of, fixed_clusters_of};
 ghost use Rattle.unclean_load.specs.Claiming.{IsClusterFault};

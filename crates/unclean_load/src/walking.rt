@@ -8,7 +8,7 @@ ghost use Rattle.md_chain.specs.Reading.{OnlyRead, region_look};
 ghost use Rattle.store_model.specs.Regions.{region_of};
 ghost use Rattle.super_block.specs.Faults.{IsFaultless};
 ghost use Rattle.unclean_load.specs.Heads.{has_mark as has_mark_said, AreWholeBelow, IsHeadsFault};
-ghost use Rattle.unclean_load.specs.Reading.{AreRead, HasNoneFrom, IsCounted, IsRefused};
+ghost use Rattle.unclean_load.specs.Reading.{AreRead, HasNoneFrom, IsFaultCounted, IsBlobRefused};
 
 use crate::fault::LoadFault;
 use crate::heads::{Blob, blob_at};
@@ -66,7 +66,7 @@ impl Blobs {
         ensures slots { OnOk result (self.new.slots ≡ self.old.slots + length blob.meta.map) }
         ensures few { OnOk result (self.new.slots ≤ 2 ^ 24) }
         ensures unmarked { OnOk result (has_mark_said blob.meta ≡ false) }
-        ensures fault { IfErr result (λ e. IsRefused self.old.slots head blob.meta e) }
+        ensures fault { IfErr result (λ e. IsBlobRefused self.old.slots head blob.meta e) }
     {
         let slots = self.slots + blob.meta.map.as_slice().len() as u64;
         if slots > MOST_SLOTS {
@@ -102,7 +102,7 @@ pub fn blobs_on<D: PageDisk>(alloc: Global, disk: &mut D, sup: &Super) -> Result
     ensures no_other { IfOk result (λ b. HasNoneFrom (map.get b.metas) sup.now.md_len) }
     ensures few { IfOk result (λ b. slots_together sup.now.md_len (map.get b.metas) ≤ 2 ^ 24) }
 
-    ensures counted { IfErr result (λ e. IsCounted (D.read_faults disk.old) (D.read_faults disk.new) e) }
+    ensures counted { IfErr result (λ e. IsFaultCounted (D.read_faults disk.old) (D.read_faults disk.new) e) }
     ensures quiet { OnOk result (D.read_faults disk.new ≡ D.read_faults disk.old) }
     ensures same { OnlyRead D.PageDisk disk.old disk.new }
 {

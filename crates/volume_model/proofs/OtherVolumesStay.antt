@@ -2,7 +2,7 @@
 use Rattle.std.proofs.Common.{◌≡◌, ◌≢◌, inl, inr, ℕ, Option, Some, None, Bool, true, false, if◌then◌else◌, ◌==◌, refl, sym, ap, ◌∙◌}
 use Rattle.std.proofs.lemmas.Bool.Decides.{eqb_tells}
 use Rattle.std.specs.Option.{option_map, option_and_then}
-use Rattle.volume_model.specs.Volumes.{Volume, Volumes, Fixed, head_of, is_head}
+use Rattle.volume_model.specs.Volumes.{Volume, Volumes, Fixed, head_of, is_given_head}
 use Rattle.volume_model.specs.Steps.{change, edited, edited_at, deleted_at, added, SpeaksOf}
 use Rattle.volume_model.specs.declared.command.Command.{Command}
 use Rattle.volume_model.specs.declared.command.Command.TheVariants as c
@@ -23,12 +23,12 @@ module _ (f : Fixed) (v : Volumes) where
       (differs k h (λ same. other (ap Some (sym same))))
 
   -- a parent that isn't h stays
-  not_head : (h : ℕ) (o : Option ℕ) → o ≢ Some h → is_head h o ≡ false
+  not_head : (h : ℕ) (o : Option ℕ) → o ≢ Some h → is_given_head h o ≡ false
   not_head h None other = refl
   not_head h (Some k) other = differs k h (λ same. other (ap Some same))
 
   kept : (h : ℕ) (parent : Option ℕ) (o : Option Volume) → option_and_then (λ x. x.parent) o ≢ Some h
-      → option_map (λ (x : Volume). record x { parent = if is_head h x.parent then parent else x.parent }) o ≡ o
+      → option_map (λ (x : Volume). record x { parent = if is_given_head h x.parent then parent else x.parent }) o ≡ o
   kept h parent None other = refl
   kept h parent (Some x) other = ap (λ (b : Bool). Some (record x { parent = if b then parent else x.parent }))
       (not_head h x.parent other)
@@ -40,7 +40,7 @@ module _ (f : Fixed) (v : Volumes) where
       let kept_is = kept h (option_and_then (λ y. y.parent) (v h)) (v k) (no_clone h refl) in
       ap (λ (b : Bool). if b then None else option_map
       (λ (x : Volume). record x {
-        parent = if is_head h x.parent then option_and_then (λ y. y.parent) (v h) else
+        parent = if is_given_head h x.parent then option_and_then (λ y. y.parent) (v h) else
             x.parent;
       }) (v k))
       (differs k h (λ same. other (ap Some (sym same)))) ∙ kept_is

@@ -80,7 +80,7 @@ module _ (a b d e : Page) where
   first = slice_get (super ∷ v ∷ s ∷ w ∷ [])
 
   -- The command may get the reply; the volume at h is then as given; one that the command doesn't speak of stays.
-  pub record Does (command : Command) (reply : Reply) (h : ℕ) (x : Option Volume) (other : ℕ) : Type 0 where
+  pub record ExampleDoes (command : Command) (reply : Reply) (h : ℕ) (x : Option Volume) (other : ℕ) : Type 0 where
     pub allowed : Allowed small first command reply
     pub here : change small first command reply h ≡ x
     pub there : change small first command reply other ≡ first other
@@ -100,50 +100,50 @@ module _ (a b d e : Page) where
 
   -- one row for each verb that is done
   pub record Verbs : Type 0 where
-    pub create_thin : Does (c.Create (codes "n") 1 false None) (r.Made 4) 4
+    pub create_thin : ExampleDoes (c.Create (codes "n") 1 false None) (r.Made 4) 4
         (fresh (codes "n") None (zero_page ∷ zero_page ∷ []) true false None) 1
-    pub create_thick : (uuid : List ℕ) → Does (c.Create (codes "n") 0 true (Some uuid)) (r.Made 7) 7
+    pub create_thick : (uuid : List ℕ) → ExampleDoes (c.Create (codes "n") 0 true (Some uuid)) (r.Made 7) 7
         (fresh (codes "n") (Some uuid) [] false false None) 1
-    pub write_fill : Does (c.Write (Named (codes "v")) 1 (Fill 7)) r.Ok 1
+    pub write_fill : ExampleDoes (c.Write (Named (codes "v")) 1 (Fill 7)) r.Ok 1
         (Some (record v { pages = d ∷ fill_page 7 ∷ [] })) 2
-    pub write_full : (page : Box Page) → Does (c.Write (Head 1) 0 (Full page)) r.Ok 1
+    pub write_full : (page : Box Page) → ExampleDoes (c.Write (Head 1) 0 (Full page)) r.Ok 1
         (Some (record v { pages = page.value ∷ e ∷ [] })) 2
-    pub read : (page : Box Page) → page.value ≡ e → Does (c.Read (Named (codes "v")) 1) (r.Content page) 1 (Some v) 2
-    pub flush : Does c.Flush r.Ok 1 (Some v) 2
-    pub setx : Does (c.SetX (Named (codes "v")) (codes "k") (codes "3")) r.Ok 1
+    pub read : (page : Box Page) → page.value ≡ e → ExampleDoes (c.Read (Named (codes "v")) 1) (r.Content page) 1 (Some v) 2
+    pub flush : ExampleDoes c.Flush r.Ok 1 (Some v) 2
+    pub setx : ExampleDoes (c.SetX (Named (codes "v")) (codes "k") (codes "3")) r.Ok 1
         (Some (record v { live = named (codes "v") (codes "3") })) 2
-    pub delx : Does (c.DelX (Named (codes "v")) (codes "k")) r.Ok 1
+    pub delx : ExampleDoes (c.DelX (Named (codes "v")) (codes "k")) r.Ok 1
         (Some (record v { live = attribute name_key (with_nul (codes "v")) ∷ [] })) 2
-    pub getx : Does (c.GetX (Named (codes "v")) (codes "k")) (r.Value (codes "2")) 1 (Some v) 2
-    pub put_again : Does (c.Put (Named (codes "v")) (codes "k") (codes "3")) r.Ok 1
+    pub getx : ExampleDoes (c.GetX (Named (codes "v")) (codes "k")) (r.Value (codes "2")) 1 (Some v) 2
+    pub put_again : ExampleDoes (c.Put (Named (codes "v")) (codes "k") (codes "3")) r.Ok 1
         (Some (record v { live = named (codes "v") (codes "3"); synced = named (codes "v") (codes "3") })) 2
     pub put_new :
         let xattrs : Xattrs = attribute name_key (with_nul (codes "v")) ∷ attribute (codes "k") (codes "2")
         ∷ attribute (codes "j") (codes "5") ∷ [] in
-        Does (c.Put (Named (codes "v")) (codes "j") (codes "5")) r.Ok 1
+        ExampleDoes (c.Put (Named (codes "v")) (codes "j") (codes "5")) r.Ok 1
         (Some (record v { live = xattrs; synced = xattrs })) 2
-    pub sync : Does (c.Sync (Named (codes "v"))) r.Ok 1 (Some (record v { synced = named (codes "v") (codes "2") })) 2
-    pub grow : Does (c.Resize (Named (codes "v")) 2) r.Ok 1
+    pub sync : ExampleDoes (c.Sync (Named (codes "v"))) r.Ok 1 (Some (record v { synced = named (codes "v") (codes "2") })) 2
+    pub grow : ExampleDoes (c.Resize (Named (codes "v")) 2) r.Ok 1
         (Some (record v { pages = d ∷ e ∷ zero_page ∷ zero_page ∷ [] })) 2
-    pub cut : Does (c.Resize (Named (codes "v")) 0) r.Ok 1 (Some (record v { pages = [] })) 2
-    pub snapshot : Does (c.Snapshot (Named (codes "v")) (codes "n")) (r.Made 4) 4
+    pub cut : ExampleDoes (c.Resize (Named (codes "v")) 0) r.Ok 1 (Some (record v { pages = [] })) 2
+    pub snapshot : ExampleDoes (c.Snapshot (Named (codes "v")) (codes "n")) (r.Made 4) 4
         (fresh (codes "n") None (d ∷ e ∷ []) true true (Some 2)) 2
-    pub snapshot_of : Does (c.Snapshot (Named (codes "v")) (codes "n")) (r.Made 4) 1
+    pub snapshot_of : ExampleDoes (c.Snapshot (Named (codes "v")) (codes "n")) (r.Made 4) 1
         (Some (record v { parent = Some 4 })) 2
-    pub snapshot_of_thick : Does (c.Snapshot (Named (codes "w")) (codes "n")) (r.Made 4) 3
+    pub snapshot_of_thick : ExampleDoes (c.Snapshot (Named (codes "w")) (codes "n")) (r.Made 4) 3
         (Some (record w { thin = true; parent = Some 4 })) 1
-    pub clone : Does (c.Clone (Named (codes "s")) (codes "n")) (r.Made 4) 4
+    pub clone : ExampleDoes (c.Clone (Named (codes "s")) (codes "n")) (r.Made 4) 4
         (fresh (codes "n") None (a ∷ b ∷ []) true false (Some 2)) 2
-    pub inflate : Does (c.Inflate (Named (codes "v"))) r.Ok 1 (Some (record v { thin = false; parent = None })) 2
-    pub decouple : Does (c.Decouple (Named (codes "v"))) r.Ok 1 (Some (record v { parent = None })) 2
-    pub delete : Does (c.Delete (Named (codes "s"))) r.Ok 2 None 3
-    pub delete_for_clone : Does (c.Delete (Named (codes "s"))) r.Ok 1 (Some (record v { parent = None })) 3
-    pub rename : Does (c.Rename (Named (codes "v")) (codes "n")) r.Ok 1
+    pub inflate : ExampleDoes (c.Inflate (Named (codes "v"))) r.Ok 1 (Some (record v { thin = false; parent = None })) 2
+    pub decouple : ExampleDoes (c.Decouple (Named (codes "v"))) r.Ok 1 (Some (record v { parent = None })) 2
+    pub delete : ExampleDoes (c.Delete (Named (codes "s"))) r.Ok 2 None 3
+    pub delete_for_clone : ExampleDoes (c.Delete (Named (codes "s"))) r.Ok 1 (Some (record v { parent = None })) 3
+    pub rename : ExampleDoes (c.Rename (Named (codes "v")) (codes "n")) r.Ok 1
         (Some (record v { live = named (codes "n") (codes "2"); synced = named (codes "n") (codes "1") })) 2
-    pub readonly : Does (c.ReadOnly (Named (codes "v"))) r.Ok 1
+    pub readonly : ExampleDoes (c.ReadOnly (Named (codes "v"))) r.Ok 1
         (Some (record v { synced = named (codes "v") (codes "2"); read_only = true })) 2
     pub info :
-        Does (c.Info (Head 1)) (r.Info (record {
+        ExampleDoes (c.Info (Head 1)) (r.Info (record {
           head = 1;
           name = codes "v";
           uuid = [];
@@ -153,7 +153,7 @@ module _ (a b d e : Page) where
           read_only = false;
           xattrs = 2;
         })) 1 (Some v) 2
-    pub list : Does c.List (r.List (
+    pub list : ExampleDoes c.List (r.List (
         record {
           head = 1;
           name = codes "v";
@@ -185,4 +185,4 @@ module _ (a b d e : Page) where
           xattrs = 2;
         }
         ∷ [])) 1 (Some v) 2
-    pub df : (any : Df) → Does c.Df (r.Df any) 1 (Some v) 2
+    pub df : (any : Df) → ExampleDoes c.Df (r.Df any) 1 (Some v) 2

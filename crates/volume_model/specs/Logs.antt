@@ -2,7 +2,7 @@
 use Rattle.std.specs.Prelude.{◌≡◌, ℕ, ◌+◌, ◌==◌, if◌then◌else◌, Bool, true, false, ◌&&◌, ◌||◌, List, [], ◌∷◌, ◌++◌, slice_index_or}
 use Rattle.std.specs.List.{filter}
 use Rattle.std.specs.Option.{option_map}
-use Rattle.volume_model.specs.Volumes.{Volume, Volumes, Fixed, head_of, is_head}
+use Rattle.volume_model.specs.Volumes.{Volume, Volumes, Fixed, head_of, is_given_head}
 use Rattle.volume_model.specs.Steps.{change, Allowed}
 use Rattle.volume_model.specs.declared.command.Command.{Command}
 use Rattle.volume_model.specs.declared.command.Command.TheVariants as c
@@ -50,16 +50,16 @@ is_write_done _ = false
 
 module _ (f : Fixed) where
   -- the entry may have written this page of the volume at h
-  abbrev pub writes : Volumes → Command → Reply → ℕ → ℕ → Bool
-  writes v (c.Write volume page word) reply h p = is_write_done reply && is_head h (head_of f v volume) && (page == p)
-  writes v _ reply h p = false
+  abbrev pub may_write : Volumes → Command → Reply → ℕ → ℕ → Bool
+  may_write v (c.Write volume page word) reply h p = is_write_done reply && is_given_head h (head_of f v volume) && (page == p)
+  may_write v _ reply h p = false
 
   -- pages that were unsettled before the log, or become so by it
   abbrev pub unsettled_from : (ℕ → ℕ → Bool) → Volumes → List Entry → ℕ → ℕ → Bool
   unsettled_from before v [] = before
   unsettled_from before v (e ∷ es) =
       unsettled_from (λ h p. if is_flushing e.command e.reply then false else
-      (before h p || writes v e.command e.reply h p)) (change f v e.command e.reply) es
+      (before h p || may_write v e.command e.reply h p)) (change f v e.command e.reply) es
 
   -- written after the last flushing entry; every other page is settled
   abbrev pub is_unsettled : Volumes → List Entry → ℕ → ℕ → Bool

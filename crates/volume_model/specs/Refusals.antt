@@ -42,8 +42,8 @@ module _ (f : Fixed) (v : Volumes) where
   only_clone test _ = false
 
   -- the causes of a command on a volume: first that it isn't there
-  abbrev pub on_volume : VolumeRef → (ℕ → Volume → Causes) → Causes
-  on_volume volume causes_at = at (head_of f v volume)
+  abbrev pub causes_on_volume : VolumeRef → (ℕ → Volume → Causes) → Causes
+  causes_on_volume volume causes_at = at (head_of f v volume)
     where
       at : Option ℕ → Causes
       at None = (true, r.NoVolume) ∷ []
@@ -57,50 +57,50 @@ module _ (f : Fixed) (v : Volumes) where
   abbrev pub causes : Command → Causes
   causes (c.Create name slots thick uuid) =
       (is_taken name, r.NameTaken) ∷ (is_too_large slots (all_slots f v), r.TooLarge) ∷ []
-  causes (c.Write volume page word) = on_volume volume (λ h x.
+  causes (c.Write volume page word) = causes_on_volume volume (λ h x.
       (is_super f h, r.Reserved) ∷ (nat_le (length x.pages) page, r.OutOfRange) ∷ (x.read_only, r.ReadOnly) ∷ [])
-  causes (c.Read volume page) = on_volume volume (λ h x.
+  causes (c.Read volume page) = causes_on_volume volume (λ h x.
       (nat_le (length x.pages) page, r.OutOfRange) ∷ [])
   causes c.Flush = []
-  causes (c.SetX volume key value) = on_volume volume (λ h x.
+  causes (c.SetX volume key value) = causes_on_volume volume (λ h x.
       (is_super f h || is_reserved key, r.Reserved) ∷ (x.read_only, r.ReadOnly)
       ∷ (nat_lt 4063 (length key + length value), r.TooLong) ∷ [])
-  causes (c.DelX volume key) = on_volume volume (λ h x.
+  causes (c.DelX volume key) = causes_on_volume volume (λ h x.
       (is_super f h || is_reserved key, r.Reserved) ∷ (x.read_only, r.ReadOnly)
       ∷ (is_none (value_of x.live key), r.NoValue) ∷ [])
-  causes (c.GetX volume key) = on_volume volume (λ h x.
+  causes (c.GetX volume key) = causes_on_volume volume (λ h x.
       (is_none (value_of x.live key), r.NoValue) ∷ [])
-  causes (c.Put volume key value) = on_volume volume (λ h x.
+  causes (c.Put volume key value) = causes_on_volume volume (λ h x.
       (is_super f h || is_reserved key, r.Reserved) ∷ (x.read_only, r.ReadOnly)
       ∷ (nat_lt 4063 (length key + length value), r.TooLong) ∷ [])
-  causes (c.Sync volume) = on_volume volume (λ h x.
+  causes (c.Sync volume) = causes_on_volume volume (λ h x.
       (is_super f h, r.Reserved) ∷ (x.read_only, r.ReadOnly) ∷ [])
   -- growth under a parent that is longer than the volume is short
-  causes (c.Resize volume slots) = on_volume volume (λ h x.
+  causes (c.Resize volume slots) = causes_on_volume volume (λ h x.
       (is_super f h, r.Reserved) ∷ (x.read_only, r.ReadOnly)
       ∷ (nat_lt (slots_of f x) slots && has_longer_parent x (slots_of f x), r.Short)
       ∷ (is_too_large slots (all_slots f v - slots_of f x), r.TooLarge) ∷ [])
-  causes (c.Snapshot volume name) = on_volume volume (λ h x.
+  causes (c.Snapshot volume name) = causes_on_volume volume (λ h x.
       (is_super f h, r.Reserved) ∷ (x.read_only, r.ReadOnly) ∷ (is_taken name, r.NameTaken)
       ∷ (is_too_large (slots_of f x) (all_slots f v), r.TooLarge) ∷ [])
-  causes (c.Clone volume name) = on_volume volume (λ h x.
+  causes (c.Clone volume name) = causes_on_volume volume (λ h x.
       (not x.read_only, r.NotReadOnly) ∷ (is_taken name, r.NameTaken)
       ∷ (is_too_large (slots_of f x) (all_slots f v), r.TooLarge) ∷ [])
-  causes (c.Inflate volume) = on_volume volume (λ h x.
+  causes (c.Inflate volume) = causes_on_volume volume (λ h x.
       (is_super f h, r.Reserved) ∷ (x.read_only, r.ReadOnly) ∷ [])
-  causes (c.Decouple volume) = on_volume volume (λ h x.
+  causes (c.Decouple volume) = causes_on_volume volume (λ h x.
       (is_super f h, r.Reserved) ∷ (x.read_only, r.ReadOnly) ∷ (is_none x.parent, r.NoParent)
       ∷ (option_map_or (λ p. option_map_or (λ s. is_short_between s x) (v p) false) x.parent false, r.Short) ∷ [])
   -- read only: locked, or its one clone locked; a volume that is only read-only can be deleted
-  causes (c.Delete volume) = on_volume volume (λ h x.
+  causes (c.Delete volume) = causes_on_volume volume (λ h x.
       (is_super f h, r.Reserved) ∷ (x.locked || only_clone (λ y. y.locked) (clones f v h), r.ReadOnly)
       ∷ (nat_le 2 (length (clones f v h)), r.Busy (length (clones f v h)))
       ∷ (only_clone (is_short_between x) (clones f v h), r.Short) ∷ [])
-  causes (c.Rename volume name) = on_volume volume (λ h x.
+  causes (c.Rename volume name) = causes_on_volume volume (λ h x.
       (is_super f h, r.Reserved) ∷ (x.read_only, r.ReadOnly) ∷ (is_taken name, r.NameTaken) ∷ [])
-  causes (c.ReadOnly volume) = on_volume volume (λ h x.
+  causes (c.ReadOnly volume) = causes_on_volume volume (λ h x.
       (is_super f h, r.Reserved) ∷ (x.read_only, r.ReadOnly) ∷ [])
-  causes (c.Info volume) = on_volume volume (λ h x. [])
+  causes (c.Info volume) = causes_on_volume volume (λ h x. [])
   causes c.List = []
   causes c.Df = []
 

@@ -3,7 +3,7 @@ use Rattle.std.specs.Prelude.{◌⊎◌, ◌≡◌, ℕ, ◌<◌, ◌==◌, if�
 use Rattle.std.specs.List.{filter_map}
 use Rattle.std.specs.Option.{option_map, option_and_then}
 use Rattle.volume_model.specs.Xattrs.{Text, value_of, with_value, without, told, with_nul, name_key, uuid_key}
-use Rattle.volume_model.specs.Volumes.{Page, Volume, Volumes, Fixed, page_of, zero_slots, resized, heads, is_head, is_super, slots_of, head_of, two_xattrs}
+use Rattle.volume_model.specs.Volumes.{Page, Volume, Volumes, Fixed, page_of, zero_slots, resized, heads, is_given_head, is_super, slots_of, head_of, two_xattrs}
 use Rattle.volume_model.specs.Refusals.{refusal}
 use Rattle.volume_model.specs.declared.command.VolumeRef.{VolumeRef}
 use Rattle.volume_model.specs.declared.command.Command.{Command}
@@ -106,7 +106,7 @@ module _ (f : Fixed) (v : Volumes) where
   deleted_at None = v
   deleted_at (Some h) = λ k.
       if k == h then None else option_map (λ (x : Volume). record x {
-        parent = if is_head h x.parent then option_and_then (λ y. y.parent) (v h) else x.parent;
+        parent = if is_given_head h x.parent then option_and_then (λ y. y.parent) (v h) else x.parent;
       }) (v k)
 
   -- the volumes after a reply: those of a verb that is done, else as they were

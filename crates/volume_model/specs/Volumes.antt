@@ -68,12 +68,12 @@ abbrev pub heads : Fixed → List ℕ
 heads f = range_with_len 0 f.md_len
 
 -- the head is the one that is given, if one is
-abbrev pub is_head : ℕ → Option ℕ → Bool
-is_head h o = option_map_or (λ k. k == h) o false
+abbrev pub is_given_head : ℕ → Option ℕ → Bool
+is_given_head h o = option_map_or (λ k. k == h) o false
 
 -- the head is the super blob's
 abbrev pub is_super : Fixed → ℕ → Bool
-is_super f h = is_head h f.super_blob
+is_super f h = is_given_head h f.super_blob
 
 -- a volume's slots: its pages by those of a slot
 abbrev pub slots_of : Fixed → Volume → ℕ
@@ -103,7 +103,7 @@ module _ (f : Fixed) (v : Volumes) where
 
   -- the heads of the volumes whose parent this is
   abbrev pub clones : ℕ → List ℕ
-  clones h = filter (λ c. option_map_or (λ x. is_head h x.parent) (v c) false) (heads f)
+  clones h = filter (λ c. option_map_or (λ x. is_given_head h x.parent) (v c) false) (heads f)
 
   -- the super blob's uuid; the nil uuid where there is no super blob or it has no uuid
   abbrev pub store_uuid : List ℕ

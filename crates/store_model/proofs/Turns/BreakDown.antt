@@ -2,32 +2,32 @@
 use Rattle.std.proofs.Common.{◌≡◌, ◌∷◌, ◌<◌, ◌+◌, [], ℕ, length, length-append, None, Some, ap, arith, inl, inr, refl, subst, sym, ◌∙◌}
 use Rattle.volume_model.specs.declared.reply.Reply.TheVariants as r
 use Rattle.store_model.specs.Rows.{Answered, Decided, entry_of, InJob, Row}
-use Rattle.store_model.specs.Plants.{Erasing, Job, logged, pages_in, pages_left, Plant, Writing}
+use Rattle.store_model.specs.StoreState.{Erasing, JobState, logged, pages_left_in, pages_left, StoreState, Writing}
 use Rattle.store_model.specs.Cases.BreakDown as case
 use Rattle.store_model.specs.Cases.BreakDown.{BreaksDown, IsUnlogged, WasLogged}
-use Rattle.store_model.specs.Standing.{Facts}
+use Rattle.store_model.specs.RunInvariant.{RunInvariant}
 use Rattle.store_model.proofs.Known.{Known}
 use Rattle.store_model.proofs.Over.{Effect, halt, nothing, stays, TurnLaw}
 use Rattle.store_model.proofs.Progress.{clears, JobLaw, logs, no_job}
 use Rattle.store_model.proofs.Shapes.{Idles, untouched_images}
 use Rattle.store_model.proofs.Shaped.{decided_may, shaped_same, shaped_with}
 use Rattle.store_model.proofs.JobKept.{no_other, none_here}
-use Rattle.store_model.proofs.PlantKept.{log_kept, LogKept, runs_here}
+use Rattle.store_model.proofs.StateKept.{log_kept, LogKept, runs_here}
 use Rattle.store_model.proofs.RowsKept.{way_kept}
 
 -- ---- it keeps what every state has
 
-module _ (known : Known) (j : Job) (is : known.p.job ≡ Some j) (at : ℕ) (stands : known.p.stopped ≡ Some at) where
+module _ (known : Known) (j : JobState) (is : known.p.job ≡ Some j) (at : ℕ) (stands : known.p.stopped ≡ Some at) where
   open known use {s, placed, first, script, p, facts}
 
-  keeps_unlogged : (q : Plant) → IsUnlogged p j at q → Facts s first script q
+  keeps_unlogged : (q : StoreState) → IsUnlogged p j at q → RunInvariant s first script q
   keeps_unlogged q t =
-      let base : Plant = record p { job = None } in
-      let now : Plant = logged base j.channel t.command t.rest (r.Stopped at) p.device in
+      let base : StoreState = record p { job = None } in
+      let now : StoreState = logged base j.channel t.command t.rest (r.Stopped at) p.device in
       let kept : LogKept known now =
       log_kept known (Decided Answered) base j.channel t.command t.rest (r.Stopped at) p.device refl refl refl (ap (λ (row : Row). row.left) t.row) (omega arith) tt in
       let low = facts.halted at stands in
-      let done : Facts s first script now =
+      let done : RunInvariant s first script now =
       record {
         super = facts.super;
         roots = facts.roots;
@@ -43,12 +43,12 @@ module _ (known : Known) (j : Job) (is : known.p.job ≡ Some j) (at : ℕ) (sta
             omega (arith, below, length-append p.log (entry_of p.log j.channel t.command (r.Stopped at) ∷ []));
         unfinished = λ job bad. absurd (cc bad);
       } in
-      subst (Facts s first script) (sym t.next) done
+      subst (RunInvariant s first script) (sym t.next) done
 
-  keeps_logged : (q : Plant) → WasLogged p j q → Facts s first script q
+  keeps_logged : (q : StoreState) → WasLogged p j q → RunInvariant s first script q
   keeps_logged q t =
-      let now : Plant = record p { job = None } in
-      let done : Facts s first script now =
+      let now : StoreState = record p { job = None } in
+      let done : RunInvariant s first script now =
       record {
         super = facts.super;
         roots = facts.roots;
@@ -62,41 +62,41 @@ module _ (known : Known) (j : Job) (is : known.p.job ≡ Some j) (at : ℕ) (sta
         halted = facts.halted;
         unfinished = λ job bad. absurd (cc bad);
       } in
-      subst (Facts s first script) (sym t.next) done
+      subst (RunInvariant s first script) (sym t.next) done
 
 -- ---- the job is done
 
-module _ (known : Known) (q : Plant) (t : BreaksDown known.p q) where
+module _ (known : Known) (q : StoreState) (t : BreaksDown known.p q) where
   less : q.job ≡ None → pages_left q.job < pages_left known.p.job
   less none =
-      let some : 0 < pages_in t.job t.job.phase = known.facts.unfinished t.job t.is in
-      let before : pages_left known.p.job ≡ pages_in t.job t.job.phase = ap pages_left t.is in
+      let some : 0 < pages_left_in t.job t.job.phase = known.facts.unfinished t.job t.is in
+      let before : pages_left known.p.job ≡ pages_left_in t.job t.job.phase = ap pages_left t.is in
       let then : pages_left q.job ≡ 0 = ap pages_left none in
       omega (arith, some, before, then)
 
   job_law : JobLaw known.p q
   job_law = elim t.ends [
     | inl x ↦
-        let none : q.job ≡ None = ap (λ (v : Plant). v.job) x.next in
+        let none : q.job ≡ None = ap (λ (v : StoreState). v.job) x.next in
         record {
-          progress = logs x.written (record { job = t.job; is = t.is; in_phase = x.in_phase }) x.command x.rest x.row (ap (λ (v : Plant). v.rows) x.next) (no_job q.job none);
+          progress = logs x.written (record { job = t.job; is = t.is; in_phase = x.in_phase }) x.command x.rest x.row (ap (λ (v : StoreState). v.rows) x.next) (no_job q.job none);
           less = less none;
         }
     | inr x ↦
-        let none : q.job ≡ None = ap (λ (v : Plant). v.job) x.next in
+        let none : q.job ≡ None = ap (λ (v : StoreState). v.job) x.next in
         record {
-          progress = clears x.erased (record { job = t.job; is = t.is; in_phase = x.in_phase }) (ap (λ (v : Plant). v.rows) x.next) (no_job q.job none);
+          progress = clears x.erased (record { job = t.job; is = t.is; in_phase = x.in_phase }) (ap (λ (v : StoreState). v.rows) x.next) (no_job q.job none);
           less = less none;
         }
   ]
 
-effect_of : (p q : Plant) → BreaksDown p q → Effect p q
+effect_of : (p q : StoreState) → BreaksDown p q → Effect p q
 effect_of p q t = elim t.ends [
   | inl x ↦ subst (Effect p) (sym x.next) (record { goes = stays refl refl; logs = halt (entry_of p.log t.job.channel x.command (r.Stopped t.at)) t.at refl refl refl t.stands })
   | inr x ↦ subst (Effect p) (sym x.next) (record { goes = stays refl refl; logs = nothing refl refl })
 ]
 
-idles_of : (p q : Plant) → BreaksDown p q → Idles p q
+idles_of : (p q : StoreState) → BreaksDown p q → Idles p q
 idles_of p q t = elim t.ends [
   | inl x ↦ subst (Idles p) (sym x.next) (record {
     base = refl;

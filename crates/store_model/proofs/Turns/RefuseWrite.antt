@@ -2,22 +2,22 @@
 use Rattle.std.proofs.Common.{ap, refl, subst, sym}
 use Rattle.volume_model.specs.declared.command.Command.{Command}
 use Rattle.volume_model.specs.declared.command.Command.TheVariants as c
-use Rattle.volume_model.proofs.Idle.{not_flushing}
+use Rattle.volume_model.proofs.RefusalsSettleNothing.{not_flushing}
 use Rattle.store_model.specs.Rows.{entry_of, Idle, Row}
-use Rattle.store_model.specs.Plants.{Plant}
+use Rattle.store_model.specs.StoreState.{StoreState}
 use Rattle.store_model.specs.Turning.{IsRefusedAtBegin}
 use Rattle.store_model.specs.Cases.RefuseWrite as case
 use Rattle.store_model.specs.Cases.RefuseWrite.{RefusesWrite}
-use Rattle.store_model.specs.Standing.{Facts}
+use Rattle.store_model.specs.RunInvariant.{RunInvariant}
 use Rattle.store_model.proofs.Known.{Known}
 use Rattle.store_model.proofs.Refusals.{RefusalsChangeNothing}
 use Rattle.store_model.proofs.Over.{answer, Effect, stays, TurnLaw}
 use Rattle.store_model.proofs.Shapes.{idles, Idles, notes, untouched_images}
 use Rattle.store_model.proofs.Shaped.{idle_may}
-use Rattle.store_model.proofs.PlantKept.{allowed_here, caused_so, is_allowed, is_refusal, logged_facts, not_in_job, refused_same}
+use Rattle.store_model.proofs.StateKept.{allowed_here, caused_so, is_allowed, is_refusal, logged_facts, not_in_job, refused_same}
 use Rattle.store_model.proofs.Turns.Refuse.{refused_quiet}
 
-module _ (p q : Plant) (t : RefusesWrite p q) where
+module _ (p q : StoreState) (t : RefusesWrite p q) where
   abbrev command : Command
   command = c.Write t.volume t.page t.word
 
@@ -29,11 +29,11 @@ module _ (p q : Plant) (t : RefusesWrite p q) where
 module _ (quiet : RefusalsChangeNothing) (known : Known) where
   open known use {s, placed, first, script, p, facts}
 
-  keeps : (q : Plant) → RefusesWrite p q → Facts s first script q
+  keeps : (q : StoreState) → RefusesWrite p q → RunInvariant s first script q
   keeps q t =
       let is = is_refusal p (command p q t) t.reply (why p q t) in
       let allowed = is_allowed p (command p q t) t.reply (why p q t) in
-      subst (Facts s first script) (sym t.next)
+      subst (RunInvariant s first script) (sym t.next)
       (logged_facts known Idle idle_may t.channel (command p q t) t.rest t.reply (not_in_job known _ _ t.row (λ bad. cc bad)) (λ runs. ap (λ (r : Row). r.claim) t.row) (ap (λ (r : Row). r.left) t.row)
       (allowed_here known (command p q t) t.reply t.runs allowed) (λ runs. refused_same known quiet (command p q t) t.reply is allowed))
 

@@ -3,11 +3,11 @@ use Rattle.std.specs.Prelude.{◌≡◌, ◌⊎◌, ℕ, List, ◌∷◌, None, 
 use Rattle.volume_model.specs.declared.command.Command.{Command}
 use Rattle.volume_model.specs.declared.reply.Reply.TheVariants as r
 use Rattle.store_model.specs.Rows.{InJob}
-use Rattle.store_model.specs.Plants.{Erasing, Job, logged, Plant, Writing}
+use Rattle.store_model.specs.StoreState.{Erasing, JobState, logged, StoreState, Writing}
 use Rattle.store_model.specs.Touches.{TurnKind, untouched}
 
 -- The command that the job serves has no entry yet, and is logged as stopped.
-pub record IsUnlogged (p : Plant) (j : Job) (at : ℕ) (q : Plant) : Type 0 where
+pub record IsUnlogged (p : StoreState) (j : JobState) (at : ℕ) (q : StoreState) : Type 0 where
   pub written : ℕ
   pub in_phase : j.phase ≡ Writing written
   pub command : Command
@@ -16,14 +16,14 @@ pub record IsUnlogged (p : Plant) (j : Job) (at : ℕ) (q : Plant) : Type 0 wher
   pub next : q ≡ logged (record p { job = None }) j.channel command rest (r.Stopped at) p.device
 
 -- It was logged at the job's commit.
-pub record WasLogged (p : Plant) (j : Job) (q : Plant) : Type 0 where
+pub record WasLogged (p : StoreState) (j : JobState) (q : StoreState) : Type 0 where
   pub erased : ℕ
   pub in_phase : j.phase ≡ Erasing erased
   pub next : q ≡ record p { job = None }
 
 -- A turn of the job on a stopped store: no device call, and no job runs any more.
-pub record BreaksDown (p q : Plant) : Type 0 where
-  pub job : Job
+pub record BreaksDown (p q : StoreState) : Type 0 where
+  pub job : JobState
   pub is : p.job ≡ Some job
   pub at : ℕ
   pub stands : p.stopped ≡ Some at

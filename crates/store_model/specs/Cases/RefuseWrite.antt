@@ -8,12 +8,12 @@ use Rattle.volume_model.specs.declared.command.PageWord.{PageWord}
 use Rattle.volume_model.specs.declared.reply.Reply.{Reply}
 use Rattle.store_model.specs.Rows.{Idle}
 use Rattle.store_model.specs.Shown.{fixed_of}
-use Rattle.store_model.specs.Plants.{logged_here, Plant, shown}
-use Rattle.store_model.specs.Turning.{IsCaused}
+use Rattle.store_model.specs.StoreState.{logged_here, StoreState, shown}
+use Rattle.store_model.specs.Turning.{IsCauseReply}
 use Rattle.store_model.specs.Touches.{TurnKind, untouched}
 
 -- A channel's write of a page is refused, by the first cause that holds. No device call; a job may run.
-pub record RefusesWrite (p q : Plant) : Type 0 where
+pub record RefusesWrite (p q : StoreState) : Type 0 where
   pub channel : ℕ
   pub volume : VolumeRef
   pub page : ℕ
@@ -22,7 +22,7 @@ pub record RefusesWrite (p q : Plant) : Type 0 where
   pub row : p.rows channel ≡ record { left = c.Write volume page word ∷ rest; stage = Idle; claim = None }
   pub runs : p.stopped ≡ None
   pub reply : Reply
-  pub caused : IsCaused reply
+  pub caused : IsCauseReply reply
   pub cause : refusal (fixed_of p.super) (shown p) (c.Write volume page word) ≡ Some reply
   pub next : q ≡ logged_here p channel (c.Write volume page word) rest reply p.device
 

@@ -111,7 +111,7 @@ impl Volumes {
     }
 
     fn is_clone_of(&self, clone: u32, head: u32) -> bool
-        ensures { result ≡ option_map_or (λ x. v.is_head head x.parent) (volumes_in self.now clone) false }
+        ensures { result ≡ option_map_or (λ x. v.is_given_head head x.parent) (volumes_in self.now clone) false }
     {
         match self.get(clone) {
             Some(volume) => volume.parent == Some(head),

@@ -1,7 +1,7 @@
 use Rattle.std.proofs.Common.{◌≡◌, ℕ, sym, ap, subst, ◌∙◌}
 use Rattle.volume_model.specs.declared.reply.Msg.{Msg}
 use Rattle.store_model.specs.Rows.{Row}
-use Rattle.store_core.specs.Seen.{rows_of}
+use Rattle.store_core.specs.StoreView.{rows_of}
 use Rattle.store_core.specs.Steps.{decided, OnlyRow}
 use Rattle.blob_tool.proofs.Driven.{next_of, serves_on, settled}
 use Rattle.blob_tool.proofs.driver.run_channel.Goals as goal

@@ -3,7 +3,7 @@ use Rattle.std.proofs.lemmas.List.{length-take-le, length-drop}
 use Rattle.descriptors.specs.declared.item.Item.{Item}
 use Rattle.descriptors.specs.declared.rows.RowFault.{RowFault}
 use Rattle.descriptors.specs.declared.rows.RowFault.TheVariants.{Bad}
-use Rattle.descriptors.specs.UnlessMemory.{Fails}
+use Rattle.descriptors.specs.UnlessMemory.{FailsToGive}
 use Rattle.descriptors.specs.Numbers.{number_from}
 use Rattle.descriptors.specs.Grammar.{Descriptor}
 use Rattle.descriptors.proofs.ReadingSteps.{reads_head, ItemsComplete, at_end, at_terminator, over_item, over_padding, spoilt_over_item, spoilt_over_padding, spoilt_by_row, spoilt_by_size}
@@ -35,8 +35,8 @@ length-piece : (b : List ℕ) (at size : ℕ) → at + 5 + size ≤ length b →
 length-piece b at size fits = length-take-le (at + 5 + size - (at + 5)) (drop (at + 5) b)
     (omega (arith, length-drop (at + 5) b)) ∙ omega arith
 
-bad_row : (e : RowFault) (read : Option Item) → e ≡ Bad → Fails e read → read ≡ None
-bad_row e read is h = let P : RowFault → Type 0 = λ f. Fails f read in subst P is h
+bad_row : (e : RowFault) (read : Option Item) → e ≡ Bad → FailsToGive e read → read ≡ None
+bad_row e read is h = let P : RowFault → Type 0 = λ f. FailsToGive f read in subst P is h
 
 pub returns-in-Err-Bad-clause-fault : goal.returns-in-Err-Bad-clause-fault
 returns-in-Err-Bad-clause-fault c =

@@ -1,5 +1,5 @@
-use Rattle.md_chain.proofs.Walking.{unseen}
-use Rattle.md_chain.proofs.Walks.{Walking}
+use Rattle.md_chain.proofs.PageWalk.{unseen}
+use Rattle.md_chain.proofs.DeviceWalk.{Walking}
 use Rattle.md_chain.proofs.reading.read_chain.Given as goal
 
 abbrev pub invariant-chain : goal.invariant-chain

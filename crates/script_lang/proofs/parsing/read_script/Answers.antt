@@ -2,7 +2,7 @@ use Rattle.std.proofs.Common.{◌≡◌, ◌+◌, ◌<◌, ◌∙◌, sym, ap, r
 use Rattle.std.specs.List.{All}
 use Rattle.blob_meta.specs.Asked.{IsOnHead}
 use Rattle.script_lang.specs.declared.grammar.Grammar.TheVariants.{Served}
-use Rattle.script_lang.specs.declared.line.Request.{Request}
+use Rattle.script_lang.specs.declared.line.LineRequest.{LineRequest}
 use Rattle.script_lang.specs.Commands.{pages_of}
 use Rattle.script_lang.specs.Lines.{says}
 use Rattle.script_lang.proofs.ByLines.{begun, one_more, all_read, bad_line, too_many_pages, too_many_lines, pushed_room, served_heads, served_few, same_pages}
@@ -74,7 +74,7 @@ loop-line-preserved c =
     (says_sized c.args.grammar c.in-Some.line.now) in
     let on : c.args.grammar ≡ Served
     → All IsOnHead c.in-Ok.request.commands = λ served. if_said
-    (λ (request : Request). All IsOnHead request.commands) _ c.in-Ok.request
+    (λ (request : LineRequest). All IsOnHead request.commands) _ c.in-Ok.request
     (ap (λ g. says g c.in-Some.line.now) (sym served) ∙ said) (says_heads c.in-Some.line.now) in
     same_pages _ _ _ _ _ _ _
     (one_more _ _ _ c.in-Some.line.now _ _ _ _ c.loop-line.invariant c.in-Some.ensures.some c.in-Ok.request said

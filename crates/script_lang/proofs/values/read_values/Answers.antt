@@ -1,6 +1,6 @@
 use Rattle.std.proofs.Common.{◌≡◌, ◌<◌, length, get_or, sym, ap, ◌∙◌, Some, None, rules}
 use Rattle.script_lang.specs.declared.form.Form.TheVariants.{Volume}
-use Rattle.script_lang.specs.Forms.{says_word, after}
+use Rattle.script_lang.specs.Forms.{says_word, fault_after}
 use Rattle.script_lang.proofs.ReadValues.{none_left, one_value, one_fault, as_now}
 use Rattle.script_lang.proofs.values.read_values.Goals as goal
 use Rattle.script_lang.proofs.values.read_values.Goals.{in-Some+in_ok-value+in-Some-2+in_ok-push-in-Some-2, in-Some+in_ok-value+in-None, in_default}
@@ -23,7 +23,7 @@ loop-form-preserved c =
           as_now _ _ _ _ _ _ _ _ _
           (one_fault _ _ _ _ _ _ _ c.loop-form.invariant Volume lt w.in-Some.word.now _ w.in-Some.ensures.some said)
           w.values-is
-          (w.fault-is ∙ ap Some (w.with_fault.ensures ∙ ap (after c.loop-form.fault) w.kind.ensures))
+          (w.fault-is ∙ ap Some (w.with_fault.ensures ∙ ap (fault_after c.loop-form.fault) w.kind.ensures))
       | in_default w ↦
           as_now _ _ _ _ _ _ _ _ _
           (none_left _ _ _ _ _ _ _ c.loop-form.invariant Volume lt _ w.in_default.ensures.none

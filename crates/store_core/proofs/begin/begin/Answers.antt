@@ -4,39 +4,39 @@ use Rattle.std.specs.Option.{option_map}
 use Rattle.volume_model.specs.declared.reply.Reply.TheVariants.{Memory, NoPage}
 use Rattle.store_model.specs.Rows.{InJob, Row}
 use Rattle.store_model.specs.Shown.{fixed_of}
-use Rattle.store_model.specs.Plants.{shown}
+use Rattle.store_model.specs.StoreState.{shown}
 use Rattle.store_model.specs.Cases.{Begins}
 use Rattle.store_core.specs.Begins.{first_job, IsPrepared, LacksPages}
 use Rattle.store_core.specs.Jobs.{job_seen}
 use Rattle.store_core.specs.declared.begin.Prepared.{Prepared}
-use Rattle.store_core.specs.Running.{at_of}
-use Rattle.store_core.specs.Seen.{state_of}
+use Rattle.store_core.specs.Running.{view_of}
+use Rattle.store_core.specs.StoreView.{state_of}
 use Rattle.store_core.specs.declared.job.RunningJob.{RunningJob}
-use Rattle.store_core.proofs.Begun.{all_fit, begun, has_chain, may_lack, ready, refused, root, row_is}
+use Rattle.store_core.proofs.JobBegin.{all_fit, begun, has_chain, may_lack, ready, refused, root, row_is}
 use Rattle.store_core.proofs.begin.begin.Goals as goal
 
 pub prepare-requires-clause-chain : goal.prepare-requires-clause-chain
 prepare-requires-clause-chain g c =
     let waits = c.requires.posted.waits in
     let asks = c.requires.asks waits.command waits.rest (ap (λ (r : Row). r.left) waits.row) in
-    has_chain (state_of g.D.PageDisk (at_of c.args.running.now)) c.requires.running c.requires.runs waits.command c.args.head c.args.new asks
+    has_chain (state_of g.D.PageDisk (view_of c.args.running.now)) c.requires.running c.requires.runs waits.command c.args.head c.args.new asks
 
 pub prepare-requires-clause-xattrs : goal.prepare-requires-clause-xattrs
 prepare-requires-clause-xattrs g c =
     let waits = c.requires.posted.waits in
     let asks = c.requires.asks waits.command waits.rest (ap (λ (r : Row). r.left) waits.row) in
-    all_fit c.args.new.xattrs (root (state_of g.D.PageDisk (at_of c.args.running.now)) c.requires.running c.requires.runs waits.command c.args.head c.args.new asks).xattrs
+    all_fit c.args.new.xattrs (root (state_of g.D.PageDisk (view_of c.args.running.now)) c.requires.running c.requires.runs waits.command c.args.head c.args.new asks).xattrs
 
 pub prepare-requires-clause-internal : goal.prepare-requires-clause-internal
 prepare-requires-clause-internal g c =
     let waits = c.requires.posted.waits in
     let asks = c.requires.asks waits.command waits.rest (ap (λ (r : Row). r.left) waits.row) in
-    all_fit c.args.new.internal (root (state_of g.D.PageDisk (at_of c.args.running.now)) c.requires.running c.requires.runs waits.command c.args.head c.args.new asks).internal
+    all_fit c.args.new.internal (root (state_of g.D.PageDisk (view_of c.args.running.now)) c.requires.running c.requires.runs waits.command c.args.head c.args.new asks).internal
 
 pub returns-in-Ok-Some-clause-began : goal.returns-in-Ok-Some-clause-began
 returns-in-Ok-Some-clause-began g c = λ _.
     let d = g.D.PageDisk in
-    let p = at_of c.args.running.now in
+    let p = view_of c.args.running.now in
     let posted = c.requires.posted in
     let waits = posted.waits in
     let asks = c.requires.asks waits.command waits.rest (ap (λ (r : Row). r.left) waits.row) in
@@ -55,19 +55,19 @@ returns-in-Ok-Some-clause-began g c = λ _.
 
 pub returns-in-Ok-None-clause-logged : goal.returns-in-Ok-None-clause-logged
 returns-in-Ok-None-clause-logged g c = λ _.
-    let p = at_of c.args.running.now in
+    let p = view_of c.args.running.now in
     let waits = c.requires.posted.waits in
     let asks = c.requires.asks waits.command waits.rest (ap (λ (r : Row). r.left) waits.row) in
     let low : c.args.channel < length p.rows = omega (arith, c.requires.channel, c.requires.order.sixteen) in
     let none : LacksPages c.args.new c.args.running.now.pages.bits × (c.prepare.new.pages.bits ≡ c.args.running.now.pages.bits) =
     subst (λ (o : Option Prepared). IfNone o (LacksPages c.args.new c.args.running.now.pages.bits × (c.prepare.new.pages.bits ≡ c.args.running.now.pages.bits))) c.in-Ok-None.field-0-is c.in-Ok-None.ensures.none in
-    refused g.D.PageDisk p c.args.channel low c.requires.posted c.requires.runs NoPage (record { no_job = ap (λ o. option_map job_seen o) c.requires.no_job; head = c.args.head; new = c.args.new; asks = asks; lacks = none.0 }) c.prepare.new.pages.bits none.1 (at_of c.log.new.running) c.log.ensures.logged
+    refused g.D.PageDisk p c.args.channel low c.requires.posted c.requires.runs NoPage (record { no_job = ap (λ o. option_map job_seen o) c.requires.no_job; head = c.args.head; new = c.args.new; asks = asks; lacks = none.0 }) c.prepare.new.pages.bits none.1 (view_of c.log.new.running) c.log.ensures.logged
 
 pub returns-in-Err-clause-logged : goal.returns-in-Err-clause-logged
 returns-in-Err-clause-logged g c = λ _.
-    let p = at_of c.args.running.now in
+    let p = view_of c.args.running.now in
     let s = state_of g.D.PageDisk p in
     let waits = c.requires.posted.waits in
     let asks = c.requires.asks waits.command waits.rest (ap (λ (r : Row). r.left) waits.row) in
     let low : c.args.channel < length p.rows = omega (arith, c.requires.channel, c.requires.order.sixteen) in
-    refused g.D.PageDisk p c.args.channel low c.requires.posted c.requires.runs Memory (may_lack (fixed_of s.super) (shown s) waits.command asks.syncing) c.prepare.new.pages.bits c.in-Err.ensures.memory (at_of c.log-in-Err.new.running) c.log-in-Err.ensures.logged
+    refused g.D.PageDisk p c.args.channel low c.requires.posted c.requires.runs Memory (may_lack (fixed_of s.super) (shown s) waits.command asks.syncing) c.prepare.new.pages.bits c.in-Err.ensures.memory (view_of c.log-in-Err.new.running) c.log-in-Err.ensures.logged

@@ -5,8 +5,8 @@ use Rattle.blob_meta.specs.declared.job.Replacement.{Replacement}
 use Rattle.blob_meta.specs.declared.meta.Meta.{Meta}
 use Rattle.blob_meta.specs.Jobs.{job_of_one}
 use Rattle.store_model.specs.Jobs.{AsksFor}
-use Rattle.store_core.specs.Running.{at_of}
-use Rattle.store_core.specs.Seen.{state_of}
+use Rattle.store_core.specs.Running.{view_of}
+use Rattle.store_core.specs.StoreView.{state_of}
 use Rattle.store_core.proofs.begin.begin_or_halt.Goals as goal
 
 one_item : (x y : Replacement) → x ∷ [] ≡ y ∷ [] → x ≡ y
@@ -27,7 +27,7 @@ none_of (Some at) e = absurd (cc e)
 
 pub begin-requires-clause-asks : goal.begin-requires-clause-asks
 begin-requires-clause-asks g c command rest left =
-    let p = state_of g.D.PageDisk (at_of c.args.running.now) in
+    let p = state_of g.D.PageDisk (view_of c.args.running.now) in
     let head = c.replacement_of-head.result.0 in
     let new = c.replacement_of-head.result.1 in
     let x = c.requires.asks (none_of c.args.running.now.stopped c.if-is_some.ensures) command rest left in

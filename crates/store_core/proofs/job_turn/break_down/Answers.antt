@@ -1,27 +1,27 @@
 use Rattle.std.proofs.Common.{◌≡◌, Some, ap, sym, ◌∙◌}
 use Rattle.std.specs.Option.{option_and_then}
-use Rattle.store_core.specs.Running.{at_of}
-use Rattle.store_core.specs.Seen.{At}
+use Rattle.store_core.specs.Running.{view_of}
+use Rattle.store_core.specs.StoreView.{StoreView}
 use Rattle.store_core.specs.JobTurns.{waits_for_job}
 use Rattle.store_core.proofs.BrokenDown.{broken_down, low, some_left, stopped_still}
 use Rattle.store_core.proofs.job_turn.break_down.Goals as goal
 
 pub log-requires-clause-channel : goal.log-requires-clause-channel
 log-requires-clause-channel g c =
-    low g.D.PageDisk (at_of c.args.running.now) c.requires.running c.requires.order.sixteen c.in-Some.channel
+    low g.D.PageDisk (view_of c.args.running.now) c.requires.running c.requires.order.sixteen c.in-Some.channel
     (sym c.waiting_for-waiting.ensures ∙ c.in-Some.is)
 
 pub log-requires-clause-left : goal.log-requires-clause-left
 log-requires-clause-left g c =
-    some_left g.D.PageDisk (at_of c.args.running.now) c.requires.running c.requires.order.sixteen c.in-Some.channel
+    some_left g.D.PageDisk (view_of c.args.running.now) c.requires.running c.requires.order.sixteen c.in-Some.channel
     (sym c.waiting_for-waiting.ensures ∙ c.in-Some.is)
 
 pub returns-in-Some-clause-case : goal.returns-in-Some-clause-case
 returns-in-Some-clause-case g c =
-    broken_down g.D.PageDisk (at_of c.args.running.now) c.requires.running c.requires.order.sixteen c.in-Some.channel
-    (sym c.waiting_for-waiting.ensures ∙ c.in-Some.is) c.args.at c.requires.stopped (at_of c.log.new.running) c.log.ensures.logged
+    broken_down g.D.PageDisk (view_of c.args.running.now) c.requires.running c.requires.order.sixteen c.in-Some.channel
+    (sym c.waiting_for-waiting.ensures ∙ c.in-Some.is) c.args.at c.requires.stopped (view_of c.log.new.running) c.log.ensures.logged
 
 pub returns-in-Some-clause-stopped : goal.returns-in-Some-clause-stopped
 returns-in-Some-clause-stopped g c =
-    stopped_still g.D.PageDisk (at_of c.args.running.now) c.requires.running c.requires.order.sixteen c.in-Some.channel
-    (sym c.waiting_for-waiting.ensures ∙ c.in-Some.is) c.args.at c.requires.stopped (at_of c.log.new.running) c.log.ensures.logged
+    stopped_still g.D.PageDisk (view_of c.args.running.now) c.requires.running c.requires.order.sixteen c.in-Some.channel
+    (sym c.waiting_for-waiting.ensures ∙ c.in-Some.is) c.args.at c.requires.stopped (view_of c.log.new.running) c.log.ensures.logged

@@ -1,7 +1,7 @@
 use Rattle.std.proofs.Common.{◌≡◌, ◌<◌, List, length, sym, ◌∙◌, ap, subst}
 use Rattle.store_model.specs.Rows.{Row}
 use Rattle.store_core.specs.JobTurns.{answer_of}
-use Rattle.store_core.specs.Seen.{rows_of}
+use Rattle.store_core.specs.StoreView.{rows_of}
 use Rattle.store_core.proofs.Rowing.{first_of}
 use Rattle.store_core.proofs.job_turn.fail.Goals as goal
 

@@ -1,12 +1,12 @@
 use Rattle.std.proofs.Common.{◌<◌, ◌+◌, ℕ, List, length, get_or, refl, sym, ◌∙◌, ap, subst, arith}
 use Rattle.page_disk.specs.Disk.{Written}
-use Rattle.page_disk.specs.Moments.{LeavesOnly}
+use Rattle.page_disk.specs.Moments.{CallsLeaveOnly}
 use Rattle.page_disk.specs.declared.disk.WriteKind.TheVariants.{Plain}
-use Rattle.store_model.specs.Plants.{Erasing}
-use Rattle.store_model.specs.Cases.{Moves}
+use Rattle.store_model.specs.StoreState.{Erasing}
+use Rattle.store_model.specs.Cases.{WritesOnePage}
 use Rattle.store_core.specs.Jobs.{job_of}
-use Rattle.store_core.specs.Running.{at_of}
-use Rattle.store_core.specs.Seen.{device_of}
+use Rattle.store_core.specs.Running.{view_of}
+use Rattle.store_core.specs.StoreView.{device_of}
 use Rattle.store_core.proofs.JobTurned.{broke_off, freed_all, got, old_below, old_distinct, old_used, on_err, on_ok, zeros}
 use Rattle.store_core.proofs.job_turn.free.Goals as goal
 
@@ -15,7 +15,7 @@ write_last-requires g c =
     let low : c.args.erased < length c.args.old = omega (arith, c.requires.last) in
     let same = ap (λ (l : List ℕ). get_or l c.args.erased 0) c.as_slice.ensures in
     let at = c.page_at-page.ensures in
-    let below = old_below g.D.PageDisk (at_of c.args.running.now) (job_of c.args.did.value c.args.old (Erasing c.args.erased)) c.requires.at_work c.args.erased (get_or c.args.old c.args.erased 0) refl (got c.args.old c.args.erased 0 low) in
+    let below = old_below g.D.PageDisk (view_of c.args.running.now) (job_of c.args.did.value c.args.old (Erasing c.args.erased)) c.requires.at_work c.args.erased (get_or c.args.old c.args.erased 0) refl (got c.args.old c.args.erased 0 low) in
     let inside = c.requires.order.inside in
     omega (arith, at, same, below, inside)
 
@@ -23,24 +23,24 @@ pub returns-then-is_err-clause-case : goal.returns-then-is_err-clause-case
 returns-then-is_err-clause-case g c =
     let low : c.args.erased < length c.args.old = omega (arith, c.requires.last) in
     let same = ap (λ (l : List ℕ). get_or l c.args.erased 0) c.as_slice.ensures in
-    broke_off g.D.PageDisk (at_of c.args.running.now) (job_of c.args.did.value c.args.old (Erasing c.args.erased)) c.requires.at_work c.args.erased refl c.write_last.new.disk (get_or c.args.old c.args.erased 0) c.page_at-page.result
+    broke_off g.D.PageDisk (view_of c.args.running.now) (job_of c.args.did.value c.args.old (Erasing c.args.erased)) c.requires.at_work c.args.erased refl c.write_last.new.disk (get_or c.args.old c.args.erased 0) c.page_at-page.result
     (c.page_at-page.ensures ∙ ap (λ x. c.args.running.now.sup.md_start + x) same) (got c.args.old c.args.erased 0 low)
-    (subst (λ page. LeavesOnly g.D.PageDisk c.args.running.now.disk c.write_last.new.disk (Written (g.D.PageDisk.images c.args.running.now.disk) c.page_at-page.result Plain page)) zeros c.write_last.ensures.any_moment)
-    (on_err c.write_last.result _ (sym c.is_err.ensures.value ∙ c.if-is_err.true) c.write_last.ensures.fails) (at_of c.stop.new.running) c.stop.ensures.stopped
+    (subst (λ page. CallsLeaveOnly g.D.PageDisk c.args.running.now.disk c.write_last.new.disk (Written (g.D.PageDisk.images c.args.running.now.disk) c.page_at-page.result Plain page)) zeros c.write_last.ensures.any_moment)
+    (on_err c.write_last.result _ (sym c.is_err.ensures.value ∙ c.if-is_err.true) c.write_last.ensures.fails) (view_of c.stop.new.running) c.stop.ensures.stopped
 
 pub clear_places-requires-clause-distinct : goal.clear_places-requires-clause-distinct
-clear_places-requires-clause-distinct g c = old_distinct g.D.PageDisk (at_of c.args.running.now) (job_of c.args.did.value c.args.old (Erasing c.args.erased)) c.requires.at_work
+clear_places-requires-clause-distinct g c = old_distinct g.D.PageDisk (view_of c.args.running.now) (job_of c.args.did.value c.args.old (Erasing c.args.erased)) c.requires.at_work
 
 pub clear_places-requires-clause-in_use : goal.clear_places-requires-clause-in_use
-clear_places-requires-clause-in_use g c = old_used g.D.PageDisk (at_of c.args.running.now) (job_of c.args.did.value c.args.old (Erasing c.args.erased)) c.requires.at_work c.args.erased refl
+clear_places-requires-clause-in_use g c = old_used g.D.PageDisk (view_of c.args.running.now) (job_of c.args.did.value c.args.old (Erasing c.args.erased)) c.requires.at_work c.args.erased refl
 
 pub returns-clause-case : goal.returns-clause-case
 returns-clause-case g c =
     let low : c.args.erased < length c.args.old = omega (arith, c.requires.last) in
     let same = ap (λ (l : List ℕ). get_or l c.args.erased 0) c.as_slice.ensures in
-    freed_all g.D.PageDisk (at_of c.args.running.now) (job_of c.args.did.value c.args.old (Erasing c.args.erased)) c.requires.at_work c.args.erased refl c.write_last.new.disk (get_or c.args.old c.args.erased 0) c.page_at-page.result
+    freed_all g.D.PageDisk (view_of c.args.running.now) (job_of c.args.did.value c.args.old (Erasing c.args.erased)) c.requires.at_work c.args.erased refl c.write_last.new.disk (get_or c.args.old c.args.erased 0) c.page_at-page.result
     (c.page_at-page.ensures ∙ ap (λ x. c.args.running.now.sup.md_start + x) same) (got c.args.old c.args.erased 0 low)
-    (subst (λ page. LeavesOnly g.D.PageDisk c.args.running.now.disk c.write_last.new.disk (Written (g.D.PageDisk.images c.args.running.now.disk) c.page_at-page.result Plain page)) zeros c.write_last.ensures.any_moment) c.requires.last
-    (subst (λ page. Moves g.D.PageDisk.tells (device_of g.D.PageDisk c.args.running.now.disk) c.page_at-page.result page 2 (device_of g.D.PageDisk c.write_last.new.disk)) zeros
+    (subst (λ page. CallsLeaveOnly g.D.PageDisk c.args.running.now.disk c.write_last.new.disk (Written (g.D.PageDisk.images c.args.running.now.disk) c.page_at-page.result Plain page)) zeros c.write_last.ensures.any_moment) c.requires.last
+    (subst (λ page. WritesOnePage g.D.PageDisk.tells (device_of g.D.PageDisk c.args.running.now.disk) c.page_at-page.result page 2 (device_of g.D.PageDisk c.write_last.new.disk)) zeros
     (on_ok c.write_last.result _ (sym c.is_err.ensures.value ∙ c.if-is_err.false) c.write_last.ensures.moves))
     (λ tells. on_ok c.write_last.result _ (sym c.is_err.ensures.value ∙ c.if-is_err.false) (c.write_last.ensures.durable tells)) c.clear_places.new.pages.bits c.clear_places.ensures.bits

@@ -1,13 +1,13 @@
 use Rattle.std.proofs.Common.{◌+◌, [], ℕ, List, get_or, refl, sym, ◌∙◌, ap, subst, arith}
 use Rattle.page_disk.specs.Disk.{Written}
-use Rattle.page_disk.specs.Moments.{LeavesOnly}
+use Rattle.page_disk.specs.Moments.{CallsLeaveOnly}
 use Rattle.page_disk.specs.declared.disk.WriteKind.TheVariants.{Plain}
 use Rattle.md_chain.specs.declared.plan.PlannedPage.{PlannedPage}
-use Rattle.store_model.specs.Plants.{Writing}
-use Rattle.store_model.specs.Cases.{Moves}
+use Rattle.store_model.specs.StoreState.{Writing}
+use Rattle.store_model.specs.Cases.{WritesOnePage}
 use Rattle.store_core.specs.Jobs.{job_of}
-use Rattle.store_core.specs.Running.{at_of}
-use Rattle.store_core.specs.Seen.{device_of}
+use Rattle.store_core.specs.Running.{view_of}
+use Rattle.store_core.specs.StoreView.{device_of}
 use Rattle.store_core.proofs.JobTurned.{channel_low, failed_writing, fresh_low, got, on_err, on_ok, row_some, wrote_fresh}
 use Rattle.store_core.proofs.job_turn.write_fresh.Goals as goal
 
@@ -20,34 +20,34 @@ write_one-requires g c =
     let plan = c.args.planned.pages in
     let same = ap (λ l. (next l c.args.written).place) c.as_slice.ensures in
     let at = c.page_at-page.ensures in
-    let low = fresh_low g.D.PageDisk (at_of c.args.running.now) (job_of c.args.planned c.args.old (Writing c.args.written)) c.requires.at_work c.args.written refl (next plan c.args.written) (got plan (c.args.written + 1) _ c.requires.left) in
+    let low = fresh_low g.D.PageDisk (view_of c.args.running.now) (job_of c.args.planned c.args.old (Writing c.args.written)) c.requires.at_work c.args.written refl (next plan c.args.written) (got plan (c.args.written + 1) _ c.requires.left) in
     let inside = c.requires.order.inside in
     omega (arith, at, same, low, inside)
 
 pub fail-requires-clause-channel : goal.fail-requires-clause-channel
 fail-requires-clause-channel g c =
-    let low = channel_low g.D.PageDisk (at_of c.args.running.now) (job_of c.args.planned c.args.old (Writing c.args.written)) c.requires.at_work c.args.written refl in
+    let low = channel_low g.D.PageDisk (view_of c.args.running.now) (job_of c.args.planned c.args.old (Writing c.args.written)) c.requires.at_work c.args.written refl in
     let sixteen = c.requires.order.sixteen in
     omega (arith, low, sixteen)
 
 pub fail-requires-clause-left : goal.fail-requires-clause-left
-fail-requires-clause-left g c = row_some g.D.PageDisk (at_of c.args.running.now) (job_of c.args.planned c.args.old (Writing c.args.written)) c.requires.at_work c.args.written refl
+fail-requires-clause-left g c = row_some g.D.PageDisk (view_of c.args.running.now) (job_of c.args.planned c.args.old (Writing c.args.written)) c.requires.at_work c.args.written refl
 
 pub returns-then-is_err-clause-case : goal.returns-then-is_err-clause-case
 returns-then-is_err-clause-case g c =
     let plan = c.args.planned.pages in
     let same = ap (λ l. next l c.args.written) c.as_slice.ensures in
-    failed_writing g.D.PageDisk (at_of c.args.running.now) (job_of c.args.planned c.args.old (Writing c.args.written)) c.requires.at_work c.args.written refl c.write_one.new.disk (next plan c.args.written) c.page_at-page.result
+    failed_writing g.D.PageDisk (view_of c.args.running.now) (job_of c.args.planned c.args.old (Writing c.args.written)) c.requires.at_work c.args.written refl c.write_one.new.disk (next plan c.args.written) c.page_at-page.result
     (c.page_at-page.ensures ∙ ap (λ (x : PlannedPage). c.args.running.now.sup.md_start + x.place) same) (got plan (c.args.written + 1) _ c.requires.left)
-    (subst (λ (x : PlannedPage). LeavesOnly g.D.PageDisk c.args.running.now.disk c.write_one.new.disk (Written (g.D.PageDisk.images c.args.running.now.disk) c.page_at-page.result Plain x.page)) same c.write_one.ensures.any_moment)
-    (on_err c.write_one.result _ (sym c.is_err.ensures.value ∙ c.if-is_err.true) c.write_one.ensures.fails) (at_of c.fail.new.running) c.fail.ensures.logged
+    (subst (λ (x : PlannedPage). CallsLeaveOnly g.D.PageDisk c.args.running.now.disk c.write_one.new.disk (Written (g.D.PageDisk.images c.args.running.now.disk) c.page_at-page.result Plain x.page)) same c.write_one.ensures.any_moment)
+    (on_err c.write_one.result _ (sym c.is_err.ensures.value ∙ c.if-is_err.true) c.write_one.ensures.fails) (view_of c.fail.new.running) c.fail.ensures.logged
 
 pub returns-clause-case : goal.returns-clause-case
 returns-clause-case g c =
     let plan = c.args.planned.pages in
     let same = ap (λ l. next l c.args.written) c.as_slice.ensures in
-    wrote_fresh g.D.PageDisk (at_of c.args.running.now) (job_of c.args.planned c.args.old (Writing c.args.written)) c.requires.at_work c.args.written refl c.write_one.new.disk (next plan c.args.written) c.page_at-page.result
+    wrote_fresh g.D.PageDisk (view_of c.args.running.now) (job_of c.args.planned c.args.old (Writing c.args.written)) c.requires.at_work c.args.written refl c.write_one.new.disk (next plan c.args.written) c.page_at-page.result
     (c.page_at-page.ensures ∙ ap (λ (x : PlannedPage). c.args.running.now.sup.md_start + x.place) same) (got plan (c.args.written + 1) _ c.requires.left)
-    (subst (λ (x : PlannedPage). LeavesOnly g.D.PageDisk c.args.running.now.disk c.write_one.new.disk (Written (g.D.PageDisk.images c.args.running.now.disk) c.page_at-page.result Plain x.page)) same c.write_one.ensures.any_moment)
-    (subst (λ (x : PlannedPage). Moves g.D.PageDisk.tells (device_of g.D.PageDisk c.args.running.now.disk) c.page_at-page.result x.page 1 (device_of g.D.PageDisk c.write_one.new.disk)) same
+    (subst (λ (x : PlannedPage). CallsLeaveOnly g.D.PageDisk c.args.running.now.disk c.write_one.new.disk (Written (g.D.PageDisk.images c.args.running.now.disk) c.page_at-page.result Plain x.page)) same c.write_one.ensures.any_moment)
+    (subst (λ (x : PlannedPage). WritesOnePage g.D.PageDisk.tells (device_of g.D.PageDisk c.args.running.now.disk) c.page_at-page.result x.page 1 (device_of g.D.PageDisk c.write_one.new.disk)) same
     (on_ok c.write_one.result _ (sym c.is_err.ensures.value ∙ c.if-is_err.false) c.write_one.ensures.moves))

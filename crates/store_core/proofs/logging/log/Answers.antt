@@ -3,7 +3,7 @@ use Rattle.std.proofs.lemmas.List.{get_or_default, length-set}
 use Rattle.volume_model.specs.declared.command.Command.{Command}
 use Rattle.volume_model.specs.declared.reply.Entry.{Entry}
 use Rattle.store_model.specs.Rows.{Row, Ended, entries_of}
-use Rattle.store_core.specs.Seen.{rows_of}
+use Rattle.store_core.specs.StoreView.{rows_of}
 use Rattle.store_core.specs.Steps.{OnlyRow}
 use Rattle.store_core.proofs.Counting.{few_of, left_less, counted_more}
 use Rattle.store_core.proofs.Rowing.{only_row, taken_row}

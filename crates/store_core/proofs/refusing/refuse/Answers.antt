@@ -1,15 +1,15 @@
 use Rattle.std.proofs.Common.{◌<◌, length, ap, arith}
 use Rattle.store_model.specs.Rows.{Row}
-use Rattle.store_model.proofs.PlantKept.{at_begin_too}
-use Rattle.store_core.specs.Running.{at_of}
-use Rattle.store_core.specs.Seen.{state_of}
+use Rattle.store_model.proofs.StateKept.{at_begin_too}
+use Rattle.store_core.specs.Running.{view_of}
+use Rattle.store_core.specs.StoreView.{state_of}
 use Rattle.store_core.proofs.Entered.{disk_same, entered}
 use Rattle.store_core.proofs.refusing.refuse.Goals as goal
 
 pub returns-clause-case : goal.returns-clause-case
 returns-clause-case g c =
     let d = g.D.PageDisk in
-    let old = at_of c.args.running.now in
+    let old = view_of c.args.running.now in
     let waits = c.requires.posted.waits in
     let left = ap (λ (r : Row). r.left) waits.row in
     let low : c.args.channel < length c.args.running.now.rows.items = omega (arith, c.requires.channel, c.requires.order.sixteen) in
@@ -19,7 +19,7 @@ returns-clause-case g c =
         runs = c.requires.runs;
         reply = c.args.reply;
         why = at_begin_too (state_of d old) waits.command c.args.reply (c.requires.why waits.command waits.rest left);
-        next = entered d old (at_of c.log.new.running) c.args.channel waits.command waits.rest c.args.reply low is;
+        next = entered d old (view_of c.log.new.running) c.args.channel waits.command waits.rest c.args.reply low is;
       },
-      disk_same d old (at_of c.log.new.running) c.args.channel waits.command waits.rest c.args.reply low is,
+      disk_same d old (view_of c.log.new.running) c.args.channel waits.command waits.rest c.args.reply low is,
     )

@@ -2,7 +2,7 @@ use Rattle.std.proofs.Common.{None, ◌≡◌, [], length, sym, ap, ◌∙◌}
 use Rattle.std.proofs.lemmas.Bool.{ltb-true}
 use Rattle.std.proofs.lemmas.List.{get_or_default}
 use Rattle.store_model.specs.Rows.{Row, Ended, Posted}
-use Rattle.store_core.specs.Seen.{rows_of}
+use Rattle.store_core.specs.StoreView.{rows_of}
 use Rattle.store_core.proofs.Requested.{first_got, none_got, posted_so}
 use Rattle.store_core.proofs.requests.asked_in.Goals as goal
 

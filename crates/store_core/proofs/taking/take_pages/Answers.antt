@@ -1,6 +1,6 @@
 use Rattle.std.proofs.Common.{ℕ, List, true, refl, sym, ap, subst, ◌∙◌}
 use Rattle.store_model.specs.Places.{all_set, AreLeastClear}
-use Rattle.store_core.proofs.Taken.{all_taken, bits_taken, not_full}
+use Rattle.store_core.proofs.PagesTaken.{all_taken, bits_taken, not_full}
 use Rattle.store_core.proofs.taking.take_pages.Goals as goal
 
 pub unreachable-requires : goal.unreachable-requires

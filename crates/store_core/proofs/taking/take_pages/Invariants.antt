@@ -1,5 +1,5 @@
 use Rattle.std.proofs.Common.{◌≤◌, vec_capacity}
-use Rattle.store_core.proofs.Taken.{Takes}
+use Rattle.store_core.proofs.PagesTaken.{Takes}
 use Rattle.store_core.proofs.taking.take_pages.Given as goal
 
 abbrev pub invariant-loop : goal.invariant-loop

@@ -4,7 +4,7 @@ use Rattle.super_block.specs.declared.page.Super.{Super}
 use Rattle.super_block.specs.Numbers.{clusters_of, fixed_clusters_of}
 use Rattle.store_model.specs.Maps.{Metas}
 use Rattle.store_model.specs.Places.{Unclaimed, UsedClusters}
-use Rattle.store_model.specs.Standing.{AreRoots}
+use Rattle.store_model.specs.RunInvariant.{AreRoots}
 use Rattle.unclean_load.specs.Sharing.{copies, AreCounted}
 use Rattle.unclean_load.proofs.Slots.{all_inside, mapped_copy, find_mapped}
 use Rattle.unclean_load.proofs.sharing.used_clusters.Goals as goal

@@ -5,9 +5,9 @@ use Rattle.blob_meta.specs.Resolving.{slots_together}
 use Rattle.md_chain.specs.Reading.{region_look}
 use Rattle.store_model.specs.Regions.{region_of}
 use Rattle.unclean_load.specs.Heads.{AreWholeBelow}
-use Rattle.md_chain.proofs.Walks.{read_on}
+use Rattle.md_chain.proofs.DeviceWalk.{read_on}
 use Rattle.unclean_load.specs.declared.heads.Blob.{Blob}
-use Rattle.unclean_load.specs.Reading.{HasNoneFrom, SaysAt, IsCounted}
+use Rattle.unclean_load.specs.Reading.{HasNoneFrom, SaysAt, IsFaultCounted}
 use Rattle.unclean_load.proofs.HeadWalk.{Walked, begun, none_there, one_there, inserted, place_fails, add_fails, counted_first, refused_uncounted}
 use Rattle.unclean_load.proofs.walking.blobs_on.Goals as goal
 use Rattle.unclean_load.proofs.walking.blobs_on.Goals.{in-Some+in_ok-add, in_default}
@@ -49,7 +49,7 @@ returns-in_err-blob-clause-fault g c =
 pub returns-in_err-blob-clause-counted : goal.returns-in_err-blob-clause-counted
 returns-in_err-blob-clause-counted g c =
     let d = g.D.PageDisk in let s = c.args.sup.now in let b = c.loop-place.blobs in let why = c.in_err-blob.field-0.0 in
-    let x : IsCounted (d.read_faults c.args.disk.now) (d.read_faults c.blob_at.new.disk) why =
+    let x : IsFaultCounted (d.read_faults c.args.disk.now) (d.read_faults c.blob_at.new.disk) why =
     counted_first d s c.args.disk.now c.loop-place.disk (map.get b.metas)
     (map.get b.chains) b.slots c.loop-place.place c.loop-place.invariant c.blob_at.new.disk why c.in_err-blob.ensures.counted in search rules
 
@@ -64,7 +64,7 @@ returns-in_err-add-clause-fault g c =
 pub returns-in_err-add-clause-counted : goal.returns-in_err-add-clause-counted
 returns-in_err-add-clause-counted g c =
     let d = g.D.PageDisk in let why = c.in_err-add.field-0.0 in
-    let x : IsCounted (d.read_faults c.args.disk.now) (d.read_faults c.blob_at.new.disk) why =
+    let x : IsFaultCounted (d.read_faults c.args.disk.now) (d.read_faults c.blob_at.new.disk) why =
     refused_uncounted (d.read_faults c.args.disk.now)
     (d.read_faults c.blob_at.new.disk) c.loop-place.blobs.slots c.loop-place.place c.in-Some.blob.meta why
     (c.in_ok-blob.ensures.quiet ∙ c.loop-place.invariant.quiet) c.in_err-add.ensures.fault in

@@ -1,5 +1,5 @@
 use Rattle.std.proofs.Common.{◌∙◌}
-use Rattle.volume_model.proofs.Refused.{refused}
+use Rattle.volume_model.proofs.RefusalsChangeNothing.{refused}
 use Rattle.volume_model.proofs.laws.refusal_changes_nothing.Goals as goal
 
 pub returns : goal.returns

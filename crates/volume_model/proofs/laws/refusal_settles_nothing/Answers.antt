@@ -1,4 +1,4 @@
-use Rattle.volume_model.proofs.Idle.{settled_still, stable_still}
+use Rattle.volume_model.proofs.RefusalsSettleNothing.{settled_still, stable_still}
 use Rattle.volume_model.proofs.laws.refusal_settles_nothing.Goals as goal
 
 pub returns : goal.returns

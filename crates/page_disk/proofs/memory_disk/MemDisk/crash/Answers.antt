@@ -3,7 +3,7 @@ use Rattle.page_disk.specs.Disk.{Image}
 use Rattle.page_disk.specs.Record.{Recorded, base_image, image_of, images_of, ImagesFrom}
 use Rattle.page_disk.specs.Crash.{crash_image, left_after}
 use Rattle.page_disk.specs.declared.record.Call.{Call}
-use Rattle.page_disk.proofs.Begun.{one_left, reads_base}
+use Rattle.page_disk.proofs.RecordBegun.{one_left, reads_base}
 use Rattle.page_disk.proofs.memory_disk.MemDisk.crash.Goals as goal
 
 reads : (c : goal.In_ok-disk) → image_of c.in_ok-disk.disk ≡ base_image c.in_ok-base.base.entries

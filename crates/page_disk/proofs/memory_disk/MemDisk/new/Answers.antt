@@ -1,6 +1,6 @@
 use Rattle.std.proofs.Common.{◌∙◌, ap}
 use Rattle.page_disk.specs.Record.{Recorded}
-use Rattle.page_disk.proofs.Begun.{one_left, reads_zeros}
+use Rattle.page_disk.proofs.RecordBegun.{one_left, reads_zeros}
 use Rattle.page_disk.proofs.memory_disk.MemDisk.new.Goals as goal
 
 pub returns-clause-zeros : goal.returns-clause-zeros

@@ -1,27 +1,27 @@
 use Rattle.std.proofs.Common.{◌≡◌, None, subst, sym}
 use Rattle.store_model.specs.Cases as kind
-use Rattle.store_core.specs.Running.{at_of, both}
-use Rattle.store_core.specs.Seen.{Both, rows_of}
+use Rattle.store_core.specs.Running.{view_of, with_opening}
+use Rattle.store_core.specs.StoreView.{WithOpening, rows_of}
 use Rattle.blob_meta.specs.Asked.{IsOnHead}
 use Rattle.store_model.specs.Cases.{IsInMemory}
 use Rattle.store_model.specs.Rows.{Posted}
-use Rattle.store_core.specs.Made.{Made}
+use Rattle.store_core.specs.TurnMade.{TurnMade}
 use Rattle.store_core.specs.Steps.{Asks}
 use Rattle.store_core.specs.Requests.{IsPostedBy}
 use Rattle.store_core.proofs.Posting.{either, posted_at}
 use Rattle.store_core.proofs.plant.Plant.answer.Goals as goal
 
 pub answer_or_halt-requires-clause-posted : goal.answer_or_halt-requires-clause-posted
-answer_or_halt-requires-clause-posted g c = posted_at g.D.PageDisk (both c.self.inside.running c.self.inside.opening.value c.self.inside.right.value.name) c.args.msg c.self.invariant.0 (subst (λ (b : Both g.row.D.Denot). IsPostedBy b.at.rows c.args.msg) (sym c.self.view_is) c.requires.posted)
+answer_or_halt-requires-clause-posted g c = posted_at g.D.PageDisk (with_opening c.self.inside.running c.self.inside.opening.value c.self.inside.right.value.name) c.args.msg c.self.invariant.0 (subst (λ (b : WithOpening g.row.D.Denot). IsPostedBy b.at.rows c.args.msg) (sym c.self.view_is) c.requires.posted)
 
 pub answer_or_halt-requires-clause-in_memory : goal.answer_or_halt-requires-clause-in_memory
-answer_or_halt-requires-clause-in_memory g c = subst (λ (b : Both g.row.D.Denot). Asks b.at c.args.msg.channel (λ command. IsOnHead command × IsInMemory command)) (sym c.self.view_is) c.requires.in_memory
+answer_or_halt-requires-clause-in_memory g c = subst (λ (b : WithOpening g.row.D.Denot). Asks b.at c.args.msg.channel (λ command. IsOnHead command × IsInMemory command)) (sym c.self.view_is) c.requires.in_memory
 
 pub invariant_of-self : goal.invariant_of-self
 invariant_of-self g c =
-    let p = (both c.self.inside.running c.self.inside.opening.value c.self.inside.right.value.name) in
-    let q = at_of c.answer_or_halt.new.running in
+    let p = (with_opening c.self.inside.running c.self.inside.opening.value c.self.inside.right.value.name) in
+    let q = view_of c.answer_or_halt.new.running in
     (either g.D.PageDisk p q kind.answers kind.halts (λ k made. c.goes_on.ensures p q k c.self.invariant.0 made) c.answer_or_halt.ensures.answered c.answer_or_halt.ensures.halted, c.answer_or_halt.ensures.order)
 
 pub returns-clause-answered : goal.returns-clause-answered
-returns-clause-answered g c = subst (λ (b : Both g.row.D.Denot). b.at.stopped ≡ None → Made g.D.PageDisk b.at (at_of c.answer_or_halt.new.running) kind.answers) c.self.view_is c.answer_or_halt.ensures.answered
+returns-clause-answered g c = subst (λ (b : WithOpening g.row.D.Denot). b.at.stopped ≡ None → TurnMade g.D.PageDisk b.at (view_of c.answer_or_halt.new.running) kind.answers) c.self.view_is c.answer_or_halt.ensures.answered

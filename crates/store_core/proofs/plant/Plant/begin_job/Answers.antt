@@ -1,22 +1,22 @@
 use Rattle.std.proofs.Common.{◌≡◌, None, subst, sym}
 use Rattle.store_model.specs.Rows.{Posted}
-use Rattle.store_core.specs.Running.{at_of, both}
+use Rattle.store_core.specs.Running.{view_of, with_opening}
 use Rattle.store_core.specs.Begins.{IsJobOf}
-use Rattle.store_core.specs.Seen.{Both, rows_of, state_of}
+use Rattle.store_core.specs.StoreView.{WithOpening, rows_of, state_of}
 use Rattle.store_core.specs.Steps.{Asks}
 use Rattle.store_core.specs.Requests.{IsPostedBy}
 use Rattle.store_core.proofs.Posting.{begun_or_not, posted_at}
 use Rattle.store_core.proofs.plant.Plant.begin_job.Goals as goal
 
 pub begin_or_halt-requires-clause-posted : goal.begin_or_halt-requires-clause-posted
-begin_or_halt-requires-clause-posted g c = posted_at g.D.PageDisk (both c.self.inside.running c.self.inside.opening.value c.self.inside.right.value.name) c.args.msg c.self.invariant.0 (subst (λ (b : Both g.row.D.Denot). IsPostedBy b.at.rows c.args.msg) (sym c.self.view_is) c.requires.posted)
+begin_or_halt-requires-clause-posted g c = posted_at g.D.PageDisk (with_opening c.self.inside.running c.self.inside.opening.value c.self.inside.right.value.name) c.args.msg c.self.invariant.0 (subst (λ (b : WithOpening g.row.D.Denot). IsPostedBy b.at.rows c.args.msg) (sym c.self.view_is) c.requires.posted)
 
 pub invariant_of-self : goal.invariant_of-self
 invariant_of-self g c =
-    let p = (both c.self.inside.running c.self.inside.opening.value c.self.inside.right.value.name) in
-    let q = at_of c.begin_or_halt.new.running in
+    let p = (with_opening c.self.inside.running c.self.inside.opening.value c.self.inside.right.value.name) in
+    let q = view_of c.begin_or_halt.new.running in
     (begun_or_not g.D.PageDisk p q c.begin_or_halt.result (λ k made. c.goes_on.ensures p q k c.self.invariant.0 made) c.begin_or_halt.ensures.begins c.begin_or_halt.ensures.halted, c.begin_or_halt.ensures.order)
 
 pub begin_or_halt-requires-clause-asks : goal.begin_or_halt-requires-clause-asks
 begin_or_halt-requires-clause-asks g c =
-    subst (λ (b : Both g.row.D.Denot). b.at.stopped ≡ None → Asks b.at c.args.msg.channel (λ command. IsJobOf (state_of g.D.PageDisk b.at) command c.args.job)) (sym c.self.view_is) c.requires.asks
+    subst (λ (b : WithOpening g.row.D.Denot). b.at.stopped ≡ None → Asks b.at c.args.msg.channel (λ command. IsJobOf (state_of g.D.PageDisk b.at) command c.args.job)) (sym c.self.view_is) c.requires.asks

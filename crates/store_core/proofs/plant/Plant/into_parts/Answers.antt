@@ -3,9 +3,9 @@ use Rattle.std.specs.FinMap as map
 use Rattle.bit_array.specs.Bits.{is_in}
 use Rattle.store_model.specs.Places.{held_by, Unclaimed, UsedClusters, UsedPages}
 use Rattle.store_model.proofs.Claims.{unclaimed_used}
-use Rattle.store_core.specs.Running.{at_of}
-use Rattle.store_core.specs.Seen.{At, Both, rows_of, state_of}
-use Rattle.store_core.specs.Whole.{AreMasks}
+use Rattle.store_core.specs.Running.{view_of}
+use Rattle.store_core.specs.StoreView.{StoreView, WithOpening, rows_of, state_of}
+use Rattle.store_core.specs.LoadedWhole.{AreMasks}
 use Rattle.store_core.proofs.Posting.{job_over}
 use Rattle.store_core.proofs.plant.Plant.into_parts.Goals as goal
 
@@ -13,12 +13,12 @@ pub returns-clause-masks : goal.returns-clause-masks
 returns-clause-masks g c =
     let d = g.D.PageDisk in
     let running = c.self.inside.running in
-    let p : At g.row.D.Denot = at_of running in
+    let p : StoreView g.row.D.Denot = view_of running in
     let masks = c.into_parts.result.masks in
     let is = c.into_parts.ensures in
-    let no_job : (p.job ≡ None) ⊎ IsSome p.stopped = subst (λ (b : Both g.row.D.Denot). (b.at.job ≡ None) ⊎ IsSome b.at.stopped) (sym c.self.view_is) c.requires.no_job in
-    let unclaimed : (channel : ℕ) → (rows_of p.rows channel).claim ≡ None = subst (λ (b : Both g.row.D.Denot). (channel : ℕ) → (rows_of b.at.rows channel).claim ≡ None) (sym c.self.view_is) c.requires.unclaimed in
-    subst (λ (b : Both g.row.D.Denot). b.at.stopped ≡ None → AreMasks b.at.super (map.get b.at.metas) (map.get b.at.chains) masks) c.self.view_is
+    let no_job : (p.job ≡ None) ⊎ IsSome p.stopped = subst (λ (b : WithOpening g.row.D.Denot). (b.at.job ≡ None) ⊎ IsSome b.at.stopped) (sym c.self.view_is) c.requires.no_job in
+    let unclaimed : (channel : ℕ) → (rows_of p.rows channel).claim ≡ None = subst (λ (b : WithOpening g.row.D.Denot). (channel : ℕ) → (rows_of b.at.rows channel).claim ≡ None) (sym c.self.view_is) c.requires.unclaimed in
+    subst (λ (b : WithOpening g.row.D.Denot). b.at.stopped ≡ None → AreMasks b.at.super (map.get b.at.metas) (map.get b.at.chains) masks) c.self.view_is
     (λ runs.
     let well = c.self.invariant.0.facts.well runs in
     let heads = c.self.invariant.1.heads in

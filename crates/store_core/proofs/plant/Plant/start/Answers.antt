@@ -1,10 +1,10 @@
 use Rattle.std.proofs.Common.{◌≡◌, sym, subst}
 use Rattle.std.specs.FinMap as map
 use Rattle.store_core.specs.declared.running.Running.{Running}
-use Rattle.store_core.specs.Kept.{Kept}
+use Rattle.store_core.specs.StoreInvariant.{StoreInvariant}
 use Rattle.store_core.specs.Opening.{opened_with}
-use Rattle.store_core.specs.Running.{at_of, both}
-use Rattle.store_core.specs.Seen.{At}
+use Rattle.store_core.specs.Running.{view_of, with_opening}
+use Rattle.store_core.specs.StoreView.{StoreView}
 use Rattle.store_core.proofs.Starts.{is_loaded_with, it_opens, none_past}
 use Rattle.store_core.proofs.plant.Plant.start.Goals as goal
 
@@ -17,11 +17,11 @@ invariant_of-result g c =
     let running : Running g.row.D.Denot = c.running_at_start-running.result in
     let live = c.in-Ok.parts.live in
     let rows = c.in-Ok.parts.rows.items in
-    let opened : At g.row.D.Denot = opened_with d c.args.loaded live rows in
-    let at : at_of running ≡ opened = c.running_at_start-running.ensures.at in
+    let opened : StoreView g.row.D.Denot = opened_with d c.args.loaded live rows in
+    let at : view_of running ≡ opened = c.running_at_start-running.ensures.at in
     let right = c.of-right.result.value.name in
-    let kept : Kept d (record { at = opened; opening = opened; right = right }) =
+    let kept : StoreInvariant d (record { at = opened; opening = opened; right = right }) =
     c.begins.ensures opened (is_loaded_with d c.args.loaded live rows c.requires.whole c.in-Ok.ensures.live)
     (it_opens d c.args.loaded live rows c.args.script c.in-Ok.ensures.rows) (c.regions_are_placed.ensures c.args.loaded.sup c.requires.faultless) c.requires.holds right in
-    let kept_at : Kept d (both running running right) = subst (λ (p : At g.row.D.Denot). Kept d (record { at = p; opening = p; right = right })) (sym at) kept in
-    (subst (λ (o : Running g.row.D.Denot). Kept d (both running o right)) (sym c.of-opening.ensures) kept_at, c.running_at_start-running.ensures.order)
+    let kept_at : StoreInvariant d (with_opening running running right) = subst (λ (p : StoreView g.row.D.Denot). StoreInvariant d (record { at = p; opening = p; right = right })) (sym at) kept in
+    (subst (λ (o : Running g.row.D.Denot). StoreInvariant d (with_opening running o right)) (sym c.of-opening.ensures) kept_at, c.running_at_start-running.ensures.order)

@@ -13,7 +13,7 @@ use Rattle.md_chain.specs.declared.fault.ChainFault.TheVariants as faults
 use Rattle.md_chain.specs.Chain.{Look, link_fault, blob_id, chain_end, is_among, Chain, IsBroken, at_link}
 use Rattle.md_chain.specs.Fetching.{place_fault, page_fault, IsFetchFault, IsNthPageFault}
 use Rattle.md_chain.specs.Reading.{OnlyRead, region_look, WasSeen, GaveChain, GaveFault, IsChainCause, IsPagesFault, RoseBy}
-use Rattle.md_chain.proofs.Walking.{Way, at_head, goes_on, ends, fails, spoils, known, place_fails, place_passes, new_place, unseen, unseen-none, unseen-new, among-more}
+use Rattle.md_chain.proofs.PageWalk.{Way, at_head, goes_on, ends, fails, spoils, known, place_fails, place_passes, new_place, unseen, unseen-none, unseen-new, among-more}
 
 alike_two : (a b c : Images) → Alike b a → Alike c b → Alike c a
 alike_two a b c ba cb image = (λ x. (ba image).0 ((cb image).0 x), λ x. (cb image).1 ((ba image).1 x))

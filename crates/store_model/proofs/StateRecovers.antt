@@ -18,9 +18,9 @@ use Rattle.store_model.specs.Regions.{region_of}
 use Rattle.store_model.specs.Scans.{Says}
 use Rattle.store_model.specs.Shown.{fixed_of, shows, volume_of}
 use Rattle.store_model.specs.Recovers.{AgreeAt, AreSynced, HasStore, Recovers}
-use Rattle.store_model.specs.Plants.{Plant}
-use Rattle.store_model.specs.Standing.{AreRoots, Facts, IsRoot}
-use Rattle.store_model.specs.PlantLaws.{IsSameBehind}
+use Rattle.store_model.specs.StoreState.{StoreState}
+use Rattle.store_model.specs.RunInvariant.{AreRoots, RunInvariant, IsRoot}
+use Rattle.store_model.specs.StateLaws.{IsSameBehind}
 use Rattle.store_model.proofs.Roots.{no_parent, root_volume, volume_root}
 use Rattle.store_model.proofs.Shows.{or_empty, shown_as_roots, shown_roots, roots_same}
 
@@ -59,7 +59,7 @@ set_synced : (k : ℕ) (image : Image) (live : Xattrs) (o : Option Meta)
 set_synced k image live None = refl
 set_synced k image live (Some m) = refl
 
-module _ (s : Super) (placed : IsPlaced s) (first : Volumes) (script : ℕ → List Command) (p : Plant) (facts : Facts s first script p) (runs : p.stopped ≡ None) where
+module _ (s : Super) (placed : IsPlaced s) (first : Volumes) (script : ℕ → List Command) (p : StoreState) (facts : RunInvariant s first script p) (runs : p.stopped ≡ None) where
   survives : (head : ℕ) → stable (fixed_of s) first p.log head ≡ shown_roots (cluster_pages_of s) p.device.reads (synced p.base) p.base head
   survives head =
       ap (λ (x : Super). stable (fixed_of x) first p.log head) (sym facts.super)

@@ -7,7 +7,7 @@ use Rattle.super_block.specs.declared.masks.Masks.{Masks}
 use Rattle.blob_meta.specs.Resolving.{IsLawful}
 use Rattle.store_model.specs.Maps.{Metas, Chains}
 use Rattle.store_model.specs.Places.{Unclaimed, UsedClusters, UsedPages}
-use Rattle.store_model.specs.Standing.{AreRoots, HaveChains}
+use Rattle.store_model.specs.RunInvariant.{AreRoots, HaveChains}
 use Rattle.store_core.specs.declared.loaded.Loaded.{Loaded}
 
 -- The masks are what the chains and the maps claim: pages, clusters and heads.

@@ -22,7 +22,7 @@ pub data Phase : Type 0 where
 
 -- A job: the metadata of the blob at a head is replaced, for a command of a channel. The head's page is replaced in place; the
 -- pages behind it go to fresh places, and those that stood behind it are erased.
-pub record Job : Type 0 where
+pub record JobState : Type 0 where
   pub channel : ℕ
   pub head : ℕ
   pub new : Meta
@@ -34,23 +34,23 @@ pub record Job : Type 0 where
   pub phase : Phase
 
 -- the pages that a job has left to write
-abbrev pub pages_in : Job → Phase → ℕ
-pages_in j (Writing written) = (length j.fresh - written) + 1 + length j.old
-pages_in j (Erasing erased) = length j.old - erased
+abbrev pub pages_left_in : JobState → Phase → ℕ
+pages_left_in j (Writing written) = (length j.fresh - written) + 1 + length j.old
+pages_left_in j (Erasing erased) = length j.old - erased
 
-abbrev pub pages_left : Option Job → ℕ
+abbrev pub pages_left : Option JobState → ℕ
 pages_left None = 0
-pages_left (Some j) = pages_in j j.phase
+pages_left (Some j) = pages_left_in j j.phase
 
 -- the page that is planned for a place
 abbrev pub page_in : List PlannedPage → Look
 page_in [] place = []
 page_in (x ∷ xs) place = if place == x.place then x.page else page_in xs place
 
-abbrev pub planned_at : Job → Look
+abbrev pub planned_at : JobState → Look
 planned_at j = page_in j.planned
 
-pub record Plant : Type 0 where
+pub record StoreState : Type 0 where
   pub super : Super
   -- the metadata as the device says it, and the places of each blob's chain
   pub base : Metas
@@ -61,7 +61,7 @@ pub record Plant : Type 0 where
   pub pages : List Bool
   pub clusters : List Bool
   pub rows : Rows
-  pub job : Option Job
+  pub job : Option JobState
   -- the number under which the next command is posted
   pub serial : ℕ
   pub log : List Entry
@@ -72,7 +72,7 @@ pub record Plant : Type 0 where
   pub device : Device
 
 -- the volumes that are shown
-abbrev pub shown : Plant → Volumes
+abbrev pub shown : StoreState → Volumes
 shown p head = option_map (λ m. volume_of (fixed_of p.super).cluster_pages p.device.reads p.base p.super.md_len (option_map_or (λ xs. xs) (p.live head) []) head m) (p.base head)
 
 -- serial numbers are drawn from one counter of 64 bits
@@ -81,7 +81,7 @@ next_serial n = (n + 1) % 2 ^ 64
 
 -- One entry is logged: the command leaves its row, which is at this stage then and has no claim; and the clock at the exit is the
 -- entry's mark.
-abbrev pub logged_to : Stage → Plant → ℕ → Command → List Command → Reply → Device → Plant
+abbrev pub logged_to : Stage → StoreState → ℕ → Command → List Command → Reply → Device → StoreState
 logged_to next p channel command rest reply d = record p {
   rows = with_row p.rows channel (record { left = rest; stage = next; claim = None });
   log = p.log ++ entry_of p.log channel command reply ∷ [];
@@ -90,15 +90,15 @@ logged_to next p channel command rest reply d = record p {
 }
 
 -- in a turn of the metadata thread: the channel is to be told
-abbrev pub logged : Plant → ℕ → Command → List Command → Reply → Device → Plant
+abbrev pub logged : StoreState → ℕ → Command → List Command → Reply → Device → StoreState
 logged = logged_to (Decided Answered)
 
 -- in a turn of the channel's own: it goes on with its next command
-abbrev pub logged_here : Plant → ℕ → Command → List Command → Reply → Device → Plant
+abbrev pub logged_here : StoreState → ℕ → Command → List Command → Reply → Device → StoreState
 logged_here = logged_to Idle
 
 -- how a run begins: nothing is posted, nothing logged, no job runs, and nothing has failed
-pub record Opens (p : Plant) : Type 0 where
+pub record Opens (p : StoreState) : Type 0 where
   pub waits : (channel : ℕ) → ((p.rows channel).stage ≡ Idle) ⊎ (p.rows channel ≡ record { left = []; stage = Ended; claim = None })
   pub unclaimed : (channel : ℕ) → (p.rows channel).claim ≡ None
   pub log : p.log ≡ []

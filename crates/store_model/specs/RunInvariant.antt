@@ -17,7 +17,7 @@ use Rattle.store_model.specs.Maps.{Metas, Chains}
 use Rattle.store_model.specs.Regions.{region_of}
 use Rattle.store_model.specs.Shown.{fixed_of}
 use Rattle.store_model.specs.Rows.{Copying, entries_of, InJob, OpenClaim, Posted, Ended, Ready, Row, Stage}
-use Rattle.store_model.specs.Plants.{pages_in, Job, Writing, Plant, shown}
+use Rattle.store_model.specs.StoreState.{pages_left_in, JobState, Writing, StoreState, shown}
 use Rattle.store_model.specs.Places.{AreDistinct, ClaimsDiffer, held_by, IsClaimed, UsedPages, UsedClusters}
 use Rattle.store_model.specs.Jobs.{JobStands}
 
@@ -50,7 +50,7 @@ pub record HaveChains (s : Super) (metas : Metas) (chains : Chains) : Type 0 whe
   pub differ : (head : ℕ) (pages : List ℕ) → chains head ≡ Some pages → AreDistinct pages
 
 -- Of each channel, the commands so far, numbered in the log, and those that are left are all of the script's.
-pub record OnItsWay (p : Plant) (script : ℕ → List Command) (channel : ℕ) : Type 0 where
+pub record OnItsWay (p : StoreState) (script : ℕ → List Command) (channel : ℕ) : Type 0 where
   pub made : List Command
   pub numbered : Numbered 0 (entries_of channel p.log) made
   pub all : made ++ (p.rows channel).left ≡ script channel
@@ -70,28 +70,28 @@ pub record IsServedRow (row : Row) : Type 0 where
   pub is : row ≡ record { left = command ∷ rest; stage = InJob; claim = None }
 
 -- how rows stand to the job
-pub record IsShaped (p : Plant) : Type 0 where
+pub record IsShaped (p : StoreState) : Type 0 where
   -- what is posted or in the job is a command, and an ended channel has none left
   pub posted : (channel serial : ℕ) → (p.rows channel).stage ≡ Posted serial → (p.rows channel).left ≢ []
-  pub in_job : (channel : ℕ) → (p.rows channel).stage ≡ InJob → (job : Job) × (written : ℕ) × (p.job ≡ Some job) × (job.channel ≡ channel) × (job.phase ≡ Writing written)
+  pub in_job : (channel : ℕ) → (p.rows channel).stage ≡ InJob → (job : JobState) × (written : ℕ) × (p.job ≡ Some job) × (job.channel ≡ channel) × (job.phase ≡ Writing written)
   -- and a job serves a command until its head is written
-  pub served : (job : Job) (written : ℕ) → p.job ≡ Some job → job.phase ≡ Writing written → IsServedRow (p.rows job.channel)
+  pub served : (job : JobState) (written : ℕ) → p.job ≡ Some job → job.phase ≡ Writing written → IsServedRow (p.rows job.channel)
   pub ended : (channel : ℕ) → (p.rows channel).stage ≡ Ended → (p.rows channel).left ≡ []
   -- a claim is held from when it is made until its insert is decided
   pub claims : (channel : ℕ) (claim : OpenClaim) → (p.rows channel).claim ≡ Some claim → MayClaim (p.rows channel).stage
 
 -- while the store runs: what it has in memory is what the device says, and the volumes shown are the log's replay
-pub record RunsWell (first : Volumes) (p : Plant) : Type 0 where
+pub record RunsWell (first : Volumes) (p : StoreState) : Type 0 where
   pub chains : HaveChains p.super p.base p.chains
   pub live : (head : ℕ) (m : Meta) → p.base head ≡ Some m → (xattrs : Xattrs) × (p.live head ≡ Some xattrs) × CanBeWritten xattrs
   pub no_live : (head : ℕ) → p.base head ≡ None → p.live head ≡ None
   pub pages : UsedPages p.super.md_len p.pages p.chains (held_by p.job)
   pub clusters : UsedClusters p.super p.clusters p.base (IsClaimed p.rows)
   pub claims : ClaimsDiffer p.rows
-  pub job : (job : Job) → p.job ≡ Some job → JobStands p job
+  pub job : (job : JobState) → p.job ≡ Some job → JobStands p job
   pub replayed : shown p ≡ replay (fixed_of p.super) first p.log
 
-pub record Facts (s : Super) (first : Volumes) (script : ℕ → List Command) (p : Plant) : Type 0 where
+pub record RunInvariant (s : Super) (first : Volumes) (script : ℕ → List Command) (p : StoreState) : Type 0 where
   pub super : p.super ≡ s
   pub roots : AreRoots s p.base
   pub lawful : IsLawful s.md_len p.base
@@ -105,4 +105,4 @@ pub record Facts (s : Super) (first : Volumes) (script : ℕ → List Command) (
   -- a store stops behind some of its entries
   pub halted : (at : ℕ) → p.stopped ≡ Some at → at ≤ length p.log
   -- a job that runs has something left to do
-  pub unfinished : (job : Job) → p.job ≡ Some job → 0 < pages_in job job.phase
+  pub unfinished : (job : JobState) → p.job ≡ Some job → 0 < pages_left_in job job.phase

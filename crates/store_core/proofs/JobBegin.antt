@@ -28,16 +28,16 @@ use Rattle.md_chain.proofs.Saying.{written_say}
 use Rattle.store_model.specs.Regions.{region_of}
 use Rattle.store_model.specs.Scans.{MetaAt}
 use Rattle.store_model.specs.Rows.{with_row, Ended, InJob, Posted, Row, Rows}
-use Rattle.store_model.specs.Plants.{Job, Plant, Writing, logged, page_in}
+use Rattle.store_model.specs.StoreState.{JobState, StoreState, Writing, logged, page_in}
 use Rattle.store_model.specs.Places.{all_set, held_by, AreDistinct, AreLeastClear, IsLinked, UsedPages}
 use Rattle.store_model.specs.Jobs.{places_of, AsksFor, IsPacked, IsSyncing, Needs}
 use Rattle.store_model.specs.Cases.{Begins, IsPosted, IsRefusedAtBegin, Refuses}
-use Rattle.store_model.specs.Standing.{CanBeWritten, IsRoot, RunsWell}
-use Rattle.store_model.proofs.PlantBegins.{writable_root}
+use Rattle.store_model.specs.RunInvariant.{CanBeWritten, IsRoot, RunsWell}
+use Rattle.store_model.proofs.StateBegins.{writable_root}
 use Rattle.store_model.proofs.Sets.{all_set_in, all_set_out, among_either, among_first, are_distinct, not_first, length_all_set, were_clear, AllBelow}
 use Rattle.store_core.specs.Begins.{IsPrepared, IsTaken}
-use Rattle.store_core.specs.Kept.{IsRunning}
-use Rattle.store_core.specs.Seen.{At, device_of, rows_of, state_of}
+use Rattle.store_core.specs.StoreInvariant.{IsRunning}
+use Rattle.store_core.specs.StoreView.{StoreView, device_of, rows_of, state_of}
 use Rattle.store_core.specs.Steps.{logged_at, IsPostedAt}
 use Rattle.store_core.specs.declared.begin.Prepared.{Prepared}
 use Rattle.store_core.proofs.AtWork.{page_of}
@@ -93,7 +93,7 @@ all_fit xattrs can = All-from_recursion FitsPage xattrs can.short
 -- ---- a job that may begin
 
 -- what is taken and planned is what a job begins with
-pub record IsReady (p : Plant) (head : ℕ) (new : Meta) (after : List Bool) (plan : List PlannedPage) (fresh : List ℕ) : Type 0 where
+pub record IsReady (p : StoreState) (head : ℕ) (new : Meta) (after : List Bool) (plan : List PlannedPage) (fresh : List ℕ) : Type 0 where
   pub needs : Needs new (length fresh)
   pub least : AreLeastClear p.pages fresh
   pub taken : after ≡ all_set p.pages fresh true
@@ -101,7 +101,7 @@ pub record IsReady (p : Plant) (head : ℕ) (new : Meta) (after : List Bool) (pl
   pub planned : MetaAt (page_in plan) (region_of p.super) head new (head ∷ fresh)
   pub places : places_of plan ≡ head ∷ fresh
 
-module _ (p : Plant) (running : IsRunning p) (runs : p.stopped ≡ None) (command : Command) (head : ℕ) (new : Meta) (asks : AsksFor p command head new) where
+module _ (p : StoreState) (running : IsRunning p) (runs : p.stopped ≡ None) (command : Command) (head : ℕ) (new : Meta) (asks : AsksFor p command head new) where
   well : RunsWell running.first p
   well = running.facts.well runs
 
@@ -182,8 +182,8 @@ may_lack f v _ is = absurd is
 
 -- ---- the turns
 
-module _ {D : Type 0} (d : Ghosts D) (p : At D) (channel : ℕ) (low : channel < length p.rows) (posted : IsPostedAt p channel) (runs : p.stopped ≡ None) where
-  abbrev s : Plant
+module _ {D : Type 0} (d : Ghosts D) (p : StoreView D) (channel : ℕ) (low : channel < length p.rows) (posted : IsPostedAt p channel) (runs : p.stopped ≡ None) where
+  abbrev s : StoreState
   s = state_of d p
 
   abbrev command : Command
@@ -201,7 +201,7 @@ module _ {D : Type 0} (d : Ghosts D) (p : At D) (channel : ℕ) (low : channel <
   pub row_is : (row : Row) → row ≡ slice_index_or p.rows channel row → row ≡ record { left = command ∷ rest; stage = Posted posted.serial; claim = None }
   row_is row is = is ∙ get_or_default p.rows channel row (record { left = []; stage = Ended; claim = None }) low ∙ posted.waits.row
 
-  pub begun : p.job ≡ None → (j : Job) → j.channel ≡ channel → AsksFor s command j.head j.new → j.phase ≡ Writing 0 → s.chains j.head ≡ Some (j.head ∷ j.old)
+  pub begun : p.job ≡ None → (j : JobState) → j.channel ≡ channel → AsksFor s command j.head j.new → j.phase ≡ Writing 0 → s.chains j.head ≡ Some (j.head ∷ j.old)
       → (after : List Bool) → IsReady s j.head j.new after j.planned j.fresh → (row : Row) → row ≡ in_job → Begins s (state_of d (record p { rows = slice_set p.rows channel row; pages = after; job = Some j }))
   begun no_job j serves asks phase chain after is row row_now = record {
     posted = is_posted;
@@ -223,7 +223,7 @@ module _ {D : Type 0} (d : Ghosts D) (p : At D) (channel : ℕ) (low : channel <
         ∙ ap (λ (bits : List Bool). record s { rows = with_row s.rows channel in_job; pages = bits; job = Some j }) is.taken;
   }
 
-  pub refused : (reply : Reply) → IsRefusedAtBegin s command reply → (after : List Bool) → after ≡ p.pages → (new : At D)
+  pub refused : (reply : Reply) → IsRefusedAtBegin s command reply → (after : List Bool) → after ≡ p.pages → (new : StoreView D)
       → ((k : Command) (ks : List Command) → (rows_of p.rows channel).left ≡ k ∷ ks → new ≡ logged_at (record p { pages = after }) channel k ks reply (d.clock new.disk))
       → Refuses s (state_of d new) × (new.disk ≡ p.disk)
   refused reply why after same new entry =

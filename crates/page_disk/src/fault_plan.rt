@@ -1,7 +1,7 @@
 // Which calls of a disk are to fail.
 ghost use Rattle.std.specs.Prelude.{◌≡◌, ◌≤◌, ◌↔◌, IsTrue};
 ghost use Rattle.page_disk.specs.Disk.{last_count};
-ghost use Rattle.page_disk.specs.Fault.{begun, calls_of, counted, IsFailing, IsPlanned, plan_after};
+ghost use Rattle.page_disk.specs.Fault.{plan_begun, calls_of, counted, IsFailing, IsPlannedToFail, plan_after};
 
 /// One of the three calls of a disk that can fail.
 #[derive(Clone, Copy, Debug, PartialEq, Eq)]
@@ -20,20 +20,20 @@ pub struct Fail {
 
 /// Which calls are to fail.
 #[derive(Drop)]
-pub(crate) enum Plan {
+pub(crate) enum FailingCalls {
     /// These.
     Listed(Vec<Fail>),
     /// Every one after so many more.
     Stopping(u64),
 }
 
-impl Plan {
+impl FailingCalls {
     fn is_planned(&self, kind: CallKind, nth: u64) -> bool
-        ensures { IsTrue result ↔ IsPlanned self.now kind nth }
+        ensures { IsTrue result ↔ IsPlannedToFail self.now kind nth }
     {
         match self {
-            Plan::Listed(fails) => fails.contains(&Fail { kind, nth }),
-            Plan::Stopping(left) => *left == 0,
+            FailingCalls::Listed(fails) => fails.contains(&Fail { kind, nth }),
+            FailingCalls::Stopping(left) => *left == 0,
         }
     }
 
@@ -41,7 +41,7 @@ impl Plan {
     fn step(&mut self)
         ensures { self.new ≡ plan_after self.old }
     {
-        if let Plan::Stopping(left) = self {
+        if let FailingCalls::Stopping(left) = self {
             *left = left.saturating_sub(1);
         }
     }
@@ -49,18 +49,18 @@ impl Plan {
 
 /// Which calls are to fail, and how many of each kind there were.
 #[derive(Drop)]
-pub(crate) struct Schedule {
-    pub(crate) plan: Plan,
+pub(crate) struct FaultPlan {
+    pub(crate) plan: FailingCalls,
     pub(crate) reads: u64,
     pub(crate) writes: u64,
     pub(crate) flushes: u64,
 }
 
-impl Schedule {
-    pub(crate) fn new(plan: Plan) -> Schedule
-        ensures { result ≡ begun plan }
+impl FaultPlan {
+    pub(crate) fn new(plan: FailingCalls) -> FaultPlan
+        ensures { result ≡ plan_begun plan }
     {
-        Schedule {
+        FaultPlan {
             plan,
             reads: 0,
             writes: 0,

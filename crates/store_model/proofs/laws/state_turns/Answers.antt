@@ -1,6 +1,6 @@
-use Rattle.store_model.proofs.PlantBegins.{begins_well, run_more, turn_keeps, writable_root}
-use Rattle.store_model.proofs.PlantRecovers.{recovers}
-use Rattle.store_model.proofs.laws.plant_turns.Goals as goal
+use Rattle.store_model.proofs.StateBegins.{begins_well, run_more, turn_keeps, writable_root}
+use Rattle.store_model.proofs.StateRecovers.{recovers}
+use Rattle.store_model.proofs.laws.state_turns.Goals as goal
 
 pub returns : goal.returns
 returns c = record {
