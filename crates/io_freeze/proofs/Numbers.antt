@@ -7,7 +7,7 @@ use Rattle.std.proofs.lemmas.Bool.{cases_eq}
 use Rattle.std.proofs.lemmas.List.Elements.{All-cons, All-nil, All-weaker}
 use Rattle.std.proofs.lemmas.List.Kept.{AllPairs-cons}
 use Rattle.io_freeze.specs.Calls.{GuardsCall, guards_after_all, all_drawn_by}
-use Rattle.io_freeze.specs.Calls.Call.{Add, Remove, Freeze, Release, Renew}
+use Rattle.io_freeze.specs.Calls.GuardsCall.{Add, Remove, Freeze, Release, Renew}
 use Rattle.io_freeze.specs.Guards.{GuardsState, frozen_at, released, removed, renewed}
 use Rattle.io_freeze.proofs.Found.{tied, tied-same, tied-apart}
 
