@@ -1,14 +1,12 @@
 //! Puts that make a chain longer and shorter, and power that fails at each call of the device.
 
-use crate::images::{LAST, THICK, image};
-use crate::looks::{assert_chains, assert_written};
-use crate::runs::{push_long, run, sink};
 use blob_report::render_entry;
 use page_disk::{FaultDisk, MemDisk};
 use script_lang::parse;
 use std::alloc::Global;
-use std::process::Abort;
-use std::test::Fail as TestFail;
+use std::test::Fail;
+use test_runs::{Ran, play, push_long, run};
+use test_stores::{LAST, THICK, expect_chains, expect_written, image};
 use volume_model::{Command, Entry, Name, Reply, TryCopy, Volumes};
 
 /// What stands once so many puts are done: how many calls of the device were made until the head of the last one was
@@ -67,8 +65,8 @@ const POINTS: [Point; 6] = [
 const ALL_CALLS: u64 = 32;
 
 /// A store of just enough metadata pages, with a blob at place 0.
-fn one_blob(rt: &impl Abort, alloc: Global) -> Result<MemDisk, TestFail> {
-    image(rt, alloc, (64, MD_PAGES), &[(0, 0, 0, LAST, &[THICK])])
+fn one_blob(alloc: Global) -> Result<MemDisk, Fail> {
+    image(alloc, (64, MD_PAGES), &[(0, 0, 0, LAST, &[THICK])])
 }
 
 /// The last of the points that are reached with so many calls.
@@ -83,7 +81,7 @@ fn point_at(calls: u64) -> Point {
 }
 
 /// The five puts.
-fn puts(alloc: Global) -> Result<Vec<u8>, TestFail> {
+fn puts(alloc: Global) -> Result<Vec<u8>, Fail> {
     let mut script = Vec::new(alloc);
     push_long(&mut script, b"0 put @0 k t:", (b'1', 1))?;
     push_long(&mut script, b"0 put @0 k t:", (b'x', 4062))?;
@@ -93,29 +91,42 @@ fn puts(alloc: Global) -> Result<Vec<u8>, TestFail> {
     Ok(script)
 }
 
-/// The disk after so many calls of the device, with as many puts done as are answered so.
-fn stopped(rt: &impl Abort, alloc: Global, calls: u64) -> Result<MemDisk, TestFail> {
-    let mut done = Vec::new(alloc);
+/// The lines of the puts that are answered in so many calls of the device.
+fn answered(alloc: Global, calls: u64) -> Result<Vec<u8>, Fail> {
+    let mut lines = Vec::new(alloc);
     for (index, point) in POINTS[1..].iter().enumerate() {
         if point.calls <= calls {
-            done.extend_from_slice(format!(in alloc; "0 {index} ok\n")?.as_bytes())?;
+            lines.extend_from_slice(format!(in alloc; "0 {index} ok\n")?.as_bytes())?;
         }
     }
-    let disk = FaultDisk::stopping(one_blob(rt, alloc)?, calls);
-    let mut out = sink(alloc, Vec::new(alloc))?;
-    let (_, disk) = run(alloc, &puts(alloc)?, &mut out, disk)?;
-    let printed = out.bytes();
-    assert!(rt; printed.starts_with(&done));
-    let oks = printed.iter().filter(|b| **b == b'k').count();
-    assert_eq!(rt; oks, done.iter().filter(|b| **b == b'k').count());
+    Ok(lines)
+}
+
+/// How many lines of a printed text end in `ok`.
+fn count_of_ok(printed: &[u8]) -> usize {
+    printed.iter().filter(|b| **b == b'k').count()
+}
+
+/// The disk after so many calls of the device, with as many puts done as are answered so.
+fn stopped(alloc: Global, calls: u64) -> Result<MemDisk, Fail> {
+    let disk = FaultDisk::stopping(one_blob(alloc)?, calls);
+    let Ran {
+        status: _,
+        out,
+        disk,
+    } = run(alloc, &puts(alloc)?, disk)?;
+    let done = answered(alloc, calls)?;
+    if !out.bytes().starts_with(&done) || count_of_ok(out.bytes()) != count_of_ok(&done) {
+        return Err(Fail::new(format_args!("other puts are answered in {calls} calls")));
+    }
     Ok(disk.into_inner())
 }
 
 /// The two values as they are looked up.
 const LOOK: &[u8] = b"0 getx @0 k\n0 getx @0 j\n";
 
-/// What the plain machine tells of the two values once so many of the puts are done.
-fn told(rt: &impl Abort, alloc: Global, puts: usize) -> Result<Vec<u8>, TestFail> {
+/// The plain machine once so many of the puts are done.
+fn machine(alloc: Global, puts: usize) -> Result<Volumes, Fail> {
     let mut volumes = Volumes::new(alloc, 4, MD_PAGES, None);
     volumes.apply(
         alloc,
@@ -130,11 +141,19 @@ fn told(rt: &impl Abort, alloc: Global, puts: usize) -> Result<Vec<u8>, TestFail
     for put in script.commands(0).iter().take(puts) {
         volumes.apply(alloc, put);
     }
+    Ok(volumes)
+}
+
+/// What the plain machine tells of the two values once so many of the puts are done.
+fn told(alloc: Global, puts: usize) -> Result<Vec<u8>, Fail> {
+    let mut volumes = machine(alloc, puts)?;
     let look = parse(alloc, LOOK)?;
     let mut text = Vec::new(alloc);
     for (index, command) in look.commands(0).iter().enumerate() {
         let reply = volumes.apply(alloc, command);
-        assert!(rt; !matches!(&reply, Reply::Content(_)));
+        if matches!(&reply, Reply::Content(_)) {
+            return Err(Fail::new("an attribute is no page"));
+        }
         let entry = Entry {
             channel: 0,
             index: index as u32,
@@ -146,32 +165,24 @@ fn told(rt: &impl Abort, alloc: Global, puts: usize) -> Result<Vec<u8>, TestFail
     Ok(text)
 }
 
-/// What is loaded has the values of the plain machine and the chain of a point.
-fn assert_point(
-    rt: &impl Abort,
-    alloc: Global,
-    disk: MemDisk,
-    point: Point,
-) -> Result<(), TestFail> {
-    let mut out = sink(alloc, Vec::new(alloc))?;
-    let (_, disk) = run(alloc, LOOK, &mut out, disk)?;
-    assert_eq!(rt; out.bytes(), told(rt, alloc, point.puts)?.as_slice());
-    assert_chains(rt, alloc, disk, &[(0, point.chain)])
+/// Expects that what is loaded has the values of the plain machine and the chain of a point.
+fn expect_point(alloc: Global, disk: MemDisk, point: Point) -> Result<(), Fail> {
+    let disk = play(alloc, LOOK, &told(alloc, point.puts)?, disk)?;
+    expect_chains(alloc, disk, &[(0, point.chain)])
 }
 
 /// A put whose head is written and not flushed may be there or not: it is where a crash leaves the last write, as pick
 /// 1 says.
 #[test]
-fn each_crash_leaves_the_puts_that_were_done(rt: HostRuntime) -> Result<(), TestFail> {
+fn each_crash_leaves_the_puts_that_were_done(rt: HostRuntime) -> Result<(), Fail> {
     let alloc = rt.alloc();
     for calls in 0..ALL_CALLS + 1 {
-        let disk = stopped(&rt, alloc, calls)?;
+        let disk = stopped(alloc, calls)?;
         for pick in 0..4 {
             let reached = if pick == 1 { calls + 1 } else { calls };
-            assert_point(&rt, alloc, disk.crash(pick)?, point_at(reached))?;
+            expect_point(alloc, disk.crash(pick)?, point_at(reached))?;
         }
     }
-    let mut disk = stopped(&rt, alloc, ALL_CALLS)?;
-    assert_written(&rt, &mut disk, MD_PAGES, &[0])?;
-    Ok(())
+    let mut disk = stopped(alloc, ALL_CALLS)?;
+    expect_written(&mut disk, MD_PAGES, &[0])
 }

@@ -1,14 +1,13 @@
 //! Each fault of an image with its numbers, and a store that is loaded whole.
 
-use crate::images::{LAST, PageRow, THICK, THIN, image};
 use bit_array::Bits;
 use blob_meta::{Chains, Metas};
 use page_disk::{CallKind, Fail, FaultDisk, MemDisk, PageDisk};
 use std::alloc::Global;
-use std::process::Abort;
 use std::test::Fail as TestFail;
 use store_core::Loaded;
 use super_block::Masks;
+use test_stores::{LAST, PageRow, THICK, THIN, image};
 use unclean_load::{load, stores_are_accepted};
 
 /// An attribute `name` of value `a`, and a mark SNAP.
@@ -172,27 +171,39 @@ fn outcome<D: PageDisk + Drop>(alloc: Global, disk: D) -> Result<String, TestFai
 fn each_fault_of_an_image_says_its_numbers(rt: HostRuntime) -> Result<(), TestFail> {
     stores_are_accepted();
     for case in &CASES {
-        let disk = image(&rt, rt.alloc(), (256, 16), case.pages)?;
+        let disk = image(rt.alloc(), (256, 16), case.pages)?;
         assert_eq!(rt; outcome(rt.alloc(), disk)?.as_str(), case.text);
     }
+    Ok(())
+}
+
+#[test]
+fn a_device_without_pages_has_no_store(rt: HostRuntime) -> Result<(), TestFail> {
     let none = MemDisk::new(rt.alloc(), 0, 0)?;
     let unsigned = "super block: the signature isn't SPDKBLOB";
     assert_eq!(rt; outcome(rt.alloc(), none)?.as_str(), unsigned);
+    Ok(())
+}
+
+/// A device with an empty store, whose second read fails.
+fn unread(alloc: Global) -> Result<FaultDisk<MemDisk>, TestFail> {
     let second = Fail {
         kind: CallKind::Read,
         nth: 2,
     };
-    let whole = image(&rt, rt.alloc(), (256, 16), &[])?;
-    let failing = FaultDisk::new(whole, vec![in rt.alloc(); second]?);
-    assert_eq!(rt;
-        outcome(rt.alloc(), failing)?.as_str(),
-        "a page could not be read"
-    );
+    Ok(FaultDisk::new(image(alloc, (256, 16), &[])?, vec![in alloc; second]?))
+}
+
+#[test]
+fn a_page_that_is_not_read_is_a_fault(rt: HostRuntime) -> Result<(), TestFail> {
+    let text = outcome(rt.alloc(), unread(rt.alloc())?)?;
+    assert_eq!(rt; text.as_str(), "a page could not be read");
     Ok(())
 }
 
-/// A store of 32 metadata pages with 16 blobs of 2^20 empty slots each, and so many more of one slot.
-fn many_slots(rt: &impl Abort, alloc: Global, more: u32) -> Result<MemDisk, TestFail> {
+/// What comes of loading a store of 32 metadata pages with 16 blobs of 2^20 empty slots each, and so many more of one
+/// slot.
+fn outcome_of_many_slots(alloc: Global, more: u32) -> Result<String, TestFail> {
     let mut rows: Vec<PageRow> = Vec::new(alloc);
     for head in 0..16 {
         rows.push((head, head, 0, LAST, &[THIN, MILLION]))?;
@@ -200,17 +211,50 @@ fn many_slots(rt: &impl Abort, alloc: Global, more: u32) -> Result<MemDisk, Test
     for head in 16..more.saturating_add(16) {
         rows.push((head, head, 0, LAST, &[THIN, ONE]))?;
     }
-    image(rt, alloc, (256, 32), &rows)
+    outcome(alloc, image(alloc, (256, 32), &rows)?)
 }
 
 #[test]
 fn maps_may_have_2_to_the_24_slots_together(rt: HostRuntime) -> Result<(), TestFail> {
-    let most = many_slots(&rt, rt.alloc(), 0)?;
-    assert_eq!(rt; outcome(rt.alloc(), most)?.as_str(), "loaded");
-    let more = many_slots(&rt, rt.alloc(), 2)?;
+    assert_eq!(rt; outcome_of_many_slots(rt.alloc(), 0)?.as_str(), "loaded");
     let text = "maps of 16777217 slots together where at most 16777216 are possible";
-    assert_eq!(rt; outcome(rt.alloc(), more)?.as_str(), text);
+    assert_eq!(rt; outcome_of_many_slots(rt.alloc(), 2)?.as_str(), text);
     Ok(())
+}
+
+/// The pages of a blob at place 2 whose chain goes on at 9 and ends at 3.
+const CHAIN: [PageRow; 3] = [
+    (2, 2, 0, 9, &[THIN, NAME]),
+    (9, 2, 1, 3, &[b"\x01\x08\0\0\0\x07\0\0\0\x02\0\0\0"]),
+    (
+        3,
+        2,
+        2,
+        LAST,
+        &[b"\x01\x10\0\0\0\0\0\0\0\x01\0\0\0\x09\0\0\0\x01\0\0\0"],
+    ),
+];
+
+/// What is loaded of that chain.
+fn whole(alloc: Global) -> Result<(Metas, Chains, Masks, bool), TestFail> {
+    match load(alloc, image(alloc, (256, 16), &CHAIN)?) {
+        Ok(loaded) => Ok(parts_of(loaded)),
+        Err((_, fault)) => Err(TestFail::new(fault)),
+    }
+}
+
+/// The id, the map and the attributes of the blob at place 2, and the places of its chain.
+fn blob_line(alloc: Global, metas: &Metas, chains: &Chains) -> Result<String, TestFail> {
+    match (metas.get(2), chains.get(2)) {
+        (Some(meta), Some(places)) => Ok(format!(in alloc;
+            "{} {:?} {:?} {:?}",
+            meta.id,
+            meta.map.as_slice(),
+            meta.xattrs.as_slice(),
+            places.as_slice()
+        )?),
+        _ => Ok(format!(in alloc; "no blob")?),
+    }
 }
 
 /// The numbers in a set, as text.
@@ -225,47 +269,27 @@ fn members(alloc: Global, bits: &Bits) -> Result<String, TestFail> {
 }
 
 #[test]
-fn a_store_with_a_chain_of_three_pages_is_loaded_whole(rt: HostRuntime) -> Result<(), TestFail> {
-    let chain: [PageRow; 3] = [
-        (2, 2, 0, 9, &[THIN, NAME]),
-        (9, 2, 1, 3, &[b"\x01\x08\0\0\0\x07\0\0\0\x02\0\0\0"]),
-        (
-            3,
-            2,
-            2,
-            LAST,
-            &[b"\x01\x10\0\0\0\0\0\0\0\x01\0\0\0\x09\0\0\0\x01\0\0\0"],
-        ),
-    ];
-    let alloc = rt.alloc();
-    let disk = image(&rt, alloc, (256, 16), &chain)?;
-    let Ok(loaded) = load(alloc, disk) else {
-        panic!(rt; "it is loaded");
-    };
-    let (metas, chains, masks, quick) = parts_of(loaded);
-    let meta = metas.get(2).expect(&rt, "the blob at page 2");
-    let text = format!(in alloc;
-        "{} {:?} {:?}",
-        meta.id,
-        meta.map.as_slice(),
-        meta.xattrs.as_slice()
-    )?;
+fn a_blob_with_a_chain_of_three_pages_is_loaded_whole(rt: HostRuntime) -> Result<(), TestFail> {
+    let (metas, chains, _, _) = whole(rt.alloc())?;
     assert_eq!(rt;
-        text.as_str(),
+        blob_line(rt.alloc(), &metas, &chains)?.as_str(),
         "4294967298 [Some(7), Some(8), None, Some(9)] \
-            [Xattr { key: Blobtext { bytes: [110, 97, 109, 101] }, value: Blobtext { bytes: [97, 0] } }]"
+            [Xattr { key: Blobtext { bytes: [110, 97, 109, 101] }, value: Blobtext { bytes: [97, 0] } }] [2, 9, 3]"
     );
-    let places = chains.get(2).expect(&rt, "its chain");
-    assert_eq!(rt;
-        format!(in alloc; "{:?}", places.as_slice())?.as_str(),
-        "[2, 9, 3]"
-    );
-    assert_eq!(rt; members(alloc, &masks.pages)?.as_str(), "[2, 3, 9]");
-    assert_eq!(rt;
-        members(alloc, &masks.clusters)?.as_str(),
-        "[0, 1, 2, 3, 4, 7, 8, 9]"
-    );
-    assert_eq!(rt; members(alloc, &masks.blobs)?.as_str(), "[2]");
+    Ok(())
+}
+
+#[test]
+fn the_masks_have_what_a_chain_of_three_pages_uses(rt: HostRuntime) -> Result<(), TestFail> {
+    let (_, _, masks, quick) = whole(rt.alloc())?;
+    let table = [
+        (&masks.pages, "[2, 3, 9]"),
+        (&masks.clusters, "[0, 1, 2, 3, 4, 7, 8, 9]"),
+        (&masks.blobs, "[2]"),
+    ];
+    for (bits, numbers) in table {
+        assert_eq!(rt; members(rt.alloc(), bits)?.as_str(), numbers);
+    }
     assert!(rt; !quick);
     Ok(())
 }

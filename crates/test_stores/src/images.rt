@@ -1,9 +1,8 @@
-//! Devices with a store, for tests.
+//! Devices with a store.
 
 use md_page::MdPage;
 use page_disk::{MemDisk, Page, PageDisk, WriteKind};
 use std::alloc::Global;
-use std::process::Abort;
 use std::test::Fail;
 use super_block::{Layout, write_super};
 
@@ -13,11 +12,13 @@ pub const LAST: u32 = 0xFFFF_FFFF;
 /// One metadata page: its place in the region, the head of its blob, its sequence, its next place and its descriptors.
 pub type PageRow = (u32, u32, u32, u32, &'static [&'static [u8]]);
 
-/// Flags of zeros, those of a thin blob, and those of a blob whose data is read-only.
+/// Flags of zeros.
 pub const THICK: &[u8] = b"\x03\x18\0\0\0\0\0\0\0\0\0\0\0\0\0\0\0\0\0\0\0\0\0\0\0\0\0\0\0";
 
+/// The flags of a thin blob.
 pub const THIN: &[u8] = b"\x03\x18\0\0\0\x01\0\0\0\0\0\0\0\0\0\0\0\0\0\0\0\0\0\0\0\0\0\0\0";
 
+/// The flags of a blob whose data is read-only.
 pub const READ_ONLY: &[u8] = b"\x03\x18\0\0\0\0\0\0\0\0\0\0\0\x01\0\0\0\0\0\0\0\0\0\0\0\0\0\0\0";
 
 /// A name and a uuid: with the flags 94 bytes.
@@ -46,8 +47,17 @@ fn body_of(parts: &[&[u8]]) -> [u8; 4072] {
     body
 }
 
+/// Writes a page of a device whole.
+fn put(disk: &mut MemDisk, at: u64, page: &Page) -> Result<(), Fail> {
+    if at >= disk.pages() {
+        return Err(Fail::new(format_args!("the device has no page {at}")));
+    }
+    disk.write(at, page, WriteKind::Whole)?;
+    Ok(())
+}
+
 /// Writes a metadata page to a device whose metadata region begins at page 4.
-fn put(rt: &impl Abort, disk: &mut MemDisk, row: PageRow) -> Result<(), Fail> {
+fn put_row(disk: &mut MemDisk, row: PageRow) -> Result<(), Fail> {
     let (place, head, sequence, next, parts) = row;
     let md = MdPage {
         id: (1 << 32) + u64::from(head),
@@ -57,52 +67,48 @@ fn put(rt: &impl Abort, disk: &mut MemDisk, row: PageRow) -> Result<(), Fail> {
     };
     let mut page: Page = [0; 4096];
     md_page::write(&md, &mut page);
-    let at = 4 + u64::from(place);
-    assert!(rt; at < disk.pages());
-    disk.write(at, &page, WriteKind::Whole)?;
-    Ok(())
+    put(disk, 4 + u64::from(place), &page)
+}
+
+/// Writes the super block of a store that has clusters of 4 pages and so many metadata pages.
+fn put_super(disk: &mut MemDisk, md_pages: u32) -> Result<(), Fail> {
+    let sup = Layout::plan(disk.pages(), 4, Some(md_pages))?.new_super(u64::MAX, [0; 16]);
+    let mut page: Page = [0; 4096];
+    write_super(&sup, &mut page);
+    put(disk, 0, &page)
 }
 
 /// A device of so many pages with a store, which has clusters of 4 pages and so many metadata pages from page 4 on,
 /// with these in them. Its masks are zeros.
-pub fn image(
-    rt: &impl Abort,
-    alloc: Global,
-    sizes: (u64, u32),
-    rows: &[PageRow],
-) -> Result<MemDisk, Fail> {
+pub fn image(alloc: Global, sizes: (u64, u32), rows: &[PageRow]) -> Result<MemDisk, Fail> {
     let (pages, md_pages) = sizes;
     let mut disk = MemDisk::new(alloc, pages, 64)?;
-    let sup = Layout::plan(pages, 4, Some(md_pages))?.new_super(u64::MAX, [0; 16]);
-    let mut page: Page = [0; 4096];
-    write_super(&sup, &mut page);
-    assert!(rt; 0 < disk.pages());
-    disk.write(0, &page, WriteKind::Whole)?;
+    put_super(&mut disk, md_pages)?;
     for row in rows {
-        put(rt, &mut disk, *row)?;
+        put_row(&mut disk, *row)?;
     }
     disk.flush()?;
     Ok(disk)
 }
 
 /// A device of 64 pages whose only blob, at place 0 of 16, has flags of zeros and no attribute.
-pub fn store(rt: &impl Abort, alloc: Global) -> Result<MemDisk, Fail> {
-    image(rt, alloc, (64, 16), &[(0, 0, 0, LAST, &[THICK])])
+pub fn store(alloc: Global) -> Result<MemDisk, Fail> {
+    image(alloc, (64, 16), &[(0, 0, 0, LAST, &[THICK])])
 }
 
 /// The device with two such blobs, at places 0 and 1.
-pub fn two_blobs(rt: &impl Abort, alloc: Global) -> Result<MemDisk, Fail> {
+pub fn two_blobs(alloc: Global) -> Result<MemDisk, Fail> {
     let rows: [PageRow; 2] = [(0, 0, 0, LAST, &[THICK]), (1, 1, 0, LAST, &[THICK])];
-    image(rt, alloc, (64, 16), &rows)
+    image(alloc, (64, 16), &rows)
 }
 
 /// The device whose only blob, at place 0, is a volume with a name, a uuid, a value `k` of 4062 times the letter x, and
 /// a map: a chain of three pages, at the places 0 to 2.
-pub fn volume(rt: &impl Abort, alloc: Global, md_pages: u32) -> Result<MemDisk, Fail> {
+pub fn volume(alloc: Global, md_pages: u32) -> Result<MemDisk, Fail> {
     let rows: [PageRow; 3] = [
         (0, 0, 0, 1, &[THIN, NAMED]),
         (1, 0, 1, 2, &[KEY, LETTERS]),
         (2, 0, 2, LAST, &[RUNS]),
     ];
-    image(rt, alloc, (64, md_pages), &rows)
+    image(alloc, (64, md_pages), &rows)
 }

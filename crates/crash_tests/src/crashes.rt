@@ -1,0 +1,79 @@
+//! What is found of attributes after power failed.
+
+use blob_tool::Status;
+use page_disk::{CallKind, Fail, FaultDisk, MemDisk};
+use std::alloc::Global;
+use std::test::Fail as TestFail;
+use test_runs::{Ran, expect_printed, play, run};
+use test_stores::{first_value, store};
+
+/// The device on which the third of three puts failed with its second flush, that of the head.
+fn failed(alloc: Global) -> Result<Ran<FaultDisk<MemDisk>>, TestFail> {
+    let puts = b"0 put @0 owner t:1\n0 put @0 owner t:2\n0 put @0 owner t:3\n";
+    let sixth = Fail {
+        kind: CallKind::Flush,
+        nth: 6,
+    };
+    run(
+        alloc,
+        puts,
+        FaultDisk::new(store(alloc)?, vec![in alloc; sixth]?),
+    )
+}
+
+/// The value that is found in what a crash leaves, once that is loaded.
+fn value_after(alloc: Global, disk: &MemDisk, pick: u64) -> Result<u8, TestFail> {
+    let mut disk = play(alloc, b"", b"", disk.crash(pick)?)?;
+    first_value(&mut disk)
+}
+
+#[test]
+fn a_fault_counts_as_done_or_not(rt: HostRuntime) -> Result<(), TestFail> {
+    let alloc = rt.alloc();
+    let Ran { status, out, disk } = failed(alloc)?;
+    assert!(rt; matches!(status, Status::Device { at: 2 }));
+    expect_printed(&out, b"0 0 ok\n0 1 ok\n0 2 fault\n")?;
+    let disk = disk.into_inner();
+    for (pick, found) in [(0, b'2'), (1, b'3'), (2, b'2'), (3, b'2')] {
+        assert_eq!(rt; value_after(alloc, &disk, pick)?, found);
+    }
+    Ok(())
+}
+
+/// A script, what it prints, and what a look prints after a crash, on a store whose blob has the value 1 on the disk.
+type Case = (&'static [u8], &'static [u8], &'static [u8]);
+
+const CASES: [Case; 5] = [
+    (b"0 setx @0 owner t:2\n", b"0 0 ok\n", b"0 0 value 31\n"),
+    (b"0 delx @0 owner\n", b"0 0 ok\n", b"0 0 value 31\n"),
+    (b"0 put @0 owner t:2\n", b"0 0 ok\n", b"0 0 value 32\n"),
+    (
+        b"0 setx @0 owner t:2\n0 sync @0\n",
+        b"0 0 ok\n0 1 ok\n",
+        b"0 0 value 32\n",
+    ),
+    (
+        b"0 delx @0 owner\n0 sync @0\n",
+        b"0 0 ok\n0 1 ok\n",
+        b"0 0 no value\n",
+    ),
+];
+
+/// The device after the run of a case.
+fn ran(alloc: Global, script: &[u8], printed: &[u8]) -> Result<MemDisk, TestFail> {
+    let disk = play(alloc, b"0 put @0 owner t:1\n", b"0 0 ok\n", store(alloc)?)?;
+    play(alloc, script, printed, disk)
+}
+
+/// Only what was put or synced outlasts a crash.
+#[test]
+fn a_crash_takes_what_was_only_set(rt: HostRuntime) -> Result<(), TestFail> {
+    let alloc = rt.alloc();
+    for (script, printed, found) in CASES {
+        let disk = ran(alloc, script, printed)?;
+        for pick in 0..4 {
+            play(alloc, b"0 getx @0 owner\n", found, disk.crash(pick)?)?;
+        }
+    }
+    Ok(())
+}

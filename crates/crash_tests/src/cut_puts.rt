@@ -1,0 +1,70 @@
+//! A put on a volume with a chain of three pages, cut off at each call of the device.
+
+use blob_tool::Status;
+use page_disk::{FaultDisk, MemDisk};
+use std::alloc::Global;
+use std::test::Fail;
+use test_runs::{Ran, expect_printed, play, push_long, push_told, run};
+use test_stores::{expect_written, volume};
+
+/// What comes of so many calls of a put of 4062 times the letter y, on a store whose chain of three pages leaves two
+/// pages clear.
+fn cut_put(alloc: Global, calls: u64) -> Result<Ran<FaultDisk<MemDisk>>, Fail> {
+    let mut script = Vec::new(alloc);
+    push_long(&mut script, b"0 put @0 k t:", (b'y', 4062))?;
+    run(
+        alloc,
+        &script,
+        FaultDisk::stopping(volume(alloc, 5)?, calls),
+    )
+}
+
+/// The script of a look, a put of 4062 times the letter z, and a look.
+fn look_put_look(alloc: Global) -> Result<Vec<u8>, Fail> {
+    let mut script = Vec::new(alloc);
+    script.extend_from_slice(b"0 getx @0 k\n")?;
+    push_long(&mut script, b"0 put @0 k t:", (b'z', 4062))?;
+    script.extend_from_slice(b"0 getx @0 k\n")?;
+    Ok(script)
+}
+
+/// What that script prints where the first look finds this letter 4062 times.
+fn told(alloc: Global, letter: u8) -> Result<Vec<u8>, Fail> {
+    let mut told = Vec::new(alloc);
+    push_told(alloc, &mut told, 0, (letter, 4062))?;
+    told.extend_from_slice(b"0 1 ok\n")?;
+    push_told(alloc, &mut told, 2, (b'z', 4062))?;
+    Ok(told)
+}
+
+/// Expects that what a crash left has the new value or the old one, and the next put the pages that this one leaves.
+fn expect_left(alloc: Global, disk: MemDisk, is_new: bool) -> Result<(), Fail> {
+    let letter = if is_new { b'y' } else { b'x' };
+    let chain: &[u32] = if is_new { &[0, 1, 2] } else { &[0, 3, 4] };
+    let mut disk = play(alloc, &look_put_look(alloc)?, &told(alloc, letter)?, disk)?;
+    expect_written(&mut disk, 5, chain)
+}
+
+/// Loading reads the super block, five metadata pages and a chain of three pages. The put makes two writes of fresh
+/// pages, a flush, the head's write and a flush, and then two writes of old pages and a flush. Whenever it is cut off,
+/// two pages are clear for the next put, and once that is done the others hold zeros.
+#[test]
+fn a_put_cut_off_leaves_its_pages_clear(rt: HostRuntime) -> Result<(), Fail> {
+    let alloc = rt.alloc();
+    for calls in 9..18 {
+        let Ran { status, out, disk } = cut_put(alloc, calls)?;
+        assert_eq!(rt; matches!(status, Status::Good), calls == 17);
+        let answer: &[u8] = if calls < 14 {
+            b"0 0 fault\n"
+        } else {
+            b"0 0 ok\n"
+        };
+        expect_printed(&out, answer)?;
+        let disk = disk.into_inner();
+        for pick in 0..11 {
+            let is_new = calls >= 14 || (calls == 13 && pick % 4 == 1);
+            expect_left(alloc, disk.crash(pick)?, is_new)?;
+        }
+    }
+    Ok(())
+}

@@ -1,0 +1,9 @@
+//! Tests of what is found after power failed, by whole runs of the program.
+#![tactic(auto)]
+
+#[cfg(test)]
+mod crashes;
+#[cfg(test)]
+mod cut_puts;
+#[cfg(test)]
+mod power;

@@ -1,0 +1,9 @@
+//! Tests of the program's calls over a device in memory: the verbs on attributes, new stores, and each status.
+#![tactic(auto)]
+
+#[cfg(test)]
+mod failures;
+#[cfg(test)]
+mod formats;
+#[cfg(test)]
+mod verbs;

@@ -1,0 +1,8 @@
+//! Devices with a store, for tests, and what is found on a device.
+#![tactic(auto)]
+
+mod images;
+mod looks;
+
+pub use images::{LAST, PageRow, READ_ONLY, THICK, THIN, image, store, two_blobs, volume};
+pub use looks::{ChainRow, expect_chains, expect_written, first_value};

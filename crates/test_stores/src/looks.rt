@@ -1,0 +1,74 @@
+//! What a device is found to hold.
+
+use page_disk::{MemDisk, Page, PageDisk};
+use std::alloc::Global;
+use std::test::Fail;
+use store_core::Loaded;
+use unclean_load::load;
+
+/// A head, and the places of its chain.
+pub type ChainRow<'a> = (u32, &'a [u32]);
+
+/// Expects that the blobs at these heads have these chains, once the store is loaded, and that no other metadata page is
+/// in use, or fails.
+pub fn expect_chains(alloc: Global, disk: MemDisk, wanted: &[ChainRow<'_>]) -> Result<(), Fail> {
+    let Ok(loaded) = load(alloc, disk) else {
+        return Err(Fail::new("the store is not loaded"));
+    };
+    let Loaded {
+        disk: _,
+        sup: _,
+        metas: _,
+        removed: _,
+        chains,
+        repairs: _,
+        masks,
+        quick: _,
+    } = loaded;
+    for (head, chain) in wanted {
+        let is_there = match chains.get(*head) {
+            Some(places) => places.as_slice() == *chain,
+            None => false,
+        };
+        if !is_there {
+            return Err(Fail::new(format_args!("the blob at {head} has another chain")));
+        }
+    }
+    for place in 0..masks.pages.len() {
+        let is_wanted = wanted.iter().any(|(_, chain)| chain.contains(&place));
+        if masks.pages.get(place) != is_wanted {
+            return Err(Fail::new(format_args!("page {place} is in use: {}", !is_wanted)));
+        }
+    }
+    Ok(())
+}
+
+/// Reads a metadata page of a device whose metadata region begins at page 4.
+fn md_page_at(disk: &mut MemDisk, place: u32) -> Result<Page, Fail> {
+    let at = 4 + u64::from(place);
+    if at >= disk.pages() {
+        return Err(Fail::new(format_args!("the device has no page {at}")));
+    }
+    let mut page = [0; 4096];
+    disk.read(at, &mut page)?;
+    Ok(page)
+}
+
+/// Expects that of so many metadata pages these are written, and that the others have zeros, or fails.
+pub fn expect_written(disk: &mut MemDisk, md_pages: u32, wanted: &[u32]) -> Result<(), Fail> {
+    for place in 0..md_pages {
+        let is_written = md_page_at(disk, place)? != [0; 4096];
+        if is_written != wanted.contains(&place) {
+            return Err(Fail::new(format_args!("page {place} is written: {is_written}")));
+        }
+    }
+    Ok(())
+}
+
+/// Where the value of the first attribute stands in the head's page, after the flags.
+const VALUE: usize = 59;
+
+/// The first byte of the value of the first attribute, named `owner`, of the blob at place 0.
+pub fn first_value(disk: &mut MemDisk) -> Result<u8, Fail> {
+    Ok(md_page_at(disk, 0)?[VALUE])
+}
