@@ -45,7 +45,7 @@ class Picture:
 
 # ---- the crates in their layers
 
-COLUMNS_WIDE, COLUMN, ROW, LEFT, TOP = 6, 150, 56, 170, 20
+COLUMNS_WIDE, COLUMN, ROW, LEFT, TOP = 6, 150, 70, 170, 20
 # name: first column, last column, row; a crate stands on crates of lower rows alone
 CRATES = {
     "blobtool": (1, 6, 0), "blob_tool": (1, 6, 1),
@@ -75,7 +75,7 @@ STEPS = [
 def place(name):
     first, last, row = CRATES[name]
     x = LEFT + (first - 1) * COLUMN + 8
-    return x, TOP + row * ROW + 9, (last - first + 1) * COLUMN - 16, ROW - 18
+    return x, TOP + row * ROW + 16, (last - first + 1) * COLUMN - 16, ROW - 32
 
 
 def middle(column):
@@ -106,13 +106,11 @@ def crates():
     def down(number, column, start, end):
         x = middle(column)
         picture.arrow([(x, bottom(start)), (x, top(end))])
-        picture.badge(x + 16, (bottom(start) + min(top(end), bottom(start) + ROW)) // 2, number)
+        picture.badge(x + 22, bottom(start) + 16, number)
 
-    picture.arrow([(middle(3), bottom("blobtool")), (middle(3), top("blob_tool"))])
-    picture.badge(middle(3) + 16, (bottom("blobtool") + top("blob_tool")) // 2, 1)
-    for number, column, name in [(2, 1, "script_lang"), (7, 6, "streams")]:
-        picture.arrow([(middle(column), bottom("blob_tool")), (middle(column), top(name))])
-        picture.badge(middle(column) + 16, (bottom("blob_tool") + top(name)) // 2, number)
+    down(1, 3, "blobtool", "blob_tool")
+    down(2, 1, "blob_tool", "script_lang")
+    down(7, 6, "blob_tool", "streams")
     picture.arrow([(middle(6), bottom("streams")), (middle(6), top("blob_report"))])
     down(4, 3, "blob_tool", "lvol_store")
     down(3, 2, "blob_tool", "unclean_load")
@@ -121,7 +119,7 @@ def crates():
     down(5, 4, "blob_tool", "store_core")
     x, y, w, h = place("store_core")
     picture.arrow([(x + w, y + h // 2), (middle(5), y + h // 2), (middle(5), top("page_disk"))])
-    picture.badge(middle(5) + 16, y + h // 2 + ROW, 6)
+    picture.badge(middle(5) + 22, y + h // 2 + 16, 6)
     for n, step in enumerate(STEPS):
         picture.text(20, TOP + rows * ROW + 30 + 24 * n, step, 14, "start")
     picture.save("crates.svg")
@@ -131,14 +129,14 @@ def crates():
 
 WIDE, GAP = 224, 20
 COLUMNS = [
-    ("before the turn", None, [("old", "old or planned"), ("old", "torn")], ["each says the old", "metadata"]),
-    ("flush", 1, [("old", "planned")], ["one image: the fresh", "pages last"]),
-    ("write of the head", 2, [("old", "planned"), ("new", "planned")], ["the old metadata,", "or the new"]),
-    ("flush", 3, [("new", "planned")], ["one image: it says", "the new metadata"]),
+    ("before the turn", None, [("old", "old or planned"), ("old", "torn")], ["the old metadata"]),
+    ("flush", 1, [("old", "planned")], ["the old metadata;", "the fresh pages last"]),
+    ("write of the head", 2, [("old", "planned"), ("new", "planned")], ["old: the old metadata", "new: the new metadata"]),
+    ("flush", 3, [("new", "planned")], ["the new metadata"]),
 ]
 SERVES = [
-    ["comes back to the", "log so far"],
-    ["comes back to the", "log so far"],
+    ["the log so far"],
+    ["the log so far"],
     ["old: the log so far", "new: with the command"],
     ["the log with its entry,", "whose mark is here"],
 ]
@@ -156,8 +154,8 @@ def card(picture, x, y, head, fresh):
 def commit():
     left = 120
     picture = Picture(left + 4 * (WIDE + GAP) + 10, 466)
-    rows = [(44, "device call"), (150, "images that"), (168, "a crash may"), (186, "leave"), (300, "say")]
-    for y, name in rows + [(360, "come back to")]:
+    rows = [(44, "device call"), (150, "images that"), (168, "a crash may"), (186, "leave"), (296, "which say")]
+    for y, name in rows + [(352, "come back to")]:
         picture.text(12, y, name, 13, "start", PALE)
     for n, (call, number, images, says) in enumerate(COLUMNS):
         x = left + n * (WIDE + GAP)
@@ -170,7 +168,7 @@ def commit():
         for k, line in enumerate(says):
             picture.text(x + WIDE // 2, 296 + 18 * k, line, 13)
         for k, line in enumerate(SERVES[n]):
-            picture.text(x + WIDE // 2, 356 + 18 * k, line, 13)
+            picture.text(x + WIDE // 2, 352 + 18 * k, line, 13)
         if n < 3:
             picture.arrow([(x + WIDE + 2, 40), (x + WIDE + GAP - 2, 40)])
     notes = [
