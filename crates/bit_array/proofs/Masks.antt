@@ -1,12 +1,16 @@
 -- The text of a mask and the set that it says, place by place.
-use Rattle.std.proofs.Common.{◌≡◌, ℕ, ◌+◌, ◌-◌, ◌*◌, ◌/◌, ◌%◌, ◌^◌, ◌<◌, ◌≤◌, Bool, true, false, eqb, List, [], ◌∷◌, ◌++◌, length, get_or, take, drop, map, replicate, refl, sym, ap, ◌∙◌, subst, arith, zero, suc, inl, inr, add-one, add-zero, add_comm, None, eq-eqb}
+use Rattle.std.proofs.Common.{◌≡◌, ℕ, ◌+◌, ◌-◌, ◌*◌, ◌/◌, ◌%◌, ◌^◌, ◌<◌, ◌≤◌, Bool, true, false, eqb, List, [], ◌∷◌}
+use Rattle.std.proofs.Common.{◌++◌, length, get_or, take, drop, map, replicate, refl, sym, ap, ◌∙◌, subst, arith, zero}
+use Rattle.std.proofs.Common.{suc, inl, inr, add-one, add-zero, add_comm, None, eq-eqb}
 use Rattle.std.proofs.Math.Nat.{pow-suc, pow-le-pow_right}
 use Rattle.std.specs.Prelude.{◌||◌}
 use Rattle.std.specs.List.{range_with_len}
 use Rattle.std.specs.Int.{bit_at, from_le_bytes, to_le_bytes, w32}
 use Rattle.std.proofs.lemmas.Nat.{from_le_bytes-to_le_bytes_4}
 use Rattle.std.proofs.lemmas.Bool.{cases_lt, cases_Bool}
-use Rattle.std.proofs.lemmas.List.{ext_get_or, get_or_past, get_or_append_left, get_or-append_right, get_or-replicate, length-replicate, length-append, length-drop, length-take-le, get_or-take, get_or-drop}
+use Rattle.std.proofs.lemmas.List.{ext_get_or, get_or_past, get_or_append_left, get_or-append_right, get_or-replicate}
+use Rattle.std.proofs.lemmas.List.{length-replicate, length-append, length-drop, length-take-le, get_or-take}
+use Rattle.std.proofs.lemmas.List.{get_or-drop}
 use Rattle.std.proofs.lemmas.List.FromFn.{length-map-range_with_len, get_or-map-range_with_len}
 use Rattle.std.proofs.lemmas.Nat.Bits.{bit_at-zero, bit_at-suc, bit_at_lowest}
 use Rattle.bit_array.specs.Bits.{is_in}
@@ -172,7 +176,8 @@ pub get_or-page_of : (index : ℕ) (text : List ℕ) (k : ℕ) → k < 4096
 get_or-page_of index text k h = get_or-take 4096 (drop (4096 * index) text) k 0 h ∙ get_or-drop (4096 * index) text k 0
 
 -- a page of a text has 4096 bytes
-pub length-page_of : (index : ℕ) (text : List ℕ) → 4096 * (index + 1) ≤ length text → length (text_page index text) ≡ 4096
+pub length-page_of : (index : ℕ) (text : List ℕ) → 4096 * (index + 1) ≤ length text
+    → length (text_page index text) ≡ 4096
 length-page_of index text h =
     length-take-le 4096 (drop (4096 * index) text) (rw length-drop (omega arith))
 

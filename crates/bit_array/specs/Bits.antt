@@ -1,6 +1,7 @@
 -- A set of numbers below a length, as a list of that length: the element at a place says whether the place is in the
 -- set.
-use Rattle.std.specs.Prelude.{◌≡◌, ℕ, ◌-◌, ◌<◌, Bool, true, false, List, ◌++◌, length, replicate, slice_index_or, count_by}
+use Rattle.std.specs.Prelude.{◌≡◌, ℕ, ◌-◌, ◌<◌, Bool, true, false, List, ◌++◌, length, replicate, slice_index_or}
+use Rattle.std.specs.Prelude.{count_by}
 
 -- whether a place is in the set; no place at or past the length is
 abbrev pub is_in : List Bool → ℕ → Bool

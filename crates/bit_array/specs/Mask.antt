@@ -1,6 +1,7 @@
 -- A mask on disk: a set written as whole pages of 4096 bytes. A mask is its type in one byte, the number of its bits in
 -- four bytes with the lowest first, and then the bits, the lowest of each byte first.
-use Rattle.std.specs.Prelude.{ℕ, ◌+◌, ◌-◌, ◌*◌, ◌/◌, ◌%◌, zero, suc, Bool, ◌==◌, if◌then◌else◌, List, ◌∷◌, ◌++◌, length, take, drop, map, slice_index}
+use Rattle.std.specs.Prelude.{ℕ, ◌+◌, ◌-◌, ◌*◌, ◌/◌, ◌%◌, zero, suc, Bool, ◌==◌, if◌then◌else◌, List, ◌∷◌, ◌++◌, length}
+use Rattle.std.specs.Prelude.{take, drop, map, slice_index}
 use Rattle.std.specs.List.{range_with_len}
 use Rattle.std.specs.Int.{bit_at, to_le_bytes, w32}
 use Rattle.bit_array.specs.Bits.{is_in}

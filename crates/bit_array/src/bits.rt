@@ -1,6 +1,7 @@
 //! A set of numbers below a length.
 
-ghost use Rattle.std.specs.Prelude.{◌≡◌, ◌≤◌, ◌<◌, ◌↔◌, true, false, length, replicate, slice_set, IfOk, IfSome, IsNone};
+ghost use Rattle.std.specs.Prelude.{◌≡◌, ◌≤◌, ◌<◌, ◌↔◌, true, false, length, replicate, slice_set, IfOk, IfSome};
+ghost use Rattle.std.specs.Prelude.{IsNone};
 ghost use Rattle.bit_array.specs.Bits.{first_of, is_in, member_count, IsFull, IsLeastClear};
 
 use out_of_memory::Memory;

@@ -1,6 +1,7 @@
 //! A set read from the pages of its mask.
 
-ghost use Rattle.std.specs.Prelude.{◌≡◌, ◌+◌, ◌*◌, ◌<◌, ◌≤◌, [], ◌++◌, Some, None, ℕ, List, length, IfOk, OnOk, OnErr, MatchResult};
+ghost use Rattle.std.specs.Prelude.{◌≡◌, ◌+◌, ◌*◌, ◌<◌, ◌≤◌, [], ◌++◌, Some, None, ℕ, List, length, IfOk, OnOk, OnErr};
+ghost use Rattle.std.specs.Prelude.{MatchResult};
 ghost use Rattle.bit_array.specs.Mask.{bits_in, mask_pages};
 ghost use Rattle.bit_array.specs.Reading.{HasRead};
 ghost use Rattle.bit_array.specs.Fault.{head_fault, next_fault};

@@ -10,7 +10,8 @@ use Rattle.descriptors.specs.Runs.{slots_in}
 use Rattle.blob_meta.specs.declared.meta.Flags.{Flags}
 use Rattle.blob_meta.specs.declared.meta.Meta.{Meta}
 use Rattle.blob_meta.specs.Says.{last_flags, without_bit_1, firsts, xattr_in, internal_in, runs_in, meta_of}
-use Rattle.blob_meta.specs.Items.{internal_bit, xattr_items, internal_items, run_items, items_of, IsItemsOf, HasDistinctNames}
+use Rattle.blob_meta.specs.Items.{internal_bit, xattr_items, internal_items, run_items, items_of, IsItemsOf}
+use Rattle.blob_meta.specs.Items.{HasDistinctNames}
 use Rattle.blob_meta.proofs.Firsts.{others, turned}
 
 -- ---- flags

@@ -1,5 +1,6 @@
 -- What a blob's flags and internal attributes say of it: its parent, the cluster in each slot, and who may write it.
-use Rattle.std.specs.Prelude.{ℕ, ◌-◌, ◌^◌, nat_lt, nat_le, if◌then◌else◌, Bool, ◌||◌, Option, Some, None, List, slice_get, codes}
+use Rattle.std.specs.Prelude.{ℕ, ◌-◌, ◌^◌, nat_lt, nat_le, if◌then◌else◌, Bool, ◌||◌, Option, Some, None, List}
+use Rattle.std.specs.Prelude.{slice_get, codes}
 use Rattle.std.specs.Option.{option_and_then}
 use Rattle.page_fields.specs.Fields.{number}
 use Rattle.volume_model.specs.Xattrs.{value_of}

@@ -1,6 +1,7 @@
 -- What recovery makes of metadata in which a snapshot may be half made or half removed, and which metadata a store can
 -- be loaded from. Metadata is given by heads.
-use Rattle.std.specs.Prelude.{◌≡◌, ℕ, ◌+◌, ◌*◌, ◌/◌, ◌^◌, ◌<◌, ◌≤◌, Bool, true, false, if◌then◌else◌, List, length, Option, Some, None, codes}
+use Rattle.std.specs.Prelude.{◌≡◌, ℕ, ◌+◌, ◌*◌, ◌/◌, ◌^◌, ◌<◌, ◌≤◌, Bool, true, false, if◌then◌else◌, List, length}
+use Rattle.std.specs.Prelude.{Option, Some, None, codes}
 use Rattle.std.specs.List.{range_with_len, sum_by}
 use Rattle.std.specs.Option.{option_map_or, option_and_then}
 use Rattle.volume_model.specs.Volumes.{is_given_head}
@@ -22,7 +23,8 @@ without_marks m = record m {
 
 -- A marked blob is kept exactly where the blob that its mark names is there, and has it for its parent.
 abbrev pub is_kept : (ℕ → Option Meta) → ℕ → List ℕ → Bool
-is_kept metas head mark = option_map_or (λ m. is_given_head head (parent_of m)) (option_and_then metas (named_in mark)) false
+is_kept metas head mark =
+    option_map_or (λ m. is_given_head head (parent_of m)) (option_and_then metas (named_in mark)) false
 
 -- what becomes of one blob
 abbrev pub resolved_one : (ℕ → Option Meta) → ℕ → Meta → Option Meta

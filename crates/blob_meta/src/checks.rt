@@ -1,9 +1,12 @@
 //! The tests of metadata, one function each.
 
-ghost use Rattle.std.specs.Prelude.{◌≡◌, ◌^◌, ◌<◌, ◌≤◌, OnOk, IfErr, IfNone as OnNone, None, length, find, position, is_none, option_copied};
+ghost use Rattle.std.specs.Prelude.{◌≡◌, ◌^◌, ◌<◌, ◌≤◌, OnOk, IfErr, IfNone as OnNone, None, length, find, position};
+ghost use Rattle.std.specs.Prelude.{is_none, option_copied};
 ghost use Rattle.std.specs.List.{All};
 ghost use Rattle.descriptors.specs.Runs.{slots_in, slots_of_run, Reaches};
-ghost use Rattle.blob_meta.specs.Faults.{unknown_flag as unknown, too_large as large, is_outside, clusters_of, cluster_outside as outside, hole_in_thick as hole, is_mark as is_a_mark, is_bad_mark, bad_mark as bad, IsMetaFaultOf};
+ghost use Rattle.blob_meta.specs.Faults.{unknown_flag as unknown, too_large as large, is_outside, clusters_of};
+ghost use Rattle.blob_meta.specs.Faults.{cluster_outside as outside, hole_in_thick as hole, is_mark as is_a_mark};
+ghost use Rattle.blob_meta.specs.Faults.{is_bad_mark, bad_mark as bad, IsMetaFaultOf};
 
 use crate::fault::MetaFault;
 use crate::meta::Flags;

@@ -3,7 +3,9 @@
 ghost use Rattle.std.specs.Prelude.{◌≡◌, ◌++◌, None, OnOk, IfOk, IfErr};
 ghost use Rattle.std.specs.List.{flat_map, filter_map, list_any};
 ghost use Rattle.std.specs.Str.{bytes_eq};
-ghost use Rattle.blob_meta.specs.Says.{flags_in as flags_said, runs_in as runs_said, firsts, xattr_in, internal_in as internal_said, found_xattr, with_first, with_found, map_in as map_said, meta_of};
+ghost use Rattle.blob_meta.specs.Says.{flags_in as flags_said, runs_in as runs_said, firsts, xattr_in};
+ghost use Rattle.blob_meta.specs.Says.{internal_in as internal_said, found_xattr, with_first, with_found};
+ghost use Rattle.blob_meta.specs.Says.{map_in as map_said, meta_of};
 ghost use Rattle.super_block.specs.Faults.{IsFaultless};
 ghost use Rattle.super_block.specs.Numbers.{clusters_of, fixed_clusters_of};
 ghost use Rattle.blob_meta.specs.Faults.{map_fault, meta_fault, IsMetaFaultOf};

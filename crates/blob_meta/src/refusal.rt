@@ -1,11 +1,13 @@
 //! Why a command on the attributes of a blob is refused.
 
-ghost use Rattle.std.specs.Prelude.{◌≡◌, ◌+◌, ◌∷◌, [], Some, nat_lt, length, is_none, option_copied, IsSome, IfSome, IfNone};
+ghost use Rattle.std.specs.Prelude.{◌≡◌, ◌+◌, ◌∷◌, [], Some, nat_lt, length, is_none, option_copied, IsSome, IfSome};
+ghost use Rattle.std.specs.Prelude.{IfNone};
 ghost use Rattle.volume_model.specs.Volumes.{is_given_head};
 ghost use Rattle.volume_model.specs.Xattrs.{value_of};
 ghost use Rattle.volume_model.specs.Refusals.{is_reserved as reserved_said};
 ghost use Rattle.volume_model.specs.declared.reply.Reply.TheVariants as r;
-ghost use Rattle.blob_meta.specs.Asked.{asked_head as head_said, blob_named, first_cause, HasValue, IsOnHead, IsAttributeCause, IsLiveOf, IsFirstCause};
+ghost use Rattle.blob_meta.specs.Asked.{asked_head as head_said, blob_named, first_cause, HasValue, IsOnHead};
+ghost use Rattle.blob_meta.specs.Asked.{IsAttributeCause, IsLiveOf, IsFirstCause};
 ghost use Rattle.blob_meta.specs.Parents.{head_of_id, is_read_only as read_only_said};
 
 use crate::head_map::Metas;

@@ -4,7 +4,8 @@ ghost use Rattle.std.specs.Prelude.{◌≡◌, ◌+◌, ◌^◌, ◌++◌, ℕ, 
 ghost use Rattle.descriptors.specs.declared.item.Item.{Item as AnItem};
 ghost use Rattle.blob_meta.specs.declared.meta.Meta.{Meta as AMeta};
 ghost use Rattle.blob_meta.specs.Says.{without_bit_1, meta_of};
-ghost use Rattle.blob_meta.specs.Items.{internal_bit, flags_item as flags_written, xattr_items, internal_items, run_items, IsItemsOf, HasDistinctNames};
+ghost use Rattle.blob_meta.specs.Items.{internal_bit, flags_item as flags_written, xattr_items, internal_items};
+ghost use Rattle.blob_meta.specs.Items.{run_items, IsItemsOf, HasDistinctNames};
 
 use crate::meta::Meta;
 use descriptors::{Item, ItemList, SlotMap, runs_of};

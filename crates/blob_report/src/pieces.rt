@@ -2,7 +2,8 @@
 
 ghost use Rattle.std.specs.Prelude.{◌≡◌, ◌++◌, decimal, length, take, OnOk, OnErr};
 ghost use Rattle.std.specs.List.{flat_map};
-ghost use Rattle.blob_report.specs.Pieces.{hex_byte, hex_text, is_plain as plain_said, shown_byte, shown_bytes, head_text, piece_text, pieces_text};
+ghost use Rattle.blob_report.specs.Pieces.{hex_byte, hex_text, is_plain as plain_said, shown_byte, shown_bytes};
+ghost use Rattle.blob_report.specs.Pieces.{head_text, piece_text, pieces_text};
 
 use itoa::Buffer;
 use out_of_memory::Memory;

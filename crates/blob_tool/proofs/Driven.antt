@@ -1,5 +1,6 @@
 -- The commands of a channel are served, one after the other, and then those of the next channel.
-use Rattle.std.proofs.Common.{◌≡◌, ◌≢◌, ℕ, ◌<◌, ◌≤◌, List, [], ◌∷◌, length, None, refl, sym, ap, subst, ◌∙◌, inl, inr, arith}
+use Rattle.std.proofs.Common.{◌≡◌, ◌≢◌, ℕ, ◌<◌, ◌≤◌, List, [], ◌∷◌, length, None, refl, sym, ap, subst, ◌∙◌, inl, inr}
+use Rattle.std.proofs.Common.{arith}
 use Rattle.std.specs.List.{AllByRecursion}
 use Rattle.page_disk.specs.declared.disk.PageDisk.{Ghosts}
 use Rattle.volume_model.specs.declared.command.Command.{Command}
@@ -96,14 +97,16 @@ module _ {D : Type 0} (first p posted served q : StoreView D) (channel : ℕ) (s
 pub over : (row : Row) (channel : ℕ) → IsWaiting row → (is_stage row channel ≡ told.Meta → ⊥)
     → (is_stage row channel ≡ told.Over → ⊥) → row ≡ ended_row
 over row channel waiting no_meta not_over = elim waiting.at [
-  | inl idle ↦ absurd (by row.left waiting.on_heads refl (λ s same. ap (λ x. is_stage (record row { stage = x }) channel) idle ∙ same))
+  | inl idle ↦ absurd
+      (by row.left waiting.on_heads refl (λ s same. ap (λ x. is_stage (record row { stage = x }) channel) idle ∙ same))
   | inr ended ↦ ended
 ]
   where
     by : (left : List Command) → AllByRecursion IsOnHead left → row.left ≡ left
         → ((s : RowStage) → is_stage (record row { stage = Idle }) channel ≡ s → is_stage row channel ≡ s) → ⊥
     by [] on e same =
-        not_over (same told.Over (ap (λ (l : List Command). is_stage (record row { left = l; stage = Idle }) channel) e))
+        not_over
+        (same told.Over (ap (λ (l : List Command). is_stage (record row { left = l; stage = Idle }) channel) e))
     by (command ∷ rest) on e same =
         no_meta (same told.Meta (ap (λ (l : List Command). is_stage (record row { left = l; stage = Idle }) channel) e
         ∙ on_head_meta command on.0))

@@ -1,5 +1,6 @@
 -- What a run came to, by what was printed of its log.
-use Rattle.std.proofs.Common.{◌≡◌, ℕ, ◌++◌, Option, Some, None, Result, Ok, Err, OnOk, IsTrue, List, refl, sym, subst, ◌∙◌, inl, inr}
+use Rattle.std.proofs.Common.{◌≡◌, ℕ, ◌++◌, Option, Some, None, Result, Ok, Err, OnOk, IsTrue, List, refl, sym, subst}
+use Rattle.std.proofs.Common.{◌∙◌, inl, inr}
 use Rattle.page_disk.specs.Disk.{Rose}
 use Rattle.page_disk.specs.declared.disk.PageDisk as disk
 use Rattle.streams.specs.declared.source.Source as source
@@ -63,7 +64,8 @@ module _ {S : Type 0} (s : source.Ghosts S) (script script_now : S) {D : Type 0}
   ran_to status.ScriptRead ran = absurd ran.ended
 
   -- what a run from the loaded store came to is the outcome of the call
-  pub of_a_run : (commands : List (List Command)) (loaded : Loaded D) (st : Status) → ReadsScript s script script_now commands
+  pub of_a_run : (commands : List (List Command)) (loaded : Loaded D) (st : Status)
+      → ReadsScript s script script_now commands
       → ((first : StoreView D) → IsOpened d loaded commands first → IsLoaded d commands before loaded first)
       → OnlyRead d before loaded.disk
       → EndedFrom d commands k out out_now back loaded st → Outcome s script script_now d k out out_now before back st

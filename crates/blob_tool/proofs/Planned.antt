@@ -63,7 +63,12 @@ module _ {D : Type 0} (d : Ghosts D) (laws : PlanLaws d) (p : StoreView D) (runn
       let blob : HasBlob p h plan.old live =
       record { there = plan.there; is_live = subst (λ (k : ℕ). map.get p.live k ≡ Some live) e is } in (
         record { head = h; new = record plan.old { xattrs = with_value live key value }; is = plan.job_is },
-        record { head = h; new = record plan.old { xattrs = with_value live key value }; is = plan.job_is; asks = laws.put p h key value plan.old live running runs blob cause },
+        record {
+          head = h;
+          new = record plan.old { xattrs = with_value live key value };
+          is = plan.job_is;
+          asks = laws.put p h key value plan.old live running runs blob cause;
+        },
       )
   put_job _ (Some live) head job named is plan cause = absurd plan
   put_job command None head job named is plan cause = absurd plan
@@ -77,7 +82,12 @@ module _ {D : Type 0} (d : Ghosts D) (laws : PlanLaws d) (p : StoreView D) (runn
       let blob : HasBlob p h plan.old live =
       record { there = plan.there; is_live = subst (λ (k : ℕ). map.get p.live k ≡ Some live) e is } in (
         record { head = h; new = record plan.old { xattrs = live }; is = plan.job_is },
-        record { head = h; new = record plan.old { xattrs = live }; is = plan.job_is; asks = laws.sync p h plan.old live running runs blob cause },
+        record {
+          head = h;
+          new = record plan.old { xattrs = live };
+          is = plan.job_is;
+          asks = laws.sync p h plan.old live running runs blob cause;
+        },
       )
   sync_job _ (Some live) head job named is plan cause = absurd plan
   sync_job command None head job named is plan cause = absurd plan

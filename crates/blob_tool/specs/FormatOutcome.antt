@@ -21,7 +21,12 @@ use Rattle.blob_tool.specs.declared.status.Status.TheVariants as status
 -- the clusters and the metadata pages of a new store, and how many of each are free
 abbrev pub new_space : Layout → Df
 new_space plan =
-    record { free_clusters = plan.clusters - plan.fixed_clusters; clusters = plan.clusters; free_pages = plan.md_pages; pages = plan.md_pages }
+    record {
+      free_clusters = plan.clusters - plan.fixed_clusters;
+      clusters = plan.clusters;
+      free_pages = plan.md_pages;
+      pages = plan.md_pages;
+    }
 
 -- the line that is printed of a new store
 abbrev pub new_store_text : Layout → List ℕ
@@ -29,7 +34,8 @@ new_store_text plan = space_text (new_space plan)
 
 -- the layout that is asked for, on a device of so many pages
 abbrev pub planned_layout : ℕ → Format → Layout
-planned_layout pages format = layout_of pages format.cluster_pages (md_pages_of pages format.cluster_pages format.md_pages)
+planned_layout pages format =
+    layout_of pages format.cluster_pages (md_pages_of pages format.cluster_pages format.md_pages)
 
 -- why it has no place there
 abbrev pub planning_fault : ℕ → Format → Option SuperFault

@@ -1,5 +1,6 @@
 -- What a call of the program did, by its status.
-use Rattle.std.specs.Prelude.{◌≡◌, ◌⊎◌, ℕ, ◌<◌, ◌≤◌, ◌^◌, List, [], ◌∷◌, length, Some, None, Bool, false, IsTrue, codes, String, string_bytes}
+use Rattle.std.specs.Prelude.{◌≡◌, ◌⊎◌, ℕ, ◌<◌, ◌≤◌, ◌^◌, List, [], ◌∷◌, length, Some, None, Bool, false, IsTrue, codes}
+use Rattle.std.specs.Prelude.{String, string_bytes}
 use Rattle.std.specs.Str.{bytes_eq}
 use Rattle.std.specs.declared.alloc.Global.{Global}
 use Rattle.page_disk.specs.Disk.{Rose}
@@ -35,7 +36,8 @@ module _ {S : Type 0} (s : source.Ghosts S) (script script_now : S) where
     pub all : IsTrue s.tells → text ≡ s.left script
     pub rest : IsTrue s.tells → s.left script_now ≡ []
 
-  -- the source's text is no script: this line of it is the first outside the grammar or over a limit, and this is wrong with it
+  -- the source's text is no script: this line of it is the first outside the grammar or over a limit, and this is wrong
+  -- with it
   pub record HasBadLine (line : ℕ) (kind : LineKind) : Type 0 where
     pub text : List ℕ
     pub is_text : IsText text

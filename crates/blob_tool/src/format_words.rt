@@ -2,7 +2,8 @@
 
 ghost use Rattle.std.specs.Prelude.{◌≡◌, map, string_bytes};
 ghost use Rattle.std.specs.Option.{option_copied};
-ghost use Rattle.blob_tool.specs.FormatWords.{cluster_in, md_pages_in, of_options as of_options_said, options_in, format_in as format_said};
+ghost use Rattle.blob_tool.specs.FormatWords.{cluster_in, md_pages_in, of_options as of_options_said, options_in};
+ghost use Rattle.blob_tool.specs.FormatWords.{format_in as format_said};
 
 use script_lang::number_below;
 

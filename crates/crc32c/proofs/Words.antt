@@ -1,13 +1,16 @@
 -- The remainder after eight bytes is that of one number of eight bytes.
-use Rattle.std.proofs.Common.{◌≡◌, ℕ, zero, suc, ◌+◌, ◌*◌, ◌/◌, ◌%◌, ◌^◌, ◌<◌, List, [], ◌∷◌, ◌++◌, length, get_or, take, drop, take-add, refl, sym, ◌∙◌, ap, arith, ◌⊎◌, ⊎_elim}
+use Rattle.std.proofs.Common.{◌≡◌, ℕ, zero, suc, ◌+◌, ◌*◌, ◌/◌, ◌%◌, ◌^◌, ◌<◌, List, [], ◌∷◌, ◌++◌, length, get_or}
+use Rattle.std.proofs.Common.{take, drop, take-add, refl, sym, ◌∙◌, ap, arith, ◌⊎◌, ⊎_elim}
 use Rattle.std.specs.Prelude.{◌==◌}
 use Rattle.std.proofs.lemmas.List.{drop_more, drop_all}
 use mathlib.Core.Path.{ap₂}
 use Rattle.std.proofs.Math.Nat.{mul_comm}
-use lib.Bits.{bit_xor, bit_and, xor_assoc, xor_comm, xor_self, xor_zero_r, xor_zero_l, xor_shifted, xor_mod, xor_shr, and_mask}
+use lib.Bits.{bit_xor, bit_and, xor_assoc, xor_comm, xor_self, xor_zero_r, xor_zero_l, xor_shifted, xor_mod, xor_shr}
+use lib.Bits.{and_mask}
 use Rattle.crc32c.specs.Crc.{byte_steps, divisor, divide_bit, eight_steps, after_byte, number_of, remainder_of}
 use Rattle.crc32c.specs.declared.table.TheConstants.{TABLES}
-use Rattle.crc32c.proofs.Division.{taken, divide_bit_is, eight_above, whole, table_0, table_1, table_2, table_3, table_4, table_5, table_6, table_7}
+use Rattle.crc32c.proofs.Division.{taken, divide_bit_is, eight_above, whole, table_0, table_1, table_2, table_3}
+use Rattle.crc32c.proofs.Division.{table_4, table_5, table_6, table_7}
 
 -- where two numbers are added, so are their remainders
 taken-add : (p q h k : ℕ) → p < 2 → q < 2

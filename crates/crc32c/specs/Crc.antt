@@ -1,5 +1,6 @@
 -- CRC-32C, bit by bit, as the remainder of a division of polynomials over two elements.
-use Rattle.std.specs.Prelude.{ℕ, zero, suc, Bool, ◌+◌, ◌*◌, ◌/◌, ◌%◌, ◌==◌, if◌then◌else◌, List, [], ◌∷◌, take, drop, bit_xor}
+use Rattle.std.specs.Prelude.{ℕ, zero, suc, Bool, ◌+◌, ◌*◌, ◌/◌, ◌%◌, ◌==◌, if◌then◌else◌, List, [], ◌∷◌, take, drop}
+use Rattle.std.specs.Prelude.{bit_xor}
 use Rattle.std.specs.Int.{from_le_bytes, w32}
 
 -- the divisor without its first coefficient, the lowest power first

@@ -1,5 +1,6 @@
 -- How long a spelling is.
-use Rattle.std.proofs.Common.{◌≡◌, ℕ, refl, ◌+◌, ◌*◌, List, [], ◌∷◌, ◌++◌, length, sym, ap, ◌∙◌, arith, length-append, append_assoc, ◌<◌, ◌≤◌, take, drop, get_or}
+use Rattle.std.proofs.Common.{◌≡◌, ℕ, refl, ◌+◌, ◌*◌, List, [], ◌∷◌, ◌++◌, length, sym, ap, ◌∙◌, arith, length-append}
+use Rattle.std.proofs.Common.{append_assoc, ◌<◌, ◌≤◌, take, drop, get_or}
 use Rattle.std.proofs.lemmas.List.{flat_map_more, take-append-drop, take_more}
 use Rattle.std.proofs.lemmas.List.Sums.{sum_by-cons}
 use Rattle.std.proofs.lemmas.List.Concat.{flat_map-append}
@@ -7,7 +8,8 @@ use Rattle.descriptors.specs.declared.item.Item.{Item}
 use Rattle.std.specs.List.{flat_map}
 use Rattle.volume_model.specs.declared.lists.SlotRun.{SlotRun}
 use Rattle.descriptors.specs.declared.item.Item.TheVariants.{Rle, Xattr, Flags, InternalXattr, Unknown}
-use Rattle.descriptors.specs.Writing.{run_bytes, pair_bytes, flags_bytes, framed, item_bytes, item_size, spelled_size, spelling}
+use Rattle.descriptors.specs.Writing.{run_bytes, pair_bytes, flags_bytes, framed, item_bytes, item_size, spelled_size}
+use Rattle.descriptors.specs.Writing.{spelling}
 use Rattle.page_fields.specs.Fields.{number_bytes}
 use Rattle.page_fields.proofs.Laws.{len-number_bytes}
 

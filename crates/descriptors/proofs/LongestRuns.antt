@@ -1,5 +1,7 @@
 -- One more slot.
-use Rattle.std.proofs.Common.{◌≡◌, ◌≢◌, ℕ, suc, ◌+◌, ◌^◌, ◌<◌, ◌≤◌, true, false, eqb, List, [], ◌∷◌, ◌++◌, length, take, get_or, length-append, replicate, Option, Some, None, refl, sym, ap, subst, ◌∙◌, append_assoc, arith, inl, inr}
+use Rattle.std.proofs.Common.{◌≡◌, ◌≢◌, ℕ, suc, ◌+◌, ◌^◌, ◌<◌, ◌≤◌, true, false, eqb, List, [], ◌∷◌, ◌++◌, length, take}
+use Rattle.std.proofs.Common.{get_or, length-append, replicate, Option, Some, None, refl, sym, ap, subst, ◌∙◌}
+use Rattle.std.proofs.Common.{append_assoc, arith, inl, inr}
 use Rattle.std.specs.Prelude.{unwrap_or}
 use Rattle.std.proofs.lemmas.Bool.{cases_eq, cases_Bool, eq-eqb, ne_eqb, eqb-true}
 use Rattle.std.proofs.lemmas.List.{replicate_more, append-nil, length-replicate}
@@ -8,7 +10,8 @@ use Rattle.std.proofs.lemmas.List.Concat.{flat_map-append}
 use Rattle.volume_model.specs.declared.lists.SlotRun.{SlotRun}
 use Rattle.descriptors.specs.Slots.{IsSlot, run_slots, filled_slots}
 use Rattle.descriptors.proofs.FilledSlots.{filled_more, length-filled}
-use Rattle.descriptors.specs.Runs.{cluster_of, slots_of_run, slots_in, goes_on, IsLongest, with_open, longer, one_slot, slots_of_all}
+use Rattle.descriptors.specs.Runs.{cluster_of, slots_of_run, slots_in, goes_on, IsLongest, with_open, longer, one_slot}
+use Rattle.descriptors.specs.Runs.{slots_of_all}
 
 -- a slot comes back from the number that a run has for it
 pub slot_again : (s : Option ℕ) → IsSlot s → cluster_of (unwrap_or s 0) ≡ s

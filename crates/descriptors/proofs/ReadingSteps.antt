@@ -1,5 +1,6 @@
 -- One turn of the reading.
-use Rattle.std.proofs.Common.{◌≡◌, ℕ, suc, ◌+◌, ◌-◌, ◌<◌, ◌≤◌, List, [], ◌∷◌, ◌++◌, length, take, drop, get_or, Some, None, refl, sym, ap, subst, ◌∙◌, append_assoc, arith}
+use Rattle.std.proofs.Common.{◌≡◌, ℕ, suc, ◌+◌, ◌-◌, ◌<◌, ◌≤◌, List, [], ◌∷◌, ◌++◌, length, take, drop, get_or, Some}
+use Rattle.std.proofs.Common.{None, refl, sym, ap, subst, ◌∙◌, append_assoc, arith}
 use Rattle.std.proofs.lemmas.List.{length-take-le, length-drop, drop-drop, get_or-drop, append-nil}
 use Rattle.byteorder.specs.Endian.{little_number}
 use Rattle.volume_model.specs.declared.lists.SlotRun.{SlotRun}
@@ -7,7 +8,8 @@ use Rattle.descriptors.specs.declared.item.Item.{Item}
 use Rattle.page_fields.specs.Fields.{number}
 use Rattle.descriptors.specs.Numbers.{number_from}
 use Rattle.descriptors.specs.Rows.{spelled_runs, row}
-use Rattle.descriptors.specs.Grammar.{Descriptor, Spells, short, ends, padding, adds, Spoils, past, bad, after_padding, after_item}
+use Rattle.descriptors.specs.Grammar.{Descriptor, Spells, short, ends, padding, adds, Spoils, past, bad, after_padding}
+use Rattle.descriptors.specs.Grammar.{after_item}
 
 -- a number within what is left is one of the whole
 pub number_from-drop : (n i j : ℕ) (b : List ℕ) → number_from i n (drop j b) ≡ number_from (j + i) n b

@@ -1,8 +1,11 @@
 -- What is written is read again.
-use Rattle.std.proofs.Common.{◌≡◌, ℕ, zero, suc, ◌+◌, ◌-◌, ◌*◌, ◌/◌, ◌%◌, ◌^◌, ◌<◌, ◌≤◌, true, false, eqb, ltb, List, [], ◌∷◌, ◌++◌, length, take, drop, get_or, replicate, All, Some, refl, sym, ap, subst, ◌∙◌, append_assoc, arith, length-append, inl, inr}
+use Rattle.std.proofs.Common.{◌≡◌, ℕ, zero, suc, ◌+◌, ◌-◌, ◌*◌, ◌/◌, ◌%◌, ◌^◌, ◌<◌, ◌≤◌, true, false, eqb, ltb, List}
+use Rattle.std.proofs.Common.{[], ◌∷◌, ◌++◌, length, take, drop, get_or, replicate, All, Some, refl, sym, ap, subst}
+use Rattle.std.proofs.Common.{◌∙◌, append_assoc, arith, length-append, inl, inr}
 use Rattle.std.specs.List.{flat_map, AllByRecursion}
 use Rattle.std.proofs.lemmas.Bool.{cases_lt, eq-eqb, ne_eqb, le-ltb}
-use Rattle.std.proofs.lemmas.List.{take_at, drop_at, drop-drop, append-nil, length-replicate, get_or-replicate, get_or_past, drop-replicate}
+use Rattle.std.proofs.lemmas.List.{take_at, drop_at, drop-drop, append-nil, length-replicate, get_or-replicate}
+use Rattle.std.proofs.lemmas.List.{get_or_past, drop-replicate}
 use Rattle.std.proofs.lemmas.List.Sums.{sum_by-cons}
 use Rattle.std.proofs.lemmas.List.Elements.{recursion_from_All}
 use Rattle.byteorder.specs.Endian.{little_number, little_from}
@@ -13,7 +16,8 @@ use Rattle.descriptors.specs.declared.item.Item.TheVariants.{Rle, Xattr, Flags, 
 use Rattle.descriptors.specs.Numbers.{number_from}
 use Rattle.descriptors.specs.Rows.{spelled_runs, rle, pair_in, flags, row, xattr_of, internal_of}
 use Rattle.descriptors.specs.Grammar.{Descriptor, Spells, short, ends, adds}
-use Rattle.descriptors.specs.Writing.{run_bytes, pair_bytes, flags_bytes, kind_of_item, body_of, framed, item_bytes, item_size, spelled_size, spelling, RunFits, ItemFits, IsWritable}
+use Rattle.descriptors.specs.Writing.{run_bytes, pair_bytes, flags_bytes, kind_of_item, body_of, framed, item_bytes}
+use Rattle.descriptors.specs.Writing.{item_size, spelled_size, spelling, RunFits, ItemFits, IsWritable}
 use Rattle.page_fields.specs.Fields.{number, number_bytes}
 use Rattle.descriptors.proofs.ReadingSteps.{number_from-drop}
 use Rattle.page_fields.proofs.Laws.{len-number_bytes}

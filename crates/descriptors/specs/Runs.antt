@@ -1,5 +1,6 @@
 -- Runs of slots: what they spell, and which are the longest.
-use Rattle.std.specs.Prelude.{◌≡◌, ℕ, ◌+◌, ◌<◌, ◌≤◌, ◌^◌, Bool, false, ◌==◌, if◌then◌else◌, List, [], ◌∷◌, ◌++◌, Option, Some, None, nat_lt, ◌-◌, sum_by}
+use Rattle.std.specs.Prelude.{◌≡◌, ℕ, ◌+◌, ◌<◌, ◌≤◌, ◌^◌, Bool, false, ◌==◌, if◌then◌else◌, List, [], ◌∷◌, ◌++◌, Option}
+use Rattle.std.specs.Prelude.{Some, None, nat_lt, ◌-◌, sum_by}
 use Rattle.std.specs.List.{flat_map}
 use Rattle.volume_model.specs.declared.lists.SlotRun.{SlotRun}
 use Rattle.descriptors.specs.Slots.{run_slots}

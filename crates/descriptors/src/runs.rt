@@ -1,9 +1,12 @@
 //! The runs of a map, and the map of runs.
 
-ghost use Rattle.std.specs.Prelude.{◌≡◌, ◌≢◌, ◌++◌, ◌∷◌, [], ◌+◌, ◌<◌, ◌≤◌, ◌^◌, ◌==◌, ◌&&◌, not, length, if◌then◌else◌, IfOk, OnErr, OnOk, sum_by, unwrap_or, IfSome, take, false, IsTrue, ◌-◌, IfErr};
+ghost use Rattle.std.specs.Prelude.{◌≡◌, ◌≢◌, ◌++◌, ◌∷◌, [], ◌+◌, ◌<◌, ◌≤◌, ◌^◌, ◌==◌, ◌&&◌, not, length};
+ghost use Rattle.std.specs.Prelude.{if◌then◌else◌, IfOk, OnErr, OnOk, sum_by, unwrap_or, IfSome, take, false, IsTrue};
+ghost use Rattle.std.specs.Prelude.{◌-◌, IfErr};
 ghost use Rattle.std.specs.List.{All};
 ghost use Rattle.descriptors.specs.Slots.{IsSlot};
-ghost use Rattle.descriptors.specs.Runs.{slots_in, IsLongest, goes_on, with_open, longer, one_slot, slots_of_run, slots_of_all, at_most, Reaches, IsTooLarge};
+ghost use Rattle.descriptors.specs.Runs.{slots_in, IsLongest, goes_on, with_open, longer, one_slot, slots_of_run};
+ghost use Rattle.descriptors.specs.Runs.{slots_of_all, at_most, Reaches, IsTooLarge};
 
 use crate::slot_map::SlotMap;
 use out_of_memory::Memory;

@@ -1,6 +1,7 @@
 //! The map of a blob: which cluster each of its slots holds.
 
-ghost use Rattle.std.specs.Prelude.{◌≡◌, ◌++◌, ◌+◌, ◌<◌, ◌≤◌, ◌^◌, [], length, take, slice_get, slice_set, OnOk, OnErr, IfOk, IfSome, Some, None};
+ghost use Rattle.std.specs.Prelude.{◌≡◌, ◌++◌, ◌+◌, ◌<◌, ◌≤◌, ◌^◌, [], length, take, slice_get, slice_set, OnOk, OnErr};
+ghost use Rattle.std.specs.Prelude.{IfOk, IfSome, Some, None};
 ghost use Rattle.std.specs.List.{All};
 ghost use Rattle.descriptors.specs.Slots.{IsSlot, run_slots};
 

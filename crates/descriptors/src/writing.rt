@@ -3,7 +3,8 @@
 ghost use Rattle.std.specs.Prelude.{◌≡◌, ◌+◌, ◌*◌, ◌<◌, ◌≤◌, ◌^◌, ◌++◌, ◌∷◌, [], ◌-◌, length, take, drop, replicate};
 ghost use Rattle.std.specs.List.{flat_map, All};
 ghost use Rattle.descriptors.specs.Grammar.{Spells};
-ghost use Rattle.descriptors.specs.Writing.{run_bytes, pair_bytes, flags_bytes, item_bytes, item_size, spelled_size, spelling, IsWritable, RunFits, ItemFits, framed};
+ghost use Rattle.descriptors.specs.Writing.{run_bytes, pair_bytes, flags_bytes, item_bytes, item_size, spelled_size};
+ghost use Rattle.descriptors.specs.Writing.{spelling, IsWritable, RunFits, ItemFits, framed};
 ghost use Rattle.page_fields.specs.Fields.{number_bytes};
 
 use crate::item::{Item, ItemList};

@@ -1,5 +1,6 @@
 -- The numbers that lists of calls draw.
-use Rattle.std.proofs.Common.{◌≡◌, ℕ, suc, ◌+◌, ◌<◌, Bool, cond, List, [], ◌∷◌, Option, Some, None, ◌⊎◌, sym, ap, ◌∙◌, arith, inl, inr}
+use Rattle.std.proofs.Common.{◌≡◌, ℕ, suc, ◌+◌, ◌<◌, Bool, cond, List, [], ◌∷◌, Option, Some, None, ◌⊎◌, sym, ap, ◌∙◌}
+use Rattle.std.proofs.Common.{arith, inl, inr}
 use Rattle.std.specs.Prelude.{All, AllPairs, Contains}
 use Rattle.std.specs.FinMap as map
 use Rattle.std.specs.Cmp.{nat_cmp_total}
@@ -83,7 +84,8 @@ after_a_remove g at head number numbers (inl has) =
 
 -- a generation was there before the calls, or they drew it
 pub had_or_drawn : (g : GuardsState) (calls : List GuardsCall) (head number : ℕ)
-    → map.get (guards_after_all g calls).generations head ≡ Some number → HadOrDrawn g (all_drawn_by g calls) head number
+    → map.get (guards_after_all g calls).generations head ≡ Some number
+    → HadOrDrawn g (all_drawn_by g calls) head number
 had_or_drawn g [] head number has = inl has
 had_or_drawn g (Add at ∷ calls) head number has =
     after_a_draw g at head number _ (had_or_drawn (renewed g at) calls head number has)

@@ -1,5 +1,6 @@
 -- What each edit makes of the state that the rows are seen as.
-use Rattle.std.proofs.Common.{◌≡◌, ℕ, ◌+◌, ◌<◌, true, false, List, length, get_or, set, Some, None, refl, sym, ap, ◌∙◌, arith, inl, inr}
+use Rattle.std.proofs.Common.{◌≡◌, ℕ, ◌+◌, ◌<◌, true, false, List, length, get_or, set, Some, None, refl, sym, ap, ◌∙◌}
+use Rattle.std.proofs.Common.{arith, inl, inr}
 use Rattle.std.specs.List.{insert, remove}
 use Rattle.std.specs.Prelude.{is_some}
 use Rattle.std.specs.FinMap as map
@@ -10,9 +11,12 @@ use Rattle.std.proofs.lemmas.List.Quantifiers.{all_pairs_remove}
 use Rattle.io_freeze.specs.declared.rows.Row.{Row}
 use Rattle.io_freeze.specs.Guards.{GuardsState, frozen_at, released, removed, renewed}
 use Rattle.io_freeze.specs.Rows.{Rises, IsAt, IsGap, generations_in, frozen_in}
-use Rattle.io_freeze.proofs.Found.{row_of, row_of-none, generation_of, is_marked, get-generations_in, contains-frozen_in}
-use Rattle.io_freeze.proofs.Edits.{Changes, insert-Changes, set-Changes, remove-Changes, row_of-at, none_before, none_past, none_at_gap, insert-Rises}
-use Rattle.io_freeze.proofs.States.{generations_stay, generations_put, generations_taken, frozen_stay, frozen_put, frozen_taken, absent-Changes}
+use Rattle.io_freeze.proofs.Found.{row_of, row_of-none, generation_of, is_marked, get-generations_in}
+use Rattle.io_freeze.proofs.Found.{contains-frozen_in}
+use Rattle.io_freeze.proofs.Edits.{Changes, insert-Changes, set-Changes, remove-Changes, row_of-at, none_before}
+use Rattle.io_freeze.proofs.Edits.{none_past, none_at_gap, insert-Rises}
+use Rattle.io_freeze.proofs.States.{generations_stay, generations_put, generations_taken, frozen_stay, frozen_put}
+use Rattle.io_freeze.proofs.States.{frozen_taken, absent-Changes}
 
 -- the guards that rows are seen as
 abbrev pub seen : List Row → ℕ → ℕ → GuardsState

@@ -8,7 +8,8 @@ use Rattle.std.specs.Cmp.{nat_cmp_total}
 use Rattle.std.proofs.lemmas.Bool.{cases_eq}
 use Rattle.io_freeze.specs.declared.rows.Row.{Row}
 use Rattle.io_freeze.specs.Rows.{Rises, generations_in, frozen_in}
-use Rattle.io_freeze.proofs.Found.{tied, tied-same, tied-apart, row_of, generation_of, is_marked, get-generations_in, contains-frozen_in}
+use Rattle.io_freeze.proofs.Found.{tied, tied-same, tied-apart, row_of, generation_of, is_marked, get-generations_in}
+use Rattle.io_freeze.proofs.Found.{contains-frozen_in}
 use Rattle.io_freeze.proofs.Edits.{Changes}
 
 same_generations : (m n : map.FinMap nat_cmp ℕ) → ((q : ℕ) → map.get m q ≡ map.get n q) → m ≡ n

@@ -10,7 +10,8 @@ ghost use Rattle.io_freeze.specs.Guards.{GuardsState};
 pub fn generations_never_repeat()
     ensures rises { (g : GuardsState) (calls : List GuardsCall)
         → AllPairs (λ earlier later. earlier < later) (all_drawn_by g calls) }
-    ensures above { (g : GuardsState) (calls : List GuardsCall) → All (λ number. g.drawn < number) (all_drawn_by g calls) }
+    ensures above { (g : GuardsState) (calls : List GuardsCall)
+        → All (λ number. g.drawn < number) (all_drawn_by g calls) }
     ensures drawn { (g : GuardsState) (calls : List GuardsCall) (head number : ℕ)
         → map.get (guards_after_all g calls).generations head ≡ Some number → (map.get g.generations head ≡ Some number)
         ⊎ Contains (all_drawn_by g calls) number }

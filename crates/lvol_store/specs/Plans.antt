@@ -22,7 +22,8 @@ abbrev pub IsSync : Command → Type 0
 IsSync (c.Sync volume) = Unit {0}
 IsSync _ = ⊥
 
--- One replacement, which is the commit: the blob at the head has these attributes, and all else that its metadata says stays.
+-- One replacement, which is the commit: the blob at the head has these attributes, and all else that its metadata says
+-- stays.
 pub record GivesXattrs (metas : map.FinMap nat_cmp Meta) (head : ℕ) (xattrs : Xattrs) (job : Job) : Type 0 where
   pub old : Meta
   pub there : map.get metas head ≡ Some old

@@ -23,7 +23,8 @@ fn pass(
     ensures there { OnOk result (IsSome (blob_named metas.now command.now)) }
     ensures unrefused { OnOk result (IsFirstCause metas.now (option_copied live.entry) command.now sup.now None) }
     ensures refused { IfErr result
-        (λ reply. IsAttributeCause reply × IsFirstCause metas.now (option_copied live.entry) command.now sup.now (Some reply)) }
+        (λ reply. IsAttributeCause reply
+        × IsFirstCause metas.now (option_copied live.entry) command.now sup.now (Some reply)) }
 {
     match refusal_of(metas, sup, live, command) {
         Some(reply) => Err(reply),

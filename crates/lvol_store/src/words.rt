@@ -3,7 +3,8 @@
 ghost use Rattle.std.specs.Prelude.{◌≡◌, OnOk, OnErr, IfOk, is_ok, None};
 ghost use Rattle.uuid.specs.Text.{parsed};
 ghost use Rattle.volume_model.specs.Names.{IsName};
-ghost use Rattle.lvol_store.specs.Names.{is_graphic as graphic_said, begins_no_name as no_name_said, is_name as name_said};
+ghost use Rattle.lvol_store.specs.Names.{is_graphic as graphic_said, begins_no_name as no_name_said};
+ghost use Rattle.lvol_store.specs.Names.{is_name as name_said};
 
 use thiserror::Error;
 use uuid::Uuid;

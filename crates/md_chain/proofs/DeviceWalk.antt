@@ -1,5 +1,6 @@
 -- What reading a device page by page leaves of it, and what is known while a chain is read.
-use Rattle.std.proofs.Common.{◌≡◌, ℕ, suc, ◌+◌, ◌≤◌, Bool, true, false, cond, List, [], ◌∷◌, ◌++◌, length, Option, Some, None, refl, sym, ap, subst, ◌∙◌, inl, inr, arith, length-append}
+use Rattle.std.proofs.Common.{◌≡◌, ℕ, suc, ◌+◌, ◌≤◌, Bool, true, false, cond, List, [], ◌∷◌, ◌++◌, length, Option, Some}
+use Rattle.std.proofs.Common.{None, refl, sym, ap, subst, ◌∙◌, inl, inr, arith, length-append}
 use Rattle.std.specs.Prelude.{IsTrue, ◌==◌, ◌||◌, not}
 use Rattle.crc32c.specs.Crc.{is_sound}
 use Rattle.page_disk.specs.Disk.{Image, Images, Alike, Rose, RoseByOne, with_page}
@@ -12,8 +13,10 @@ use Rattle.md_chain.specs.declared.fault.ChainFault.{ChainFault}
 use Rattle.md_chain.specs.declared.fault.ChainFault.TheVariants as faults
 use Rattle.md_chain.specs.Chain.{Look, link_fault, blob_id, chain_end, is_among, Chain, IsBroken, at_link}
 use Rattle.md_chain.specs.Fetching.{place_fault, page_fault, IsFetchFault, IsNthPageFault}
-use Rattle.md_chain.specs.Reading.{OnlyRead, region_look, WasSeen, GaveChain, GaveFault, IsChainCause, IsPagesFault, RoseBy}
-use Rattle.md_chain.proofs.PageWalk.{Way, at_head, goes_on, ends, fails, spoils, known, place_fails, place_passes, new_place, unseen, unseen-none, unseen-new, among-more}
+use Rattle.md_chain.specs.Reading.{OnlyRead, region_look, WasSeen, GaveChain, GaveFault, IsChainCause, IsPagesFault}
+use Rattle.md_chain.specs.Reading.{RoseBy}
+use Rattle.md_chain.proofs.PageWalk.{Way, at_head, goes_on, ends, fails, spoils, known, place_fails, place_passes}
+use Rattle.md_chain.proofs.PageWalk.{new_place, unseen, unseen-none, unseen-new, among-more}
 
 alike_two : (a b c : Images) → Alike b a → Alike c b → Alike c a
 alike_two a b c ba cb image = (λ x. (ba image).0 ((cb image).0 x), λ x. (cb image).1 ((ba image).1 x))

@@ -1,5 +1,6 @@
 -- Each page's items fit its body and can be written, and the pages are few.
-use Rattle.std.proofs.Common.{inl, inr, ◌≡◌, ℕ, zero, suc, ◌+◌, ◌-◌, ◌*◌, ◌/◌, ◌^◌, ◌<◌, ◌≤◌, Bool, true, false, cond, List, [], ◌∷◌, length, map, refl, ap, arith, length-append}
+use Rattle.std.proofs.Common.{inl, inr, ◌≡◌, ℕ, zero, suc, ◌+◌, ◌-◌, ◌*◌, ◌/◌, ◌^◌, ◌<◌, ◌≤◌, Bool, true, false, cond}
+use Rattle.std.proofs.Common.{List, [], ◌∷◌, length, map, refl, ap, arith, length-append}
 use Rattle.std.specs.Prelude.{nat_le}
 use Rattle.std.specs.List.{All, AllByRecursion, flat_map}
 use Rattle.std.proofs.lemmas.Bool.{le-leb, lt-leb, lt-ltb, le-ltb, leb-true, cases_lt}
@@ -11,7 +12,8 @@ use Rattle.descriptors.specs.declared.item.Item.TheVariants.{Rle, Xattr, Flags, 
 use Rattle.descriptors.specs.Writing.{item_size, spelled_size, IsWritable}
 use Rattle.md_chain.specs.Laid.{CanPack, IsRuns}
 use Rattle.blob_meta.specs.Says.{runs_in}
-use Rattle.md_chain.specs.Packing.{AreAttributes, ArePlannable, AreFew, with_run, pieces, on_page, run_parts, on_first, parts_from, parts_of}
+use Rattle.md_chain.specs.Packing.{AreAttributes, ArePlannable, AreFew, with_run, pieces, on_page, run_parts, on_first}
+use Rattle.md_chain.specs.Packing.{parts_from, parts_of}
 
 -- ---- each page's items fit
 

@@ -1,5 +1,6 @@
 -- Walking along a chain, page by page.
-use Rattle.std.proofs.Common.{◌≡◌, ℕ, zero, suc, ◌+◌, ◌<◌, ◌≤◌, Bool, true, false, cond, List, [], ◌∷◌, ◌++◌, Some, None, refl, sym, ap, subst, ◌∙◌, inl, inr, arith, append_assoc}
+use Rattle.std.proofs.Common.{◌≡◌, ℕ, zero, suc, ◌+◌, ◌<◌, ◌≤◌, Bool, true, false, cond, List, [], ◌∷◌, ◌++◌, Some}
+use Rattle.std.proofs.Common.{None, refl, sym, ap, subst, ◌∙◌, inl, inr, arith, append_assoc}
 use Rattle.std.specs.Prelude.{not, ◌==◌, nat_lt, ◌||◌}
 use Rattle.std.proofs.Math.Path.{fun_ext}
 use Rattle.std.proofs.lemmas.List.Folds.{list_any-append}
@@ -10,7 +11,8 @@ use Rattle.descriptors.specs.Grammar.{Spells, Spoils}
 use Rattle.md_page.specs.Page.{body_of, next_of}
 use Rattle.md_chain.specs.declared.fault.ChainFault.{ChainFault}
 use Rattle.md_chain.specs.declared.fault.ChainFault.TheVariants as faults
-use Rattle.md_chain.specs.Chain.{Look, link_fault, chain_end, is_among, Links, last, more, Broken, at_link, at_item, later, Chain, IsBroken}
+use Rattle.md_chain.specs.Chain.{Look, link_fault, chain_end, is_among, Links, last, more, Broken, at_link, at_item}
+use Rattle.md_chain.specs.Chain.{later, Chain, IsBroken}
 use Rattle.md_chain.specs.Fetching.{place_fault, page_fault}
 
 -- ---- the tests of a page are those of its place, and then its own

@@ -1,5 +1,6 @@
 -- The items in the pages say what the planned ones say.
-use Rattle.std.proofs.Common.{◌≡◌, ℕ, zero, suc, ◌-◌, ◌/◌, Bool, true, false, cond, List, [], ◌∷◌, ◌++◌, map, refl, sym, ap, subst, ◌∙◌, append-nil}
+use Rattle.std.proofs.Common.{◌≡◌, ℕ, zero, suc, ◌-◌, ◌/◌, Bool, true, false, cond, List, [], ◌∷◌, ◌++◌, map, refl, sym}
+use Rattle.std.proofs.Common.{ap, subst, ◌∙◌, append-nil}
 use Rattle.std.specs.Prelude.{nat_le, nat_lt}
 use Rattle.std.specs.List.{flat_map, filter_map}
 use Rattle.volume_model.specs.declared.lists.SlotRun.{SlotRun}
@@ -8,7 +9,8 @@ use Rattle.descriptors.specs.declared.item.Item.TheVariants.{Rle, Xattr, Flags, 
 use Rattle.descriptors.specs.Writing.{item_size}
 use Rattle.blob_meta.specs.declared.meta.Flags.{Flags as TheFlags}
 use Rattle.blob_meta.specs.Says.{last_flags, xattr_in, internal_in, meta_of, runs_in}
-use Rattle.md_chain.specs.Packing.{AreAttributes, ArePlannable, with_run, pieces, on_page, run_parts, on_first, parts_from}
+use Rattle.md_chain.specs.Packing.{AreAttributes, ArePlannable, with_run, pieces, on_page, run_parts, on_first}
+use Rattle.md_chain.specs.Packing.{parts_from}
 use Rattle.md_chain.specs.Planned.{written_items}
 
 abbrev together : List (List Item) → List Item

@@ -1,6 +1,7 @@
 -- The chain of a blob's metadata pages, and the first fault where a head has none. Pages are seen through a function
 -- that gives the page at each place of the metadata region.
-use Rattle.std.specs.Prelude.{◌≡◌, ℕ, suc, ◌+◌, ◌^◌, Bool, false, ◌==◌, nat_lt, not, if◌then◌else◌, List, [], ◌∷◌, ◌++◌, Option, Some, None}
+use Rattle.std.specs.Prelude.{◌≡◌, ℕ, suc, ◌+◌, ◌^◌, Bool, false, ◌==◌, nat_lt, not, if◌then◌else◌, List, [], ◌∷◌, ◌++◌}
+use Rattle.std.specs.Prelude.{Option, Some, None}
 use Rattle.std.specs.List.{list_any, AllByRecursion}
 use Rattle.crc32c.specs.Crc.{is_sound}
 use Rattle.md_page.specs.Page.{id_of, sequence_of, body_of, next_of}

@@ -1,5 +1,6 @@
 -- How items are laid on the pages of a chain: a list of items for each page's body.
-use Rattle.std.specs.Prelude.{ℕ, zero, suc, ◌+◌, ◌-◌, ◌/◌, ◌^◌, ◌<◌, ◌≤◌, nat_lt, nat_le, if◌then◌else◌, List, [], ◌∷◌, ◌++◌, length, map}
+use Rattle.std.specs.Prelude.{ℕ, zero, suc, ◌+◌, ◌-◌, ◌/◌, ◌^◌, ◌<◌, ◌≤◌, nat_lt, nat_le, if◌then◌else◌, List, [], ◌∷◌}
+use Rattle.std.specs.Prelude.{◌++◌, length, map}
 use Rattle.std.specs.List.{flat_map}
 use Rattle.volume_model.specs.declared.lists.SlotRun.{SlotRun}
 use Rattle.volume_model.specs.declared.text.Xattr.{Xattr}

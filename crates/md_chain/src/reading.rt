@@ -1,6 +1,7 @@
 //! Reading a chain from a device.
 
-ghost use Rattle.std.specs.Prelude.{◌≡◌, ◌+◌, ◌<◌, ◌≤◌, ◌++◌, ◌∷◌, [], None, ℕ, length, take, IsTrue, IfOk, IfErr, OnOk, OnErr, MatchResult};
+ghost use Rattle.std.specs.Prelude.{◌≡◌, ◌+◌, ◌<◌, ◌≤◌, ◌++◌, ◌∷◌, [], None, ℕ, length, take, IsTrue, IfOk, IfErr};
+ghost use Rattle.std.specs.Prelude.{OnOk, OnErr, MatchResult};
 ghost use Rattle.crc32c.specs.Crc.{is_sound};
 ghost use Rattle.descriptors.specs.Grammar.{Spells};
 ghost use Rattle.md_page.specs.Page.{body_of, next_of};
@@ -8,7 +9,8 @@ ghost use Rattle.page_disk.specs.Disk.{RoseByOne};
 ghost use Rattle.super_block.specs.Faults.{IsFaultless};
 ghost use Rattle.md_chain.specs.Chain.{Chain as IsChain, IsBroken};
 ghost use Rattle.md_chain.specs.Fetching.{place_fault, page_fault, IsFetchFault, IsNthPageFault};
-ghost use Rattle.md_chain.specs.Reading.{OnlyRead, GaveChain, IsChainCause, IsPagesFault, NoReadFailed, RoseBy, region_look};
+ghost use Rattle.md_chain.specs.Reading.{OnlyRead, GaveChain, IsChainCause, IsPagesFault, NoReadFailed, RoseBy};
+ghost use Rattle.md_chain.specs.Reading.{region_look};
 
 use crate::chain::{CHAIN_END, Chain};
 use crate::copying::copy_of;

@@ -1,5 +1,6 @@
 -- What is written is read again.
-use Rattle.std.proofs.Common.{◌≡◌, ℕ, ◌^◌, ◌<◌, true, List, ◌++◌, replicate, refl, sym, append_assoc, arith, length-append}
+use Rattle.std.proofs.Common.{◌≡◌, ℕ, ◌^◌, ◌<◌, true, List, ◌++◌, replicate, refl, sym, append_assoc, arith}
+use Rattle.std.proofs.Common.{length-append}
 use Rattle.crc32c.specs.Crc.{crc32c_of, is_sound}
 use Rattle.crc32c.proofs.Sealed.{is_sound-sealed}
 use Rattle.page_fields.specs.Fields.{number_bytes}

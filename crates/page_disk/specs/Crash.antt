@@ -1,5 +1,6 @@
 -- Which image a crash of a disk in memory leaves, where a number picks it.
-use Rattle.std.specs.Prelude.{◌≡◌, ◌⊎◌, ◌*◌, ◌/◌, ◌%◌, ◌^◌, ◌==◌, if◌then◌else◌, ℕ, false, List, [], ◌∷◌, length, slice_index, slice_set, bit_xor}
+use Rattle.std.specs.Prelude.{◌≡◌, ◌⊎◌, ◌*◌, ◌/◌, ◌%◌, ◌^◌, ◌==◌, if◌then◌else◌, ℕ, false, List, [], ◌∷◌, length}
+use Rattle.std.specs.Prelude.{slice_index, slice_set, bit_xor}
 use Rattle.crc32c.specs.Crc.{is_sound}
 use Rattle.page_disk.specs.Disk.{Image, IsPage, Puts, with_page}
 use Rattle.page_disk.specs.Record.{Recorded, base_image}

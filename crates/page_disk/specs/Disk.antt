@@ -1,5 +1,6 @@
 -- What the calls of a disk do to its pages, and what a crash may leave of them.
-use Rattle.std.specs.Prelude.{◌≡◌, ◌≢◌, ◌⊎◌, ◌↔◌, ◌+◌, ◌-◌, ◌^◌, ◌<◌, ◌≤◌, ◌==◌, if◌then◌else◌, ℕ, false, List, length, get_or, Result, IsErr}
+use Rattle.std.specs.Prelude.{◌≡◌, ◌≢◌, ◌⊎◌, ◌↔◌, ◌+◌, ◌-◌, ◌^◌, ◌<◌, ◌≤◌, ◌==◌, if◌then◌else◌, ℕ, false, List, length}
+use Rattle.std.specs.Prelude.{get_or, Result, IsErr}
 use Rattle.crc32c.specs.Crc.{is_sound}
 use Rattle.page_disk.specs.declared.disk.DiskFault.{DiskFault}
 use Rattle.page_disk.specs.declared.disk.WriteKind.{WriteKind}

@@ -2,8 +2,10 @@
 ghost use Rattle.std.specs.Prelude.{◌≡◌, ◌⊎◌, ◌≤◌, ◌<◌, ◌-◌, ◌∷◌, [], length, get_or, false, ℕ, List, IfOk, OnOk};
 ghost use Rattle.crc32c.specs.Crc.{is_sound};
 ghost use Rattle.page_disk.specs.Disk.{Only, with_page};
-ghost use Rattle.page_disk.specs.Record.{base_image, record_begun, read_after, image_of, images_of, IsWrite, ImagesFrom};
-ghost use Rattle.page_disk.specs.Crash.{crash_image, left_after, left_of, remains_by, with_unsound, torn_by, TookOrNot, TookUnsound};
+ghost use Rattle.page_disk.specs.Record.{base_image, record_begun, read_after, image_of, images_of, IsWrite};
+ghost use Rattle.page_disk.specs.Record.{ImagesFrom};
+ghost use Rattle.page_disk.specs.Crash.{crash_image, left_after, left_of, remains_by, with_unsound, torn_by, TookOrNot};
+ghost use Rattle.page_disk.specs.Crash.{TookUnsound};
 ghost use Rattle.page_disk.specs.declared.record.Call.TheVariants.{Flush, Write};
 ghost use Rattle.page_disk.specs.declared.disk.WriteKind.TheVariants.{Plain};
 

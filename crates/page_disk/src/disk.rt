@@ -1,6 +1,7 @@
 // A disk of pages: what it reads, and what a crash may leave.
 ghost use Rattle.std.specs.Prelude.{◌≡◌, ◌≤◌, ◌<◌, Bool, List, ℕ, OnOk, OnErr, IsOk, IsErr, IsTrue};
-ghost use Rattle.page_disk.specs.Disk.{Image, Images, Alike, Only, Elapses, Wrote, WroteOrNot, Telling, HasCause, RoseByOne, last_count};
+ghost use Rattle.page_disk.specs.Disk.{Image, Images, Alike, Only, Elapses, Wrote, WroteOrNot, Telling, HasCause};
+ghost use Rattle.page_disk.specs.Disk.{RoseByOne, last_count};
 
 /// A page of 4096 bytes, the unit of every read and write.
 pub type Page = [u8; 4096];

@@ -1,7 +1,8 @@
 // A disk in memory: the pages with which it began, and a record of every write and flush since.
 ghost use Rattle.std.specs.Prelude.{◌≡◌, ◌≤◌, ◌<◌, ◌+◌, ◌++◌, ◌∷◌, true, length, ℕ, IfOk, IsOk, OnOk, OnErr, ◌↔◌, []};
 ghost use Rattle.std.specs.HashMap.{spare};
-ghost use Rattle.page_disk.specs.Record.{base_image, record_begun, read_after, image_of, images_of, since_of, zeros, IsIndex, IsWrite, content_of};
+ghost use Rattle.page_disk.specs.Record.{base_image, record_begun, read_after, image_of, images_of, since_of, zeros};
+ghost use Rattle.page_disk.specs.Record.{IsIndex, IsWrite, content_of};
 ghost use Rattle.page_disk.specs.Disk.{Only, Wrote, HasCause, RoseByOne, last_count};
 ghost use Rattle.page_disk.specs.declared.record.Call.TheVariants.{Write, Flush};
 ghost use Rattle.page_disk.specs.RecordLaws.{reads_one, since_end, counts_end};

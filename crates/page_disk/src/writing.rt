@@ -11,7 +11,8 @@ pub fn write_page<D: PageDisk>(disk: &mut D, place: u64, page: &Page) -> Result<
     requires { place < D.pages disk.old }
 
     // A crash at any moment leaves one of the images from before, with or without what the write puts there.
-    ensures any_moment { CallsLeaveOnly D.PageDisk disk.old disk.new (Written (D.images disk.old) place Plain page.now) }
+    ensures any_moment { CallsLeaveOnly D.PageDisk disk.old disk.new
+        (Written (D.images disk.old) place Plain page.now) }
 
     ensures written { IsTrue D.tells → OnOk result (D.now disk.new ≡ with_page (D.now disk.old) place page.now) }
     ensures later { D.clock disk.old ≤ D.clock disk.new }
@@ -31,7 +32,8 @@ pub fn write_and_flush<D: PageDisk>(disk: &mut D, place: u64, page: &Page) -> Re
     requires { place < D.pages disk.old }
 
     // A crash at any moment leaves one of the images from before, with or without what the write puts there.
-    ensures any_moment { CallsLeaveOnly D.PageDisk disk.old disk.new (Written (D.images disk.old) place Plain page.now) }
+    ensures any_moment { CallsLeaveOnly D.PageDisk disk.old disk.new
+        (Written (D.images disk.old) place Plain page.now) }
 
     ensures written { IsTrue D.tells → OnOk result (D.now disk.new ≡ with_page (D.now disk.old) place page.now) }
     ensures durable { IsTrue D.tells → OnOk result (Only (D.now disk.new) (D.images disk.new)) }

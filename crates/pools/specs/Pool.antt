@@ -1,5 +1,6 @@
 -- A pool of places as contracts see it, and what each of its calls makes of it.
-use Rattle.std.specs.Prelude.{◌≡◌, ◌≢◌, ℕ, ◌==◌, Bool, true, false, not, List, ◌∷◌, All, AllPairs, filter, count_by, slice_set}
+use Rattle.std.specs.Prelude.{◌≡◌, ◌≢◌, ℕ, ◌==◌, Bool, true, false, not, List, ◌∷◌, All, AllPairs, filter, count_by}
+use Rattle.std.specs.Prelude.{slice_set}
 use Rattle.bit_array.specs.Bits.{is_in}
 
 -- the set of the places in use, and the list of the open claims, the newest first

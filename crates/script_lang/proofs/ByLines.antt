@@ -1,5 +1,7 @@
 -- A script that is read line by line.
-use Rattle.std.proofs.Common.{◌≡◌, ◌⊎◌, inl, inr, ℕ, ◌+◌, ◌^◌, ◌<◌, ◌≤◌, List, [], ◌∷◌, ◌++◌, map, length, Some, None, Result, Ok, Err, refl, sym, ap, subst, ◌∙◌, arith, append_assoc, length-append, slice_index_or}
+use Rattle.std.proofs.Common.{◌≡◌, ◌⊎◌, inl, inr, ℕ, ◌+◌, ◌^◌, ◌<◌, ◌≤◌, List, [], ◌∷◌, ◌++◌, map, length, Some, None}
+use Rattle.std.proofs.Common.{Result, Ok, Err, refl, sym, ap, subst, ◌∙◌, arith, append_assoc, length-append}
+use Rattle.std.proofs.Common.{slice_index_or}
 use Rattle.std.specs.Prelude.{cond, replicate, fold}
 use Rattle.std.specs.List.{All}
 use Rattle.std.specs.Option.{option_map, option_and_then}
@@ -18,10 +20,12 @@ use Rattle.script_lang.specs.declared.grammar.Grammar.TheVariants.{Served}
 use Rattle.script_lang.specs.declared.line.LineRequest.{LineRequest}
 use Rattle.script_lang.specs.Commands.{pages_of}
 use Rattle.script_lang.specs.Lines.{says}
-use Rattle.script_lang.specs.Script.{lines, all_ok, pages_of_requests, within_pages, requests_in, with_command, with_request, script_of, reads_as, wrong_after, wrong_on, IsFirstBad}
+use Rattle.script_lang.specs.Script.{lines, all_ok, pages_of_requests, within_pages, requests_in, with_command}
+use Rattle.script_lang.specs.Script.{with_request, script_of, reads_as, wrong_after, wrong_on, IsFirstBad}
 use Rattle.script_lang.proofs.Requests.{IsSized}
 use Rattle.script_lang.proofs.ServedHeads.{no_pages}
-use Rattle.script_lang.proofs.ScriptLimits.{all_oks, not_lt, stay_many, in_few_lines, none_asked, in_many_lines, no_script}
+use Rattle.script_lang.proofs.ScriptLimits.{all_oks, not_lt, stay_many, in_few_lines, none_asked, in_many_lines}
+use Rattle.script_lang.proofs.ScriptLimits.{no_script}
 
 -- so many lines before ask for what stands in this script
 pub record IsReading (grammar : Grammar) (all left : List (List ℕ)) (script : List (List Command)) (number pages : ℕ)
@@ -117,7 +121,8 @@ module _ (grammar : Grammar) (all left : List (List ℕ)) (line : List ℕ) (res
       ∙ ap (λ cs. cs ++ says grammar line ∷ map (says grammar) rest) r.good
 
   first_bad : (text : List ℕ) (kind : LineKind) → length text ≤ 2 ^ 20 → all ≡ lines text
-      → wrong_on grammar (number + 1) (pages_of_requests r.requests) line ≡ Some kind → IsFirstBad grammar text (number + 1) kind
+      → wrong_on grammar (number + 1) (pages_of_requests r.requests) line ≡ Some kind
+      → IsFirstBad grammar text (number + 1) kind
   first_bad text kind small is wrong = record {
     before = r.before;
     requests = r.requests;
@@ -132,7 +137,8 @@ module _ (grammar : Grammar) (all left : List (List ℕ)) (line : List ℕ) (res
 
   -- within the limit of lines the line itself says what is wrong
   wrong_here : number + 1 ≤ 2 ^ 16
-      → wrong_on grammar (number + 1) (pages_of_requests r.requests) line ≡ wrong_after (pages_of_requests r.requests) (says grammar line)
+      → wrong_on grammar (number + 1) (pages_of_requests r.requests) line
+      ≡ wrong_after (pages_of_requests r.requests) (says grammar line)
   wrong_here few = ap (λ b. cond b (Some kind.Limit) (wrong_after (pages_of_requests r.requests) (says grammar line)))
       (not_lt (2 ^ 16) (number + 1) few)
 
@@ -175,12 +181,14 @@ module _ (grammar : Grammar) (all left : List (List ℕ)) (line : List ℕ) (res
         → 2 ^ 16 < pages + pages_of request.commands
         → IsFirstBad grammar text (number + 1) kind.Limit × (reads_as grammar text ≡ None)
     too_many_pages text small is few over =
-        let more : 2 ^ 16 < pages_of_requests r.requests + pages_of request.commands = omega (arith, over, r.pages_are) in
+        let more : 2 ^ 16 < pages_of_requests r.requests + pages_of request.commands =
+        omega (arith, over, r.pages_are) in
         let limit : wrong_after (pages_of_requests r.requests) (says grammar line) ≡ Some kind.Limit =
         ap (wrong_after (pages_of_requests r.requests)) said
         ∙ ap (λ b. cond b (Some kind.Limit) None)
         (lt-ltb (2 ^ 16) (pages_of_requests r.requests + pages_of request.commands) more) in
-        let whole : pages_of_requests (r.requests ++ request ∷ []) ≡ pages_of_requests r.requests + pages_of request.commands =
+        let whole : pages_of_requests (r.requests ++ request ∷ [])
+        ≡ pages_of_requests r.requests + pages_of request.commands =
         omega (arith, sum_by-append (λ (q : LineRequest). pages_of q.commands) r.requests (request ∷ [])) in
         let asked : all_ok (map (says grammar) all) ≡ option_map (λ later. (r.requests ++ request ∷ []) ++ later)
         (all_ok (map (says grammar) rest)) =

@@ -1,5 +1,7 @@
 -- Each generated line is a line of the grammar, with its command in its channel.
-use Rattle.std.proofs.Common.{◌≡◌, ℕ, zero, suc, ◌+◌, ◌-◌, ◌/◌, ◌%◌, ◌<◌, ◌^◌, Bool, true, false, ◌&&◌, cond, eqb, ltb, List, [], ◌∷◌, ◌++◌, length, map, Some, None, Ok, Err, refl, sym, ap, subst, ◌∙◌, append_assoc, decimal, codes, arith}
+use Rattle.std.proofs.Common.{◌≡◌, ℕ, zero, suc, ◌+◌, ◌-◌, ◌/◌, ◌%◌, ◌<◌, ◌^◌, Bool, true, false, ◌&&◌, cond, eqb, ltb}
+use Rattle.std.proofs.Common.{List, [], ◌∷◌, ◌++◌, length, map, Some, None, Ok, Err, refl, sym, ap, subst, ◌∙◌}
+use Rattle.std.proofs.Common.{append_assoc, decimal, codes, arith}
 use Rattle.std.specs.Prelude.{nat_lt}
 use Rattle.std.specs.List.{All, range_with_len}
 use Rattle.std.specs.Option.{option_map, option_and_then}
@@ -27,13 +29,16 @@ use Rattle.script_lang.specs.declared.verb.Verb.{Verb}
 use Rattle.script_lang.specs.declared.verb.Verb.TheVariants as v
 use Rattle.script_lang.specs.Commands.{commands_of, page_by_page, write_at, read_at}
 use Rattle.script_lang.specs.Forms.{says_word, says_values, joined, or_kind}
-use Rattle.script_lang.specs.Generated.{AreDrawn, drawn_command, drawn_line, making_line, generated_line, volume_name, words_of, text_of, command_of, request_of}
+use Rattle.script_lang.specs.Generated.{AreDrawn, drawn_command, drawn_line, making_line, generated_line, volume_name}
+use Rattle.script_lang.specs.Generated.{words_of, text_of, command_of, request_of}
 use Rattle.script_lang.specs.Generator.{after_draws, drawn, before_line}
-use Rattle.script_lang.specs.Lines.{says, says_words, says_verb, commands_said, in_channel, is_skipped, is_printable, is_spaced, words, no_request}
+use Rattle.script_lang.specs.Lines.{says, says_words, says_verb, commands_said, in_channel, is_skipped, is_printable}
+use Rattle.script_lang.specs.Lines.{is_spaced, words, no_request}
 use Rattle.script_lang.specs.Verbs.{verb_in, forms_of, takes}
 use Rattle.script_lang.specs.Words.{name_in, count_of, is_visible, value_in}
 use Rattle.script_lang.proofs.Numbers.{is_number}
-use Rattle.script_lang.proofs.SpacedWords.{spaced, IsWord, words_are, are_printable, are_spaced, decimal_visible, decimal_word}
+use Rattle.script_lang.proofs.SpacedWords.{spaced, IsWord, words_are, are_printable, are_spaced, decimal_visible}
+use Rattle.script_lang.proofs.SpacedWords.{decimal_word}
 
 -- what holds of 0 to 3 holds of each number below 4
 below_four : (P : ℕ → Type 0) → P 0 → P 1 → P 2 → P 3 → (n : ℕ) → n < 4 → P n

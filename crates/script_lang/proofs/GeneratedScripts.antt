@@ -1,5 +1,7 @@
 -- A generated text is a script of the whole grammar, as far as it isn't too long.
-use Rattle.std.proofs.Common.{◌≡◌, ℕ, ◌+◌, ◌*◌, ◌<◌, ◌≤◌, ◌^◌, true, false, ◌&&◌, cond, eqb, List, [], ◌∷◌, ◌++◌, length, map, Some, None, Ok, refl, sym, ap, ◌∙◌, codes, decimal, append_assoc, length-append, arith}
+use Rattle.std.proofs.Common.{◌≡◌, ℕ, ◌+◌, ◌*◌, ◌<◌, ◌≤◌, ◌^◌, true, false, ◌&&◌, cond, eqb, List, [], ◌∷◌, ◌++◌}
+use Rattle.std.proofs.Common.{length, map, Some, None, Ok, refl, sym, ap, ◌∙◌, codes, decimal, append_assoc}
+use Rattle.std.proofs.Common.{length-append, arith}
 use Rattle.std.specs.Prelude.{nat_le, replicate}
 use Rattle.std.specs.List.{All, flat_map, range_with_len}
 use Rattle.std.specs.Option.{option_map}
@@ -15,7 +17,8 @@ use Rattle.script_lang.specs.declared.generated.GeneratedCommand.TheVariants.{Cr
 use Rattle.script_lang.specs.declared.grammar.Grammar.TheVariants.{Whole}
 use Rattle.script_lang.specs.declared.line.LineRequest.{LineRequest}
 use Rattle.script_lang.specs.Commands.{pages_of}
-use Rattle.script_lang.specs.Generated.{AreDrawn, generated_line, text_of, words_of, command_of, request_of, generated_lines, generated_requests}
+use Rattle.script_lang.specs.Generated.{AreDrawn, generated_line, text_of, words_of, command_of, request_of}
+use Rattle.script_lang.specs.Generated.{generated_lines, generated_requests}
 use Rattle.script_lang.specs.Lines.{says}
 use Rattle.script_lang.specs.Script.{lines, pages_of_requests, requests_in, script_of, reads_as, with_request}
 use Rattle.script_lang.proofs.ScriptLimits.{in_few_lines}

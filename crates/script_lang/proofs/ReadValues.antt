@@ -1,5 +1,7 @@
 -- The words that follow a verb, read one by one.
-use Rattle.std.proofs.Common.{◌≡◌, ℕ, ◌+◌, ◌<◌, ◌≤◌, List, [], ◌∷◌, ◌++◌, length, drop, get_or, Option, Some, None, Result, Ok, Err, refl, sym, ap, ◌∙◌, subst, append_assoc, append-nil, add-one, arith, length-append, drop-cons}
+use Rattle.std.proofs.Common.{◌≡◌, ℕ, ◌+◌, ◌<◌, ◌≤◌, List, [], ◌∷◌, ◌++◌, length, drop, get_or, Option, Some, None}
+use Rattle.std.proofs.Common.{Result, Ok, Err, refl, sym, ap, ◌∙◌, subst, append_assoc, append-nil, add-one, arith}
+use Rattle.std.proofs.Common.{length-append, drop-cons}
 use Rattle.std.proofs.lemmas.Grind.{common_steps}
 use Rattle.script_lang.specs.declared.fault.LineKind.{LineKind}
 use Rattle.script_lang.specs.declared.fault.LineKind.TheVariants as kind
@@ -99,7 +101,8 @@ module _ (grammar : Grammar) (forms : List Form) (words : List (List ℕ)) (inde
     }
 
     pub one_fault : says_word grammar (get_or forms index d) word ≡ None
-        → IsReading grammar forms words (index + 1) rest values (Some (fault_after fault (kind_of_form (get_or forms index d))))
+        → IsReading grammar forms words (index + 1) rest values
+        (Some (fault_after fault (kind_of_form (get_or forms index d))))
     one_fault said = record {
       whole = ap (λ a. joined a (says_values grammar (drop (index + 1) forms) rest))
           (sym (ap (λ o. joined (so_far values fault) (or_kind (get_or forms index d) o)) said

@@ -1,5 +1,6 @@
 -- What each line's request is like: one command at most or pages alone, in one of sixteen channels.
-use Rattle.std.proofs.Common.{◌≡◌, ◌⊎◌, inl, inr, ℕ, ◌+◌, ◌<◌, ◌≤◌, Bool, true, false, cond, ◌&&◌, List, [], ◌∷◌, length, map, Option, Some, None, Result, Ok, Err, refl, ap, subst, arith}
+use Rattle.std.proofs.Common.{◌≡◌, ◌⊎◌, inl, inr, ℕ, ◌+◌, ◌<◌, ◌≤◌, Bool, true, false, cond, ◌&&◌, List, [], ◌∷◌}
+use Rattle.std.proofs.Common.{length, map, Option, Some, None, Result, Ok, Err, refl, ap, subst, arith}
 use Rattle.std.specs.Prelude.{IfOk, IfSome, decimal, ◌^◌, nat_lt}
 use Rattle.std.specs.List.{range_with_len}
 use Rattle.std.proofs.lemmas.Bool.{ltb-true}
@@ -15,10 +16,12 @@ use Rattle.script_lang.specs.declared.grammar.Grammar.TheVariants.{Served, Whole
 use Rattle.script_lang.specs.declared.line.LineRequest.{LineRequest}
 use Rattle.script_lang.specs.declared.verb.Verb.{Verb}
 use Rattle.script_lang.specs.declared.verb.Verb.TheVariants as v
-use Rattle.script_lang.specs.Commands.{commands_of, command_of, alone, write_commands, read_commands, page_by_page, write_at, read_at, is_page, pages_of}
+use Rattle.script_lang.specs.Commands.{commands_of, command_of, alone, write_commands, read_commands, page_by_page}
+use Rattle.script_lang.specs.Commands.{write_at, read_at, is_page, pages_of}
 use Rattle.script_lang.specs.Forms.{says_values}
 use Rattle.script_lang.specs.Grammar.{channels_of}
-use Rattle.script_lang.specs.Lines.{says, says_words, says_verb, commands_said, in_channel, channel_in, is_skipped, is_printable, is_spaced, words}
+use Rattle.script_lang.specs.Lines.{says, says_words, says_verb, commands_said, in_channel, channel_in, is_skipped}
+use Rattle.script_lang.specs.Lines.{is_printable, is_spaced, words}
 use Rattle.script_lang.specs.Verbs.{verb_in, forms_of, takes}
 
 -- of two results that both have a property, the chosen one has it
@@ -142,6 +145,7 @@ says_channel grammar line =
     (is_printable line && is_spaced line) _ _ (words_below grammar (words line)) tt)
 
 -- what holds of a request if there is one
-pub if_said : (P : LineRequest → Type 0) (r : Result LineRequest LineKind) (request : LineRequest) → r ≡ Ok request → IfOk r P
+pub if_said : (P : LineRequest → Type 0) (r : Result LineRequest LineKind) (request : LineRequest) → r ≡ Ok request
+    → IfOk r P
     → P request
 if_said P r request e h = subst (λ (x : Result LineRequest LineKind). IfOk x P) e h

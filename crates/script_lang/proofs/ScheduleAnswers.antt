@@ -1,5 +1,6 @@
 -- A schedule's text that is read up to a place, and what is answered there.
-use Rattle.std.proofs.Common.{◌≡◌, ℕ, ◌+◌, ◌*◌, ◌<◌, ◌≤◌, ◌^◌, List, [], ◌∷◌, length, get_or, take, drop, Some, None, refl, sym, ap, ◌∙◌, subst, take-append-drop, inl, inr, arith}
+use Rattle.std.proofs.Common.{◌≡◌, ℕ, ◌+◌, ◌*◌, ◌<◌, ◌≤◌, ◌^◌, List, [], ◌∷◌, length, get_or, take, drop, Some, None}
+use Rattle.std.proofs.Common.{refl, sym, ap, ◌∙◌, subst, take-append-drop, inl, inr, arith}
 use Rattle.std.proofs.lemmas.List.{take_more, take_all, length-take-le}
 use Rattle.script_lang.specs.declared.schedule.Actor.{Actor}
 use Rattle.script_lang.specs.declared.reading.Place.TheVariants.{Start}

@@ -1,5 +1,7 @@
 -- What a text says with a byte more.
-use Rattle.std.proofs.Common.{◌≡◌, ℕ, ◌+◌, ◌-◌, ◌*◌, ◌/◌, ◌%◌, ◌≤◌, ◌^◌, true, ◌&&◌, ltb, leb, eqb, List, [], ◌∷◌, ◌++◌, length, Option, Some, None, refl, sym, ap, ◌∙◌, subst, append_assoc, decimal, codes, inl, inr, arith}
+use Rattle.std.proofs.Common.{◌≡◌, ℕ, ◌+◌, ◌-◌, ◌*◌, ◌/◌, ◌%◌, ◌≤◌, ◌^◌, true, ◌&&◌, ltb, leb, eqb, List, [], ◌∷◌, ◌++◌}
+use Rattle.std.proofs.Common.{length, Option, Some, None, refl, sym, ap, ◌∙◌, subst, append_assoc, decimal, codes, inl}
+use Rattle.std.proofs.Common.{inr, arith}
 use Rattle.std.specs.Option.{option_and_then}
 use Rattle.std.proofs.lemmas.Bool.{false≢true, leb-true, eqb-true}
 use Rattle.std.proofs.lemmas.List.{append-nil}
@@ -12,8 +14,11 @@ use Rattle.script_lang.specs.declared.reading.Reading.{Reading}
 use Rattle.script_lang.specs.Schedules.{IsActor, metadata, channel, AreParts}
 use Rattle.script_lang.proofs.Numbers.{both}
 use Rattle.script_lang.proofs.ScheduleReads.{two_digits}
-use Rattle.script_lang.specs.Reading.{reading, after_start, after_actor, after_count, with_comma, ended, within_part, after_byte, goes_on_as_number, HasRoomAt, HasRoom}
-use Rattle.script_lang.proofs.ScheduleTexts.{Steps, some_done, none_joined, some_joined, actor_joined, IsAtStart, IsAtActor, IsCount, IsAtCount, ReadsAt, Reads, when_some, which_some, the_same, ended_parts}
+use Rattle.script_lang.specs.Reading.{reading, after_start, after_actor, after_count, with_comma, ended, within_part}
+use Rattle.script_lang.specs.Reading.{after_byte, goes_on_as_number, HasRoomAt, HasRoom}
+use Rattle.script_lang.proofs.ScheduleTexts.{Steps, some_done, none_joined, some_joined, actor_joined, IsAtStart}
+use Rattle.script_lang.proofs.ScheduleTexts.{IsAtActor, IsCount, IsAtCount, ReadsAt, Reads, when_some, which_some}
+use Rattle.script_lang.proofs.ScheduleTexts.{the_same, ended_parts}
 
 -- a byte more
 one_more : (a b c : List ℕ) (byte : ℕ) → (a ++ (b ++ c)) ++ byte ∷ [] ≡ a ++ (b ++ (c ++ byte ∷ []))

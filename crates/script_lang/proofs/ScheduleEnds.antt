@@ -1,5 +1,6 @@
 -- A text that was read so far is a schedule where it may end, and begins one everywhere.
-use Rattle.std.proofs.Common.{◌≡◌, ℕ, ◌+◌, ◌*◌, ◌≤◌, ◌^◌, true, leb, List, [], ◌∷◌, ◌++◌, length, Some, refl, sym, subst, length-append, inl, inr, arith}
+use Rattle.std.proofs.Common.{◌≡◌, ℕ, ◌+◌, ◌*◌, ◌≤◌, ◌^◌, true, leb, List, [], ◌∷◌, ◌++◌, length, Some, refl, sym}
+use Rattle.std.proofs.Common.{subst, length-append, inl, inr, arith}
 use Rattle.std.proofs.lemmas.Bool.Decides.{nat_tests}
 use Rattle.std.proofs.lemmas.List.{append-nil}
 use Rattle.script_lang.specs.declared.schedule.Actor.{Actor}

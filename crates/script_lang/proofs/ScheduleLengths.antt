@@ -1,8 +1,10 @@
 -- How long the text of a schedule may be.
-use Rattle.std.proofs.Common.{ℕ, ◌+◌, ◌*◌, ◌<◌, ◌≤◌, ◌^◌, List, [], ◌∷◌, ◌++◌, length, length-append, decimal, mul-le-mul_right, arith}
+use Rattle.std.proofs.Common.{ℕ, ◌+◌, ◌*◌, ◌<◌, ◌≤◌, ◌^◌, List, [], ◌∷◌, ◌++◌, length, length-append, decimal}
+use Rattle.std.proofs.Common.{mul-le-mul_right, arith}
 use Rattle.std.proofs.lemmas.Fmt.{length-decimal-le}
 use Rattle.script_lang.specs.declared.schedule.Actor.{Actor}
-use Rattle.script_lang.specs.Schedules.{IsActor, metadata, channel, AreActors, one_actor, more_actors, IsPart, once, times, AreParts, one_part, more_parts, GoesOn}
+use Rattle.script_lang.specs.Schedules.{IsActor, metadata, channel, AreActors, one_actor, more_actors, IsPart, once}
+use Rattle.script_lang.specs.Schedules.{times, AreParts, one_part, more_parts, GoesOn}
 use Rattle.script_lang.proofs.Schedules.{length-repeated}
 
 actor_length : (text : List ℕ) (actor : Actor) → IsActor text actor → length text ≤ 2

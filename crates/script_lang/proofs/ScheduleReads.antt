@@ -1,5 +1,7 @@
 -- The reading of a schedule's text against what schedules say.
-use Rattle.std.proofs.Common.{◌≡◌, ℕ, ◌+◌, ◌-◌, ◌*◌, ◌/◌, ◌%◌, ◌<◌, ◌≤◌, ◌^◌, true, false, ltb, leb, eqb, List, [], ◌∷◌, ◌++◌, length, Option, Some, None, refl, sym, ap, ◌∙◌, subst, length-append, decimal, inl, inr, mul-le-mul_right, arith}
+use Rattle.std.proofs.Common.{◌≡◌, ℕ, ◌+◌, ◌-◌, ◌*◌, ◌/◌, ◌%◌, ◌<◌, ◌≤◌, ◌^◌, true, false, ltb, leb, eqb, List, [], ◌∷◌}
+use Rattle.std.proofs.Common.{◌++◌, length, Option, Some, None, refl, sym, ap, ◌∙◌, subst, length-append, decimal, inl}
+use Rattle.std.proofs.Common.{inr, mul-le-mul_right, arith}
 use Rattle.std.specs.Option.{option_and_then}
 use Rattle.std.proofs.lemmas.Bool.Decides.{nat_tests}
 use Rattle.std.proofs.lemmas.Bool.{cases_lt, lt-ltb, le-leb}
@@ -8,7 +10,8 @@ use Rattle.script_lang.specs.declared.schedule.Actor.{Actor}
 use Rattle.script_lang.specs.declared.schedule.Actor.TheVariants.{Channel}
 use Rattle.script_lang.specs.declared.reading.Place.TheVariants.{Start, Named, Times}
 use Rattle.script_lang.specs.declared.reading.Reading.{Reading}
-use Rattle.script_lang.specs.Schedules.{repeated, IsActor, metadata, channel, AreActors, one_actor, more_actors, IsPart, once, times, AreParts, one_part, more_parts, IsSchedule, IsNoSchedule, GoesOn}
+use Rattle.script_lang.specs.Schedules.{repeated, IsActor, metadata, channel, AreActors, one_actor, more_actors, IsPart}
+use Rattle.script_lang.specs.Schedules.{once, times, AreParts, one_part, more_parts, IsSchedule, IsNoSchedule, GoesOn}
 use Rattle.script_lang.proofs.Schedules.{length-repeated}
 use Rattle.script_lang.specs.Reading.{reading, with_comma, ended, after_byte}
 

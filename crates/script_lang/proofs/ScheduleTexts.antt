@@ -1,11 +1,13 @@
 -- What a text says that was read so far.
-use Rattle.std.proofs.Common.{◌≡◌, ℕ, ◌≤◌, ◌⊎◌, Bool, true, false, cond, leb, List, [], ◌∷◌, ◌++◌, Option, Some, None, refl, sym, ap, ◌∙◌, subst, append_assoc, decimal, inl, inr}
+use Rattle.std.proofs.Common.{◌≡◌, ℕ, ◌≤◌, ◌⊎◌, Bool, true, false, cond, leb, List, [], ◌∷◌, ◌++◌, Option, Some, None}
+use Rattle.std.proofs.Common.{refl, sym, ap, ◌∙◌, subst, append_assoc, decimal, inl, inr}
 use Rattle.std.proofs.lemmas.Bool.{false≢true}
 use Rattle.script_lang.specs.declared.schedule.Actor.{Actor}
 use Rattle.script_lang.specs.declared.reading.Place.{Place}
 use Rattle.script_lang.specs.declared.reading.Place.TheVariants.{Start, Named, Times}
 use Rattle.script_lang.specs.declared.reading.Reading.{Reading}
-use Rattle.script_lang.specs.Schedules.{repeated, IsActor, AreActors, one_actor, more_actors, IsPart, once, times, AreParts, one_part, more_parts}
+use Rattle.script_lang.specs.Schedules.{repeated, IsActor, AreActors, one_actor, more_actors, IsPart, once, times}
+use Rattle.script_lang.specs.Schedules.{AreParts, one_part, more_parts}
 use Rattle.script_lang.specs.Reading.{reading, ended_at, HasRoomAt}
 
 abbrev pub Steps : Type 0

@@ -1,5 +1,6 @@
 -- Commands that are served are on blobs named by their heads.
-use Rattle.std.proofs.Common.{◌≡◌, ℕ, Bool, true, false, cond, ◌&&◌, List, [], ◌∷◌, ◌++◌, length, Option, Some, None, Result, Ok, Err, refl, ap, arith}
+use Rattle.std.proofs.Common.{◌≡◌, ℕ, Bool, true, false, cond, ◌&&◌, List, [], ◌∷◌, ◌++◌, length, Option, Some, None}
+use Rattle.std.proofs.Common.{Result, Ok, Err, refl, ap, arith}
 use Rattle.std.specs.Prelude.{IfOk, IfSome, slice_index, ◌==◌}
 use Rattle.std.specs.List.{All, find}
 use Rattle.std.specs.Option.{option_map}
@@ -17,7 +18,8 @@ use Rattle.script_lang.specs.declared.form.Value.TheVariants.{Volume, Name, Numb
 use Rattle.script_lang.specs.declared.grammar.Grammar.TheVariants.{Served}
 use Rattle.script_lang.specs.declared.verb.Verb.{Verb}
 use Rattle.script_lang.specs.declared.verb.Verb.TheVariants as v
-use Rattle.script_lang.specs.Commands.{commands_of, command_of, alone, plain, command_on_volume, on_slots, on_name, on_key, on_value, creation, command_on, command_of_name, is_page, pages_of}
+use Rattle.script_lang.specs.Commands.{commands_of, command_of, alone, plain, command_on_volume, on_slots, on_name}
+use Rattle.script_lang.specs.Commands.{on_key, on_value, creation, command_on, command_of_name, is_page, pages_of}
 use Rattle.script_lang.specs.Forms.{says_word, says_values, joined, or_kind}
 use Rattle.script_lang.specs.Grammar.{serves}
 use Rattle.script_lang.specs.Lines.{says, says_verb, commands_said, words}

@@ -1,5 +1,6 @@
 -- What a word says by the form that it has to have, and what is wrong with a word that doesn't have it.
-use Rattle.std.specs.Prelude.{ℕ, ◌==◌, ◌++◌, if◌then◌else◌, List, [], ◌∷◌, Bool, true, false, Option, Some, None, Result, Ok, Err, slice_index}
+use Rattle.std.specs.Prelude.{ℕ, ◌==◌, ◌++◌, if◌then◌else◌, List, [], ◌∷◌, Bool, true, false, Option, Some, None}
+use Rattle.std.specs.Prelude.{Result, Ok, Err, slice_index}
 use Rattle.std.specs.Option.{option_map}
 use Rattle.uuid.specs.Text.{parsed}
 use Rattle.volume_model.specs.declared.command.VolumeRef.{VolumeRef}

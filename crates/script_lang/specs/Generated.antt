@@ -1,5 +1,6 @@
 -- The generated scripts: four lines that make volumes, and then lines that are drawn.
-use Rattle.std.specs.Prelude.{ℕ, ◌+◌, ◌-◌, ◌<◌, nat_lt, if◌then◌else◌, List, [], ◌∷◌, ◌++◌, false, None, map, decimal, codes}
+use Rattle.std.specs.Prelude.{ℕ, ◌+◌, ◌-◌, ◌<◌, nat_lt, if◌then◌else◌, List, [], ◌∷◌, ◌++◌, false, None, map, decimal}
+use Rattle.std.specs.Prelude.{codes}
 use Rattle.std.specs.List.{flat_map, range_with_len}
 use Rattle.volume_model.specs.declared.command.VolumeRef.TheVariants.{Named}
 use Rattle.volume_model.specs.declared.command.PageWord.TheVariants.{Fill}

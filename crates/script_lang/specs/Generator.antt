@@ -1,6 +1,7 @@
 -- The draws of generated scripts, by a linear congruential generator: x times 1103515245 plus 12345 modulo 2^31, of
 -- which a draw takes the bits from the 16th on.
-use Rattle.std.specs.Prelude.{◌≡◌, ℕ, zero, suc, ◌+◌, ◌*◌, ◌/◌, ◌%◌, ◌^◌, nat_lt, if◌then◌else◌, List, [], ◌∷◌, map, refl}
+use Rattle.std.specs.Prelude.{◌≡◌, ℕ, zero, suc, ◌+◌, ◌*◌, ◌/◌, ◌%◌, ◌^◌, nat_lt, if◌then◌else◌, List, [], ◌∷◌, map}
+use Rattle.std.specs.Prelude.{refl}
 use Rattle.std.specs.List.{range_with_len}
 
 -- the state after one draw

@@ -1,5 +1,6 @@
 -- One line: what it asks for, or else what is wrong with it.
-use Rattle.std.specs.Prelude.{ℕ, ◌==◌, nat_lt, nat_le, ◌&&◌, ◌||◌, if◌then◌else◌, List, [], ◌∷◌, Bool, Option, Some, None, Result, Ok, Err, length, slice_index}
+use Rattle.std.specs.Prelude.{ℕ, ◌==◌, nat_lt, nat_le, ◌&&◌, ◌||◌, if◌then◌else◌, List, [], ◌∷◌, Bool, Option, Some}
+use Rattle.std.specs.Prelude.{None, Result, Ok, Err, length, slice_index}
 use Rattle.std.specs.List.{list_all}
 use Rattle.volume_model.specs.declared.command.Command.{Command}
 use Rattle.script_lang.specs.declared.fault.LineKind.{LineKind}

@@ -1,5 +1,6 @@
 -- What a schedule says, as the list of its steps written out.
-use Rattle.std.specs.Prelude.{◌≡◌, ℕ, zero, suc, ◌+◌, ◌<◌, ◌≤◌, ◌^◌, ◌⊎◌, List, [], ◌∷◌, ◌++◌, length, take, decimal, codes}
+use Rattle.std.specs.Prelude.{◌≡◌, ℕ, zero, suc, ◌+◌, ◌<◌, ◌≤◌, ◌^◌, ◌⊎◌, List, [], ◌∷◌, ◌++◌, length, take, decimal}
+use Rattle.std.specs.Prelude.{codes}
 use Rattle.script_lang.specs.declared.schedule.Actor.{Actor}
 use Rattle.script_lang.specs.declared.schedule.Actor.TheVariants.{Channel, Metadata}
 use Rattle.script_lang.specs.declared.schedule.Part.{Part}

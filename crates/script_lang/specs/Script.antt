@@ -1,5 +1,7 @@
 -- What a text says as a script.
-use Rattle.std.specs.Prelude.{◌≡◌, ℕ, ◌+◌, ◌-◌, ◌<◌, ◌≤◌, ◌^◌, ◌==◌, nat_lt, nat_le, if◌then◌else◌, List, [], ◌∷◌, ◌++◌, Option, Some, None, Result, Ok, Err, map, fold, length, take, replicate, slice_index, slice_index_or, slice_set, sum_by}
+use Rattle.std.specs.Prelude.{◌≡◌, ℕ, ◌+◌, ◌-◌, ◌<◌, ◌≤◌, ◌^◌, ◌==◌, nat_lt, nat_le, if◌then◌else◌, List, [], ◌∷◌, ◌++◌}
+use Rattle.std.specs.Prelude.{Option, Some, None, Result, Ok, Err, map, fold, length, take, replicate, slice_index}
+use Rattle.std.specs.Prelude.{slice_index_or, slice_set, sum_by}
 use Rattle.std.specs.Option.{option_map, option_and_then}
 use Rattle.volume_model.specs.declared.command.Command.{Command}
 use Rattle.script_lang.specs.declared.fault.LineKind.{LineKind}

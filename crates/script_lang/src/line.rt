@@ -3,7 +3,8 @@
 ghost use Rattle.std.specs.Prelude.{◌≡◌, ◌==◌};
 ghost use Rattle.std.specs.Option.{option_copied};
 ghost use Rattle.script_lang.specs.Answered.{AnswersAsSaid};
-ghost use Rattle.script_lang.specs.Lines.{is_printable as printable_said, is_spaced as spaced_said, is_skipped as skipped_said, says, says_verb};
+ghost use Rattle.script_lang.specs.Lines.{is_printable as printable_said, is_spaced as spaced_said};
+ghost use Rattle.script_lang.specs.Lines.{is_skipped as skipped_said, says, says_verb};
 ghost use Rattle.script_lang.specs.Parts.{parts};
 ghost use Rattle.script_lang.specs.Verbs.{verb_in};
 ghost use Rattle.script_lang.specs.Words.{number_below as number_said};

@@ -1,6 +1,7 @@
 //! The parts of a text between separators: the lines of a script, the words of a line.
 
-ghost use Rattle.std.specs.Prelude.{◌≡◌, ◌==◌, ◌≤◌, position, count_by, ◌∷◌, ◌<◌, ◌+◌, [], length, Some, IfSome, IfNone};
+ghost use Rattle.std.specs.Prelude.{◌≡◌, ◌==◌, ◌≤◌, position, count_by, ◌∷◌, ◌<◌, ◌+◌, [], length, Some, IfSome};
+ghost use Rattle.std.specs.Prelude.{IfNone};
 ghost use Rattle.std.specs.Option.{option_copied};
 ghost use Rattle.script_lang.specs.Parts.{parts, size_left};
 

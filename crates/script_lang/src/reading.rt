@@ -1,8 +1,11 @@
 //! Reading a schedule from its text, byte by byte.
 
-ghost use Rattle.std.specs.Prelude.{◌≡◌, ◌+◌, ◌*◌, ◌≤◌, ◌<◌, ◌^◌, ◌++◌, ◌∷◌, [], List, length, Bool, true, false, Option, Some, None, IfOk, IfErr, Result, Ok, Err};
+ghost use Rattle.std.specs.Prelude.{◌≡◌, ◌+◌, ◌*◌, ◌≤◌, ◌<◌, ◌^◌, ◌++◌, ◌∷◌, [], List, length, Bool, true, false};
+ghost use Rattle.std.specs.Prelude.{Option, Some, None, IfOk, IfErr, Result, Ok, Err};
 ghost use Rattle.script_lang.specs.declared.schedule.Actor.{Actor};
-ghost use Rattle.script_lang.specs.Reading.{reading, fits as fits_said, goes_on_as_number as number_said, after_start, after_actor, with_count, after_count, ended_at, ended, with_comma, within_part, after_byte, HasRoomAt, HasRoom, ReadsOn, ReadsToEnd};
+ghost use Rattle.script_lang.specs.Reading.{reading, fits as fits_said, goes_on_as_number as number_said, after_start};
+ghost use Rattle.script_lang.specs.Reading.{after_actor, with_count, after_count, ended_at, ended, with_comma};
+ghost use Rattle.script_lang.specs.Reading.{within_part, after_byte, HasRoomAt, HasRoom, ReadsOn, ReadsToEnd};
 ghost use Rattle.script_lang.specs.Schedules.{IsSchedule, RefusesSchedule, WhyNoSchedule};
 
 use crate::schedule::{Actor, Part, Schedule, ScheduleFault};

@@ -1,5 +1,6 @@
 -- Pages are written one after the other.
-use Rattle.std.proofs.Common.{◌≡◌, ◌≢◌, ℕ, ◌+◌, ◌<◌, ◌≤◌, List, refl, ap, subst, ◌∙◌, inl, inr, ⊎_elim, arith, below_more, IsTrue, Result, OnOk, OnErr}
+use Rattle.std.proofs.Common.{◌≡◌, ◌≢◌, ℕ, ◌+◌, ◌<◌, ◌≤◌, List, refl, ap, subst, ◌∙◌, inl, inr, ⊎_elim, arith}
+use Rattle.std.proofs.Common.{below_more, IsTrue, Result, OnOk, OnErr}
 use Rattle.page_disk.specs.Disk.{Image, Images, Telling, HasCause, Elapses, Wrote, WroteOrNot, Written, Puts, with_page}
 use Rattle.page_disk.specs.declared.disk.DiskFault.{DiskFault}
 use Rattle.page_disk.specs.declared.disk.WriteKind.{WriteKind}
@@ -108,20 +109,21 @@ pub one_written : {D : Type 0} (d : Ghosts D) (content : Content) (start count i
     → d.pages new ≡ d.pages old → HasCause (d.write_faults old) (d.write_faults new) r
     → d.read_faults new ≡ d.read_faults old → d.reads new ≡ d.reads old
     → WritesOnly d start (start + count) first new
-one_written d content start count index low place at first old new was kind given r ok err time pages cause read_faults reads = record {
-  now =
-      λ told. still_others content start count index low place at (d.now first) (d.now old) (d.now new)
-      (not_written r (d.now old) (d.now new) (d.images old) (d.images new) place kind given (ok told) (err told))
-      (was.now told);
-  images = images_then;
-  any_moment =
-      λ told. goes_on d first old new (IsAnyBut start (start + count) (d.images first)) (was.any_moment told)
-      (time told) (images_then told);
-  pages = pages ∙ was.pages;
-  write_faults = let a = was.write_faults in let b = cause.later in omega (arith, a, b);
-  read_faults = read_faults ∙ was.read_faults;
-  reads = reads ∙ was.reads;
-}
+one_written d content start count index low place at first old new was kind given r ok err time pages cause read_faults
+    reads = record {
+      now =
+          λ told. still_others content start count index low place at (d.now first) (d.now old) (d.now new)
+          (not_written r (d.now old) (d.now new) (d.images old) (d.images new) place kind given (ok told) (err told))
+          (was.now told);
+      images = images_then;
+      any_moment =
+          λ told. goes_on d first old new (IsAnyBut start (start + count) (d.images first)) (was.any_moment told)
+          (time told) (images_then told);
+      pages = pages ∙ was.pages;
+      write_faults = let a = was.write_faults in let b = cause.later in omega (arith, a, b);
+      read_faults = read_faults ∙ was.read_faults;
+      reads = reads ∙ was.reads;
+    }
   where
     images_then : IsTrue d.tells → (image : Image) → d.images new image
         → IsAnyBut start (start + count) (d.images first) image

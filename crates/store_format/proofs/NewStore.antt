@@ -1,5 +1,6 @@
 -- A new store is written, and what is loaded of it.
-use Rattle.std.proofs.Common.{◌≡◌, ◌≢◌, ℕ, ◌+◌, ◌<◌, false, List, [], ◌∷◌, length, None, refl, sym, ap, subst, ◌∙◌, inl, inr, arith, IsTrue}
+use Rattle.std.proofs.Common.{◌≡◌, ◌≢◌, ℕ, ◌+◌, ◌<◌, false, List, [], ◌∷◌, length, None, refl, sym, ap, subst, ◌∙◌, inl}
+use Rattle.std.proofs.Common.{inr, arith, IsTrue}
 use Rattle.std.specs.Prelude.{nat_lt}
 use Rattle.std.specs.List.{range_with_len, sum_by}
 use Rattle.std.specs.Option.{option_map_or}
@@ -25,7 +26,8 @@ use Rattle.store_model.specs.Regions.{look_of, region_of}
 use Rattle.store_model.specs.Scans.{is_head, Says}
 use Rattle.unclean_load.specs.Accepted.{IsAccepted, StoresAreAccepted}
 use Rattle.store_format.specs.Filling.{SameBut, WritesOnly}
-use Rattle.store_format.specs.NewStore.{md_end_of, first_super, no_blob, no_chain, zero_page, HasNewRegions, IsNewStore, IsUnderWay, LoadsEmpty, Writes}
+use Rattle.store_format.specs.NewStore.{md_end_of, first_super, no_blob, no_chain, zero_page, HasNewRegions, IsNewStore}
+use Rattle.store_format.specs.NewStore.{IsUnderWay, LoadsEmpty, Writes}
 
 -- ---- the super block's page
 

@@ -1,5 +1,6 @@
 -- What is written is read as the same value, but for the sum.
-use Rattle.std.proofs.Common.{◌≡◌, ℕ, ◌^◌, ◌<◌, true, List, [], length, refl, sym, ◌∙◌, append_assoc, arith, length-append}
+use Rattle.std.proofs.Common.{◌≡◌, ℕ, ◌^◌, ◌<◌, true, List, [], length, refl, sym, ◌∙◌, append_assoc, arith}
+use Rattle.std.proofs.Common.{length-append}
 use Rattle.std.proofs.lemmas.List.{append-nil}
 use Rattle.crc32c.specs.Crc.{crc32c_of, is_sound}
 use Rattle.crc32c.proofs.Sealed.{is_sound-sealed}
@@ -8,7 +9,8 @@ use Rattle.page_fields.proofs.Laws.{next_field, next_number, len-number_bytes}
 use Rattle.super_block.specs.declared.page.Super.{Super}
 use Rattle.super_block.specs.Page.{FitsSuper, super_of, super_front, super_bytes}
 use Rattle.super_block.specs.Numbers.{cluster_pages_of, clusters_of, placed}
-use Rattle.super_block.specs.Faults.{tests, fault_of, signature_fault, version_fault, page_size_fault, cluster_size_fault, size_fault, past_fault, mask_fault, overlap_fault}
+use Rattle.super_block.specs.Faults.{tests, fault_of, signature_fault, version_fault, page_size_fault}
+use Rattle.super_block.specs.Faults.{cluster_size_fault, size_fault, past_fault, mask_fault, overlap_fault}
 
 len-front : (s : Super) → FitsSuper s → length (super_front s) ≡ 4092
 unfolding super_front

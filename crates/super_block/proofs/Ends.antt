@@ -1,5 +1,6 @@
 -- Where every region ends in the store, so do the fixed clusters.
-use Rattle.std.proofs.Common.{◌≡◌, ℕ, ◌+◌, ◌*◌, ◌<◌, ◌≤◌, Bool, true, false, List, [], ◌∷◌, Some, None, map, fold, max, refl, arith}
+use Rattle.std.proofs.Common.{◌≡◌, ℕ, ◌+◌, ◌*◌, ◌<◌, ◌≤◌, Bool, true, false, List, [], ◌∷◌, Some, None, map, fold, max}
+use Rattle.std.proofs.Common.{refl, arith}
 use Rattle.std.specs.Prelude.{cond, find, nat_lt, option_map}
 use Rattle.std.specs.Int.{div_ceil}
 use Rattle.std.proofs.lemmas.Grind.{div_ceil_times}
@@ -9,7 +10,8 @@ use Rattle.super_block.specs.declared.fault.SuperFault.TheVariants.{PastEnd}
 use Rattle.super_block.specs.declared.span.Span.{Span}
 use Rattle.super_block.specs.declared.page.Super.{Super}
 use Rattle.super_block.specs.Span.{end_of, greatest_end}
-use Rattle.super_block.specs.Numbers.{cluster_pages_of, clusters_of, fixed_clusters_of, super_page, page_mask, cluster_mask, blob_mask, md_region, placed}
+use Rattle.super_block.specs.Numbers.{cluster_pages_of, clusters_of, fixed_clusters_of, super_page, page_mask}
+use Rattle.super_block.specs.Numbers.{cluster_mask, blob_mask, md_region, placed}
 use Rattle.super_block.specs.Faults.{past, past_fault, fault_of}
 use Rattle.super_block.proofs.Passed.{passed, some_pages, mask_takes_page}
 

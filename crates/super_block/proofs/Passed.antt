@@ -1,5 +1,6 @@
 -- What the tests tell of a super block that passes them.
-use Rattle.std.proofs.Common.{◌≡◌, ℕ, ◌*◌, ◌/◌, ◌%◌, ◌^◌, ◌<◌, ◌≤◌, Bool, true, false, List, [], ◌∷◌, Option, Some, None, refl, sym, ap, ◌∙◌, subst, arith, eq-eqb}
+use Rattle.std.proofs.Common.{◌≡◌, ℕ, ◌*◌, ◌/◌, ◌%◌, ◌^◌, ◌<◌, ◌≤◌, Bool, true, false, List, [], ◌∷◌, Option, Some}
+use Rattle.std.proofs.Common.{None, refl, sym, ap, ◌∙◌, subst, arith, eq-eqb}
 use Rattle.std.specs.Prelude.{◌==◌, cond}
 use Rattle.std.proofs.lemmas.Bool.{and_parts, ltb-true, leb-true, eqb-true}
 use Rattle.std.proofs.lemmas.Bool.Decides.{nat_tests}
@@ -9,7 +10,8 @@ use Rattle.super_block.specs.declared.fault.SuperFault.{SuperFault}
 use Rattle.super_block.specs.declared.fault.SuperFault.TheVariants.{BadChecksum}
 use Rattle.super_block.specs.declared.page.Super.{Super}
 use Rattle.super_block.specs.Numbers.{cluster_pages_of, clusters_of, page_mask, cluster_mask, blob_mask}
-use Rattle.super_block.specs.Faults.{first_fault, tests, unless, short, cluster_size_fault, pages_fault, clusters_fault, size_fault, past_fault, mask_fault, overlap_fault, fault_of}
+use Rattle.super_block.specs.Faults.{first_fault, tests, unless, short, cluster_size_fault, pages_fault, clusters_fault}
+use Rattle.super_block.specs.Faults.{size_fault, past_fault, mask_fault, overlap_fault, fault_of}
 
 -- a test without fault holds
 pub holds : (test : Bool) (fault : SuperFault) → unless test fault ≡ None → test ≡ true

@@ -1,5 +1,6 @@
 -- The regions lie apart, in the fixed clusters, and the clusters on the device.
-use Rattle.std.proofs.Common.{◌≡◌, ℕ, zero, suc, ◌*◌, ◌/◌, ◌<◌, ◌≤◌, Bool, true, false, List, [], ◌∷◌, Some, None, All, AllPairs, min, max, refl, subst, arith}
+use Rattle.std.proofs.Common.{◌≡◌, ℕ, zero, suc, ◌*◌, ◌/◌, ◌<◌, ◌≤◌, Bool, true, false, List, [], ◌∷◌, Some, None, All}
+use Rattle.std.proofs.Common.{AllPairs, min, max, refl, subst, arith}
 use Rattle.std.specs.Prelude.{cond, find, option_map}
 use Rattle.std.proofs.lemmas.Bool.{leb-true}
 use Rattle.std.proofs.lemmas.Bool.Decides.{nat_tests}
@@ -14,7 +15,8 @@ use Rattle.super_block.specs.Span.{end_of, greatest_end, shares}
 use Rattle.super_block.specs.Numbers.{cluster_pages_of, clusters_of, fixed_clusters_of, size_of, super_page, placed}
 use Rattle.super_block.specs.Faults.{fault_of, overlap, overlap_with, overlap_fault, cluster_size_fault, size_fault}
 use Rattle.super_block.specs.Placed.{Covers, AreApart, IsPlaced}
-use Rattle.super_block.proofs.Passed.{AllPass, all_pass, passed, holds, size_is_whole, some_pages, few_pages, few_clusters}
+use Rattle.super_block.proofs.Passed.{AllPass, all_pass, passed, holds, size_is_whole, some_pages, few_pages}
+use Rattle.super_block.proofs.Passed.{few_clusters}
 use Rattle.super_block.proofs.Ends.{fixed_within}
 
 -- two regions that share pages share the first page of the later one

@@ -1,17 +1,22 @@
 -- The super block of a planned store has no fault.
-use Rattle.std.proofs.Common.{◌≡◌, ℕ, ◌+◌, ◌*◌, ◌/◌, ◌%◌, ◌^◌, ◌<◌, ◌≤◌, Bool, true, false, List, [], ◌∷◌, Option, Some, None, refl, sym, ap, ◌∙◌, subst, arith, eq-eqb}
+use Rattle.std.proofs.Common.{◌≡◌, ℕ, ◌+◌, ◌*◌, ◌/◌, ◌%◌, ◌^◌, ◌<◌, ◌≤◌, Bool, true, false, List, [], ◌∷◌, Option, Some}
+use Rattle.std.proofs.Common.{None, refl, sym, ap, ◌∙◌, subst, arith, eq-eqb}
 use Rattle.std.specs.Prelude.{cond, find, option_map, nat_lt, ◌==◌, ◌&&◌}
 use Rattle.std.proofs.lemmas.Bool.{lt-ltb, le-leb, leb-true, ltb-true, and_parts}
 use Rattle.std.proofs.lemmas.Bool.Decides.{nat_tests}
 use Rattle.std.proofs.lemmas.Grind.{div_ceil_times}
-use Rattle.std.proofs.Math.Nat.{mul-div-mul_right, mul-div_cancel, mul-le-mul, mul-le-mul_right, lt-div-mul-add, div-mul-le_self}
+use Rattle.std.proofs.Math.Nat.{mul-div-mul_right, mul-div_cancel, mul-le-mul, mul-le-mul_right, lt-div-mul-add}
+use Rattle.std.proofs.Math.Nat.{div-mul-le_self}
 use Rattle.super_block.specs.declared.fault.SuperFault.{SuperFault}
 use Rattle.super_block.specs.declared.fault.SuperFault.TheVariants.{PastEnd, Overlap}
 use Rattle.super_block.specs.declared.layout.Layout.{Layout}
 use Rattle.super_block.specs.declared.span.Span.{Span}
 use Rattle.super_block.specs.Span.{end_of, shares}
-use Rattle.super_block.specs.Numbers.{cluster_pages_of, clusters_of, super_page, page_mask, cluster_mask, blob_mask, md_region, placed}
-use Rattle.super_block.specs.Faults.{first_fault, tests, fault_of, unless, past, short, overlap, overlap_with, signature_fault, version_fault, page_size_fault, cluster_size_fault, pages_fault, clusters_fault, size_fault, past_fault, mask_fault, overlap_fault}
+use Rattle.super_block.specs.Numbers.{cluster_pages_of, clusters_of, super_page, page_mask, cluster_mask, blob_mask}
+use Rattle.super_block.specs.Numbers.{md_region, placed}
+use Rattle.super_block.specs.Faults.{first_fault, tests, fault_of, unless, past, short, overlap, overlap_with}
+use Rattle.super_block.specs.Faults.{signature_fault, version_fault, page_size_fault, cluster_size_fault, pages_fault}
+use Rattle.super_block.specs.Faults.{clusters_fault, size_fault, past_fault, mask_fault, overlap_fault}
 use Rattle.super_block.specs.Layout.{layout_of, cluster_pages_fault, room_fault, plan_fault, IsPlanned, new_super}
 use Rattle.super_block.specs.Placed.{IsLaidOut}
 use Rattle.super_block.proofs.Passed.{AllPass, all_pass, holds, few_clusters}

@@ -1,14 +1,18 @@
 -- The tests of a super block, in their order. Each gives its fault where it fails.
-use Rattle.std.specs.Prelude.{◌≡◌, ℕ, ◌*◌, ◌%◌, ◌^◌, ◌-◌, min, ◌==◌, nat_lt, nat_le, Bool, true, ◌&&◌, ◌||◌, if◌then◌else◌, List, [], ◌∷◌, codes, bytes_eq, find, Option, Some, None, option_map}
+use Rattle.std.specs.Prelude.{◌≡◌, ℕ, ◌*◌, ◌%◌, ◌^◌, ◌-◌, min, ◌==◌, nat_lt, nat_le, Bool, true, ◌&&◌, ◌||◌}
+use Rattle.std.specs.Prelude.{if◌then◌else◌, List, [], ◌∷◌, codes, bytes_eq, find, Option, Some, None, option_map}
 use Rattle.crc32c.specs.Crc.{is_sound}
 use Rattle.bit_array.specs.Mask.{mask_pages}
 use Rattle.super_block.specs.declared.fault.Region.TheVariants.{Whole}
 use Rattle.super_block.specs.declared.span.Span.{Span}
 use Rattle.super_block.specs.declared.page.Super.{Super}
 use Rattle.super_block.specs.declared.fault.SuperFault.{SuperFault}
-use Rattle.super_block.specs.declared.fault.SuperFault.TheVariants.{BadSignature, BadVersion, BadChecksum, BadPageSize, BadClusterSize, TooManyPages, TooManyClusters, PastEnd, ShortMask, Overlap}
+use Rattle.super_block.specs.declared.fault.SuperFault.TheVariants.{BadSignature, BadVersion, BadChecksum, BadPageSize}
+use Rattle.super_block.specs.declared.fault.SuperFault.TheVariants.{BadClusterSize, TooManyPages, TooManyClusters}
+use Rattle.super_block.specs.declared.fault.SuperFault.TheVariants.{PastEnd, ShortMask, Overlap}
 use Rattle.super_block.specs.Span.{end_of, shares}
-use Rattle.super_block.specs.Numbers.{cluster_pages_of, clusters_of, super_page, page_mask, cluster_mask, blob_mask, placed}
+use Rattle.super_block.specs.Numbers.{cluster_pages_of, clusters_of, super_page, page_mask, cluster_mask, blob_mask}
+use Rattle.super_block.specs.Numbers.{placed}
 use Rattle.super_block.specs.Page.{super_of}
 
 -- the fault of the first test that fails

@@ -1,5 +1,6 @@
 -- The layout of a new store. Numbers are without bound.
-use Rattle.std.specs.Prelude.{List, ◌≡◌, false, None, codes, replicate, ℕ, ◌+◌, ◌*◌, ◌/◌, ◌^◌, nat_lt, nat_le, ◌&&◌, [], ◌∷◌, Option, unwrap_or}
+use Rattle.std.specs.Prelude.{List, ◌≡◌, false, None, codes, replicate, ℕ, ◌+◌, ◌*◌, ◌/◌, ◌^◌, nat_lt, nat_le, ◌&&◌, []}
+use Rattle.std.specs.Prelude.{◌∷◌, Option, unwrap_or}
 use Rattle.std.specs.Int.{div_ceil}
 use Rattle.bit_array.specs.Bits.{first_of}
 use Rattle.bit_array.specs.Mask.{mask_pages}

@@ -5,7 +5,8 @@ use Rattle.super_block.specs.declared.layout.Layout.{Layout}
 use Rattle.super_block.specs.declared.page.Super.{Super}
 use Rattle.super_block.specs.declared.span.Span.{Span}
 use Rattle.super_block.specs.Span.{end_of}
-use Rattle.super_block.specs.Numbers.{cluster_pages_of, clusters_of, fixed_clusters_of, super_page, page_mask, cluster_mask, blob_mask, md_region}
+use Rattle.super_block.specs.Numbers.{cluster_pages_of, clusters_of, fixed_clusters_of, super_page, page_mask}
+use Rattle.super_block.specs.Numbers.{cluster_mask, blob_mask, md_region}
 
 -- the page is in the region
 abbrev pub Covers : Span → ℕ → Type 0

@@ -2,7 +2,9 @@
 
 ghost use Rattle.std.specs.Prelude.{◌≡◌, ◌≤◌, ◌^◌, None, OnOk};
 ghost use Rattle.std.specs.Result.{result_err};
-ghost use Rattle.super_block.specs.Faults.{cluster_size_fault, clusters_fault, checksum_fault, fault_of, in_u32, mask_fault, overlap, overlap_fault, overlap_with, page_size_fault, pages_fault, past_fault, short, signature_fault, size_fault, version_fault};
+ghost use Rattle.super_block.specs.Faults.{cluster_size_fault, clusters_fault, checksum_fault, fault_of, in_u32};
+ghost use Rattle.super_block.specs.Faults.{mask_fault, overlap, overlap_fault, overlap_with, page_size_fault};
+ghost use Rattle.super_block.specs.Faults.{pages_fault, past_fault, short, signature_fault, size_fault, version_fault};
 ghost use Rattle.super_block.specs.Numbers.{clusters_of};
 
 use crate::fault::{Region, SuperFault};

@@ -3,7 +3,8 @@
 ghost use Rattle.std.specs.Prelude.{◌≡◌, ◌≤◌, ◌<◌, ◌-◌, ◌/◌, ◌*◌, ◌^◌, IfOk, IfErr, OnOk, Some, None};
 ghost use Rattle.std.specs.Result.{result_err};
 ghost use Rattle.super_block.specs.Faults.{IsFaultless};
-ghost use Rattle.super_block.specs.Layout.{IsPlanned, cluster_pages_fault, layout_of, md_pages_of, new_super, plan_fault, room_fault};
+ghost use Rattle.super_block.specs.Layout.{IsPlanned, cluster_pages_fault, layout_of, md_pages_of, new_super};
+ghost use Rattle.super_block.specs.Layout.{plan_fault, room_fault};
 
 use crate::checks::{SIGNATURE, VERSION, check_clusters, check_pages, in_u32};
 use crate::fault::SuperFault;

@@ -9,8 +9,8 @@ use unclean_load::load;
 /// A head, and the places of its chain.
 pub type ChainRow<'a> = (u32, &'a [u32]);
 
-/// Expects that the blobs at these heads have these chains, once the store is loaded, and that no other metadata page is
-/// in use, or fails.
+/// Expects that the blobs at these heads have these chains, once the store is loaded, and that no other metadata page
+/// is in use, or fails.
 pub fn expect_chains(alloc: Global, disk: MemDisk, wanted: &[ChainRow<'_>]) -> Result<(), Fail> {
     let Ok(loaded) = load(alloc, disk) else {
         return Err(Fail::new("the store is not loaded"));

@@ -1,5 +1,6 @@
 -- An image of a store is accepted.
-use Rattle.std.proofs.Common.{◌≡◌, ℕ, ◌*◌, ◌<◌, ◌≤◌, Bool, true, false, cond, List, [], ◌∷◌, Option, Some, None, refl, ap, subst, ◌∙◌, inl, inr, arith}
+use Rattle.std.proofs.Common.{◌≡◌, ℕ, ◌*◌, ◌<◌, ◌≤◌, Bool, true, false, cond, List, [], ◌∷◌, Option, Some, None, refl}
+use Rattle.std.proofs.Common.{ap, subst, ◌∙◌, inl, inr, arith}
 use Rattle.std.specs.Prelude.{codes, find}
 use Rattle.std.specs.List.{list_any}
 use Rattle.std.specs.Option.{option_map}

@@ -1,5 +1,6 @@
 -- What is known while the heads of a region are read.
-use Rattle.std.proofs.Common.{◌≡◌, ℕ, ◌+◌, ◌^◌, ◌<◌, ◌≤◌, true, false, List, length, Option, Some, None, refl, sym, ap, subst, ◌∙◌, inl, inr, arith, below_more}
+use Rattle.std.proofs.Common.{◌≡◌, ℕ, ◌+◌, ◌^◌, ◌<◌, ◌≤◌, true, false, List, length, Option, Some, None, refl, sym, ap}
+use Rattle.std.proofs.Common.{subst, ◌∙◌, inl, inr, arith, below_more}
 use Rattle.std.specs.Prelude.{IsTrue}
 use Rattle.std.specs.Option.{option_map_or}
 use Rattle.std.specs.Ordering.{nat_cmp}
@@ -23,7 +24,8 @@ use Rattle.unclean_load.specs.declared.fault.LoadFault.{LoadFault}
 use Rattle.unclean_load.specs.declared.fault.LoadFault.TheVariants as fault
 use Rattle.unclean_load.specs.declared.heads.Blob.{Blob}
 use Rattle.unclean_load.specs.Heads.{has_mark, AreWholeBelow, Shows, ShowsFirst, IsHeadsFault}
-use Rattle.unclean_load.specs.Reading.{SaysAt, IsBlobFault, IsPlaceFault, AreRead, HasNoneFrom, IsChainOf, IsBlobRefused, meta_in, chain_in, IsFaultCounted}
+use Rattle.unclean_load.specs.Reading.{SaysAt, IsBlobFault, IsPlaceFault, AreRead, HasNoneFrom, IsChainOf}
+use Rattle.unclean_load.specs.Reading.{IsBlobRefused, meta_in, chain_in, IsFaultCounted}
 use Rattle.store_core.proofs.Maps.{insert_given}
 use Rattle.unclean_load.proofs.Roots.{root, chain_of_region}
 use Rattle.unclean_load.proofs.Sums.{sum_more, sum_same}
@@ -56,7 +58,8 @@ slots_same metas other place same =
     (λ k lt. ap (λ (o : Option Meta). option_map_or (λ (m : Meta). length m.map) o 0) (same k lt))
 
 -- what the maps say of a head that a place has
-the_one : (look : Look) (r : MdRegion) (place : ℕ) (blob : Blob) → BlobAt look r place (Some blob.meta) (Some blob.pages)
+the_one : (look : Look) (r : MdRegion) (place : ℕ) (blob : Blob)
+    → BlobAt look r place (Some blob.meta) (Some blob.pages)
     → MetaAt look r place blob.meta blob.pages
 the_one look r place blob (inl w) =
     let m : w.meta ≡ blob.meta = let e = w.meta_is in cc e in
@@ -311,7 +314,8 @@ module _ {D : Type 0} (d : Ghosts D) (s : Super) (first : D) where
     counted_first new why x = subst (λ (n : ℕ). IsFaultCounted n (d.read_faults new) why) w.quiet x
 
 -- a blob is refused for a cause that no read counts
-pub refused_uncounted : (old new before head : ℕ) (m : Meta) (why : LoadFault) → new ≡ old → IsBlobRefused before head m why
+pub refused_uncounted : (old new before head : ℕ) (m : Meta) (why : LoadFault) → new ≡ old
+    → IsBlobRefused before head m why
     → IsFaultCounted old new why
 refused_uncounted old new before head m fault.ReadFault same x = absurd x
 refused_uncounted old new before head m fault.Memory same x = same

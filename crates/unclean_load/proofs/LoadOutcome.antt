@@ -1,5 +1,6 @@
 -- What was read of a store is whole.
-use Rattle.std.proofs.Common.{◌≡◌, ℕ, ◌^◌, ◌<◌, ◌≤◌, false, List, Option, Some, None, refl, sym, subst, ◌∙◌, inl, inr, arith}
+use Rattle.std.proofs.Common.{◌≡◌, ℕ, ◌^◌, ◌<◌, ◌≤◌, false, List, Option, Some, None, refl, sym, subst, ◌∙◌, inl, inr}
+use Rattle.std.proofs.Common.{arith}
 use Rattle.std.specs.Prelude.{nat_lt}
 use Rattle.std.proofs.lemmas.Bool.{cases_lt}
 use Rattle.std.proofs.lemmas.Bool.Decides.{nat_tests}
@@ -95,7 +96,8 @@ module _ (pages : ℕ) (image : Image) where
       not_twice : (head : ℕ) (why : ChainFault) → IsTwice (IsInTwo chains) head why → ⊥
       not_twice head (chain.Loop place) x =
           x.differs (apart (look_of (region_of s) image)
-          (region_of s) metas chains whole.says x.other head place x.others x.pages x.other_chain x.chain x.other_among x.among)
+          (region_of s) metas chains whole.says x.other head place x.others x.pages x.other_chain x.chain x.other_among
+          x.among)
       not_twice head (chain.LinkPastEnd a b) x = x
       not_twice head chain.ReadFault x = x
       not_twice head (chain.Unsound a) x = x

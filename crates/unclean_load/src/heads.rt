@@ -7,7 +7,8 @@ ghost use Rattle.md_chain.specs.Reading.{GaveChain, OnlyRead, region_look};
 ghost use Rattle.store_model.specs.Regions.{region_of};
 ghost use Rattle.store_model.specs.Scans.{is_head as is_head_said};
 ghost use Rattle.super_block.specs.Faults.{IsFaultless};
-ghost use Rattle.unclean_load.specs.Reading.{GaveHead, IsChainFault, IsFaultCounted, IsItemsFault, IsPlaceFault, SaysAt};
+ghost use Rattle.unclean_load.specs.Reading.{GaveHead, IsChainFault, IsFaultCounted, IsItemsFault, IsPlaceFault};
+ghost use Rattle.unclean_load.specs.Reading.{SaysAt};
 ghost use Rattle.unclean_load.specs.declared.fault.LoadFault.TheVariants as fault;
 
 use crate::fault::LoadFault;

@@ -5,7 +5,8 @@ ghost use Rattle.std.specs.FinMap as map;
 ghost use Rattle.bit_array.specs.Bits.{is_in};
 ghost use Rattle.md_chain.specs.Chain.{is_among};
 ghost use Rattle.store_model.specs.Places.{AreDistinct, UsedPages};
-ghost use Rattle.unclean_load.specs.Claiming.{AreAdded, ChainsAreApart, AreBelow, AreChains, AreNew, IsInTwo, IsPageFault};
+ghost use Rattle.unclean_load.specs.Claiming.{AreAdded, ChainsAreApart, AreBelow, AreChains, AreNew, IsInTwo};
+ghost use Rattle.unclean_load.specs.Claiming.{IsPageFault};
 
 use crate::fault::LoadFault;
 use bit_array::Bits;

@@ -7,7 +7,8 @@ ghost use Rattle.store_model.specs.RunInvariant.{AreRoots};
 ghost use Rattle.super_block.specs.Faults.{IsFaultless};
 ghost use Rattle.super_block.specs.Numbers.{clusters_of, fixed_clusters_of};
 ghost use Rattle.unclean_load.specs.Claiming.{IsClusterFault};
-ghost use Rattle.unclean_load.specs.Sharing.{AreAllInside, AreCounted, AreInside, IsHolder, copies, copies_in as copies_said};
+ghost use Rattle.unclean_load.specs.Sharing.{AreAllInside, AreCounted, AreInside, IsHolder, copies};
+ghost use Rattle.unclean_load.specs.Sharing.{copies_in as copies_said};
 
 use crate::fault::LoadFault;
 use bit_array::Bits;

@@ -1,5 +1,6 @@
 -- One more command of a channel is one more in all.
-use Rattle.std.proofs.Common.{◌≡◌, ℕ, zero, suc, ◌+◌, ◌<◌, ◌≤◌, List, [], ◌∷◌, ◌++◌, length, slice_set, slice_index_or, arith, length-append}
+use Rattle.std.proofs.Common.{◌≡◌, ℕ, zero, suc, ◌+◌, ◌<◌, ◌≤◌, List, [], ◌∷◌, ◌++◌, length, slice_set, slice_index_or}
+use Rattle.std.proofs.Common.{arith, length-append}
 use Rattle.volume_model.specs.Scripts.{commands_in}
 use Rattle.volume_model.specs.declared.command.Command.{Command}
 

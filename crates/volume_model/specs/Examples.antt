@@ -108,7 +108,8 @@ module _ (a b d e : Page) where
         (Some (record v { pages = d ∷ fill_page 7 ∷ [] })) 2
     pub write_full : (page : Box Page) → ExampleDoes (c.Write (Head 1) 0 (Full page)) r.Ok 1
         (Some (record v { pages = page.value ∷ e ∷ [] })) 2
-    pub read : (page : Box Page) → page.value ≡ e → ExampleDoes (c.Read (Named (codes "v")) 1) (r.Content page) 1 (Some v) 2
+    pub read : (page : Box Page) → page.value ≡ e
+        → ExampleDoes (c.Read (Named (codes "v")) 1) (r.Content page) 1 (Some v) 2
     pub flush : ExampleDoes c.Flush r.Ok 1 (Some v) 2
     pub setx : ExampleDoes (c.SetX (Named (codes "v")) (codes "k") (codes "3")) r.Ok 1
         (Some (record v { live = named (codes "v") (codes "3") })) 2
@@ -122,7 +123,8 @@ module _ (a b d e : Page) where
         ∷ attribute (codes "j") (codes "5") ∷ [] in
         ExampleDoes (c.Put (Named (codes "v")) (codes "j") (codes "5")) r.Ok 1
         (Some (record v { live = xattrs; synced = xattrs })) 2
-    pub sync : ExampleDoes (c.Sync (Named (codes "v"))) r.Ok 1 (Some (record v { synced = named (codes "v") (codes "2") })) 2
+    pub sync : ExampleDoes (c.Sync (Named (codes "v"))) r.Ok 1
+        (Some (record v { synced = named (codes "v") (codes "2") })) 2
     pub grow : ExampleDoes (c.Resize (Named (codes "v")) 2) r.Ok 1
         (Some (record v { pages = d ∷ e ∷ zero_page ∷ zero_page ∷ [] })) 2
     pub cut : ExampleDoes (c.Resize (Named (codes "v")) 0) r.Ok 1 (Some (record v { pages = [] })) 2

@@ -1,5 +1,6 @@
 -- Logs: what they replay to, what of it survives a crash, and how they stand to a script.
-use Rattle.std.specs.Prelude.{◌≡◌, ℕ, ◌+◌, ◌==◌, if◌then◌else◌, Bool, true, false, ◌&&◌, ◌||◌, List, [], ◌∷◌, ◌++◌, slice_index_or}
+use Rattle.std.specs.Prelude.{◌≡◌, ℕ, ◌+◌, ◌==◌, if◌then◌else◌, Bool, true, false, ◌&&◌, ◌||◌, List, [], ◌∷◌, ◌++◌}
+use Rattle.std.specs.Prelude.{slice_index_or}
 use Rattle.std.specs.List.{filter}
 use Rattle.std.specs.Option.{option_map}
 use Rattle.volume_model.specs.Volumes.{Volume, Volumes, Fixed, head_of, is_given_head}
@@ -51,7 +52,8 @@ is_write_done _ = false
 module _ (f : Fixed) where
   -- the entry may have written this page of the volume at h
   abbrev pub may_write : Volumes → Command → Reply → ℕ → ℕ → Bool
-  may_write v (c.Write volume page word) reply h p = is_write_done reply && is_given_head h (head_of f v volume) && (page == p)
+  may_write v (c.Write volume page word) reply h p =
+      is_write_done reply && is_given_head h (head_of f v volume) && (page == p)
   may_write v _ reply h p = false
 
   -- pages that were unsettled before the log, or become so by it

@@ -1,5 +1,6 @@
 -- The plain machine: what it holds, and how it answers a command.
-use Rattle.std.specs.Prelude.{◌⊎◌, ◌≡◌, ℕ, ◌<◌, ◌==◌, if◌then◌else◌, Option, Some, None, IsSome, Result, Ok, Err, List, slice_get}
+use Rattle.std.specs.Prelude.{◌⊎◌, ◌≡◌, ℕ, ◌<◌, ◌==◌, if◌then◌else◌, Option, Some, None, IsSome, Result, Ok, Err, List}
+use Rattle.std.specs.Prelude.{slice_get}
 use Rattle.std.specs.Option.{option_and_then}
 use Rattle.volume_model.specs.Volumes.{Volume, Volumes, Fixed, head_of}
 use Rattle.volume_model.specs.Refusals.{refusal}

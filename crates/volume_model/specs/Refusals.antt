@@ -1,10 +1,12 @@
 -- Why a command is refused.
-use Rattle.std.specs.Prelude.{ℕ, ◌+◌, ◌-◌, ◌^◌, nat_lt, nat_le, Option, Some, None, Bool, true, false, ◌&&◌, ◌||◌, not, is_some, is_none, List, [], ◌∷◌, length}
+use Rattle.std.specs.Prelude.{ℕ, ◌+◌, ◌-◌, ◌^◌, nat_lt, nat_le, Option, Some, None, Bool, true, false, ◌&&◌, ◌||◌, not}
+use Rattle.std.specs.Prelude.{is_some, is_none, List, [], ◌∷◌, length}
 use Rattle.std.specs.List.{find}
 use Rattle.std.specs.Option.{option_map, option_map_or}
 use Rattle.std.specs.Str.{bytes_eq}
 use Rattle.volume_model.specs.Xattrs.{Text, value_of, name_key, uuid_key}
-use Rattle.volume_model.specs.Volumes.{Volume, Volumes, Fixed, is_super, slots_of, slots_at, all_slots, head_named, head_of, clones}
+use Rattle.volume_model.specs.Volumes.{Volume, Volumes, Fixed, is_super, slots_of, slots_at, all_slots, head_named}
+use Rattle.volume_model.specs.Volumes.{head_of, clones}
 use Rattle.volume_model.specs.declared.command.VolumeRef.{VolumeRef}
 use Rattle.volume_model.specs.declared.command.Command.{Command}
 use Rattle.volume_model.specs.declared.command.Command.TheVariants as c

@@ -1,9 +1,11 @@
 -- One step: which replies a command may get in given volumes, and the volumes afterwards.
-use Rattle.std.specs.Prelude.{◌⊎◌, ◌≡◌, ℕ, ◌<◌, ◌==◌, if◌then◌else◌, Option, Some, None, Bool, true, false, not, List, slice_get, slice_set, length}
+use Rattle.std.specs.Prelude.{◌⊎◌, ◌≡◌, ℕ, ◌<◌, ◌==◌, if◌then◌else◌, Option, Some, None, Bool, true, false, not, List}
+use Rattle.std.specs.Prelude.{slice_get, slice_set, length}
 use Rattle.std.specs.List.{filter_map}
 use Rattle.std.specs.Option.{option_map, option_and_then}
 use Rattle.volume_model.specs.Xattrs.{Text, value_of, with_value, without, told, with_nul, name_key, uuid_key}
-use Rattle.volume_model.specs.Volumes.{Page, Volume, Volumes, Fixed, page_of, zero_slots, resized, heads, is_given_head, is_super, slots_of, head_of, two_xattrs}
+use Rattle.volume_model.specs.Volumes.{Page, Volume, Volumes, Fixed, page_of, zero_slots, resized, heads, is_given_head}
+use Rattle.volume_model.specs.Volumes.{is_super, slots_of, head_of, two_xattrs}
 use Rattle.volume_model.specs.Refusals.{refusal}
 use Rattle.volume_model.specs.declared.command.VolumeRef.{VolumeRef}
 use Rattle.volume_model.specs.declared.command.Command.{Command}

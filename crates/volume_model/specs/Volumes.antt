@@ -1,5 +1,6 @@
 -- What a user sees of a store: volumes, as whole lists of pages, with nothing of maps, clusters or masks.
-use Rattle.std.specs.Prelude.{ℕ, ◌-◌, ◌*◌, ◌/◌, ◌==◌, if◌then◌else◌, Option, Some, None, Bool, false, ◌&&◌, not, is_some, List, [], ◌∷◌, ◌++◌, length, take, replicate}
+use Rattle.std.specs.Prelude.{ℕ, ◌-◌, ◌*◌, ◌/◌, ◌==◌, if◌then◌else◌, Option, Some, None, Bool, false, ◌&&◌, not}
+use Rattle.std.specs.Prelude.{is_some, List, [], ◌∷◌, ◌++◌, length, take, replicate}
 use Rattle.std.specs.Int.{to_le_bytes, w64}
 use Rattle.std.specs.List.{find, filter, range_with_len, sum_by, repeat}
 use Rattle.std.specs.Option.{option_map_or}

@@ -42,7 +42,8 @@ impl Model for Volumes {
 
 impl Volumes {
     ghost use Rattle.std.specs.Prelude.{◌⊎◌, ◌≡◌, ◌≢◌, ◌<◌, ℕ, [], IfErr};
-    ghost use Rattle.volume_model.specs.Machine.{volumes_in, MachineAnswers, IsCauseOfRefusal, IsLeastFree, IsPlain, TakesNoMemory};
+    ghost use Rattle.volume_model.specs.Machine.{volumes_in, MachineAnswers, IsCauseOfRefusal, IsLeastFree, IsPlain};
+    ghost use Rattle.volume_model.specs.Machine.{TakesNoMemory};
     ghost use Rattle.volume_model.specs.Steps.{Step};
     ghost use Rattle.volume_model.specs.declared.reply.Reply.TheVariants as r;
 

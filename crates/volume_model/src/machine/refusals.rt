@@ -1,6 +1,7 @@
 //! Why a command is refused: one test a verb, its causes in their order.
 
-ghost use Rattle.std.specs.Prelude.{◌≡◌, ◌≤◌, ℕ, if◌then◌else◌, Some, None, false, true, Option, List, Bool, IfOk, IfErr, OnOk, nat_lt, ◌+◌, ◌^◌, length};
+ghost use Rattle.std.specs.Prelude.{◌≡◌, ◌≤◌, ℕ, if◌then◌else◌, Some, None, false, true, Option, List, Bool, IfOk};
+ghost use Rattle.std.specs.Prelude.{IfErr, OnOk, nat_lt, ◌+◌, ◌^◌, length};
 ghost use Rattle.std.specs.Option.{option_map_or};
 ghost use Rattle.volume_model.specs.Machine.{volumes_in, MayBeDone, IsCommandRefused, IsCauseOfRefusal};
 ghost use Rattle.volume_model.specs.Plain.{volume_in_row};

@@ -22,7 +22,8 @@ loop-plant-preserved g c =
     let settles =
     settled d served after channel c.settle.result (ap (λ (r : Row). r.stage) logs.row)
     (λ is. (c.settle.ensures.waiting is).1) c.settle.ensures.logged c.settle.ensures.row in (
-      serves_on c.args.plant.now.at before posted served after channel serves next before.serial c.post-msg.ensures.row logs settles.0 (settles.1 ∙ c.serve.ensures.no_job),
+      serves_on c.args.plant.now.at before posted served after channel serves next before.serial c.post-msg.ensures.row
+          logs settles.0 (settles.1 ∙ c.serve.ensures.no_job),
       c.settle.ensures.opening ∙ c.serve.ensures.opening ∙ c.post-msg.ensures.opening ∙ c.loop-plant.invariant.1,
       (
         c.serve.ensures.right.0 ∙ c.loop-plant.invariant.2.0,

@@ -7,7 +7,8 @@ use Rattle.store_model.specs.Jobs.{IsSyncing}
 use Rattle.store_model.specs.Cases.{IsRefusedBy}
 use Rattle.store_core.specs.Begins.{IsJobOf}
 use Rattle.store_core.specs.StoreView.{state_of}
-use Rattle.blob_tool.proofs.Planned.{if_ok, if_err, is_running, none_so, put_for, refused_for, same_first, sync_for, IsFor}
+use Rattle.blob_tool.proofs.Planned.{if_ok, if_err, is_running, none_so, put_for, refused_for, same_first, sync_for}
+use Rattle.blob_tool.proofs.Planned.{IsFor}
 use Rattle.blob_tool.proofs.serving.task_of.Goals as goal
 use Rattle.blob_tool.proofs.serving.task_of.Goals.{in-Put, in-Sync}
 
@@ -23,14 +24,20 @@ returns-in-Ok-planned g c =
     let for : IsFor d p command job = elim c.match-command.branch [
       | in-Put w ↦
           let r = sym w.planned-is ∙ c.in-Ok-planned.is in
-          put_for d c.plans.ensures p running runs c.metas-metas.result.now c.sup-sup.result.now o command c.asked_head.result c.metas-metas.ensures c.sup-sup.ensures c.asked_head.ensures c.live-live.ensures job
-          (if_ok (PlansPut c.metas-metas.result.now o command) w.plan_put-planned.result job r w.plan_put-planned.ensures.job)
-          (if_ok (λ _. IsFirstCause c.metas-metas.result.now o command c.sup-sup.result.now None) w.plan_put-planned.result job r w.plan_put-planned.ensures.unrefused)
+          put_for d c.plans.ensures p running runs c.metas-metas.result.now c.sup-sup.result.now o command
+          c.asked_head.result c.metas-metas.ensures c.sup-sup.ensures c.asked_head.ensures c.live-live.ensures job
+          (if_ok (PlansPut c.metas-metas.result.now o command) w.plan_put-planned.result job r
+          w.plan_put-planned.ensures.job)
+          (if_ok (λ _. IsFirstCause c.metas-metas.result.now o command c.sup-sup.result.now None)
+          w.plan_put-planned.result job r w.plan_put-planned.ensures.unrefused)
       | in-Sync w ↦
           let r = sym w.planned-is ∙ c.in-Ok-planned.is in
-          sync_for d c.plans.ensures p running runs c.metas-metas.result.now c.sup-sup.result.now o command c.asked_head.result c.metas-metas.ensures c.sup-sup.ensures c.asked_head.ensures c.live-live.ensures job
-          (if_ok (PlansSync c.metas-metas.result.now o command) w.plan_sync-planned.result job r w.plan_sync-planned.ensures.job)
-          (if_ok (λ _. IsFirstCause c.metas-metas.result.now o command c.sup-sup.result.now None) w.plan_sync-planned.result job r w.plan_sync-planned.ensures.unrefused)
+          sync_for d c.plans.ensures p running runs c.metas-metas.result.now c.sup-sup.result.now o command
+          c.asked_head.result c.metas-metas.ensures c.sup-sup.ensures c.asked_head.ensures c.live-live.ensures job
+          (if_ok (PlansSync c.metas-metas.result.now o command) w.plan_sync-planned.result job r
+          w.plan_sync-planned.ensures.job)
+          (if_ok (λ _. IsFirstCause c.metas-metas.result.now o command c.sup-sup.result.now None)
+          w.plan_sync-planned.result job r w.plan_sync-planned.ensures.unrefused)
     ] in (
       for.0,
       λ _ other rest left. subst (λ (x : Command). IsJobOf (state_of d p) x job)
@@ -48,11 +55,15 @@ returns-in-Err g c =
     λ runs other rest left.
     let by : IsRefusedBy (state_of d p) command reply = elim c.match-command.branch [
       | in-Put w ↦
-          refused_for d c.plans.ensures p running runs c.metas-metas.result.now c.sup-sup.result.now o command c.asked_head.result c.metas-metas.ensures c.sup-sup.ensures c.asked_head.ensures c.live-live.ensures reply (subst IsSyncing (sym w.in-Put.is) tt)
+          refused_for d c.plans.ensures p running runs c.metas-metas.result.now c.sup-sup.result.now o command
+          c.asked_head.result c.metas-metas.ensures c.sup-sup.ensures c.asked_head.ensures c.live-live.ensures reply
+          (subst IsSyncing (sym w.in-Put.is) tt)
           (if_err (RefusesPlan c.metas-metas.result.now o command c.sup-sup.result.now) w.plan_put-planned.result reply
           (sym w.planned-is ∙ c.in-Err.is) w.plan_put-planned.ensures.refused)
       | in-Sync w ↦
-          refused_for d c.plans.ensures p running runs c.metas-metas.result.now c.sup-sup.result.now o command c.asked_head.result c.metas-metas.ensures c.sup-sup.ensures c.asked_head.ensures c.live-live.ensures reply (subst IsSyncing (sym w.in-Sync.is) tt)
+          refused_for d c.plans.ensures p running runs c.metas-metas.result.now c.sup-sup.result.now o command
+          c.asked_head.result c.metas-metas.ensures c.sup-sup.ensures c.asked_head.ensures c.live-live.ensures reply
+          (subst IsSyncing (sym w.in-Sync.is) tt)
           (if_err (RefusesPlan c.metas-metas.result.now o command c.sup-sup.result.now) w.plan_sync-planned.result reply
           (sym w.planned-is ∙ c.in-Err.is) w.plan_sync-planned.ensures.refused)
     ] in

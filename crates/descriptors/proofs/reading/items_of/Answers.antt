@@ -1,4 +1,5 @@
-use Rattle.std.proofs.Common.{◌≡◌, ◌+◌, ◌-◌, List, Option, inl, inr, ◌<◌, ◌≤◌, ℕ, length, take, drop, get_or, refl, sym, ap, ◌∙◌, subst, arith, None}
+use Rattle.std.proofs.Common.{◌≡◌, ◌+◌, ◌-◌, List, Option, inl, inr, ◌<◌, ◌≤◌, ℕ, length, take, drop, get_or, refl, sym}
+use Rattle.std.proofs.Common.{ap, ◌∙◌, subst, arith, None}
 use Rattle.std.proofs.lemmas.List.{length-take-le, length-drop}
 use Rattle.descriptors.specs.declared.item.Item.{Item}
 use Rattle.descriptors.specs.declared.rows.RowFault.{RowFault}
@@ -6,7 +7,8 @@ use Rattle.descriptors.specs.declared.rows.RowFault.TheVariants.{Bad}
 use Rattle.descriptors.specs.UnlessMemory.{FailsToGive}
 use Rattle.descriptors.specs.Numbers.{number_from}
 use Rattle.descriptors.specs.Grammar.{Descriptor}
-use Rattle.descriptors.proofs.ReadingSteps.{reads_head, ItemsComplete, at_end, at_terminator, over_item, over_padding, spoilt_over_item, spoilt_over_padding, spoilt_by_row, spoilt_by_size}
+use Rattle.descriptors.proofs.ReadingSteps.{reads_head, ItemsComplete, at_end, at_terminator, over_item, over_padding}
+use Rattle.descriptors.proofs.ReadingSteps.{spoilt_over_item, spoilt_over_padding, spoilt_by_row, spoilt_by_size}
 use Rattle.descriptors.proofs.reading.items_of.Goals as goal
 
 pub returns-clause-found : goal.returns-clause-found

@@ -6,7 +6,8 @@ use Rattle.md_chain.specs.declared.plan.PlannedPage.{PlannedPage}
 use Rattle.md_chain.specs.Packing.{parts_of}
 use Rattle.md_chain.specs.Planned.{page_written, pages_from, IsNthPage, IsPageOfPlan}
 use Rattle.md_chain.proofs.Fitting.{FitsIn, parts_fit, few_parts}
-use Rattle.md_chain.proofs.PlannedChain.{ArePlanned, page_at, PlanCompletes, one_page_more, one_planned_more, all_planned, all_read, whole_chain, length-pages}
+use Rattle.md_chain.proofs.PlannedChain.{ArePlanned, page_at, PlanCompletes, one_page_more, one_planned_more}
+use Rattle.md_chain.proofs.PlannedChain.{all_planned, all_read, whole_chain, length-pages}
 use Rattle.md_chain.proofs.planning.plan_chain.Goals as goal
 
 pub overflow_cast-n : goal.overflow_cast-n

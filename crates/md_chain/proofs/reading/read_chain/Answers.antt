@@ -6,7 +6,8 @@ use Rattle.md_chain.specs.Chain.{IsBroken, chain_end}
 use Rattle.md_chain.specs.Fetching.{place_fault, page_fault, IsFetchFault, IsNthPageFault}
 use Rattle.md_chain.specs.Reading.{GaveChain, IsChainCause, IsPagesFault, region_look}
 use Rattle.md_chain.proofs.PageWalk.{new_place, unseen, unseen-new}
-use Rattle.md_chain.proofs.DeviceWalk.{Walking, begins, page_cause, fetch_cause, few_read, few_unread, told_fault, told_chain, gave, walks_on}
+use Rattle.md_chain.proofs.DeviceWalk.{Walking, begins, page_cause, fetch_cause, few_read, few_unread, told_fault}
+use Rattle.md_chain.proofs.DeviceWalk.{told_chain, gave, walks_on}
 use Rattle.md_chain.proofs.reading.read_chain.Goals as goal
 
 pub chain-init : goal.chain-init

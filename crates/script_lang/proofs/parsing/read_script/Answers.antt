@@ -5,7 +5,8 @@ use Rattle.script_lang.specs.declared.grammar.Grammar.TheVariants.{Served}
 use Rattle.script_lang.specs.declared.line.LineRequest.{LineRequest}
 use Rattle.script_lang.specs.Commands.{pages_of}
 use Rattle.script_lang.specs.Lines.{says}
-use Rattle.script_lang.proofs.ByLines.{begun, one_more, all_read, bad_line, too_many_pages, too_many_lines, pushed_room, served_heads, served_few, same_pages}
+use Rattle.script_lang.proofs.ByLines.{begun, one_more, all_read, bad_line, too_many_pages, too_many_lines, pushed_room}
+use Rattle.script_lang.proofs.ByLines.{served_heads, served_few, same_pages}
 use Rattle.script_lang.proofs.Requests.{IsSized, says_sized, says_channel, if_said}
 use Rattle.script_lang.proofs.ServedHeads.{says_heads}
 use Rattle.script_lang.proofs.parsing.read_script.Goals as goal

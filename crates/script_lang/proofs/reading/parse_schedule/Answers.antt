@@ -1,7 +1,8 @@
 use Rattle.std.proofs.Common.{◌≡◌, ◌+◌, get_or, Some, None, refl, sym, ap, subst, rules, arith}
 use Rattle.script_lang.specs.Reading.{ended, after_byte, HasRoom}
 use Rattle.script_lang.specs.Schedules.{IsFirstBadByte}
-use Rattle.script_lang.proofs.ScheduleAnswers.{begun, one_more, bad_byte, refused_byte, bad_end, refused_end, found, only, place_small}
+use Rattle.script_lang.proofs.ScheduleAnswers.{begun, one_more, bad_byte, refused_byte, bad_end, refused_end, found}
+use Rattle.script_lang.proofs.ScheduleAnswers.{only, place_small}
 use Rattle.script_lang.proofs.reading.parse_schedule.Goals as goal
 
 pub loop-byte-init : goal.loop-byte-init

@@ -3,7 +3,8 @@ use Rattle.script_lang.specs.declared.form.Form.TheVariants.{Volume}
 use Rattle.script_lang.specs.Forms.{says_word, fault_after}
 use Rattle.script_lang.proofs.ReadValues.{none_left, one_value, one_fault, as_now}
 use Rattle.script_lang.proofs.values.read_values.Goals as goal
-use Rattle.script_lang.proofs.values.read_values.Goals.{in-Some+in_ok-value+in-Some-2+in_ok-push-in-Some-2, in-Some+in_ok-value+in-None, in_default}
+use Rattle.script_lang.proofs.values.read_values.Goals.{in-Some+in_ok-value+in-Some-2+in_ok-push-in-Some-2}
+use Rattle.script_lang.proofs.values.read_values.Goals.{in-Some+in_ok-value+in-None, in_default}
 
 pub loop-form-preserved : goal.loop-form-preserved
 loop-form-preserved c =

@@ -29,12 +29,14 @@ loop-index-preserved g c =
           λ told. one_more content start count index low place at (d.now old) (d.now new)
           ((c.in_ok-write.ensures.ok told).now ∙ ap (with_page (d.now old) place) c.put.ensures) (was.filled told);
       only =
-          one_written d content start count index low place at c.args.disk.now old new was.only Plain c.put.new.into c.write.result w.ok w.err w.since w.pages w.faults w.read_faults w.reads;
+          one_written d content start count index low place at c.args.disk.now old new was.only Plain c.put.new.into
+          c.write.result w.ok w.err w.since w.pages w.faults w.read_faults w.reads;
     }
 
 pub returns-in_err-write-clause-only : goal.returns-in_err-write-clause-only
 returns-in_err-write-clause-only g c =
     let at : c.from.result + c.from-in-loop-index.result ≡ c.args.start + c.loop-index.index = omega arith in
     let w = c.write.ensures in
-    one_written g.D.PageDisk c.args.content.now c.args.start c.args.count c.loop-index.index c.loop-index-test.true _ at c.args.disk.now c.loop-index.disk c.write.new.self c.loop-index.invariant.only Plain c.put.new.into
+    one_written g.D.PageDisk c.args.content.now c.args.start c.args.count c.loop-index.index c.loop-index-test.true _ at
+    c.args.disk.now c.loop-index.disk c.write.new.self c.loop-index.invariant.only Plain c.put.new.into
     c.write.result w.ok w.err w.since w.pages w.faults w.read_faults w.reads

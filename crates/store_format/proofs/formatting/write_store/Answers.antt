@@ -36,12 +36,16 @@ pub returns-clause-writes : goal.returns-clause-writes
 returns-clause-writes g c =
     let r = c.replace_page.ensures in
     writes g.D.PageDisk g.met.D.PageDisk.telling c.args.layout.now
-    (c.layouts_are_placed.ensures c.args.layout.now c.requires.planned) c.args.disk.now c.write_regions.new.disk c.replace_page.new.disk c.write_regions.ensures.only
-    c.in_ok-write_regions.ensures.regions c.super_page.result c.super_page.ensures.bytes r.any_moment r.pages r.read_faults r.reads
+    (c.layouts_are_placed.ensures c.args.layout.now c.requires.planned) c.args.disk.now c.write_regions.new.disk
+    c.replace_page.new.disk c.write_regions.ensures.only
+    c.in_ok-write_regions.ensures.regions c.super_page.result c.super_page.ensures.bytes r.any_moment r.pages
+    r.read_faults r.reads
 
 pub returns-in_err-replace_page-clause-writes : goal.returns-in_err-replace_page-clause-writes
 returns-in_err-replace_page-clause-writes g c =
     let r = c.replace_page.ensures in
     writes g.D.PageDisk g.met.D.PageDisk.telling c.args.layout.now
-    (c.layouts_are_placed.ensures c.args.layout.now c.requires.planned) c.args.disk.now c.write_regions.new.disk c.replace_page.new.disk c.write_regions.ensures.only
-    c.in_ok-write_regions.ensures.regions c.super_page.result c.super_page.ensures.bytes r.any_moment r.pages r.read_faults r.reads
+    (c.layouts_are_placed.ensures c.args.layout.now c.requires.planned) c.args.disk.now c.write_regions.new.disk
+    c.replace_page.new.disk c.write_regions.ensures.only
+    c.in_ok-write_regions.ensures.regions c.super_page.result c.super_page.ensures.bytes r.any_moment r.pages
+    r.read_faults r.reads

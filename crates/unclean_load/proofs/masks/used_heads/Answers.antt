@@ -28,7 +28,8 @@ loop-head-preserved c =
     elim c.if-is_some.branch [
       | then-is_some w ↦
           rw (w.bits-is, w.set.ensures)
-          (head_there there_is c.args.md_len c.loop-head.bits c.loop-head.head c.loop-head.invariant c.loop-head-test.true
+          (head_there there_is c.args.md_len c.loop-head.bits c.loop-head.head c.loop-head.invariant
+          c.loop-head-test.true
           (subst (λ (o : Option Meta). IsSome o) c.get.ensures
           (there c.get.result (sym c.is_some.ensures ∙ w.if-is_some.true))))
       | else-is_some w ↦

@@ -66,7 +66,8 @@ returns-in_err-mark_pages-clause-fault c =
     let why = c.in_err-mark_pages.field-0.0 in
     let x : IsPageFault (IsInTwo chains) why =
     page_fault chains c.loop-head.head c.in-Some.pages.now c.loop-head.bits
-    (in_two c.args.md_len chains c.loop-head.bits c.loop-head.head c.loop-head.invariant c.in-Some.pages.now there) why c.in_err-mark_pages.ensures.fault in
+    (in_two c.args.md_len chains c.loop-head.bits c.loop-head.head c.loop-head.invariant c.in-Some.pages.now there) why
+    c.in_err-mark_pages.ensures.fault in
     search rules
 
 pub loop-head-preserved : goal.loop-head-preserved
@@ -78,7 +79,8 @@ loop-head-preserved c =
           sym c.get.ensures ∙ ap option_copied w.in-Some.is in
           let e = w.in_ok-mark_pages.ensures in
           rw w.bits-is
-          (marked_more c.args.md_len chains c.loop-head.bits c.loop-head.head c.loop-head.invariant w.in-Some.pages.now there w.mark_pages.new.bits e.count e.added e.new)
+          (marked_more c.args.md_len chains c.loop-head.bits c.loop-head.head c.loop-head.invariant w.in-Some.pages.now
+          there w.mark_pages.new.bits e.count e.added e.new)
       | in_default w ↦
           let none : chains c.loop-head.head ≡ None = sym c.get.ensures ∙ ap option_copied w.in_default.is in
           rw w.bits-is (marked_same c.args.md_len chains c.loop-head.bits c.loop-head.head c.loop-head.invariant none)

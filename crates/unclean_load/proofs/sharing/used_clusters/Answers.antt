@@ -31,4 +31,5 @@ pub returns-in_default-clause-used : goal.returns-in_default-clause-used
 returns-in_default-clause-used c =
     let claims = c.in_ok-claims.claims in
     counted_used c.args.sup.now
-    (map.get c.args.metas.now) claims.clusters claims.twice c.requires.roots c.in_ok-claims.ensures.count c.in_ok-claims.ensures.counted
+    (map.get c.args.metas.now) claims.clusters claims.twice c.requires.roots c.in_ok-claims.ensures.count
+    c.in_ok-claims.ensures.counted

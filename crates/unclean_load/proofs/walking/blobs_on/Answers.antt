@@ -8,7 +8,8 @@ use Rattle.unclean_load.specs.Heads.{AreWholeBelow}
 use Rattle.md_chain.proofs.DeviceWalk.{read_on}
 use Rattle.unclean_load.specs.declared.heads.Blob.{Blob}
 use Rattle.unclean_load.specs.Reading.{HasNoneFrom, SaysAt, IsFaultCounted}
-use Rattle.unclean_load.proofs.HeadWalk.{Walked, begun, none_there, one_there, inserted, place_fails, add_fails, counted_first, refused_uncounted}
+use Rattle.unclean_load.proofs.HeadWalk.{Walked, begun, none_there, one_there, inserted, place_fails, add_fails}
+use Rattle.unclean_load.proofs.HeadWalk.{counted_first, refused_uncounted}
 use Rattle.unclean_load.proofs.walking.blobs_on.Goals as goal
 use Rattle.unclean_load.proofs.walking.blobs_on.Goals.{in-Some+in_ok-add, in_default}
 
@@ -33,11 +34,13 @@ add-requires g c = c.loop-place.invariant.few
 
 pub returns-in_err-blob-clause-same : goal.returns-in_err-blob-clause-same
 returns-in_err-blob-clause-same g c =
-    read_on g.D.PageDisk c.args.disk.now c.loop-place.disk c.blob_at.new.disk c.loop-place.invariant.same c.blob_at.ensures.same
+    read_on g.D.PageDisk c.args.disk.now c.loop-place.disk c.blob_at.new.disk c.loop-place.invariant.same
+    c.blob_at.ensures.same
 
 pub returns-in_err-add-clause-same : goal.returns-in_err-add-clause-same
 returns-in_err-add-clause-same g c =
-    read_on g.D.PageDisk c.args.disk.now c.loop-place.disk c.blob_at.new.disk c.loop-place.invariant.same c.blob_at.ensures.same
+    read_on g.D.PageDisk c.args.disk.now c.loop-place.disk c.blob_at.new.disk c.loop-place.invariant.same
+    c.blob_at.ensures.same
 
 pub returns-in_err-blob-clause-fault : goal.returns-in_err-blob-clause-fault
 returns-in_err-blob-clause-fault g c =
@@ -51,15 +54,18 @@ returns-in_err-blob-clause-counted g c =
     let d = g.D.PageDisk in let s = c.args.sup.now in let b = c.loop-place.blobs in let why = c.in_err-blob.field-0.0 in
     let x : IsFaultCounted (d.read_faults c.args.disk.now) (d.read_faults c.blob_at.new.disk) why =
     counted_first d s c.args.disk.now c.loop-place.disk (map.get b.metas)
-    (map.get b.chains) b.slots c.loop-place.place c.loop-place.invariant c.blob_at.new.disk why c.in_err-blob.ensures.counted in search rules
+    (map.get b.chains) b.slots c.loop-place.place c.loop-place.invariant c.blob_at.new.disk why
+    c.in_err-blob.ensures.counted in search rules
 
 pub returns-in_err-add-clause-fault : goal.returns-in_err-add-clause-fault
 returns-in_err-add-clause-fault g c =
     let d = g.D.PageDisk in let s = c.args.sup.now in let b = c.loop-place.blobs in let why = c.in_err-add.field-0.0 in
     let says : SaysAt d s c.loop-place.disk c.loop-place.place (Some c.in-Some.blob) =
-    subst (λ (o : Option Blob). SaysAt d s c.loop-place.disk c.loop-place.place o) c.in-Some.is c.in_ok-blob.ensures.found in
+    subst (λ (o : Option Blob). SaysAt d s c.loop-place.disk c.loop-place.place o) c.in-Some.is
+    c.in_ok-blob.ensures.found in
     λ told. let x = add_fails d s c.args.disk.now c.loop-place.disk (map.get b.metas)
-    (map.get b.chains) b.slots c.loop-place.place c.loop-place.invariant c.in-Some.blob says why c.loop-place-test.true told c.in_err-add.ensures.fault in search rules
+    (map.get b.chains) b.slots c.loop-place.place c.loop-place.invariant c.in-Some.blob says why c.loop-place-test.true
+    told c.in_err-add.ensures.fault in search rules
 
 pub returns-in_err-add-clause-counted : goal.returns-in_err-add-clause-counted
 returns-in_err-add-clause-counted g c =
@@ -87,7 +93,8 @@ loop-place-preserved g c =
           (inserted d s first new b.metas b.chains (b.slots + length blob.meta.map)
           (place + 1) place blob.meta blob.pages
           (one_there d s first disk (map.get b.metas)
-          (map.get b.chains) b.slots place old new c.blob_at.ensures.same c.in_ok-blob.ensures.quiet blob says e.unmarked few))
+          (map.get b.chains) b.slots place old new c.blob_at.ensures.same c.in_ok-blob.ensures.quiet blob says
+          e.unmarked few))
       | in_default w ↦
           let no : SaysAt d s disk place None =
           subst (λ (o : Option Blob). SaysAt d s disk place o) w.in_default.is c.in_ok-blob.ensures.found in

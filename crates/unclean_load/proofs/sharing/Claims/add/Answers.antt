@@ -8,10 +8,12 @@ use Rattle.unclean_load.proofs.sharing.Claims.add.Goals.{in-Some, in_default}
 pub claim-requires : goal.claim-requires
 claim-requires c =
     let some =
-    some_copy c.in-Some.cluster c.as_slice-slot-items.result.now c.loop-slot.slot-index None c.loop-slot-test.true c.in-Some.is in
+    some_copy c.in-Some.cluster c.as_slice-slot-items.result.now c.loop-slot.slot-index None c.loop-slot-test.true
+    c.in-Some.is in
     let low =
     c.requires c.in-Some.cluster
-    (subst (λ (slots : List (Option ℕ)). 0 < copies_in c.in-Some.cluster slots) c.as_slice-slot-items.ensures.slots some) in
+    (subst (λ (slots : List (Option ℕ)). 0 < copies_in c.in-Some.cluster slots) c.as_slice-slot-items.ensures.slots
+    some) in
     let count = c.loop-slot.invariant.0 in
     omega (arith, low, count)
 
@@ -28,11 +30,15 @@ loop-slot-preserved c =
           rw w.self-is (
             w.claim.ensures.count
                 ∙ v.0,
-            adds_one old.clusters now.clusters old.twice now.twice slots i None w.in-Some.cluster new.clusters new.twice c.loop-slot-test.true w.in-Some.is w.claim.ensures.claimed v.1,
+            adds_one old.clusters now.clusters old.twice now.twice slots i None w.in-Some.cluster new.clusters new.twice
+                c.loop-slot-test.true w.in-Some.is w.claim.ensures.claimed v.1,
           )
       | in_default w ↦
-          rw w.self-is
-          (v.0, adds_same old.clusters now.clusters old.twice now.twice slots i None c.loop-slot-test.true w.in_default.is v.1)
+          rw w.self-is (
+            v.0,
+            adds_same old.clusters now.clusters old.twice now.twice slots i None c.loop-slot-test.true w.in_default.is
+                v.1,
+          )
     ]
 
 all_of : (slots map : List (Option ℕ)) (i : ℕ) → slots ≡ map → length slots ≤ i → take i slots ≡ map

@@ -3,7 +3,10 @@ use Rattle.std.specs.Str.{bytes_eq}
 use Rattle.volume_model.specs.Xattrs.{with_value}
 use Rattle.volume_model.proofs.Attributes.{set_here, passed, copied}
 use Rattle.volume_model.proofs.xattrs.ListOf+Xattr.with_value.Goals as goal
-use Rattle.volume_model.proofs.xattrs.ListOf+Xattr.with_value.Goals.{then-not-is_set+then-eq+in_ok-new+in_ok-push, else-not-is_set+in_ok-try_copy+in_ok-push-2, else-not-is_set-via-then-not-is_set+else-eq, else-not-is_set-via-else-not-is_set}
+use Rattle.volume_model.proofs.xattrs.ListOf+Xattr.with_value.Goals.{then-not-is_set+then-eq+in_ok-new+in_ok-push}
+use Rattle.volume_model.proofs.xattrs.ListOf+Xattr.with_value.Goals.{else-not-is_set+in_ok-try_copy+in_ok-push-2}
+use Rattle.volume_model.proofs.xattrs.ListOf+Xattr.with_value.Goals.{else-not-is_set-via-then-not-is_set+else-eq}
+use Rattle.volume_model.proofs.xattrs.ListOf+Xattr.with_value.Goals.{else-not-is_set-via-else-not-is_set}
 
 pub loop-xattr-preserved : goal.loop-xattr-preserved
 loop-xattr-preserved c =
