@@ -44,11 +44,13 @@ clusters_moved s bits base later freed rows others job next same none moves diff
   apart = λ c x. elim x [
     | inl row ↦
         let was : IsClaimed rows c = record { channel = row.channel; claim = row.claim; held = sym (same row.channel) ∙ row.held; is = row.is } in
-        let old = u.apart c (inl was) in
-        (old.0, λ is. elim (moves.gained c is) [
-          | inl mapped ↦ old.1 mapped
-          | inr among ↦ both_ways (is_among row.claim.cluster (claimed_by job)) (differ.job row.channel row.claim was.held) (subst (λ n. is_among n (claimed_by job) ≡ true) (sym row.is) among)
-        ])
+        let old = u.apart c (inl was) in (
+          old.0,
+          λ is. elim (moves.gained c is) [
+            | inl mapped ↦ old.1 mapped
+            | inr among ↦ both_ways (is_among row.claim.cluster (claimed_by job)) (differ.job row.channel row.claim was.held) (subst (λ n. is_among n (claimed_by job) ≡ true) (sym row.is) among)
+          ],
+        )
     | inr among ↦ absurd (no_place (claimed_by next) c among none)
   ];
 }

@@ -58,9 +58,11 @@ pub lays_clearing : (s : Super) (base : Metas) (chains : Chains) (old places : L
     → Lays s base chains [] [] (erasing old places [])
 lays_clearing s base chains old [] all = (refl, refl)
 lays_clearing s base chains old (p ∷ []) all = (refl, all p (among_first p []), refl, (refl, refl))
-lays_clearing s base chains old (p ∷ q ∷ ps) all =
-    (refl, ap (is_among p) (held_clearing old (q ∷ ps) (λ bad. absurd (cc bad))) ∙ all p (among_first p (q ∷ ps)),
-    lays_clearing s base chains old (q ∷ ps) (λ x among. all x (among_later x p (q ∷ ps) among)))
+lays_clearing s base chains old (p ∷ q ∷ ps) all = (
+  refl,
+  ap (is_among p) (held_clearing old (q ∷ ps) (λ bad. absurd (cc bad))) ∙ all p (among_first p (q ∷ ps)),
+  lays_clearing s base chains old (q ∷ ps) (λ x among. all x (among_later x p (q ∷ ps) among)),
+)
 
 -- ---- what is known behind the pages
 

@@ -45,9 +45,9 @@ module _ (md_len : ℕ) (bits : List Bool) (chains : Chains) where
   used_freed old later differ u =
       let low : AllBelow (length bits) old = λ x is. within bits x (u.held_too x (among_left x old later is)) in
       let out : (x : ℕ) → IsLinked chains x → is_among x old ≡ false = λ x l.
-          elim (cases_Bool (is_among x old)) [ inl among ↦ absurd (u.apart x (among_left x old later among) l) | inr apart ↦ apart ] in
+      elim (cases_Bool (is_among x old)) [ inl among ↦ absurd (u.apart x (among_left x old later among) l) | inr apart ↦ apart ] in
       let out_later : (x : ℕ) → is_among x later ≡ true → is_among x old ≡ false = λ x is.
-          elim (cases_Bool (is_among x old)) [ inl among ↦ absurd (distinct_apart old later differ x among is) | inr apart ↦ apart ] in
+      elim (cases_Bool (is_among x old)) [ inl among ↦ absurd (distinct_apart old later differ x among is) | inr apart ↦ apart ] in
       record {
         count = length_all_set bits old false ∙ u.count;
         linked = λ x l. all_set_out bits old false x (out x l) ∙ u.linked x l;
