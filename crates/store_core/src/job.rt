@@ -25,14 +25,9 @@ pub(crate) struct Planned {
 #[derive(Drop)]
 pub(crate) enum Work {
     /// So many of the pages behind the head are written.
-    Writing {
-        planned: Planned,
-        written: usize,
-    },
+    Writing { planned: Planned, written: usize },
     /// So many of the old pages are overwritten.
-    Erasing {
-        erased: usize,
-    },
+    Erasing { erased: usize },
 }
 
 /// The running job: the channel whose command it serves, and the places that stood behind the head before it.

@@ -103,8 +103,9 @@ generations_over base head new generations drawn there g = record {
   differ = g.differ;
 }
 
--- one blob that is there is renewed
-module _ (base : Metas) (head : ℕ) (generations : Map ℕ) (drawn : ℕ) (there : IsSome (base head)) (g : AreGenerations base generations drawn) where
+-- one blob, which is there then, gets the next number
+module _ (base other : Metas) (head : ℕ) (generations : Map ℕ) (drawn : ℕ) (there : IsSome (other head)) (same : (h : ℕ) → h ≢ head → is_some (other h) ≡ is_some (base h))
+    (g : AreGenerations base generations drawn) where
   abbrev next : Map ℕ
   next = with_entry generations head (drawn + 1)
 
@@ -114,12 +115,11 @@ module _ (base : Metas) (head : ℕ) (generations : Map ℕ) (drawn : ℕ) (ther
   elsewhere : (h : ℕ) → h ≢ head → next h ≡ generations h
   elsewhere h ne = given_elsewhere generations head (drawn + 1) h ne
 
-  -- the number is the new one, or an old one
-  one_renewed : AreGenerations base next (drawn + 1)
-  one_renewed = record {
+  pub one_numbered : AreGenerations other next (drawn + 1)
+  one_numbered = record {
     each = λ h. elim (cases_eq h head) [
-      | inl e ↦ ap is_some (here h e) ∙ sym (ap (λ n. is_some (base n)) e ∙ there)
-      | inr ne ↦ ap is_some (elsewhere h ne) ∙ g.each h
+      | inl e ↦ ap is_some (here h e) ∙ sym (ap (λ n. is_some (other n)) e ∙ there)
+      | inr ne ↦ ap is_some (elsewhere h ne) ∙ g.each h ∙ sym (same h ne)
     ];
     low = λ h number is. elim (cases_eq h head) [
       | inl e ↦ let same : drawn + 1 ≡ number = let both = sym (here h e) ∙ is in cc both in omega (arith, same)
@@ -149,7 +149,7 @@ pub generations_renewed : (base : Metas) (generations : Map ℕ) (drawn : ℕ) (
 generations_renewed base generations drawn [] g there = subst (AreGenerations base generations) (omega arith) g
 generations_renewed base generations drawn (head ∷ heads) g there =
     subst (AreGenerations base (all_renewed generations drawn (head ∷ heads))) (omega arith)
-    (generations_renewed base (with_entry generations head (drawn + 1)) (drawn + 1) heads (one_renewed base head generations drawn there.0 g) there.1)
+    (generations_renewed base (with_entry generations head (drawn + 1)) (drawn + 1) heads (one_numbered base base head generations drawn there.0 (λ h ne. refl) g) there.1)
 
 -- ---- open claims
 
