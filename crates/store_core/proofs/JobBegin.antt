@@ -225,7 +225,7 @@ module _ {D : Type 0} (d : Ghosts D) (p : StoreView D) (channel : ℕ) (low : ch
     no_job = no_job;
     changes = job_of_one planned.head planned.new;
     commit = commit_of planned;
-    asked = record { head = planned.head; new = planned.new; is = refl; asks = asks; commit_is = ap (λ (xs : Xattrs). record { reply = r.Ok; live = Some xs }) live };
+    asked = record { head = planned.head; new = planned.new; is = refl; asks = asks; commit_is = ap (λ (xs : Xattrs). record { reply = r.Ok; live = Some xs; renews = [] }) live };
     claimed = [];
     clusters = tt;
     one_each = refl;

@@ -1,11 +1,15 @@
 -- What the loops of a start have made so far.
-use Rattle.std.proofs.Common.{◌≡◌, ℕ, ◌+◌, ◌<◌, ◌≤◌, Bool, true, false, cond, List, [], ◌∷◌, ◌++◌, length, Option, Some, None, refl, sym, ◌∙◌, ap, subst, ◌⊎◌, arith, inl, inr, length-append}
-use Rattle.std.specs.Prelude.{slice_index_or, slice_set, nat_lt}
+use Rattle.std.proofs.Common.{◌≡◌, ℕ, ◌+◌, ◌<◌, ◌≤◌, Bool, true, false, cond, List, [], ◌∷◌, ◌++◌, length, Option, Some, None, refl, sym, ◌∙◌, ap, subst, ◌⊎◌, arith, inl, inr, length-append, ◌≢◌}
+use Rattle.std.specs.Prelude.{if◌then◌else◌, is_some, IsSome, nat_lt, slice_index_or, slice_set}
 use Rattle.std.specs.Option.{option_map}
 use Rattle.std.specs.Ordering.{nat_cmp}
 use Rattle.std.specs.Cmp.{nat_cmp_total}
 use Rattle.std.specs.FinMap as map
-use Rattle.std.proofs.lemmas.Bool.{cases_eq, cases_lt}
+use Rattle.std.specs.FinSet as set
+use Rattle.std.proofs.Math.Path.{fun_ext}
+use Rattle.store_model.specs.Guarding.{AreGenerations}
+use Rattle.store_model.proofs.Guarding.{one_numbered}
+use Rattle.std.proofs.lemmas.Bool.{cases_eq, cases_lt, le-ltb, lt-ltb}
 use Rattle.std.proofs.lemmas.List.{get_or_append_left, get_or_past, get_or_push, get_or-set_other}
 use Rattle.page_disk.specs.declared.disk.PageDisk.{Ghosts}
 use Rattle.super_block.specs.declared.page.Super.{Super}
@@ -13,14 +17,14 @@ use Rattle.volume_model.specs.Xattrs.{Xattrs}
 use Rattle.volume_model.specs.declared.command.Command.{Command}
 use Rattle.blob_meta.specs.declared.meta.Meta.{Meta}
 use Rattle.io_freeze.specs.Guards.{GuardsState, no_guards, renewed}
-use Rattle.store_model.specs.Maps.{Metas}
+use Rattle.store_model.specs.Maps.{Map, Metas, with_entry}
 use Rattle.store_model.specs.StateLaws.{IsLoadedWith}
 use Rattle.store_model.specs.StoreState.{Opens}
 use Rattle.store_model.specs.RunInvariant.{AreRoots}
 use Rattle.store_model.specs.Rows.{Row, Idle, Ended}
 use Rattle.store_model.proofs.WithEntry.{given_here, given_elsewhere}
 use Rattle.store_core.specs.declared.loaded.Loaded.{Loaded}
-use Rattle.store_core.specs.Opening.{AreRows, IsLiveAtStart, opened_with, row_at_start}
+use Rattle.store_core.specs.Opening.{AreGuardsAtStart, AreRows, IsLiveAtStart, opened_with, row_at_start}
 use Rattle.store_core.specs.StoreView.{rows_of, state_of}
 use Rattle.store_core.specs.LoadedWhole.{IsWhole}
 use Rattle.store_core.proofs.Maps.{insert_given}
@@ -58,41 +62,97 @@ module _ (metas : map.FinMap nat_cmp Meta) (live : map.FinMap nat_cmp Xattrs) (e
 pub live_nothing : (metas : map.FinMap nat_cmp Meta) → LiveBelow metas map.empty 0
 live_nothing metas = record { below = λ h lt. absurd (omega (arith, lt)); none = λ h ge. map.get-empty nat_cmp h }
 
--- guards of some of the heads below this, at most one each
-pub record GuardsBelow (guards : GuardsState) (heads end : ℕ) : Type 0 where
+-- the blobs whose heads are below this
+abbrev pub those_below : Metas → ℕ → Metas
+those_below metas end h = if nat_lt h end then metas h else None
+
+module _ (metas : Metas) (end : ℕ) where
+  pub below_in : (h : ℕ) → h < end → those_below metas end h ≡ metas h
+  below_in h lt = rw (lt-ltb h end lt) refl
+
+  pub below_past : (h : ℕ) → end ≤ h → those_below metas end h ≡ None
+  below_past h ge = rw (le-ltb h end ge) refl
+
+module _ (metas : Metas) (end : ℕ) where
+  next_here : those_below metas (end + 1) end ≡ metas end
+  next_here = below_in metas (end + 1) end (omega arith)
+
+  next_other : (h : ℕ) → h ≢ end → those_below metas (end + 1) h ≡ those_below metas end h
+  next_other h ne = elim (cases_lt h end) [
+    | inl lt ↦ below_in metas (end + 1) h (omega (arith, lt)) ∙ sym (below_in metas end h lt)
+    | inr ge ↦ below_past metas (end + 1) h (omega (arith, ge, ne)) ∙ sym (below_past metas end h ge)
+  ]
+
+  next_none : metas end ≡ None → those_below metas (end + 1) ≡ those_below metas end
+  next_none none = fun_ext (λ h. elim (cases_eq h end) [
+    | inl e ↦ ap (those_below metas (end + 1)) e ∙ next_here ∙ none ∙ sym (below_past metas end end (omega arith)) ∙ ap (those_below metas end) (sym e)
+    | inr ne ↦ next_other h ne
+  ])
+
+-- the guards of the blobs whose heads are below this
+pub record GuardsBelow (metas : map.FinMap nat_cmp Meta) (guards : GuardsState) (heads end : ℕ) : Type 0 where
   pub room : guards.room ≡ heads
   pub few : map.len guards.generations ≤ end
   pub drawn : guards.drawn ≤ end
   pub none : (h : ℕ) → end ≤ h → map.get guards.generations h ≡ None
+  pub generations : AreGenerations (those_below (map.get metas) end) (map.get guards.generations) guards.drawn
+  pub none_frozen : (h : ℕ) → set.contains guards.frozen h ≡ false
 
-pub guards_nothing : (room : ℕ) → GuardsBelow (no_guards room) room 0
-guards_nothing room = record {
+pub guards_nothing : (metas : map.FinMap nat_cmp Meta) (room : ℕ) → GuardsBelow metas (no_guards room) room 0
+guards_nothing metas room = record {
   room = refl;
   few = omega (arith, map.len-empty nat_cmp ℕ);
   drawn = omega arith;
   none = λ h ge. map.get-empty nat_cmp h;
+  generations = record {
+    each = λ h. ap is_some (map.get-empty nat_cmp h) ∙ sym (ap is_some (below_past (map.get metas) 0 h (omega arith)));
+    low = λ h number is. absurd (let bad = sym (map.get-empty nat_cmp h) ∙ is in cc bad);
+    differ = λ h k number is too. absurd (let bad = sym (map.get-empty nat_cmp h) ∙ is in cc bad);
+  };
+  none_frozen = λ h. set.contains-empty nat_cmp h;
 }
 
-module _ (guards : GuardsState) (room end : ℕ) (so_far : GuardsBelow guards room end) where
-  pub guards_same : GuardsBelow guards room (end + 1)
-  guards_same = record {
+module _ (metas : map.FinMap nat_cmp Meta) (guards : GuardsState) (room end : ℕ) (so_far : GuardsBelow metas guards room end) where
+  pub guards_same : map.get metas end ≡ None → GuardsBelow metas guards room (end + 1)
+  guards_same is = record {
     room = so_far.room;
     few = omega (arith, so_far.few);
     drawn = omega (arith, so_far.drawn);
     none = λ h ge. so_far.none h (omega (arith, ge));
+    generations = subst (λ (base : Metas). AreGenerations base (map.get guards.generations) guards.drawn) (sym (next_none (map.get metas) end is)) so_far.generations;
+    none_frozen = so_far.none_frozen;
   }
 
   more : (has : Bool) (n : ℕ) {m : ℕ} → m ≡ cond has n (n + 1) → n ≤ end → m ≤ end + 1
   more true n e le = omega (arith, e, le)
   more false n e le = omega (arith, e, le)
 
-  pub guards_more : GuardsBelow (renewed guards end) room (end + 1)
-  guards_more = record {
+  pub guards_more : IsSome (map.get metas end) → GuardsBelow metas (renewed guards end) room (end + 1)
+  guards_more some = record {
     room = so_far.room;
     few = more (map.contains_key guards.generations end) (map.len guards.generations) (map.len-insert nat_cmp_total guards.generations end (guards.drawn + 1)) so_far.few;
     drawn = omega (arith, so_far.drawn);
-    none = λ h ge. ap (λ f. f h) (insert_given guards.generations end (guards.drawn + 1)) ∙ given_elsewhere (map.get guards.generations) end (guards.drawn + 1) h (λ e. omega (arith, e, ge)) ∙ so_far.none h (omega (arith, ge));
+    none = λ h ge. ap (λ f. f h) given ∙ given_elsewhere (map.get guards.generations) end (guards.drawn + 1) h (λ e. omega (arith, e, ge)) ∙ so_far.none h (omega (arith, ge));
+    generations = subst (λ (g : Map ℕ). AreGenerations (those_below (map.get metas) (end + 1)) g (guards.drawn + 1)) (sym given)
+        (one_numbered (those_below (map.get metas) end) (those_below (map.get metas) (end + 1)) end (map.get guards.generations) guards.drawn
+        (subst IsSome (sym (next_here (map.get metas) end)) some) (λ h ne. ap is_some (next_other (map.get metas) end h ne)) so_far.generations);
+    none_frozen = so_far.none_frozen;
   }
+    where
+      given : map.get (map.insert guards.generations end (guards.drawn + 1)) ≡ with_entry (map.get guards.generations) end (guards.drawn + 1)
+      given = insert_given guards.generations end (guards.drawn + 1)
+
+  pub guards_all : ((h : ℕ) → end ≤ h → map.get metas h ≡ None) → AreGuardsAtStart metas guards
+  guards_all past = record {
+    generations = subst (λ (base : Metas). AreGenerations base (map.get guards.generations) guards.drawn) all so_far.generations;
+    none_frozen = so_far.none_frozen;
+  }
+    where
+      all : those_below (map.get metas) end ≡ map.get metas
+      all = fun_ext (λ h. elim (cases_lt h end) [
+        | inl lt ↦ below_in (map.get metas) end h lt
+        | inr ge ↦ below_past (map.get metas) end h ge ∙ sym (past h ge)
+      ])
 
 -- the rows of the channels below this, and the script that is left
 pub record RowsBelow (script left : List (List Command)) (channels : ℕ) (rows : List Row) (end : ℕ) : Type 0 where
@@ -148,8 +208,8 @@ module _ (script : List (List Command)) (rows : List Row) (are : AreRows script 
   ]
 
 -- what was loaded is what a store begins with
-module _ {D : Type 0} (d : Ghosts D) (loaded : Loaded D) (live : map.FinMap nat_cmp Xattrs) (rows : List Row) where
-  pub is_loaded_with : IsWhole loaded → IsLiveAtStart loaded.metas live → IsLoadedWith loaded.sup (state_of d (opened_with d loaded live rows))
+module _ {D : Type 0} (d : Ghosts D) (loaded : Loaded D) (live : map.FinMap nat_cmp Xattrs) (guards : GuardsState) (rows : List Row) (guarded : AreGuardsAtStart loaded.metas guards) where
+  pub is_loaded_with : IsWhole loaded → IsLiveAtStart loaded.metas live → IsLoadedWith loaded.sup (state_of d (opened_with d loaded live guards rows))
   is_loaded_with whole is = record {
     super = refl;
     roots = whole.roots;
@@ -159,10 +219,20 @@ module _ {D : Type 0} (d : Ghosts D) (loaded : Loaded D) (live : map.FinMap nat_
     clusters = whole.masks.clusters;
     live = λ head m some. is head ∙ ap (option_map (λ (x : Meta). x.xattrs)) some;
     no_live = λ head none. is head ∙ ap (option_map (λ (x : Meta). x.xattrs)) none;
+    generations = guarded.generations;
   }
 
-  pub it_opens : (script : List (List Command)) → AreRows script rows → Opens (state_of d (opened_with d loaded live rows))
-  it_opens script are = record { waits = rows_wait script rows are; unclaimed = rows_unclaimed script rows are; log = refl; marks = refl; job = refl; stopped = refl }
+  pub it_opens : (script : List (List Command)) → AreRows script rows → Opens (state_of d (opened_with d loaded live guards rows))
+  it_opens script are = record {
+    waits = rows_wait script rows are;
+    unclaimed = rows_unclaimed script rows are;
+    log = refl;
+    marks = refl;
+    filling = refl;
+    job = refl;
+    frozen = guarded.none_frozen;
+    stopped = refl;
+  }
 
 none_by : (s : Super) (metas : Metas) → AreRoots s metas → (head : ℕ) → s.md_len ≤ head → (found : Option Meta) → metas head ≡ found → metas head ≡ None
 none_by s metas roots head past None is = is

@@ -24,9 +24,9 @@ use Rattle.std.proofs.Common.{ap, inl, inr}
 abbrev pub replacing_of : Planned → List ℕ → Replacing
 replacing_of p old = record { head = p.head; new = Some p.new; makes = false; fresh = drop 1 p.chain; planned = p.pages; old = old; freed = [] }
 
--- its commit, with which the attributes are read as they are synced
+-- its commit, with which the attributes are read as they are synced, and no generation is renewed
 abbrev pub commit_of : Planned → Committing
-commit_of p = record { reply = r.Ok; live = Some p.live }
+commit_of p = record { reply = r.Ok; live = Some p.live; renews = [] }
 
 -- a job of which so many fresh pages are written
 abbrev pub writing_job : ℕ → Planned → List ℕ → ℕ → JobState
@@ -77,8 +77,8 @@ replacing_code =
 
 abbrev pub committing_code : Coded Committing
 committing_code =
-    code_by (Reply × Option (List Xattr)) (coded× reply.the_row.coded (coded_option (coded_list xattr.the_row.coded)))
-    (λ x. (x.reply, x.live)) (λ p. record { reply = p.0; live = p.1 }) (λ _. refl)
+    code_by (Reply × (Option (List Xattr) × List ℕ)) (coded× reply.the_row.coded (coded× (coded_option (coded_list xattr.the_row.coded)) (coded_list coded_ℕ)))
+    (λ x. (x.reply, (x.live, x.renews))) (λ p. record { reply = p.0; live = p.1.0; renews = p.1.1 }) (λ _. refl)
 
 -- a phase is one of these
 abbrev pub PhaseSum : Type 0

@@ -3,10 +3,13 @@ use Rattle.std.specs.Prelude.{◌≡◌, ℕ, ◌+◌, ◌<◌, ◌≤◌, ◌^�
 use Rattle.std.specs.Option.{option_map}
 use Rattle.std.specs.Ordering.{nat_cmp}
 use Rattle.std.specs.FinMap as map
+use Rattle.std.specs.FinSet as set
 use Rattle.page_disk.specs.declared.disk.PageDisk.{Ghosts}
 use Rattle.volume_model.specs.Xattrs.{Xattrs}
 use Rattle.volume_model.specs.declared.command.Command.{Command}
 use Rattle.blob_meta.specs.declared.meta.Meta.{Meta}
+use Rattle.io_freeze.specs.Guards.{GuardsState}
+use Rattle.store_model.specs.Guarding.{AreGenerations}
 use Rattle.store_model.specs.Rows.{Row, Idle, Ended}
 use Rattle.store_core.specs.declared.loaded.Loaded.{Loaded}
 use Rattle.store_core.specs.declared.starting.AtStart.{AtStart}
@@ -16,6 +19,11 @@ use Rattle.store_core.specs.StoreView.{StoreView, rows_of}
 -- each blob's attributes are live as they are synced
 abbrev pub IsLiveAtStart : map.FinMap nat_cmp Meta → map.FinMap nat_cmp Xattrs → Type 0
 IsLiveAtStart metas live = (head : ℕ) → map.get live head ≡ option_map (λ m. m.xattrs) (map.get metas head)
+
+-- each blob has a generation of its own, and none is frozen
+pub record AreGuardsAtStart (metas : map.FinMap nat_cmp Meta) (guards : GuardsState) : Type 0 where
+  pub generations : AreGenerations (map.get metas) (map.get guards.generations) guards.drawn
+  pub none_frozen : (head : ℕ) → set.contains guards.frozen head ≡ false
 
 -- the row of a channel of the script, or of a number past its channels
 abbrev pub row_at_start : List (List Command) → ℕ → ℕ → Row
@@ -29,9 +37,10 @@ pub record AreRows (script : List (List Command)) (rows : List Row) : Type 0 whe
   pub each : (channel : ℕ) → channel < 16 → rows_of rows channel ≡ row_at_start script channels channel
   pub above : (channel : ℕ) → nat_lt channel channels ≡ false → slice_index_or script channel [] ≡ []
 
--- the state of a store that was loaded so, with these live attributes and rows, of which nothing is posted or logged
-abbrev pub opened_with : {D : Type 0} → Ghosts D → Loaded D → map.FinMap nat_cmp Xattrs → List Row → StoreView D
-opened_with d loaded live rows = record {
+-- the state of a store that was loaded so, with these live attributes, guards and rows, of which nothing is posted or
+-- logged
+abbrev pub opened_with : {D : Type 0} → Ghosts D → Loaded D → map.FinMap nat_cmp Xattrs → GuardsState → List Row → StoreView D
+opened_with d loaded live guards rows = record {
   disk = loaded.disk;
   super = loaded.sup;
   metas = loaded.metas;
@@ -41,6 +50,7 @@ opened_with d loaded live rows = record {
   clusters = loaded.masks.clusters;
   rows = rows;
   job = None;
+  guards = guards;
   serial = 0;
   log = [];
   marks = d.clock loaded.disk ∷ [];
@@ -50,12 +60,14 @@ opened_with d loaded live rows = record {
 -- A store as it was loaded, with a script of which nothing is posted.
 pub record IsOpened {D : Type 0} (d : Ghosts D) (loaded : Loaded D) (script : List (List Command)) (p : StoreView D) : Type 0 where
   pub live : IsLiveAtStart loaded.metas p.live
+  pub guards : AreGuardsAtStart loaded.metas p.guards
   pub rows : AreRows script p.rows
-  pub at : p ≡ opened_with d loaded p.live p.rows
+  pub at : p ≡ opened_with d loaded p.live p.guards p.rows
 
 -- What a start takes memory for: the log has room for every command, and one mark more.
 pub record IsAtStart (metas : map.FinMap nat_cmp Meta) (script : List (List Command)) (clock : ℕ) (b : AtStart) : Type 0 where
   pub live : IsLiveAtStart metas b.live
+  pub guards : AreGuardsAtStart metas b.guards
   pub rows : AreRows script b.rows.items
   pub log : b.entries.items ≡ []
   pub marks : b.marks.items ≡ clock ∷ []

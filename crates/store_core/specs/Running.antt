@@ -22,6 +22,7 @@ view_of running = record {
   clusters = running.clusters.bits;
   rows = running.rows.items;
   job = option_map job_seen running.job;
+  guards = running.guards;
   serial = running.serial;
   log = running.entries.items;
   marks = running.marks.items;

@@ -3,7 +3,7 @@
 ghost use Rattle.std.specs.Prelude.{◌≡◌, ◌+◌, ◌<◌, ◌≤◌, ◌^◌, ℕ, List, None, IfOk, IfSome};
 ghost use Rattle.std.specs.FinMap as map;
 ghost use Rattle.volume_model.specs.declared.command.Command.{Command as ACommand};
-ghost use Rattle.store_core.specs.Opening.{AreRows, IsAtStart, IsLiveAtStart, opened_with};
+ghost use Rattle.store_core.specs.Opening.{AreGuardsAtStart, AreRows, IsAtStart, IsLiveAtStart, opened_with};
 ghost use Rattle.store_core.specs.Running.{view_of, AreHeads, InOrder, left_in};
 
 use crate::loaded::Loaded;
@@ -65,7 +65,7 @@ pub(crate) fn running_at_start<D: PageDisk>(
     requires parts { (script : List (List ACommand)) × IsAtStart loaded.metas script (D.clock loaded.disk) parts }
     requires inside { loaded.sup.md_start + loaded.sup.md_len ≤ D.pages loaded.disk }
     requires heads { AreHeads loaded.sup.md_len (map.get loaded.metas) loaded.masks.blobs }
-    ensures at { view_of result ≡ opened_with D.PageDisk loaded parts.live parts.rows.items }
+    ensures at { view_of result ≡ opened_with D.PageDisk loaded parts.live parts.guards parts.rows.items }
     ensures order { InOrder D.PageDisk result }
 {
     let Loaded {
@@ -130,7 +130,10 @@ pub(crate) fn live_at_start(
 }
 
 /// The guards of all blobs of a store with so many metadata pages, of which none is frozen.
-pub(crate) fn guards_at_start(alloc: Global, metas: &Metas, md_len: u32) -> Result<Guards, Memory> {
+pub(crate) fn guards_at_start(alloc: Global, metas: &Metas, md_len: u32) -> Result<Guards, Memory>
+    requires { (head : ℕ) → md_len ≤ head → map.get metas.now head ≡ None }
+    ensures { IfOk result (AreGuardsAtStart metas.now) }
+{
     let mut guards = Guards::new(alloc, md_len)?;
     for head in 0..md_len {
         if metas.get(head).is_some() {

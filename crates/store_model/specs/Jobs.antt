@@ -1,6 +1,6 @@
 -- What a command asks a job to do, and what is known of a job while it runs.
-use Rattle.std.specs.Prelude.{◌≡◌, ◌⊎◌, ℕ, ◌+◌, ◌*◌, ◌<◌, ◌≤◌, if◌then◌else◌, Bool, true, false, List, [], ◌∷◌, ◌++◌, length, map, Option, Some, None}
-use Rattle.std.specs.List.{flat_map, range_with_len}
+use Rattle.std.specs.Prelude.{◌≡◌, ◌⊎◌, ℕ, ◌+◌, ◌*◌, ◌<◌, ◌≤◌, if◌then◌else◌, Bool, true, false, List, [], ◌∷◌, ◌++◌, length, map, Option, Some, None, IsSome}
+use Rattle.std.specs.List.{AllByRecursion, flat_map, range_with_len}
 use Rattle.std.specs.Option.{option_map}
 use Rattle.page_disk.specs.Disk.{Image}
 use Rattle.pools.specs.Pool.{clear_in}
@@ -58,14 +58,14 @@ pub record AsksFor (p : StoreState) (command : Command) (head : ℕ) (new : Meta
   pub step : change (fixed_of p.super) (shown p) command r.Ok head ≡ Some after
   pub new_is : new ≡ record old { xattrs = after.synced }
 
--- The changes that a command asks for, and what their commit makes: a verb that syncs has one replacement, with which the blob's
--- attributes are read as they are synced.
+-- The changes that a command asks for, and what their commit makes: a verb that syncs has one replacement, with which
+-- the blob's attributes are read as they are synced, and renews no generation.
 pub record IsJobFor (p : StoreState) (command : Command) (changes : Changes) (commit : Committing) : Type 0 where
   pub head : ℕ
   pub new : Meta
   pub is : changes ≡ job_of_one head new
   pub asks : AsksFor p command head new
-  pub commit_is : commit ≡ record { reply = r.Ok; live = Some new.xattrs }
+  pub commit_is : commit ≡ record { reply = r.Ok; live = Some new.xattrs; renews = [] }
 
 -- ---- how it is laid on pages
 
@@ -186,7 +186,8 @@ Keeps s base live (Replaces r commit ∷ rest) =
     × Keeps s (replaced base r) live rest
 Keeps s base live (_ ∷ rest) = Keeps s base live rest
 
--- On whatever device, the command may be done with this reply, and may fail; then the metadata shows its step.
+-- On whatever device, the command may be done with this reply, and may fail; then the metadata shows its step, and has
+-- the blobs whose generations are renewed.
 pub record IsStep (s : Super) (base : Metas) (replacing : Replacing) (live : Map Xattrs) (command : Command) (commit : Committing) : Type 0 where
   pub done : IsChangeDone commit.reply
   pub allowed : (image : Image) → Allowed (fixed_of s) (shown_of s base live image) command commit.reply
@@ -198,6 +199,7 @@ pub record IsStep (s : Super) (base : Metas) (replacing : Replacing) (live : Map
       → live_of (change (fixed_of s) (shown_of s base live image) command commit.reply) ≡ with_live live replacing.head commit.live
   pub writable : (image : Image) (head : ℕ) (v : Volume)
       → change (fixed_of s) (shown_of s base live image) command commit.reply head ≡ Some v → CanBeWritten v.live
+  pub renews : AllByRecursion (λ head. IsSome (replaced base replacing head)) commit.renews
 
 -- The volumes are shown as they are up to the commit, and from it on as the command's step makes them.
 abbrev pub Does : Super → Metas → Map Xattrs → Command → List Phase → Type 0

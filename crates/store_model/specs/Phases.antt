@@ -22,10 +22,12 @@ pub record Replacing : Type 0 where
   pub old : List ℕ
   pub freed : List ℕ
 
--- What a commit makes: the reply that is logged with it, and the blob's attributes as they are read from then on, if they are others.
+-- What a commit makes: the reply that is logged with it, the blob's attributes as they are read from then on, if they
+-- are others, and the blobs whose generations it renews.
 pub record Committing : Type 0 where
   pub reply : Reply
   pub live : Option Xattrs
+  pub renews : List ℕ
 
 -- One turn of a job. The super block says that the store is in use; a page of a claimed cluster is overwritten with zeros; a page of
 -- the next chain goes to its fresh place; a head's page is replaced, which may be the job's commit;

@@ -21,6 +21,7 @@ use Rattle.store_model.specs.Rows.{Copying, entries_of, InJob, OpenClaim, Posted
 use Rattle.store_model.specs.StoreState.{ForCommand, JobState, StoreState, shown, waiting}
 use Rattle.store_model.specs.Phases.{has_commit}
 use Rattle.store_model.specs.Places.{AreDistinct, ClaimsDiffer, HasClaim, held_by, UsedPages, UsedClusters}
+use Rattle.store_model.specs.Guarding.{AreClaimsDrawn, AreGenerations, IsGuarded}
 use Rattle.store_model.specs.Jobs.{JobStands}
 
 -- Each blob has a chain, which begins with its head; no place stands in two chains, or twice in one; each is of the region.
@@ -73,6 +74,8 @@ pub record RunsWell (first : Volumes) (p : StoreState) : Type 0 where
   pub clusters : UsedClusters p.super p.clusters p.base (HasClaim p.rows p.job)
   pub claims : ClaimsDiffer p.rows p.job
   pub job : (job : JobState) → p.job ≡ Some job → JobStands p job
+  pub generations : AreGenerations p.base p.generations p.drawn
+  pub claims_drawn : AreClaimsDrawn p.rows p.drawn
   pub replayed : shown p ≡ replay (fixed_of p.super) first p.log
 
 pub record RunInvariant (s : Super) (first : Volumes) (script : ℕ → List Command) (p : StoreState) : Type 0 where
@@ -83,6 +86,7 @@ pub record RunInvariant (s : Super) (first : Volumes) (script : ℕ → List Com
   pub well : p.stopped ≡ None → RunsWell first p
   pub way : (channel : ℕ) → OnItsWay p script channel
   pub shaped : IsShaped p
+  pub guarded : IsGuarded p
   -- one mark for the loading and one for each entry, none of the future
   pub counted : length p.marks ≡ length p.log + 1
   pub past : All (λ t. t ≤ p.device.clock) p.marks

@@ -17,13 +17,15 @@ use Rattle.store_model.specs.Regions.{region_of, MdRegion}
 use Rattle.store_model.specs.Scans.{is_head, MetaAt, Says, Scanned}
 use Rattle.store_model.specs.Cases.{IsQuiet}
 use Rattle.store_model.specs.StoreState.{Opens, StoreState, shown}
+use Rattle.store_model.specs.Guarding.{AreGenerations}
 use Rattle.store_model.specs.Places.{Unclaimed, UsedClusters, UsedPages}
 use Rattle.store_model.specs.Jobs.{AsksFor}
 use Rattle.store_model.specs.Cases.{Kind, Run, Turn}
 use Rattle.store_model.specs.RunInvariant.{AreRoots, RunInvariant, HaveChains, IsRoot}
 use Rattle.store_model.specs.Recovers.{HasStore, Recovers}
 
--- what a store is loaded with: nothing of a job, and each attribute is live as it is synced
+-- what a store is loaded with: nothing of a job, each attribute live as it is synced, and each blob with a generation of
+-- its own
 pub record IsLoadedWith (s : Super) (p : StoreState) : Type 0 where
   pub super : p.super ≡ s
   pub roots : AreRoots s p.base
@@ -33,6 +35,7 @@ pub record IsLoadedWith (s : Super) (p : StoreState) : Type 0 where
   pub clusters : UsedClusters s p.clusters p.base Unclaimed
   pub live : (head : ℕ) (m : Meta) → p.base head ≡ Some m → p.live head ≡ Some m.xattrs
   pub no_live : (head : ℕ) → p.base head ≡ None → p.live head ≡ None
+  pub generations : AreGenerations p.base p.generations p.drawn
 
 -- the two images are the same behind the fixed clusters
 abbrev pub IsSameBehind : Super → Image → Image → Type 0

@@ -1,5 +1,5 @@
 -- The state of a running store, as plain data. Contracts compute it from what they see of the program's value.
-use Rattle.std.specs.Prelude.{Some, length, ◌≡◌, ◌⊎◌, ℕ, ◌+◌, ◌%◌, ◌^◌, ◌==◌, if◌then◌else◌, Bool, List, [], ◌∷◌, ◌++◌, Option, None}
+use Rattle.std.specs.Prelude.{Some, length, ◌≡◌, ◌⊎◌, ℕ, ◌+◌, ◌%◌, ◌^◌, ◌==◌, if◌then◌else◌, Bool, false, List, [], ◌∷◌, ◌++◌, Option, None}
 use Rattle.std.specs.Option.{option_map, option_map_or}
 use Rattle.super_block.specs.declared.page.Super.{Super}
 use Rattle.volume_model.specs.Volumes.{Volumes}
@@ -63,7 +63,14 @@ pub record StoreState : Type 0 where
   pub pages : List Bool
   pub clusters : List Bool
   pub rows : Rows
+  -- the channel whose command the metadata thread fills slots for, on a row of its own
+  pub filling : Option ℕ
   pub job : Option JobState
+  -- the blobs that are neither read nor written
+  pub frozen : ℕ → Bool
+  -- the generation of each blob, and the number that was drawn last
+  pub generations : Map ℕ
+  pub drawn : ℕ
   -- the number under which the next command is posted
   pub serial : ℕ
   pub log : List Entry
@@ -103,11 +110,13 @@ logged = logged_to (Decided Answered)
 abbrev pub logged_here : StoreState → ℕ → Command → List Command → Reply → Device → StoreState
 logged_here = logged_to Idle
 
--- how a run begins: nothing is posted, nothing logged, no job runs, and nothing has failed
+-- how a run begins: nothing is posted, nothing logged, no job runs, nothing is frozen, and nothing has failed
 pub record Opens (p : StoreState) : Type 0 where
   pub waits : (channel : ℕ) → ((p.rows channel).stage ≡ Idle) ⊎ (p.rows channel ≡ record { left = []; stage = Ended; claim = None })
   pub unclaimed : (channel : ℕ) → (p.rows channel).claim ≡ None
   pub log : p.log ≡ []
   pub marks : p.marks ≡ p.device.clock ∷ []
+  pub filling : p.filling ≡ None
   pub job : p.job ≡ None
+  pub frozen : (head : ℕ) → p.frozen head ≡ false
   pub stopped : p.stopped ≡ None

@@ -15,6 +15,7 @@ use Rattle.store_model.proofs.JobKept.{no_other, none_here}
 use Rattle.store_model.proofs.StateKept.{log_kept, LogKept, runs_here}
 use Rattle.store_model.proofs.RowsKept.{way_kept}
 use Rattle.store_model.specs.Phases.{Phase}
+use Rattle.store_model.proofs.Guarding.{none_guarded}
 
 -- ---- it keeps what every state has
 
@@ -38,6 +39,7 @@ module _ (known : Known) (j : JobState) (is : known.p.job ≡ Some j) (at : ℕ)
         way = kept.way;
         shaped = shaped_with p facts.shaped now t.channel _ refl (no_other known j is t.channel (waits_for_commit j t.channel t.serves t.waits) now) (decided_may now t.channel t.rest)
             (λ job c bad serves waits. absurd (cc bad));
+        guarded = none_guarded now (facts.guarded.stopped at stands);
         counted = kept.counted;
         past = kept.past;
         halted = λ n halts.
@@ -59,6 +61,7 @@ module _ (known : Known) (j : JobState) (is : known.p.job ≡ Some j) (at : ℕ)
         well = λ runs. absurd (runs_here known at runs stands);
         way = way_kept script p facts.way now refl (λ c. refl);
         shaped = shaped_same p now facts.shaped refl (none_here known j is t.waits now) (λ job c bad serves waits. absurd (cc bad));
+        guarded = none_guarded now (facts.guarded.stopped at stands);
         counted = facts.counted;
         past = facts.past;
         halted = facts.halted;

@@ -22,7 +22,8 @@ pub record WasLogged (p : StoreState) (j : JobState) (q : StoreState) : Type 0 w
   pub waits : waiting j.serves j.todo ≡ None
   pub next : q ≡ record p { job = None }
 
--- A turn of the job on a stopped store: no device call, and no job runs any more.
+-- A turn of the job on a stopped store: no device call, and no job runs any more. Nothing has been frozen since the
+-- store stopped.
 pub record BreaksDown (p q : StoreState) : Type 0 where
   pub job : JobState
   pub is : p.job ≡ Some job

@@ -3,4 +3,4 @@ use Rattle.store_core.proofs.starting.guards_at_start.Given as goal
 
 -- the guards so far
 abbrev pub invariant-loop-head : goal.invariant-loop-head
-invariant-loop-head l = GuardsBelow l.guards l.md_len l.head
+invariant-loop-head l = GuardsBelow l.metas l.guards l.md_len l.head

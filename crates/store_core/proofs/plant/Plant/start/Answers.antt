@@ -16,12 +16,13 @@ invariant_of-result g c =
     let d = g.D.PageDisk in
     let running : Running g.row.D.Denot = c.running_at_start-running.result in
     let live = c.in-Ok.parts.live in
+    let guards = c.in-Ok.parts.guards in
     let rows = c.in-Ok.parts.rows.items in
-    let opened : StoreView g.row.D.Denot = opened_with d c.args.loaded live rows in
+    let opened : StoreView g.row.D.Denot = opened_with d c.args.loaded live guards rows in
     let at : view_of running ≡ opened = c.running_at_start-running.ensures.at in
     let right = c.of-right.result.value.name in
     let kept : StoreInvariant d (record { at = opened; opening = opened; right = right }) =
-    c.begins.ensures opened (is_loaded_with d c.args.loaded live rows c.requires.whole c.in-Ok.ensures.live)
-    (it_opens d c.args.loaded live rows c.args.script c.in-Ok.ensures.rows) (c.regions_are_placed.ensures c.args.loaded.sup c.requires.faultless) c.requires.holds right in
+    c.begins.ensures opened (is_loaded_with d c.args.loaded live guards rows c.in-Ok.ensures.guards c.requires.whole c.in-Ok.ensures.live)
+    (it_opens d c.args.loaded live guards rows c.in-Ok.ensures.guards c.args.script c.in-Ok.ensures.rows) (c.regions_are_placed.ensures c.args.loaded.sup c.requires.faultless) c.requires.holds right in
     let kept_at : StoreInvariant d (with_opening running running right) = subst (λ (p : StoreView g.row.D.Denot). StoreInvariant d (record { at = p; opening = p; right = right })) (sym at) kept in
     (subst (λ (o : Running g.row.D.Denot). StoreInvariant d (with_opening running o right)) (sym c.of-opening.ensures) kept_at, c.running_at_start-running.ensures.order)

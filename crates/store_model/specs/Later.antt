@@ -1,0 +1,41 @@
+-- Turns that no call makes yet, by kinds: their cases alone.
+pub mod ClaimTurns
+pub mod CopyTurns
+pub mod InsertTurns
+pub mod FillTurns
+pub mod JobPhaseTurns
+use Rattle.std.specs.Prelude.{Bool}
+use Rattle.store_model.specs.StoreState.{StoreState}
+use Rattle.store_model.specs.Later.ClaimTurns.{Claims, FindsEmpty, FindsFilled, RefusesClaim}
+use Rattle.store_model.specs.Later.CopyTurns.{Copies, CopyFails, CopyNotRead, LosesCopy}
+use Rattle.store_model.specs.Later.InsertTurns.{BeginsInsert, InsertEnds, Inserts, LacksForInsert, LosesInsert, Sends}
+use Rattle.store_model.specs.Later.FillTurns.{ClaimsFill, EndsFill, LacksForFill}
+use Rattle.store_model.specs.Later.JobPhaseTurns.{BeginsRepair, CommitsMore, MarksDirty, ReplacesMore, Zeroes}
+
+pub data LaterKind : Type 0 where
+  finds_empty finds_filled claims refuses_claim copies loses_copy copy_not_read copy_fails sends begins_insert loses_insert lacks_for_insert inserts insert_ends claims_fill lacks_for_fill ends_fill marks_dirty zeroes replaces_more commits_more begins_repair : LaterKind
+
+module _ (told : Bool) where
+  abbrev pub LaterTurn : StoreState → LaterKind → StoreState → Type 0
+  LaterTurn p finds_empty q = FindsEmpty p q
+  LaterTurn p finds_filled q = FindsFilled p q
+  LaterTurn p claims q = Claims p q
+  LaterTurn p refuses_claim q = RefusesClaim p q
+  LaterTurn p copies q = Copies told p q
+  LaterTurn p loses_copy q = LosesCopy p q
+  LaterTurn p copy_not_read q = CopyNotRead p q
+  LaterTurn p copy_fails q = CopyFails p q
+  LaterTurn p sends q = Sends p q
+  LaterTurn p begins_insert q = BeginsInsert p q
+  LaterTurn p loses_insert q = LosesInsert p q
+  LaterTurn p lacks_for_insert q = LacksForInsert p q
+  LaterTurn p inserts q = Inserts told p q
+  LaterTurn p insert_ends q = InsertEnds told p q
+  LaterTurn p claims_fill q = ClaimsFill p q
+  LaterTurn p lacks_for_fill q = LacksForFill p q
+  LaterTurn p ends_fill q = EndsFill p q
+  LaterTurn p marks_dirty q = MarksDirty told p q
+  LaterTurn p zeroes q = Zeroes told p q
+  LaterTurn p replaces_more q = ReplacesMore told p q
+  LaterTurn p commits_more q = CommitsMore told p q
+  LaterTurn p begins_repair q = BeginsRepair p q

@@ -1,0 +1,104 @@
+-- The turns by which a claimed cluster gets the slot's whole old content, of a channel's row and of the fill's.
+use Rattle.std.specs.Prelude.{◌≡◌, ◌≢◌, ◌⊎◌, ℕ, zero, suc, ◌+◌, ◌-◌, ◌*◌, ◌≤◌, List, [], ◌∷◌, length, Option, None, Some, Bool, false, slice_set}
+use Rattle.page_disk.specs.Disk.{Rose, RoseByOne}
+use Rattle.super_block.specs.Numbers.{cluster_pages_of}
+use Rattle.volume_model.specs.Volumes.{Page}
+use Rattle.volume_model.specs.declared.command.Command.{Command}
+use Rattle.volume_model.specs.declared.reply.Reply.{Reply}
+use Rattle.volume_model.specs.declared.reply.Reply.TheVariants as r
+use Rattle.blob_meta.specs.Resolving.{resolved}
+use Rattle.store_model.specs.Device.{Device}
+use Rattle.store_model.specs.Shown.{content}
+use Rattle.store_model.specs.Rows.{Copying, Idle, OpenClaim, Ready, Stage, with_row}
+use Rattle.store_model.specs.StoreState.{logged, logged_here, StoreState}
+use Rattle.store_model.specs.Turning.{FailsToReplace, read_after}
+
+-- a row that copies its claim's cluster, or has copied it
+pub record IsCopying (p : StoreState) (stage : Stage) : Type 0 where
+  pub row : ℕ
+  pub left : List Command
+  pub claim : OpenClaim
+  pub is : p.rows row ≡ record { left = left; stage = stage; claim = Some claim }
+
+-- the blob of the claim is there, and was neither emptied nor copied since
+abbrev pub IsUpToDate : StoreState → OpenClaim → Type 0
+IsUpToDate p claim = p.generations claim.head ≡ Some claim.generation
+
+-- the row goes on without its claim, whose cluster is clear
+abbrev pub given_back : StoreState → {stage : Stage} → {p : StoreState} → IsCopying p stage → Stage → StoreState
+given_back q x stage = record q {
+  rows = with_row q.rows x.row (record { left = x.left; stage = stage; claim = None });
+  clusters = slice_set q.clusters x.claim.cluster false;
+}
+
+-- the number of the fill's row
+abbrev pub fill_row : ℕ
+fill_row = 16
+
+-- The command that a row works for is logged: a channel's own, which goes on with its next; or that of the fill, whose channel is to
+-- be told.
+pub data LogsFor (p : StoreState) (row : ℕ) (reply : Reply) (device : Device) (q : StoreState) : Type 0 where
+  own : (command : Command) (rest : List Command) → (p.rows row).left ≡ command ∷ rest → q ≡ logged_here p row command rest reply device → LogsFor p row reply device q
+  fill : (channel : ℕ) (command : Command) (rest : List Command) → row ≡ fill_row → p.filling ≡ Some channel → (p.rows channel).left ≡ command ∷ rest
+      → q ≡ logged (record p { filling = None }) channel command rest reply device → LogsFor p row reply device q
+
+-- a page of the device, by its place in the claimed cluster
+abbrev pub page_of_claim : StoreState → OpenClaim → ℕ → ℕ
+page_of_claim p claim page = claim.cluster * cluster_pages_of p.super + page
+
+-- what the slot shows there
+abbrev pub shown_in_slot : StoreState → OpenClaim → ℕ → Page
+shown_in_slot p claim page =
+    content (cluster_pages_of p.super) p.device.reads (resolved p.base) (suc p.super.md_len) claim.head (claim.slot * cluster_pages_of p.super + page)
+
+abbrev pub stage_left : ℕ → Stage
+stage_left zero = Ready
+stage_left (suc n) = Copying (suc n)
+
+-- The next page of the slot's content is written to the claimed cluster: one read at most, and one write.
+pub record Copies (told : Bool) (p q : StoreState) : Type 0 where
+  pub left : ℕ
+  pub copying : IsCopying p (Copying (suc left))
+  pub runs : p.stopped ≡ None
+  pub current : IsUpToDate p copying.claim
+  pub page : ℕ
+  pub is_next : page + suc left ≡ cluster_pages_of p.super
+  pub device : Device
+  pub reads : device.reads ≡ read_after told p.device.reads (page_of_claim p copying.claim page) (shown_in_slot p copying.claim page)
+  pub clock : p.device.clock + 1 ≤ device.clock
+  pub read_calls : (device.read_calls ≡ p.device.read_calls) ⊎ RoseByOne p.device.read_calls device.read_calls
+  pub read_faults : device.read_faults ≡ p.device.read_faults
+  pub write_faults : device.write_faults ≡ p.device.write_faults
+  pub next : q ≡ record p {
+    rows = with_row p.rows copying.row (record { left = copying.left; stage = stage_left left; claim = Some copying.claim });
+    device = device;
+  }
+
+-- The blob is gone, or its generation is another: the claim is lost, and the write begins again.
+pub record LosesCopy (p q : StoreState) : Type 0 where
+  pub left : ℕ
+  pub copying : IsCopying p (Copying (suc left))
+  pub runs : p.stopped ≡ None
+  pub late : p.generations copying.claim.head ≢ Some copying.claim.generation
+  pub next : q ≡ given_back p copying Idle
+
+-- The page that is to be copied can't be read: the command is logged as that, and the claim given back.
+pub record CopyNotRead (p q : StoreState) : Type 0 where
+  pub left : ℕ
+  pub copying : IsCopying p (Copying (suc left))
+  pub runs : p.stopped ≡ None
+  pub device : Device
+  pub reads : device.reads ≡ p.device.reads
+  pub clock : device.clock ≡ p.device.clock
+  pub read_faults : Rose p.device.read_faults device.read_faults
+  pub write_faults : device.write_faults ≡ p.device.write_faults
+  pub logs : LogsFor (given_back p copying Idle) copying.row r.ReadFault device q
+
+-- A write of a copy, or the flush behind all, failed: the store stops, the command is logged as failed, and the claim given back.
+pub record CopyFails (p q : StoreState) : Type 0 where
+  pub stage : Stage
+  pub copying : IsCopying p stage
+  pub runs : p.stopped ≡ None
+  pub device : Device
+  pub fails : FailsToReplace p.device device
+  pub logs : LogsFor (record (given_back p copying Idle) { stopped = Some (length p.log); frozen = λ head. false }) copying.row r.Fault device q

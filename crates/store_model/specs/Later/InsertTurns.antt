@@ -1,0 +1,109 @@
+-- The turns by which a copied cluster is inserted into its slot.
+use Rattle.std.specs.Prelude.{◌≡◌, ◌≢◌, ◌⊎◌, ℕ, ◌<◌, ◌≤◌, List, [], ◌∷◌, ◌++◌, length, Option, None, Some, Bool, true, false}
+use Rattle.blob_meta.specs.declared.meta.Meta.{Meta}
+use Rattle.blob_meta.specs.declared.job.Replacement.{Replacement}
+use Rattle.blob_meta.specs.Parents.{slot}
+use Rattle.store_model.specs.Maps.{with_entry}
+use Rattle.store_model.specs.Device.{Device}
+use Rattle.store_model.specs.Rows.{Decided, InJob, Lost, OpenClaim, Posted, Ready, with_row, Won}
+use Rattle.store_model.specs.Phases.{Frees as Frees_, page_in, Phase, phases_of, Replaces, Replacing, taken_by}
+use Rattle.store_model.specs.Places.{all_set}
+use Rattle.store_model.specs.Jobs.{IsLaid, LacksPages}
+use Rattle.store_model.specs.Inserting.{with_slot}
+use Rattle.store_model.specs.StoreState.{ForInsert, going_on, next_serial, StoreState}
+use Rattle.store_model.specs.Turning.{page_of_place, Runs, WritesOnePage}
+use Rattle.store_model.specs.Cases.Flush.{IsFlushed}
+use Rattle.volume_model.specs.Volumes.{zero_page}
+use Rattle.volume_model.specs.declared.reply.Reply.TheVariants as r
+use Rattle.store_model.specs.Later.CopyTurns.{given_back, IsCopying, IsUpToDate, LogsFor}
+
+-- All pages are copied: a flush makes them lasting, and the insert is posted under the next serial.
+pub record Sends (p q : StoreState) : Type 0 where
+  pub copying : IsCopying p Ready
+  pub runs : p.stopped ≡ None
+  pub device : Device
+  pub flushed : IsFlushed p.device device
+  pub next : q ≡ record p {
+    rows = with_row p.rows copying.row (record { left = copying.left; stage = Posted p.serial; claim = Some copying.claim });
+    serial = next_serial p.serial;
+    device = device;
+  }
+
+-- the claim can be inserted: its blob's generation is the same, and the slot is there and empty
+pub record CanInsert (p : StoreState) (claim : OpenClaim) (meta : Meta) : Type 0 where
+  pub there : p.base claim.head ≡ Some meta
+  pub current : IsUpToDate p claim
+  pub within : claim.slot < length meta.map
+  pub empty : slot meta claim.slot ≡ None
+
+-- The job of one replacement begins that puts the cluster into the slot.
+pub record BeginsInsert (p q : StoreState) : Type 0 where
+  pub serial : ℕ
+  pub posted : IsCopying p (Posted serial)
+  pub runs : p.stopped ≡ None
+  pub no_job : p.job ≡ None
+  pub meta : Meta
+  pub can : CanInsert p posted.claim meta
+  pub replacing : Replacing
+  pub laid : IsLaid p.super p.base p.chains p.pages (posted.claim.cluster ∷ [])
+      (record { head = posted.claim.head; new = Some (with_slot meta posted.claim.slot posted.claim.cluster) }) replacing
+  pub next : q ≡ record p {
+    rows = with_row p.rows posted.row (record { left = posted.left; stage = InJob; claim = Some posted.claim });
+    job = Some (record { serves = ForInsert posted.row; freeze = None; claimed = []; written = []; todo = phases_of replacing None [] });
+    pages = all_set p.pages (taken_by replacing) true;
+  }
+
+-- The blob is gone, the slot out of range or filled, or the generation another: the row is decided, and its cluster is clear.
+pub record LosesInsert (p q : StoreState) : Type 0 where
+  pub serial : ℕ
+  pub posted : IsCopying p (Posted serial)
+  pub runs : p.stopped ≡ None
+  pub no_job : p.job ≡ None
+  pub cannot : (meta : Meta) → CanInsert p posted.claim meta → ⊥
+  pub next : q ≡ given_back p posted (Decided Lost)
+
+-- Fewer pages are clear than the insert needs: its command is logged as that, and the claim given back.
+pub record LacksForInsert (p q : StoreState) : Type 0 where
+  pub serial : ℕ
+  pub posted : IsCopying p (Posted serial)
+  pub runs : p.stopped ≡ None
+  pub no_job : p.job ≡ None
+  pub meta : Meta
+  pub can : CanInsert p posted.claim meta
+  pub lacks : LacksPages (with_slot meta posted.claim.slot posted.claim.cluster) p.pages
+  pub logs : LogsFor (given_back p posted (Decided Lost)) posted.row r.NoPage p.device q
+
+-- The head's page is replaced: the cluster stands in the slot, the row's claim has ended, and nothing is logged.
+pub record Inserts (told : Bool) (p q : StoreState) : Type 0 where
+  pub replacing : Replacing
+  pub running : Runs p (Replaces replacing None)
+  pub row : ℕ
+  pub serves : running.job.serves ≡ ForInsert row
+  pub new : Meta
+  pub new_is : replacing.new ≡ Some new
+  pub device : Device
+  pub moves : WritesOnePage told p.device (page_of_place p replacing.head) (page_in replacing.planned replacing.head) 3 device
+  pub next : q ≡ record p {
+    base = with_entry p.base replacing.head new;
+    chains = with_entry p.chains replacing.head (replacing.head ∷ replacing.fresh);
+    rows = with_row p.rows row (record { left = (p.rows row).left; stage = InJob; claim = None });
+    job = going_on running.job [] running.rest;
+    device = device;
+  }
+
+-- With the last turn of its job the row is decided as won.
+pub record InsertEnds (told : Bool) (p q : StoreState) : Type 0 where
+  pub place : ℕ
+  pub old : List ℕ
+  pub running : Runs p (Frees_ place old)
+  pub last : running.rest ≡ []
+  pub row : ℕ
+  pub serves : running.job.serves ≡ ForInsert row
+  pub device : Device
+  pub moves : WritesOnePage told p.device (page_of_place p place) zero_page 2 device
+  pub next : q ≡ record p {
+    rows = with_row p.rows row (record { left = (p.rows row).left; stage = Decided Won; claim = None });
+    job = None;
+    pages = all_set p.pages old false;
+    device = device;
+  }
