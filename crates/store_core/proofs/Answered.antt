@@ -36,9 +36,11 @@ use Rattle.store_core.specs.Answering.{ComesTo, DoesVerb}
 
 module _ (first : Volumes) (p : StoreState) (well : RunsWell first p) where
   abbrev by_live : ℕ → Xattrs → Option Meta → Option Volume
-  by_live h xs o = option_map (λ m. volume_of (fixed_of p.super).cluster_pages p.device.reads p.base p.super.md_len xs h m) o
+  by_live h xs o =
+      option_map (λ m. volume_of (fixed_of p.super).cluster_pages p.device.reads p.base p.super.md_len xs h m) o
 
-  live_at : (h : ℕ) (o : Option Meta) → p.base h ≡ o → option_map (λ (x : Volume). x.live) (by_live h (or_empty (p.live h)) o) ≡ p.live h
+  live_at : (h : ℕ) (o : Option Meta) → p.base h ≡ o
+      → option_map (λ (x : Volume). x.live) (by_live h (or_empty (p.live h)) o) ≡ p.live h
   live_at h None is = sym (well.no_live h is)
   live_at h (Some m) is = let l = well.live h m is in ap (λ xs. Some (or_empty xs)) l.1 ∙ sym l.1
 
@@ -46,16 +48,22 @@ module _ (first : Volumes) (p : StoreState) (well : RunsWell first p) where
   pub live_same : live_of (shown p) ≡ p.live
   live_same = fun_ext (λ h. live_at h (p.base h) refl)
 
-  read_only_at : (h : ℕ) (o : Option Meta) → option_map (λ (x : Volume). x.read_only) (by_live h (or_empty (p.live h)) o) ≡ option_map (λ (m : Meta). is_read_only m.flags) o
+  read_only_at : (h : ℕ) (o : Option Meta) → option_map (λ (x : Volume). x.read_only)
+      (by_live h (or_empty (p.live h)) o) ≡ option_map (λ (m : Meta). is_read_only m.flags) o
   read_only_at h None = refl
   read_only_at h (Some m) = refl
 
   -- they show the blob that a command names
-  pub shows_blob : (metas : map.FinMap nat_cmp Meta) (command : Command) (head : ℕ) → p.base ≡ map.get metas → asked_head command ≡ Some head → ShowsBlob metas (p.live head) command (shown p)
+  pub shows_blob : (metas : map.FinMap nat_cmp Meta) (command : Command) (head : ℕ) → p.base ≡ map.get metas
+      → asked_head command ≡ Some head → ShowsBlob metas (p.live head) command (shown p)
   shows_blob metas command head base named = record {
-    live_is = ap (λ o. option_map (λ (x : Volume). x.live) (option_and_then (shown p) o)) named ∙ live_at head (p.base head) refl;
-    read_only_is = ap (λ o. option_map (λ (x : Volume). x.read_only) (option_and_then (shown p) o)) named ∙ read_only_at head (p.base head) ∙ ap (λ (m : Map Meta). option_map (λ (x : Meta). is_read_only x.flags) (m head)) base
-        ∙ ap (λ o. option_map (λ (m : Meta). is_read_only m.flags) (option_and_then (λ h. map.get metas h) o)) (sym named);
+    live_is = ap (λ o. option_map (λ (x : Volume). x.live) (option_and_then (shown p) o)) named
+        ∙ live_at head (p.base head) refl;
+    read_only_is = ap (λ o. option_map (λ (x : Volume). x.read_only) (option_and_then (shown p) o)) named
+        ∙ read_only_at head (p.base head)
+        ∙ ap (λ (m : Map Meta). option_map (λ (x : Meta). is_read_only x.flags) (m head)) base
+        ∙ ap (λ o. option_map (λ (m : Meta). is_read_only m.flags) (option_and_then (λ h. map.get metas h) o))
+        (sym named);
   }
 
 -- ---- what an effect is
@@ -64,13 +72,15 @@ abbrev pub live_after : Map Xattrs → Option NewLive → Map Xattrs
 live_after live None = live
 live_after live (Some new) = with_entry live new.head new.xattrs
 
-pub record Answered (f : Fixed) (v : Volumes) (live : Map Xattrs) (command : Command) (reply : Reply) (new : Option NewLive) : Type 0 where
+pub record Answered (f : Fixed) (v : Volumes) (live : Map Xattrs) (command : Command) (reply : Reply)
+    (new : Option NewLive) : Type 0 where
   pub allowed : Allowed f v command reply
   pub quiet : IsQuiet reply
   pub live_is : live_after live new ≡ live_of (change f v command reply)
 
 module _ (f : Fixed) (v : Volumes) where
-  refused_allowed : (command : Command) (reply : Reply) → IsAttributeCause reply → refusal f v command ≡ Some reply → Allowed f v command reply × IsQuiet reply
+  refused_allowed : (command : Command) (reply : Reply) → IsAttributeCause reply → refusal f v command ≡ Some reply
+      → Allowed f v command reply × IsQuiet reply
   refused_allowed command r.NoVolume cause is = (is, tt)
   refused_allowed command r.Reserved cause is = (is, tt)
   refused_allowed command r.ReadOnly cause is = (is, tt)
@@ -78,7 +88,8 @@ module _ (f : Fixed) (v : Volumes) where
   refused_allowed command r.NoValue cause is = (is, tt)
   refused_allowed command _ cause is = absurd cause
 
-  by_cause : (w : Reply → Volumes) → w r.NoVolume ≡ v → w r.Reserved ≡ v → w r.ReadOnly ≡ v → w r.TooLong ≡ v → w r.NoValue ≡ v → (reply : Reply) → IsAttributeCause reply → w reply ≡ v
+  by_cause : (w : Reply → Volumes) → w r.NoVolume ≡ v → w r.Reserved ≡ v → w r.ReadOnly ≡ v → w r.TooLong ≡ v
+      → w r.NoValue ≡ v → (reply : Reply) → IsAttributeCause reply → w reply ≡ v
   by_cause w a b e g h r.NoVolume cause = a
   by_cause w a b e g h r.Reserved cause = b
   by_cause w a b e g h r.ReadOnly cause = e
@@ -86,15 +97,20 @@ module _ (f : Fixed) (v : Volumes) where
   by_cause w a b e g h r.NoValue cause = h
   by_cause w a b e g h _ cause = absurd cause
 
-  refused_same : (command : Command) (reply : Reply) → IsInMemory command → IsAttributeCause reply → change f v command reply ≡ v
-  refused_same (c.SetX volume key value) reply is cause = by_cause (λ x. change f v (c.SetX volume key value) x) refl refl refl refl refl reply cause
-  refused_same (c.DelX volume key) reply is cause = by_cause (λ x. change f v (c.DelX volume key) x) refl refl refl refl refl reply cause
-  refused_same (c.GetX volume key) reply is cause = by_cause (λ x. change f v (c.GetX volume key) x) refl refl refl refl refl reply cause
+  refused_same : (command : Command) (reply : Reply) → IsInMemory command → IsAttributeCause reply
+      → change f v command reply ≡ v
+  refused_same (c.SetX volume key value) reply is cause =
+      by_cause (λ x. change f v (c.SetX volume key value) x) refl refl refl refl refl reply cause
+  refused_same (c.DelX volume key) reply is cause =
+      by_cause (λ x. change f v (c.DelX volume key) x) refl refl refl refl refl reply cause
+  refused_same (c.GetX volume key) reply is cause =
+      by_cause (λ x. change f v (c.GetX volume key) x) refl refl refl refl refl reply cause
   refused_same _ reply is cause = absurd is
 
   -- a volume at a head
   module _ (live : Map Xattrs) (same : live_of v ≡ live) (head : ℕ) (mine : Xattrs) (is : live head ≡ Some mine) where
-    at_head : (o : Option Volume) → v head ≡ o → option_map (λ (x : Volume). x.live) o ≡ Some mine → (x : Volume) × (v head ≡ Some x) × (x.live ≡ mine)
+    at_head : (o : Option Volume) → v head ≡ o → option_map (λ (x : Volume). x.live) o ≡ Some mine
+        → (x : Volume) × (v head ≡ Some x) × (x.live ≡ mine)
     at_head None there none = absurd (cc none)
     at_head (Some x) there some = (x, there, cc some)
 
@@ -104,51 +120,71 @@ module _ (f : Fixed) (v : Volumes) where
     pub meant : head_of f v (Head head) ≡ Some head
     meant = let there = found.1 in rw there refl
 
-    changed : (new : Xattrs → Xattrs) → with_entry live head (new mine) ≡ live_of (edited_at f v (head_of f v (Head head)) (λ x. record x { live = new x.live }))
+    changed : (new : Xattrs → Xattrs) → with_entry live head (new mine)
+        ≡ live_of (edited_at f v (head_of f v (Head head)) (λ x. record x { live = new x.live }))
     changed new = fun_ext (λ k. elim (cases_eq k head) [
       | inl e ↦
           given_here live head (new mine) k e ∙ ap (λ (xs : Xattrs). Some (new xs)) (sym found.2)
-          ∙ ap (λ o. option_map (λ (x : Volume). x.live) (option_map (λ (x : Volume). record x { live = new x.live }) o)) (sym found.1)
-          ∙ ap (λ o. option_map (λ (x : Volume). x.live) o) (sym (edited_here f v (head_of f v (Head head)) (λ (x : Volume). record x { live = new x.live }) head meant))
+          ∙ ap
+          (λ o. option_map (λ (x : Volume). x.live) (option_map (λ (x : Volume). record x { live = new x.live }) o))
+          (sym found.1)
+          ∙ ap (λ o. option_map (λ (x : Volume). x.live) o) (sym
+          (edited_here f v (head_of f v (Head head)) (λ (x : Volume). record x { live = new x.live }) head meant))
           ∙ ap (λ h. live_of (edited_at f v (head_of f v (Head head)) (λ x. record x { live = new x.live })) h) (sym e)
       | inr ne ↦
           given_elsewhere live head (new mine) k ne ∙ ap (λ (m : Map Xattrs). m k) (sym same)
-          ∙ ap (λ o. option_map (λ (x : Volume). x.live) o) (sym (edited_there f v (head_of f v (Head head)) (λ (x : Volume). record x { live = new x.live }) head meant k ne))
+          ∙ ap (λ o. option_map (λ (x : Volume). x.live) o) (sym (edited_there f v (head_of f v (Head head))
+          (λ (x : Volume). record x { live = new x.live }) head meant k ne))
     ])
 
-    done : (command : Command) (reply : Reply) (new : Option NewLive) → asked_head command ≡ Some head → refusal f v command ≡ None → DoesVerb (Some mine) command reply new → Answered f v live command reply new
+    done : (command : Command) (reply : Reply) (new : Option NewLive) → asked_head command ≡ Some head
+        → refusal f v command ≡ None → DoesVerb (Some mine) command reply new → Answered f v live command reply new
     done (c.SetX (Head h) key value) reply new named none does =
         let e : h ≡ head = cc named in
-        let whole : Answered f v live (c.SetX (Head h) key value) r.Ok (Some (record { head = h; xattrs = with_value mine key value })) =
+        let whole : Answered f v live (c.SetX (Head h) key value) r.Ok
+        (Some (record { head = h; xattrs = with_value mine key value })) =
         record {
           allowed = (none, tt);
           quiet = tt;
-          live_is = subst (λ k. with_entry live k (with_value mine key value) ≡ live_of (edited_at f v (head_of f v (Head k)) (λ x. record x { live = with_value x.live key value }))) (sym e) (changed (λ xs. with_value xs key value));
+          live_is = subst (λ k. with_entry live k (with_value mine key value)
+              ≡ live_of (edited_at f v (head_of f v (Head k)) (λ x. record x { live = with_value x.live key value })))
+              (sym e) (changed (λ xs. with_value xs key value));
         } in
-        subst (λ (x : Reply). Answered f v live (c.SetX (Head h) key value) x new) (sym does.0) (subst (λ (n : Option NewLive). Answered f v live (c.SetX (Head h) key value) r.Ok n) (sym does.1) whole)
+        subst (λ (x : Reply). Answered f v live (c.SetX (Head h) key value) x new) (sym does.0)
+        (subst (λ (n : Option NewLive). Answered f v live (c.SetX (Head h) key value) r.Ok n) (sym does.1) whole)
     done (c.DelX (Head h) key) reply new named none does =
         let e : h ≡ head = cc named in
-        let whole : Answered f v live (c.DelX (Head h) key) r.Ok (Some (record { head = h; xattrs = without mine key })) =
+        let whole : Answered f v live (c.DelX (Head h) key) r.Ok
+        (Some (record { head = h; xattrs = without mine key })) =
         record {
           allowed = (none, tt);
           quiet = tt;
-          live_is = subst (λ k. with_entry live k (without mine key) ≡ live_of (edited_at f v (head_of f v (Head k)) (λ x. record x { live = without x.live key }))) (sym e) (changed (λ xs. without xs key));
+          live_is = subst (λ k. with_entry live k (without mine key)
+              ≡ live_of (edited_at f v (head_of f v (Head k)) (λ x. record x { live = without x.live key }))) (sym e)
+              (changed (λ xs. without xs key));
         } in
-        subst (λ (x : Reply). Answered f v live (c.DelX (Head h) key) x new) (sym does.0) (subst (λ (n : Option NewLive). Answered f v live (c.DelX (Head h) key) r.Ok n) (sym does.1) whole)
+        subst (λ (x : Reply). Answered f v live (c.DelX (Head h) key) x new) (sym does.0)
+        (subst (λ (n : Option NewLive). Answered f v live (c.DelX (Head h) key) r.Ok n) (sym does.1) whole)
     done (c.GetX (Head h) key) reply new named none does =
         let e : h ≡ head = cc named in
         let value = does.1.0 in
         let at : option_and_then (λ (x : Volume). value_of x.live key) (volume_at f v (Head h)) ≡ Some value =
-        ap (λ k. option_and_then (λ (x : Volume). value_of x.live key) (option_and_then v (head_of f v (Head k)))) e ∙ ap (λ o. option_and_then (λ (x : Volume). value_of x.live key) (option_and_then v o)) meant
-        ∙ ap (λ o. option_and_then (λ (x : Volume). value_of x.live key) o) found.1 ∙ ap (λ (xs : Xattrs). value_of xs key) found.2 ∙ does.1.2 in
-        let whole : Answered f v live (c.GetX (Head h) key) (r.Value value) None = record { allowed = (none, at); quiet = tt; live_is = sym same } in
-        subst (λ (x : Reply). Answered f v live (c.GetX (Head h) key) x new) (sym does.1.1) (subst (λ (n : Option NewLive). Answered f v live (c.GetX (Head h) key) (r.Value value) n) (sym does.0) whole)
+        ap (λ k. option_and_then (λ (x : Volume). value_of x.live key) (option_and_then v (head_of f v (Head k)))) e
+        ∙ ap (λ o. option_and_then (λ (x : Volume). value_of x.live key) (option_and_then v o)) meant
+        ∙ ap (λ o. option_and_then (λ (x : Volume). value_of x.live key) o) found.1
+        ∙ ap (λ (xs : Xattrs). value_of xs key) found.2 ∙ does.1.2 in
+        let whole : Answered f v live (c.GetX (Head h) key) (r.Value value) None =
+        record { allowed = (none, at); quiet = tt; live_is = sym same } in
+        subst (λ (x : Reply). Answered f v live (c.GetX (Head h) key) x new) (sym does.1.1) (subst
+        (λ (n : Option NewLive). Answered f v live (c.GetX (Head h) key) (r.Value value) n) (sym does.0) whole)
     done _ reply new named none does = absurd does
 
 -- ---- an effect in the volumes that are shown
 
-pub answered_by : (first : Volumes) (p : StoreState) (metas : map.FinMap nat_cmp Meta) (command : Command) (head : ℕ) (e : Effect) → RunsWell first p → p.base ≡ map.get metas → asked_head command ≡ Some head → IsInMemory command
-    → ComesTo metas (p.live head) command p.super e → Answered (fixed_of p.super) (shown p) p.live command e.reply e.live
+pub answered_by : (first : Volumes) (p : StoreState) (metas : map.FinMap nat_cmp Meta) (command : Command) (head : ℕ)
+    (e : Effect) → RunsWell first p → p.base ≡ map.get metas → asked_head command ≡ Some head → IsInMemory command
+    → ComesTo metas (p.live head) command p.super e
+    → Answered (fixed_of p.super) (shown p) p.live command e.reply e.live
 answered_by first p metas command head e well base named in_memory (inl x) =
     let f = fixed_of p.super in
     let is = x.first f (shown p) refl (shows_blob first p well metas command head base named) in
@@ -156,25 +192,33 @@ answered_by first p metas command head e well base named in_memory (inl x) =
     record {
       allowed = allowed.0;
       quiet = allowed.1;
-      live_is = ap (live_after p.live) x.none ∙ sym (live_same first p well) ∙ ap live_of (sym (refused_same f (shown p) command e.reply in_memory x.cause));
+      live_is = ap (live_after p.live) x.none ∙ sym (live_same first p well)
+          ∙ ap live_of (sym (refused_same f (shown p) command e.reply in_memory x.cause));
     }
 answered_by first p metas command head e well base named in_memory (inr x) = by (p.live head) refl x.does
   where
     none : refusal (fixed_of p.super) (shown p) command ≡ None
     none = x.none (fixed_of p.super) (shown p) refl (shows_blob first p well metas command head base named)
 
-    by : (o : Option Xattrs) → p.live head ≡ o → DoesVerb o command e.reply e.live → Answered (fixed_of p.super) (shown p) p.live command e.reply e.live
+    by : (o : Option Xattrs) → p.live head ≡ o → DoesVerb o command e.reply e.live
+        → Answered (fixed_of p.super) (shown p) p.live command e.reply e.live
     by None is does = absurd does
-    by (Some mine) is does = done (fixed_of p.super) (shown p) p.live (live_same first p well) head mine is command e.reply e.live named none does
+    by (Some mine) is does = done (fixed_of p.super) (shown p) p.live
+        (live_same first p well) head mine is command e.reply e.live named none does
 
 -- want of memory answers a command in memory
-pub answered_memory : (first : Volumes) (p : StoreState) (command : Command) → RunsWell first p → IsInMemory command → Answered (fixed_of p.super) (shown p) p.live command r.Memory None
-answered_memory first p (c.SetX volume key value) well is = record { allowed = tt; quiet = tt; live_is = sym (live_same first p well) }
-answered_memory first p (c.DelX volume key) well is = record { allowed = tt; quiet = tt; live_is = sym (live_same first p well) }
-answered_memory first p (c.GetX volume key) well is = record { allowed = tt; quiet = tt; live_is = sym (live_same first p well) }
+pub answered_memory : (first : Volumes) (p : StoreState) (command : Command) → RunsWell first p → IsInMemory command
+    → Answered (fixed_of p.super) (shown p) p.live command r.Memory None
+answered_memory first p (c.SetX volume key value) well is =
+    record { allowed = tt; quiet = tt; live_is = sym (live_same first p well) }
+answered_memory first p (c.DelX volume key) well is =
+    record { allowed = tt; quiet = tt; live_is = sym (live_same first p well) }
+answered_memory first p (c.GetX volume key) well is =
+    record { allowed = tt; quiet = tt; live_is = sym (live_same first p well) }
 answered_memory first p _ well is = absurd is
 
 -- the map of live attributes, once the new ones are kept
-pub live_kept : (old new : map.FinMap nat_cmp Xattrs) (o : Option NewLive) → (o ≡ None → new ≡ old) → IfSome o (λ n. new ≡ map.insert old n.head n.xattrs) → map.get new ≡ live_after (map.get old) o
+pub live_kept : (old new : map.FinMap nat_cmp Xattrs) (o : Option NewLive) → (o ≡ None → new ≡ old)
+    → IfSome o (λ n. new ≡ map.insert old n.head n.xattrs) → map.get new ≡ live_after (map.get old) o
 live_kept old new None none some = ap map.get (none refl)
 live_kept old new (Some n) none some = ap map.get some ∙ insert_given old n.head n.xattrs

@@ -1,5 +1,6 @@
 -- What is known of the running job: the pages of its plan, and its places.
-use Rattle.std.proofs.Common.{◌≡◌, ◌≢◌, ℕ, zero, suc, ◌<◌, ◌≤◌, true, false, All, List, [], ◌∷◌, length, get_or, Some, None, refl, sym, ◌∙◌, ap, subst, arith, inl, inr, drop, take, ◌++◌, ◌+◌, Option, add-one}
+use Rattle.std.proofs.Common.{◌≡◌, ◌≢◌, ℕ, zero, suc, ◌<◌, ◌≤◌, true, false, All, List, [], ◌∷◌, length, get_or, Some}
+use Rattle.std.proofs.Common.{None, refl, sym, ◌∙◌, ap, subst, arith, inl, inr, drop, take, ◌++◌, ◌+◌, Option, add-one}
 use Rattle.std.specs.Prelude.{slice_get}
 use Rattle.std.proofs.lemmas.Bool.{cases_Bool, both_ways, eq-eqb, ne_eqb, cases_lt}
 use Rattle.bit_array.specs.Bits.{is_in}
@@ -15,8 +16,10 @@ use Rattle.store_core.specs.StoreInvariant.{IsRunning}
 use Rattle.store_core.proofs.Cleared.{among_get}
 use Rattle.store_core.specs.declared.job.Planned.{Planned}
 use Rattle.store_core.specs.Jobs.{erasing_job, writing_job, commit_of, replacing_of}
-use Rattle.store_model.specs.Phases.{page_in, held_in, Erases, Frees, Phase, Replacing, erasing, has_commit, taken_in, Replaces}
-use Rattle.store_model.proofs.Phases.{held_clearing, planned_behind, commit_behind, held_behind, lays_reached, does_reached, no_commit}
+use Rattle.store_model.specs.Phases.{page_in, held_in, Erases, Frees, Phase, Replacing, erasing, has_commit, taken_in}
+use Rattle.store_model.specs.Phases.{Replaces}
+use Rattle.store_model.proofs.Phases.{held_clearing, planned_behind, commit_behind, held_behind, lays_reached}
+use Rattle.store_model.proofs.Phases.{does_reached, no_commit}
 use Rattle.blob_meta.specs.declared.meta.Meta.{Meta}
 use Rattle.store_model.proofs.LeftToDo.{among_left, distinct_left}
 use Rattle.std.specs.Prelude.{if◌then◌else◌}
@@ -25,16 +28,19 @@ use Rattle.std.specs.Prelude.{if◌then◌else◌}
 
 pub among_at : (ps : List ℕ) (k place : ℕ) → slice_get ps k ≡ Some place → is_among place ps ≡ true
 among_at [] k place is = absurd (cc is)
-among_at (p ∷ ps) zero place is = let e : p ≡ place = cc is in subst (λ x. is_among x (p ∷ ps) ≡ true) e (among_first p ps)
+among_at (p ∷ ps) zero place is =
+    let e : p ≡ place = cc is in subst (λ x. is_among x (p ∷ ps) ≡ true) e (among_first p ps)
 among_at (p ∷ ps) (suc k) place is = among_later place p ps (among_at ps k place is)
 
-place_of : (plan : List PlannedPage) (k : ℕ) (x : PlannedPage) → slice_get plan k ≡ Some x → slice_get (places_of plan) k ≡ Some x.place
+place_of : (plan : List PlannedPage) (k : ℕ) (x : PlannedPage) → slice_get plan k ≡ Some x
+    → slice_get (places_of plan) k ≡ Some x.place
 place_of [] k x is = absurd (cc is)
 place_of (y ∷ ys) zero x is = let e : y ≡ x = cc is in ap (λ (z : PlannedPage). Some z.place) e
 place_of (y ∷ ys) (suc k) x is = place_of ys k x is
 
 -- the page for a place is the planned one, where the places differ
-pub page_of : (plan : List PlannedPage) (k : ℕ) (x : PlannedPage) → AreDistinct (places_of plan) → slice_get plan k ≡ Some x → page_in plan x.place ≡ x.page
+pub page_of : (plan : List PlannedPage) (k : ℕ) (x : PlannedPage) → AreDistinct (places_of plan)
+    → slice_get plan k ≡ Some x → page_in plan x.place ≡ x.page
 page_of [] k x distinct is = absurd (cc is)
 page_of (y ∷ ys) zero x distinct is =
     let e : y ≡ x = cc is in
@@ -42,7 +48,8 @@ page_of (y ∷ ys) zero x distinct is =
     subst (λ (z : PlannedPage). page_in (y ∷ ys) z.place ≡ z.page) e here
 page_of (y ∷ ys) (suc k) x distinct is =
     let among = among_at (places_of ys) k x.place (place_of ys k x is) in
-    let ne : x.place ≢ y.place = λ e. both_ways (is_among y.place (places_of ys)) distinct.0 (subst (λ q. is_among q (places_of ys) ≡ true) e among) in
+    let ne : x.place ≢ y.place = λ e. both_ways (is_among y.place (places_of ys)) distinct.0
+    (subst (λ q. is_among q (places_of ys) ≡ true) e among) in
     rw (ne_eqb x.place y.place ne) (page_of ys k x distinct.1 is)
 
 -- ---- places of a list
@@ -83,7 +90,8 @@ module _ (p : StoreState) (r : IsRunning p) (runs : p.stopped ≡ None) where
       let low : x < length p.pages = within p.pages x (well.pages.held_too x among) in
       omega (arith, low, well.pages.count)
 
-  module _ (channel : ℕ) (planned : Planned) (old : List ℕ) (written : ℕ) (is : p.job ≡ Some (writing_job channel planned old written)) where
+  module _ (channel : ℕ) (planned : Planned) (old : List ℕ) (written : ℕ)
+      (is : p.job ≡ Some (writing_job channel planned old written)) where
     abbrev j : JobState
     j = writing_job channel planned old written
 
@@ -101,7 +109,8 @@ module _ (p : StoreState) (r : IsRunning p) (runs : p.stopped ≡ None) where
     stands = well.job j is
 
     lays : Lays p.super p.base p.chains [] fresh behind
-    lays = subst (λ w. Lays p.super p.base p.chains [] w behind) (take_drop written fresh) (lays_reached p.super p.base p.chains [] (take written fresh) (drop written fresh) behind stands.lays)
+    lays = subst (λ w. Lays p.super p.base p.chains [] w behind) (take_drop written fresh)
+        (lays_reached p.super p.base p.chains [] (take written fresh) (drop written fresh) behind stands.lays)
 
     pub can : CanReplace p.super p.base p.chains [] fresh replacing
     can = lays.0
@@ -117,11 +126,17 @@ module _ (p : StoreState) (r : IsRunning p) (runs : p.stopped ≡ None) where
 
     held_fresh : (x : ℕ) → is_among x fresh ≡ true → is_among x (held_by p.job) ≡ true
     held_fresh x among =
-        let held : held_by p.job ≡ fresh ++ taken_in (erasing old old []) = ap held_by is ∙ held_behind (drop written fresh) behind in
+        let held : held_by p.job ≡ fresh ++ taken_in (erasing old old []) =
+        ap held_by is ∙ held_behind (drop written fresh) behind in
         subst (λ l. is_among x l ≡ true) (sym held) (among_left x fresh (taken_in (erasing old old [])) among)
 
     linked_head : IsLinked p.chains planned.head
-    linked_head = record { head = planned.head; pages = planned.head ∷ old; chain = can.chain; among = among_first planned.head old }
+    linked_head = record {
+      head = planned.head;
+      pages = planned.head ∷ old;
+      chain = can.chain;
+      among = among_first planned.head old;
+    }
 
     distinct : AreDistinct (places_of planned.pages)
     distinct =
@@ -129,11 +144,13 @@ module _ (p : StoreState) (r : IsRunning p) (runs : p.stopped ≡ None) where
           | inl among ↦ absurd (well.pages.apart planned.head (held_fresh planned.head among) linked_head)
           | inr out ↦ out
         ] in
-        let differ : AreDistinct (fresh ++ taken_in (erasing old old [])) = subst AreDistinct (held_behind (drop written fresh) behind) stands.distinct in
+        let differ : AreDistinct (fresh ++ taken_in (erasing old old [])) =
+        subst AreDistinct (held_behind (drop written fresh) behind) stands.distinct in
         subst AreDistinct (sym can.places) (apart, distinct_left fresh (taken_in (erasing old old [])) differ)
 
     -- the next fresh page
-    pub next_place : (k : ℕ) (x : PlannedPage) → slice_get planned.pages (suc k) ≡ Some x → slice_get fresh k ≡ Some x.place
+    pub next_place : (k : ℕ) (x : PlannedPage) → slice_get planned.pages (suc k) ≡ Some x
+        → slice_get fresh k ≡ Some x.place
     next_place k x at = sym (ap (λ l. slice_get l (suc k)) can.places) ∙ place_of planned.pages (suc k) x at
 
     pub next_page : (k : ℕ) (x : PlannedPage) → slice_get planned.pages k ≡ Some x → planned_at j x.place ≡ x.page
@@ -143,9 +160,11 @@ module _ (p : StoreState) (r : IsRunning p) (runs : p.stopped ≡ None) where
     next_low k x at = held_low x.place (held_fresh x.place (among_at fresh k x.place (next_place k x at)))
 
     -- the head's
-    pub head_page : (x : PlannedPage) → slice_get planned.pages zero ≡ Some x → page_in planned.pages planned.head ≡ x.page
+    pub head_page : (x : PlannedPage) → slice_get planned.pages zero ≡ Some x
+        → page_in planned.pages planned.head ≡ x.page
     head_page x at =
-        let here : planned.head ≡ x.place = let both = sym (ap (λ l. slice_get l zero) can.places) ∙ place_of planned.pages zero x at in cc both in
+        let here : planned.head ≡ x.place =
+        let both = sym (ap (λ l. slice_get l zero) can.places) ∙ place_of planned.pages zero x at in cc both in
         ap (page_in planned.pages) here ∙ page_of planned.pages zero x distinct at
 
     pub head_low : planned.head < p.super.md_len
@@ -174,7 +193,8 @@ module _ (p : StoreState) (r : IsRunning p) (runs : p.stopped ≡ None) where
     pub some_erasing : erased < length old
     some_erasing = elim (cases_lt erased (length old)) [
       | inl lt ↦ lt
-      | inr ge ↦ absurd (r.facts.unfinished (erasing_job channel old erased) is (ap (λ l. erasing old l []) (drop_all old erased ge)))
+      | inr ge ↦ absurd
+          (r.facts.unfinished (erasing_job channel old erased) is (ap (λ l. erasing old l []) (drop_all old erased ge)))
     ]
       where
         drop_all : (l : List ℕ) (k : ℕ) → length l ≤ k → drop k l ≡ []
@@ -184,14 +204,17 @@ module _ (p : StoreState) (r : IsRunning p) (runs : p.stopped ≡ None) where
         drop_all (x ∷ xs) (suc k) le = drop_all xs k (omega (arith, le))
 
     -- what is left
-    pub one_more : (place : ℕ) → slice_get old erased ≡ Some place → erased + 1 < length old → (erasing_job channel old erased).todo ≡ Erases place ∷ (erasing_job channel old (suc erased)).todo
+    pub one_more : (place : ℕ) → slice_get old erased ≡ Some place → erased + 1 < length old
+        → (erasing_job channel old erased).todo ≡ Erases place ∷ (erasing_job channel old (suc erased)).todo
     one_more place at more =
         let next = get_or old (suc erased) 0 in
         let got_next : slice_get old (suc erased) ≡ Some next = got old (suc erased) 0 (omega (arith, more)) in
-        ap (λ l. erasing old l []) (drop_one old erased place at ∙ ap (λ l. place ∷ l) (drop_one old (suc erased) next got_next))
+        ap (λ l. erasing old l [])
+        (drop_one old erased place at ∙ ap (λ l. place ∷ l) (drop_one old (suc erased) next got_next))
         ∙ ap (λ l. Erases place ∷ erasing old l []) (sym (drop_one old (suc erased) next got_next))
 
-    pub last_one : (place : ℕ) → slice_get old erased ≡ Some place → erased + 1 ≡ length old → (erasing_job channel old erased).todo ≡ Frees place old ∷ []
+    pub last_one : (place : ℕ) → slice_get old erased ≡ Some place → erased + 1 ≡ length old
+        → (erasing_job channel old erased).todo ≡ Frees place old ∷ []
     last_one place at last =
         let none : drop (suc erased) old ≡ [] = ap (λ n. drop n old) (sym (add-one erased) ∙ last) ∙ drop_end old in
         ap (λ l. erasing old l []) (drop_one old erased place at ∙ ap (λ l. place ∷ l) none)
@@ -200,13 +223,15 @@ module _ (p : StoreState) (r : IsRunning p) (runs : p.stopped ≡ None) where
     waits_for_none = ap (λ b. if b then Some channel else None) (no_commit old (drop erased old))
 
     held_here : held_by p.job ≡ old
-    held_here = ap held_by is ∙ held_clearing old (drop erased old) (λ none. absurd (r.facts.unfinished (erasing_job channel old erased) is (ap (λ l. erasing old l []) none)))
+    held_here = ap held_by is ∙ held_clearing old (drop erased old)
+        (λ none. absurd (r.facts.unfinished (erasing_job channel old erased) is (ap (λ l. erasing old l []) none)))
 
     pub old_low : (x : ℕ) → is_among x old ≡ true → x < p.super.md_len
     old_low x among = held_low x (subst (λ l. is_among x l ≡ true) (sym held_here) among)
 
     pub old_in_use : All (λ x. is_in p.pages x ≡ true) old
-    old_in_use k d low = well.pages.held_too (get_or old k d) (subst (λ l. is_among (get_or old k d) l ≡ true) (sym held_here) (among_get old k d low))
+    old_in_use k d low = well.pages.held_too (get_or old k d)
+        (subst (λ l. is_among (get_or old k d) l ≡ true) (sym held_here) (among_get old k d low))
 
     pub old_distinct : AreDistinct old
     old_distinct =

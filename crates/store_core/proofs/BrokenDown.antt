@@ -1,5 +1,6 @@
 -- The end of a job on a stopped store.
-use Rattle.std.proofs.Common.{false, ◌≡◌, ℕ, ◌<◌, List, ◌∷◌, length, Option, Some, None, refl, sym, ◌∙◌, ap, subst, inl, arith, Bool, option_map, true}
+use Rattle.std.proofs.Common.{false, ◌≡◌, ℕ, ◌<◌, List, ◌∷◌, length, Option, Some, None, refl, sym, ◌∙◌, ap, subst, inl}
+use Rattle.std.proofs.Common.{arith, Bool, option_map, true}
 use Rattle.std.specs.Option.{option_and_then}
 use Rattle.page_disk.specs.declared.disk.PageDisk.{Ghosts}
 use Rattle.volume_model.specs.declared.command.Command.{Command}
@@ -32,28 +33,34 @@ pub record WaitsIn (o : Option JobState) (channel : ℕ) : Type 0 where
 abbrev ForCommands : Option JobState → Type 0
 ForCommands o = (job : JobState) → o ≡ Some job → (channel : ℕ) × (job.serves ≡ ForCommand channel)
 
-waits_by : (job : JobState) (here channel : ℕ) (commit : Bool) → job.serves ≡ ForCommand here → has_commit job.todo ≡ commit → waits_for_job job ≡ Some channel → WaitsIn (Some job) channel
+waits_by : (job : JobState) (here channel : ℕ) (commit : Bool) → job.serves ≡ ForCommand here
+    → has_commit job.todo ≡ commit → waits_for_job job ≡ Some channel → WaitsIn (Some job) channel
 waits_by job here channel true serves commit waits =
     let both : Some here ≡ Some channel = sym (waits_for_commit job here serves commit) ∙ waits in
     let e : here ≡ channel = cc both in
     record { job = job; is = refl; serves = serves ∙ ap (λ n. ForCommand n) e; commit = commit }
-waits_by job here channel false serves commit waits = absurd (let bad = sym (waits_no_more job here serves commit) ∙ waits in cc bad)
+waits_by job here channel false serves commit waits =
+    absurd (let bad = sym (waits_no_more job here serves commit) ∙ waits in cc bad)
 
-pub waits_in : (o : Option JobState) (channel : ℕ) → ForCommands o → option_and_then waits_for_job o ≡ Some channel → WaitsIn o channel
+pub waits_in : (o : Option JobState) (channel : ℕ) → ForCommands o → option_and_then waits_for_job o ≡ Some channel
+    → WaitsIn o channel
 waits_in None channel all waits = absurd (cc waits)
-waits_in (Some job) channel all waits = let x = all job refl in waits_by job x.0 channel (has_commit job.todo) x.1 refl waits
+waits_in (Some job) channel all waits =
+    let x = all job refl in waits_by job x.0 channel (has_commit job.todo) x.1 refl waits
 
 -- what is seen of a running job serves a command
 pub for_commands : (o : Option RunningJob) → ForCommands (option_map job_seen o)
 for_commands None job is = absurd (cc is)
-for_commands (Some j) job is = let same : job_seen j ≡ job = cc is in (j.channel, ap (λ (k : JobState). k.serves) (sym same) ∙ by j.work refl)
+for_commands (Some j) job is =
+    let same : job_seen j ≡ job = cc is in (j.channel, ap (λ (k : JobState). k.serves) (sym same) ∙ by j.work refl)
   where
     by : (w : Work) → j.work ≡ w → (job_seen j).serves ≡ ForCommand j.channel
     by (work.Writing planned written) e = rw e refl
     by (work.Erasing erased) e = rw e refl
 
 -- a stopped store with a job whose command waits in a channel
-module _ {D : Type 0} (d : Ghosts D) (p : StoreView D) (running : IsRunning (state_of d p)) (sixteen : length p.rows ≡ 16) (channel : ℕ)
+module _ {D : Type 0} (d : Ghosts D) (p : StoreView D) (running : IsRunning (state_of d p))
+    (sixteen : length p.rows ≡ 16) (channel : ℕ)
     (all : ForCommands p.job) (waits : option_and_then waits_for_job p.job ≡ Some channel) where
   abbrev w : WaitsIn p.job channel
   w = waits_in p.job channel all waits
@@ -75,7 +82,8 @@ module _ {D : Type 0} (d : Ghosts D) (p : StoreView D) (running : IsRunning (sta
   broken_down at stands new entry =
       let below : channel < length p.rows = let lt = low in omega (arith, lt, sixteen) in
       let is = entry served.command served.rest (ap (λ (r : Row). r.left) served.is) in
-      let next : state_of d new ≡ logged (record (state_of d p) { job = None }) channel served.command served.rest (Stopped at) (device_of d p.disk) =
+      let next : state_of d new ≡ logged (record (state_of d p) { job = None }) channel served.command served.rest
+      (Stopped at) (device_of d p.disk) =
       entered d (record p { job = None }) new channel served.command served.rest (Stopped at) below is in (
         record {
           job = w.job;
@@ -100,4 +108,5 @@ module _ {D : Type 0} (d : Ghosts D) (p : StoreView D) (running : IsRunning (sta
       → new ≡ logged_at (record p { job = None }) channel command rest (Stopped at) (d.clock new.disk))
       → new.stopped ≡ Some at
   stopped_still at stands new entry =
-      ap (λ (a : StoreView D). a.stopped) (entry served.command served.rest (ap (λ (r : Row). r.left) served.is)) ∙ stands
+      ap (λ (a : StoreView D). a.stopped) (entry served.command served.rest (ap (λ (r : Row). r.left) served.is))
+      ∙ stands

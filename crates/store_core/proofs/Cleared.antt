@@ -1,5 +1,6 @@
 -- How far places are cleared, one after another.
-use Rattle.std.proofs.Common.{◌≡◌, ◌≢◌, ℕ, zero, suc, ◌+◌, ◌<◌, Bool, true, false, List, [], ◌∷◌, length, get_or, drop, All, sym, ◌∙◌, ap, subst, arith, drop-cons, add-one}
+use Rattle.std.proofs.Common.{◌≡◌, ◌≢◌, ℕ, zero, suc, ◌+◌, ◌<◌, Bool, true, false, List, [], ◌∷◌, length, get_or, drop}
+use Rattle.std.proofs.Common.{All, sym, ◌∙◌, ap, subst, arith, drop-cons, add-one}
 use Rattle.std.specs.Prelude.{slice_set}
 use Rattle.std.proofs.lemmas.List.{get_or-set_other}
 use Rattle.bit_array.specs.Bits.{is_in}
@@ -19,12 +20,16 @@ among_get [] k d lt = absurd (omega (arith, lt))
 among_get (p ∷ ps) zero d lt = among_first p ps
 among_get (p ∷ ps) (suc k) d lt = among_later (get_or ps k d) p ps (among_get ps k d (omega (arith, lt)))
 
-later_in_use : (bits : List Bool) (x : ℕ) (rest : List ℕ) → is_among x rest ≡ false → All (λ q. is_in bits q ≡ true) (x ∷ rest) → All (λ q. is_in (slice_set bits x false) q ≡ true) rest
+later_in_use : (bits : List Bool) (x : ℕ) (rest : List ℕ) → is_among x rest ≡ false
+    → All (λ q. is_in bits q ≡ true) (x ∷ rest) → All (λ q. is_in (slice_set bits x false) q ≡ true) rest
 later_in_use bits x rest apart in_use k d lt =
-    let ne : get_or rest k d ≢ x = λ e. let bad = sym (ap (λ y. is_among y rest) e) ∙ among_get rest k d lt in absurd (let worse = sym apart ∙ bad in cc worse) in
+    let ne : get_or rest k d ≢ x = λ e.
+    let bad = sym (ap (λ y. is_among y rest) e) ∙ among_get rest k d lt in
+    absurd (let worse = sym apart ∙ bad in cc worse) in
     get_or-set_other bits x (get_or rest k d) false false ne ∙ in_use (suc k) d (omega (arith, lt))
 
-module _ (old : List Bool) (places : List ℕ) (i : ℕ) (p : PoolState) (c : Clears old places i p) (low : i < length places) where
+module _ (old : List Bool) (places : List ℕ) (i : ℕ) (p : PoolState) (c : Clears old places i p)
+    (low : i < length places) where
   abbrev x : ℕ
   x = get_or places i 0
 
@@ -41,5 +46,6 @@ module _ (old : List Bool) (places : List ℕ) (i : ℕ) (p : PoolState) (c : Cl
         unclaimed = c.unclaimed;
         so_far = sym (ap (λ l. all_set p.bits l false) rest) ∙ c.so_far;
         distinct = apart.1;
-        in_use = later_in_use p.bits x (drop (i + 1) places) apart.0 (subst (All (λ q. is_in p.bits q ≡ true)) rest c.in_use);
+        in_use = later_in_use p.bits x (drop (i + 1) places) apart.0
+            (subst (All (λ q. is_in p.bits q ≡ true)) rest c.in_use);
       }

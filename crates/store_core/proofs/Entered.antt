@@ -9,7 +9,8 @@ use Rattle.store_core.specs.StoreView.{StoreView, device_of, state_of}
 use Rattle.store_core.specs.Steps.{logged_at}
 use Rattle.store_core.proofs.Rowing.{rows_set}
 
-module _ {D : Type 0} (d : Ghosts D) (old new : StoreView D) (channel : ℕ) (command : Command) (rest : List Command) (reply : Reply) (low : channel < length old.rows)
+module _ {D : Type 0} (d : Ghosts D) (old new : StoreView D) (channel : ℕ) (command : Command) (rest : List Command)
+    (reply : Reply) (low : channel < length old.rows)
     (is : new ≡ logged_at old channel command rest reply (d.clock new.disk)) where
   pub disk_same : new.disk ≡ old.disk
   disk_same = ap (λ (a : StoreView D). a.disk) is
@@ -17,4 +18,6 @@ module _ {D : Type 0} (d : Ghosts D) (old new : StoreView D) (channel : ℕ) (co
   pub entered : state_of d new ≡ logged (state_of d old) channel command rest reply (device_of d old.disk)
   entered =
       ap (state_of d) (is ∙ ap (λ (disk : D). logged_at old channel command rest reply (d.clock disk)) disk_same)
-      ∙ ap (λ (r : Rows). record (logged (state_of d old) channel command rest reply (device_of d old.disk)) { rows = r }) (rows_set old.rows channel (record { left = rest; stage = Decided Answered; claim = None }) low)
+      ∙ ap (λ (r : Rows).
+      record (logged (state_of d old) channel command rest reply (device_of d old.disk)) { rows = r })
+      (rows_set old.rows channel (record { left = rest; stage = Decided Answered; claim = None }) low)

@@ -18,22 +18,28 @@ use Rattle.store_core.specs.TurnMade.{TurnMade}
 use Rattle.store_core.specs.StoreView.{StoreView, WithOpening, state_of}
 use Rattle.store_core.specs.Surviving.{HasOneImage, HoldsMetadata, OldOrNew}
 
-module _ {D : Type 0} (d : Ghosts D) (laws : CrashLaws) (law : IsTrue d.tells → Telling d.now d.images d.since d.clock) where
-  pub kept_begins : (p : StoreView D) → IsLoadedWith p.super (state_of d p) → Opens (state_of d p) → IsPlaced p.super → (IsTrue d.tells → HoldsMetadata p.super (map.get p.metas) (map.get p.chains) (d.now p.disk))
+module _ {D : Type 0} (d : Ghosts D) (laws : CrashLaws)
+    (law : IsTrue d.tells → Telling d.now d.images d.since d.clock) where
+  pub kept_begins : (p : StoreView D) → IsLoadedWith p.super (state_of d p) → Opens (state_of d p) → IsPlaced p.super
+      → (IsTrue d.tells → HoldsMetadata p.super (map.get p.metas) (map.get p.chains) (d.now p.disk))
       → (right : ℕ) → StoreInvariant d (record { at = p; opening = p; right = right })
   kept_begins p loaded opens placed holds right =
-      let facts : RunInvariant p.super (shown (state_of d p)) (opening_script p) (state_of d p) = laws.plants.begin p.super (state_of d p) loaded opens in
+      let facts : RunInvariant p.super (shown (state_of d p)) (opening_script p) (state_of d p) =
+      laws.plants.begin p.super (state_of d p) loaded opens in
       record {
         began = opens;
         run = ([], refl);
         facts = facts;
         placed = placed;
-        survives = λ one. survives_start d laws one.0 law p.super placed (shown (state_of d p)) (opening_script p) (state_of d p) p.disk refl opens.log opens.marks opens.stopped opens.job facts one.1 (holds one.0);
+        survives = λ one. survives_start d laws one.0 law p.super placed (shown (state_of d p)) (opening_script p)
+            (state_of d p) p.disk refl opens.log opens.marks opens.stopped opens.job facts one.1 (holds one.0);
       }
 
-  module _ (p : WithOpening D) (q : StoreView D) (kind : Kind) (kept : StoreInvariant d p) (made : TurnMade d p.at q kind) where
+  module _ (p : WithOpening D) (q : StoreView D) (kind : Kind) (kept : StoreInvariant d p)
+      (made : TurnMade d p.at q kind) where
     facts_after : RunInvariant p.opening.super (shown (state_of d p.opening)) (opening_script p.opening) (state_of d q)
-    facts_after = laws.plants.keep d.tells p.opening.super (shown (state_of d p.opening)) (opening_script p.opening) (state_of d p.at) (state_of d q) kind kept.placed kept.facts made.0
+    facts_after = laws.plants.keep d.tells p.opening.super (shown (state_of d p.opening)) (opening_script p.opening)
+        (state_of d p.at) (state_of d q) kind kept.placed kept.facts made.0
 
     over : HasOneImage d p.opening.disk → Over d
     over one = record {
@@ -59,16 +65,23 @@ module _ {D : Type 0} (d : Ghosts D) (laws : CrashLaws) (law : IsTrue d.tells �
     unfolding over
     kept_goes_on = record {
       began = kept.began;
-      run = (kept.run.0 ++ kind ∷ [], laws.plants.go_on d.tells (state_of d p.opening) (state_of d p.at) (state_of d q) kept.run.0 kind kept.run.1 made.0);
+      run = (
+        kept.run.0 ++ kind ∷ [],
+        laws.plants.go_on d.tells (state_of d p.opening) (state_of d p.at)
+            (state_of d q) kept.run.0 kind kept.run.1 made.0,
+      );
       facts = facts_after;
       placed = kept.placed;
       survives = λ one. turns.survives d (over one) kind made.0 made.1;
     }
 
-    pub leaves_here : HasOneImage d p.opening.disk → p.at.stopped ≡ None → (job : JobState) → p.at.job ≡ Some job → CallsLeaveOnly d p.at.disk q.disk (OldOrNew p.opening.super (map.get p.at.metas) (map.get p.at.chains) job.todo)
+    pub leaves_here : HasOneImage d p.opening.disk
+        → p.at.stopped ≡ None → (job : JobState) → p.at.job ≡ Some job → CallsLeaveOnly d p.at.disk q.disk
+        (OldOrNew p.opening.super (map.get p.at.metas) (map.get p.at.chains) job.todo)
     unfolding over
     leaves_here one runs job is _ = turns.leaves_old_or_new d (over one) kind made.0 made.1 runs job is
 
-  pub leaves_old_or_new : (p : WithOpening D) (q : StoreView D) (job : JobState) → StoreInvariant d p → TurnsJob d p.at q → HasOneImage d p.opening.disk → p.at.stopped ≡ None → p.at.job ≡ Some job
+  pub leaves_old_or_new : (p : WithOpening D) (q : StoreView D) (job : JobState) → StoreInvariant d p
+      → TurnsJob d p.at q → HasOneImage d p.opening.disk → p.at.stopped ≡ None → p.at.job ≡ Some job
       → CallsLeaveOnly d p.at.disk q.disk (OldOrNew p.opening.super (map.get p.at.metas) (map.get p.at.chains) job.todo)
   leaves_old_or_new p q job kept turn one runs is = leaves_here p q turn.kind kept turn.made one runs job is

@@ -15,19 +15,26 @@ use Rattle.store_core.specs.Running.{AreHeads}
 is_key : (q k : ℕ) → eq_by_cmp nat_cmp q k ≡ eqb q k
 is_key q k = grind (arith, nat_tests)
 
-pub insert_given : {X : Type 0} (m : FinMap nat_cmp X) (head : ℕ) (x : X) → get (insert m head x) ≡ with_entry (get m) head x
-insert_given m head x = fun_ext (λ q. get-insert nat_cmp_total m head x q ∙ ap (λ b. cond b (Some x) (get m q)) (is_key q head))
+pub insert_given : {X : Type 0} (m : FinMap nat_cmp X) (head : ℕ) (x : X)
+    → get (insert m head x) ≡ with_entry (get m) head x
+insert_given m head x =
+    fun_ext (λ q. get-insert nat_cmp_total m head x q ∙ ap (λ b. cond b (Some x) (get m q)) (is_key q head))
 
 -- the heads stay the same where a blob that is there has other metadata
-pub heads_stay : (md_len : ℕ) (m : FinMap nat_cmp Meta) (head : ℕ) (new : Meta) (heads : List Bool) → IsSome (get m head) → AreHeads md_len (get m) heads → AreHeads md_len (get (insert m head new)) heads
+pub heads_stay : (md_len : ℕ) (m : FinMap nat_cmp Meta) (head : ℕ) (new : Meta) (heads : List Bool)
+    → IsSome (get m head) → AreHeads md_len (get m) heads → AreHeads md_len (get (insert m head new)) heads
 heads_stay md_len m head new heads there are = record {
   count = are.count;
   are = λ k lt. elim (cases_eq k head) [
     | inl e ↦
-        let at : get (insert m head new) k ≡ Some new = ap (λ f. f k) (insert_given m head new) ∙ given_here (get m) head new k e in
-        (λ set. subst IsSome (sym at) refl, λ some. (are.are k lt).1 (subst (λ (h : ℕ). IsSome (get m h)) (sym e) there))
+        let at : get (insert m head new) k ≡ Some new =
+        ap (λ f. f k) (insert_given m head new) ∙ given_here (get m) head new k e in (
+          λ set. subst IsSome (sym at) refl,
+          λ some. (are.are k lt).1 (subst (λ (h : ℕ). IsSome (get m h)) (sym e) there),
+        )
     | inr ne ↦
-        let at : get (insert m head new) k ≡ get m k = ap (λ f. f k) (insert_given m head new) ∙ given_elsewhere (get m) head new k ne in
+        let at : get (insert m head new) k ≡ get m k =
+        ap (λ f. f k) (insert_given m head new) ∙ given_elsewhere (get m) head new k ne in
         (λ set. subst IsSome (sym at) ((are.are k lt).0 set), λ some. (are.are k lt).1 (subst IsSome at some))
   ];
 }

@@ -9,18 +9,24 @@ use Rattle.store_model.specs.Cases.{WritesOnePage, read_after}
 use Rattle.store_model.specs.Cases.{FailsToReplace}
 use Rattle.store_core.specs.StoreView.{device_of}
 
-read_told : (tells : Bool) (old new : Image) (place : ℕ) (page : List ℕ) → (IsTrue tells → new ≡ with_page old place page)
+read_told : (tells : Bool) (old new : Image) (place : ℕ) (page : List ℕ)
+    → (IsTrue tells → new ≡ with_page old place page)
     → (if tells then new else (λ p. zero_page)) ≡ read_after tells (if tells then old else (λ p. zero_page)) place page
 read_told true old new place page is = is refl
 read_told false old new place page is = refl
 
-module _ {D T : Type 0} (d : Ghosts D) (r : Result T DiskFault) (old new : D) (place : ℕ) (page : List ℕ) (calls : ℕ) where
-  pub moves : (IsTrue d.tells → OnOk r (d.now new ≡ with_page (d.now old) place page)) → OnOk r (d.clock old + calls ≤ d.clock new) → d.read_faults new ≡ d.read_faults old
-      → OnOk r (d.write_faults new ≡ d.write_faults old) → d.reads new ≡ d.reads old → OnOk r (WritesOnePage d.tells (device_of d old) place page calls (device_of d new))
+module _ {D T : Type 0} (d : Ghosts D) (r : Result T DiskFault) (old new : D) (place : ℕ) (page : List ℕ)
+    (calls : ℕ) where
+  pub moves : (IsTrue d.tells → OnOk r (d.now new ≡ with_page (d.now old) place page))
+      → OnOk r (d.clock old + calls ≤ d.clock new) → d.read_faults new ≡ d.read_faults old
+      → OnOk r (d.write_faults new ≡ d.write_faults old) → d.reads new ≡ d.reads old
+      → OnOk r (WritesOnePage d.tells (device_of d old) place page calls (device_of d new))
   moves written rises read_faults no_fault reads = by r written rises no_fault
     where
-      by : (x : Result T DiskFault) → (IsTrue d.tells → OnOk x (d.now new ≡ with_page (d.now old) place page)) → OnOk x (d.clock old + calls ≤ d.clock new)
-          → OnOk x (d.write_faults new ≡ d.write_faults old) → OnOk x (WritesOnePage d.tells (device_of d old) place page calls (device_of d new))
+      by : (x : Result T DiskFault) → (IsTrue d.tells → OnOk x (d.now new ≡ with_page (d.now old) place page))
+          → OnOk x (d.clock old + calls ≤ d.clock new)
+          → OnOk x (d.write_faults new ≡ d.write_faults old)
+          → OnOk x (WritesOnePage d.tells (device_of d old) place page calls (device_of d new))
       by (Ok x) written rises no_fault = record {
         reads = read_told d.tells (d.now old) (d.now new) place page written;
         clock = rises;
@@ -30,10 +36,13 @@ module _ {D T : Type 0} (d : Ghosts D) (r : Result T DiskFault) (old new : D) (p
       }
       by (Err e) written rises no_fault = tt
 
-  pub fails : d.clock old ≤ d.clock new → d.read_faults new ≡ d.read_faults old → HasCause (d.write_faults old) (d.write_faults new) r → d.reads new ≡ d.reads old
+  pub fails : d.clock old ≤ d.clock new → d.read_faults new ≡ d.read_faults old
+      → HasCause (d.write_faults old) (d.write_faults new) r → d.reads new ≡ d.reads old
       → OnErr r (FailsToReplace (device_of d old) (device_of d new))
   fails later read_faults faults reads = by r faults
     where
-      by : (x : Result T DiskFault) → HasCause (d.write_faults old) (d.write_faults new) x → OnErr x (FailsToReplace (device_of d old) (device_of d new))
+      by : (x : Result T DiskFault) → HasCause (d.write_faults old) (d.write_faults new) x
+          → OnErr x (FailsToReplace (device_of d old) (device_of d new))
       by (Ok x) faults = tt
-      by (Err e) faults = record { clock = later; read_faults = read_faults; write_faults = faults.cause refl; read_calls = reads }
+      by (Err e) faults =
+          record { clock = later; read_faults = read_faults; write_faults = faults.cause refl; read_calls = reads }

@@ -23,16 +23,20 @@ use Rattle.store_core.specs.Planning.{PlanLaws}
 use Rattle.store_core.specs.StoreView.{state_of}
 use Rattle.store_core.proofs.Answered.{found, live_same, meant, shows_blob}
 
-module _ (first : Volumes) (p : StoreState) (well : RunsWell first p) (metas : map.FinMap nat_cmp Meta) (base : p.base ≡ map.get metas) where
+module _ (first : Volumes) (p : StoreState) (well : RunsWell first p) (metas : map.FinMap nat_cmp Meta)
+    (base : p.base ≡ map.get metas) where
   live_there : (head : ℕ) (o : Option Meta) → p.base head ≡ o → is_some (p.live head) ≡ is_some o
   live_there head None is = ap is_some (well.no_live head is)
   live_there head (Some m) is = ap is_some (well.live head m is).1
 
-  pub is_live_of : (command : Command) (head : ℕ) → asked_head command ≡ Some head → IsLiveOf metas (p.live head) command
+  pub is_live_of : (command : Command) (head : ℕ) → asked_head command ≡ Some head
+      → IsLiveOf metas (p.live head) command
   is_live_of command head named =
-      live_there head (p.base head) refl ∙ ap (λ (m : Map Meta). is_some (m head)) base ∙ ap (λ o. is_some (option_and_then (λ h. map.get metas h) o)) (sym named)
+      live_there head (p.base head) refl ∙ ap (λ (m : Map Meta). is_some (m head)) base
+      ∙ ap (λ o. is_some (option_and_then (λ h. map.get metas h) o)) (sym named)
 
-  module _ (head : ℕ) (old : Meta) (live : Xattrs) (there : map.get metas head ≡ Some old) (is_live : p.live head ≡ Some live) where
+  module _ (head : ℕ) (old : Meta) (live : Xattrs) (there : map.get metas head ≡ Some old)
+      (is_live : p.live head ≡ Some live) where
     abbrev f : Fixed
     f = fixed_of p.super
 
@@ -47,12 +51,16 @@ module _ (first : Volumes) (p : StoreState) (well : RunsWell first p) (metas : m
 
     -- the volume after the edit of a step
     edited_now : (edit : Volume → Volume) → edited_at f v (head_of f v (Head head)) edit head ≡ Some (edit here.0)
-    edited_now edit = edited_here f v (head_of f v (Head head)) edit head (meant f v p.live (live_same first p well) head live is_live) ∙ ap (option_map edit) here.1
+    edited_now edit = edited_here f v (head_of f v (Head head)) edit head
+        (meant f v p.live (live_same first p well) head live is_live) ∙ ap (option_map edit) here.1
 
-    unrefused : (command : Command) → asked_head command ≡ Some head → IsFirstCause metas (Some live) command p.super None → refusal f v command ≡ None
-    unrefused command named cause = cause f v refl (subst (λ (o : Option Xattrs). ShowsBlob metas o command v) is_live (shows_blob first p well metas command head base named))
+    unrefused : (command : Command) → asked_head command ≡ Some head
+        → IsFirstCause metas (Some live) command p.super None → refusal f v command ≡ None
+    unrefused command named cause = cause f v refl (subst (λ (o : Option Xattrs). ShowsBlob metas o command v) is_live
+        (shows_blob first p well metas command head base named))
 
-    pub asks_put : (key value : Text) → IsFirstCause metas (Some live) (c.Put (Head head) key value) p.super None → AsksFor p (c.Put (Head head) key value) head (record old { xattrs = with_value live key value })
+    pub asks_put : (key value : Text) → IsFirstCause metas (Some live) (c.Put (Head head) key value) p.super None
+        → AsksFor p (c.Put (Head head) key value) head (record old { xattrs = with_value live key value })
     asks_put key value cause = record {
       syncing = tt;
       asked = unrefused (c.Put (Head head) key value) refl cause;
@@ -64,7 +72,8 @@ module _ (first : Volumes) (p : StoreState) (well : RunsWell first p) (metas : m
       new_is = ap (λ (xs : Xattrs). record old { xattrs = with_value xs key value }) (sym here.2);
     }
 
-    pub asks_sync : IsFirstCause metas (Some live) (c.Sync (Head head)) p.super None → AsksFor p (c.Sync (Head head)) head (record old { xattrs = live })
+    pub asks_sync : IsFirstCause metas (Some live) (c.Sync (Head head)) p.super None
+        → AsksFor p (c.Sync (Head head)) head (record old { xattrs = live })
     asks_sync cause = record {
       syncing = tt;
       asked = unrefused (c.Sync (Head head)) refl cause;
@@ -78,8 +87,12 @@ module _ (first : Volumes) (p : StoreState) (well : RunsWell first p) (metas : m
 
 pub plan_laws : {D : Type 0} (d : Ghosts D) → PlanLaws d
 plan_laws d = record {
-  live = λ p command head running runs named. is_live_of running.first (state_of d p) (running.facts.well runs) p.metas refl command head named;
-  shows = λ p command head running runs named. shows_blob running.first (state_of d p) (running.facts.well runs) p.metas command head refl named;
-  put = λ p head key value old live running runs blob cause. asks_put running.first (state_of d p) (running.facts.well runs) p.metas refl head old live blob.there blob.is_live key value cause;
-  sync = λ p head old live running runs blob cause. asks_sync running.first (state_of d p) (running.facts.well runs) p.metas refl head old live blob.there blob.is_live cause;
+  live = λ p command head running runs named.
+      is_live_of running.first (state_of d p) (running.facts.well runs) p.metas refl command head named;
+  shows = λ p command head running runs named.
+      shows_blob running.first (state_of d p) (running.facts.well runs) p.metas command head refl named;
+  put = λ p head key value old live running runs blob cause. asks_put running.first (state_of d p)
+      (running.facts.well runs) p.metas refl head old live blob.there blob.is_live key value cause;
+  sync = λ p head old live running runs blob cause. asks_sync running.first (state_of d p)
+      (running.facts.well runs) p.metas refl head old live blob.there blob.is_live cause;
 }

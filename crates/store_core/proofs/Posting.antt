@@ -1,5 +1,6 @@
 -- What is known of a channel from what its row waits for.
-use Rattle.std.proofs.Common.{◌⊎◌, ◌≡◌, ℕ, ◌<◌, List, [], ◌∷◌, length, Option, Some, None, refl, sym, ◌∙◌, ap, subst, inl, inr, arith}
+use Rattle.std.proofs.Common.{◌⊎◌, ◌≡◌, ℕ, ◌<◌, List, [], ◌∷◌, length, Option, Some, None, refl, sym, ◌∙◌, ap, subst}
+use Rattle.std.proofs.Common.{inl, inr, arith}
 use Rattle.std.specs.Prelude.{IsSome}
 use Rattle.std.proofs.lemmas.Bool.{cases_lt}
 use Rattle.std.proofs.Math.ListN.{get_or-eq_default}
@@ -7,7 +8,8 @@ use Rattle.page_disk.specs.declared.disk.PageDisk.{Ghosts}
 use Rattle.volume_model.specs.declared.command.Command.{Command}
 use Rattle.volume_model.specs.declared.command.Command.TheVariants as c
 use Rattle.volume_model.specs.declared.reply.Msg.{Msg}
-use Rattle.store_model.specs.Rows.{Claiming, Copying, Decided, Decision, Ended, Idle, InJob, IsForMetadata, OpenClaim, Posted, Ready, Row, Stage}
+use Rattle.store_model.specs.Rows.{Claiming, Copying, Decided, Decision, Ended, Idle, InJob, IsForMetadata, OpenClaim}
+use Rattle.store_model.specs.Rows.{Posted, Ready, Row, Stage}
 use Rattle.store_model.specs.Cases as kind
 use Rattle.store_core.specs.declared.rows.RowStage.TheVariants.{Meta, Over}
 use Rattle.store_core.specs.declared.begin.BeginTurn.{BeginTurn}
@@ -23,10 +25,12 @@ use Rattle.store_model.specs.RunInvariant.{IsShaped, MayClaim}
 use Rattle.store_model.proofs.Shaped.{no_claim}
 
 -- a row that hasn't ended is that of one of the channels
-pub low_of : (rows : List Row) (channel : ℕ) (stage : Stage) → length rows ≡ 16 → (rows_of rows channel).stage ≡ stage → (Ended ≡ stage → ⊥) → channel < 16
+pub low_of : (rows : List Row) (channel : ℕ) (stage : Stage) → length rows ≡ 16 → (rows_of rows channel).stage ≡ stage
+    → (Ended ≡ stage → ⊥) → channel < 16
 low_of rows channel stage sixteen is other = elim (cases_lt channel (length rows)) [
   | inl lt ↦ omega (arith, lt, sixteen)
-  | inr ge ↦ absurd (other (sym (ap (λ (r : Row). r.stage) (get_or-eq_default rows (record { left = []; stage = Ended; claim = None }) ge)) ∙ is))
+  | inr ge ↦ absurd (other (sym
+      (ap (λ (r : Row). r.stage) (get_or-eq_default rows (record { left = []; stage = Ended; claim = None }) ge)) ∙ is))
 ]
 
 -- the first command of a row is for the metadata thread
@@ -38,7 +42,8 @@ pub record HasMeta (left : List Command) (stage : Stage) : Type 0 where
   pub is_meta : IsForMetadata command
 
 meta_first : (command : Command) (rest : List Command) → waits_for command ≡ Meta → HasMeta (command ∷ rest) Idle
-meta_first command rest is = record { command = command; rest = rest; first = refl; idle = refl; is_meta = by command is }
+meta_first command rest is =
+    record { command = command; rest = rest; first = refl; idle = refl; is_meta = by command is }
   where
     by : (k : Command) → waits_for k ≡ Meta → IsForMetadata k
     by (c.Read volume page) bad = cc bad
@@ -53,7 +58,8 @@ never_over (c.Write volume page word) bad = cc bad
 never_over c.Flush bad = cc bad
 never_over _ bad = cc bad
 
-at_meta : (left : List Command) (stage : Stage) (claim : Option OpenClaim) (channel : ℕ) → is_stage (record { left = left; stage = stage; claim = claim }) channel ≡ Meta → HasMeta left stage
+at_meta : (left : List Command) (stage : Stage) (claim : Option OpenClaim) (channel : ℕ)
+    → is_stage (record { left = left; stage = stage; claim = claim }) channel ≡ Meta → HasMeta left stage
 at_meta [] Idle claim channel is = absurd (cc is)
 at_meta (command ∷ rest) Idle claim channel is = meta_first command rest is
 at_meta left Claiming claim channel is = absurd (cc is)
@@ -64,7 +70,8 @@ at_meta left InJob claim channel is = absurd (cc is)
 at_meta left (Decided outcome) claim channel is = absurd (cc is)
 at_meta left Ended claim channel is = absurd (cc is)
 
-at_over : (left : List Command) (stage : Stage) (claim : Option OpenClaim) (channel : ℕ) → is_stage (record { left = left; stage = stage; claim = claim }) channel ≡ Over → (left ≡ []) × (stage ≡ Idle)
+at_over : (left : List Command) (stage : Stage) (claim : Option OpenClaim) (channel : ℕ)
+    → is_stage (record { left = left; stage = stage; claim = claim }) channel ≡ Over → (left ≡ []) × (stage ≡ Idle)
 at_over [] Idle claim channel is = (refl, refl)
 at_over (command ∷ rest) Idle claim channel is = absurd (never_over command is)
 at_over left Claiming claim channel is = absurd (cc is)
@@ -86,9 +93,15 @@ module _ {D : Type 0} (d : Ghosts D) (p : StoreView D) (shaped : IsShaped (state
       let row = rows_of p.rows channel in
       let x = at_meta row.left row.stage row.claim channel is in
       let none = idle_unclaimed x.idle in
-      record { command = x.command; rest = x.rest; is_meta = x.is_meta; row = λ i. record { left = x.first i; stage = x.idle i; claim = none i } }
+      record {
+        command = x.command;
+        rest = x.rest;
+        is_meta = x.is_meta;
+        row = λ i. record { left = x.first i; stage = x.idle i; claim = none i };
+      }
 
-  pub over_row : is_stage (rows_of p.rows channel) channel ≡ Over → rows_of p.rows channel ≡ record { left = []; stage = Idle; claim = None }
+  pub over_row : is_stage (rows_of p.rows channel) channel ≡ Over
+      → rows_of p.rows channel ≡ record { left = []; stage = Idle; claim = None }
   over_row is =
       let row = rows_of p.rows channel in
       let x = at_over row.left row.stage row.claim channel is in
@@ -102,22 +115,34 @@ module _ {D : Type 0} (d : Ghosts D) (p : StoreView D) (shaped : IsShaped (state
   low_over sixteen is = low_of p.rows channel Idle sixteen (ap (λ (r : Row). r.stage) (over_row is)) (λ e. cc e)
 
   -- a row of which something is decided holds no claim
-  pub decided_unclaimed : (outcome : Decision) → (rows_of p.rows channel).stage ≡ Decided outcome → (rows_of p.rows channel).claim ≡ None
+  pub decided_unclaimed : (outcome : Decision) → (rows_of p.rows channel).stage ≡ Decided outcome
+      → (rows_of p.rows channel).claim ≡ None
   decided_unclaimed outcome is = no_claim (state_of d p) shaped channel (λ may. subst MayClaim is may)
 
 -- a command that is posted, by what is kept
-pub posted_at : {D : Type 0} (d : Ghosts D) (p : WithOpening D) (msg : Msg) → StoreInvariant d p → IsPostedBy p.at.rows msg → IsPostedAt p.at msg.channel
+pub posted_at : {D : Type 0} (d : Ghosts D) (p : WithOpening D) (msg : Msg) → StoreInvariant d p
+    → IsPostedBy p.at.rows msg → IsPostedAt p.at msg.channel
 posted_at d p msg kept is = by (rows_of p.at.rows msg.channel).left refl
   where
     by : (left : List Command) → (rows_of p.at.rows msg.channel).left ≡ left → IsPostedAt p.at msg.channel
     by [] none = absurd (kept.facts.shaped.posted msg.channel msg.serial is.stage none)
-    by (command ∷ rest) some = record { serial = msg.serial; waits = record { command = command; rest = rest; row = λ i. record { left = some i; stage = is.stage i; claim = is.unclaimed i } } }
+    by (command ∷ rest) some = record {
+      serial = msg.serial;
+      waits = record {
+        command = command;
+        rest = rest;
+        row = λ i. record { left = some i; stage = is.stage i; claim = is.unclaimed i };
+      };
+    }
 
 pub kept_running : {D : Type 0} (d : Ghosts D) (p : WithOpening D) → StoreInvariant d p → IsRunning (state_of d p.at)
-kept_running d p kept = record { store = p.opening.super; first = _; script = _; placed = kept.placed; facts = kept.facts }
+kept_running d p kept =
+    record { store = p.opening.super; first = _; script = _; placed = kept.placed; facts = kept.facts }
 
 -- one of two cases, by whether the store is stopped
-pub either : {D : Type 0} (d : Ghosts D) (p : WithOpening D) (q : StoreView D) (a b : kind.Kind) → ((k : kind.Kind) → TurnMade d p.at q k → StoreInvariant d (record { at = q; opening = p.opening; right = p.right })) → (p.at.stopped ≡ None → TurnMade d p.at q a) → (IsSome p.at.stopped → TurnMade d p.at q b)
+pub either : {D : Type 0} (d : Ghosts D) (p : WithOpening D) (q : StoreView D) (a b : kind.Kind) → ((k : kind.Kind)
+    → TurnMade d p.at q k → StoreInvariant d (record { at = q; opening = p.opening; right = p.right }))
+    → (p.at.stopped ≡ None → TurnMade d p.at q a) → (IsSome p.at.stopped → TurnMade d p.at q b)
     → StoreInvariant d (record { at = q; opening = p.opening; right = p.right })
 either d p q a b goes_on runs stops = by p.at.stopped refl
   where
@@ -126,11 +151,16 @@ either d p q a b goes_on runs stops = by p.at.stopped refl
     by (Some at) is = goes_on b (stops (subst IsSome (sym is) refl))
 
 -- a job that begins or not, by whether the store is stopped
-pub begun_or_not : {D : Type 0} (d : Ghosts D) (p : WithOpening D) (q : StoreView D) (turn : BeginTurn) → ((k : kind.Kind) → TurnMade d p.at q k → StoreInvariant d (record { at = q; opening = p.opening; right = p.right })) → (p.at.stopped ≡ None → BeginsOrNot d p.at q turn)
-    → (IsSome p.at.stopped → (turn ≡ begin.Logged) × TurnMade d p.at q kind.halts) → StoreInvariant d (record { at = q; opening = p.opening; right = p.right })
+pub begun_or_not : {D : Type 0} (d : Ghosts D) (p : WithOpening D) (q : StoreView D) (turn : BeginTurn)
+    → ((k : kind.Kind)
+    → TurnMade d p.at q k → StoreInvariant d (record { at = q; opening = p.opening; right = p.right }))
+    → (p.at.stopped ≡ None → BeginsOrNot d p.at q turn)
+    → (IsSome p.at.stopped → (turn ≡ begin.Logged) × TurnMade d p.at q kind.halts)
+    → StoreInvariant d (record { at = q; opening = p.opening; right = p.right })
 begun_or_not d p q turn goes_on runs stops = by p.at.stopped refl
   where
-    made : (t : BeginTurn) → BeginsOrNot d p.at q t → StoreInvariant d (record { at = q; opening = p.opening; right = p.right })
+    made : (t : BeginTurn) → BeginsOrNot d p.at q t
+        → StoreInvariant d (record { at = q; opening = p.opening; right = p.right })
     made begin.Began x = goes_on kind.begins x
     made begin.Logged x = goes_on kind.refuses x
 
@@ -141,4 +171,5 @@ begun_or_not d p q turn goes_on runs stops = by p.at.stopped refl
 -- a store that has no job or has stopped, and hasn't stopped, has no job
 pub job_over : {D : Type 0} (p : StoreView D) → (p.job ≡ None) ⊎ IsSome p.stopped → p.stopped ≡ None → p.job ≡ None
 job_over p (inl none) runs = none
-job_over p (inr stopped) runs = absurd (let bad : IsSome {T = ℕ} None = subst (λ o. IsSome {T = ℕ} o) runs stopped in cc bad)
+job_over p (inr stopped) runs =
+    absurd (let bad : IsSome {T = ℕ} None = subst (λ o. IsSome {T = ℕ} o) runs stopped in cc bad)

@@ -16,7 +16,8 @@ posted_so InJob serial is = absurd (cc is)
 posted_so (Decided outcome) serial is = absurd (cc is)
 posted_so Ended serial is = absurd (cc is)
 
-pub first_got : (left : List Command) (command : Command) → slice_get left 0 ≡ Some command → (rest : List Command) × (left ≡ command ∷ rest)
+pub first_got : (left : List Command) (command : Command) → slice_get left 0 ≡ Some command
+    → (rest : List Command) × (left ≡ command ∷ rest)
 first_got [] command is = absurd (cc is)
 first_got (x ∷ rest) command is = let e : x ≡ command = cc is in (rest, ap (λ (c : Command). c ∷ rest) e)
 

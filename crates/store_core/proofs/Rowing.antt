@@ -1,5 +1,6 @@
 -- The rows of the channels with one row set, as a function.
-use Rattle.std.proofs.Common.{None, ◌≡◌, ℕ, ◌<◌, List, [], ◌∷◌, ◌++◌, drop, length, slice_set, refl, sym, ◌∙◌, ap, arith, inl, inr}
+use Rattle.std.proofs.Common.{None, ◌≡◌, ℕ, ◌<◌, List, [], ◌∷◌, ◌++◌, drop, length, slice_set, refl, sym, ◌∙◌, ap}
+use Rattle.std.proofs.Common.{arith, inl, inr}
 use Rattle.std.proofs.lemmas.Bool.{cases_eq, eq-eqb, ne_eqb}
 use Rattle.std.proofs.lemmas.List.{get_or-set_same, get_or-set_other}
 use Rattle.std.proofs.Math.Path.{fun_ext}
@@ -19,8 +20,11 @@ first_of (x ∷ rest) some = (x, rest, refl)
 module _ (rows : List Row) (channel : ℕ) (row : Row) (low : channel < length rows) where
   row_at : (c : ℕ) → rows_of (slice_set rows channel row) c ≡ with_row (rows_of rows) channel row c
   row_at c = elim (cases_eq c channel) [
-    | inl e ↦ ap (rows_of (slice_set rows channel row)) e ∙ get_or-set_same rows channel row (record { left = []; stage = Ended; claim = None }) low ∙ sym (rw (eq-eqb c channel e) refl)
-    | inr ne ↦ get_or-set_other rows channel c row (record { left = []; stage = Ended; claim = None }) ne ∙ sym (rw (ne_eqb c channel ne) refl)
+    | inl e ↦ ap (rows_of (slice_set rows channel row)) e
+        ∙ get_or-set_same rows channel row (record { left = []; stage = Ended; claim = None }) low
+        ∙ sym (rw (eq-eqb c channel e) refl)
+    | inr ne ↦ get_or-set_other rows channel c row (record { left = []; stage = Ended; claim = None }) ne
+        ∙ sym (rw (ne_eqb c channel ne) refl)
   ]
 
   pub only_row : OnlyRow rows (slice_set rows channel row) channel row
@@ -33,12 +37,20 @@ module _ (rows : List Row) (channel : ℕ) (row : Row) (low : channel < length r
   rows_set = fun_ext row_at
 
 -- with an entry logged, the state is the one in which it is
-pub state_logged : {D : Type 0} (d : Ghosts D) (p : StoreView D) (channel : ℕ) (command : Command) (rest : List Command) (reply : Reply) → channel < length p.rows
-    → state_of d (logged_at p channel command rest reply (d.clock p.disk)) ≡ logged (state_of d p) channel command rest reply (device_of d p.disk)
+pub state_logged : {D : Type 0} (d : Ghosts D) (p : StoreView D) (channel : ℕ) (command : Command) (rest : List Command)
+    (reply : Reply) → channel < length p.rows
+    → state_of d (logged_at p channel command rest reply (d.clock p.disk))
+    ≡ logged (state_of d p) channel command rest reply (device_of d p.disk)
 state_logged d p channel command rest reply low =
-    ap (λ (rows : Rows). record (state_of d p) { rows = rows; log = p.log ++ entry_of p.log channel command reply ∷ []; marks = p.marks ++ d.clock p.disk ∷ [] })
+    ap (λ (rows : Rows). record (state_of d p) {
+      rows = rows;
+      log = p.log ++ entry_of p.log channel command reply ∷ [];
+      marks = p.marks ++ d.clock p.disk ∷ [];
+    })
     (rows_set p.rows channel (record { left = rest; stage = Decided Answered; claim = None }) low)
 
 -- a row whose first command was taken out
-pub taken_row : (old new : Row) (command : Command) → old.left ≡ command ∷ new.left → new.stage ≡ Decided Answered → new.claim ≡ None → new ≡ decided old
-taken_row old new command left stage claim = λ i. record { left = ap (λ (l : List Command). drop 1 l) (sym left) i; stage = stage i; claim = claim i }
+pub taken_row : (old new : Row) (command : Command) → old.left ≡ command ∷ new.left → new.stage ≡ Decided Answered
+    → new.claim ≡ None → new ≡ decided old
+taken_row old new command left stage claim =
+    λ i. record { left = ap (λ (l : List Command). drop 1 l) (sym left) i; stage = stage i; claim = claim i }

@@ -1,5 +1,6 @@
 -- What the loops of a start have made so far.
-use Rattle.std.proofs.Common.{◌≡◌, ℕ, ◌+◌, ◌<◌, ◌≤◌, Bool, true, false, cond, List, [], ◌∷◌, ◌++◌, length, Option, Some, None, refl, sym, ◌∙◌, ap, subst, ◌⊎◌, arith, inl, inr, length-append, ◌≢◌}
+use Rattle.std.proofs.Common.{◌≡◌, ℕ, ◌+◌, ◌<◌, ◌≤◌, Bool, true, false, cond, List, [], ◌∷◌, ◌++◌, length, Option, Some}
+use Rattle.std.proofs.Common.{None, refl, sym, ◌∙◌, ap, subst, ◌⊎◌, arith, inl, inr, length-append, ◌≢◌}
 use Rattle.std.specs.Prelude.{if◌then◌else◌, is_some, IsSome, nat_lt, slice_index_or, slice_set}
 use Rattle.std.specs.Option.{option_map}
 use Rattle.std.specs.Ordering.{nat_cmp}
@@ -34,20 +35,24 @@ pub record LiveBelow (metas : map.FinMap nat_cmp Meta) (live : map.FinMap nat_cm
   pub below : (h : ℕ) → h < end → map.get live h ≡ option_map (λ m. m.xattrs) (map.get metas h)
   pub none : (h : ℕ) → end ≤ h → map.get live h ≡ None
 
-module _ (metas : map.FinMap nat_cmp Meta) (live : map.FinMap nat_cmp Xattrs) (end : ℕ) (so_far : LiveBelow metas live end) where
+module _ (metas : map.FinMap nat_cmp Meta) (live : map.FinMap nat_cmp Xattrs) (end : ℕ)
+    (so_far : LiveBelow metas live end) where
   pub live_some : (m : Meta) → map.get metas end ≡ Some m → LiveBelow metas (map.insert live end m.xattrs) (end + 1)
   live_some m is = record {
     below = λ h lt. ap (λ f. f h) (insert_given live end m.xattrs) ∙ elim (cases_eq h end) [
-      | inl e ↦ given_here (map.get live) end m.xattrs h e ∙ sym (ap (λ o. option_map (λ (x : Meta). x.xattrs) o) (ap (map.get metas) e ∙ is))
+      | inl e ↦ given_here (map.get live) end m.xattrs h e
+          ∙ sym (ap (λ o. option_map (λ (x : Meta). x.xattrs) o) (ap (map.get metas) e ∙ is))
       | inr ne ↦ given_elsewhere (map.get live) end m.xattrs h ne ∙ so_far.below h (omega (arith, lt, ne))
     ];
-    none = λ h ge. ap (λ f. f h) (insert_given live end m.xattrs) ∙ given_elsewhere (map.get live) end m.xattrs h (λ e. omega (arith, e, ge)) ∙ so_far.none h (omega (arith, ge));
+    none = λ h ge. ap (λ f. f h) (insert_given live end m.xattrs)
+        ∙ given_elsewhere (map.get live) end m.xattrs h (λ e. omega (arith, e, ge)) ∙ so_far.none h (omega (arith, ge));
   }
 
   pub live_none : map.get metas end ≡ None → LiveBelow metas live (end + 1)
   live_none is = record {
     below = λ h lt. elim (cases_eq h end) [
-      | inl e ↦ ap (map.get live) e ∙ so_far.none end (omega arith) ∙ sym (ap (λ o. option_map (λ (x : Meta). x.xattrs) o) (ap (map.get metas) e ∙ is))
+      | inl e ↦ ap (map.get live) e ∙ so_far.none end (omega arith)
+          ∙ sym (ap (λ o. option_map (λ (x : Meta). x.xattrs) o) (ap (map.get metas) e ∙ is))
       | inr ne ↦ so_far.below h (omega (arith, lt, ne))
     ];
     none = λ h ge. so_far.none h (omega (arith, ge));
@@ -85,7 +90,8 @@ module _ (metas : Metas) (end : ℕ) where
 
   next_none : metas end ≡ None → those_below metas (end + 1) ≡ those_below metas end
   next_none none = fun_ext (λ h. elim (cases_eq h end) [
-    | inl e ↦ ap (those_below metas (end + 1)) e ∙ next_here ∙ none ∙ sym (below_past metas end end (omega arith)) ∙ ap (those_below metas end) (sym e)
+    | inl e ↦ ap (those_below metas (end + 1)) e ∙ next_here ∙ none ∙ sym (below_past metas end end (omega arith))
+        ∙ ap (those_below metas end) (sym e)
     | inr ne ↦ next_other h ne
   ])
 
@@ -112,14 +118,16 @@ guards_nothing metas room = record {
   none_frozen = λ h. set.contains-empty nat_cmp h;
 }
 
-module _ (metas : map.FinMap nat_cmp Meta) (guards : GuardsState) (room end : ℕ) (so_far : GuardsBelow metas guards room end) where
+module _ (metas : map.FinMap nat_cmp Meta) (guards : GuardsState) (room end : ℕ)
+    (so_far : GuardsBelow metas guards room end) where
   pub guards_same : map.get metas end ≡ None → GuardsBelow metas guards room (end + 1)
   guards_same is = record {
     room = so_far.room;
     few = omega (arith, so_far.few);
     drawn = omega (arith, so_far.drawn);
     none = λ h ge. so_far.none h (omega (arith, ge));
-    generations = subst (λ (base : Metas). AreGenerations base (map.get guards.generations) guards.drawn) (sym (next_none (map.get metas) end is)) so_far.generations;
+    generations = subst (λ (base : Metas). AreGenerations base (map.get guards.generations) guards.drawn)
+        (sym (next_none (map.get metas) end is)) so_far.generations;
     none_frozen = so_far.none_frozen;
   }
 
@@ -130,21 +138,29 @@ module _ (metas : map.FinMap nat_cmp Meta) (guards : GuardsState) (room end : �
   pub guards_more : IsSome (map.get metas end) → GuardsBelow metas (renewed guards end) room (end + 1)
   guards_more some = record {
     room = so_far.room;
-    few = more (map.contains_key guards.generations end) (map.len guards.generations) (map.len-insert nat_cmp_total guards.generations end (guards.drawn + 1)) so_far.few;
+    few = more (map.contains_key guards.generations end) (map.len guards.generations)
+        (map.len-insert nat_cmp_total guards.generations end (guards.drawn + 1)) so_far.few;
     drawn = omega (arith, so_far.drawn);
-    none = λ h ge. ap (λ f. f h) given ∙ given_elsewhere (map.get guards.generations) end (guards.drawn + 1) h (λ e. omega (arith, e, ge)) ∙ so_far.none h (omega (arith, ge));
-    generations = subst (λ (g : Map ℕ). AreGenerations (those_below (map.get metas) (end + 1)) g (guards.drawn + 1)) (sym given)
-        (one_numbered (those_below (map.get metas) end) (those_below (map.get metas) (end + 1)) end (map.get guards.generations) guards.drawn
-        (subst IsSome (sym (next_here (map.get metas) end)) some) (λ h ne. ap is_some (next_other (map.get metas) end h ne)) so_far.generations);
+    none = λ h ge. ap (λ f. f h) given
+        ∙ given_elsewhere (map.get guards.generations) end (guards.drawn + 1) h (λ e. omega (arith, e, ge))
+        ∙ so_far.none h (omega (arith, ge));
+    generations =
+        subst (λ (g : Map ℕ). AreGenerations (those_below (map.get metas) (end + 1)) g (guards.drawn + 1)) (sym given)
+        (one_numbered (those_below (map.get metas) end) (those_below (map.get metas) (end + 1)) end
+        (map.get guards.generations) guards.drawn
+        (subst IsSome (sym (next_here (map.get metas) end)) some)
+        (λ h ne. ap is_some (next_other (map.get metas) end h ne)) so_far.generations);
     none_frozen = so_far.none_frozen;
   }
     where
-      given : map.get (map.insert guards.generations end (guards.drawn + 1)) ≡ with_entry (map.get guards.generations) end (guards.drawn + 1)
+      given : map.get (map.insert guards.generations end (guards.drawn + 1))
+          ≡ with_entry (map.get guards.generations) end (guards.drawn + 1)
       given = insert_given guards.generations end (guards.drawn + 1)
 
   pub guards_all : ((h : ℕ) → end ≤ h → map.get metas h ≡ None) → AreGuardsAtStart metas guards
   guards_all past = record {
-    generations = subst (λ (base : Metas). AreGenerations base (map.get guards.generations) guards.drawn) all so_far.generations;
+    generations =
+        subst (λ (base : Metas). AreGenerations base (map.get guards.generations) guards.drawn) all so_far.generations;
     none_frozen = so_far.none_frozen;
   }
     where
@@ -160,14 +176,18 @@ pub record RowsBelow (script left : List (List Command)) (channels : ℕ) (rows 
   pub each : (c : ℕ) → c < end → rows_of rows c ≡ row_at_start script channels c
   pub rest : (c : ℕ) → end ≤ c → slice_index_or left c [] ≡ slice_index_or script c []
 
-pub rows_more : (script left : List (List Command)) (channels : ℕ) (rows : List Row) (end : ℕ) (row : Row) → RowsBelow script left channels rows end → row ≡ row_at_start script channels end → RowsBelow script (slice_set left end []) channels (rows ++ row ∷ []) (end + 1)
+pub rows_more : (script left : List (List Command)) (channels : ℕ) (rows : List Row) (end : ℕ) (row : Row)
+    → RowsBelow script left channels rows end → row ≡ row_at_start script channels end
+    → RowsBelow script (slice_set left end []) channels (rows ++ row ∷ []) (end + 1)
 rows_more script left channels rows end row x is = record {
   count = length-append rows (row ∷ []) ∙ omega (arith, x.count);
   each = λ c lt. elim (cases_lt c end) [
-    | inl below ↦ get_or_append_left rows (row ∷ []) (record { left = []; stage = Ended; claim = None }) c (subst (λ n. c < n) (sym x.count) below) ∙ x.each c below
+    | inl below ↦ get_or_append_left rows (row ∷ []) (record { left = []; stage = Ended; claim = None }) c
+        (subst (λ n. c < n) (sym x.count) below) ∙ x.each c below
     | inr ge ↦
         let e : c ≡ end = omega (arith, lt, ge) in
-        get_or_push rows row (record { left = []; stage = Ended; claim = None }) c (x.count ∙ sym e) ∙ is ∙ ap (row_at_start script channels) (sym e)
+        get_or_push rows row (record { left = []; stage = Ended; claim = None }) c (x.count ∙ sym e) ∙ is
+        ∙ ap (row_at_start script channels) (sym e)
   ];
   rest = λ c ge. get_or-set_other left end c [] [] (λ e. omega (arith, e, ge)) ∙ x.rest c (omega (arith, ge));
 }
@@ -175,28 +195,40 @@ rows_more script left channels rows end row x is = record {
 pub rows_nothing : (script : List (List Command)) (channels : ℕ) → RowsBelow script script channels [] 0
 rows_nothing script channels = record { count = refl; each = λ c lt. absurd (omega (arith, lt)); rest = λ c ge. refl }
 
-pub row_with : (script : List (List Command)) (channels channel : ℕ) (left : List Command) → nat_lt channel channels ≡ true → left ≡ slice_index_or script channel [] → record { left = left; stage = Idle; claim = None } ≡ row_at_start script channels channel
+pub row_with : (script : List (List Command)) (channels channel : ℕ) (left : List Command)
+    → nat_lt channel channels ≡ true → left ≡ slice_index_or script channel []
+    → record { left = left; stage = Idle; claim = None } ≡ row_at_start script channels channel
 row_with script channels channel left inside is =
     ap (λ (l : List Command). record { left = l; stage = Idle; claim = None }) is
-    ∙ sym (ap (λ (b : Bool). cond b (record { left = slice_index_or script channel []; stage = Idle; claim = None }) (record { left = []; stage = Ended; claim = None })) inside)
+    ∙ sym (ap (λ (b : Bool). cond b (record { left = slice_index_or script channel []; stage = Idle; claim = None })
+    (record { left = []; stage = Ended; claim = None })) inside)
 
-pub row_past : (script : List (List Command)) (channels channel : ℕ) → nat_lt channel channels ≡ false → record { left = []; stage = Ended; claim = None } ≡ row_at_start script channels channel
+pub row_past : (script : List (List Command)) (channels channel : ℕ) → nat_lt channel channels ≡ false
+    → record { left = []; stage = Ended; claim = None } ≡ row_at_start script channels channel
 row_past script channels channel past =
-    sym (ap (λ (b : Bool). cond b (record { left = slice_index_or script channel []; stage = Idle; claim = None }) (record { left = []; stage = Ended; claim = None })) past)
+    sym (ap (λ (b : Bool). cond b (record { left = slice_index_or script channel []; stage = Idle; claim = None })
+    (record { left = []; stage = Ended; claim = None })) past)
 
 -- a row waits at the start, or has ended
 module _ (script : List (List Command)) (rows : List Row) (are : AreRows script rows) where
-  waits_by : (channel : ℕ) (inside : Bool) → cond inside (record { left = slice_index_or script channel []; stage = Idle; claim = None }) (record { left = []; stage = Ended; claim = None }) ≡ rows_of rows channel → ((rows_of rows channel).stage ≡ Idle) ⊎ (rows_of rows channel ≡ record { left = []; stage = Ended; claim = None })
+  waits_by : (channel : ℕ) (inside : Bool)
+      → cond inside (record { left = slice_index_or script channel []; stage = Idle; claim = None })
+      (record { left = []; stage = Ended; claim = None }) ≡ rows_of rows channel → ((rows_of rows channel).stage ≡ Idle)
+      ⊎ (rows_of rows channel ≡ record { left = []; stage = Ended; claim = None })
   waits_by channel true is = inl (sym (ap (λ (r : Row). r.stage) is))
   waits_by channel false is = inr (sym is)
 
-  pub rows_wait : (channel : ℕ) → ((rows_of rows channel).stage ≡ Idle) ⊎ (rows_of rows channel ≡ record { left = []; stage = Ended; claim = None })
+  pub rows_wait : (channel : ℕ) → ((rows_of rows channel).stage ≡ Idle)
+      ⊎ (rows_of rows channel ≡ record { left = []; stage = Ended; claim = None })
   rows_wait channel = elim (cases_lt channel 16) [
     | inl low ↦ waits_by channel (nat_lt channel are.channels) (sym (are.each channel low))
-    | inr high ↦ inr (get_or_past rows channel (record { left = []; stage = Ended; claim = None }) (subst (λ n. n ≤ channel) (sym are.sixteen) high))
+    | inr high ↦ inr (get_or_past rows channel (record { left = []; stage = Ended; claim = None })
+        (subst (λ n. n ≤ channel) (sym are.sixteen) high))
   ]
 
-  claim_by : (channel : ℕ) (inside : Bool) → cond inside (record { left = slice_index_or script channel []; stage = Idle; claim = None }) (record { left = []; stage = Ended; claim = None }) ≡ rows_of rows channel → (rows_of rows channel).claim ≡ None
+  claim_by : (channel : ℕ) (inside : Bool)
+      → cond inside (record { left = slice_index_or script channel []; stage = Idle; claim = None })
+      (record { left = []; stage = Ended; claim = None }) ≡ rows_of rows channel → (rows_of rows channel).claim ≡ None
   claim_by channel true is = sym (ap (λ (r : Row). r.claim) is)
   claim_by channel false is = sym (ap (λ (r : Row). r.claim) is)
 
@@ -204,12 +236,15 @@ module _ (script : List (List Command)) (rows : List Row) (are : AreRows script 
   pub rows_unclaimed : (channel : ℕ) → (rows_of rows channel).claim ≡ None
   rows_unclaimed channel = elim (cases_lt channel 16) [
     | inl low ↦ claim_by channel (nat_lt channel are.channels) (sym (are.each channel low))
-    | inr high ↦ ap (λ (r : Row). r.claim) (get_or_past rows channel (record { left = []; stage = Ended; claim = None }) (subst (λ n. n ≤ channel) (sym are.sixteen) high))
+    | inr high ↦ ap (λ (r : Row). r.claim) (get_or_past rows channel (record { left = []; stage = Ended; claim = None })
+        (subst (λ n. n ≤ channel) (sym are.sixteen) high))
   ]
 
 -- what was loaded is what a store begins with
-module _ {D : Type 0} (d : Ghosts D) (loaded : Loaded D) (live : map.FinMap nat_cmp Xattrs) (guards : GuardsState) (rows : List Row) (guarded : AreGuardsAtStart loaded.metas guards) where
-  pub is_loaded_with : IsWhole loaded → IsLiveAtStart loaded.metas live → IsLoadedWith loaded.sup (state_of d (opened_with d loaded live guards rows))
+module _ {D : Type 0} (d : Ghosts D) (loaded : Loaded D) (live : map.FinMap nat_cmp Xattrs) (guards : GuardsState)
+    (rows : List Row) (guarded : AreGuardsAtStart loaded.metas guards) where
+  pub is_loaded_with : IsWhole loaded → IsLiveAtStart loaded.metas live
+      → IsLoadedWith loaded.sup (state_of d (opened_with d loaded live guards rows))
   is_loaded_with whole is = record {
     super = refl;
     roots = whole.roots;
@@ -222,7 +257,8 @@ module _ {D : Type 0} (d : Ghosts D) (loaded : Loaded D) (live : map.FinMap nat_
     generations = guarded.generations;
   }
 
-  pub it_opens : (script : List (List Command)) → AreRows script rows → Opens (state_of d (opened_with d loaded live guards rows))
+  pub it_opens : (script : List (List Command)) → AreRows script rows
+      → Opens (state_of d (opened_with d loaded live guards rows))
   it_opens script are = record {
     waits = rows_wait script rows are;
     unclaimed = rows_unclaimed script rows are;
@@ -234,7 +270,8 @@ module _ {D : Type 0} (d : Ghosts D) (loaded : Loaded D) (live : map.FinMap nat_
     stopped = refl;
   }
 
-none_by : (s : Super) (metas : Metas) → AreRoots s metas → (head : ℕ) → s.md_len ≤ head → (found : Option Meta) → metas head ≡ found → metas head ≡ None
+none_by : (s : Super) (metas : Metas) → AreRoots s metas → (head : ℕ) → s.md_len ≤ head → (found : Option Meta)
+    → metas head ≡ found → metas head ≡ None
 none_by s metas roots head past None is = is
 none_by s metas roots head past (Some m) is = absurd (omega (arith, (roots head m is).low, past))
 

@@ -16,9 +16,12 @@ use Rattle.store_core.specs.declared.answering.NewLive.{NewLive}
 
 -- a command that nothing refuses, with its reply and new live attributes
 abbrev pub DoesVerb : Option Xattrs → Command → Reply → Option NewLive → Type 0
-DoesVerb (Some live) (c.SetX (Head head) key value) reply new = (reply ≡ r.Ok) × (new ≡ Some (record { head = head; xattrs = with_value live key value }))
-DoesVerb (Some live) (c.DelX (Head head) key) reply new = (reply ≡ r.Ok) × (new ≡ Some (record { head = head; xattrs = without live key }))
-DoesVerb (Some live) (c.GetX (Head head) key) reply new = (new ≡ None) × ((value : _) × (reply ≡ r.Value value) × (value_of live key ≡ Some value))
+DoesVerb (Some live) (c.SetX (Head head) key value) reply new =
+    (reply ≡ r.Ok) × (new ≡ Some (record { head = head; xattrs = with_value live key value }))
+DoesVerb (Some live) (c.DelX (Head head) key) reply new =
+    (reply ≡ r.Ok) × (new ≡ Some (record { head = head; xattrs = without live key }))
+DoesVerb (Some live) (c.GetX (Head head) key) reply new =
+    (new ≡ None) × ((value : _) × (reply ≡ r.Value value) × (value_of live key ≡ Some value))
 DoesVerb live command reply new = ⊥
 
 module _ (metas : map.FinMap nat_cmp Meta) (live : Option Xattrs) (command : Command) (sup : Super) (e : Effect) where

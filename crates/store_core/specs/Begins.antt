@@ -37,7 +37,8 @@ HasChain chains head = (behind : List ℕ) × (map.get chains head ≡ Some (hea
 pub record IsLaid (items : List Item) (head : ℕ) (fresh : List ℕ) (laid : Laid) : Type 0 where
   pub chain : laid.chain ≡ head ∷ fresh
   pub pages : laid.pages ≡ chain_pages items head fresh
-  pub reads : (look : Look) (md_len : ℕ) → md_len < 2 ^ 32 → IsDistinct nat_eq (head ∷ fresh) → All (λ p. p < md_len) (head ∷ fresh) → All (λ p. look p.place ≡ p.page) laid.pages
+  pub reads : (look : Look) (md_len : ℕ) → md_len < 2 ^ 32 → IsDistinct nat_eq (head ∷ fresh)
+      → All (λ p. p < md_len) (head ∷ fresh) → All (λ p. look p.place ≡ p.page) laid.pages
       → Chain look md_len head (written_items items) (head ∷ fresh)
 
 -- The fresh places are the least clear ones, as many as the items need, and are in use from now on.
@@ -49,7 +50,8 @@ pub record IsTaken (items : List Item) (head : ℕ) (old new : List Bool) (laid 
   pub taken : new ≡ all_set old fresh true
 
 -- what a job needs for new metadata at a head
-pub record IsPrepared (chains : map.FinMap nat_cmp (List ℕ)) (head : ℕ) (meta : Meta) (old new : List Bool) (x : Prepared) : Type 0 where
+pub record IsPrepared (chains : map.FinMap nat_cmp (List ℕ)) (head : ℕ) (meta : Meta) (old new : List Bool)
+    (x : Prepared) : Type 0 where
   pub live : x.live ≡ meta.xattrs
   pub behind : map.get chains head ≡ Some (head ∷ x.old)
   pub items : List Item
@@ -60,7 +62,13 @@ pub record IsPrepared (chains : map.FinMap nat_cmp (List ℕ)) (head : ℕ) (met
 -- the job that begins with it
 abbrev pub first_job : Prepared → ℕ → ℕ → Meta → RunningJob
 first_job x channel head meta =
-    record { channel = channel; work = work.Writing (record { head = head; new = meta; live = x.live; chain = x.laid.chain; pages = x.laid.pages }) 0; old = x.old }
+    record {
+      channel = channel;
+      work =
+          work.Writing
+          (record { head = head; new = meta; live = x.live; chain = x.laid.chain; pages = x.laid.pages }) 0;
+      old = x.old;
+    }
 
 -- a job of one replacement, which is its commit
 pub record ReplacesOne (job : Job) : Type 0 where

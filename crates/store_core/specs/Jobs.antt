@@ -1,5 +1,6 @@
 -- What contracts see of the running job.
-use Rattle.std.specs.Prelude.{◌≡◌, ◌⊎◌, ℕ, ◌==◌, if◌then◌else◌, Bool, false, List, [], ◌∷◌, Option, None, Some, drop, take, refl}
+use Rattle.std.specs.Prelude.{◌≡◌, ◌⊎◌, ℕ, ◌==◌, if◌then◌else◌, Bool, false, List, [], ◌∷◌, Option, None, Some, drop}
+use Rattle.std.specs.Prelude.{take, refl}
 use Rattle.std.specs.Coded.{Coded, code_by, coded×, coded⊎, coded_ℕ, coded_bool, coded_list, coded_option}
 use Rattle.volume_model.specs.declared.reply.Reply.{Reply}
 use Rattle.volume_model.specs.declared.reply.Reply.TheVariants as r
@@ -10,7 +11,8 @@ use Rattle.blob_meta.specs.declared.meta.Meta.{Meta}
 use Rattle.blob_meta.specs.contracts.meta.Meta as meta
 use Rattle.md_chain.specs.declared.plan.PlannedPage.{PlannedPage}
 use Rattle.md_chain.specs.contracts.plan.PlannedPage as planned_page
-use Rattle.store_model.specs.Phases.{Committing, Phase, Marks, Zeros, Writes, Replaces, Erases, Frees, Replacing, writing, erasing}
+use Rattle.store_model.specs.Phases.{Committing, Phase, Marks, Zeros, Writes, Replaces, Erases, Frees, Replacing}
+use Rattle.store_model.specs.Phases.{writing, erasing}
 use Rattle.store_model.specs.StoreState.{JobState, Service, ForCommand, ForInsert, ForRepair}
 use Rattle.store_core.specs.declared.job.Planned.{Planned}
 use Rattle.store_core.specs.declared.job.RunningJob.{RunningJob}
@@ -22,7 +24,15 @@ use Rattle.std.proofs.Common.{ap, inl, inr}
 
 -- the replacement of a blob that is there, which leaves its clusters as they are
 abbrev pub replacing_of : Planned → List ℕ → Replacing
-replacing_of p old = record { head = p.head; new = Some p.new; makes = false; fresh = drop 1 p.chain; planned = p.pages; old = old; freed = [] }
+replacing_of p old = record {
+  head = p.head;
+  new = Some p.new;
+  makes = false;
+  fresh = drop 1 p.chain;
+  planned = p.pages;
+  old = old;
+  freed = [];
+}
 
 -- its commit, with which the attributes are read as they are synced, and no generation is renewed
 abbrev pub commit_of : Planned → Committing
@@ -35,7 +45,8 @@ writing_job channel p old written = record {
   freeze = None;
   claimed = [];
   written = take written (drop 1 p.chain);
-  todo = writing (drop written (drop 1 p.chain)) (Replaces (replacing_of p old) (Some (commit_of p)) ∷ erasing old old []);
+  todo =
+      writing (drop written (drop 1 p.chain)) (Replaces (replacing_of p old) (Some (commit_of p)) ∷ erasing old old []);
 }
 
 -- a job behind its commit, of which so many old pages are overwritten
@@ -71,13 +82,23 @@ IsHeaded j = headed j.work
 abbrev pub replacing_code : Coded Replacing
 replacing_code =
     code_by (ℕ × (Option Meta × (Bool × (List ℕ × (List PlannedPage × (List ℕ × List ℕ))))))
-    (coded× coded_ℕ (coded× (coded_option meta.the_row.coded) (coded× coded_bool (coded× (coded_list coded_ℕ) (coded× (coded_list planned_page.the_row.coded) (coded× (coded_list coded_ℕ) (coded_list coded_ℕ)))))))
+    (coded× coded_ℕ (coded× (coded_option meta.the_row.coded) (coded× coded_bool (coded× (coded_list coded_ℕ)
+    (coded× (coded_list planned_page.the_row.coded) (coded× (coded_list coded_ℕ) (coded_list coded_ℕ)))))))
     (λ x. (x.head, (x.new, (x.makes, (x.fresh, (x.planned, (x.old, x.freed)))))))
-    (λ p. record { head = p.0; new = p.1.0; makes = p.1.1.0; fresh = p.1.1.1.0; planned = p.1.1.1.1.0; old = p.1.1.1.1.1.0; freed = p.1.1.1.1.1.1 }) (λ _. refl)
+    (λ p. record {
+      head = p.0;
+      new = p.1.0;
+      makes = p.1.1.0;
+      fresh = p.1.1.1.0;
+      planned = p.1.1.1.1.0;
+      old = p.1.1.1.1.1.0;
+      freed = p.1.1.1.1.1.1;
+    }) (λ _. refl)
 
 abbrev pub committing_code : Coded Committing
 committing_code =
-    code_by (Reply × (Option (List Xattr) × List ℕ)) (coded× reply.the_row.coded (coded× (coded_option (coded_list xattr.the_row.coded)) (coded_list coded_ℕ)))
+    code_by (Reply × (Option (List Xattr) × List ℕ))
+    (coded× reply.the_row.coded (coded× (coded_option (coded_list xattr.the_row.coded)) (coded_list coded_ℕ)))
     (λ x. (x.reply, (x.live, x.renews))) (λ p. record { reply = p.0; live = p.1.0; renews = p.1.1 }) (λ _. refl)
 
 -- a phase is one of these
@@ -111,7 +132,8 @@ phase_back (Frees place old) = refl
 abbrev pub phase_code : Coded Phase
 phase_code =
     code_by PhaseSum
-    (coded⊎ coded_ℕ (coded⊎ coded_ℕ (coded⊎ coded_ℕ (coded⊎ (coded× replacing_code (coded_option committing_code)) (coded⊎ coded_ℕ (coded× coded_ℕ (coded_list coded_ℕ)))))))
+    (coded⊎ coded_ℕ (coded⊎ coded_ℕ (coded⊎ coded_ℕ (coded⊎ (coded× replacing_code (coded_option committing_code))
+    (coded⊎ coded_ℕ (coded× coded_ℕ (coded_list coded_ℕ)))))))
     phase_in phase_out phase_back
 
 abbrev pub service_in : Service → ℕ × ℕ
@@ -130,7 +152,8 @@ service_back ForRepair = refl
 abbrev pub job_code : Coded JobState
 job_code =
     code_by ((ℕ × ℕ) × (Option ℕ × (List ℕ × (List ℕ × List Phase))))
-    (coded× (coded× coded_ℕ coded_ℕ) (coded× (coded_option coded_ℕ) (coded× (coded_list coded_ℕ) (coded× (coded_list coded_ℕ) (coded_list phase_code)))))
+    (coded× (coded× coded_ℕ coded_ℕ) (coded× (coded_option coded_ℕ)
+    (coded× (coded_list coded_ℕ) (coded× (coded_list coded_ℕ) (coded_list phase_code)))))
     (λ j. (service_in j.serves, (j.freeze, (j.claimed, (j.written, j.todo)))))
     (λ p. record { serves = service_out p.0; freeze = p.1.0; claimed = p.1.1.0; written = p.1.1.1.0; todo = p.1.1.1.1 })
     (λ j. ap (λ x. record j { serves = x }) (service_back j.serves))

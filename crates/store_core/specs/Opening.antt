@@ -1,5 +1,6 @@
 -- How a running store begins.
-use Rattle.std.specs.Prelude.{◌≡◌, ℕ, ◌+◌, ◌<◌, ◌≤◌, ◌^◌, nat_lt, vec_capacity, false, if◌then◌else◌, List, [], ◌∷◌, length, None, slice_index_or}
+use Rattle.std.specs.Prelude.{◌≡◌, ℕ, ◌+◌, ◌<◌, ◌≤◌, ◌^◌, nat_lt, vec_capacity, false, if◌then◌else◌, List, [], ◌∷◌}
+use Rattle.std.specs.Prelude.{length, None, slice_index_or}
 use Rattle.std.specs.Option.{option_map}
 use Rattle.std.specs.Ordering.{nat_cmp}
 use Rattle.std.specs.FinMap as map
@@ -27,7 +28,9 @@ pub record AreGuardsAtStart (metas : map.FinMap nat_cmp Meta) (guards : GuardsSt
 
 -- the row of a channel of the script, or of a number past its channels
 abbrev pub row_at_start : List (List Command) → ℕ → ℕ → Row
-row_at_start script channels channel = if nat_lt channel channels then record { left = slice_index_or script channel []; stage = Idle; claim = None } else record { left = []; stage = Ended; claim = None }
+row_at_start script channels channel =
+    if nat_lt channel channels then record { left = slice_index_or script channel []; stage = Idle; claim = None }
+    else record { left = []; stage = Ended; claim = None }
 
 -- Sixteen rows, each with the commands of its channel.
 pub record AreRows (script : List (List Command)) (rows : List Row) : Type 0 where
@@ -39,7 +42,8 @@ pub record AreRows (script : List (List Command)) (rows : List Row) : Type 0 whe
 
 -- the state of a store that was loaded so, with these live attributes, guards and rows, of which nothing is posted or
 -- logged
-abbrev pub opened_with : {D : Type 0} → Ghosts D → Loaded D → map.FinMap nat_cmp Xattrs → GuardsState → List Row → StoreView D
+abbrev pub opened_with : {D : Type 0} → Ghosts D → Loaded D → map.FinMap nat_cmp Xattrs → GuardsState → List Row
+    → StoreView D
 opened_with d loaded live guards rows = record {
   disk = loaded.disk;
   super = loaded.sup;
@@ -58,14 +62,16 @@ opened_with d loaded live guards rows = record {
 }
 
 -- A store as it was loaded, with a script of which nothing is posted.
-pub record IsOpened {D : Type 0} (d : Ghosts D) (loaded : Loaded D) (script : List (List Command)) (p : StoreView D) : Type 0 where
+pub record IsOpened {D : Type 0} (d : Ghosts D) (loaded : Loaded D) (script : List (List Command))
+    (p : StoreView D) : Type 0 where
   pub live : IsLiveAtStart loaded.metas p.live
   pub guards : AreGuardsAtStart loaded.metas p.guards
   pub rows : AreRows script p.rows
   pub at : p ≡ opened_with d loaded p.live p.guards p.rows
 
 -- What a start takes memory for: the log has room for every command, and one mark more.
-pub record IsAtStart (metas : map.FinMap nat_cmp Meta) (script : List (List Command)) (clock : ℕ) (b : AtStart) : Type 0 where
+pub record IsAtStart (metas : map.FinMap nat_cmp Meta) (script : List (List Command)) (clock : ℕ)
+    (b : AtStart) : Type 0 where
   pub live : IsLiveAtStart metas b.live
   pub guards : AreGuardsAtStart metas b.guards
   pub rows : AreRows script b.rows.items

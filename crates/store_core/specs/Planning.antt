@@ -21,12 +21,17 @@ pub record HasBlob {D : Type 0} (p : StoreView D) (head : ℕ) (old : Meta) (liv
 -- a store that runs on such a device
 pub record PlanLaws {D : Type 0} (d : Ghosts D) : Type 0 where
   -- a blob has live attributes exactly where it has metadata,
-  pub live : (p : StoreView D) (command : Command) (head : ℕ) → IsRunning (state_of d p) → p.stopped ≡ None → asked_head command ≡ Some head → IsLiveOf p.metas (map.get p.live head) command
+  pub live : (p : StoreView D) (command : Command) (head : ℕ) → IsRunning (state_of d p) → p.stopped ≡ None
+      → asked_head command ≡ Some head → IsLiveOf p.metas (map.get p.live head) command
   -- and is shown with these
-  pub shows : (p : StoreView D) (command : Command) (head : ℕ) → IsRunning (state_of d p) → p.stopped ≡ None → asked_head command ≡ Some head → ShowsBlob p.metas (map.get p.live head) command (shown (state_of d p))
+  pub shows : (p : StoreView D) (command : Command) (head : ℕ) → IsRunning (state_of d p) → p.stopped ≡ None
+      → asked_head command ≡ Some head → ShowsBlob p.metas (map.get p.live head) command (shown (state_of d p))
   -- a put that nothing refuses asks for the metadata with the live attributes, one of them set,
-  pub put : (p : StoreView D) (head : ℕ) (key value : Text) (old : Meta) (live : Xattrs) → IsRunning (state_of d p) → p.stopped ≡ None → HasBlob p head old live → IsFirstCause p.metas (Some live) (c.Put (Head head) key value) p.super None
+  pub put : (p : StoreView D) (head : ℕ) (key value : Text) (old : Meta) (live : Xattrs)
+      → IsRunning (state_of d p) → p.stopped ≡ None → HasBlob p head old live
+      → IsFirstCause p.metas (Some live) (c.Put (Head head) key value) p.super None
       → AsksFor (state_of d p) (c.Put (Head head) key value) head (record old { xattrs = with_value live key value })
   -- and a sync for that with the live ones
-  pub sync : (p : StoreView D) (head : ℕ) (old : Meta) (live : Xattrs) → IsRunning (state_of d p) → p.stopped ≡ None → HasBlob p head old live → IsFirstCause p.metas (Some live) (c.Sync (Head head)) p.super None
+  pub sync : (p : StoreView D) (head : ℕ) (old : Meta) (live : Xattrs) → IsRunning (state_of d p) → p.stopped ≡ None
+      → HasBlob p head old live → IsFirstCause p.metas (Some live) (c.Sync (Head head)) p.super None
       → AsksFor (state_of d p) (c.Sync (Head head)) head (record old { xattrs = live })

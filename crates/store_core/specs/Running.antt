@@ -1,5 +1,6 @@
 -- The fields of a running store as contracts see them, and how they are kept in order.
-use Rattle.std.specs.Prelude.{◌≡◌, ◌↔◌, ℕ, ◌+◌, ◌^◌, ◌<◌, ◌≤◌, Bool, true, [], length, vec_capacity, slice_index_or, IfSome, IsSome, List}
+use Rattle.std.specs.Prelude.{◌≡◌, ◌↔◌, ℕ, ◌+◌, ◌^◌, ◌<◌, ◌≤◌, Bool, true, [], length, vec_capacity, slice_index_or}
+use Rattle.std.specs.Prelude.{IfSome, IsSome, List}
 use Rattle.std.specs.FinMap as map
 use Rattle.bit_array.specs.Bits.{is_in}
 use Rattle.store_model.specs.Maps.{Metas}
@@ -41,8 +42,8 @@ pub record AreHeads (md_len : ℕ) (metas : Metas) (heads : List Bool) : Type 0 
   pub count : length heads ≡ md_len
   pub are : (head : ℕ) → head < md_len → (is_in heads head ≡ true) ↔ IsSome (metas head)
 
--- There are sixteen rows; the log and the marks have room for all that is left; the entries of each channel are counted; no
--- place is claimed; the metadata region lies on the device; and the heads are set.
+-- There are sixteen rows; the log and the marks have room for all that is left; the entries of each channel are
+-- counted; no place is claimed; the metadata region lies on the device; and the heads are set.
 pub record InOrder {D : Type 0} (d : Ghosts D) (running : Running D) : Type 0 where
   pub inside : running.sup.md_start + running.sup.md_len ≤ d.pages running.disk
   pub sixteen : length running.rows.items ≡ 16
@@ -50,7 +51,8 @@ pub record InOrder {D : Type 0} (d : Ghosts D) (running : Running D) : Type 0 wh
   pub marks : length running.marks.items + left_in running.rows.items ≤ vec_capacity running.marks
   pub few : length running.entries.items + left_in running.rows.items < 2 ^ 31
   pub counts : length running.logged ≡ 16
-  pub counted : (channel : ℕ) → channel < 16 → slice_index_or running.logged channel 0 ≡ length (entries_of channel running.entries.items)
+  pub counted : (channel : ℕ) → channel < 16
+      → slice_index_or running.logged channel 0 ≡ length (entries_of channel running.entries.items)
   pub no_page : running.pages.claims ≡ []
   pub no_cluster : running.clusters.claims ≡ []
   pub headed : IfSome running.job IsHeaded

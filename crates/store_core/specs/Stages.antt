@@ -8,7 +8,8 @@ use Rattle.store_core.specs.declared.rows.RowStage as told
 use Rattle.store_core.specs.declared.rows.RowStage.TheVariants as waits
 use Rattle.store_core.specs.declared.rows.Stage as seen
 use Rattle.store_core.specs.declared.rows.Stage.TheVariants as variants
-use Rattle.store_model.specs.Rows.{Answered, Claiming, Copying, Decided, Decision, Ended, Idle, InJob, Lost, OpenClaim, Posted, Ready, Row, Stage, Won}
+use Rattle.store_model.specs.Rows.{Answered, Claiming, Copying, Decided, Decision, Ended, Idle, InJob, Lost, OpenClaim}
+use Rattle.store_model.specs.Rows.{Posted, Ready, Row, Stage, Won}
 
 -- decisions and stages as numbers
 abbrev pub decision_in : Decision → ℕ
@@ -35,8 +36,10 @@ stage_in (Decided outcome) = (6, decision_in outcome)
 stage_in Ended = (7, 0)
 
 abbrev pub stage_out : ℕ × ℕ → Stage
-stage_out p = if p.0 == 0 then Idle else (if p.0 == 1 then Claiming else (if p.0 == 2 then Copying p.1 else (if p.0 == 3 then Ready
-    else (if p.0 == 4 then Posted p.1 else (if p.0 == 5 then InJob else (if p.0 == 6 then Decided (decision_out p.1) else Ended))))))
+stage_out p = if p.0 == 0 then Idle
+    else (if p.0 == 1 then Claiming else (if p.0 == 2 then Copying p.1 else (if p.0 == 3 then Ready
+    else (if p.0 == 4 then Posted p.1
+    else (if p.0 == 5 then InJob else (if p.0 == 6 then Decided (decision_out p.1) else Ended))))))
 
 pub stage_back : (s : Stage) → stage_out (stage_in s) ≡ s
 stage_back Idle = refl
@@ -54,11 +57,14 @@ abbrev pub stage_code : Coded Stage
 stage_code = code_by (ℕ × ℕ) (coded× coded_ℕ coded_ℕ) stage_in stage_out stage_back
 
 abbrev pub claim_code : Coded OpenClaim
-claim_code = code_by (ℕ × (ℕ × (ℕ × ℕ))) (coded× coded_ℕ (coded× coded_ℕ (coded× coded_ℕ coded_ℕ))) (λ x. (x.cluster, (x.head, (x.slot, x.generation))))
+claim_code = code_by (ℕ × (ℕ × (ℕ × ℕ))) (coded× coded_ℕ (coded× coded_ℕ (coded× coded_ℕ coded_ℕ)))
+    (λ x. (x.cluster, (x.head, (x.slot, x.generation))))
     (λ p. record { cluster = p.0; head = p.1.0; slot = p.1.1.0; generation = p.1.1.1 }) (λ _. refl)
 
 abbrev pub row_code : Coded Row
-row_code = code_by (List Command × (Stage × Option OpenClaim)) (coded× (coded_list command.the_row.coded) (coded× stage_code (coded_option claim_code))) (λ r. (r.left, (r.stage, r.claim)))
+row_code = code_by (List Command × (Stage × Option OpenClaim))
+    (coded× (coded_list command.the_row.coded) (coded× stage_code (coded_option claim_code)))
+    (λ r. (r.left, (r.stage, r.claim)))
     (λ p. record { left = p.0; stage = p.1.0; claim = p.1.1 }) (λ _. refl)
 
 abbrev pub stage_seen : seen.Stage → Stage

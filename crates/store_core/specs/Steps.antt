@@ -51,4 +51,5 @@ pub record IsPostedAt {D : Type 0} (p : StoreView D) (channel : ℕ) : Type 0 wh
 
 -- the first command of a channel has this
 abbrev pub Asks : {D : Type 0} → StoreView D → ℕ → (Command → Type 0) → Type 0
-Asks p channel P = (command : Command) (rest : List Command) → (rows_of p.rows channel).left ≡ command ∷ rest → P command
+Asks p channel P = (command : Command) (rest : List Command) → (rows_of p.rows channel).left ≡ command ∷ rest
+    → P command

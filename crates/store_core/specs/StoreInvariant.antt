@@ -23,8 +23,8 @@ pub record IsRunning (p : StoreState) : Type 0 where
   pub placed : IsPlaced store
   pub facts : RunInvariant store first script p
 
--- It began with nothing logged, turns led from there to here, and the state has what every state of a run has; and power may
--- fail at any moment.
+-- It began with nothing logged, turns led from there to here, and the state has what every state of a run has; and
+-- power may fail at any moment.
 pub record StoreInvariant {D : Type 0} (d : Ghosts D) (p : WithOpening D) : Type 0 where
   pub began : Opens (state_of d p.opening)
   pub run : (kinds : List Kind) × Run d.tells (state_of d p.opening) kinds (state_of d p.at)

@@ -6,4 +6,5 @@ use Rattle.store_core.specs.StoreView.{StoreView, state_of}
 
 -- A turn of this kind is made, and the device is touched as it says and in no other way.
 abbrev pub TurnMade : {D : Type 0} → Ghosts D → StoreView D → StoreView D → Kind → Type 0
-TurnMade d p q kind = (case : Turn d.tells (state_of d p) kind (state_of d q)) × DoesTouch d p.disk q.disk ((the kind).touch d.tells (state_of d p) (state_of d q) case)
+TurnMade d p q kind = (case : Turn d.tells (state_of d p) kind (state_of d q))
+    × DoesTouch d p.disk q.disk ((the kind).touch d.tells (state_of d p) (state_of d q) case)

@@ -126,7 +126,8 @@ pub(crate) fn answer<D: PageDisk>(running: &mut Running<D>, channel: u8)
     requires runs { running.old.stopped ≡ None }
     requires no_job { running.old.job ≡ None }
     ensures case { TurnMade D.PageDisk (view_of running.old) (view_of running.new) kind.answers }
-    ensures row { OnlyRow running.old.rows.items running.new.rows.items channel (decided (rows_of running.old.rows.items channel)) }
+    ensures row { OnlyRow running.old.rows.items running.new.rows.items channel
+        (decided (rows_of running.old.rows.items channel)) }
     ensures order { InOrder D.PageDisk running.new }
 {
     let command = first_of(&running.rows, channel);
@@ -148,9 +149,12 @@ pub(crate) fn answer_or_halt<D: PageDisk>(running: &mut Running<D>, channel: u8)
     requires in_memory { Asks (view_of running.old) channel (λ command. IsOnHead command × IsInMemory command) }
     requires running { IsRunning (state_of D.PageDisk (view_of running.old)) }
     requires no_job { running.old.job ≡ None }
-    ensures answered { running.old.stopped ≡ None → TurnMade D.PageDisk (view_of running.old) (view_of running.new) kind.answers }
-    ensures halted { IsSome running.old.stopped → TurnMade D.PageDisk (view_of running.old) (view_of running.new) kind.halts }
-    ensures row { OnlyRow running.old.rows.items running.new.rows.items channel (decided (rows_of running.old.rows.items channel)) }
+    ensures answered { running.old.stopped ≡ None
+        → TurnMade D.PageDisk (view_of running.old) (view_of running.new) kind.answers }
+    ensures halted { IsSome running.old.stopped
+        → TurnMade D.PageDisk (view_of running.old) (view_of running.new) kind.halts }
+    ensures row { OnlyRow running.old.rows.items running.new.rows.items channel
+        (decided (rows_of running.old.rows.items channel)) }
     ensures order { InOrder D.PageDisk running.new }
 {
     if running.stopped.is_some() {

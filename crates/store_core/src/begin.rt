@@ -1,6 +1,7 @@
 //! The begin of a job.
 
-ghost use Rattle.std.specs.Prelude.{◌≡◌, ◌+◌, ◌<◌, ◌≤◌, ◌∷◌, [], Some, None, length, IfOk, IfErr, IfSome, IfNone, IsSome};
+ghost use Rattle.std.specs.Prelude.{◌≡◌, ◌+◌, ◌<◌, ◌≤◌, ◌∷◌, [], Some, None, length, IfOk, IfErr, IfSome, IfNone};
+ghost use Rattle.std.specs.Prelude.{IsSome};
 ghost use Rattle.std.specs.FinMap as map;
 ghost use Rattle.std.specs.List.{All};
 ghost use Rattle.pools.specs.Pool.{clear_in};
@@ -10,7 +11,8 @@ ghost use Rattle.md_chain.specs.Packing.{parts_of, ArePlannable, AreFew, FitsPag
 ghost use Rattle.store_model.specs.Cases as kind;
 ghost use Rattle.store_model.specs.Jobs.{AsksFor};
 ghost use Rattle.store_core.specs.declared.begin.BeginTurn.TheVariants.{Began, Logged};
-ghost use Rattle.store_core.specs.Begins.{row_begun, BeginsOrNot, HasChain, IsJobOf, ReplacesOne, IsLaid, IsPrepared, IsTaken, LacksPages};
+ghost use Rattle.store_core.specs.Begins.{row_begun, BeginsOrNot, HasChain, IsJobOf, ReplacesOne, IsLaid, IsPrepared};
+ghost use Rattle.store_core.specs.Begins.{IsTaken, LacksPages};
 ghost use Rattle.store_core.specs.StoreInvariant.{IsRunning};
 ghost use Rattle.store_core.specs.TurnMade.{TurnMade};
 ghost use Rattle.store_core.specs.Running.{view_of, InOrder};
@@ -87,9 +89,9 @@ impl Prepared {
     }
 }
 
-/// Begins the job that gives the blob at `head` the metadata `new`, for the posted command of a channel. Where fewer pages
-/// are clear than the chain of the metadata needs behind its head, or memory runs out, the command is logged instead, as
-/// `NoPage` or `Memory`, and nothing else changes.
+/// Begins the job that gives the blob at `head` the metadata `new`, for the posted command of a channel. Where fewer
+/// pages are clear than the chain of the metadata needs behind its head, or memory runs out, the command is logged
+/// instead, as `NoPage` or `Memory`, and nothing else changes.
 pub(crate) fn begin<D: PageDisk>(
     running: &mut Running<D>,
     channel: u8,
@@ -99,13 +101,15 @@ pub(crate) fn begin<D: PageDisk>(
     requires order { InOrder D.PageDisk running.old }
     requires channel { channel < 16 }
     requires posted { IsPostedAt (view_of running.old) channel }
-    requires asks { Asks (view_of running.old) channel (λ command. AsksFor (state_of D.PageDisk (view_of running.old)) command head new) }
+    requires asks { Asks (view_of running.old) channel
+        (λ command. AsksFor (state_of D.PageDisk (view_of running.old)) command head new) }
     requires running { IsRunning (state_of D.PageDisk (view_of running.old)) }
     requires runs { running.old.stopped ≡ None }
     requires no_job { running.old.job ≡ None }
     ensures began { result ≡ Began → TurnMade D.PageDisk (view_of running.old) (view_of running.new) kind.begins }
     ensures logged { result ≡ Logged → TurnMade D.PageDisk (view_of running.old) (view_of running.new) kind.refuses }
-    ensures row { OnlyRow running.old.rows.items running.new.rows.items channel (row_begun result (rows_of running.old.rows.items channel)) }
+    ensures row { OnlyRow running.old.rows.items running.new.rows.items channel
+        (row_begun result (rows_of running.old.rows.items channel)) }
     ensures order { InOrder D.PageDisk running.new }
 {
     match prepare(
@@ -131,7 +135,8 @@ pub(crate) fn begin<D: PageDisk>(
     }
 }
 
-/// Begins the job of one replacement, for the posted command of a channel, or, on a stopped store, logs that it is stopped.
+/// Begins the job of one replacement, for the posted command of a channel, or, on a stopped store, logs that it is
+/// stopped.
 pub(crate) fn begin_or_halt<D: PageDisk>(
     running: &mut Running<D>,
     channel: u8,
@@ -141,12 +146,16 @@ pub(crate) fn begin_or_halt<D: PageDisk>(
     requires channel { channel < 16 }
     requires posted { IsPostedAt (view_of running.old) channel }
     requires replaces { ReplacesOne job }
-    requires asks { running.old.stopped ≡ None → Asks (view_of running.old) channel (λ command. IsJobOf (state_of D.PageDisk (view_of running.old)) command job) }
+    requires asks { running.old.stopped ≡ None → Asks (view_of running.old) channel
+        (λ command. IsJobOf (state_of D.PageDisk (view_of running.old)) command job) }
     requires running { IsRunning (state_of D.PageDisk (view_of running.old)) }
     requires no_job { running.old.job ≡ None }
-    ensures begins { running.old.stopped ≡ None → BeginsOrNot D.PageDisk (view_of running.old) (view_of running.new) result }
-    ensures halted { IsSome running.old.stopped → (result ≡ Logged) × TurnMade D.PageDisk (view_of running.old) (view_of running.new) kind.halts }
-    ensures row { OnlyRow running.old.rows.items running.new.rows.items channel (row_begun result (rows_of running.old.rows.items channel)) }
+    ensures begins { running.old.stopped ≡ None
+        → BeginsOrNot D.PageDisk (view_of running.old) (view_of running.new) result }
+    ensures halted { IsSome running.old.stopped
+        → (result ≡ Logged) × TurnMade D.PageDisk (view_of running.old) (view_of running.new) kind.halts }
+    ensures row { OnlyRow running.old.rows.items running.new.rows.items channel
+        (row_begun result (rows_of running.old.rows.items channel)) }
     ensures order { InOrder D.PageDisk running.new }
 {
     if running.stopped.is_some() {
@@ -179,8 +188,8 @@ fn replacement_of(job: Job) -> (u32, Meta)
     }
 }
 
-/// Makes what a job needs for new metadata at a head, and takes its pages; `None` where too few are clear. Pages are taken
-/// last: after `None` and after `Memory` the same ones are in use as before.
+/// Makes what a job needs for new metadata at a head, and takes its pages; `None` where too few are clear. Pages are
+/// taken last: after `None` and after `Memory` the same ones are in use as before.
 fn prepare(
     alloc: Global,
     chains: &Chains,
@@ -236,7 +245,8 @@ fn places_behind(alloc: Global, chains: &Chains, head: u32) -> Result<PlaceList,
     Ok(PlaceList::from_vec(behind))
 }
 
-/// Takes so many pages, and lays the items on the head and on these. After `Memory` the same pages are in use as before.
+/// Takes so many pages, and lays the items on the head and on these. After `Memory` the same pages are in use as
+/// before.
 fn take_chain(
     alloc: Global,
     pages: &mut PagePool,

@@ -14,9 +14,11 @@ use page_disk::{DiskFault, Page, PageDisk, replace_page, write_and_flush, write_
 #[tactic(auto, using(crate::proofs::Moving::moves, crate::proofs::Moving::fails))]
 pub(crate) fn write_one<D: PageDisk>(disk: &mut D, place: u64, page: &Page) -> Result<(), DiskFault>
     requires { place < D.pages disk.old }
-    ensures moves { OnOk result (WritesOnePage D.tells (device_of D.PageDisk disk.old) place page.now 1 (device_of D.PageDisk disk.new)) }
+    ensures moves { OnOk result
+        (WritesOnePage D.tells (device_of D.PageDisk disk.old) place page.now 1 (device_of D.PageDisk disk.new)) }
     ensures fails { OnErr result (FailsToReplace (device_of D.PageDisk disk.old) (device_of D.PageDisk disk.new)) }
-    ensures any_moment { CallsLeaveOnly D.PageDisk disk.old disk.new (Written (D.images disk.old) place Plain page.now) }
+    ensures any_moment { CallsLeaveOnly D.PageDisk disk.old disk.new
+        (Written (D.images disk.old) place Plain page.now) }
     ensures pages { D.pages disk.new ≡ D.pages disk.old }
 {
     write_page(disk, place, page)
@@ -30,9 +32,11 @@ pub(crate) fn write_last<D: PageDisk>(
     page: &Page,
 ) -> Result<(), DiskFault>
     requires { place < D.pages disk.old }
-    ensures moves { OnOk result (WritesOnePage D.tells (device_of D.PageDisk disk.old) place page.now 2 (device_of D.PageDisk disk.new)) }
+    ensures moves { OnOk result
+        (WritesOnePage D.tells (device_of D.PageDisk disk.old) place page.now 2 (device_of D.PageDisk disk.new)) }
     ensures fails { OnErr result (FailsToReplace (device_of D.PageDisk disk.old) (device_of D.PageDisk disk.new)) }
-    ensures any_moment { CallsLeaveOnly D.PageDisk disk.old disk.new (Written (D.images disk.old) place Plain page.now) }
+    ensures any_moment { CallsLeaveOnly D.PageDisk disk.old disk.new
+        (Written (D.images disk.old) place Plain page.now) }
     ensures durable { IsTrue D.tells → OnOk result (Only (D.now disk.new) (D.images disk.new)) }
     ensures pages { D.pages disk.new ≡ D.pages disk.old }
 {
@@ -43,9 +47,11 @@ pub(crate) fn write_last<D: PageDisk>(
 #[tactic(auto, using(crate::proofs::Moving::moves, crate::proofs::Moving::fails))]
 pub(crate) fn replace<D: PageDisk>(disk: &mut D, place: u64, page: &Page) -> Result<(), DiskFault>
     requires { place < D.pages disk.old }
-    ensures moves { OnOk result (WritesOnePage D.tells (device_of D.PageDisk disk.old) place page.now 3 (device_of D.PageDisk disk.new)) }
+    ensures moves { OnOk result
+        (WritesOnePage D.tells (device_of D.PageDisk disk.old) place page.now 3 (device_of D.PageDisk disk.new)) }
     ensures fails { OnErr result (FailsToReplace (device_of D.PageDisk disk.old) (device_of D.PageDisk disk.new)) }
-    ensures any_moment { CallsLeaveOnly D.PageDisk disk.old disk.new (IsReplaced (D.images disk.old) (D.now disk.old) place page.now) }
+    ensures any_moment { CallsLeaveOnly D.PageDisk disk.old disk.new
+        (IsReplaced (D.images disk.old) (D.now disk.old) place page.now) }
     ensures durable { IsTrue D.tells → OnOk result (Only (D.now disk.new) (D.images disk.new)) }
     ensures pages { D.pages disk.new ≡ D.pages disk.old }
 {

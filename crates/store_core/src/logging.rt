@@ -16,9 +16,11 @@ pub(crate) fn log<D: PageDisk>(running: &mut Running<D>, channel: u8, reply: Rep
     requires order { InOrder D.PageDisk running.old }
     requires channel { channel < 16 }
     requires left { 0 < length (rows_of running.old.rows.items channel).left }
-    ensures logged { (command : ACommand) (rest : List ACommand) → (rows_of running.old.rows.items channel).left ≡ command ∷ rest →
+    ensures logged { (command : ACommand) (rest : List ACommand)
+        → (rows_of running.old.rows.items channel).left ≡ command ∷ rest →
         view_of running.new ≡ logged_at (view_of running.old) channel command rest reply (D.clock running.new.disk) }
-    ensures row { OnlyRow running.old.rows.items running.new.rows.items channel (decided (rows_of running.old.rows.items channel)) }
+    ensures row { OnlyRow running.old.rows.items running.new.rows.items channel
+        (decided (rows_of running.old.rows.items channel)) }
     ensures order { InOrder D.PageDisk running.new }
 {
     let Some(command) = running.rows[channel as usize].take() else {

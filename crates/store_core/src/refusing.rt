@@ -18,10 +18,12 @@ pub(crate) fn refuse<D: PageDisk>(running: &mut Running<D>, channel: u8, reply: 
     requires order { InOrder D.PageDisk running.old }
     requires channel { channel < 16 }
     requires posted { IsPostedAt (view_of running.old) channel }
-    requires why { Asks (view_of running.old) channel (λ command. IsRefusedBy (state_of D.PageDisk (view_of running.old)) command reply) }
+    requires why { Asks (view_of running.old) channel
+        (λ command. IsRefusedBy (state_of D.PageDisk (view_of running.old)) command reply) }
     requires runs { running.old.stopped ≡ None }
     ensures case { TurnMade D.PageDisk (view_of running.old) (view_of running.new) kind.refuses }
-    ensures row { OnlyRow running.old.rows.items running.new.rows.items channel (decided (rows_of running.old.rows.items channel)) }
+    ensures row { OnlyRow running.old.rows.items running.new.rows.items channel
+        (decided (rows_of running.old.rows.items channel)) }
     ensures order { InOrder D.PageDisk running.new }
 {
     log(running, channel, reply);
@@ -34,7 +36,8 @@ pub(crate) fn halt<D: PageDisk>(running: &mut Running<D>, channel: u8)
     requires posted { IsPostedAt (view_of running.old) channel }
     requires stopped { IsSome running.old.stopped }
     ensures case { TurnMade D.PageDisk (view_of running.old) (view_of running.new) kind.halts }
-    ensures row { OnlyRow running.old.rows.items running.new.rows.items channel (decided (rows_of running.old.rows.items channel)) }
+    ensures row { OnlyRow running.old.rows.items running.new.rows.items channel
+        (decided (rows_of running.old.rows.items channel)) }
     ensures order { InOrder D.PageDisk running.new }
 {
     match running.stopped {
@@ -48,10 +51,14 @@ pub(crate) fn refuse_or_halt<D: PageDisk>(running: &mut Running<D>, channel: u8,
     requires order { InOrder D.PageDisk running.old }
     requires channel { channel < 16 }
     requires posted { IsPostedAt (view_of running.old) channel }
-    requires why { running.old.stopped ≡ None → Asks (view_of running.old) channel (λ command. IsRefusedBy (state_of D.PageDisk (view_of running.old)) command reply) }
-    ensures refused { running.old.stopped ≡ None → TurnMade D.PageDisk (view_of running.old) (view_of running.new) kind.refuses }
-    ensures halted { IsSome running.old.stopped → TurnMade D.PageDisk (view_of running.old) (view_of running.new) kind.halts }
-    ensures row { OnlyRow running.old.rows.items running.new.rows.items channel (decided (rows_of running.old.rows.items channel)) }
+    requires why { running.old.stopped ≡ None → Asks (view_of running.old) channel
+        (λ command. IsRefusedBy (state_of D.PageDisk (view_of running.old)) command reply) }
+    ensures refused { running.old.stopped ≡ None
+        → TurnMade D.PageDisk (view_of running.old) (view_of running.new) kind.refuses }
+    ensures halted { IsSome running.old.stopped
+        → TurnMade D.PageDisk (view_of running.old) (view_of running.new) kind.halts }
+    ensures row { OnlyRow running.old.rows.items running.new.rows.items channel
+        (decided (rows_of running.old.rows.items channel)) }
     ensures order { InOrder D.PageDisk running.new }
 {
     if running.stopped.is_some() {

@@ -3,8 +3,8 @@
 use std::marker::Model;
 use std::sync::ledger::Blank;
 
-/// Who has it may change the metadata and the live attributes of its store. `Plant::start` alone makes one, for the store that
-/// it makes; it can't be copied. Contracts see its name, which no other right has.
+/// Who has it may change the metadata and the live attributes of its store. `Plant::start` alone makes one, for the
+/// store that it makes; it can't be copied. Contracts see its name, which no other right has.
 pub struct MdRight {
     name: Blank,
 }

@@ -195,7 +195,8 @@ impl Row {
 pub(crate) fn first_of(rows: &[Row], channel: u8) -> &Command
     requires low { channel < length rows.now }
     requires left { 0 < length (rows_of rows.now channel).left }
-    ensures { (command : ACommand) (rest : List ACommand) → (rows_of rows.now channel).left ≡ command ∷ rest → result.now ≡ command }
+    ensures { (command : ACommand) (rest : List ACommand) → (rows_of rows.now channel).left ≡ command ∷ rest
+        → result.now ≡ command }
 {
     match rows[channel as usize].first() {
         Some(command) => command,

@@ -27,7 +27,8 @@ pub(crate) struct AtStart {
     pub(crate) marks: Vec<u64>,
 }
 
-/// All that a start takes memory for; the log has room for every command. 2^31 commands and more are answered as want of memory.
+/// All that a start takes memory for; the log has room for every command. 2^31 commands and more are answered as want
+/// of memory.
 pub(crate) fn parts_at_start(
     alloc: Global,
     metas: &Metas,

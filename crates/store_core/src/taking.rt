@@ -9,7 +9,8 @@ use pools::PagePool;
 use std::alloc::Global;
 use volume_model::PlaceList;
 
-/// Takes so many of the least clear places, in their order; no place stays claimed. After `Memory` the pool is as before.
+/// Takes so many of the least clear places, in their order; no place stays claimed. After `Memory` the pool is as
+/// before.
 pub(crate) fn take_pages(
     alloc: Global,
     pages: &mut PagePool,

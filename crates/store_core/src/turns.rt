@@ -19,7 +19,8 @@ pub(crate) fn post<D: PageDisk>(running: &mut Running<D>, channel: u8) -> Msg
     requires waits { WaitsForMetadata (view_of running.old) channel }
     ensures case { TurnMade D.PageDisk (view_of running.old) (view_of running.new) kind.posts }
     ensures message { result ≡ record { channel = channel; serial = running.old.serial } }
-    ensures row { OnlyRow running.old.rows.items running.new.rows.items channel (record (rows_of running.old.rows.items channel) { stage = Posted running.old.serial }) }
+    ensures row { OnlyRow running.old.rows.items running.new.rows.items channel
+        (record (rows_of running.old.rows.items channel) { stage = Posted running.old.serial }) }
     ensures order { InOrder D.PageDisk running.new }
 {
     let serial = running.serial;
@@ -35,7 +36,8 @@ pub(crate) fn settle<D: PageDisk>(running: &mut Running<D>, channel: u8)
     requires decided { (outcome : Decision) × ((rows_of running.old.rows.items channel).stage ≡ Decided outcome) }
     requires unclaimed { (rows_of running.old.rows.items channel).claim ≡ None }
     ensures case { TurnMade D.PageDisk (view_of running.old) (view_of running.new) kind.settles }
-    ensures row { OnlyRow running.old.rows.items running.new.rows.items channel (record (rows_of running.old.rows.items channel) { stage = Idle }) }
+    ensures row { OnlyRow running.old.rows.items running.new.rows.items channel
+        (record (rows_of running.old.rows.items channel) { stage = Idle }) }
     ensures order { InOrder D.PageDisk running.new }
 {
     running.rows[channel as usize].settle();
@@ -47,7 +49,8 @@ pub(crate) fn end<D: PageDisk>(running: &mut Running<D>, channel: u8)
     requires channel { channel < 16 }
     requires over { rows_of running.old.rows.items channel ≡ record { left = []; stage = Idle; claim = None } }
     ensures case { TurnMade D.PageDisk (view_of running.old) (view_of running.new) kind.ends }
-    ensures row { OnlyRow running.old.rows.items running.new.rows.items channel (record (rows_of running.old.rows.items channel) { stage = Ended }) }
+    ensures row { OnlyRow running.old.rows.items running.new.rows.items channel
+        (record (rows_of running.old.rows.items channel) { stage = Ended }) }
     ensures order { InOrder D.PageDisk running.new }
 {
     running.rows[channel as usize].end();

@@ -1,28 +1,33 @@
 -- Open claims of rows, as rows change.
-use Rattle.std.proofs.Common.{◌≡◌, ◌≢◌, ◌⊎◌, ℕ, ◌≤◌, Bool, List, Option, None, Some, inl, inr, sym, subst, ap, ◌∙◌, [], true}
+use Rattle.std.proofs.Common.{◌≡◌, ℕ, Bool, List, Option, None, Some, inl, inr, sym, subst, ap, ◌∙◌, [], true}
 use Rattle.super_block.specs.declared.page.Super.{Super}
 use Rattle.store_model.specs.Maps.{Metas}
 use Rattle.store_model.specs.Rows.{OpenClaim, Row, Rows, with_row}
-use Rattle.store_model.specs.Places.{ClaimsDiffer, IsClaimed, IsMapped, Unclaimed, UsedClusters, claimed_by, HasClaim}
+use Rattle.store_model.specs.Places.{ClaimsDiffer, Unclaimed, UsedClusters, claimed_by, HasClaim}
 use Rattle.std.proofs.lemmas.Bool.{cases_eq}
 use Rattle.store_model.proofs.RowsKept.{row_here, row_other}
 use Rattle.store_model.specs.StoreState.{JobState}
 use Rattle.md_chain.specs.Chain.{is_among}
 
 -- a row without a claim is another without one: each row has the claim that it had
-pub with_row_claims : (rows : Rows) (channel : ℕ) (row : Row) → (rows channel).claim ≡ None → row.claim ≡ None → (c : ℕ) → (with_row rows channel row c).claim ≡ (rows c).claim
+pub with_row_claims : (rows : Rows) (channel : ℕ) (row : Row) → (rows channel).claim ≡ None → row.claim ≡ None → (c : ℕ)
+    → (with_row rows channel row c).claim ≡ (rows c).claim
 with_row_claims rows channel row none given c = elim (cases_eq c channel) [
-  | inl e ↦ ap (λ (r : Row). r.claim) (row_here rows channel row c e) ∙ given ∙ sym none ∙ ap (λ k. (rows k).claim) (sym e)
+  | inl e ↦ ap (λ (r : Row). r.claim) (row_here rows channel row c e) ∙ given ∙ sym none
+      ∙ ap (λ k. (rows k).claim) (sym e)
   | inr ne ↦ ap (λ (r : Row). r.claim) (row_other rows channel row c ne)
 ]
 
-module _ (rows other : Rows) (a b : Option JobState) (same : (c : ℕ) → (other c).claim ≡ (rows c).claim) (job : claimed_by b ≡ claimed_by a) where
+module _ (rows other : Rows) (a b : Option JobState) (same : (c : ℕ) → (other c).claim ≡ (rows c).claim)
+    (job : claimed_by b ≡ claimed_by a) where
   claimed_there : (cluster : ℕ) → HasClaim rows a cluster → HasClaim other b cluster
-  claimed_there cluster (inl x) = inl (record { channel = x.channel; claim = x.claim; held = same x.channel ∙ x.held; is = x.is })
+  claimed_there cluster (inl x) =
+      inl (record { channel = x.channel; claim = x.claim; held = same x.channel ∙ x.held; is = x.is })
   claimed_there cluster (inr among) = inr (ap (is_among cluster) job ∙ among)
 
   claimed_back : (cluster : ℕ) → HasClaim other b cluster → HasClaim rows a cluster
-  claimed_back cluster (inl x) = inl (record { channel = x.channel; claim = x.claim; held = sym (same x.channel) ∙ x.held; is = x.is })
+  claimed_back cluster (inl x) =
+      inl (record { channel = x.channel; claim = x.claim; held = sym (same x.channel) ∙ x.held; is = x.is })
   claimed_back cluster (inr among) = inr (sym (ap (is_among cluster) job) ∙ among)
 
   -- the same claims keep the clusters in use
@@ -49,13 +54,15 @@ module _ (rows other : Rows) (a b : Option JobState) (same : (c : ℕ) → (othe
 
 -- ---- no claim is open
 
-module _ (rows : Rows) (job : Option JobState) (none : (c : ℕ) → (rows c).claim ≡ None) (empty : claimed_by job ≡ []) where
+module _ (rows : Rows) (job : Option JobState) (none : (c : ℕ) → (rows c).claim ≡ None)
+    (empty : claimed_by job ≡ []) where
   never : (c : ℕ) (x : OpenClaim) → (rows c).claim ≡ Some x → ⊥
   never c x held = let bad = sym (none c) ∙ held in cc bad
 
   not_claimed : (cluster : ℕ) → HasClaim rows job cluster → ⊥
   not_claimed cluster (inl x) = never x.channel x.claim x.held
-  not_claimed cluster (inr among) = let bad : is_among cluster [] ≡ true = subst (λ l. is_among cluster l ≡ true) empty among in cc bad
+  not_claimed cluster (inr among) =
+      let bad : is_among cluster [] ≡ true = subst (λ l. is_among cluster l ≡ true) empty among in cc bad
 
   pub used_unclaimed : (s : Super) (bits : List Bool) (metas : Metas) → UsedClusters s bits metas Unclaimed
       → UsedClusters s bits metas (HasClaim rows job)

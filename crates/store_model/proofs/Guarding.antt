@@ -1,14 +1,16 @@
 -- The blobs that are frozen and the generations, as states change.
-use Rattle.std.proofs.Common.{◌≡◌, ◌≢◌, ℕ, ◌+◌, ◌≤◌, Bool, true, false, List, [], ◌∷◌, length, Option, Some, None, refl, sym, ◌∙◌, ap, subst, arith, inl, inr}
+use Rattle.std.proofs.Common.{◌≡◌, ◌≢◌, ℕ, ◌+◌, ◌≤◌, Bool, true, false, List, [], ◌∷◌, length, Option, Some, None, refl}
+use Rattle.std.proofs.Common.{sym, ◌∙◌, ap, subst, arith, inl, inr}
 use Rattle.std.specs.Prelude.{if◌then◌else◌, is_some, IsSome}
 use Rattle.std.specs.List.{AllByRecursion}
 use Rattle.std.proofs.lemmas.Bool.{cases_eq, eq-eqb, false≢true, ne_eqb}
 use Rattle.blob_meta.specs.declared.meta.Meta.{Meta}
 use Rattle.store_model.specs.Maps.{Map, Metas, with_entry}
 use Rattle.store_model.specs.Phases.{Phase}
-use Rattle.store_model.specs.Rows.{OpenClaim, Rows}
+use Rattle.store_model.specs.Rows.{Rows}
 use Rattle.store_model.specs.StoreState.{going_on, JobState, StoreState}
-use Rattle.store_model.specs.Guarding.{all_renewed, AreClaimsDrawn, AreGenerations, freezing, frozen_behind, IsGuarded, releasing}
+use Rattle.store_model.specs.Guarding.{all_renewed, AreClaimsDrawn, AreGenerations, freezing, frozen_behind, IsGuarded}
+use Rattle.store_model.specs.Guarding.{releasing}
 use Rattle.store_model.proofs.WithEntry.{given_here, given_elsewhere}
 
 -- ---- frozen blobs
@@ -18,7 +20,8 @@ pub none_guarded : (q : StoreState) → ((head : ℕ) → q.frozen head ≡ fals
 none_guarded q none = record { frozen = λ head is. absurd (false≢true (sym (none head) ∙ is)); stopped = λ at is. none }
 
 -- blobs stay frozen, and the job stays
-pub guarded_same : (p q : StoreState) → q.frozen ≡ p.frozen → q.job ≡ p.job → q.stopped ≡ p.stopped → IsGuarded p → IsGuarded q
+pub guarded_same : (p q : StoreState) → q.frozen ≡ p.frozen → q.job ≡ p.job → q.stopped ≡ p.stopped → IsGuarded p
+    → IsGuarded q
 guarded_same p q frozen job stopped g = record {
   frozen = λ head is. let x = g.frozen head (ap (λ (f : ℕ → Bool). f head) (sym frozen) ∙ is) in (x.0, job ∙ x.1, x.2);
   stopped = λ at is head. ap (λ (f : ℕ → Bool). f head) frozen ∙ g.stopped at (sym stopped ∙ is) head;
@@ -41,7 +44,8 @@ module _ (p : StoreState) (g : IsGuarded p) where
       let bad = sym none ∙ ap (λ (i : JobState). i.freeze) (sym same) ∙ x.2 in cc bad)
 
 -- a job begins where none ran
-module _ (p q : StoreState) (g : IsGuarded p) (no_job : p.job ≡ None) (k : JobState) (is : q.job ≡ Some k) (runs : q.stopped ≡ None) where
+module _ (p q : StoreState) (g : IsGuarded p) (no_job : p.job ≡ None) (k : JobState) (is : q.job ≡ Some k)
+    (runs : q.stopped ≡ None) where
   pub guarded_begun : q.frozen ≡ freezing p.frozen k.freeze → IsGuarded q
   guarded_begun frozen = record {
     frozen = λ head on. (k, is, by k.freeze head (ap (λ (f : ℕ → Bool). f head) (sym frozen) ∙ on));
@@ -52,11 +56,13 @@ module _ (p q : StoreState) (g : IsGuarded p) (no_job : p.job ≡ None) (k : Job
       by None head on = absurd (false≢true (sym (none_frozen p g no_job head) ∙ on))
       by (Some blob) head on = elim (cases_eq head blob) [
         | inl e ↦ ap (λ (n : ℕ). Some n) (sym e)
-        | inr ne ↦ absurd (false≢true (sym (none_frozen p g no_job head) ∙ ap (λ b. if b then true else p.frozen head) (sym (ne_eqb head blob ne)) ∙ on))
+        | inr ne ↦ absurd (false≢true (sym (none_frozen p g no_job head)
+            ∙ ap (λ b. if b then true else p.frozen head) (sym (ne_eqb head blob ne)) ∙ on))
       ]
 
 -- the job goes on as one that freezes the same blob
-module _ (p q : StoreState) (g : IsGuarded p) (j other : JobState) (is : p.job ≡ Some j) (same : other.freeze ≡ j.freeze) (runs : q.stopped ≡ None) where
+module _ (p q : StoreState) (g : IsGuarded p) (j other : JobState) (is : p.job ≡ Some j)
+    (same : other.freeze ≡ j.freeze) (runs : q.stopped ≡ None) where
   its_own : (head : ℕ) → p.frozen head ≡ true → j.freeze ≡ Some head
   its_own head on =
       let x = g.frozen head on in
@@ -73,26 +79,35 @@ module _ (p q : StoreState) (g : IsGuarded p) (j other : JobState) (is : p.job �
   released None freezes head = none_frozen_by p g j is freezes head
   released (Some blob) freezes head = elim (cases_eq head blob) [
     | inl e ↦ rw (eq-eqb head blob e) refl
-    | inr ne ↦ rw (ne_eqb head blob ne) (thawed (p.frozen head) (λ on. let both = sym freezes ∙ its_own head on in ne (cc both)))
+    | inr ne ↦ rw (ne_eqb head blob ne)
+        (thawed (p.frozen head) (λ on. let both = sym freezes ∙ its_own head on in ne (cc both)))
   ]
 
   -- or is done, and its blob released
-  pub guarded_behind : (rest : List Phase) → q.job ≡ going_on other [] rest → q.frozen ≡ frozen_behind p.frozen j rest → IsGuarded q
-  guarded_behind [] job frozen = none_guarded q (λ head. ap (λ (f : ℕ → Bool). f head) frozen ∙ released j.freeze refl head)
+  pub guarded_behind : (rest : List Phase) → q.job ≡ going_on other [] rest → q.frozen ≡ frozen_behind p.frozen j rest
+      → IsGuarded q
+  guarded_behind [] job frozen =
+      none_guarded q (λ head. ap (λ (f : ℕ → Bool). f head) frozen ∙ released j.freeze refl head)
   guarded_behind (x ∷ xs) job frozen = record {
-    frozen = λ head on. (record other { written = []; todo = x ∷ xs }, job, same ∙ its_own head (ap (λ (f : ℕ → Bool). f head) (sym frozen) ∙ on));
+    frozen = λ head on. (
+      record other { written = []; todo = x ∷ xs },
+      job,
+      same ∙ its_own head (ap (λ (f : ℕ → Bool). f head) (sym frozen) ∙ on),
+    );
     stopped = λ at halts. absurd (let bad = sym runs ∙ halts in cc bad);
   }
 
 -- a job that freezes no blob leaves as they are those that are frozen
-pub frozen_still : (frozen : ℕ → Bool) (j : JobState) (rest : List Phase) → j.freeze ≡ None → frozen_behind frozen j rest ≡ frozen
+pub frozen_still : (frozen : ℕ → Bool) (j : JobState) (rest : List Phase) → j.freeze ≡ None
+    → frozen_behind frozen j rest ≡ frozen
 frozen_still frozen j [] none = ap (releasing frozen) none
 frozen_still frozen j (x ∷ xs) none = refl
 
 -- ---- generations
 
 -- the blobs stay where one has other metadata
-pub generations_over : (base : Metas) (head : ℕ) (new : Meta) (generations : Map ℕ) (drawn : ℕ) → is_some (base head) ≡ true → AreGenerations base generations drawn
+pub generations_over : (base : Metas) (head : ℕ) (new : Meta) (generations : Map ℕ) (drawn : ℕ)
+    → is_some (base head) ≡ true → AreGenerations base generations drawn
     → AreGenerations (with_entry base head new) generations drawn
 generations_over base head new generations drawn there g = record {
   each = λ h. g.each h ∙ elim (cases_eq h head) [
@@ -104,7 +119,8 @@ generations_over base head new generations drawn there g = record {
 }
 
 -- one blob, which is there then, gets the next number
-module _ (base other : Metas) (head : ℕ) (generations : Map ℕ) (drawn : ℕ) (there : IsSome (other head)) (same : (h : ℕ) → h ≢ head → is_some (other h) ≡ is_some (base h))
+module _ (base other : Metas) (head : ℕ) (generations : Map ℕ) (drawn : ℕ) (there : IsSome (other head))
+    (same : (h : ℕ) → h ≢ head → is_some (other h) ≡ is_some (base h))
     (g : AreGenerations base generations drawn) where
   abbrev next : Map ℕ
   next = with_entry generations head (drawn + 1)
@@ -144,15 +160,19 @@ module _ (base other : Metas) (head : ℕ) (generations : Map ℕ) (drawn : ℕ)
           omega (arith, same, old)
 
 -- blobs that are there are renewed one after another
-pub generations_renewed : (base : Metas) (generations : Map ℕ) (drawn : ℕ) (heads : List ℕ) → AreGenerations base generations drawn → AllByRecursion (λ head. IsSome (base head)) heads
+pub generations_renewed : (base : Metas) (generations : Map ℕ) (drawn : ℕ) (heads : List ℕ)
+    → AreGenerations base generations drawn → AllByRecursion (λ head. IsSome (base head)) heads
     → AreGenerations base (all_renewed generations drawn heads) (drawn + length heads)
 generations_renewed base generations drawn [] g there = subst (AreGenerations base generations) (omega arith) g
 generations_renewed base generations drawn (head ∷ heads) g there =
     subst (AreGenerations base (all_renewed generations drawn (head ∷ heads))) (omega arith)
-    (generations_renewed base (with_entry generations head (drawn + 1)) (drawn + 1) heads (one_numbered base base head generations drawn there.0 (λ h ne. refl) g) there.1)
+    (generations_renewed base (with_entry generations head (drawn + 1)) (drawn + 1) heads
+    (one_numbered base base head generations drawn there.0 (λ h ne. refl) g) there.1)
 
 -- ---- open claims
 
 -- the same claims, and more numbers drawn
-pub claims_drawn_still : (rows other : Rows) (drawn more : ℕ) → ((c : ℕ) → (other c).claim ≡ (rows c).claim) → drawn ≤ more → AreClaimsDrawn rows drawn → AreClaimsDrawn other more
-claims_drawn_still rows other drawn more same le are c claim held = let low = are c claim (sym (same c) ∙ held) in omega (arith, low, le)
+pub claims_drawn_still : (rows other : Rows) (drawn more : ℕ) → ((c : ℕ) → (other c).claim ≡ (rows c).claim)
+    → drawn ≤ more → AreClaimsDrawn rows drawn → AreClaimsDrawn other more
+claims_drawn_still rows other drawn more same le are c claim held =
+    let low = are c claim (sym (same c) ∙ held) in omega (arith, low, le)

@@ -1,7 +1,9 @@
 -- What is left of a job: its next replacement, and the places that its phases write to.
-use Rattle.std.proofs.Common.{◌≡◌, ◌≢◌, ◌⊎◌, ℕ, ◌++◌, Bool, true, false, List, [], ◌∷◌, Option, None, Some, inl, inr, sym, subst, ap, ◌∙◌, refl}
+use Rattle.std.proofs.Common.{◌≡◌, ◌≢◌, ◌⊎◌, ℕ, ◌++◌, true, false, List, [], ◌∷◌, Option, None, Some, inl, inr, sym}
+use Rattle.std.proofs.Common.{subst, ap, ◌∙◌, refl}
 use Rattle.store_model.specs.Places.{AreDistinct, claimed_by, held_by}
-use Rattle.store_model.specs.Phases.{Replacing, taken_by, Phase, Writes, held_in, next_replacing, page_in, has_commit, planned_in, Erases, Zeros, Replaces, taken_in, Frees, Marks, replaced}
+use Rattle.store_model.specs.Phases.{Replacing, taken_by, Phase, Writes, held_in, next_replacing, page_in, has_commit}
+use Rattle.store_model.specs.Phases.{planned_in, Erases, Zeros, Replaces, taken_in, Frees, Marks, replaced}
 use Rattle.super_block.specs.declared.page.Super.{Super}
 use Rattle.md_chain.specs.Chain.{is_among, Look}
 use Rattle.store_model.specs.StoreState.{JobState, going_on, planned_at, waiting, Service, ForCommand, ForInsert}
@@ -37,7 +39,8 @@ pub among_right : (x : ℕ) (ps qs : List ℕ) → is_among x qs ≡ true → is
 among_right x [] qs is = is
 among_right x (p ∷ ps) qs is = among_later x p (ps ++ qs) (among_right x ps qs is)
 
-pub among_split : (x : ℕ) (ps qs : List ℕ) → is_among x (ps ++ qs) ≡ true → (is_among x ps ≡ true) ⊎ (is_among x qs ≡ true)
+pub among_split : (x : ℕ) (ps qs : List ℕ) → is_among x (ps ++ qs) ≡ true
+    → (is_among x ps ≡ true) ⊎ (is_among x qs ≡ true)
 among_split x [] qs is = inr is
 among_split x (p ∷ ps) qs is = elim (among_either x p (ps ++ qs) is) [
   | inl e ↦ inl (subst (λ y. is_among y (p ∷ ps) ≡ true) (sym e) (among_first p ps))
@@ -59,14 +62,16 @@ distinct_left (p ∷ ps) qs x = (not_among_left p ps qs x.0, distinct_left ps qs
     ]
 
 -- no place of the first list is one of the second
-pub distinct_apart : (ps qs : List ℕ) → AreDistinct (ps ++ qs) → (x : ℕ) → is_among x ps ≡ true → is_among x qs ≡ true → ⊥
+pub distinct_apart : (ps qs : List ℕ) → AreDistinct (ps ++ qs) → (x : ℕ) → is_among x ps ≡ true → is_among x qs ≡ true
+    → ⊥
 distinct_apart [] qs d x left right = cc left
 distinct_apart (p ∷ ps) qs d x left right = elim (among_either x p ps left) [
   | inl e ↦ both_ways (is_among p (ps ++ qs)) d.0 (among_right p ps qs (subst (λ y. is_among y qs ≡ true) e right))
   | inr later ↦ distinct_apart ps qs d.1 x later right
 ]
 
-pub distinct_both : (ps qs : List ℕ) → AreDistinct ps → AreDistinct qs → ((x : ℕ) → is_among x ps ≡ true → is_among x qs ≡ true → ⊥)
+pub distinct_both : (ps qs : List ℕ) → AreDistinct ps → AreDistinct qs
+    → ((x : ℕ) → is_among x ps ≡ true → is_among x qs ≡ true → ⊥)
     → AreDistinct (ps ++ qs)
 distinct_both [] qs a b apart = b
 distinct_both (p ∷ ps) qs a b apart =
@@ -80,7 +85,8 @@ distinct_both (p ∷ ps) qs a b apart =
     (first, distinct_both ps qs a.1 b (λ x left right. apart x (among_later x p ps left) right))
 
 pub no_place : (ps : List ℕ) (place : ℕ) → is_among place ps ≡ true → ps ≡ [] → ⊥
-no_place ps place among none = let bad : is_among place [] ≡ true = subst (λ l. is_among place l ≡ true) none among in cc bad
+no_place ps place among none =
+    let bad : is_among place [] ≡ true = subst (λ l. is_among place l ≡ true) none among in cc bad
 
 -- ---- the next replacement
 
@@ -100,7 +106,8 @@ module _ (s : Super) (base : Metas) (chains : Chains) (claimed : List ℕ) where
     pub fresh : (place : ℕ) → is_among place written ≡ true → is_among place replacing.fresh ≡ true
     pub is_held : (place : ℕ) → is_among place replacing.fresh ≡ true → is_among place held ≡ true
 
-  pub next_of : (todo : List Phase) (written : List ℕ) (place : ℕ) → is_among place written ≡ true → Lays s base chains claimed written todo
+  pub next_of : (todo : List Phase) (written : List ℕ) (place : ℕ) → is_among place written ≡ true
+      → Lays s base chains claimed written todo
       → HasNext written (next_replacing todo) (planned_in todo) (held_in todo)
   next_of [] written place among lays = absurd (no_place written place among lays.0)
   next_of (Marks ∷ rest) written place among lays = next_of rest written place among lays
@@ -133,38 +140,50 @@ module _ (s : Super) (base : Metas) (chains : Chains) (claimed : List ℕ) where
     pub is_held : is_among put.place held ≡ true
     pub quiet : is_head put.place put.page ≡ false
 
-  pub fresh_quiet : (written : List ℕ) (place : ℕ) (rest : List Phase) → Lays s base chains claimed written (Writes place ∷ rest)
+  pub fresh_quiet : (written : List ℕ) (place : ℕ) (rest : List Phase)
+      → Lays s base chains claimed written (Writes place ∷ rest)
       → IsQuietPut (held_in rest) (record { place = place; page = planned_in rest place })
   fresh_quiet written place rest lays =
-      let next = next_of rest (written ++ place ∷ []) place (among_right place written (place ∷ []) (among_first place [])) lays in
+      let next = next_of rest (written ++ place ∷ []) place
+      (among_right place written (place ∷ []) (among_first place [])) lays in
       let among = next.fresh place (among_right place written (place ∷ []) (among_first place [])) in
       record {
         is_held = next.is_held place among;
         quiet = ap (is_head place) (next.planned_is place) ∙ by next.replacing next.can among next.replacing.new refl;
       }
     where
-      by : (r : Replacing) → CanReplace s base chains claimed r.fresh r → is_among place r.fresh ≡ true → (o : Option Meta) → r.new ≡ o
+      by : (r : Replacing) → CanReplace s base chains claimed r.fresh r → is_among place r.fresh ≡ true
+          → (o : Option Meta) → r.new ≡ o
           → is_head place (page_in r.planned place) ≡ false
       by r can among None is = absurd (no_place r.fresh place among (can.gone is))
-      by r can among (Some m) is = fresh_no_head (page_in r.planned) (region_of s) r.head m r.fresh place (can.says m is) among
+      by r can among (Some m) is =
+          fresh_no_head (page_in r.planned) (region_of s) r.head m r.fresh place (can.says m is) among
 
-  pub put_quiet : (j : JobState) (phase : Phase) (rest : List Phase) → j.todo ≡ phase ∷ rest → Lays s base chains claimed j.written j.todo
+  pub put_quiet : (j : JobState) (phase : Phase) (rest : List Phase) → j.todo ≡ phase ∷ rest
+      → Lays s base chains claimed j.written j.todo
       → (put : PlannedPage) → put_by j phase ≡ Some put → IsQuietPut (held_in j.todo) put
   put_quiet j (Writes place) rest e lays put is =
       let x = fresh_quiet j.written place rest (subst (Lays s base chains claimed j.written) e lays) in
       let planned : planned_at j place ≡ planned_in rest place = ap (λ t. planned_in t place) e in
       let same : record { place = place; page = planned_at j place } ≡ put = cc is in
       subst (IsQuietPut (held_in j.todo)) same
-      (record { is_held = ap (λ t. is_among place (held_in t)) e ∙ x.is_held; quiet = ap (is_head place) planned ∙ x.quiet })
+      (record {
+        is_held = ap (λ t. is_among place (held_in t)) e ∙ x.is_held;
+        quiet = ap (is_head place) planned ∙ x.quiet;
+      })
   put_quiet j (Erases place) rest e lays put is =
       let x = subst (Lays s base chains claimed j.written) e lays in
       let same : record { place = place; page = zero_page } ≡ put = cc is in
-      subst (IsQuietPut (held_in j.todo)) same (record { is_held = ap (λ t. is_among place (held_in t)) e ∙ x.1; quiet = zeros_no_head place })
+      subst (IsQuietPut (held_in j.todo)) same
+      (record { is_held = ap (λ t. is_among place (held_in t)) e ∙ x.1; quiet = zeros_no_head place })
   put_quiet j (Frees place old) rest e lays put is =
       let x = subst (Lays s base chains claimed j.written) e lays in
       let same : record { place = place; page = zero_page } ≡ put = cc is in
       subst (IsQuietPut (held_in j.todo)) same
-      (record { is_held = ap (λ t. is_among place (held_in t)) e ∙ among_left place old (taken_in rest) x.1; quiet = zeros_no_head place })
+      (record {
+        is_held = ap (λ t. is_among place (held_in t)) e ∙ among_left place old (taken_in rest) x.1;
+        quiet = zeros_no_head place;
+      })
   put_quiet j Marks rest e lays put is = absurd (cc is)
   put_quiet j (Zeros page) rest e lays put is = absurd (cc is)
   put_quiet j (Replaces r commit) rest e lays put is = absurd (cc is)
@@ -176,11 +195,13 @@ pub record GoesOn (j : JobState) (written : List ℕ) (rest : List Phase) (next 
   pub is : next ≡ record j { written = written; todo = rest }
   pub some : rest ≢ []
 
-pub goes_on_as : (j : JobState) (written : List ℕ) (rest : List Phase) (next : JobState) → going_on j written rest ≡ Some next → GoesOn j written rest next
+pub goes_on_as : (j : JobState) (written : List ℕ) (rest : List Phase) (next : JobState)
+    → going_on j written rest ≡ Some next → GoesOn j written rest next
 goes_on_as j written [] next is = absurd (cc is)
 goes_on_as j written (x ∷ xs) next is = record { is = cc is; some = λ e. cc e }
 
-pub held_after : (j : JobState) (written : List ℕ) (rest : List Phase) → held_by (going_on j written rest) ≡ held_in rest
+pub held_after : (j : JobState) (written : List ℕ) (rest : List Phase)
+    → held_by (going_on j written rest) ≡ held_in rest
 held_after j written [] = refl
 held_after j written (x ∷ xs) = refl
 
@@ -190,12 +211,14 @@ pub claimed_after : (s : Super) (base : Metas) (chains : Chains) (j : JobState) 
 claimed_after s base chains j written [] lays = sym lays.1
 claimed_after s base chains j written (x ∷ xs) lays = refl
 
-pub none_claimed_after : (j : JobState) (written : List ℕ) (rest : List Phase) → j.claimed ≡ [] → claimed_by (going_on j written rest) ≡ []
+pub none_claimed_after : (j : JobState) (written : List ℕ) (rest : List Phase) → j.claimed ≡ []
+    → claimed_by (going_on j written rest) ≡ []
 none_claimed_after j written [] none = refl
 none_claimed_after j written (x ∷ xs) none = none
 
 -- whoever waits for a job waits on while the commit doesn't come
-pub same_wait : (j : JobState) (phase : Phase) (rest : List Phase) → j.todo ≡ phase ∷ rest → has_commit (phase ∷ rest) ≡ has_commit rest
+pub same_wait : (j : JobState) (phase : Phase) (rest : List Phase) → j.todo ≡ phase ∷ rest
+    → has_commit (phase ∷ rest) ≡ has_commit rest
     → waiting j.serves j.todo ≡ waiting j.serves rest
 same_wait j phase rest next same = ap (waiting j.serves) next ∙ by j.serves
   where
@@ -205,7 +228,8 @@ same_wait j phase rest next same = ap (waiting j.serves) next ∙ by j.serves
     by ForRepair = refl
 
 -- a command that waits for its commit may fail
-pub may_fail : (s : Super) (base : Metas) (live : Map Xattrs) (command : Command) (todo : List Phase) → Does s base live command todo
+pub may_fail : (s : Super) (base : Metas) (live : Map Xattrs) (command : Command) (todo : List Phase)
+    → Does s base live command todo
     → (image : Image) → Allowed (fixed_of s) (shown_of s base live image) command r.Fault
 may_fail s base live command [] does image = absurd does
 may_fail s base live command (Marks ∷ rest) does image = may_fail s base live command rest does image
@@ -213,6 +237,7 @@ may_fail s base live command (Zeros page ∷ rest) does image = may_fail s base 
 may_fail s base live command (Writes place ∷ rest) does image = may_fail s base live command rest does image
 may_fail s base live command (Replaces x (Some commit) ∷ rest) does image = does.0.may_fail image
 may_fail s base live command (Replaces x None ∷ rest) does image =
-    subst (λ (v : Volumes). Allowed (fixed_of s) v command r.Fault) (does.0 image) (may_fail s (replaced base x) live command rest does.1 image)
+    subst (λ (v : Volumes). Allowed (fixed_of s) v command r.Fault) (does.0 image)
+    (may_fail s (replaced base x) live command rest does.1 image)
 may_fail s base live command (Erases place ∷ rest) does image = may_fail s base live command rest does image
 may_fail s base live command (Frees place old ∷ rest) does image = may_fail s base live command rest does image

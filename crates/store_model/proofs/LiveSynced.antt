@@ -1,35 +1,26 @@
 -- The attributes as they are read behind a commit that syncs.
-use Rattle.std.proofs.Common.{◌≡◌, ◌≢◌, ℕ, ◌+◌, ◌<◌, List, [], ◌∷◌, length, Option, Some, None, refl, sym, ◌∙◌, ap, subst, arith, inl, inr, IsTrue}
-use Rattle.std.specs.Prelude.{IsSome, slice_get}
-use Rattle.std.specs.FinMap as map
+use Rattle.std.proofs.Common.{◌≡◌, ◌≢◌, ℕ, Option, Some, None, refl, sym, ◌∙◌, ap, inl, inr}
 use Rattle.std.specs.Option.{option_map}
 use Rattle.std.proofs.lemmas.Bool.{cases_eq}
 use Rattle.std.proofs.Math.Path.{fun_ext}
-use Rattle.page_disk.specs.Disk.{Only}
-use Rattle.page_disk.specs.Moments.{IsReplaced, CallsLeaveOnly}
-use Rattle.page_disk.specs.declared.disk.PageDisk.{Ghosts}
 use Rattle.volume_model.specs.Volumes.{Volume, Volumes}
 use Rattle.volume_model.specs.Xattrs.{Xattrs}
 use Rattle.volume_model.specs.Steps.{change}
 use Rattle.volume_model.specs.declared.command.Command.{Command}
 use Rattle.volume_model.specs.declared.reply.Reply.TheVariants as r
 use Rattle.blob_meta.specs.declared.meta.Meta.{Meta}
-use Rattle.md_chain.specs.declared.plan.PlannedPage.{PlannedPage}
-use Rattle.store_model.specs.Maps.{Map, Metas, Chains, with_entry}
+use Rattle.store_model.specs.Maps.{with_entry}
 use Rattle.store_model.specs.Shown.{fixed_of}
-use Rattle.store_model.specs.StoreState.{JobState, StoreState, planned_at, shown, logged}
+use Rattle.store_model.specs.StoreState.{StoreState, shown}
 use Rattle.store_model.specs.Jobs.{AsksFor}
-use Rattle.store_model.specs.Cases.{live_of, WritesOnePage}
-use Rattle.store_model.specs.Cases as kind
-use Rattle.store_model.specs.Cases.Fail as Fail
-use Rattle.store_model.specs.Cases.{FailsToReplace}
-use Rattle.store_model.specs.RunInvariant.{RunsWell}
+use Rattle.store_model.specs.Cases.{live_of}
 use Rattle.store_model.proofs.WithEntry.{given_here, given_elsewhere}
 use Rattle.store_model.proofs.Shows.{or_empty}
 use Rattle.store_model.proofs.Synced.{syncs_to, SyncsTo}
 use Rattle.store_model.proofs.Moved.{HaveLive}
 
-module _ (p : StoreState) (have_live : HaveLive p) (no_live : (head : ℕ) → p.base head ≡ None → p.live head ≡ None) (command : Command) (head : ℕ) (new : Meta) (asks : AsksFor p command head new) where
+module _ (p : StoreState) (have_live : HaveLive p) (no_live : (head : ℕ) → p.base head ≡ None → p.live head ≡ None)
+    (command : Command) (head : ℕ) (new : Meta) (asks : AsksFor p command head new) where
   abbrev w : Volumes
   w = change (fixed_of p.super) (shown p) command r.Ok
 
@@ -49,10 +40,12 @@ module _ (p : StoreState) (have_live : HaveLive p) (no_live : (head : ℕ) → p
   synced_there k ne (Some m) is =
       let l = have_live k m is in
       let shows : live_of (shown p) k ≡ Some (or_empty (p.live k)) = rw is refl in
-      ap (λ o. option_map (λ (x : Volume). x.live) o) (to.others k ne) ∙ shows ∙ ap (λ o. Some (or_empty o)) l.1 ∙ sym l.1
+      ap (λ o. option_map (λ (x : Volume). x.live) o) (to.others k ne) ∙ shows ∙ ap (λ o. Some (or_empty o)) l.1
+      ∙ sym l.1
 
   pub live_synced : (xs : Xattrs) → xs ≡ new.xattrs → with_entry p.live head xs ≡ live_of w
   live_synced xs same = fun_ext (λ k. elim (cases_eq k head) [
-    | inl e ↦ given_here p.live head xs k e ∙ ap (λ (l : Xattrs). Some l) same ∙ sym synced_here ∙ sym (ap (live_of w) e)
+    | inl e ↦ given_here p.live head xs k e ∙ ap (λ (l : Xattrs). Some l) same ∙ sym synced_here
+        ∙ sym (ap (live_of w) e)
     | inr ne ↦ given_elsewhere p.live head xs k ne ∙ sym (synced_there k ne (p.base k) refl)
   ])

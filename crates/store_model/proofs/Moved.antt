@@ -1,5 +1,5 @@
 -- What is known of a job and of used places, on a state with the same parts.
-use Rattle.std.proofs.Common.{◌≡◌, ℕ, ◌<◌, ◌≤◌, Bool, List, ◌∷◌, length, Option, Some, None, refl, sym, ◌∙◌, ap, subst, inl, inr, true}
+use Rattle.std.proofs.Common.{◌≡◌, ℕ, Bool, List, Option, Some, None, refl, sym, ◌∙◌, ap, subst, inl, inr, true}
 use Rattle.std.specs.Option.{option_map}
 use Rattle.std.proofs.Math.Path.{fun_ext}
 use Rattle.volume_model.specs.Volumes.{Volume, Volumes}
@@ -11,13 +11,11 @@ use Rattle.volume_model.specs.declared.reply.Reply.TheVariants as r
 use Rattle.super_block.specs.declared.page.Super.{Super}
 use Rattle.blob_meta.specs.declared.meta.Meta.{Meta}
 use Rattle.store_model.specs.Maps.{Map}
-use Rattle.store_model.specs.Regions.{region_of}
-use Rattle.store_model.specs.Scans.{MetaAt}
 use Rattle.store_model.specs.Shown.{fixed_of, volume_of}
 use Rattle.store_model.specs.Rows.{Rows, Row, InJob}
-use Rattle.store_model.specs.StoreState.{JobState, StoreState, planned_at, shown, ForCommand}
+use Rattle.store_model.specs.StoreState.{JobState, StoreState, shown, ForCommand}
 use Rattle.store_model.specs.Places.{IsClaimed, UsedClusters, IsMapped}
-use Rattle.store_model.specs.Jobs.{AsksFor, IsServed, JobStands}
+use Rattle.store_model.specs.Jobs.{AsksFor, JobStands}
 use Rattle.store_model.specs.Cases.{live_of}
 use Rattle.store_model.specs.RunInvariant.{CanBeWritten, RunsWell}
 use Rattle.store_model.proofs.Shows.{or_empty}
@@ -28,17 +26,21 @@ module _ (p q : StoreState) (super : q.super ≡ p.super) (base : q.base ≡ p.b
   pub asks_same : (command : Command) (head : ℕ) (new : Meta) → AsksFor p command head new → AsksFor q command head new
   asks_same command head new a = record {
     syncing = a.syncing;
-    asked = ap (λ (x : Super). refusal (fixed_of x) (shown q) command) super ∙ ap (λ (v : Volumes). refusal (fixed_of p.super) v command) same ∙ a.asked;
-    found = ap (λ (x : Super). named_head (fixed_of x) (shown q) command) super ∙ ap (λ (v : Volumes). named_head (fixed_of p.super) v command) same ∙ a.found;
+    asked = ap (λ (x : Super). refusal (fixed_of x) (shown q) command) super
+        ∙ ap (λ (v : Volumes). refusal (fixed_of p.super) v command) same ∙ a.asked;
+    found = ap (λ (x : Super). named_head (fixed_of x) (shown q) command) super
+        ∙ ap (λ (v : Volumes). named_head (fixed_of p.super) v command) same ∙ a.found;
     old = a.old;
     there = ap (λ (m : Map Meta). m head) base ∙ a.there;
     after = a.after;
-    step = ap (λ (x : Super). change (fixed_of x) (shown q) command r.Ok head) super ∙ ap (λ (v : Volumes). change (fixed_of p.super) v command r.Ok head) same ∙ a.step;
+    step = ap (λ (x : Super). change (fixed_of x) (shown q) command r.Ok head) super
+        ∙ ap (λ (v : Volumes). change (fixed_of p.super) v command r.Ok head) same ∙ a.step;
     new_is = a.new_is;
   }
 
 -- a job stands on a state with the same metadata, chains and attributes, where its command's row is the same
-pub stands_same : (p q : StoreState) → q.super ≡ p.super → q.base ≡ p.base → q.chains ≡ p.chains → q.live ≡ p.live → (j : JobState)
+pub stands_same : (p q : StoreState) → q.super ≡ p.super → q.base ≡ p.base → q.chains ≡ p.chains → q.live ≡ p.live
+    → (j : JobState)
     → ((channel : ℕ) → j.serves ≡ ForCommand channel → has_commit j.todo ≡ true → q.rows channel ≡ p.rows channel)
     → JobStands p j → JobStands q j
 stands_same p q super base chains live j rows x = record {
@@ -46,16 +48,23 @@ stands_same p q super base chains live j rows x = record {
   distinct = x.distinct;
   served = λ channel serves waits.
       let y = x.served channel serves waits in
-      record { command = y.command; rest = y.rest; row = rows channel serves waits ∙ y.row; does = rw (super, base, live) y.does };
+      record {
+        command = y.command;
+        rest = y.rest;
+        row = rows channel serves waits ∙ y.row;
+        does = rw (super, base, live) y.does;
+      };
   keeps = λ none. rw (super, base, live) (x.keeps none);
 }
 
 -- the row of a command that waits for the commit is in the job
-pub row_in_job : (p : StoreState) (j : JobState) → JobStands p j → (channel : ℕ) → j.serves ≡ ForCommand channel → has_commit j.todo ≡ true
+pub row_in_job : (p : StoreState) (j : JobState) → JobStands p j → (channel : ℕ) → j.serves ≡ ForCommand channel
+    → has_commit j.todo ≡ true
     → (p.rows channel).stage ≡ InJob
 row_in_job p j x channel serves waits = ap (λ (r : Row). r.stage) (x.served channel serves waits).row
 
-pub clusters_same : (s : Super) (bits : List Bool) (metas others : Map Meta) (rows : Rows) → ((c : ℕ) → IsMapped metas c → IsMapped others c) → ((c : ℕ) → IsMapped others c → IsMapped metas c)
+pub clusters_same : (s : Super) (bits : List Bool) (metas others : Map Meta) (rows : Rows)
+    → ((c : ℕ) → IsMapped metas c → IsMapped others c) → ((c : ℕ) → IsMapped others c → IsMapped metas c)
     → UsedClusters s bits metas (IsClaimed rows) → UsedClusters s bits others (IsClaimed rows)
 clusters_same s bits metas others rows there back u = record {
   count = u.count;
@@ -73,43 +82,53 @@ clusters_same s bits metas others rows there back u = record {
 
 -- each blob has live attributes that can be written
 abbrev pub HaveLive : StoreState → Type 0
-HaveLive p = (head : ℕ) (m : Meta) → p.base head ≡ Some m → (xattrs : Xattrs) × (p.live head ≡ Some xattrs) × CanBeWritten xattrs
+HaveLive p =
+    (head : ℕ) (m : Meta) → p.base head ≡ Some m → (xattrs : Xattrs) × (p.live head ≡ Some xattrs) × CanBeWritten xattrs
 
 pub live_writable : (p : StoreState) → HaveLive p → AllWritable (shown p)
 live_writable p live h x is = at (p.base h) refl is
   where
     shown_by : Option Meta → Option Volume
-    shown_by o = option_map (λ m. volume_of (fixed_of p.super).cluster_pages p.device.reads p.base p.super.md_len (or_empty (p.live h)) h m) o
+    shown_by o = option_map (λ m. volume_of (fixed_of p.super).cluster_pages p.device.reads p.base p.super.md_len
+        (or_empty (p.live h)) h m) o
 
     at : (o : Option Meta) → p.base h ≡ o → shown_by o ≡ Some x → CanBeWritten x.live
     at None there made = absurd (cc made)
     at (Some m) there made =
         let l = live h m there in
         let same : or_empty (p.live h) ≡ l.0 = ap or_empty l.1 in
-        let e : volume_of (fixed_of p.super).cluster_pages p.device.reads p.base p.super.md_len (or_empty (p.live h)) h m ≡ x = cc made in
+        let e : volume_of (fixed_of p.super).cluster_pages p.device.reads p.base p.super.md_len
+        (or_empty (p.live h)) h m ≡ x = cc made in
         subst CanBeWritten (sym same ∙ ap (λ (y : Volume). y.live) e) l.2
 
 pub all_writable : (first : Volumes) (p : StoreState) → RunsWell first p → AllWritable (shown p)
 all_writable first p well = live_writable p well.live
 
-module _ (p q : StoreState) (w : Volumes) (only : OnlyLive (shown p) w) (super : q.super ≡ p.super) (base : q.base ≡ p.base) (reads : q.device.reads ≡ p.device.reads) (live : q.live ≡ live_of w) where
+module _ (p q : StoreState) (w : Volumes) (only : OnlyLive (shown p) w) (super : q.super ≡ p.super)
+    (base : q.base ≡ p.base) (reads : q.device.reads ≡ p.device.reads) (live : q.live ≡ live_of w) where
   abbrev with_live : ℕ → Xattrs → Option Meta → Option Volume
-  with_live h xs o = option_map (λ m. volume_of (fixed_of p.super).cluster_pages p.device.reads p.base p.super.md_len xs h m) o
+  with_live h xs o =
+      option_map (λ m. volume_of (fixed_of p.super).cluster_pages p.device.reads p.base p.super.md_len xs h m) o
 
-  again : (h : ℕ) (xs : Xattrs) (o : Option Meta) → with_live h xs o ≡ option_map (λ (x : Volume). record x { live = xs }) (with_live h (or_empty (p.live h)) o)
+  again : (h : ℕ) (xs : Xattrs) (o : Option Meta)
+      → with_live h xs o ≡ option_map (λ (x : Volume). record x { live = xs }) (with_live h (or_empty (p.live h)) o)
   again h xs None = refl
   again h xs (Some m) = refl
 
   pub shown_live : shown q ≡ w
-  shown_live = fun_ext (λ h. (rw (super, base, reads, live) refl) ∙ again h (or_empty (live_of w h)) (p.base h) ∙ sym (only h))
+  shown_live =
+      fun_ext (λ h. (rw (super, base, reads, live) refl) ∙ again h (or_empty (live_of w h)) (p.base h) ∙ sym (only h))
 
 -- each blob has live attributes that can be written
 module _ (p : StoreState) (w : Volumes) (only : OnlyLive (shown p) w) (can : AllWritable w) where
-  pub live_now : (head : ℕ) (m : Meta) → p.base head ≡ Some m → (xattrs : Xattrs) × (live_of w head ≡ Some xattrs) × CanBeWritten xattrs
+  pub live_now : (head : ℕ) (m : Meta) → p.base head ≡ Some m
+      → (xattrs : Xattrs) × (live_of w head ≡ Some xattrs) × CanBeWritten xattrs
   live_now head m there =
-      let v : Volume = volume_of (fixed_of p.super).cluster_pages p.device.reads p.base p.super.md_len (or_empty (p.live head)) head m in
+      let v : Volume = volume_of (fixed_of p.super).cluster_pages p.device.reads p.base p.super.md_len
+      (or_empty (p.live head)) head m in
       let is : w head ≡ Some (record v { live = or_empty (live_of w head) }) = only head ∙ rw there refl in
       (or_empty (live_of w head), ap (λ o. option_map (λ (x : Volume). x.live) o) is, can head _ is)
 
   pub no_live_now : (head : ℕ) → p.base head ≡ None → live_of w head ≡ None
-  no_live_now head none = let gone : w head ≡ None = only head ∙ rw none refl in ap (λ o. option_map (λ (x : Volume). x.live) o) gone
+  no_live_now head none =
+      let gone : w head ≡ None = only head ∙ rw none refl in ap (λ o. option_map (λ (x : Volume). x.live) o) gone

@@ -1,8 +1,7 @@
 -- The phases of one replacement, before any is made.
-use Rattle.std.proofs.Common.{◌≡◌, ◌≢◌, ℕ, ◌++◌, Bool, true, false, List, [], ◌∷◌, Option, None, Some, refl, sym, subst, ap, ◌∙◌, append_assoc}
-use Rattle.std.specs.Prelude.{map}
+use Rattle.std.proofs.Common.{◌≡◌, ℕ, ◌++◌, true, false, List, [], ◌∷◌, refl, sym, subst, ap, ◌∙◌, append_assoc}
 use Rattle.std.proofs.lemmas.List.{append-nil}
-use Rattle.store_model.specs.Phases.{Phase, has_commit, held_in, taken_in, Writes, erasing, writing, planned_in}
+use Rattle.store_model.specs.Phases.{Phase, has_commit, held_in, taken_in, erasing, writing, planned_in}
 use Rattle.super_block.specs.declared.page.Super.{Super}
 use Rattle.store_model.specs.Maps.{Metas, Chains, Map}
 use Rattle.store_model.specs.Jobs.{Lays, Keeps, Does}
@@ -21,16 +20,19 @@ pub held_behind : (fresh : List ℕ) (rest : List Phase) → held_in (writing fr
 held_behind [] rest = refl
 held_behind (p ∷ ps) rest = held_behind ps rest
 
-pub does_behind : (s : Super) (base : Metas) (live : Map Xattrs) (command : Command) (fresh : List ℕ) (rest : List Phase)
+pub does_behind : (s : Super) (base : Metas) (live : Map Xattrs) (command : Command) (fresh : List ℕ)
+    (rest : List Phase)
     → Does s base live command rest → Does s base live command (writing fresh rest)
 does_behind s base live command [] rest does = does
 does_behind s base live command (p ∷ ps) rest does = does_behind s base live command ps rest does
 
 pub lays_behind : (s : Super) (base : Metas) (chains : Chains) (claimed written fresh : List ℕ) (rest : List Phase)
     → Lays s base chains claimed (written ++ fresh) rest → Lays s base chains claimed written (writing fresh rest)
-lays_behind s base chains claimed written [] rest lays = subst (λ w. Lays s base chains claimed w rest) (append-nil written) lays
+lays_behind s base chains claimed written [] rest lays =
+    subst (λ w. Lays s base chains claimed w rest) (append-nil written) lays
 lays_behind s base chains claimed written (p ∷ ps) rest lays =
-    lays_behind s base chains claimed (written ++ p ∷ []) ps rest (subst (λ w. Lays s base chains claimed w rest) (sym (append_assoc written (p ∷ []) ps)) lays)
+    lays_behind s base chains claimed (written ++ p ∷ []) ps rest
+    (subst (λ w. Lays s base chains claimed w rest) (sym (append_assoc written (p ∷ []) ps)) lays)
 
 -- ---- old pages, which are the last of a job
 
@@ -49,12 +51,14 @@ held_clearing old [] same = sym (same refl)
 held_clearing old (p ∷ []) same = append-nil old
 held_clearing old (p ∷ q ∷ ps) same = held_clearing old (q ∷ ps) (λ bad. absurd (cc bad))
 
-pub keeps_clearing : (s : Super) (base : Metas) (live : Map Xattrs) (old places : List ℕ) → Keeps s base live (erasing old places [])
+pub keeps_clearing : (s : Super) (base : Metas) (live : Map Xattrs) (old places : List ℕ)
+    → Keeps s base live (erasing old places [])
 keeps_clearing s base live old [] = tt
 keeps_clearing s base live old (p ∷ []) = tt
 keeps_clearing s base live old (p ∷ q ∷ ps) = keeps_clearing s base live old (q ∷ ps)
 
-pub lays_clearing : (s : Super) (base : Metas) (chains : Chains) (old places : List ℕ) → ((x : ℕ) → is_among x places ≡ true → is_among x old ≡ true)
+pub lays_clearing : (s : Super) (base : Metas) (chains : Chains) (old places : List ℕ)
+    → ((x : ℕ) → is_among x places ≡ true → is_among x old ≡ true)
     → Lays s base chains [] [] (erasing old places [])
 lays_clearing s base chains old [] all = (refl, refl)
 lays_clearing s base chains old (p ∷ []) all = (refl, all p (among_first p []), refl, (refl, refl))
@@ -68,15 +72,19 @@ lays_clearing s base chains old (p ∷ q ∷ ps) all = (
 
 pub lays_reached : (s : Super) (base : Metas) (chains : Chains) (claimed written fresh : List ℕ) (rest : List Phase)
     → Lays s base chains claimed written (writing fresh rest) → Lays s base chains claimed (written ++ fresh) rest
-lays_reached s base chains claimed written [] rest lays = subst (λ w. Lays s base chains claimed w rest) (sym (append-nil written)) lays
+lays_reached s base chains claimed written [] rest lays =
+    subst (λ w. Lays s base chains claimed w rest) (sym (append-nil written)) lays
 lays_reached s base chains claimed written (p ∷ ps) rest lays =
-    subst (λ w. Lays s base chains claimed w rest) (append_assoc written (p ∷ []) ps) (lays_reached s base chains claimed (written ++ p ∷ []) ps rest lays)
+    subst (λ w. Lays s base chains claimed w rest) (append_assoc written (p ∷ []) ps)
+    (lays_reached s base chains claimed (written ++ p ∷ []) ps rest lays)
 
-pub does_reached : (s : Super) (base : Metas) (live : Map Xattrs) (command : Command) (fresh : List ℕ) (rest : List Phase)
+pub does_reached : (s : Super) (base : Metas) (live : Map Xattrs) (command : Command) (fresh : List ℕ)
+    (rest : List Phase)
     → Does s base live command (writing fresh rest) → Does s base live command rest
 does_reached s base live command [] rest does = does
 does_reached s base live command (p ∷ ps) rest does = does_reached s base live command ps rest does
 
-pub planned_behind : (fresh : List ℕ) (rest : List Phase) (place : ℕ) → planned_in (writing fresh rest) place ≡ planned_in rest place
+pub planned_behind : (fresh : List ℕ) (rest : List Phase) (place : ℕ)
+    → planned_in (writing fresh rest) place ≡ planned_in rest place
 planned_behind [] rest place = refl
 planned_behind (p ∷ ps) rest place = planned_behind ps rest place

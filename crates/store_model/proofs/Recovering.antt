@@ -15,7 +15,9 @@ use Rattle.store_model.proofs.One.{one_scan}
 
 module _ (s : Super) (first : Volumes) (log : List Entry) where
   -- whatever metadata the image is found to say, it shows the log
-  pub shown_by_all : (image : Image) (metas : Metas) (chains : Chains) → Recovers s first log image → Says (region_of s) metas chains image → AreSynced s first log (shows (fixed_of s) image (resolved metas))
+  pub shown_by_all : (image : Image) (metas : Metas) (chains : Chains) → Recovers s first log image
+      → Says (region_of s) metas chains image → AreSynced s first log (shows (fixed_of s) image (resolved metas))
   shown_by_all image metas chains x says =
-      let same : metas ≡ x.metas = fun_ext (λ head. (one_scan _ (region_of s) metas x.metas chains x.chains says x.says head).0) in
+      let same : metas ≡ x.metas =
+      fun_ext (λ head. (one_scan _ (region_of s) metas x.metas chains x.chains says x.says head).0) in
       subst (λ (m : Metas). AreSynced s first log (shows (fixed_of s) image (resolved m))) (sym same) x.shown

@@ -6,4 +6,5 @@ use Rattle.volume_model.specs.declared.command.Command.{Command}
 use Rattle.volume_model.specs.declared.reply.Reply.{Reply}
 
 abbrev pub RefusalsChangeNothing : Type 0
-RefusalsChangeNothing = (f : Fixed) (v : Volumes) (command : Command) (reply : Reply) (w : Volumes) → IsRefusal reply → Step f v command reply w → (h : ℕ) → w h ≡ v h
+RefusalsChangeNothing = (f : Fixed) (v : Volumes) (command : Command) (reply : Reply) (w : Volumes) → IsRefusal reply
+    → Step f v command reply w → (h : ℕ) → w h ≡ v h

@@ -26,16 +26,19 @@ use Rattle.store_model.proofs.Writable.{AllWritable, written_with, put_within}
 
 -- ---- what a command syncs can be written
 
-after_edit : (edit : Volume → Volume) (o : Option Volume) (after : Volume) → option_map edit o ≡ Some after → (x : Volume) × (o ≡ Some x) × (after ≡ edit x)
+after_edit : (edit : Volume → Volume) (o : Option Volume) (after : Volume) → option_map edit o ≡ Some after
+    → (x : Volume) × (o ≡ Some x) × (after ≡ edit x)
 after_edit edit None after is = absurd (cc is)
 after_edit edit (Some x) after is = (x, refl, cc is)
 
-pub synced_written : (f : Fixed) (v : Volumes) (command : Command) (head : ℕ) (after : Volume) → AllWritable v → IsSyncing command → refusal f v command ≡ None → named_head f v command ≡ Some head
+pub synced_written : (f : Fixed) (v : Volumes) (command : Command) (head : ℕ) (after : Volume) → AllWritable v
+    → IsSyncing command → refusal f v command ≡ None → named_head f v command ≡ Some head
     → change f v command r.Ok head ≡ Some after → CanBeWritten after.synced
 synced_written f v (c.Put volume key value) head after writable is asked found step =
     let edit = λ (x : Volume). record x { live = with_value x.live key value; synced = with_value x.live key value } in
     let from = after_edit edit (v head) after (sym (edited_here f v _ edit head found) ∙ step) in
-    let made : CanBeWritten (with_value from.0.live key value) = written_with from.0.live key value (put_within f v volume head from.0 found from.1 key value asked) (writable head from.0 from.1) in
+    let made : CanBeWritten (with_value from.0.live key value) = written_with from.0.live key value
+    (put_within f v volume head from.0 found from.1 key value asked) (writable head from.0 from.1) in
     subst (λ (x : Volume). CanBeWritten x.synced) (sym from.2) made
 synced_written f v (c.Sync volume) head after writable is asked found step =
     let edit = λ (x : Volume). record x { synced = x.live } in
@@ -44,7 +47,8 @@ synced_written f v (c.Sync volume) head after writable is asked found step =
     subst (λ (x : Volume). CanBeWritten x.synced) (sym from.2) made
 synced_written f v _ head after writable is asked found step = absurd is
 
-pub new_root : (s : Super) (head : ℕ) (old new : Meta) (xattrs : Xattrs) → IsRoot s head old → new ≡ record old { xattrs = xattrs } → CanBeWritten xattrs → IsRoot s head new
+pub new_root : (s : Super) (head : ℕ) (old new : Meta) (xattrs : Xattrs) → IsRoot s head old
+    → new ≡ record old { xattrs = xattrs } → CanBeWritten xattrs → IsRoot s head new
 new_root s head old new xattrs root is can =
     let made : IsRoot s head (record old { xattrs = xattrs }) =
     record {
@@ -62,7 +66,8 @@ new_root s head old new xattrs root is can =
 
 -- ---- the whole map
 
-pub roots_given : (s : Super) (metas : Metas) (head : ℕ) (new : Meta) → AreRoots s metas → IsRoot s head new → AreRoots s (with_entry metas head new)
+pub roots_given : (s : Super) (metas : Metas) (head : ℕ) (new : Meta) → AreRoots s metas → IsRoot s head new
+    → AreRoots s (with_entry metas head new)
 roots_given s metas head new roots root h m is = elim (cases_eq h head) [
   | inl e ↦
       let one : new ≡ m = let both = sym (given_here metas head new h e) ∙ is in cc both in
@@ -70,9 +75,11 @@ roots_given s metas head new roots root h m is = elim (cases_eq h head) [
   | inr ne ↦ roots h m (sym (given_elsewhere metas head new h ne) ∙ is)
 ]
 
-module _ (metas : Metas) (head : ℕ) (old new : Meta) (xattrs : Xattrs) (there : metas head ≡ Some old) (is : new ≡ record old { xattrs = xattrs }) where
+module _ (metas : Metas) (head : ℕ) (old new : Meta) (xattrs : Xattrs) (there : metas head ≡ Some old)
+    (is : new ≡ record old { xattrs = xattrs }) where
   -- each blob has the map that it had
-  same_map : (h : ℕ) → option_map (λ (m : Meta). m.map) (with_entry metas head new h) ≡ option_map (λ (m : Meta). m.map) (metas h)
+  same_map : (h : ℕ)
+      → option_map (λ (m : Meta). m.map) (with_entry metas head new h) ≡ option_map (λ (m : Meta). m.map) (metas h)
   same_map h = elim (cases_eq h head) [
     | inl e ↦
         ap (λ o. option_map (λ (m : Meta). m.map) o) (given_here metas head new h e) ∙ ap (λ (m : Meta). Some m.map) is
@@ -92,55 +99,94 @@ module _ (metas : Metas) (head : ℕ) (old new : Meta) (xattrs : Xattrs) (there 
     | inl e ↦
         let one : m ≡ new = let both = sym now ∙ given_here metas head new h e in cc both in
         let whole : m ≡ record old { xattrs = xattrs } = one ∙ is in
-        record { before = old; was = ap metas e ∙ there; map = ap (λ (x : Meta). x.map) whole; internal = ap (λ (x : Meta). x.internal) whole; flags = ap (λ (x : Meta). x.flags) whole }
-    | inr ne ↦ record { before = m; was = sym (given_elsewhere metas head new h ne) ∙ now; map = refl; internal = refl; flags = refl }
+        record {
+          before = old;
+          was = ap metas e ∙ there;
+          map = ap (λ (x : Meta). x.map) whole;
+          internal = ap (λ (x : Meta). x.internal) whole;
+          flags = ap (λ (x : Meta). x.flags) whole;
+        }
+    | inr ne ↦ record {
+      before = m;
+      was = sym (given_elsewhere metas head new h ne) ∙ now;
+      map = refl;
+      internal = refl;
+      flags = refl;
+    }
   ]
 
-  slot_was : (m before : Meta) (i cluster : ℕ) → m.map ≡ before.map → slot m i ≡ Some cluster → slot before i ≡ Some cluster
+  slot_was : (m before : Meta) (i cluster : ℕ) → m.map ≡ before.map → slot m i ≡ Some cluster
+      → slot before i ≡ Some cluster
   slot_was m before i cluster map at = sym (rw map refl) ∙ at
 
-  parent_was : (m before : Meta) (p : ℕ) → m.internal ≡ before.internal → parent_of m ≡ Some p → parent_of before ≡ Some p
-  parent_was m before p internal parent = subst (λ xs. option_and_then named_in (value_of xs (codes "SNAP")) ≡ Some p) internal parent
+  parent_was : (m before : Meta) (p : ℕ) → m.internal ≡ before.internal → parent_of m ≡ Some p
+      → parent_of before ≡ Some p
+  parent_was m before p internal parent =
+      subst (λ xs. option_and_then named_in (value_of xs (codes "SNAP")) ≡ Some p) internal parent
 
   pub mapped_was : (cluster : ℕ) → IsMapped (with_entry metas head new) cluster → IsMapped metas cluster
   mapped_was cluster x =
       let w = was_there x.head x.meta x.there in
-      record { head = x.head; meta = w.before; there = w.was; place = x.place; in_slot = slot_was x.meta w.before x.place cluster w.map x.in_slot }
+      record {
+        head = x.head;
+        meta = w.before;
+        there = w.was;
+        place = x.place;
+        in_slot = slot_was x.meta w.before x.place cluster w.map x.in_slot;
+      }
 
-  still : (h : ℕ) (m : Meta) → metas h ≡ Some m → (n : Meta) × (with_entry metas head new h ≡ Some n) × (n.map ≡ m.map) × (n.flags ≡ m.flags)
+  still : (h : ℕ) (m : Meta) → metas h ≡ Some m → (n : Meta) × (with_entry metas head new h ≡ Some n) × (n.map ≡ m.map)
+      × (n.flags ≡ m.flags)
   still h m was = elim (cases_eq h head) [
     | inl e ↦
-        let one : old ≡ m = let both = sym there ∙ sym (ap metas e) ∙ was in cc both in
-        (new, given_here metas head new h e, ap (λ (x : Meta). x.map) is ∙ ap (λ (x : Meta). x.map) one, ap (λ (x : Meta). x.flags) is ∙ ap (λ (x : Meta). x.flags) one)
+        let one : old ≡ m = let both = sym there ∙ sym (ap metas e) ∙ was in cc both in (
+          new,
+          given_here metas head new h e,
+          ap (λ (x : Meta). x.map) is ∙ ap (λ (x : Meta). x.map) one,
+          ap (λ (x : Meta). x.flags) is ∙ ap (λ (x : Meta). x.flags) one,
+        )
     | inr ne ↦ (m, given_elsewhere metas head new h ne ∙ was, refl, refl)
   ]
 
   pub mapped_still : (cluster : ℕ) → IsMapped metas cluster → IsMapped (with_entry metas head new) cluster
   mapped_still cluster x =
       let w = still x.head x.meta x.there in
-      record { head = x.head; meta = w.0; there = w.1; place = x.place; in_slot = slot_was x.meta w.0 x.place cluster (sym w.2) x.in_slot }
+      record {
+        head = x.head;
+        meta = w.0;
+        there = w.1;
+        place = x.place;
+        in_slot = slot_was x.meta w.0 x.place cluster (sym w.2) x.in_slot;
+      }
 
-  slots_at_same : (h : ℕ) → option_map_or (λ (m : Meta). length m.map) (with_entry metas head new h) 0 ≡ option_map_or (λ (m : Meta). length m.map) (metas h) 0
-  slots_at_same h = mapped (with_entry metas head new h) ∙ ap (λ o. option_map_or length o 0) (same_map h) ∙ sym (mapped (metas h))
+  slots_at_same : (h : ℕ) → option_map_or (λ (m : Meta). length m.map) (with_entry metas head new h) 0
+      ≡ option_map_or (λ (m : Meta). length m.map) (metas h) 0
+  slots_at_same h =
+      mapped (with_entry metas head new h) ∙ ap (λ o. option_map_or length o 0) (same_map h) ∙ sym (mapped (metas h))
     where
-      mapped : (o : Option Meta) → option_map_or (λ (m : Meta). length m.map) o 0 ≡ option_map_or length (option_map (λ (m : Meta). m.map) o) 0
+      mapped : (o : Option Meta)
+          → option_map_or (λ (m : Meta). length m.map) o 0 ≡ option_map_or length (option_map (λ (m : Meta). m.map) o) 0
       mapped None = refl
       mapped (Some m) = refl
 
   pub lawful_given : (md_len : ℕ) → IsLawful md_len metas → IsLawful md_len (with_entry metas head new)
   lawful_given md_len law =
-      let slots : slots_together md_len (with_entry metas head new) ≡ slots_together md_len metas = ap (λ f. sum_by f (range_with_len 0 md_len)) (fun_ext slots_at_same) in
+      let slots : slots_together md_len (with_entry metas head new) ≡ slots_together md_len metas =
+      ap (λ f. sum_by f (range_with_len 0 md_len)) (fun_ext slots_at_same) in
       record {
         alone = λ h k i j cluster m n hm kn si sj.
             let a = was_there h m hm in
             let b = was_there k n kn in
-            law.alone h k i j cluster a.before b.before a.was b.was (slot_was m a.before i cluster a.map si) (slot_was n b.before j cluster b.map sj);
+            law.alone h k i j cluster a.before b.before a.was b.was (slot_was m a.before i cluster a.map si)
+            (slot_was n b.before j cluster b.map sj);
         parents = λ h p m hm parent.
             let a = was_there h m hm in
             let up = law.parents h p a.before a.was (parent_was m a.before p a.internal parent) in
             let now = still p up.0 up.1 in
             (now.0, now.1, ap is_read_only now.3 ∙ up.2);
         rank = law.rank;
-        falls = λ h p m hm parent. let a = was_there h m hm in law.falls h p a.before a.was (parent_was m a.before p a.internal parent);
+        falls = λ h p m hm parent.
+            let a = was_there h m hm in
+            law.falls h p a.before a.was (parent_was m a.before p a.internal parent);
         few = subst (λ n. n ≤ 2 ^ 24) (sym slots) law.few;
       }

@@ -32,18 +32,22 @@ root_volume k image live m = record {
 pub no_parent : (s : Super) (head : ℕ) (m : Meta) → IsRoot s head m → parent_of m ≡ None
 no_parent s head m root = rw root.no_parent refl
 
-in_slot : (k : ℕ) (image : Image) (metas : Metas) (content_of : ℕ → ℕ → Page) (page : ℕ) (m : Meta) → parent_of m ≡ None → (o : Option ℕ) → slot m (page / k) ≡ o
+in_slot : (k : ℕ) (image : Image) (metas : Metas) (content_of : ℕ → ℕ → Page) (page : ℕ) (m : Meta) → parent_of m ≡ None
+    → (o : Option ℕ) → slot m (page / k) ≡ o
     → content_by k image metas content_of page m ≡ option_map_or (λ cluster. image (cluster * k + page % k)) o zero_page
 in_slot k image metas content_of page m none None e = rw (e, none) refl
 in_slot k image metas content_of page m none (Some cluster) e = rw e refl
 
-content_root : (k : ℕ) (image : Image) (metas : Metas) (n head page : ℕ) (m : Meta) → metas head ≡ Some m → parent_of m ≡ None → content k image metas (suc n) head page ≡ root_page k image m page
+content_root : (k : ℕ) (image : Image) (metas : Metas) (n head page : ℕ) (m : Meta) → metas head ≡ Some m
+    → parent_of m ≡ None → content k image metas (suc n) head page ≡ root_page k image m page
 content_root k image metas n head page m there none =
     ap (λ o. option_map_or (content_by k image metas (λ p q. content k image metas n p q) page) o zero_page) there
     ∙ in_slot k image metas (λ p q. content k image metas n p q) page m none (slot m (page / k)) refl
 
-pub volume_root : (k : ℕ) (image : Image) (metas : Metas) (md_len : ℕ) (live : Xattrs) (head : ℕ) (m : Meta) → metas head ≡ Some m → parent_of m ≡ None
+pub volume_root : (k : ℕ) (image : Image) (metas : Metas) (md_len : ℕ) (live : Xattrs) (head : ℕ) (m : Meta)
+    → metas head ≡ Some m → parent_of m ≡ None
     → volume_of k image metas md_len live head m ≡ root_volume k image live m
 volume_root k image metas md_len live head m there none =
-    let same : content k image metas (suc md_len) head ≡ root_page k image m = fun_ext (λ page. content_root k image metas md_len head page m there none) in
+    let same : content k image metas (suc md_len) head ≡ root_page k image m =
+    fun_ext (λ page. content_root k image metas md_len head page m there none) in
     rw (same, none) refl

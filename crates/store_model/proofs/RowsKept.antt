@@ -1,5 +1,6 @@
 -- Rows that change, and the commands of a channel while the log grows.
-use Rattle.std.proofs.Common.{None, ◌≡◌, ◌≢◌, ℕ, eqb, List, [], ◌∷◌, ◌++◌, refl, sym, ◌∙◌, ap, subst, arith, append_assoc, inl, inr}
+use Rattle.std.proofs.Common.{None, ◌≡◌, ◌≢◌, ℕ, eqb, List, [], ◌∷◌, ◌++◌, refl, sym, ◌∙◌, ap, subst, arith}
+use Rattle.std.proofs.Common.{append_assoc, inl, inr}
 use Rattle.std.proofs.lemmas.Bool.{cases_eq, eq-eqb, ne_eqb}
 use Rattle.std.proofs.lemmas.List.{append-nil}
 use Rattle.std.proofs.lemmas.List.Elements.{filter-append}
@@ -19,11 +20,15 @@ module _ (rows : Rows) (channel : ℕ) (row : Row) where
   pub row_other : (c : ℕ) → c ≢ channel → with_row rows channel row c ≡ rows c
   row_other c ne = rw (ne_eqb c channel ne) refl
 
-entries_more : (channel : ℕ) (log : List Entry) (e : Entry) → e.channel ≡ channel → entries_of channel (log ++ e ∷ []) ≡ entries_of channel log ++ e ∷ []
-entries_more channel log e is = filter-append (λ (x : Entry). eqb x.channel channel) log (e ∷ []) ∙ rw (eq-eqb e.channel channel is) refl
+entries_more : (channel : ℕ) (log : List Entry) (e : Entry) → e.channel ≡ channel
+    → entries_of channel (log ++ e ∷ []) ≡ entries_of channel log ++ e ∷ []
+entries_more channel log e is =
+    filter-append (λ (x : Entry). eqb x.channel channel) log (e ∷ []) ∙ rw (eq-eqb e.channel channel is) refl
 
-entries_same : (channel : ℕ) (log : List Entry) (e : Entry) → e.channel ≢ channel → entries_of channel (log ++ e ∷ []) ≡ entries_of channel log
-entries_same channel log e ne = filter-append (λ (x : Entry). eqb x.channel channel) log (e ∷ []) ∙ rw (ne_eqb e.channel channel ne) (append-nil (entries_of channel log))
+entries_same : (channel : ℕ) (log : List Entry) (e : Entry) → e.channel ≢ channel
+    → entries_of channel (log ++ e ∷ []) ≡ entries_of channel log
+entries_same channel log e ne = filter-append (λ (x : Entry). eqb x.channel channel) log (e ∷ [])
+    ∙ rw (ne_eqb e.channel channel ne) (append-nil (entries_of channel log))
 
 module _ (script : ℕ → List Command) (p : StoreState) (way : (c : ℕ) → OnItsWay p script c) (q : StoreState) where
   -- no command leaves its row, and nothing is logged
@@ -37,7 +42,8 @@ module _ (script : ℕ → List Command) (p : StoreState) (way : (c : ℕ) → O
       }
 
   -- a command is logged
-  module _ (channel : ℕ) (command : Command) (rest : List Command) (after : Stage) (reply : Reply) (was : (p.rows channel).left ≡ command ∷ rest)
+  module _ (channel : ℕ) (command : Command) (rest : List Command) (after : Stage) (reply : Reply)
+      (was : (p.rows channel).left ≡ command ∷ rest)
       (rows : q.rows ≡ with_row p.rows channel (record { left = rest; stage = after; claim = None }))
       (log : q.log ≡ p.log ++ entry_of p.log channel command reply ∷ []) where
     abbrev new : Entry
@@ -46,12 +52,15 @@ module _ (script : ℕ → List Command) (p : StoreState) (way : (c : ℕ) → O
     here : OnItsWay q script channel
     here =
         let w = way channel in
-        let left : (q.rows channel).left ≡ rest = ap (λ (r : Rows). (r channel).left) rows ∙ ap (λ (r : Row). r.left) (row_here p.rows channel (record { left = rest; stage = after; claim = None }) channel refl) in
+        let left : (q.rows channel).left ≡ rest = ap (λ (r : Rows). (r channel).left) rows ∙ ap (λ (r : Row). r.left)
+        (row_here p.rows channel (record { left = rest; stage = after; claim = None }) channel refl) in
         record {
           made = w.made ++ command ∷ [];
-          numbered = subst (λ es. Numbered 0 es (w.made ++ command ∷ [])) (sym (ap (entries_of channel) log ∙ entries_more channel p.log new refl))
+          numbered = subst (λ es. Numbered 0 es (w.made ++ command ∷ []))
+              (sym (ap (entries_of channel) log ∙ entries_more channel p.log new refl))
               (numbered-push 0 (entries_of channel p.log) w.made new command w.numbered (omega arith) refl);
-          all = append_assoc w.made (command ∷ []) (q.rows channel).left ∙ ap (λ l. w.made ++ command ∷ l) left ∙ ap (λ l. w.made ++ l) (sym was) ∙ w.all;
+          all = append_assoc w.made (command ∷ []) (q.rows channel).left ∙ ap (λ l. w.made ++ command ∷ l) left
+              ∙ ap (λ l. w.made ++ l) (sym was) ∙ w.all;
         }
 
     pub way_logged : (c : ℕ) → OnItsWay q script c
@@ -59,10 +68,12 @@ module _ (script : ℕ → List Command) (p : StoreState) (way : (c : ℕ) → O
       | inl e ↦ subst (λ k. OnItsWay q script k) (sym e) here
       | inr ne ↦
           let w = way c in
-          let left : (q.rows c).left ≡ (p.rows c).left = ap (λ (r : Rows). (r c).left) rows ∙ ap (λ (r : Row). r.left) (row_other p.rows channel (record { left = rest; stage = after; claim = None }) c ne) in
+          let left : (q.rows c).left ≡ (p.rows c).left = ap (λ (r : Rows). (r c).left) rows ∙ ap (λ (r : Row). r.left)
+          (row_other p.rows channel (record { left = rest; stage = after; claim = None }) c ne) in
           record {
             made = w.made;
-            numbered = subst (λ es. Numbered 0 es w.made) (sym (ap (entries_of c) log ∙ entries_same c p.log new (λ e. ne (sym e)))) w.numbered;
+            numbered = subst (λ es. Numbered 0 es w.made)
+                (sym (ap (entries_of c) log ∙ entries_same c p.log new (λ e. ne (sym e)))) w.numbered;
             all = ap (λ l. w.made ++ l) left ∙ w.all;
           }
     ]

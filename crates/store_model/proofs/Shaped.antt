@@ -1,5 +1,6 @@
 -- How rows stand to the job, when one row changes.
-use Rattle.std.proofs.Common.{Option, ◌≡◌, ◌≢◌, ℕ, List, [], ◌∷◌, Some, None, refl, sym, ◌∙◌, ap, subst, inl, inr, false, true}
+use Rattle.std.proofs.Common.{Option, ◌≡◌, ◌≢◌, ℕ, List, [], ◌∷◌, Some, None, refl, sym, ◌∙◌, ap, subst, inl, inr}
+use Rattle.std.proofs.Common.{false, true}
 use Rattle.std.proofs.lemmas.Bool.{cases_eq}
 use Rattle.volume_model.specs.declared.command.Command.{Command}
 use Rattle.store_model.specs.Rows.{OpenClaim, Row, Rows, Idle, Posted, InJob, Answered, Decided, Ended, with_row}
@@ -18,7 +19,8 @@ pub serves : (p : StoreState) → IsShaped p → (channel : ℕ) → (p.rows cha
 serves p shaped channel is = let x = shaped.in_job channel is in record { job = x.0; is = x.1; waits = x.2 }
 
 -- no channel is in a job for which none waits
-pub none_waiting : (p : StoreState) → IsShaped p → (job : JobState) → p.job ≡ Some job → waiting job.serves job.todo ≡ None
+pub none_waiting : (p : StoreState) → IsShaped p → (job : JobState) → p.job ≡ Some job
+    → waiting job.serves job.todo ≡ None
     → (channel : ℕ) → (p.rows channel).stage ≡ InJob → ⊥
 none_waiting p shaped job is none channel in_job =
     let x = serves p shaped channel in_job in
@@ -27,10 +29,12 @@ none_waiting p shaped job is none channel in_job =
     cc bad
 
 pub none_without : (p : StoreState) → IsShaped p → p.job ≡ None → (channel : ℕ) → (p.rows channel).stage ≡ InJob → ⊥
-none_without p shaped none channel in_job = let x = serves p shaped channel in_job in let bad = sym x.is ∙ none in cc bad
+none_without p shaped none channel in_job =
+    let x = serves p shaped channel in_job in let bad = sym x.is ∙ none in cc bad
 
 -- only the channel that waits for a job is in it
-pub only_served : (p : StoreState) → IsShaped p → (job : JobState) → p.job ≡ Some job → (waits : ℕ) → waiting job.serves job.todo ≡ Some waits
+pub only_served : (p : StoreState) → IsShaped p → (job : JobState) → p.job ≡ Some job → (waits : ℕ)
+    → waiting job.serves job.todo ≡ Some waits
     → (channel : ℕ) → (p.rows channel).stage ≡ InJob → channel ≡ waits
 only_served p shaped job is waits known channel in_job =
     let x = serves p shaped channel in_job in
@@ -39,10 +43,12 @@ only_served p shaped job is waits known channel in_job =
     cc both
 
 -- the channel of a command that waits for its commit
-pub waits_for_commit : (j : JobState) (channel : ℕ) → j.serves ≡ ForCommand channel → has_commit j.todo ≡ true → waiting j.serves j.todo ≡ Some channel
+pub waits_for_commit : (j : JobState) (channel : ℕ) → j.serves ≡ ForCommand channel → has_commit j.todo ≡ true
+    → waiting j.serves j.todo ≡ Some channel
 waits_for_commit j channel serves commit = rw (serves, commit) refl
 
-pub waits_no_more : (j : JobState) (channel : ℕ) → j.serves ≡ ForCommand channel → has_commit j.todo ≡ false → waiting j.serves j.todo ≡ None
+pub waits_no_more : (j : JobState) (channel : ℕ) → j.serves ≡ ForCommand channel → has_commit j.todo ≡ false
+    → waiting j.serves j.todo ≡ None
 waits_no_more j channel serves commit = rw (serves, commit) refl
 
 -- what a row may be
@@ -52,7 +58,8 @@ pub record MayBe (p : StoreState) (channel : ℕ) (row : Row) : Type 0 where
   pub ended : row.stage ≡ Ended → row.left ≡ []
   pub claims : (claim : OpenClaim) → row.claim ≡ Some claim → MayClaim row.stage
 
-module _ (p : StoreState) (shaped : IsShaped p) (q : StoreState) (channel : ℕ) (row : Row) (rows : q.rows ≡ with_row p.rows channel row)
+module _ (p : StoreState) (shaped : IsShaped p) (q : StoreState) (channel : ℕ) (row : Row)
+    (rows : q.rows ≡ with_row p.rows channel row)
     (others : (c : ℕ) → c ≢ channel → (p.rows c).stage ≡ InJob → Serves q c) where
   here : (c : ℕ) → c ≡ channel → q.rows c ≡ row
   here c e = ap (λ (r : Rows). r c) rows ∙ row_here p.rows channel row c e
@@ -63,12 +70,15 @@ module _ (p : StoreState) (shaped : IsShaped p) (q : StoreState) (channel : ℕ)
   given_back : (c : ℕ) → Serves q c → (job : JobState) × (q.job ≡ Some job) × (waiting job.serves job.todo ≡ Some c)
   given_back c x = (x.job, x.is, x.waits)
 
-  pub shaped_with : MayBe q channel row → ((job : JobState) (c : ℕ) → q.job ≡ Some job → job.serves ≡ ForCommand c → has_commit job.todo ≡ true → IsServedRow (q.rows c)) → IsShaped q
+  pub shaped_with : MayBe q channel row → ((job : JobState) (c : ℕ) → q.job ≡ Some job → job.serves ≡ ForCommand c
+      → has_commit job.todo ≡ true → IsServedRow (q.rows c)) → IsShaped q
   shaped_with may served = record {
     served = served;
     posted = λ c serial is. elim (cases_eq c channel) [
-      | inl e ↦ subst (λ (r : Row). r.left ≢ []) (sym (here c e)) (may.posted serial (sym (ap (λ (r : Row). r.stage) (here c e)) ∙ is))
-      | inr ne ↦ subst (λ (r : Row). r.left ≢ []) (sym (there c ne)) (shaped.posted c serial (sym (ap (λ (r : Row). r.stage) (there c ne)) ∙ is))
+      | inl e ↦ subst (λ (r : Row). r.left ≢ []) (sym (here c e))
+          (may.posted serial (sym (ap (λ (r : Row). r.stage) (here c e)) ∙ is))
+      | inr ne ↦ subst (λ (r : Row). r.left ≢ []) (sym (there c ne))
+          (shaped.posted c serial (sym (ap (λ (r : Row). r.stage) (there c ne)) ∙ is))
     ];
     in_job = λ c is. elim (cases_eq c channel) [
       | inl e ↦ given_back c (subst (Serves q) (sym e) (may.in_job (sym (ap (λ (r : Row). r.stage) (here c e)) ∙ is)))
@@ -76,23 +86,29 @@ module _ (p : StoreState) (shaped : IsShaped p) (q : StoreState) (channel : ℕ)
     ];
     ended = λ c is. elim (cases_eq c channel) [
       | inl e ↦ ap (λ (r : Row). r.left) (here c e) ∙ may.ended (sym (ap (λ (r : Row). r.stage) (here c e)) ∙ is)
-      | inr ne ↦ ap (λ (r : Row). r.left) (there c ne) ∙ shaped.ended c (sym (ap (λ (r : Row). r.stage) (there c ne)) ∙ is)
+      | inr ne ↦
+          ap (λ (r : Row). r.left) (there c ne) ∙ shaped.ended c (sym (ap (λ (r : Row). r.stage) (there c ne)) ∙ is)
     ];
     claims = λ c claim is. elim (cases_eq c channel) [
-      | inl e ↦ subst (λ (r : Row). MayClaim r.stage) (sym (here c e)) (may.claims claim (sym (ap (λ (r : Row). r.claim) (here c e)) ∙ is))
-      | inr ne ↦ subst (λ (r : Row). MayClaim r.stage) (sym (there c ne)) (shaped.claims c claim (sym (ap (λ (r : Row). r.claim) (there c ne)) ∙ is))
+      | inl e ↦ subst (λ (r : Row). MayClaim r.stage) (sym (here c e))
+          (may.claims claim (sym (ap (λ (r : Row). r.claim) (here c e)) ∙ is))
+      | inr ne ↦ subst (λ (r : Row). MayClaim r.stage) (sym (there c ne))
+          (shaped.claims c claim (sym (ap (λ (r : Row). r.claim) (there c ne)) ∙ is))
     ];
   }
 
 -- with the rows as they were
 pub shaped_same : (p q : StoreState) → IsShaped p → q.rows ≡ p.rows → ((c : ℕ) → (p.rows c).stage ≡ InJob → Serves q c)
-    → ((job : JobState) (c : ℕ) → q.job ≡ Some job → job.serves ≡ ForCommand c → has_commit job.todo ≡ true → IsServedRow (p.rows c)) → IsShaped q
+    → ((job : JobState) (c : ℕ) → q.job ≡ Some job → job.serves ≡ ForCommand c → has_commit job.todo ≡ true
+    → IsServedRow (p.rows c)) → IsShaped q
 shaped_same p q shaped rows served serving = record {
   served = λ job c is serves waits. subst (λ (r : Rows). IsServedRow (r c)) (sym rows) (serving job c is serves waits);
-  posted = λ c serial is. subst (λ (r : Rows). (r c).left ≢ []) (sym rows) (shaped.posted c serial (sym (ap (λ (r : Rows). (r c).stage) rows) ∙ is));
+  posted = λ c serial is. subst (λ (r : Rows). (r c).left ≢ []) (sym rows)
+      (shaped.posted c serial (sym (ap (λ (r : Rows). (r c).stage) rows) ∙ is));
   in_job = λ c is. let x = served c (sym (ap (λ (r : Rows). (r c).stage) rows) ∙ is) in (x.job, x.is, x.waits);
   ended = λ c is. ap (λ (r : Rows). (r c).left) rows ∙ shaped.ended c (sym (ap (λ (r : Rows). (r c).stage) rows) ∙ is);
-  claims = λ c claim is. subst (λ (r : Rows). MayClaim (r c).stage) (sym rows) (shaped.claims c claim (sym (ap (λ (r : Rows). (r c).claim) rows) ∙ is));
+  claims = λ c claim is. subst (λ (r : Rows). MayClaim (r c).stage) (sym rows)
+      (shaped.claims c claim (sym (ap (λ (r : Rows). (r c).claim) rows) ∙ is));
 }
 
 -- the same job serves
@@ -100,7 +116,8 @@ pub serves_same : (p q : StoreState) → q.job ≡ p.job → (channel : ℕ) →
 serves_same p q job channel x = record { job = x.job; is = job ∙ x.is; waits = x.waits }
 
 -- a row at a stage that holds no claim has none
-pub no_claim : (p : StoreState) → IsShaped p → (channel : ℕ) → (MayClaim (p.rows channel).stage → ⊥) → (p.rows channel).claim ≡ None
+pub no_claim : (p : StoreState) → IsShaped p → (channel : ℕ) → (MayClaim (p.rows channel).stage → ⊥)
+    → (p.rows channel).claim ≡ None
 no_claim p shaped channel never = by (p.rows channel).claim refl
   where
     by : (o : Option OpenClaim) → (p.rows channel).claim ≡ o → (p.rows channel).claim ≡ None
@@ -108,26 +125,61 @@ no_claim p shaped channel never = by (p.rows channel).claim refl
     by (Some claim) is = absurd (never (shaped.claims channel claim is))
 
 -- the row that the job serves stays where the job does and another row changes
-pub served_still : (p q : StoreState) → IsShaped p → q.job ≡ p.job → (channel : ℕ) (row : Row) → q.rows ≡ with_row p.rows channel row → ((p.rows channel).stage ≡ InJob → ⊥)
-    → (job : JobState) (c : ℕ) → q.job ≡ Some job → job.serves ≡ ForCommand c → has_commit job.todo ≡ true → IsServedRow (q.rows c)
+pub served_still : (p q : StoreState) → IsShaped p → q.job ≡ p.job → (channel : ℕ) (row : Row)
+    → q.rows ≡ with_row p.rows channel row → ((p.rows channel).stage ≡ InJob → ⊥)
+    → (job : JobState) (c : ℕ) → q.job ≡ Some job → job.serves ≡ ForCommand c → has_commit job.todo ≡ true
+    → IsServedRow (q.rows c)
 served_still p q shaped same channel row rows free job c is serves waits =
     let x = shaped.served job c (sym same ∙ is) serves waits in
     let apart : c ≢ channel = λ e. free (ap (λ k. (p.rows k).stage) (sym e) ∙ ap (λ (r : Row). r.stage) x.is) in
-    record { command = x.command; rest = x.rest; is = ap (λ (r : Rows). r c) rows ∙ row_other p.rows channel row c apart ∙ x.is }
+    record {
+      command = x.command;
+      rest = x.rest;
+      is = ap (λ (r : Rows). r c) rows ∙ row_other p.rows channel row c apart ∙ x.is;
+    }
 
 -- ---- rows of one stage
 
-pub idle_may : (p : StoreState) (channel : ℕ) (left : List Command) → MayBe p channel (record { left = left; stage = Idle; claim = None })
-idle_may p channel left = record { posted = λ serial is. absurd (cc is); in_job = λ is. absurd (cc is); ended = λ is. absurd (cc is); claims = λ claim is. absurd (cc is) }
+pub idle_may : (p : StoreState) (channel : ℕ) (left : List Command)
+    → MayBe p channel (record { left = left; stage = Idle; claim = None })
+idle_may p channel left = record {
+  posted = λ serial is. absurd (cc is);
+  in_job = λ is. absurd (cc is);
+  ended = λ is. absurd (cc is);
+  claims = λ claim is. absurd (cc is);
+}
 
-pub decided_may : (p : StoreState) (channel : ℕ) (left : List Command) → MayBe p channel (record { left = left; stage = Decided Answered; claim = None })
-decided_may p channel left = record { posted = λ serial is. absurd (cc is); in_job = λ is. absurd (cc is); ended = λ is. absurd (cc is); claims = λ claim is. absurd (cc is) }
+pub decided_may : (p : StoreState) (channel : ℕ) (left : List Command)
+    → MayBe p channel (record { left = left; stage = Decided Answered; claim = None })
+decided_may p channel left = record {
+  posted = λ serial is. absurd (cc is);
+  in_job = λ is. absurd (cc is);
+  ended = λ is. absurd (cc is);
+  claims = λ claim is. absurd (cc is);
+}
 
 pub ended_may : (p : StoreState) (channel : ℕ) → MayBe p channel (record { left = []; stage = Ended; claim = None })
-ended_may p channel = record { posted = λ serial is. absurd (cc is); in_job = λ is. absurd (cc is); ended = λ is. refl; claims = λ claim is. absurd (cc is) }
+ended_may p channel = record {
+  posted = λ serial is. absurd (cc is);
+  in_job = λ is. absurd (cc is);
+  ended = λ is. refl;
+  claims = λ claim is. absurd (cc is);
+}
 
-pub posted_may : (p : StoreState) (channel serial : ℕ) (command : Command) (rest : List Command) → MayBe p channel (record { left = command ∷ rest; stage = Posted serial; claim = None })
-posted_may p channel serial command rest = record { posted = λ n is none. cc none; in_job = λ is. absurd (cc is); ended = λ is. absurd (cc is); claims = λ claim is. absurd (cc is) }
+pub posted_may : (p : StoreState) (channel serial : ℕ) (command : Command) (rest : List Command)
+    → MayBe p channel (record { left = command ∷ rest; stage = Posted serial; claim = None })
+posted_may p channel serial command rest = record {
+  posted = λ n is none. cc none;
+  in_job = λ is. absurd (cc is);
+  ended = λ is. absurd (cc is);
+  claims = λ claim is. absurd (cc is);
+}
 
-pub in_job_may : (p : StoreState) (channel : ℕ) (command : Command) (rest : List Command) → Serves p channel → MayBe p channel (record { left = command ∷ rest; stage = InJob; claim = None })
-in_job_may p channel command rest x = record { posted = λ serial is. absurd (cc is); in_job = λ is. x; ended = λ is. absurd (cc is); claims = λ claim is. absurd (cc is) }
+pub in_job_may : (p : StoreState) (channel : ℕ) (command : Command) (rest : List Command) → Serves p channel
+    → MayBe p channel (record { left = command ∷ rest; stage = InJob; claim = None })
+in_job_may p channel command rest x = record {
+  posted = λ serial is. absurd (cc is);
+  in_job = λ is. x;
+  ended = λ is. absurd (cc is);
+  claims = λ claim is. absurd (cc is);
+}

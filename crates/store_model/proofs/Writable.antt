@@ -1,5 +1,6 @@
 -- Attributes that can be written, when one is set or removed; and what a command that is answered in memory changes.
-use Rattle.std.proofs.Common.{◌≡◌, ◌≢◌, ℕ, ◌+◌, ◌≤◌, Bool, true, false, List, [], ◌∷◌, length, Option, Some, None, refl, sym, ◌∙◌, ap, subst, arith, inl, inr}
+use Rattle.std.proofs.Common.{◌≡◌, ◌≢◌, ℕ, ◌+◌, ◌≤◌, Bool, true, false, List, [], ◌∷◌, length, Option, Some, None, refl}
+use Rattle.std.proofs.Common.{sym, ◌∙◌, ap, subst, arith, inl, inr}
 use Rattle.std.specs.Prelude.{nat_lt, ◌||◌}
 use Rattle.std.specs.List.{AllByRecursion, find}
 use Rattle.std.specs.Option.{option_map}
@@ -25,14 +26,17 @@ use Rattle.store_model.proofs.Synced.{edited_here, edited_there}
 use Rattle.store_model.proofs.Shows.{or_empty}
 
 -- a name that is none of these, nor the new one's, is none with it
-apart : (name : List ℕ) (xs : List Xattr) (key value : List ℕ) → bytes_eq name key ≡ false → AllByRecursion (λ y. bytes_eq name y.key ≡ false) xs → AllByRecursion (λ y. bytes_eq name y.key ≡ false) (with_value xs key value)
+apart : (name : List ℕ) (xs : List Xattr) (key value : List ℕ)
+    → bytes_eq name key ≡ false → AllByRecursion (λ y. bytes_eq name y.key ≡ false) xs
+    → AllByRecursion (λ y. bytes_eq name y.key ≡ false) (with_value xs key value)
 apart name [] key value ne h = (ne, tt)
 apart name (x ∷ xs) key value ne h = elim (cases_Bool (bytes_eq x.key key)) [
   | inl same ↦ rw same (h.0, h.1)
   | inr other ↦ rw other (h.0, apart name xs key value ne h.1)
 ]
 
-pub distinct_with : (xs : List Xattr) (key value : List ℕ) → HasDistinctNames xs → HasDistinctNames (with_value xs key value)
+pub distinct_with : (xs : List Xattr) (key value : List ℕ) → HasDistinctNames xs
+    → HasDistinctNames (with_value xs key value)
 distinct_with [] key value h = (tt, tt)
 distinct_with (x ∷ xs) key value h = elim (cases_Bool (bytes_eq x.key key)) [
   | inl same ↦ rw same (h.0, h.1)
@@ -44,7 +48,8 @@ distinct_with (x ∷ xs) key value h = elim (cases_Bool (bytes_eq x.key key)) [
 abbrev IsShort : Xattr → Type 0
 IsShort x = length x.key + length x.value ≤ 4063
 
-short_with : (xs : Xattrs) (key value : List ℕ) → length key + length value ≤ 4063 → AllByRecursion IsShort xs → AllByRecursion IsShort (with_value xs key value)
+short_with : (xs : Xattrs) (key value : List ℕ) → length key + length value ≤ 4063 → AllByRecursion IsShort xs
+    → AllByRecursion IsShort (with_value xs key value)
 short_with [] key value fits all = (fits, tt)
 short_with (x ∷ xs) key value fits all = elim (cases_Bool (bytes_eq x.key key)) [
   | inl same ↦
@@ -54,7 +59,8 @@ short_with (x ∷ xs) key value fits all = elim (cases_Bool (bytes_eq x.key key)
   | inr other ↦ rw other (all.0, short_with xs key value fits all.1)
 ]
 
-all_without : (P : Xattr → Type 0) (xs : Xattrs) (key : List ℕ) → AllByRecursion P xs → AllByRecursion P (without xs key)
+all_without : (P : Xattr → Type 0) (xs : Xattrs) (key : List ℕ) → AllByRecursion P xs
+    → AllByRecursion P (without xs key)
 all_without P [] key all = tt
 all_without P (x ∷ xs) key all = elim (cases_Bool (bytes_eq x.key key)) [
   | inl same ↦ rw same (all_without P xs key all.1)
@@ -68,29 +74,37 @@ distinct_without (x ∷ xs) key h = elim (cases_Bool (bytes_eq x.key key)) [
   | inr other ↦ rw other (all_without (λ y. bytes_eq x.key y.key ≡ false) xs key h.0, distinct_without xs key h.1)
 ]
 
-pub written_with : (xs : Xattrs) (key value : List ℕ) → length key + length value ≤ 4063 → CanBeWritten xs → CanBeWritten (with_value xs key value)
-written_with xs key value fits can = record { names = distinct_with xs key value can.names; short = short_with xs key value fits can.short }
+pub written_with : (xs : Xattrs) (key value : List ℕ) → length key + length value ≤ 4063 → CanBeWritten xs
+    → CanBeWritten (with_value xs key value)
+written_with xs key value fits can =
+    record { names = distinct_with xs key value can.names; short = short_with xs key value fits can.short }
 
 pub written_without : (xs : Xattrs) (key : List ℕ) → CanBeWritten xs → CanBeWritten (without xs key)
-written_without xs key can = record { names = distinct_without xs key can.names; short = all_without IsShort xs key can.short }
+written_without xs key can =
+    record { names = distinct_without xs key can.names; short = all_without IsShort xs key can.short }
 
 -- ---- what a cause says that doesn't hold
 
-none_third : (a b c : Bool) (x y z : Reply) → option_map (λ (cause : Bool × Reply). cause.1) (find (λ cause. cause.0) ((a, x) ∷ (b, y) ∷ (c, z) ∷ [])) ≡ None → c ≡ false
+none_third : (a b c : Bool) (x y z : Reply)
+    → option_map (λ (cause : Bool × Reply). cause.1) (find (λ cause. cause.0) ((a, x) ∷ (b, y) ∷ (c, z) ∷ [])) ≡ None
+    → c ≡ false
 none_third false false false x y z none = refl
 none_third false false true x y z none = absurd (cc none)
 none_third false true c x y z none = absurd (cc none)
 none_third true b c x y z none = absurd (cc none)
 
-module _ (f : Fixed) (v : Volumes) (volume : VolumeRef) (head : ℕ) (x : Volume) (found : head_of f v volume ≡ Some head) (there : v head ≡ Some x) (key value : List ℕ) where
+module _ (f : Fixed) (v : Volumes) (volume : VolumeRef) (head : ℕ) (x : Volume) (found : head_of f v volume ≡ Some head)
+    (there : v head ≡ Some x) (key value : List ℕ) where
   within : nat_lt 4063 (length key + length value) ≡ false → length key + length value ≤ 4063
   within is = grind (arith, nat_tests, is)
 
   pub set_within : refusal f v (c.SetX volume key value) ≡ None → length key + length value ≤ 4063
-  set_within none = within (none_third (is_super f head || is_reserved key) x.read_only (nat_lt 4063 (length key + length value)) r.Reserved r.ReadOnly r.TooLong (rw (found, there) at none))
+  set_within none = within (none_third (is_super f head || is_reserved key) x.read_only
+      (nat_lt 4063 (length key + length value)) r.Reserved r.ReadOnly r.TooLong (rw (found, there) at none))
 
   pub put_within : refusal f v (c.Put volume key value) ≡ None → length key + length value ≤ 4063
-  put_within none = within (none_third (is_super f head || is_reserved key) x.read_only (nat_lt 4063 (length key + length value)) r.Reserved r.ReadOnly r.TooLong (rw (found, there) at none))
+  put_within none = within (none_third (is_super f head || is_reserved key) x.read_only
+      (nat_lt 4063 (length key + length value)) r.Reserved r.ReadOnly r.TooLong (rw (found, there) at none))
 
 -- ---- commands that are answered in memory
 
@@ -102,12 +116,15 @@ AllWritable v = (h : ℕ) (x : Volume) → v h ≡ Some x → CanBeWritten x.liv
 abbrev pub OnlyLive : Volumes → Volumes → Type 0
 OnlyLive v w = (h : ℕ) → w h ≡ option_map (λ (x : Volume). record x { live = or_empty (live_of w h) }) (v h)
 
-same_live : (o : Option Volume) → o ≡ option_map (λ (x : Volume). record x { live = or_empty (option_map (λ y. y.live) o) }) o
+same_live : (o : Option Volume)
+    → o ≡ option_map (λ (x : Volume). record x { live = or_empty (option_map (λ y. y.live) o) }) o
 same_live None = refl
 same_live (Some x) = refl
 
 edited_live : (new : Volume → Xattrs) (o : Option Volume)
-    → option_map (λ (x : Volume). record x { live = new x }) o ≡ option_map (λ (x : Volume). record x { live = or_empty (option_map (λ y. y.live) (option_map (λ (y : Volume). record y { live = new y }) o)) }) o
+    → option_map (λ (x : Volume). record x { live = new x }) o ≡ option_map (λ (x : Volume). record x {
+      live = or_empty (option_map (λ y. y.live) (option_map (λ (y : Volume). record y { live = new y }) o));
+    }) o
 edited_live new None = refl
 edited_live new (Some x) = refl
 
@@ -119,21 +136,29 @@ module _ (f : Fixed) (v : Volumes) (writable : AllWritable v) where
   -- nothing is changed
   unchanged : (w : Volumes) → ((h : ℕ) → w h ≡ v h) → ChangesLive w
   unchanged w same = record {
-    only = λ h. subst (λ (o : Option Volume). o ≡ option_map (λ (x : Volume). record x { live = or_empty (option_map (λ y. y.live) o) }) (v h)) (sym (same h)) (same_live (v h));
+    only = λ h. subst (λ (o : Option Volume).
+        o ≡ option_map (λ (x : Volume). record x { live = or_empty (option_map (λ y. y.live) o) }) (v h)) (sym (same h))
+        (same_live (v h));
     can = λ h x is. writable h x (sym (same h) ∙ is);
   }
 
   -- the live attributes of one volume
-  edited : (o : Option ℕ) (new : Volume → Xattrs) → ((head : ℕ) (x : Volume) → o ≡ Some head → v head ≡ Some x → CanBeWritten (new x)) → ChangesLive (edited_at f v o (λ x. record x { live = new x }))
+  edited : (o : Option ℕ) (new : Volume → Xattrs)
+      → ((head : ℕ) (x : Volume) → o ≡ Some head → v head ≡ Some x → CanBeWritten (new x))
+      → ChangesLive (edited_at f v o (λ x. record x { live = new x }))
   edited None new can = unchanged _ (λ h. refl)
   edited (Some head) new can =
       let w : Volumes = edited_at f v (Some head) (λ x. record x { live = new x }) in
-      let here : (h : ℕ) → h ≡ head → w h ≡ option_map (λ (x : Volume). record x { live = new x }) (v h) = λ h e. at_head h e in
-      let there : (h : ℕ) → h ≢ head → w h ≡ v h = λ h ne. edited_there f v (Some head) (λ (x : Volume). record x { live = new x }) head refl h ne in
+      let here : (h : ℕ) → h ≡ head → w h ≡ option_map (λ (x : Volume). record x { live = new x }) (v h) =
+      λ h e. at_head h e in
+      let there : (h : ℕ) → h ≢ head → w h ≡ v h =
+      λ h ne. edited_there f v (Some head) (λ (x : Volume). record x { live = new x }) head refl h ne in
       record {
         only = λ h. elim (cases_eq h head) [
-          | inl e ↦ subst (λ (o : Option Volume). o ≡ option_map (λ (x : Volume). record x { live = or_empty (option_map (λ y. y.live) o) }) (v h)) (sym (here h e)) (edited_live new (v h))
-          | inr ne ↦ subst (λ (o : Option Volume). o ≡ option_map (λ (x : Volume). record x { live = or_empty (option_map (λ y. y.live) o) }) (v h)) (sym (there h ne)) (same_live (v h))
+          | inl e ↦ subst (λ (o : Option Volume). o ≡ option_map (λ (x : Volume).
+              record x { live = or_empty (option_map (λ y. y.live) o) }) (v h)) (sym (here h e)) (edited_live new (v h))
+          | inr ne ↦ subst (λ (o : Option Volume). o ≡ option_map (λ (x : Volume).
+              record x { live = or_empty (option_map (λ y. y.live) o) }) (v h)) (sym (there h ne)) (same_live (v h))
         ];
         can = λ h x is. elim (cases_eq h head) [
           | inl e ↦ written h x (v h) e refl (sym (here h e) ∙ is)
@@ -141,20 +166,29 @@ module _ (f : Fixed) (v : Volumes) (writable : AllWritable v) where
         ];
       }
     where
-      at_head : (h : ℕ) → h ≡ head → edited_at f v (Some head) (λ x. record x { live = new x }) h ≡ option_map (λ (x : Volume). record x { live = new x }) (v h)
+      at_head : (h : ℕ) → h ≡ head → edited_at f v (Some head) (λ x. record x { live = new x }) h
+          ≡ option_map (λ (x : Volume). record x { live = new x }) (v h)
       at_head h e = rw e (edited_here f v (Some head) (λ (x : Volume). record x { live = new x }) head refl)
 
-      written : (h : ℕ) (x : Volume) (o : Option Volume) → h ≡ head → v h ≡ o → option_map (λ (y : Volume). record y { live = new y }) o ≡ Some x → CanBeWritten x.live
+      written : (h : ℕ) (x : Volume) (o : Option Volume) → h ≡ head → v h ≡ o
+          → option_map (λ (y : Volume). record y { live = new y }) o ≡ Some x → CanBeWritten x.live
       written h x None e is made = absurd (cc made)
-      written h x (Some y) e is made = let same : record y { live = new y } ≡ x = cc made in subst (λ (z : Volume). CanBeWritten z.live) same (can head y refl (sym (ap v e) ∙ is))
+      written h x (Some y) e is made =
+          let same : record y { live = new y } ≡ x = cc made in
+          subst (λ (z : Volume). CanBeWritten z.live) same (can head y refl (sym (ap v e) ∙ is))
 
   module _ (quiet : RefusalsChangeNothing) where
-    refused : (command : Command) (reply : Reply) → IsRefusal reply → Allowed f v command reply → ChangesLive (change f v command reply)
-    refused command reply is allowed = unchanged _ (λ h. quiet f v command reply (change f v command reply) is (record { allowed = allowed; after = λ k. refl }) h)
+    refused : (command : Command) (reply : Reply) → IsRefusal reply → Allowed f v command reply
+        → ChangesLive (change f v command reply)
+    refused command reply is allowed = unchanged _
+        (λ h. quiet f v command reply (change f v command reply) is (record { allowed = allowed; after = λ k. refl }) h)
 
-    pub in_memory : (command : Command) (reply : Reply) → IsInMemory command → Allowed f v command reply → ChangesLive (change f v command reply)
+    pub in_memory : (command : Command) (reply : Reply) → IsInMemory command → Allowed f v command reply
+        → ChangesLive (change f v command reply)
     in_memory (c.SetX volume key value) r.Ok is allowed =
-        edited (head_of f v volume) (λ x. with_value x.live key value) (λ head x found there. written_with x.live key value (set_within f v volume head x found there key value allowed.0) (writable head x there))
+        edited (head_of f v volume)
+        (λ x. with_value x.live key value) (λ head x found there. written_with x.live key value
+        (set_within f v volume head x found there key value allowed.0) (writable head x there))
     in_memory (c.SetX volume key value) (r.Made h) is allowed = absurd allowed.1
     in_memory (c.SetX volume key value) (r.Content page) is allowed = absurd allowed.1
     in_memory (c.SetX volume key value) (r.Value x) is allowed = absurd allowed.1
@@ -162,7 +196,8 @@ module _ (f : Fixed) (v : Volumes) (writable : AllWritable v) where
     in_memory (c.SetX volume key value) (r.List list) is allowed = absurd allowed.1
     in_memory (c.SetX volume key value) (r.Df df) is allowed = absurd allowed.1
     in_memory (c.SetX volume key value) reply is allowed = refused (c.SetX volume key value) reply tt allowed
-    in_memory (c.DelX volume key) r.Ok is allowed = edited (head_of f v volume) (λ x. without x.live key) (λ head x found there. written_without x.live key (writable head x there))
+    in_memory (c.DelX volume key) r.Ok is allowed = edited (head_of f v volume) (λ x. without x.live key)
+        (λ head x found there. written_without x.live key (writable head x there))
     in_memory (c.DelX volume key) (r.Made h) is allowed = absurd allowed.1
     in_memory (c.DelX volume key) (r.Content page) is allowed = absurd allowed.1
     in_memory (c.DelX volume key) (r.Value x) is allowed = absurd allowed.1

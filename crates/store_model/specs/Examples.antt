@@ -1,6 +1,6 @@
--- A state written down, and what the definitions say of it: a blob that is frozen, one that is marked, a claim that is open, and a job
--- of two replacements.
-use Rattle.std.specs.Prelude.{◌≡◌, ◌≢◌, ℕ, ◌==◌, if◌then◌else◌, codes, List, [], ◌∷◌, Option, None, Some, Bool, true, false, refl}
+-- A state written down, and what the definitions say of it: a blob that is frozen, one that is marked, a claim that is
+-- open, and a job of two replacements.
+use Rattle.std.specs.Prelude.{◌≡◌, ◌==◌, if◌then◌else◌, codes, List, [], ◌∷◌, None, Some, true, false, refl}
 use Rattle.page_fields.specs.Fields.{number}
 use Rattle.super_block.specs.declared.page.Super.{Super}
 use Rattle.volume_model.specs.Volumes.{zero_page}
@@ -11,19 +11,17 @@ use Rattle.volume_model.specs.declared.reply.Reply.TheVariants as r
 use Rattle.volume_model.specs.declared.text.Xattr.{Xattr}
 use Rattle.blob_meta.specs.declared.meta.Meta.{Meta}
 use Rattle.blob_meta.specs.Resolving.{mark_of, resolved}
-use Rattle.md_chain.specs.Chain.{blob_id}
 use Rattle.store_model.specs.Device.{Device}
-use Rattle.store_model.specs.Maps.{Chains, Metas}
+use Rattle.store_model.specs.Maps.{Metas}
 use Rattle.store_model.specs.Rows.{Copying, Ended, Idle, InJob, OpenClaim, Rows}
-use Rattle.store_model.specs.Phases.{Committing, Erases, Frees, held_in, has_commit, next_replacing, Phase, Replaces, Replacing, taken_in, todo_of, Writes}
-use Rattle.store_model.specs.Places.{HasClaim, claimed_by, held_by}
+use Rattle.store_model.specs.Phases.{Committing, Erases, Frees, held_in, Phase, Replaces, Replacing, todo_of, Writes}
 use Rattle.store_model.specs.StoreState.{ForCommand, JobState, StoreState, turns_left, waiting}
-use Rattle.store_model.specs.Cases.WriteFresh.{WritesFresh}
 use Rattle.store_model.specs.Later.CopyTurns.{LosesCopy}
 
 -- metadata of no slot, with these marks
 abbrev meta_with : List Xattr → Meta
-meta_with marks = record { id = 0; flags = record { invalid = 0; data_ro = 0; md_ro = 0 }; xattrs = []; internal = marks; map = [] }
+meta_with marks =
+    record { id = 0; flags = record { invalid = 0; data_ro = 0; md_ro = 0 }; xattrs = []; internal = marks; map = [] }
 
 -- a snapshot in the making, of the blob at head 0
 abbrev half_made : Meta
@@ -43,10 +41,12 @@ is_removed = refl
 -- ---- a job of two replacements
 
 abbrev first : Replacing
-first = record { head = 3; new = Some half_made; makes = false; fresh = 5 ∷ []; planned = []; old = 6 ∷ 7 ∷ []; freed = [] }
+first =
+    record { head = 3; new = Some half_made; makes = false; fresh = 5 ∷ []; planned = []; old = 6 ∷ 7 ∷ []; freed = [] }
 
 abbrev second : Replacing
-second = record { head = 0; new = Some (meta_with []); makes = false; fresh = 8 ∷ []; planned = []; old = []; freed = [] }
+second =
+    record { head = 0; new = Some (meta_with []); makes = false; fresh = 8 ∷ []; planned = []; old = []; freed = [] }
 
 abbrev commit : Committing
 commit = record { reply = r.Made 3; live = None; renews = 0 ∷ [] }
@@ -55,14 +55,16 @@ abbrev todo : List Phase
 todo = todo_of (first ∷ second ∷ []) 2 commit
 
 -- six turns, of which the last commits
-pub phases_are : todo ≡ Writes 5 ∷ Replaces first None ∷ Erases 6 ∷ Frees 7 (6 ∷ 7 ∷ []) ∷ Writes 8 ∷ Replaces second (Some commit) ∷ []
+pub phases_are : todo ≡ Writes 5 ∷ Replaces first None ∷ Erases 6 ∷ Frees 7 (6 ∷ 7 ∷ []) ∷ Writes 8 ∷ Replaces second
+    (Some commit) ∷ []
 phases_are = refl
 
 -- it holds both fresh places, and the old ones only once the first replacement is made
 pub holds : held_in todo ≡ 5 ∷ 8 ∷ []
 holds = refl
 
-pub holds_old : held_in (Erases 6 ∷ Frees 7 (6 ∷ 7 ∷ []) ∷ Writes 8 ∷ Replaces second (Some commit) ∷ []) ≡ 6 ∷ 7 ∷ 8 ∷ []
+pub holds_old : held_in (Erases 6 ∷ Frees 7 (6 ∷ 7 ∷ []) ∷ Writes 8 ∷ Replaces second (Some commit) ∷ [])
+    ≡ 6 ∷ 7 ∷ 8 ∷ []
 holds_old = refl
 
 -- ---- a state with it

@@ -1,5 +1,6 @@
 -- Which blobs are neither read nor written for a while, and the generation of each blob.
-use Rattle.std.specs.Prelude.{◌≡◌, ℕ, ◌+◌, ◌≤◌, ◌==◌, if◌then◌else◌, is_some, Bool, true, false, List, [], ◌∷◌, Option, None, Some}
+use Rattle.std.specs.Prelude.{◌≡◌, ℕ, ◌+◌, ◌≤◌, ◌==◌, if◌then◌else◌, is_some, Bool, true, false, List, [], ◌∷◌, Option}
+use Rattle.std.specs.Prelude.{None, Some}
 use Rattle.store_model.specs.Maps.{Map, Metas, with_entry}
 use Rattle.store_model.specs.Phases.{Phase}
 use Rattle.store_model.specs.Rows.{OpenClaim, Rows}
@@ -33,7 +34,8 @@ pub record AreGenerations (base : Metas) (generations : Map ℕ) (drawn : ℕ) :
 
 -- the generation of each open claim was drawn
 abbrev pub AreClaimsDrawn : Rows → ℕ → Type 0
-AreClaimsDrawn rows drawn = (channel : ℕ) (claim : OpenClaim) → (rows channel).claim ≡ Some claim → claim.generation ≤ drawn
+AreClaimsDrawn rows drawn = (channel : ℕ) (claim : OpenClaim) → (rows channel).claim ≡ Some claim
+    → claim.generation ≤ drawn
 
 -- A frozen blob is that which the running job freezes, and on a stopped store none is frozen.
 pub record IsGuarded (p : StoreState) : Type 0 where

@@ -1,5 +1,6 @@
 -- What a command asks a job to do, and what is known of a job while it runs.
-use Rattle.std.specs.Prelude.{◌≡◌, ◌⊎◌, ℕ, ◌+◌, ◌*◌, ◌<◌, ◌≤◌, if◌then◌else◌, Bool, true, false, List, [], ◌∷◌, ◌++◌, length, map, Option, Some, None, IsSome}
+use Rattle.std.specs.Prelude.{◌≡◌, ◌⊎◌, ℕ, ◌+◌, ◌*◌, ◌<◌, ◌≤◌, if◌then◌else◌, Bool, true, false, List, [], ◌∷◌, ◌++◌}
+use Rattle.std.specs.Prelude.{length, map, Option, Some, None, IsSome}
 use Rattle.std.specs.List.{AllByRecursion, flat_map, range_with_len}
 use Rattle.std.specs.Option.{option_map}
 use Rattle.page_disk.specs.Disk.{Image}
@@ -13,7 +14,6 @@ use Rattle.volume_model.specs.Steps.{Allowed, change, named_head}
 use Rattle.volume_model.specs.Refusals.{refusal}
 use Rattle.volume_model.specs.declared.command.Command.{Command}
 use Rattle.volume_model.specs.declared.command.Command.TheVariants as c
-use Rattle.volume_model.specs.declared.reply.Reply.{Reply}
 use Rattle.volume_model.specs.declared.reply.Reply.TheVariants as r
 use Rattle.blob_meta.specs.declared.meta.Meta.{Meta}
 use Rattle.blob_meta.specs.declared.job.Job.{Job as Changes}
@@ -35,7 +35,8 @@ use Rattle.store_model.specs.Rows.{InJob}
 use Rattle.store_model.specs.Roots.{CanBeWritten, IsRoot}
 use Rattle.store_model.specs.Inserting.{with_slot}
 use Rattle.store_model.specs.Places.{all_set, AreDistinct, AreLeastClear, IsMapped}
-use Rattle.store_model.specs.Phases.{Phase, Committing, with_live, Marks, Zeros, Writes, Replaces, Erases, Frees, Replacing, page_in, held_in, taken_by, taken_in, has_commit, replaced, rechained}
+use Rattle.store_model.specs.Phases.{Phase, Committing, with_live, Marks, Zeros, Writes, Replaces, Erases, Frees}
+use Rattle.store_model.specs.Phases.{Replacing, page_in, held_in, taken_by, taken_in, has_commit, replaced, rechained}
 use Rattle.store_model.specs.StoreState.{ForCommand, JobState, StoreState, live_of, shown}
 
 -- ---- what a command asks for
@@ -46,8 +47,8 @@ IsSyncing (c.Put volume key value) = Unit {0}
 IsSyncing (c.Sync volume) = Unit {0}
 IsSyncing _ = ⊥
 
--- A command that nothing refuses, with the blob that it means and the metadata that it makes: as it was, but that the attributes
--- are those which the step makes synced.
+-- A command that nothing refuses, with the blob that it means and the metadata that it makes: as it was, but that the
+-- attributes are those which the step makes synced.
 pub record AsksFor (p : StoreState) (command : Command) (head : ℕ) (new : Meta) : Type 0 where
   pub syncing : IsSyncing command
   pub asked : refusal (fixed_of p.super) (shown p) command ≡ None
@@ -105,7 +106,8 @@ IsJobPlanned s pages (Some new) r = IsPlannedFor s pages new r
 IsJobPlanned s pages None r =
     (r.fresh ≡ []) × (r.makes ≡ false) × (r.planned ≡ record { place = r.head; page = zero_page } ∷ [])
 
--- The clusters in maps before and after a replacement: one that no map has any more is freed, and one that none had was claimed.
+-- The clusters in maps before and after a replacement: one that no map has any more is freed, and one that none had was
+-- claimed.
 pub record MovesClusters (s : Super) (base later : Metas) (freed claimed : List ℕ) : Type 0 where
   pub kept : (cluster : ℕ) → IsMapped base cluster → IsMapped later cluster ⊎ (is_among cluster freed ≡ true)
   pub let_go : (cluster : ℕ) → is_among cluster freed ≡ true
@@ -114,7 +116,8 @@ pub record MovesClusters (s : Super) (base later : Metas) (freed claimed : List 
   pub filled : (cluster : ℕ) → is_among cluster claimed ≡ true → IsMapped later cluster
 
 -- A replacement over this metadata and these chains, laid on pages of these that are clear.
-pub record IsLaid (s : Super) (base : Metas) (chains : Chains) (pages : List Bool) (claimed : List ℕ) (x : Replacement) (r : Replacing) : Type 0 where
+pub record IsLaid (s : Super) (base : Metas) (chains : Chains) (pages : List Bool) (claimed : List ℕ) (x : Replacement)
+    (r : Replacing) : Type 0 where
   pub head : r.head ≡ x.head
   pub new : r.new ≡ x.new
   pub chain : chains r.head ≡ (if r.makes then None else Some (r.head ∷ r.old))
@@ -144,12 +147,15 @@ with_zeroed (x ∷ xs) slots clusters = record x { new = option_map (λ m. with_
 -- each page of these clusters is overwritten with zeros
 abbrev pub zeroing : Super → List ℕ → List Phase
 zeroing s clusters =
-    flat_map (λ cluster. map (λ page. Zeros (cluster * cluster_pages_of s + page)) (range_with_len 0 (cluster_pages_of s))) clusters
+    flat_map (λ cluster. map (λ page. Zeros (cluster * cluster_pages_of s + page))
+    (range_with_len 0 (cluster_pages_of s))) clusters
 
 -- ---- what is left of a job
 
--- A replacement can be made once its fresh pages are written: it is planned on places that differ, and leaves lawful metadata.
-pub record CanReplace (s : Super) (base : Metas) (chains : Chains) (claimed written : List ℕ) (r : Replacing) : Type 0 where
+-- A replacement can be made once its fresh pages are written: it is planned on places that differ, and leaves lawful
+-- metadata.
+pub record CanReplace (s : Super) (base : Metas) (chains : Chains) (claimed written : List ℕ)
+    (r : Replacing) : Type 0 where
   pub all : written ≡ r.fresh
   pub places : places_of r.planned ≡ r.head ∷ r.fresh
   pub says : (m : Meta) → r.new ≡ Some m → MetaAt (page_in r.planned) (region_of s) r.head m (r.head ∷ r.fresh)
@@ -159,8 +165,8 @@ pub record CanReplace (s : Super) (base : Metas) (chains : Chains) (claimed writ
   pub lawful : IsLawful s.md_len (replaced base r)
   pub clusters : MovesClusters s base (replaced base r) r.freed claimed
 
--- What is left can be done, phase by phase, over this metadata and these chains, where these fresh pages are written. A place that is
--- erased is held, and what a replacement leaves is cleared before the next one is made.
+-- What is left can be done, phase by phase, over this metadata and these chains, where these fresh pages are written. A
+-- place that is erased is held, and what a replacement leaves is cleared before the next one is made.
 abbrev pub Lays : Super → Metas → Chains → List ℕ → List ℕ → List Phase → Type 0
 Lays s base chains claimed written [] = (written ≡ []) × (claimed ≡ [])
 Lays s base chains claimed written (Marks ∷ rest) = Lays s base chains claimed written rest
@@ -188,15 +194,18 @@ Keeps s base live (_ ∷ rest) = Keeps s base live rest
 
 -- On whatever device, the command may be done with this reply, and may fail; then the metadata shows its step, and has
 -- the blobs whose generations are renewed.
-pub record IsStep (s : Super) (base : Metas) (replacing : Replacing) (live : Map Xattrs) (command : Command) (commit : Committing) : Type 0 where
+pub record IsStep (s : Super) (base : Metas) (replacing : Replacing) (live : Map Xattrs) (command : Command)
+    (commit : Committing) : Type 0 where
   pub done : IsChangeDone commit.reply
   pub allowed : (image : Image) → Allowed (fixed_of s) (shown_of s base live image) command commit.reply
   pub may_fail : (image : Image) → Allowed (fixed_of s) (shown_of s base live image) command r.Fault
   pub shows : (image : Image)
-      → shown_of s (replaced base replacing) (live_of (change (fixed_of s) (shown_of s base live image) command commit.reply)) image
+      → shown_of s (replaced base replacing)
+      (live_of (change (fixed_of s) (shown_of s base live image) command commit.reply)) image
       ≡ change (fixed_of s) (shown_of s base live image) command commit.reply
   pub lives : (image : Image)
-      → live_of (change (fixed_of s) (shown_of s base live image) command commit.reply) ≡ with_live live replacing.head commit.live
+      → live_of (change (fixed_of s) (shown_of s base live image) command commit.reply)
+      ≡ with_live live replacing.head commit.live
   pub writable : (image : Image) (head : ℕ) (v : Volume)
       → change (fixed_of s) (shown_of s base live image) command commit.reply head ≡ Some v → CanBeWritten v.live
   pub renews : AllByRecursion (λ head. IsSome (replaced base replacing head)) commit.renews
@@ -206,7 +215,8 @@ abbrev pub Does : Super → Metas → Map Xattrs → Command → List Phase → 
 Does s base live command [] = ⊥
 Does s base live command (Replaces r (Some commit) ∷ rest) =
     IsStep s base r live command commit × (has_commit rest ≡ false)
-    × ((image : Image) → Keeps s (replaced base r) (live_of (change (fixed_of s) (shown_of s base live image) command commit.reply)) rest)
+    × ((image : Image) → Keeps s (replaced base r)
+    (live_of (change (fixed_of s) (shown_of s base live image) command commit.reply)) rest)
 Does s base live command (Replaces r None ∷ rest) =
     ((image : Image) → shown_of s (replaced base r) live image ≡ shown_of s base live image)
     × Does s (replaced base r) live command rest
@@ -219,8 +229,8 @@ pub record IsServed (p : StoreState) (channel : ℕ) (todo : List Phase) : Type 
   pub row : p.rows channel ≡ record { left = command ∷ rest; stage = InJob; claim = None }
   pub does : Does p.super p.base p.live command todo
 
--- What is left of a running job can be done, on places that differ; its command waits for the commit, and behind that, or where it
--- serves none, the volumes are shown as they are.
+-- What is left of a running job can be done, on places that differ; its command waits for the commit, and behind that,
+-- or where it serves none, the volumes are shown as they are.
 pub record JobStands (p : StoreState) (j : JobState) : Type 0 where
   pub lays : Lays p.super p.base p.chains j.claimed j.written j.todo
   pub distinct : AreDistinct (held_in j.todo)

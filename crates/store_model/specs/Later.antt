@@ -13,7 +13,9 @@ use Rattle.store_model.specs.Later.FillTurns.{ClaimsFill, EndsFill, LacksForFill
 use Rattle.store_model.specs.Later.JobPhaseTurns.{BeginsRepair, CommitsMore, MarksDirty, ReplacesMore, Zeroes}
 
 pub data LaterKind : Type 0 where
-  finds_empty finds_filled claims refuses_claim copies loses_copy copy_not_read copy_fails sends begins_insert loses_insert lacks_for_insert inserts insert_ends claims_fill lacks_for_fill ends_fill marks_dirty zeroes replaces_more commits_more begins_repair : LaterKind
+  finds_empty finds_filled claims refuses_claim copies loses_copy copy_not_read copy_fails sends begins_insert
+      loses_insert lacks_for_insert inserts insert_ends claims_fill lacks_for_fill ends_fill marks_dirty zeroes
+      replaces_more commits_more begins_repair : LaterKind
 
 module _ (told : Bool) where
   abbrev pub LaterTurn : StoreState → LaterKind → StoreState → Type 0

@@ -1,5 +1,5 @@
 -- What a job does: replacements of metadata, one after another, by phases of which each is one turn.
-use Rattle.std.specs.Prelude.{ℕ, ◌-◌, ◌==◌, if◌then◌else◌, Bool, true, false, List, [], ◌∷◌, ◌++◌, map, Option, Some, None}
+use Rattle.std.specs.Prelude.{ℕ, ◌-◌, ◌==◌, if◌then◌else◌, Bool, true, false, List, [], ◌∷◌, ◌++◌, Option, Some, None}
 use Rattle.std.specs.Option.{option_map, option_map_or}
 use Rattle.volume_model.specs.declared.reply.Reply.{Reply}
 use Rattle.blob_meta.specs.declared.meta.Meta.{Meta}
@@ -8,8 +8,9 @@ use Rattle.md_chain.specs.declared.plan.PlannedPage.{PlannedPage}
 use Rattle.volume_model.specs.Xattrs.{Xattrs}
 use Rattle.store_model.specs.Maps.{Map, Metas, Chains, with_entry}
 
--- The metadata of the blob at a head replaced by new metadata, or, where there is none, the blob erased, as it is laid on pages: the
--- head's page is replaced in place, those behind it go to fresh places, and those that stood behind it are erased.
+-- The metadata of the blob at a head replaced by new metadata, or, where there is none, the blob erased, as it is laid
+-- on pages: the head's page is replaced in place, those behind it go to fresh places, and those that stood behind it
+-- are erased.
 pub record Replacing : Type 0 where
   pub head : ℕ
   pub new : Option Meta
@@ -29,8 +30,8 @@ pub record Committing : Type 0 where
   pub live : Option Xattrs
   pub renews : List ℕ
 
--- One turn of a job. The super block says that the store is in use; a page of a claimed cluster is overwritten with zeros; a page of
--- the next chain goes to its fresh place; a head's page is replaced, which may be the job's commit;
+-- One turn of a job. The super block says that the store is in use; a page of a claimed cluster is overwritten with
+-- zeros; a page of the next chain goes to its fresh place; a head's page is replaced, which may be the job's commit;
 -- an old page is overwritten with zeros; the last of them is, and behind a flush all are clear.
 pub data Phase : Type 0 where
   Marks : Phase
@@ -58,7 +59,8 @@ phases_of r commit others = writing r.fresh (Replaces r commit ∷ erasing r.old
 -- all of a list, of which the one with this number, from 1, is the commit
 abbrev pub todo_of : List Replacing → ℕ → Committing → List Phase
 todo_of [] number commit = []
-todo_of (r ∷ rs) number commit = phases_of r (if number == 1 then Some commit else None) (todo_of rs (number - 1) commit)
+todo_of (r ∷ rs) number commit =
+    phases_of r (if number == 1 then Some commit else None) (todo_of rs (number - 1) commit)
 
 -- whether the commit is still to come
 abbrev pub has_commit : List Phase → Bool
@@ -93,7 +95,8 @@ taken_in [] = []
 taken_in (Replaces r commit ∷ rest) = taken_by r ++ taken_in rest
 taken_in (_ ∷ rest) = taken_in rest
 
--- the places that what is left of a job holds: those that it takes for chains to come, and old ones that aren't clear yet
+-- the places that what is left of a job holds: those that it takes for chains to come, and old ones that aren't clear
+-- yet
 abbrev pub held_in : List Phase → List ℕ
 held_in [] = []
 held_in (Replaces r commit ∷ rest) = taken_by r ++ taken_in rest

@@ -1,5 +1,6 @@
 -- Which metadata pages and which clusters are in use, and which places a job takes.
-use Rattle.std.specs.Prelude.{◌≡◌, ◌⊎◌, ℕ, ◌<◌, ◌≤◌, Bool, true, false, List, [], ◌∷◌, length, slice_set, Option, Some, None}
+use Rattle.std.specs.Prelude.{◌≡◌, ◌⊎◌, ℕ, ◌<◌, ◌≤◌, Bool, true, false, List, [], ◌∷◌, length, slice_set, Option, Some}
+use Rattle.std.specs.Prelude.{None}
 use Rattle.std.specs.Option.{option_map_or}
 use Rattle.bit_array.specs.Bits.{is_in, IsLeastClear}
 use Rattle.super_block.specs.declared.page.Super.{Super}
@@ -91,5 +92,6 @@ pub record UsedClusters (s : Super) (bits : List Bool) (metas : Metas) (claimed 
   pub fixed : (cluster : ℕ) → cluster < fixed_clusters_of s → cluster < clusters_of s → is_in bits cluster ≡ true
   pub mapped : (cluster : ℕ) → IsMapped metas cluster → is_in bits cluster ≡ true
   pub claimed_too : (cluster : ℕ) → claimed cluster → is_in bits cluster ≡ true
-  pub no_other : (cluster : ℕ) → is_in bits cluster ≡ true → (cluster < fixed_clusters_of s) ⊎ (IsMapped metas cluster ⊎ claimed cluster)
+  pub no_other : (cluster : ℕ) → is_in bits cluster ≡ true
+      → (cluster < fixed_clusters_of s) ⊎ (IsMapped metas cluster ⊎ claimed cluster)
   pub apart : (cluster : ℕ) → claimed cluster → (fixed_clusters_of s ≤ cluster) × ¬ IsMapped metas cluster

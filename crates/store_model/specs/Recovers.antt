@@ -54,10 +54,11 @@ module _ (s : Super) (first : Volumes) where
 
   -- volumes that are those of the log as it survives: synced attributes, and the content of settled pages
   abbrev pub AreSynced : List Entry → Volumes → Type 0
-  AreSynced log shown = (head : ℕ) → AgreeAt (IsSettled (fixed_of s) first log head) (shown head) (stable (fixed_of s) first log head)
+  AreSynced log shown =
+      (head : ℕ) → AgreeAt (IsSettled (fixed_of s) first log head) (shown head) (stable (fixed_of s) first log head)
 
-  -- The image has this store, and says metadata that resolves to lawful one, which shows the log as it survives. Every metadata
-  -- page is read for it.
+  -- The image has this store, and says metadata that resolves to lawful one, which shows the log as it survives. Every
+  -- metadata page is read for it.
   pub record Recovers (log : List Entry) (image : Image) : Type 0 where
     pub store : HasStore s image
     pub metas : Metas
@@ -69,7 +70,8 @@ module _ (s : Super) (first : Volumes) where
 
   -- the first n entries, or these and the change in progress
   abbrev pub RecoversAt : List Entry → ℕ → Image → Type 0
-  RecoversAt log n image = Recovers (take n log) image ⊎ ((done : Entry) × InProgress log n done × Recovers (take n log ++ done ∷ []) image)
+  RecoversAt log n image =
+      Recovers (take n log) image ⊎ ((done : Entry) × InProgress log n done × Recovers (take n log ++ done ∷ []) image)
 
   -- A prefix of at least so many entries, or that prefix with the change in progress.
   pub record RecoversFrom (log : List Entry) (least : ℕ) (image : Image) : Type 0 where

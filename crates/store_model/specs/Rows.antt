@@ -12,14 +12,14 @@ pub record OpenClaim : Type 0 where
   pub slot : ℕ
   pub generation : ℕ
 
--- What is decided of a row, of which its channel is to be told: its command has been logged, its cluster was inserted, or its
--- claim was lost.
+-- What is decided of a row, of which its channel is to be told: its command has been logged, its cluster was inserted,
+-- or its claim was lost.
 pub data Decision : Type 0 where
   Answered Won Lost : Decision
 
--- How far the first command of a row has come. It waits; a write has found its slot empty; its claim has so many pages to copy;
--- all are copied; it is posted under a serial number; the running job serves it; or something is decided of it. A channel that has
--- ended makes no turn any more.
+-- How far the first command of a row has come. It waits; a write has found its slot empty; its claim has so many pages
+-- to copy; all are copied; it is posted under a serial number; the running job serves it; or something is decided of
+-- it. A channel that has ended makes no turn any more.
 pub data Stage : Type 0 where
   Idle : Stage
   Claiming : Stage
@@ -55,4 +55,5 @@ entries_of channel log = filter (λ e. e.channel == channel) log
 
 -- the next entry of a channel
 abbrev pub entry_of : List Entry → ℕ → Command → Reply → Entry
-entry_of log channel command reply = record { channel = channel; index = length (entries_of channel log); command = command; reply = reply }
+entry_of log channel command reply =
+    record { channel = channel; index = length (entries_of channel log); command = command; reply = reply }

@@ -1,21 +1,15 @@
 -- What every state of a run has: plain data alone, whatever the device may leave after a crash.
-use Rattle.std.specs.Prelude.{◌≡◌, ◌≢◌, ℕ, ◌+◌, ◌<◌, ◌≤◌, List, [], ◌∷◌, ◌++◌, length, Some, None, All, codes, true}
-use Rattle.std.specs.List.{AllByRecursion}
+use Rattle.std.specs.Prelude.{◌≡◌, ◌≢◌, ℕ, ◌+◌, ◌<◌, ◌≤◌, List, [], ◌∷◌, ◌++◌, length, Some, None, All, true}
 use Rattle.volume_model.specs.Volumes.{Volumes}
-use Rattle.volume_model.specs.Xattrs.{Xattrs, value_of}
-use Rattle.volume_model.specs.declared.text.Xattr.{Xattr}
+use Rattle.volume_model.specs.Xattrs.{Xattrs}
 use Rattle.volume_model.specs.Logs.{replay, IsLegal, Numbered}
 use Rattle.volume_model.specs.declared.command.Command.{Command}
 use Rattle.super_block.specs.declared.page.Super.{Super}
 use Rattle.blob_meta.specs.declared.meta.Meta.{Meta}
-use Rattle.blob_meta.specs.Says.{without_bit_1}
-use Rattle.blob_meta.specs.Faults.{meta_fault}
-use Rattle.blob_meta.specs.Items.{HasDistinctNames}
 use Rattle.blob_meta.specs.Resolving.{IsLawful}
-use Rattle.md_chain.specs.Chain.{blob_id, is_among}
+use Rattle.md_chain.specs.Chain.{is_among}
 pub use Rattle.store_model.specs.Roots.{CanBeWritten, IsRoot, AreRoots}
 use Rattle.store_model.specs.Maps.{Metas, Chains}
-use Rattle.store_model.specs.Regions.{region_of}
 use Rattle.store_model.specs.Shown.{fixed_of}
 use Rattle.store_model.specs.Rows.{Copying, entries_of, InJob, OpenClaim, Posted, Ended, Ready, Row, Stage}
 use Rattle.store_model.specs.StoreState.{ForCommand, JobState, StoreState, shown, waiting}
@@ -24,12 +18,15 @@ use Rattle.store_model.specs.Places.{AreDistinct, ClaimsDiffer, HasClaim, held_b
 use Rattle.store_model.specs.Guarding.{AreClaimsDrawn, AreGenerations, IsGuarded}
 use Rattle.store_model.specs.Jobs.{JobStands}
 
--- Each blob has a chain, which begins with its head; no place stands in two chains, or twice in one; each is of the region.
+-- Each blob has a chain, which begins with its head; no place stands in two chains, or twice in one; each is of the
+-- region.
 pub record HaveChains (s : Super) (metas : Metas) (chains : Chains) : Type 0 where
   pub chain : (head : ℕ) (m : Meta) → metas head ≡ Some m → (rest : List ℕ) × (chains head ≡ Some (head ∷ rest))
   pub none : (head : ℕ) → metas head ≡ None → chains head ≡ None
-  pub low : (head place : ℕ) (pages : List ℕ) → chains head ≡ Some pages → is_among place pages ≡ true → place < s.md_len
-  pub apart : (h k place : ℕ) (ps qs : List ℕ) → chains h ≡ Some ps → chains k ≡ Some qs → is_among place ps ≡ true → is_among place qs ≡ true → h ≡ k
+  pub low : (head place : ℕ) (pages : List ℕ) → chains head ≡ Some pages → is_among place pages ≡ true
+      → place < s.md_len
+  pub apart : (h k place : ℕ) (ps qs : List ℕ) → chains h ≡ Some ps → chains k ≡ Some qs → is_among place ps ≡ true
+      → is_among place qs ≡ true → h ≡ k
   pub differ : (head : ℕ) (pages : List ℕ) → chains head ≡ Some pages → AreDistinct pages
 
 -- Of each channel, the commands so far, numbered in the log, and those that are left are all of the script's.
@@ -68,7 +65,8 @@ pub record IsShaped (p : StoreState) : Type 0 where
 -- while the store runs: what it has in memory is what the device says, and the volumes shown are the log's replay
 pub record RunsWell (first : Volumes) (p : StoreState) : Type 0 where
   pub chains : HaveChains p.super p.base p.chains
-  pub live : (head : ℕ) (m : Meta) → p.base head ≡ Some m → (xattrs : Xattrs) × (p.live head ≡ Some xattrs) × CanBeWritten xattrs
+  pub live : (head : ℕ) (m : Meta) → p.base head ≡ Some m
+      → (xattrs : Xattrs) × (p.live head ≡ Some xattrs) × CanBeWritten xattrs
   pub no_live : (head : ℕ) → p.base head ≡ None → p.live head ≡ None
   pub pages : UsedPages p.super.md_len p.pages p.chains (held_by p.job)
   pub clusters : UsedClusters p.super p.clusters p.base (HasClaim p.rows p.job)

@@ -17,14 +17,15 @@ abbrev pub fixed_of : Super → Fixed
 fixed_of s = record { cluster_pages = cluster_pages_of s; md_len = s.md_len; super_blob = head_of_id s.super_blob }
 
 module _ (cluster_pages : ℕ) (image : Image) (metas : Metas) where
-  -- A page of a volume: that of the cluster in its slot; where the slot is empty the parent's, if the page is below the parent's
-  -- length; else zeros.
+  -- A page of a volume: that of the cluster in its slot; where the slot is empty the parent's, if the page is below the
+  -- parent's length; else zeros.
   abbrev pub content_by : (ℕ → ℕ → Page) → ℕ → Meta → Page
   content_by content_of page m = in_slot (slot m (page / cluster_pages))
     where
       in_slot : Option ℕ → Page
       in_slot (Some cluster) = image (cluster * cluster_pages + page % cluster_pages)
-      in_slot None = option_map_or (λ p. option_map_or (λ parent. if nat_lt page (cluster_pages * length parent.map) then content_of p page else zero_page) (metas p) zero_page) (parent_of m) zero_page
+      in_slot None = option_map_or (λ p. option_map_or (λ parent. if nat_lt page (cluster_pages * length parent.map)
+          then content_of p page else zero_page) (metas p) zero_page) (parent_of m) zero_page
 
   -- following parents so many times at most
   abbrev pub content : ℕ → ℕ → ℕ → Page

@@ -24,8 +24,8 @@ use Rattle.store_model.specs.Cases.{Kind, Run, Turn}
 use Rattle.store_model.specs.RunInvariant.{AreRoots, RunInvariant, HaveChains, IsRoot}
 use Rattle.store_model.specs.Recovers.{HasStore, Recovers}
 
--- what a store is loaded with: nothing of a job, each attribute live as it is synced, and each blob with a generation of
--- its own
+-- what a store is loaded with: nothing of a job, each attribute live as it is synced, and each blob with a generation
+-- of its own
 pub record IsLoadedWith (s : Super) (p : StoreState) : Type 0 where
   pub super : p.super ≡ s
   pub roots : AreRoots s p.base
@@ -43,32 +43,51 @@ IsSameBehind s image other = (page : ℕ) → fixed_clusters_of s * cluster_page
 
 pub record StateLaws : Type 0 where
   -- a loaded store has what every state of a run has
-  pub begin : (s : Super) (p : StoreState) → IsLoadedWith s p → Opens p → RunInvariant s (shown p) (λ channel. (p.rows channel).left) p
+  pub begin : (s : Super) (p : StoreState) → IsLoadedWith s p → Opens p
+      → RunInvariant s (shown p) (λ channel. (p.rows channel).left) p
   -- each turn keeps it, and is one more of the run
-  pub keep : (told : Bool) (s : Super) (first : Volumes) (script : ℕ → List Command) (p q : StoreState) (kind : Kind) → IsPlaced s → RunInvariant s first script p → Turn told p kind q → RunInvariant s first script q
-  pub go_on : (told : Bool) (p q r : StoreState) (kinds : List Kind) (kind : Kind) → Run told p kinds q → Turn told q kind r → Run told p (kinds ++ kind ∷ []) r
+  pub keep : (told : Bool) (s : Super) (first : Volumes) (script : ℕ → List Command) (p q : StoreState) (kind : Kind)
+      → IsPlaced s → RunInvariant s first script p → Turn told p kind q → RunInvariant s first script q
+  pub go_on : (told : Bool) (p q r : StoreState) (kinds : List Kind) (kind : Kind) → Run told p kinds q
+      → Turn told q kind r → Run told p (kinds ++ kind ∷ []) r
   -- the metadata that a job is to write can be written
-  pub writable : (s : Super) (first : Volumes) (script : ℕ → List Command) (p : StoreState) (command : Command) (head : ℕ) (new : Meta) → RunInvariant s first script p → p.stopped ≡ None → AsksFor p command head new → IsRoot s head new
+  pub writable : (s : Super) (first : Volumes) (script : ℕ → List Command) (p : StoreState) (command : Command)
+      (head : ℕ) (new : Meta) → RunInvariant s first script p → p.stopped ≡ None → AsksFor p command head new
+      → IsRoot s head new
   -- An image with this store, which says the metadata that the store has, recovers the whole log.
-  pub recovers : (s : Super) (first : Volumes) (script : ℕ → List Command) (p : StoreState) (image : Image) → IsPlaced s → RunInvariant s first script p → p.stopped ≡ None
-      → HasStore s image → Says (region_of s) p.base p.chains image → IsSameBehind s p.device.reads image → Recovers s first p.log image
+  pub recovers : (s : Super) (first : Volumes) (script : ℕ → List Command) (p : StoreState) (image : Image) → IsPlaced s
+      → RunInvariant s first script p → p.stopped ≡ None
+      → HasStore s image → Says (region_of s) p.base p.chains image → IsSameBehind s p.device.reads image
+      → Recovers s first p.log image
 
 -- what one turn does to a store that stops
 pub record StopLaws : Type 0 where
-  -- a run that begins running and ends stopped has counted a failed write or flush, or the count stands at its last number
-  pub counted : (told : Bool) (p q : StoreState) (kinds : List Kind) (at : ℕ) → Run told p kinds q → p.stopped ≡ None → q.stopped ≡ Some at → Rose p.device.write_faults q.device.write_faults
+  -- a run that begins running and ends stopped has counted a failed write or flush, or the count stands at its last
+  -- number
+  pub counted : (told : Bool) (p q : StoreState) (kinds : List Kind) (at : ℕ) → Run told p kinds q → p.stopped ≡ None
+      → q.stopped ≡ Some at → Rose p.device.write_faults q.device.write_faults
   -- a run that ends running has counted none
-  pub uncounted : (told : Bool) (p q : StoreState) (kinds : List Kind) → Run told p kinds q → q.stopped ≡ None → q.device.write_faults ≡ p.device.write_faults
-  -- a run's log has no `fault` and no `stopped` while the store runs, and then one `fault` at most, where the store stopped
-  pub quiet : (told : Bool) (p q : StoreState) (kinds : List Kind) → Run told p kinds q → p.log ≡ [] → q.stopped ≡ None → All (λ e. IsQuiet e.reply) q.log
-  pub fault : (told : Bool) (p q : StoreState) (kinds : List Kind) → Run told p kinds q → p.log ≡ [] → (k : ℕ) (e : Entry) → slice_get q.log k ≡ Some e → e.reply ≡ r.Fault → q.stopped ≡ Some k
+  pub uncounted : (told : Bool) (p q : StoreState) (kinds : List Kind) → Run told p kinds q → q.stopped ≡ None
+      → q.device.write_faults ≡ p.device.write_faults
+  -- a run's log has no `fault` and no `stopped` while the store runs, and then one `fault` at most, where the store
+  -- stopped
+  pub quiet : (told : Bool) (p q : StoreState) (kinds : List Kind) → Run told p kinds q → p.log ≡ [] → q.stopped ≡ None
+      → All (λ e. IsQuiet e.reply) q.log
+  pub fault : (told : Bool) (p q : StoreState) (kinds : List Kind) → Run told p kinds q → p.log ≡ []
+      → (k : ℕ) (e : Entry) → slice_get q.log k ≡ Some e → e.reply ≡ r.Fault → q.stopped ≡ Some k
 
 -- the pages that a job writes
 pub record JobLaws : Type 0 where
   -- a torn page, a page of zeros and a fresh page of a planned chain are no heads
   pub torn : (place : ℕ) (page : List ℕ) → is_sound page ≡ false → is_head place page ≡ false
   pub zeros : (place : ℕ) → is_head place zero_page ≡ false
-  pub fresh : (planned : Look) (r : MdRegion) (head : ℕ) (new : Meta) (fresh : List ℕ) (place : ℕ) → MetaAt planned r head new (head ∷ fresh) → is_among place fresh ≡ true → is_head place (planned place) ≡ false
-  -- Where the fresh pages are read as planned, and the head's page is the planned one, the metadata and the chain are the new ones.
-  pub replaced : (look other planned : Look) (r : MdRegion) (metas : Metas) (chains : Chains) (head : ℕ) (new : Meta) (fresh old : List ℕ) → Scanned look r metas chains → MetaAt planned r head new (head ∷ fresh) → chains head ≡ Some (head ∷ old)
-      → ((place : ℕ) → is_among place fresh ≡ true → look place ≡ planned place) → other head ≡ planned head → ((place : ℕ) → place ≢ head → other place ≡ look place) → Scanned other r (with_entry metas head new) (with_entry chains head (head ∷ fresh))
+  pub fresh : (planned : Look) (r : MdRegion) (head : ℕ) (new : Meta) (fresh : List ℕ) (place : ℕ)
+      → MetaAt planned r head new (head ∷ fresh) → is_among place fresh ≡ true → is_head place (planned place) ≡ false
+  -- Where the fresh pages are read as planned, and the head's page is the planned one, the metadata and the chain are
+  -- the new ones.
+  pub replaced : (look other planned : Look) (r : MdRegion) (metas : Metas) (chains : Chains) (head : ℕ)
+      (new : Meta) (fresh old : List ℕ) → Scanned look r metas chains → MetaAt planned r head new (head ∷ fresh)
+      → chains head ≡ Some (head ∷ old)
+      → ((place : ℕ) → is_among place fresh ≡ true → look place ≡ planned place)
+      → other head ≡ planned head → ((place : ℕ) → place ≢ head → other place ≡ look place)
+      → Scanned other r (with_entry metas head new) (with_entry chains head (head ∷ fresh))

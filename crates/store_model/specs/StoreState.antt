@@ -1,5 +1,6 @@
 -- The state of a running store, as plain data. Contracts compute it from what they see of the program's value.
-use Rattle.std.specs.Prelude.{Some, length, ◌≡◌, ◌⊎◌, ℕ, ◌+◌, ◌%◌, ◌^◌, ◌==◌, if◌then◌else◌, Bool, false, List, [], ◌∷◌, ◌++◌, Option, None}
+use Rattle.std.specs.Prelude.{Some, length, ◌≡◌, ◌⊎◌, ℕ, ◌+◌, ◌%◌, ◌^◌, if◌then◌else◌, Bool, false, List, [], ◌∷◌, ◌++◌}
+use Rattle.std.specs.Prelude.{Option, None}
 use Rattle.std.specs.Option.{option_map, option_map_or}
 use Rattle.super_block.specs.declared.page.Super.{Super}
 use Rattle.volume_model.specs.Volumes.{Volumes}
@@ -7,7 +8,6 @@ use Rattle.volume_model.specs.Xattrs.{Xattrs}
 use Rattle.volume_model.specs.declared.command.Command.{Command}
 use Rattle.volume_model.specs.declared.reply.Reply.{Reply}
 use Rattle.volume_model.specs.declared.reply.Entry.{Entry}
-use Rattle.blob_meta.specs.declared.meta.Meta.{Meta}
 use Rattle.md_chain.specs.Chain.{Look}
 use Rattle.store_model.specs.Maps.{Map, Metas, Chains}
 use Rattle.store_model.specs.Phases.{Phase, has_commit, planned_in}
@@ -82,7 +82,8 @@ pub record StoreState : Type 0 where
 
 -- the volumes that are shown
 abbrev pub shown : StoreState → Volumes
-shown p head = option_map (λ m. volume_of (fixed_of p.super).cluster_pages p.device.reads p.base p.super.md_len (option_map_or (λ xs. xs) (p.live head) []) head m) (p.base head)
+shown p head = option_map (λ m. volume_of (fixed_of p.super).cluster_pages p.device.reads p.base p.super.md_len
+    (option_map_or (λ xs. xs) (p.live head) []) head m) (p.base head)
 
 -- the attributes of volumes as they are read
 abbrev pub live_of : Volumes → Map Xattrs
@@ -92,8 +93,8 @@ live_of v head = option_map (λ x. x.live) (v head)
 abbrev pub next_serial : ℕ → ℕ
 next_serial n = (n + 1) % 2 ^ 64
 
--- One entry is logged: the command leaves its row, which is at this stage then and has no claim; and the clock at the exit is the
--- entry's mark.
+-- One entry is logged: the command leaves its row, which is at this stage then and has no claim; and the clock at the
+-- exit is the entry's mark.
 abbrev pub logged_to : Stage → StoreState → ℕ → Command → List Command → Reply → Device → StoreState
 logged_to next p channel command rest reply d = record p {
   rows = with_row p.rows channel (record { left = rest; stage = next; claim = None });
@@ -112,7 +113,8 @@ logged_here = logged_to Idle
 
 -- how a run begins: nothing is posted, nothing logged, no job runs, nothing is frozen, and nothing has failed
 pub record Opens (p : StoreState) : Type 0 where
-  pub waits : (channel : ℕ) → ((p.rows channel).stage ≡ Idle) ⊎ (p.rows channel ≡ record { left = []; stage = Ended; claim = None })
+  pub waits : (channel : ℕ)
+      → ((p.rows channel).stage ≡ Idle) ⊎ (p.rows channel ≡ record { left = []; stage = Ended; claim = None })
   pub unclaimed : (channel : ℕ) → (p.rows channel).claim ≡ None
   pub log : p.log ≡ []
   pub marks : p.marks ≡ p.device.clock ∷ []

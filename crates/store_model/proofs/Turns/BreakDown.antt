@@ -1,7 +1,8 @@
 -- The turn breaks_down.
-use Rattle.std.proofs.Common.{◌≡◌, ◌∷◌, ◌<◌, ◌+◌, [], ℕ, length, length-append, None, Some, ap, arith, inl, inr, refl, subst, sym, ◌∙◌, List, ◌≢◌}
+use Rattle.std.proofs.Common.{◌≡◌, ◌∷◌, ◌<◌, [], ℕ, length, length-append, None, Some, ap, arith, inl, inr, refl, subst}
+use Rattle.std.proofs.Common.{sym, ◌∙◌, List, ◌≢◌}
 use Rattle.volume_model.specs.declared.reply.Reply.TheVariants as r
-use Rattle.store_model.specs.Rows.{Answered, Decided, entry_of, InJob, Row}
+use Rattle.store_model.specs.Rows.{Answered, Decided, entry_of, Row}
 use Rattle.store_model.specs.StoreState.{JobState, logged, StoreState, turns_left}
 use Rattle.store_model.specs.Cases.BreakDown as case
 use Rattle.store_model.specs.Cases.BreakDown.{BreaksDown, IsUnlogged, WasLogged}
@@ -27,7 +28,8 @@ module _ (known : Known) (j : JobState) (is : known.p.job ≡ Some j) (at : ℕ)
       let base : StoreState = record p { job = None } in
       let now : StoreState = logged base t.channel t.command t.rest (r.Stopped at) p.device in
       let kept : LogKept known now =
-      log_kept known (Decided Answered) base t.channel t.command t.rest (r.Stopped at) p.device refl refl refl (ap (λ (row : Row). row.left) t.row) (omega arith) tt in
+      log_kept known (Decided Answered) base t.channel t.command t.rest (r.Stopped at) p.device refl refl refl
+      (ap (λ (row : Row). row.left) t.row) (omega arith) tt in
       let low = facts.halted at stands in
       let done : RunInvariant s first script now =
       record {
@@ -37,7 +39,9 @@ module _ (known : Known) (j : JobState) (is : known.p.job ≡ Some j) (at : ℕ)
         legal = kept.legal;
         well = λ runs. absurd (runs_here known at runs stands);
         way = kept.way;
-        shaped = shaped_with p facts.shaped now t.channel _ refl (no_other known j is t.channel (waits_for_commit j t.channel t.serves t.waits) now) (decided_may now t.channel t.rest)
+        shaped = shaped_with p facts.shaped now t.channel _ refl
+            (no_other known j is t.channel (waits_for_commit j t.channel t.serves t.waits) now)
+            (decided_may now t.channel t.rest)
             (λ job c bad serves waits. absurd (cc bad));
         guarded = none_guarded now (facts.guarded.stopped at stands);
         counted = kept.counted;
@@ -60,7 +64,8 @@ module _ (known : Known) (j : JobState) (is : known.p.job ≡ Some j) (at : ℕ)
         legal = facts.legal;
         well = λ runs. absurd (runs_here known at runs stands);
         way = way_kept script p facts.way now refl (λ c. refl);
-        shaped = shaped_same p now facts.shaped refl (none_here known j is t.waits now) (λ job c bad serves waits. absurd (cc bad));
+        shaped = shaped_same p now facts.shaped refl (none_here known j is t.waits now)
+            (λ job c bad serves waits. absurd (cc bad));
         guarded = none_guarded now (facts.guarded.stopped at stands);
         counted = facts.counted;
         past = facts.past;
@@ -88,7 +93,9 @@ module _ (known : Known) (q : StoreState) (t : BreaksDown known.p q) where
     | inl x ↦
         let none : q.job ≡ None = ap (λ (v : StoreState). v.job) x.next in
         record {
-          progress = logs t.job t.is x.channel (waits_for_commit t.job x.channel x.serves x.waits) x.command x.rest x.row (ap (λ (v : StoreState). v.rows) x.next) (no_job q.job none);
+          progress =
+              logs t.job t.is x.channel (waits_for_commit t.job x.channel x.serves x.waits) x.command x.rest x.row
+              (ap (λ (v : StoreState). v.rows) x.next) (no_job q.job none);
           less = less none;
         }
     | inr x ↦
@@ -101,7 +108,10 @@ module _ (known : Known) (q : StoreState) (t : BreaksDown known.p q) where
 
 effect_of : (p q : StoreState) → BreaksDown p q → Effect p q
 effect_of p q t = elim t.ends [
-  | inl x ↦ subst (Effect p) (sym x.next) (record { goes = stays refl refl; logs = halt (entry_of p.log x.channel x.command (r.Stopped t.at)) t.at refl refl refl t.stands })
+  | inl x ↦ subst (Effect p) (sym x.next) (record {
+    goes = stays refl refl;
+    logs = halt (entry_of p.log x.channel x.command (r.Stopped t.at)) t.at refl refl refl t.stands;
+  })
   | inr x ↦ subst (Effect p) (sym x.next) (record { goes = stays refl refl; logs = nothing refl refl })
 ]
 
@@ -127,7 +137,10 @@ idles_of p q t = elim t.ends [
 
 pub law : TurnLaw case.kind
 law = record {
-  keeps = λ _ told known q t. elim t.ends [ inl x ↦ keeps_unlogged known t.job t.is t.at t.stands q x | inr x ↦ keeps_logged known t.job t.is t.at t.stands q x ];
+  keeps = λ _ told known q t. elim t.ends [
+    | inl x ↦ keeps_unlogged known t.job t.is t.at t.stands q x
+    | inr x ↦ keeps_logged known t.job t.is t.at t.stands q x
+  ];
   effect = λ told p q t. effect_of p q t;
   images = λ d x t does. untouched_images d x does (idles_of x.p x.q t);
   job = λ _ told known q t. job_law known q t;

@@ -2,7 +2,6 @@
 use Rattle.std.proofs.Common.{ap, refl, subst, sym}
 use Rattle.volume_model.specs.declared.command.Command.{Command}
 use Rattle.volume_model.specs.declared.command.Command.TheVariants as c
-use Rattle.volume_model.proofs.RefusalsSettleNothing.{not_flushing}
 use Rattle.store_model.specs.Rows.{entry_of, Idle, Row}
 use Rattle.store_model.specs.StoreState.{StoreState}
 use Rattle.store_model.specs.Turning.{IsRefusedAtBegin}
@@ -14,7 +13,8 @@ use Rattle.store_model.proofs.Refusals.{RefusalsChangeNothing}
 use Rattle.store_model.proofs.Over.{answer, Effect, stays, TurnLaw}
 use Rattle.store_model.proofs.Shapes.{idles, Idles, notes, untouched_images}
 use Rattle.store_model.proofs.Shaped.{idle_may}
-use Rattle.store_model.proofs.StateKept.{allowed_here, caused_so, is_allowed, is_refusal, logged_facts, not_in_job, refused_same}
+use Rattle.store_model.proofs.StateKept.{allowed_here, caused_so, is_allowed, is_refusal, logged_facts, not_in_job}
+use Rattle.store_model.proofs.StateKept.{refused_same}
 use Rattle.store_model.proofs.Turns.Refuse.{refused_quiet}
 
 module _ (p q : StoreState) (t : RefusesWrite p q) where
@@ -34,15 +34,23 @@ module _ (quiet : RefusalsChangeNothing) (known : Known) where
       let is = is_refusal p (command p q t) t.reply (why p q t) in
       let allowed = is_allowed p (command p q t) t.reply (why p q t) in
       subst (RunInvariant s first script) (sym t.next)
-      (logged_facts known Idle idle_may t.channel (command p q t) t.rest t.reply (not_in_job known _ _ t.row (λ bad. cc bad)) (λ runs. ap (λ (r : Row). r.claim) t.row) (ap (λ (r : Row). r.left) t.row)
-      (allowed_here known (command p q t) t.reply t.runs allowed) (λ runs. refused_same known quiet (command p q t) t.reply is allowed))
+      (logged_facts known Idle idle_may t.channel (command p q t) t.rest t.reply
+      (not_in_job known _ _ t.row (λ bad. cc bad)) (λ runs. ap (λ (r : Row). r.claim) t.row)
+      (ap (λ (r : Row). r.left) t.row)
+      (allowed_here known (command p q t) t.reply t.runs allowed)
+      (λ runs. refused_same known quiet (command p q t) t.reply is allowed))
 
 pub law : TurnLaw case.kind
 law = record {
   keeps = λ quiet told known q t. keeps quiet known q t;
   effect = λ told p q t. subst (Effect p) (sym t.next)
-      (record { goes = stays refl refl; logs = answer (entry_of p.log t.channel (command p q t) t.reply) refl refl (refused_quiet p (command p q t) t.reply (why p q t)) t.runs });
+      (record {
+        goes = stays refl refl;
+        logs = answer (entry_of p.log t.channel (command p q t) t.reply) refl refl
+            (refused_quiet p (command p q t) t.reply (why p q t)) t.runs;
+      });
   images = λ d x t does. untouched_images d x does
-      (subst (Idles x.p) (sym t.next) (idles x.p _ refl refl refl refl (λ _. notes (entry_of x.p.log t.channel (command x.p x.q t) t.reply) refl refl)));
+      (subst (Idles x.p) (sym t.next) (idles x.p _ refl refl refl refl
+      (λ _. notes (entry_of x.p.log t.channel (command x.p x.q t) t.reply) refl refl)));
   job = λ of. absurd of;
 }

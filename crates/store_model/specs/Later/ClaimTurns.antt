@@ -1,5 +1,5 @@
 -- The turns of a write that finds its slot empty, up to its claim.
-use Rattle.std.specs.Prelude.{◌≡◌, ◌⊎◌, ℕ, ◌/◌, List, [], ◌∷◌, Option, None, Some, Bool, true, false, slice_set}
+use Rattle.std.specs.Prelude.{◌≡◌, ◌⊎◌, ℕ, ◌/◌, List, ◌∷◌, Option, None, Some, true, false, slice_set}
 use Rattle.bit_array.specs.Bits.{IsFull, IsLeastClear}
 use Rattle.super_block.specs.Numbers.{cluster_pages_of}
 use Rattle.volume_model.specs.Volumes.{head_of}
@@ -28,11 +28,13 @@ pub record IsWriting (p : StoreState) (stage : Stage) (claim : Option OpenClaim)
   pub row : p.rows channel ≡ record { left = c.Write volume page word ∷ rest; stage = stage; claim = claim }
 
 -- what refuses the write now
-abbrev pub refused_by : (p : StoreState) → {stage : Stage} → {claim : Option OpenClaim} → IsWriting p stage claim → Option Reply
+abbrev pub refused_by : (p : StoreState) → {stage : Stage} → {claim : Option OpenClaim} → IsWriting p stage claim
+    → Option Reply
 refused_by p w = refusal (fixed_of p.super) (shown p) (c.Write w.volume w.page w.word)
 
 -- The blob that the write means, which isn't frozen, with what stands in the page's slot.
-pub record MeansSlot (p : StoreState) {stage : Stage} {claim : Option OpenClaim} (w : IsWriting p stage claim) (cluster : Option ℕ) : Type 0 where
+pub record MeansSlot (p : StoreState) {stage : Stage} {claim : Option OpenClaim} (w : IsWriting p stage claim)
+    (cluster : Option ℕ) : Type 0 where
   pub head : ℕ
   pub found : head_of (fixed_of p.super) (shown p) w.volume ≡ Some head
   pub free : p.frozen head ≡ false
@@ -41,9 +43,11 @@ pub record MeansSlot (p : StoreState) {stage : Stage} {claim : Option OpenClaim}
   pub is : slot meta (w.page / cluster_pages_of p.super) ≡ cluster
 
 -- the row at another stage, with another claim
-abbrev pub staged : (p : StoreState) → {stage : Stage} → {claim : Option OpenClaim} → IsWriting p stage claim → Stage → Option OpenClaim → StoreState
+abbrev pub staged : (p : StoreState) → {stage : Stage} → {claim : Option OpenClaim} → IsWriting p stage claim → Stage
+    → Option OpenClaim → StoreState
 staged p w stage claim = record p {
-  rows = with_row p.rows w.channel (record { left = c.Write w.volume w.page w.word ∷ w.rest; stage = stage; claim = claim });
+  rows = with_row p.rows w.channel
+      (record { left = c.Write w.volume w.page w.word ∷ w.rest; stage = stage; claim = claim });
 }
 
 -- A write that nothing refuses finds its slot empty. No device call; the volumes stay.
@@ -73,14 +77,20 @@ pub record Claims (p q : StoreState) : Type 0 where
   pub generation : ℕ
   pub drawn : p.generations means.head ≡ Some generation
   pub next : q ≡ record (staged p write (Copying (cluster_pages_of p.super))
-      (Some (record { cluster = cluster; head = means.head; slot = write.page / cluster_pages_of p.super; generation = generation }))) {
-    clusters = slice_set p.clusters cluster true;
-  }
+      (Some (record {
+        cluster = cluster;
+        head = means.head;
+        slot = write.page / cluster_pages_of p.super;
+        generation = generation;
+      }))) {
+        clusters = slice_set p.clusters cluster true;
+      }
 
 -- By then the write is refused, or no cluster is clear.
 pub record RefusesClaim (p q : StoreState) : Type 0 where
   pub write : IsWriting p Claiming None
   pub runs : p.stopped ≡ None
   pub reply : Reply
-  pub why : (IsCauseReply reply × (refused_by p write ≡ Some reply)) ⊎ ((reply ≡ r.Full) × (refused_by p write ≡ None) × IsFull p.clusters)
+  pub why : (IsCauseReply reply × (refused_by p write ≡ Some reply))
+      ⊎ ((reply ≡ r.Full) × (refused_by p write ≡ None) × IsFull p.clusters)
   pub next : q ≡ logged_here p write.channel (c.Write write.volume write.page write.word) write.rest reply p.device

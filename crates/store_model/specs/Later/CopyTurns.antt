@@ -1,5 +1,6 @@
 -- The turns by which a claimed cluster gets the slot's whole old content, of a channel's row and of the fill's.
-use Rattle.std.specs.Prelude.{◌≡◌, ◌≢◌, ◌⊎◌, ℕ, zero, suc, ◌+◌, ◌-◌, ◌*◌, ◌≤◌, List, [], ◌∷◌, length, Option, None, Some, Bool, false, slice_set}
+use Rattle.std.specs.Prelude.{◌≡◌, ◌≢◌, ◌⊎◌, ℕ, zero, suc, ◌+◌, ◌*◌, ◌≤◌, List, ◌∷◌, length, None, Some, Bool, false}
+use Rattle.std.specs.Prelude.{slice_set}
 use Rattle.page_disk.specs.Disk.{Rose, RoseByOne}
 use Rattle.super_block.specs.Numbers.{cluster_pages_of}
 use Rattle.volume_model.specs.Volumes.{Page}
@@ -35,11 +36,13 @@ given_back q x stage = record q {
 abbrev pub fill_row : ℕ
 fill_row = 16
 
--- The command that a row works for is logged: a channel's own, which goes on with its next; or that of the fill, whose channel is to
--- be told.
+-- The command that a row works for is logged: a channel's own, which goes on with its next; or that of the fill, whose
+-- channel is to be told.
 pub data LogsFor (p : StoreState) (row : ℕ) (reply : Reply) (device : Device) (q : StoreState) : Type 0 where
-  own : (command : Command) (rest : List Command) → (p.rows row).left ≡ command ∷ rest → q ≡ logged_here p row command rest reply device → LogsFor p row reply device q
-  fill : (channel : ℕ) (command : Command) (rest : List Command) → row ≡ fill_row → p.filling ≡ Some channel → (p.rows channel).left ≡ command ∷ rest
+  own : (command : Command) (rest : List Command) → (p.rows row).left ≡ command ∷ rest
+      → q ≡ logged_here p row command rest reply device → LogsFor p row reply device q
+  fill : (channel : ℕ) (command : Command) (rest : List Command) → row ≡ fill_row → p.filling ≡ Some channel
+      → (p.rows channel).left ≡ command ∷ rest
       → q ≡ logged (record p { filling = None }) channel command rest reply device → LogsFor p row reply device q
 
 -- a page of the device, by its place in the claimed cluster
@@ -49,7 +52,8 @@ page_of_claim p claim page = claim.cluster * cluster_pages_of p.super + page
 -- what the slot shows there
 abbrev pub shown_in_slot : StoreState → OpenClaim → ℕ → Page
 shown_in_slot p claim page =
-    content (cluster_pages_of p.super) p.device.reads (resolved p.base) (suc p.super.md_len) claim.head (claim.slot * cluster_pages_of p.super + page)
+    content (cluster_pages_of p.super) p.device.reads (resolved p.base) (suc p.super.md_len) claim.head
+    (claim.slot * cluster_pages_of p.super + page)
 
 abbrev pub stage_left : ℕ → Stage
 stage_left zero = Ready
@@ -64,13 +68,15 @@ pub record Copies (told : Bool) (p q : StoreState) : Type 0 where
   pub page : ℕ
   pub is_next : page + suc left ≡ cluster_pages_of p.super
   pub device : Device
-  pub reads : device.reads ≡ read_after told p.device.reads (page_of_claim p copying.claim page) (shown_in_slot p copying.claim page)
+  pub reads : device.reads ≡ read_after told p.device.reads (page_of_claim p copying.claim page)
+      (shown_in_slot p copying.claim page)
   pub clock : p.device.clock + 1 ≤ device.clock
   pub read_calls : (device.read_calls ≡ p.device.read_calls) ⊎ RoseByOne p.device.read_calls device.read_calls
   pub read_faults : device.read_faults ≡ p.device.read_faults
   pub write_faults : device.write_faults ≡ p.device.write_faults
   pub next : q ≡ record p {
-    rows = with_row p.rows copying.row (record { left = copying.left; stage = stage_left left; claim = Some copying.claim });
+    rows = with_row p.rows copying.row
+        (record { left = copying.left; stage = stage_left left; claim = Some copying.claim });
     device = device;
   }
 
@@ -94,11 +100,13 @@ pub record CopyNotRead (p q : StoreState) : Type 0 where
   pub write_faults : device.write_faults ≡ p.device.write_faults
   pub logs : LogsFor (given_back p copying Idle) copying.row r.ReadFault device q
 
--- A write of a copy, or the flush behind all, failed: the store stops, the command is logged as failed, and the claim given back.
+-- A write of a copy, or the flush behind all, failed: the store stops, the command is logged as failed, and the claim
+-- given back.
 pub record CopyFails (p q : StoreState) : Type 0 where
   pub stage : Stage
   pub copying : IsCopying p stage
   pub runs : p.stopped ≡ None
   pub device : Device
   pub fails : FailsToReplace p.device device
-  pub logs : LogsFor (record (given_back p copying Idle) { stopped = Some (length p.log); frozen = λ head. false }) copying.row r.Fault device q
+  pub logs : LogsFor (record (given_back p copying Idle) { stopped = Some (length p.log); frozen = λ head. false })
+      copying.row r.Fault device q

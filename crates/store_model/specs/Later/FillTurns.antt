@@ -1,5 +1,5 @@
 -- The turns of the fill's own row, by which the metadata thread fills slots.
-use Rattle.std.specs.Prelude.{◌≡◌, ◌⊎◌, ℕ, List, [], ◌∷◌, Option, None, Some, Bool, true, false, slice_set}
+use Rattle.std.specs.Prelude.{◌≡◌, ℕ, [], Option, None, Some, true, slice_set}
 use Rattle.bit_array.specs.Bits.{IsFull, IsLeastClear}
 use Rattle.super_block.specs.Numbers.{cluster_pages_of}
 use Rattle.volume_model.specs.Volumes.{head_of}
@@ -12,7 +12,7 @@ use Rattle.blob_meta.specs.declared.meta.Meta.{Meta}
 use Rattle.blob_meta.specs.Parents.{parent_of, slot}
 use Rattle.blob_meta.specs.Resolving.{resolved}
 use Rattle.store_model.specs.Shown.{fixed_of}
-use Rattle.store_model.specs.Rows.{Copying, Idle, OpenClaim, with_row}
+use Rattle.store_model.specs.Rows.{Copying, Idle, with_row}
 use Rattle.store_model.specs.Places.{without_claim}
 use Rattle.store_model.specs.StoreState.{logged, shown, StoreState}
 use Rattle.store_model.specs.Turning.{IsPosted}

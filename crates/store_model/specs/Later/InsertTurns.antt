@@ -1,12 +1,11 @@
 -- The turns by which a copied cluster is inserted into its slot.
-use Rattle.std.specs.Prelude.{◌≡◌, ◌≢◌, ◌⊎◌, ℕ, ◌<◌, ◌≤◌, List, [], ◌∷◌, ◌++◌, length, Option, None, Some, Bool, true, false}
+use Rattle.std.specs.Prelude.{◌≡◌, ℕ, ◌<◌, List, [], ◌∷◌, length, None, Some, Bool, true, false}
 use Rattle.blob_meta.specs.declared.meta.Meta.{Meta}
-use Rattle.blob_meta.specs.declared.job.Replacement.{Replacement}
 use Rattle.blob_meta.specs.Parents.{slot}
 use Rattle.store_model.specs.Maps.{with_entry}
 use Rattle.store_model.specs.Device.{Device}
 use Rattle.store_model.specs.Rows.{Decided, InJob, Lost, OpenClaim, Posted, Ready, with_row, Won}
-use Rattle.store_model.specs.Phases.{Frees as Frees_, page_in, Phase, phases_of, Replaces, Replacing, taken_by}
+use Rattle.store_model.specs.Phases.{Frees as Frees_, page_in, phases_of, Replaces, Replacing, taken_by}
 use Rattle.store_model.specs.Places.{all_set}
 use Rattle.store_model.specs.Jobs.{IsLaid, LacksPages}
 use Rattle.store_model.specs.Inserting.{with_slot}
@@ -24,7 +23,8 @@ pub record Sends (p q : StoreState) : Type 0 where
   pub device : Device
   pub flushed : IsFlushed p.device device
   pub next : q ≡ record p {
-    rows = with_row p.rows copying.row (record { left = copying.left; stage = Posted p.serial; claim = Some copying.claim });
+    rows = with_row p.rows copying.row
+        (record { left = copying.left; stage = Posted p.serial; claim = Some copying.claim });
     serial = next_serial p.serial;
     device = device;
   }
@@ -46,14 +46,22 @@ pub record BeginsInsert (p q : StoreState) : Type 0 where
   pub can : CanInsert p posted.claim meta
   pub replacing : Replacing
   pub laid : IsLaid p.super p.base p.chains p.pages (posted.claim.cluster ∷ [])
-      (record { head = posted.claim.head; new = Some (with_slot meta posted.claim.slot posted.claim.cluster) }) replacing
+      (record { head = posted.claim.head; new = Some (with_slot meta posted.claim.slot posted.claim.cluster) })
+      replacing
   pub next : q ≡ record p {
     rows = with_row p.rows posted.row (record { left = posted.left; stage = InJob; claim = Some posted.claim });
-    job = Some (record { serves = ForInsert posted.row; freeze = None; claimed = []; written = []; todo = phases_of replacing None [] });
+    job = Some (record {
+      serves = ForInsert posted.row;
+      freeze = None;
+      claimed = [];
+      written = [];
+      todo = phases_of replacing None [];
+    });
     pages = all_set p.pages (taken_by replacing) true;
   }
 
--- The blob is gone, the slot out of range or filled, or the generation another: the row is decided, and its cluster is clear.
+-- The blob is gone, the slot out of range or filled, or the generation another: the row is decided, and its cluster is
+-- clear.
 pub record LosesInsert (p q : StoreState) : Type 0 where
   pub serial : ℕ
   pub posted : IsCopying p (Posted serial)
@@ -82,7 +90,8 @@ pub record Inserts (told : Bool) (p q : StoreState) : Type 0 where
   pub new : Meta
   pub new_is : replacing.new ≡ Some new
   pub device : Device
-  pub moves : WritesOnePage told p.device (page_of_place p replacing.head) (page_in replacing.planned replacing.head) 3 device
+  pub moves : WritesOnePage told p.device (page_of_place p replacing.head)
+      (page_in replacing.planned replacing.head) 3 device
   pub next : q ≡ record p {
     base = with_entry p.base replacing.head new;
     chains = with_entry p.chains replacing.head (replacing.head ∷ replacing.fresh);

@@ -1,5 +1,5 @@
 -- The other turns of jobs, and the begin of a repair.
-use Rattle.std.specs.Prelude.{◌≡◌, ℕ, ◌+◌, ◌==◌, if◌then◌else◌, List, [], ◌∷◌, length, Option, None, Some, Bool, true, false}
+use Rattle.std.specs.Prelude.{◌≡◌, ℕ, ◌+◌, if◌then◌else◌, List, [], ◌∷◌, length, Option, None, Some, Bool, true, false}
 use Rattle.volume_model.specs.Volumes.{zero_page}
 use Rattle.volume_model.specs.Steps.{change}
 use Rattle.volume_model.specs.declared.command.Command.{Command}
@@ -10,7 +10,8 @@ use Rattle.store_model.specs.Device.{Device}
 use Rattle.store_model.specs.Shown.{fixed_of}
 use Rattle.store_model.specs.Rows.{InJob}
 use Rattle.store_model.specs.Guarding.{all_renewed, frozen_behind}
-use Rattle.store_model.specs.Phases.{Committing, Marks, page_in, phases_of, rechained, replaced, Replaces, Replacing, taken_by, Zeros}
+use Rattle.store_model.specs.Phases.{Committing, Marks, page_in, phases_of, rechained, replaced, Replaces, Replacing}
+use Rattle.store_model.specs.Phases.{taken_by, Zeros}
 use Rattle.store_model.specs.Places.{all_set}
 use Rattle.store_model.specs.Jobs.{IsLaid}
 use Rattle.store_model.specs.StoreState.{ForCommand, ForRepair, going_on, live_of, logged, shown, StoreState}
@@ -23,7 +24,8 @@ pub record MarksDirty (told : Bool) (p q : StoreState) : Type 0 where
   pub page : List ℕ
   pub device : Device
   pub moves : WritesOnePage told p.device 0 page 3 device
-  pub next : q ≡ record p { super = record p.super { clean = 0 }; job = going_on running.job [] running.rest; device = device }
+  pub next : q
+      ≡ record p { super = record p.super { clean = 0 }; job = going_on running.job [] running.rest; device = device }
 
 -- A page of a claimed cluster is overwritten with zeros: one device call.
 pub record Zeroes (told : Bool) (p q : StoreState) : Type 0 where
@@ -52,7 +54,8 @@ pub record ReplacesMore (told : Bool) (p q : StoreState) : Type 0 where
   pub replacing : Replacing
   pub running : Runs p (Replaces replacing None)
   pub device : Device
-  pub moves : WritesOnePage told p.device (page_of_place p replacing.head) (page_in replacing.planned replacing.head) 3 device
+  pub moves : WritesOnePage told p.device (page_of_place p replacing.head)
+      (page_in replacing.planned replacing.head) 3 device
   pub next : q ≡ record (with_replaced p replacing) {
     job = going_on (record running.job { claimed = [] }) [] running.rest;
     frozen = frozen_behind p.frozen running.job running.rest;
@@ -70,7 +73,8 @@ pub record CommitsMore (told : Bool) (p q : StoreState) : Type 0 where
   pub rest : List Command
   pub row : p.rows channel ≡ record { left = command ∷ rest; stage = InJob; claim = None }
   pub device : Device
-  pub moves : WritesOnePage told p.device (page_of_place p replacing.head) (page_in replacing.planned replacing.head) 3 device
+  pub moves : WritesOnePage told p.device (page_of_place p replacing.head)
+      (page_in replacing.planned replacing.head) 3 device
   pub next : q ≡ logged (record (with_replaced p replacing) {
     live = live_of (change (fixed_of p.super) (shown p) command commit.reply);
     job = going_on (record running.job { claimed = [] }) [] running.rest;
@@ -81,7 +85,8 @@ pub record CommitsMore (told : Bool) (p q : StoreState) : Type 0 where
 
 -- What recovery does to a marked blob: one that is kept loses its marks, any other is erased.
 abbrev pub repair_of : StoreState → ℕ → Meta → List ℕ → Replacement
-repair_of p head m mark = record { head = head; new = if is_kept p.base head mark then Some (without_marks m) else None }
+repair_of p head m mark =
+    record { head = head; new = if is_kept p.base head mark then Some (without_marks m) else None }
 
 -- A repair begins: that of a marked blob.
 pub record BeginsRepair (p q : StoreState) : Type 0 where
@@ -95,6 +100,7 @@ pub record BeginsRepair (p q : StoreState) : Type 0 where
   pub replacing : Replacing
   pub laid : IsLaid p.super p.base p.chains p.pages [] (repair_of p head meta mark) replacing
   pub next : q ≡ record p {
-    job = Some (record { serves = ForRepair; freeze = None; claimed = []; written = []; todo = phases_of replacing None [] });
+    job = Some
+        (record { serves = ForRepair; freeze = None; claimed = []; written = []; todo = phases_of replacing None [] });
     pages = all_set p.pages (taken_by replacing) true;
   }

@@ -20,19 +20,22 @@ pub prepare-requires-clause-chain : goal.prepare-requires-clause-chain
 prepare-requires-clause-chain g c =
     let waits = c.requires.posted.waits in
     let asks = c.requires.asks waits.command waits.rest (ap (λ (r : Row). r.left) waits.row) in
-    has_chain (state_of g.D.PageDisk (view_of c.args.running.now)) c.requires.running c.requires.runs waits.command c.args.head c.args.new asks
+    has_chain (state_of g.D.PageDisk (view_of c.args.running.now)) c.requires.running c.requires.runs waits.command
+    c.args.head c.args.new asks
 
 pub prepare-requires-clause-xattrs : goal.prepare-requires-clause-xattrs
 prepare-requires-clause-xattrs g c =
     let waits = c.requires.posted.waits in
     let asks = c.requires.asks waits.command waits.rest (ap (λ (r : Row). r.left) waits.row) in
-    all_fit c.args.new.xattrs (root (state_of g.D.PageDisk (view_of c.args.running.now)) c.requires.running c.requires.runs waits.command c.args.head c.args.new asks).xattrs
+    all_fit c.args.new.xattrs (root (state_of g.D.PageDisk (view_of c.args.running.now)) c.requires.running
+    c.requires.runs waits.command c.args.head c.args.new asks).xattrs
 
 pub prepare-requires-clause-internal : goal.prepare-requires-clause-internal
 prepare-requires-clause-internal g c =
     let waits = c.requires.posted.waits in
     let asks = c.requires.asks waits.command waits.rest (ap (λ (r : Row). r.left) waits.row) in
-    all_fit c.args.new.internal (root (state_of g.D.PageDisk (view_of c.args.running.now)) c.requires.running c.requires.runs waits.command c.args.head c.args.new asks).internal
+    all_fit c.args.new.internal (root (state_of g.D.PageDisk (view_of c.args.running.now)) c.requires.running
+    c.requires.runs waits.command c.args.head c.args.new asks).internal
 
 pub returns-in-Ok-Some-clause-began : goal.returns-in-Ok-Some-clause-began
 returns-in-Ok-Some-clause-began g c = λ _.
@@ -44,14 +47,23 @@ returns-in-Ok-Some-clause-began g c = λ _.
     let low : c.args.channel < length p.rows = omega (arith, c.requires.channel, c.requires.order.sixteen) in
     let no_job = ap (λ o. option_map job_seen o) c.requires.no_job in
     let x = c.in-Ok-Some.prepared in
-    let is : IsPrepared c.args.running.now.chains c.args.head c.args.new c.args.running.now.pages.bits c.prepare.new.pages.bits x =
-    subst (λ (o : Option Prepared). IfSome o (IsPrepared c.args.running.now.chains c.args.head c.args.new c.args.running.now.pages.bits c.prepare.new.pages.bits)) c.in-Ok-Some.field-0-is c.in-Ok-Some.ensures.some in
+    let is : IsPrepared c.args.running.now.chains c.args.head c.args.new c.args.running.now.pages.bits
+    c.prepare.new.pages.bits x =
+    subst (λ (o : Option Prepared). IfSome o (IsPrepared c.args.running.now.chains c.args.head c.args.new
+    c.args.running.now.pages.bits c.prepare.new.pages.bits)) c.in-Ok-Some.field-0-is c.in-Ok-Some.ensures.some in
     let row = row_is d p c.args.channel low posted c.requires.runs c.index_mut.result.now c.index_mut.ensures.value in
-    let planned : Planned = record { head = c.args.head; new = c.args.new; live = x.live; chain = x.laid.chain; pages = x.laid.pages } in
-    let begins = begun d p c.args.channel low posted c.requires.runs no_job planned x.old asks is.live is.behind c.prepare.new.pages.bits
-    (ready (state_of d p) c.requires.running c.requires.runs waits.command c.args.head c.args.new asks no_job c.args.running.now.chains c.prepare.new.pages.bits x is)
+    let planned : Planned =
+    record { head = c.args.head; new = c.args.new; live = x.live; chain = x.laid.chain; pages = x.laid.pages } in
+    let begins = begun d p c.args.channel low posted c.requires.runs no_job planned x.old asks is.live is.behind
+    c.prepare.new.pages.bits
+    (ready (state_of d p) c.requires.running c.requires.runs waits.command c.args.head c.args.new asks no_job
+    c.args.running.now.chains c.prepare.new.pages.bits x is)
     c.serve.new.self (c.serve.ensures ∙ ap (λ (r : Row). record r { stage = InJob }) row) in (
-      subst (λ (j : RunningJob). Begins (state_of d p) (state_of d (record p { rows = slice_set p.rows c.args.channel c.serve.new.self; pages = c.prepare.new.pages.bits; job = Some (job_seen j) }))) {x = first_job x c.args.channel c.args.head c.args.new} (sym c.job.ensures) begins,
+      subst (λ (j : RunningJob). Begins (state_of d p) (state_of d (record p {
+        rows = slice_set p.rows c.args.channel c.serve.new.self;
+        pages = c.prepare.new.pages.bits;
+        job = Some (job_seen j);
+      }))) {x = first_job x c.args.channel c.args.head c.args.new} (sym c.job.ensures) begins,
       refl,
     )
 
@@ -61,9 +73,18 @@ returns-in-Ok-None-clause-logged g c = λ _.
     let waits = c.requires.posted.waits in
     let asks = c.requires.asks waits.command waits.rest (ap (λ (r : Row). r.left) waits.row) in
     let low : c.args.channel < length p.rows = omega (arith, c.requires.channel, c.requires.order.sixteen) in
-    let none : LacksPages c.args.new c.args.running.now.pages.bits × (c.prepare.new.pages.bits ≡ c.args.running.now.pages.bits) =
-    subst (λ (o : Option Prepared). IfNone o (LacksPages c.args.new c.args.running.now.pages.bits × (c.prepare.new.pages.bits ≡ c.args.running.now.pages.bits))) c.in-Ok-None.field-0-is c.in-Ok-None.ensures.none in
-    refused g.D.PageDisk p c.args.channel low c.requires.posted c.requires.runs NoPage (record { no_job = ap (λ o. option_map job_seen o) c.requires.no_job; head = c.args.head; new = c.args.new; asks = asks; lacks = none.0 }) c.prepare.new.pages.bits none.1 (view_of c.log.new.running) c.log.ensures.logged
+    let none : LacksPages c.args.new c.args.running.now.pages.bits
+    × (c.prepare.new.pages.bits ≡ c.args.running.now.pages.bits) =
+    subst (λ (o : Option Prepared). IfNone o (LacksPages c.args.new c.args.running.now.pages.bits
+    × (c.prepare.new.pages.bits ≡ c.args.running.now.pages.bits))) c.in-Ok-None.field-0-is
+    c.in-Ok-None.ensures.none in
+    refused g.D.PageDisk p c.args.channel low c.requires.posted c.requires.runs NoPage (record {
+      no_job = ap (λ o. option_map job_seen o) c.requires.no_job;
+      head = c.args.head;
+      new = c.args.new;
+      asks = asks;
+      lacks = none.0;
+    }) c.prepare.new.pages.bits none.1 (view_of c.log.new.running) c.log.ensures.logged
 
 pub returns-in-Err-clause-logged : goal.returns-in-Err-clause-logged
 returns-in-Err-clause-logged g c = λ _.
@@ -72,4 +93,6 @@ returns-in-Err-clause-logged g c = λ _.
     let waits = c.requires.posted.waits in
     let asks = c.requires.asks waits.command waits.rest (ap (λ (r : Row). r.left) waits.row) in
     let low : c.args.channel < length p.rows = omega (arith, c.requires.channel, c.requires.order.sixteen) in
-    refused g.D.PageDisk p c.args.channel low c.requires.posted c.requires.runs Memory (may_lack (fixed_of s.super) (shown s) waits.command asks.syncing) c.prepare.new.pages.bits c.in-Err.ensures.memory (view_of c.log-in-Err.new.running) c.log-in-Err.ensures.logged
+    refused g.D.PageDisk p c.args.channel low c.requires.posted c.requires.runs Memory
+    (may_lack (fixed_of s.super) (shown s) waits.command asks.syncing) c.prepare.new.pages.bits
+    c.in-Err.ensures.memory (view_of c.log-in-Err.new.running) c.log-in-Err.ensures.logged

@@ -32,4 +32,5 @@ begin-requires-clause-asks g c command rest left =
     let new = c.replacement_of-head.result.1 in
     let x = c.requires.asks (none_of c.args.running.now.stopped c.if-is_some.ensures) command rest left in
     let same = one_replacement x.head head x.new new (sym x.is ∙ c.replacement_of-head.ensures) in
-    subst (λ h. AsksFor p command h new) (ap (λ (r : Replacement). r.head) same) (subst (AsksFor p command x.head) (one_meta x.new new (ap (λ (r : Replacement). r.new) same)) x.asks)
+    subst (λ h. AsksFor p command h new) (ap (λ (r : Replacement). r.head) same)
+    (subst (AsksFor p command x.head) (one_meta x.new new (ap (λ (r : Replacement). r.new) same)) x.asks)

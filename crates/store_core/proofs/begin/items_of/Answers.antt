@@ -9,7 +9,8 @@ so P Q (Ok x) by is = by x is
 so P Q (Err e) by is = tt
 
 pub returns-clause-plannable : goal.returns-clause-plannable
-returns-clause-plannable c = so (IsItemsOf c.args.new.now) ArePlannable c.to_items.result (λ items is. plannable c.args.new.now items is c.requires.xattrs c.requires.internal) c.to_items.ensures
+returns-clause-plannable c = so (IsItemsOf c.args.new.now) ArePlannable c.to_items.result
+    (λ items is. plannable c.args.new.now items is c.requires.xattrs c.requires.internal) c.to_items.ensures
 
 pub returns-clause-few : goal.returns-clause-few
 returns-clause-few c =
@@ -20,4 +21,5 @@ returns-clause-few c =
     let attributes = c.saturating_add-attributes.ensures in
     let all = c.saturating_add.ensures in
     let low = c.if-saturating_add-ge-MOST_PARTS.false in
-    so (IsItemsOf m) AreFew c.to_items.result (λ items is. few m items is (omega (arith, xattrs, internal, map, attributes, all, low))) c.to_items.ensures
+    so (IsItemsOf m) AreFew c.to_items.result
+    (λ items is. few m items is (omega (arith, xattrs, internal, map, attributes, all, low))) c.to_items.ensures

@@ -10,7 +10,8 @@ returns-then-clear_count-needs-clause-none c =
     let fewer = c.if-clear_count-needs.true in (
       record {
         count = c.chain_len-needs.result - 1;
-        needs = record { items = c.in_ok-items.items; are = c.in_ok-items.ensures.are; chain = omega (arith, some, chain) };
+        needs =
+            record { items = c.in_ok-items.items; are = c.in_ok-items.ensures.are; chain = omega (arith, some, chain) };
         lacking = omega (arith, clear, fewer);
       },
       refl,

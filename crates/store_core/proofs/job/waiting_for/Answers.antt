@@ -13,7 +13,8 @@ use Rattle.store_core.proofs.job.waiting_for.Goals as goal
 abbrev waits : RunningJob → Work → Option ℕ
 waits j work = waits_for_job (job_seen (record { channel = j.channel; work = work; old = j.old }))
 
-waits_as : (o : Option RunningJob) (j : RunningJob) (work : Work) → o ≡ Some j → j.work ≡ work → option_and_then waits_for_job (option_map job_seen o) ≡ waits j work
+waits_as : (o : Option RunningJob) (j : RunningJob) (work : Work) → o ≡ Some j → j.work ≡ work
+    → option_and_then waits_for_job (option_map job_seen o) ≡ waits j work
 waits_as o j work is at = ap (λ x. option_and_then waits_for_job (option_map job_seen x)) is ∙ ap (waits j) at
 
 pub returns-in-Writing : goal.returns-in-Writing
@@ -21,9 +22,11 @@ returns-in-Writing c =
     let j = c.in-Some.running in
     let planned = c.in-Writing.planned in
     sym (waits_as c.args.job.now j _ c.in-Some.is c.in-Writing.is
-    ∙ ap (λ b. if b then Some j.channel else None) (commit_behind (drop c.in-Writing.written (drop 1 planned.chain)) (Replaces (replacing_of planned j.old) (Some (commit_of planned)) ∷ erasing j.old j.old [])))
+    ∙ ap (λ b. if b then Some j.channel else None) (commit_behind (drop c.in-Writing.written (drop 1 planned.chain))
+    (Replaces (replacing_of planned j.old) (Some (commit_of planned)) ∷ erasing j.old j.old [])))
 
 pub returns-in-Erasing : goal.returns-in-Erasing
 returns-in-Erasing c =
     let j = c.in-Some.running in
-    sym (waits_as c.args.job.now j _ c.in-Some.is c.in-Erasing.is ∙ ap (λ b. if b then Some j.channel else None) (no_commit j.old (drop c.in-Erasing.erased j.old)))
+    sym (waits_as c.args.job.now j _ c.in-Some.is c.in-Erasing.is
+    ∙ ap (λ b. if b then Some j.channel else None) (no_commit j.old (drop c.in-Erasing.erased j.old)))

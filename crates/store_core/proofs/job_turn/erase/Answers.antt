@@ -14,7 +14,9 @@ write_one-requires g c =
     let low : c.args.erased < length c.args.old = omega (arith, c.requires.left) in
     let same = ap (λ (l : List ℕ). get_or l c.args.erased 0) c.as_slice.ensures in
     let at = c.page_at-page.ensures in
-    let below = old_below g.D.PageDisk (view_of c.args.running.now) c.args.channel c.args.old c.args.erased c.requires.at_work (get_or c.args.old c.args.erased 0) (got c.args.old c.args.erased 0 low) in
+    let below =
+    old_below g.D.PageDisk (view_of c.args.running.now) c.args.channel c.args.old c.args.erased c.requires.at_work
+    (get_or c.args.old c.args.erased 0) (got c.args.old c.args.erased 0 low) in
     let inside = c.requires.order.inside in
     omega (arith, at, same, below, inside)
 
@@ -22,18 +24,26 @@ pub returns-then-is_err-clause-case : goal.returns-then-is_err-clause-case
 returns-then-is_err-clause-case g c =
     let low : c.args.erased < length c.args.old = omega (arith, c.requires.left) in
     let same = ap (λ (l : List ℕ). get_or l c.args.erased 0) c.as_slice.ensures in
-    broke_erasing g.D.PageDisk (view_of c.args.running.now) c.args.channel c.args.old c.args.erased c.requires.at_work c.write_one.new.disk (get_or c.args.old c.args.erased 0) c.page_at-page.result
+    broke_erasing g.D.PageDisk (view_of c.args.running.now) c.args.channel c.args.old c.args.erased c.requires.at_work
+    c.write_one.new.disk (get_or c.args.old c.args.erased 0) c.page_at-page.result
     (c.page_at-page.ensures ∙ ap (λ x. c.args.running.now.sup.md_start + x) same) (got c.args.old c.args.erased 0 low)
-    (subst (λ page. CallsLeaveOnly g.D.PageDisk c.args.running.now.disk c.write_one.new.disk (Written (g.D.PageDisk.images c.args.running.now.disk) c.page_at-page.result Plain page)) zeros c.write_one.ensures.any_moment)
+    (subst (λ page. CallsLeaveOnly g.D.PageDisk c.args.running.now.disk c.write_one.new.disk
+    (Written (g.D.PageDisk.images c.args.running.now.disk) c.page_at-page.result Plain page)) zeros
+    c.write_one.ensures.any_moment)
     c.requires.left
-    (on_err c.write_one.result _ (sym c.is_err.ensures.value ∙ c.if-is_err.true) c.write_one.ensures.fails) (view_of c.stop.new.running) c.stop.ensures.stopped
+    (on_err c.write_one.result _ (sym c.is_err.ensures.value ∙ c.if-is_err.true) c.write_one.ensures.fails)
+    (view_of c.stop.new.running) c.stop.ensures.stopped
 
 pub returns-clause-case : goal.returns-clause-case
 returns-clause-case g c =
     let low : c.args.erased < length c.args.old = omega (arith, c.requires.left) in
     let same = ap (λ (l : List ℕ). get_or l c.args.erased 0) c.as_slice.ensures in
-    erased_one g.D.PageDisk (view_of c.args.running.now) c.args.channel c.args.old c.args.erased c.requires.at_work c.write_one.new.disk (get_or c.args.old c.args.erased 0) c.page_at-page.result
+    erased_one g.D.PageDisk (view_of c.args.running.now) c.args.channel c.args.old c.args.erased c.requires.at_work
+    c.write_one.new.disk (get_or c.args.old c.args.erased 0) c.page_at-page.result
     (c.page_at-page.ensures ∙ ap (λ x. c.args.running.now.sup.md_start + x) same) (got c.args.old c.args.erased 0 low)
-    (subst (λ page. CallsLeaveOnly g.D.PageDisk c.args.running.now.disk c.write_one.new.disk (Written (g.D.PageDisk.images c.args.running.now.disk) c.page_at-page.result Plain page)) zeros c.write_one.ensures.any_moment) c.requires.left
-    (subst (λ page. WritesOnePage g.D.PageDisk.tells (device_of g.D.PageDisk c.args.running.now.disk) c.page_at-page.result page 1 (device_of g.D.PageDisk c.write_one.new.disk)) zeros
+    (subst (λ page. CallsLeaveOnly g.D.PageDisk c.args.running.now.disk c.write_one.new.disk
+    (Written (g.D.PageDisk.images c.args.running.now.disk) c.page_at-page.result Plain page)) zeros
+    c.write_one.ensures.any_moment) c.requires.left
+    (subst (λ page. WritesOnePage g.D.PageDisk.tells (device_of g.D.PageDisk c.args.running.now.disk)
+    c.page_at-page.result page 1 (device_of g.D.PageDisk c.write_one.new.disk)) zeros
     (on_ok c.write_one.result _ (sym c.is_err.ensures.value ∙ c.if-is_err.false) c.write_one.ensures.moves))

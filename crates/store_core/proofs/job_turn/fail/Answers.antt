@@ -7,8 +7,10 @@ use Rattle.store_core.proofs.job_turn.fail.Goals as goal
 
 pub returns-clause-answer : goal.returns-clause-answer
 returns-clause-answer g c =
-    let same : c.stop-turn.new.running.rows.items ≡ c.args.running.now.rows.items = ap (λ p. p.rows) c.stop-turn.ensures.stopped in
-    let some : 0 < length (rows_of c.stop-turn.new.running.rows.items c.args.channel).left = subst (λ (rows : List Row). 0 < length (rows_of rows c.args.channel).left) (sym same) c.requires.left in
+    let same : c.stop-turn.new.running.rows.items ≡ c.args.running.now.rows.items =
+    ap (λ p. p.rows) c.stop-turn.ensures.stopped in
+    let some : 0 < length (rows_of c.stop-turn.new.running.rows.items c.args.channel).left =
+    subst (λ (rows : List Row). 0 < length (rows_of rows c.args.channel).left) (sym same) c.requires.left in
     let first = first_of (rows_of c.stop-turn.new.running.rows.items c.args.channel).left some in
     let logged = c.log.ensures.logged first.0 first.1 first.2 in
     c.stop-turn.ensures.answer ∙ sym (ap answer_of logged)

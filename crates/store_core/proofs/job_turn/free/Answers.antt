@@ -5,7 +5,8 @@ use Rattle.page_disk.specs.declared.disk.WriteKind.TheVariants.{Plain}
 use Rattle.store_model.specs.Cases.{WritesOnePage}
 use Rattle.store_core.specs.Running.{view_of}
 use Rattle.store_core.specs.StoreView.{device_of}
-use Rattle.store_core.proofs.JobTurned.{broke_off, freed_all, old_below, old_used, on_err, on_ok, zeros, broke_freeing, old_differ}
+use Rattle.store_core.proofs.JobTurned.{broke_off, freed_all, old_below, old_used, on_err, on_ok, zeros, broke_freeing}
+use Rattle.store_core.proofs.JobTurned.{old_differ}
 use Rattle.store_core.proofs.job_turn.free.Goals as goal
 use Rattle.store_core.proofs.AtWork.{got}
 
@@ -14,7 +15,9 @@ write_last-requires g c =
     let low : c.args.erased < length c.args.old = omega (arith, c.requires.last) in
     let same = ap (λ (l : List ℕ). get_or l c.args.erased 0) c.as_slice.ensures in
     let at = c.page_at-page.ensures in
-    let below = old_below g.D.PageDisk (view_of c.args.running.now) c.args.channel c.args.old c.args.erased c.requires.at_work (get_or c.args.old c.args.erased 0) (got c.args.old c.args.erased 0 low) in
+    let below =
+    old_below g.D.PageDisk (view_of c.args.running.now) c.args.channel c.args.old c.args.erased c.requires.at_work
+    (get_or c.args.old c.args.erased 0) (got c.args.old c.args.erased 0 low) in
     let inside = c.requires.order.inside in
     omega (arith, at, same, below, inside)
 
@@ -22,25 +25,36 @@ pub returns-then-is_err-clause-case : goal.returns-then-is_err-clause-case
 returns-then-is_err-clause-case g c =
     let low : c.args.erased < length c.args.old = omega (arith, c.requires.last) in
     let same = ap (λ (l : List ℕ). get_or l c.args.erased 0) c.as_slice.ensures in
-    broke_freeing g.D.PageDisk (view_of c.args.running.now) c.args.channel c.args.old c.args.erased c.requires.at_work c.write_last.new.disk (get_or c.args.old c.args.erased 0) c.page_at-page.result
+    broke_freeing g.D.PageDisk (view_of c.args.running.now) c.args.channel c.args.old c.args.erased c.requires.at_work
+    c.write_last.new.disk (get_or c.args.old c.args.erased 0) c.page_at-page.result
     (c.page_at-page.ensures ∙ ap (λ x. c.args.running.now.sup.md_start + x) same) (got c.args.old c.args.erased 0 low)
-    (subst (λ page. CallsLeaveOnly g.D.PageDisk c.args.running.now.disk c.write_last.new.disk (Written (g.D.PageDisk.images c.args.running.now.disk) c.page_at-page.result Plain page)) zeros c.write_last.ensures.any_moment)
+    (subst (λ page. CallsLeaveOnly g.D.PageDisk c.args.running.now.disk c.write_last.new.disk
+    (Written (g.D.PageDisk.images c.args.running.now.disk) c.page_at-page.result Plain page)) zeros
+    c.write_last.ensures.any_moment)
     c.requires.last
-    (on_err c.write_last.result _ (sym c.is_err.ensures.value ∙ c.if-is_err.true) c.write_last.ensures.fails) (view_of c.stop.new.running) c.stop.ensures.stopped
+    (on_err c.write_last.result _ (sym c.is_err.ensures.value ∙ c.if-is_err.true) c.write_last.ensures.fails)
+    (view_of c.stop.new.running) c.stop.ensures.stopped
 
 pub clear_places-requires-clause-distinct : goal.clear_places-requires-clause-distinct
-clear_places-requires-clause-distinct g c = old_differ g.D.PageDisk (view_of c.args.running.now) c.args.channel c.args.old c.args.erased c.requires.at_work
+clear_places-requires-clause-distinct g c =
+    old_differ g.D.PageDisk (view_of c.args.running.now) c.args.channel c.args.old c.args.erased c.requires.at_work
 
 pub clear_places-requires-clause-in_use : goal.clear_places-requires-clause-in_use
-clear_places-requires-clause-in_use g c = old_used g.D.PageDisk (view_of c.args.running.now) c.args.channel c.args.old c.args.erased c.requires.at_work
+clear_places-requires-clause-in_use g c =
+    old_used g.D.PageDisk (view_of c.args.running.now) c.args.channel c.args.old c.args.erased c.requires.at_work
 
 pub returns-clause-case : goal.returns-clause-case
 returns-clause-case g c =
     let low : c.args.erased < length c.args.old = omega (arith, c.requires.last) in
     let same = ap (λ (l : List ℕ). get_or l c.args.erased 0) c.as_slice.ensures in
-    freed_all g.D.PageDisk (view_of c.args.running.now) c.args.channel c.args.old c.args.erased c.requires.at_work c.write_last.new.disk (get_or c.args.old c.args.erased 0) c.page_at-page.result
+    freed_all g.D.PageDisk (view_of c.args.running.now) c.args.channel c.args.old c.args.erased c.requires.at_work
+    c.write_last.new.disk (get_or c.args.old c.args.erased 0) c.page_at-page.result
     (c.page_at-page.ensures ∙ ap (λ x. c.args.running.now.sup.md_start + x) same) (got c.args.old c.args.erased 0 low)
-    (subst (λ page. CallsLeaveOnly g.D.PageDisk c.args.running.now.disk c.write_last.new.disk (Written (g.D.PageDisk.images c.args.running.now.disk) c.page_at-page.result Plain page)) zeros c.write_last.ensures.any_moment) c.requires.last
-    (subst (λ page. WritesOnePage g.D.PageDisk.tells (device_of g.D.PageDisk c.args.running.now.disk) c.page_at-page.result page 2 (device_of g.D.PageDisk c.write_last.new.disk)) zeros
+    (subst (λ page. CallsLeaveOnly g.D.PageDisk c.args.running.now.disk c.write_last.new.disk
+    (Written (g.D.PageDisk.images c.args.running.now.disk) c.page_at-page.result Plain page)) zeros
+    c.write_last.ensures.any_moment) c.requires.last
+    (subst (λ page. WritesOnePage g.D.PageDisk.tells (device_of g.D.PageDisk c.args.running.now.disk)
+    c.page_at-page.result page 2 (device_of g.D.PageDisk c.write_last.new.disk)) zeros
     (on_ok c.write_last.result _ (sym c.is_err.ensures.value ∙ c.if-is_err.false) c.write_last.ensures.moves))
-    (λ tells. on_ok c.write_last.result _ (sym c.is_err.ensures.value ∙ c.if-is_err.false) (c.write_last.ensures.durable tells)) c.clear_places.new.pages.bits c.clear_places.ensures.bits
+    (λ tells. on_ok c.write_last.result _ (sym c.is_err.ensures.value ∙ c.if-is_err.false)
+    (c.write_last.ensures.durable tells)) c.clear_places.new.pages.bits c.clear_places.ensures.bits

@@ -1,4 +1,5 @@
-use Rattle.std.proofs.Common.{zero, [], ◌∷◌, ◌≡◌, Option, Some, length, drop, refl, sym, ◌∙◌, ap, subst, arith, ℕ, ◌≤◌, List, ◌∷◌, take, suc}
+use Rattle.std.proofs.Common.{zero, [], ◌∷◌, ◌≡◌, Option, Some, length, drop, refl, sym, ◌∙◌, ap, subst, arith, ℕ, ◌≤◌}
+use Rattle.std.proofs.Common.{List, ◌∷◌, take, suc}
 use Rattle.std.specs.Option.{option_map}
 use Rattle.store_model.specs.StoreState.{JobState}
 use Rattle.store_core.specs.declared.job.RunningJob.{RunningJob}
@@ -14,19 +15,27 @@ use Rattle.store_core.specs.declared.job.Planned.{Planned}
 use Rattle.store_model.specs.Phases.{writing, Replaces, erasing}
 
 -- what is seen of the job that was taken out
-seen_work : (o taken : Option RunningJob) (j : RunningJob) (w : Work) → taken ≡ o → taken ≡ Some j → j.work ≡ w → option_map job_seen o ≡ Some (job_seen (record { channel = j.channel; work = w; old = j.old }))
-seen_work o taken j w value is work = ap (λ x. option_map job_seen x) (sym value ∙ is) ∙ ap (λ v. Some (job_seen (record { channel = j.channel; work = v; old = j.old }))) work
+seen_work : (o taken : Option RunningJob) (j : RunningJob) (w : Work) → taken ≡ o → taken ≡ Some j → j.work ≡ w
+    → option_map job_seen o ≡ Some (job_seen (record { channel = j.channel; work = w; old = j.old }))
+seen_work o taken j w value is work = ap (λ x. option_map job_seen x) (sym value ∙ is)
+    ∙ ap (λ v. Some (job_seen (record { channel = j.channel; work = v; old = j.old }))) work
 
 -- all fresh pages are written
-all_written : (channel : ℕ) (planned : Planned) (old : List ℕ) (written : ℕ) → length (drop 1 planned.chain) ≤ written → writing_job channel planned old written ≡ writing_job channel planned old (length (drop 1 planned.chain))
+all_written : (channel : ℕ) (planned : Planned) (old : List ℕ) (written : ℕ) → length (drop 1 planned.chain) ≤ written
+    → writing_job channel planned old written ≡ writing_job channel planned old (length (drop 1 planned.chain))
 all_written channel planned old written le =
-    ap (λ done. at done (drop written fresh)) (took fresh written le ∙ sym (took fresh (length fresh) (omega arith))) ∙ ap (at (take (length fresh) fresh)) (dropped fresh written le ∙ sym (dropped fresh (length fresh) (omega arith)))
+    ap (λ done. at done (drop written fresh)) (took fresh written le ∙ sym (took fresh (length fresh) (omega arith)))
+    ∙ ap (at (take (length fresh) fresh))
+    (dropped fresh written le ∙ sym (dropped fresh (length fresh) (omega arith)))
   where
     fresh : List ℕ
     fresh = drop 1 planned.chain
 
     at : List ℕ → List ℕ → JobState
-    at done left = record (writing_job channel planned old written) { written = done; todo = writing left (Replaces (replacing_of planned old) (Some (commit_of planned)) ∷ erasing old old []) }
+    at done left = record (writing_job channel planned old written) {
+      written = done;
+      todo = writing left (Replaces (replacing_of planned old) (Some (commit_of planned)) ∷ erasing old old []);
+    }
 
     took : (l : List ℕ) (n : ℕ) → length l ≤ n → take n l ≡ l
     took [] zero le = refl
@@ -42,46 +51,63 @@ all_written channel planned old written le =
 
 pub overflow_sub-fresh : goal.overflow_sub-fresh
 overflow_sub-fresh g c =
-    let is = seen_work c.args.running.now.job c.take.result c.in-Some.field-0 _ c.take.ensures.value c.in-Some.is c.in-Writing.is in
-    let pages = pages_planned (state_of g.D.PageDisk (view_of c.args.running.now)) c.requires.running c.requires.not_stopped c.in-Some.field-0.channel c.in-Writing.planned c.in-Some.field-0.old c.in-Writing.written is in
+    let is = seen_work c.args.running.now.job c.take.result c.in-Some.field-0 _ c.take.ensures.value c.in-Some.is
+    c.in-Writing.is in
+    let pages =
+    pages_planned (state_of g.D.PageDisk (view_of c.args.running.now)) c.requires.running c.requires.not_stopped
+    c.in-Some.field-0.channel c.in-Writing.planned c.in-Some.field-0.old c.in-Writing.written is in
     let len = c.len-fresh.ensures in
     omega (arith, pages, len)
 
 pub commit-requires-clause-at_work : goal.commit-requires-clause-at_work
 commit-requires-clause-at_work g c =
-    let is = seen_work c.args.running.now.job c.take.result c.in-Some.field-0 _ c.take.ensures.value c.in-Some.is c.in-Writing.is in
-    let pages = pages_planned (state_of g.D.PageDisk (view_of c.args.running.now)) c.requires.running c.requires.not_stopped c.in-Some.field-0.channel c.in-Writing.planned c.in-Some.field-0.old c.in-Writing.written is in
+    let is = seen_work c.args.running.now.job c.take.result c.in-Some.field-0 _ c.take.ensures.value c.in-Some.is
+    c.in-Writing.is in
+    let pages =
+    pages_planned (state_of g.D.PageDisk (view_of c.args.running.now)) c.requires.running c.requires.not_stopped
+    c.in-Some.field-0.channel c.in-Writing.planned c.in-Some.field-0.old c.in-Writing.written is in
     let len = c.len-fresh.ensures in
     let none = c.if-written-fresh.false in
     let all : length (drop 1 c.in-Writing.planned.chain) ≤ c.in-Writing.written = omega (arith, pages, len, none) in
-    let whole = is ∙ ap (λ (j : JobState). Some j) (all_written c.in-Some.field-0.channel c.in-Writing.planned c.in-Some.field-0.old c.in-Writing.written all) in
+    let whole = is ∙ ap (λ (j : JobState). Some j)
+    (all_written c.in-Some.field-0.channel c.in-Writing.planned c.in-Some.field-0.old c.in-Writing.written all) in
     record {
       taken = ap (λ o. option_map job_seen o) c.take.ensures.after;
       not_stopped = c.requires.not_stopped;
-      running = subst (λ k. IsRunning (record (state_of g.D.PageDisk (view_of c.args.running.now)) { job = k })) whole c.requires.running;
+      running = subst (λ k. IsRunning (record (state_of g.D.PageDisk (view_of c.args.running.now)) { job = k })) whole
+          c.requires.running;
     }
 
 pub overflow_sub-last : goal.overflow_sub-last
 overflow_sub-last g c =
-    let is = seen_work c.args.running.now.job c.take.result c.in-Some.field-0 _ c.take.ensures.value c.in-Some.is c.in-Erasing.is in
-    let some = some_erasing (state_of g.D.PageDisk (view_of c.args.running.now)) c.requires.running c.requires.not_stopped c.in-Some.field-0.channel c.in-Some.field-0.old c.in-Erasing.erased is in
+    let is = seen_work c.args.running.now.job c.take.result c.in-Some.field-0 _ c.take.ensures.value c.in-Some.is
+    c.in-Erasing.is in
+    let some = some_erasing (state_of g.D.PageDisk (view_of c.args.running.now)) c.requires.running
+    c.requires.not_stopped c.in-Some.field-0.channel c.in-Some.field-0.old c.in-Erasing.erased is in
     let len = c.len-last.ensures in
     omega (arith, some, len)
 
 pub free-requires-clause-last : goal.free-requires-clause-last
 free-requires-clause-last g c =
-    let is = seen_work c.args.running.now.job c.take.result c.in-Some.field-0 _ c.take.ensures.value c.in-Some.is c.in-Erasing.is in
-    let some = some_erasing (state_of g.D.PageDisk (view_of c.args.running.now)) c.requires.running c.requires.not_stopped c.in-Some.field-0.channel c.in-Some.field-0.old c.in-Erasing.erased is in
+    let is = seen_work c.args.running.now.job c.take.result c.in-Some.field-0 _ c.take.ensures.value c.in-Some.is
+    c.in-Erasing.is in
+    let some = some_erasing (state_of g.D.PageDisk (view_of c.args.running.now)) c.requires.running
+    c.requires.not_stopped c.in-Some.field-0.channel c.in-Some.field-0.old c.in-Erasing.erased is in
     let len = c.len-last.ensures in
     let none = c.if-erased-last.false in
     omega (arith, some, len, none)
 
 pub returns-else-written-fresh-clause-case : goal.returns-else-written-fresh-clause-case
 returns-else-written-fresh-clause-case g c =
-    let is = seen_work c.args.running.now.job c.take.result c.in-Some.field-0 _ c.take.ensures.value c.in-Some.is c.in-Writing.is in
-    let pages = pages_planned (state_of g.D.PageDisk (view_of c.args.running.now)) c.requires.running c.requires.not_stopped c.in-Some.field-0.channel c.in-Writing.planned c.in-Some.field-0.old c.in-Writing.written is in
+    let is = seen_work c.args.running.now.job c.take.result c.in-Some.field-0 _ c.take.ensures.value c.in-Some.is
+    c.in-Writing.is in
+    let pages =
+    pages_planned (state_of g.D.PageDisk (view_of c.args.running.now)) c.requires.running c.requires.not_stopped
+    c.in-Some.field-0.channel c.in-Writing.planned c.in-Some.field-0.old c.in-Writing.written is in
     let len = c.len-fresh.ensures in
     let none = c.if-written-fresh.false in
     let all : length (drop 1 c.in-Writing.planned.chain) ≤ c.in-Writing.written = omega (arith, pages, len, none) in
-    let whole = is ∙ ap (λ (j : JobState). Some j) (all_written c.in-Some.field-0.channel c.in-Writing.planned c.in-Some.field-0.old c.in-Writing.written all) in
-    subst (λ k. TurnsJob g.D.PageDisk (record (view_of c.args.running.now) { job = k }) (view_of c.commit.new.running)) (sym whole) c.commit.ensures.case
+    let whole = is ∙ ap (λ (j : JobState). Some j)
+    (all_written c.in-Some.field-0.channel c.in-Writing.planned c.in-Some.field-0.old c.in-Writing.written all) in
+    subst (λ k. TurnsJob g.D.PageDisk (record (view_of c.args.running.now) { job = k }) (view_of c.commit.new.running))
+    (sym whole) c.commit.ensures.case

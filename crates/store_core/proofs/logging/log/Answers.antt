@@ -1,4 +1,5 @@
-use Rattle.std.proofs.Common.{None, ◌≡◌, ◌+◌, ◌<◌, ℕ, List, [], length, length-append, slice_index_or, slice_set, sym, ◌∙◌, ap, subst, arith}
+use Rattle.std.proofs.Common.{None, ◌≡◌, ◌+◌, ◌<◌, ℕ, List, [], length, length-append, slice_index_or, slice_set, sym}
+use Rattle.std.proofs.Common.{◌∙◌, ap, subst, arith}
 use Rattle.std.proofs.lemmas.List.{get_or_default, length-set}
 use Rattle.volume_model.specs.declared.command.Command.{Command}
 use Rattle.volume_model.specs.declared.reply.Entry.{Entry}
@@ -25,7 +26,8 @@ returns-clause-order g c =
     let took = c.in-Some.ensures.some in
     let row = c.index_mut.result.now in
     let value = c.index_mut.ensures.value in
-    let less = left_less old.rows.items c.args.channel c.take.new.self row low (ap (λ (r : Row). length r.left) (sym value) ∙ ap (λ (l : List Command). length l) took ∙ omega arith) in
+    let less = left_less old.rows.items c.args.channel c.take.new.self row low
+    (ap (λ (r : Row). length r.left) (sym value) ∙ ap (λ (l : List Command). length l) took ∙ omega arith) in
     let items = c.push_reserved.ensures.items in
     let marks = c.push_reserved-2.ensures.items in
     let longer = ap (λ (l : List Entry). length l) items ∙ length-append old.entries.items _ in
@@ -38,8 +40,14 @@ returns-clause-order g c =
       entries = omega (arith, order.entries, less, longer, room);
       marks = omega (arith, order.marks, less, marked, mark_room);
       few = omega (arith, order.few, less, longer);
-      counted = λ k lt. subst (λ l. slice_index_or (slice_set old.logged c.args.channel (slice_index_or old.logged c.args.channel 0 + 1)) k 0 ≡ length (entries_of k l)) (sym items)
-          (counted_more old.logged old.entries.items (record { channel = c.args.channel; index = slice_index_or old.logged c.args.channel 0; command = c.in-Some.command; reply = c.args.reply }) 16 (sym order.counts) c.requires.channel order.counted k lt);
+      counted = λ k lt. subst (λ l. slice_index_or (slice_set old.logged c.args.channel
+          (slice_index_or old.logged c.args.channel 0 + 1)) k 0 ≡ length (entries_of k l)) (sym items)
+          (counted_more old.logged old.entries.items (record {
+            channel = c.args.channel;
+            index = slice_index_or old.logged c.args.channel 0;
+            command = c.in-Some.command;
+            reply = c.args.reply;
+          }) 16 (sym order.counts) c.requires.channel order.counted k lt);
       counts = length-set old.logged c.args.channel _ ∙ order.counts;
       no_page = order.no_page;
       no_cluster = order.no_cluster;
@@ -53,5 +61,11 @@ returns-clause-row g c =
     let channel = c.args.channel in
     let low : channel < length old = omega (arith, c.requires.channel, c.requires.order.sixteen) in
     subst (λ (row : Row). OnlyRow old (slice_set old channel c.take.new.self) channel row)
-    (taken_row (rows_of old channel) c.take.new.self c.in-Some.command (ap (λ (r : Row). r.left) (get_or_default old channel (record { left = []; stage = Ended; claim = None }) c.index_mut.result.now low ∙ sym c.index_mut.ensures.value) ∙ c.in-Some.ensures.some) c.in-Some.ensures.decided c.in-Some.ensures.unclaimed)
+    (taken_row (rows_of old channel) c.take.new.self c.in-Some.command
+    (ap (λ (r : Row). r.left) (get_or_default old channel (record {
+      left = [];
+      stage = Ended;
+      claim = None;
+    }) c.index_mut.result.now low ∙ sym c.index_mut.ensures.value) ∙ c.in-Some.ensures.some) c.in-Some.ensures.decided
+    c.in-Some.ensures.unclaimed)
     (only_row old channel c.take.new.self low)

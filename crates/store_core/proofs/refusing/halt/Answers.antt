@@ -11,7 +11,8 @@ returns-clause-case g c =
     let old = view_of c.args.running.now in
     let waits = c.requires.posted.waits in
     let left = ap (λ (r : Row). r.left) waits.row in
-    let low : c.args.channel < length c.args.running.now.rows.items = omega (arith, c.requires.channel, c.requires.order.sixteen) in
+    let low : c.args.channel < length c.args.running.now.rows.items =
+    omega (arith, c.requires.channel, c.requires.order.sixteen) in
     let is = c.log.ensures.logged waits.command waits.rest left in (
       record {
         channel = c.args.channel;
@@ -23,7 +24,8 @@ returns-clause-case g c =
         may = tt;
         at = c.in-Some.at;
         stands = c.in-Some.is;
-        next = entered d old (view_of c.log.new.running) c.args.channel waits.command waits.rest (Stopped c.in-Some.at) low is;
+        next = entered d old (view_of c.log.new.running) c.args.channel waits.command waits.rest
+            (Stopped c.in-Some.at) low is;
       },
       disk_same d old (view_of c.log.new.running) c.args.channel waits.command waits.rest (Stopped c.in-Some.at) low is,
     )

@@ -12,10 +12,17 @@ returns-clause-case g c =
     let old = view_of c.args.running.now in
     let waits = c.requires.posted.waits in
     let left = ap (λ (r : Row). r.left) waits.row in
-    let low : c.args.channel < length c.args.running.now.rows.items = omega (arith, c.requires.channel, c.requires.order.sixteen) in
+    let low : c.args.channel < length c.args.running.now.rows.items =
+    omega (arith, c.requires.channel, c.requires.order.sixteen) in
     let is = c.log.ensures.logged waits.command waits.rest left in (
       record {
-        posted = record { channel = c.args.channel; serial = c.requires.posted.serial; command = waits.command; rest = waits.rest; row = waits.row };
+        posted = record {
+          channel = c.args.channel;
+          serial = c.requires.posted.serial;
+          command = waits.command;
+          rest = waits.rest;
+          row = waits.row;
+        };
         runs = c.requires.runs;
         reply = c.args.reply;
         why = at_begin_too (state_of d old) waits.command c.args.reply (c.requires.why waits.command waits.rest left);

@@ -9,15 +9,22 @@ use Rattle.store_core.proofs.requests.asked_in.Goals as goal
 pub unreachable-requires : goal.unreachable-requires
 unreachable-requires c =
     let row : c.in-Some.row.now ≡ rows_of c.args.rows.now c.args.msg.channel =
-    c.in-Some.ensures.lookup.1 ∙ get_or_default c.args.rows.now c.args.msg.channel c.in-Some.row.now (record { left = []; stage = Ended; claim = None }) (ltb-true c.args.msg.channel (length c.args.rows.now) (sym c.in-Some.ensures.lookup.0)) in
-    let posted = posted_so c.in-Some.row.now.stage c.in-Some-posted.serial (sym c.posted.ensures ∙ c.in-Some-posted.is) in
-    c.requires c.args.msg.channel c.in-Some-posted.serial (ap (λ (r : Row). r.stage) (sym row) ∙ posted) (ap (λ (r : Row). r.left) (sym row) ∙ none_got c.in-Some.row.now.left (sym c.in-None.ensures))
+    c.in-Some.ensures.lookup.1 ∙ get_or_default c.args.rows.now c.args.msg.channel c.in-Some.row.now
+    (record { left = []; stage = Ended; claim = None })
+    (ltb-true c.args.msg.channel (length c.args.rows.now) (sym c.in-Some.ensures.lookup.0)) in
+    let posted =
+    posted_so c.in-Some.row.now.stage c.in-Some-posted.serial (sym c.posted.ensures ∙ c.in-Some-posted.is) in
+    c.requires c.args.msg.channel c.in-Some-posted.serial (ap (λ (r : Row). r.stage) (sym row) ∙ posted)
+    (ap (λ (r : Row). r.left) (sym row) ∙ none_got c.in-Some.row.now.left (sym c.in-None.ensures))
 
 pub returns-in-Some-first-clause-found : goal.returns-in-Some-first-clause-found
 returns-in-Some-first-clause-found c =
     let row : c.in-Some.row.now ≡ rows_of c.args.rows.now c.args.msg.channel =
-    c.in-Some.ensures.lookup.1 ∙ get_or_default c.args.rows.now c.args.msg.channel c.in-Some.row.now (record { left = []; stage = Ended; claim = None }) (ltb-true c.args.msg.channel (length c.args.rows.now) (sym c.in-Some.ensures.lookup.0)) in
-    let posted = posted_so c.in-Some.row.now.stage c.in-Some-posted.serial (sym c.posted.ensures ∙ c.in-Some-posted.is) in
+    c.in-Some.ensures.lookup.1 ∙ get_or_default c.args.rows.now c.args.msg.channel c.in-Some.row.now
+    (record { left = []; stage = Ended; claim = None })
+    (ltb-true c.args.msg.channel (length c.args.rows.now) (sym c.in-Some.ensures.lookup.0)) in
+    let posted =
+    posted_so c.in-Some.row.now.stage c.in-Some-posted.serial (sym c.posted.ensures ∙ c.in-Some-posted.is) in
     let first = first_got c.in-Some.row.now.left c.in-Some-first.command.now (sym c.in-Some-first.ensures) in
     record {
       posted = ap (λ (r : Row). r.stage) (sym row) ∙ posted ∙ ap Posted c.if-serial-msg.true;

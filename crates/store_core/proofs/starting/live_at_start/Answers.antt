@@ -12,10 +12,13 @@ pub loop-head-preserved : goal.loop-head-preserved
 loop-head-preserved c = elim c.match-get.branch [
   | in-Some+in_ok-try_copy+in_ok-insert w ↦
       subst (λ live. LiveBelow c.args.metas.now live (c.loop-head.head + 1))
-      (sym (w.live-is ∙ w.in_ok-insert.ensures.ok ∙ ap (map.insert c.loop-head.live c.loop-head.head) w.in_ok-try_copy.ensures))
-      (live_some c.args.metas.now c.loop-head.live c.loop-head.head c.loop-head.invariant w.in-Some.meta.now (sym c.get.ensures ∙ ap option_copied w.in-Some.is))
+      (sym (w.live-is ∙ w.in_ok-insert.ensures.ok
+      ∙ ap (map.insert c.loop-head.live c.loop-head.head) w.in_ok-try_copy.ensures))
+      (live_some c.args.metas.now c.loop-head.live c.loop-head.head c.loop-head.invariant w.in-Some.meta.now
+      (sym c.get.ensures ∙ ap option_copied w.in-Some.is))
   | in_default w ↦
       subst (λ live. LiveBelow c.args.metas.now live (c.loop-head.head + 1))
       (sym w.live-is)
-      (live_none c.args.metas.now c.loop-head.live c.loop-head.head c.loop-head.invariant (sym c.get.ensures ∙ ap option_copied w.in_default.is))
+      (live_none c.args.metas.now c.loop-head.live c.loop-head.head c.loop-head.invariant
+      (sym c.get.ensures ∙ ap option_copied w.in_default.is))
 ]

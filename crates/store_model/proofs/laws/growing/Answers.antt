@@ -11,6 +11,7 @@ returns c =
       still = from_still;
       still_at = at_still;
       idle = λ s first log e image is x. idle_from s first log e is (idle e is) image x;
-      failed = λ s first log done least image is may le x. failed_from s first log done is may (idle (record done { reply = Fault }) tt) least image le x;
+      failed = λ s first log done least image is may le x.
+          failed_from s first log done is may (idle (record done { reply = Fault }) tt) least image le x;
       failed_at = λ s first log done image is may x. failed_at s first log done is may image x;
     }

@@ -8,5 +8,6 @@ returns c = record {
   keep = turn_keeps c.refusal_changes_nothing.ensures;
   go_on = run_more;
   writable = writable_root;
-  recovers = λ s first script p image placed facts runs store says same. recovers s placed first script p facts runs image store says same;
+  recovers = λ s first script p image placed facts runs store says same.
+      recovers s placed first script p facts runs image store says same;
 }

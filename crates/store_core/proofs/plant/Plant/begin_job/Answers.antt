@@ -9,14 +9,22 @@ use Rattle.store_core.proofs.Posting.{begun_or_not, posted_at}
 use Rattle.store_core.proofs.plant.Plant.begin_job.Goals as goal
 
 pub begin_or_halt-requires-clause-posted : goal.begin_or_halt-requires-clause-posted
-begin_or_halt-requires-clause-posted g c = posted_at g.D.PageDisk (with_opening c.self.inside.running c.self.inside.opening.value c.self.inside.right.value.name) c.args.msg c.self.invariant.0 (subst (λ (b : WithOpening g.row.D.Denot). IsPostedBy b.at.rows c.args.msg) (sym c.self.view_is) c.requires.posted)
+begin_or_halt-requires-clause-posted g c = posted_at g.D.PageDisk
+    (with_opening c.self.inside.running c.self.inside.opening.value c.self.inside.right.value.name)
+    c.args.msg c.self.invariant.0
+    (subst (λ (b : WithOpening g.row.D.Denot). IsPostedBy b.at.rows c.args.msg) (sym c.self.view_is) c.requires.posted)
 
 pub invariant_of-self : goal.invariant_of-self
 invariant_of-self g c =
     let p = (with_opening c.self.inside.running c.self.inside.opening.value c.self.inside.right.value.name) in
-    let q = view_of c.begin_or_halt.new.running in
-    (begun_or_not g.D.PageDisk p q c.begin_or_halt.result (λ k made. c.goes_on.ensures p q k c.self.invariant.0 made) c.begin_or_halt.ensures.begins c.begin_or_halt.ensures.halted, c.begin_or_halt.ensures.order)
+    let q = view_of c.begin_or_halt.new.running in (
+      begun_or_not g.D.PageDisk p q c.begin_or_halt.result (λ k made. c.goes_on.ensures p q k c.self.invariant.0 made)
+          c.begin_or_halt.ensures.begins c.begin_or_halt.ensures.halted,
+      c.begin_or_halt.ensures.order,
+    )
 
 pub begin_or_halt-requires-clause-asks : goal.begin_or_halt-requires-clause-asks
 begin_or_halt-requires-clause-asks g c =
-    subst (λ (b : WithOpening g.row.D.Denot). b.at.stopped ≡ None → Asks b.at c.args.msg.channel (λ command. IsJobOf (state_of g.D.PageDisk b.at) command c.args.job)) (sym c.self.view_is) c.requires.asks
+    subst (λ (b : WithOpening g.row.D.Denot). b.at.stopped ≡ None
+    → Asks b.at c.args.msg.channel (λ command. IsJobOf (state_of g.D.PageDisk b.at) command c.args.job))
+    (sym c.self.view_is) c.requires.asks

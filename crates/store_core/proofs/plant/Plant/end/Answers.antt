@@ -8,10 +8,20 @@ use Rattle.store_core.proofs.Posting.{low_over, over_row}
 use Rattle.store_core.proofs.plant.Plant.end.Goals as goal
 
 pub end-requires-clause-channel : goal.end-requires-clause-channel
-end-requires-clause-channel g c = low_over g.D.PageDisk (view_of c.self.inside.running) c.self.invariant.0.facts.shaped c.args.channel c.self.invariant.1.sixteen (subst (λ (b : WithOpening g.row.D.Denot). is_stage (rows_of b.at.rows c.args.channel) c.args.channel ≡ Over) (sym c.self.view_is) c.requires)
+end-requires-clause-channel g c = low_over g.D.PageDisk
+    (view_of c.self.inside.running) c.self.invariant.0.facts.shaped c.args.channel c.self.invariant.1.sixteen
+    (subst (λ (b : WithOpening g.row.D.Denot). is_stage (rows_of b.at.rows c.args.channel) c.args.channel ≡ Over)
+    (sym c.self.view_is) c.requires)
 
 pub end-requires-clause-over : goal.end-requires-clause-over
-end-requires-clause-over g c = over_row g.D.PageDisk (view_of c.self.inside.running) c.self.invariant.0.facts.shaped c.args.channel (subst (λ (b : WithOpening g.row.D.Denot). is_stage (rows_of b.at.rows c.args.channel) c.args.channel ≡ Over) (sym c.self.view_is) c.requires)
+end-requires-clause-over g c =
+    over_row g.D.PageDisk (view_of c.self.inside.running) c.self.invariant.0.facts.shaped c.args.channel
+    (subst (λ (b : WithOpening g.row.D.Denot). is_stage (rows_of b.at.rows c.args.channel) c.args.channel ≡ Over)
+    (sym c.self.view_is) c.requires)
 
 pub invariant_of-self : goal.invariant_of-self
-invariant_of-self g c = (c.goes_on.ensures (with_opening c.self.inside.running c.self.inside.opening.value c.self.inside.right.value.name) (view_of c.end.new.running) kind.ends c.self.invariant.0 c.end.ensures.case, c.end.ensures.order)
+invariant_of-self g c = (
+  c.goes_on.ensures (with_opening c.self.inside.running c.self.inside.opening.value c.self.inside.right.value.name)
+      (view_of c.end.new.running) kind.ends c.self.invariant.0 c.end.ensures.case,
+  c.end.ensures.order,
+)

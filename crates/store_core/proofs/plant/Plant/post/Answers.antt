@@ -8,10 +8,20 @@ use Rattle.store_core.proofs.Posting.{low_meta, waits_meta}
 use Rattle.store_core.proofs.plant.Plant.post.Goals as goal
 
 pub post-requires-clause-channel : goal.post-requires-clause-channel
-post-requires-clause-channel g c = low_meta g.D.PageDisk (view_of c.self.inside.running) c.self.invariant.0.facts.shaped c.args.channel c.self.invariant.1.sixteen (subst (λ (b : WithOpening g.row.D.Denot). is_stage (rows_of b.at.rows c.args.channel) c.args.channel ≡ Meta) (sym c.self.view_is) c.requires.stage)
+post-requires-clause-channel g c = low_meta g.D.PageDisk
+    (view_of c.self.inside.running) c.self.invariant.0.facts.shaped c.args.channel c.self.invariant.1.sixteen
+    (subst (λ (b : WithOpening g.row.D.Denot). is_stage (rows_of b.at.rows c.args.channel) c.args.channel ≡ Meta)
+    (sym c.self.view_is) c.requires.stage)
 
 pub post-requires-clause-waits : goal.post-requires-clause-waits
-post-requires-clause-waits g c = waits_meta g.D.PageDisk (view_of c.self.inside.running) c.self.invariant.0.facts.shaped c.args.channel (subst (λ (b : WithOpening g.row.D.Denot). is_stage (rows_of b.at.rows c.args.channel) c.args.channel ≡ Meta) (sym c.self.view_is) c.requires.stage)
+post-requires-clause-waits g c =
+    waits_meta g.D.PageDisk (view_of c.self.inside.running) c.self.invariant.0.facts.shaped c.args.channel
+    (subst (λ (b : WithOpening g.row.D.Denot). is_stage (rows_of b.at.rows c.args.channel) c.args.channel ≡ Meta)
+    (sym c.self.view_is) c.requires.stage)
 
 pub invariant_of-self : goal.invariant_of-self
-invariant_of-self g c = (c.goes_on.ensures (with_opening c.self.inside.running c.self.inside.opening.value c.self.inside.right.value.name) (view_of c.post.new.running) kind.posts c.self.invariant.0 c.post.ensures.case, c.post.ensures.order)
+invariant_of-self g c = (
+  c.goes_on.ensures (with_opening c.self.inside.running c.self.inside.opening.value c.self.inside.right.value.name)
+      (view_of c.post.new.running) kind.posts c.self.invariant.0 c.post.ensures.case,
+  c.post.ensures.order,
+)

@@ -8,10 +8,16 @@ use Rattle.store_core.proofs.Posting.{either, posted_at}
 use Rattle.store_core.proofs.plant.Plant.refuse.Goals as goal
 
 pub refuse_or_halt-requires-clause-posted : goal.refuse_or_halt-requires-clause-posted
-refuse_or_halt-requires-clause-posted g c = posted_at g.D.PageDisk (with_opening c.self.inside.running c.self.inside.opening.value c.self.inside.right.value.name) c.args.msg c.self.invariant.0 (subst (λ (b : WithOpening g.row.D.Denot). IsPostedBy b.at.rows c.args.msg) (sym c.self.view_is) c.requires.posted)
+refuse_or_halt-requires-clause-posted g c = posted_at g.D.PageDisk
+    (with_opening c.self.inside.running c.self.inside.opening.value c.self.inside.right.value.name)
+    c.args.msg c.self.invariant.0
+    (subst (λ (b : WithOpening g.row.D.Denot). IsPostedBy b.at.rows c.args.msg) (sym c.self.view_is) c.requires.posted)
 
 pub invariant_of-self : goal.invariant_of-self
 invariant_of-self g c =
     let p = (with_opening c.self.inside.running c.self.inside.opening.value c.self.inside.right.value.name) in
-    let q = view_of c.refuse_or_halt.new.running in
-    (either g.D.PageDisk p q kind.refuses kind.halts (λ k made. c.goes_on.ensures p q k c.self.invariant.0 made) c.refuse_or_halt.ensures.refused c.refuse_or_halt.ensures.halted, c.refuse_or_halt.ensures.order)
+    let q = view_of c.refuse_or_halt.new.running in (
+      either g.D.PageDisk p q kind.refuses kind.halts (λ k made. c.goes_on.ensures p q k c.self.invariant.0 made)
+          c.refuse_or_halt.ensures.refused c.refuse_or_halt.ensures.halted,
+      c.refuse_or_halt.ensures.order,
+    )

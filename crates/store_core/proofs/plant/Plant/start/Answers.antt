@@ -22,7 +22,14 @@ invariant_of-result g c =
     let at : view_of running ≡ opened = c.running_at_start-running.ensures.at in
     let right = c.of-right.result.value.name in
     let kept : StoreInvariant d (record { at = opened; opening = opened; right = right }) =
-    c.begins.ensures opened (is_loaded_with d c.args.loaded live guards rows c.in-Ok.ensures.guards c.requires.whole c.in-Ok.ensures.live)
-    (it_opens d c.args.loaded live guards rows c.in-Ok.ensures.guards c.args.script c.in-Ok.ensures.rows) (c.regions_are_placed.ensures c.args.loaded.sup c.requires.faultless) c.requires.holds right in
-    let kept_at : StoreInvariant d (with_opening running running right) = subst (λ (p : StoreView g.row.D.Denot). StoreInvariant d (record { at = p; opening = p; right = right })) (sym at) kept in
-    (subst (λ (o : Running g.row.D.Denot). StoreInvariant d (with_opening running o right)) (sym c.of-opening.ensures) kept_at, c.running_at_start-running.ensures.order)
+    c.begins.ensures opened
+    (is_loaded_with d c.args.loaded live guards rows c.in-Ok.ensures.guards c.requires.whole c.in-Ok.ensures.live)
+    (it_opens d c.args.loaded live guards rows c.in-Ok.ensures.guards c.args.script c.in-Ok.ensures.rows)
+    (c.regions_are_placed.ensures c.args.loaded.sup c.requires.faultless) c.requires.holds right in
+    let kept_at : StoreInvariant d (with_opening running running right) =
+    subst (λ (p : StoreView g.row.D.Denot). StoreInvariant d (record { at = p; opening = p; right = right }))
+    (sym at) kept in (
+      subst (λ (o : Running g.row.D.Denot). StoreInvariant d (with_opening running o right))
+          (sym c.of-opening.ensures) kept_at,
+      c.running_at_start-running.ensures.order,
+    )
