@@ -1,0 +1,83 @@
+-- Why a command is refused, and that a refusal is allowed.
+use Rattle.std.proofs.Common.{◌≡◌, ℕ, Some, None}
+use Rattle.volume_model.specs.Volumes.{Fixed, Volumes}
+use Rattle.volume_model.specs.Refusals.{refusal}
+use Rattle.volume_model.specs.Steps.{IsRefusal, Allowed}
+use Rattle.volume_model.specs.declared.command.Command.{Command}
+use Rattle.volume_model.specs.declared.command.Command.TheVariants as c
+use Rattle.volume_model.specs.declared.reply.Reply.{Reply}
+use Rattle.volume_model.specs.declared.reply.Reply.TheVariants as r
+use Rattle.store_model.specs.Shown.{fixed_of}
+use Rattle.store_model.specs.StoreState.{StoreState, shown}
+use Rattle.store_model.specs.Jobs.{AsksFor, IsSyncing}
+use Rattle.store_model.specs.Cases.{IsCauseReply, IsRefusedAtBegin, IsRefusedBy}
+
+-- ---- refusals
+
+pub is_refusal : (p : StoreState) (command : Command) (reply : Reply) → IsRefusedAtBegin p command reply
+    → IsRefusal reply
+is_refusal p command r.Ok why = why.0
+is_refusal p command (r.Made head) why = why.0
+is_refusal p command (r.Content page) why = why.0
+is_refusal p command (r.Value value) why = why.0
+is_refusal p command (r.Info info) why = why.0
+is_refusal p command (r.List infos) why = why.0
+is_refusal p command (r.Df df) why = why.0
+is_refusal p command _ why = tt
+
+-- a command that asks for a job may be done, lack pages, or fail
+pub record May (f : Fixed) (v : Volumes) (command : Command) : Type 0 where
+  pub done : Allowed f v command r.Ok
+  pub lack : Allowed f v command r.NoPage
+  pub fail : Allowed f v command r.Fault
+
+syncing_may : (f : Fixed) (v : Volumes) (command : Command) → IsSyncing command → refusal f v command ≡ None
+    → May f v command
+syncing_may f v (c.Put volume key value) is asked = record { done = (asked, tt); lack = (asked, tt); fail = tt }
+syncing_may f v (c.Sync volume) is asked = record { done = (asked, tt); lack = (asked, tt); fail = tt }
+syncing_may f v _ is asked = absurd is
+
+pub asks_may : (p : StoreState) (command : Command) (head : ℕ) (new : _) → AsksFor p command head new
+    → May (fixed_of p.super) (shown p) command
+asks_may p command head new a = syncing_may (fixed_of p.super) (shown p) command a.syncing a.asked
+
+pub is_allowed : (p : StoreState) (command : Command) (reply : Reply) → IsRefusedAtBegin p command reply
+    → Allowed (fixed_of p.super) (shown p) command reply
+is_allowed p command r.Ok why = absurd why.0
+is_allowed p command (r.Made head) why = absurd why.0
+is_allowed p command (r.Content page) why = absurd why.0
+is_allowed p command (r.Value value) why = absurd why.0
+is_allowed p command (r.Info info) why = absurd why.0
+is_allowed p command (r.List infos) why = absurd why.0
+is_allowed p command (r.Df df) why = absurd why.0
+is_allowed p command r.Full why = absurd why.0
+is_allowed p command r.NoPage why = (asks_may p command why.head why.new why.asks).lack
+is_allowed p command r.ReadFault why = absurd why.0
+is_allowed p command r.Fault why = absurd why.0
+is_allowed p command (r.Stopped at) why = absurd why.0
+is_allowed p command r.Memory why = why
+is_allowed p command r.NoVolume why = why.1
+is_allowed p command r.OutOfRange why = why.1
+is_allowed p command r.ReadOnly why = why.1
+is_allowed p command r.NotReadOnly why = why.1
+is_allowed p command r.NameTaken why = why.1
+is_allowed p command (r.Busy n) why = why.1
+is_allowed p command r.NoParent why = why.1
+is_allowed p command r.Short why = why.1
+is_allowed p command r.Reserved why = why.1
+is_allowed p command r.NoValue why = why.1
+is_allowed p command r.TooLong why = why.1
+is_allowed p command r.TooLarge why = why.1
+
+-- a first cause is why a command is refused
+pub caused_so : (p : StoreState) (command : Command) (reply : Reply) → IsCauseReply reply
+    → refusal (fixed_of p.super) (shown p) command ≡ Some reply → IsRefusedAtBegin p command reply
+caused_so p command r.Memory caused cause = absurd caused
+caused_so p command r.NoPage caused cause = absurd caused
+caused_so p command _ caused cause = (caused, cause)
+
+-- why a command is refused by who plans it is why it is refused at its begin
+pub at_begin_too : (p : StoreState) (command : Command) (reply : Reply) → IsRefusedBy p command reply
+    → IsRefusedAtBegin p command reply
+at_begin_too p command r.NoPage why = absurd why.0
+at_begin_too p command _ why = why

@@ -1,0 +1,112 @@
+-- What a verb that syncs asks for: metadata that can be written, and what each image shows with it.
+use Rattle.std.proofs.Common.{None, ◌≡◌, Some, refl, subst, sym, ap, ◌∙◌, inr, [], inl}
+use Rattle.std.proofs.Common.{ℕ}
+use Rattle.std.proofs.lemmas.Bool.{cases_eq}
+use Rattle.store_model.specs.StoreState.{StoreState, live_of, shown}
+use Rattle.store_model.specs.RunInvariant.{RunsWell}
+use Rattle.store_model.specs.Jobs.{AsksFor, IsStep, shown_of}
+use Rattle.store_model.proofs.Known.{Known}
+use Rattle.store_model.proofs.Moved.{all_writable, live_writable}
+use Rattle.store_model.specs.Phases.{Replacing, replaced}
+use Rattle.store_model.specs.Phases.{Committing}
+use Rattle.volume_model.specs.declared.reply.Reply.TheVariants as r_
+use Rattle.store_model.specs.Roots.{AreRoots, IsRoot, CanBeWritten}
+use Rattle.page_disk.specs.Disk.{Image}
+use Rattle.blob_meta.specs.Resolving.{IsLawful}
+use Rattle.blob_meta.specs.declared.meta.Meta.{Meta}
+use Rattle.super_block.specs.declared.page.Super.{Super}
+use Rattle.store_model.proofs.Writable.{AllWritable}
+use Rattle.store_model.proofs.StateKept.{May, asks_may}
+use Rattle.store_model.specs.Maps.{Metas, with_entry}
+use Rattle.volume_model.specs.Volumes.{Volumes, Volume}
+use Rattle.store_model.proofs.Meanwhile.{asks_reading, reading}
+use Rattle.store_model.proofs.Replaced.{new_root, lawful_given, roots_given, synced_written}
+use Rattle.volume_model.specs.Steps.{change}
+use Rattle.store_model.specs.Shown.{fixed_of}
+use Rattle.store_model.proofs.Heads.{replaced_is}
+use Rattle.store_model.proofs.Synced.{syncs_to, shown_synced}
+use Rattle.store_model.proofs.LiveSynced.{live_synced}
+use Rattle.volume_model.specs.declared.command.Command.{Command}
+
+-- what the commit of such metadata makes
+abbrev pub sync_commit : Meta → Committing
+sync_commit new = record { reply = r_.Ok; live = Some new.xattrs; renews = [] }
+
+module _ (known : Known) where
+  open known use {s, placed, first, script, p, facts}
+
+  module _ (runs : p.stopped ≡ None) (command : Command) (head : ℕ) (new : Meta) (asks : AsksFor p command head new)
+      (r : Replacing) (head_is : r.head ≡ head) (new_is : r.new ≡ Some new) where
+    well : RunsWell first p
+    well = facts.well runs
+
+    abbrev commit : Committing
+    commit = sync_commit new
+
+    pub root_new : IsRoot s r.head new
+    root_new =
+        subst (λ h. IsRoot s h new) (sym head_is)
+        (new_root s head asks.old new asks.after.synced (facts.roots head asks.old asks.there) asks.new_is
+        (synced_written (fixed_of p.super) (shown p) command head asks.after
+        (all_writable first p well) asks.syncing asks.asked asks.found asks.step))
+
+    roots_new : AreRoots s (with_entry p.base head new)
+    roots_new = roots_given s p.base head new facts.roots (subst (λ h. IsRoot s h new) head_is root_new)
+
+    pub base_is : replaced p.base r ≡ with_entry p.base head new
+    base_is = replaced_is p.base r new new_is ∙ ap (λ h. with_entry p.base h new) head_is
+
+    pub lawful_new : IsLawful p.super.md_len (replaced p.base r)
+    lawful_new = subst (IsLawful p.super.md_len) (sym base_is)
+        (subst (λ (y : Super). IsLawful y.md_len (with_entry p.base head new)) (sym facts.super)
+        (lawful_given p.base head asks.old new asks.after.synced asks.there asks.new_is s.md_len facts.lawful))
+
+    -- ---- what every image shows
+
+    module _ (image : Image) where
+      abbrev here : StoreState
+      here = reading p image
+
+      abbrev w : Volumes
+      w = change (fixed_of p.super) (shown here) command r_.Ok
+
+      asks_here : AsksFor here command head new
+      asks_here = asks_reading p image command head new asks
+
+      may : May (fixed_of p.super) (shown here) command
+      may = asks_may here command head new asks_here
+
+      shows_new : shown_of p.super (replaced p.base r) (live_of w) image ≡ w
+      shows_new =
+          ap (λ (m : Metas). shown_of p.super m (live_of w) image) base_is
+          ∙ shown_synced s here facts.super facts.roots command head new asks_here roots_new
+          (record here { base = with_entry p.base head new; live = live_of w }) facts.super refl refl
+          placed.some_pages (λ page behind. refl)
+
+      writable_new : AllWritable w
+      writable_new h v is = elim (cases_eq h head) [
+        | inl e ↦
+            let to = syncs_to (fixed_of p.super)
+            (shown here) command head asks_here.after asks_here.syncing asks_here.found asks_here.step in
+            let same : asks_here.after ≡ v = let both = sym asks_here.step ∙ ap w (sym e) ∙ is in cc both in
+            let written = synced_written (fixed_of p.super) (shown here) command head asks_here.after
+            (live_writable here well.live) asks_here.syncing asks_here.asked asks_here.found asks_here.step in
+            let l : asks_here.after.live ≡ asks_here.after.synced = ap (λ (x : Volume). x.live) to.is in
+            subst (λ (x : Volume). CanBeWritten x.live) same (subst CanBeWritten (sym l) written)
+        | inr ne ↦
+            let to = syncs_to (fixed_of p.super)
+            (shown here) command head asks_here.after asks_here.syncing asks_here.found asks_here.step in
+            live_writable here well.live h v (sym (to.others h ne) ∙ is)
+      ]
+
+    pub step : IsStep p.super p.base r p.live command commit
+    step = record {
+      done = tt;
+      allowed = λ image. (may image).done;
+      may_fail = λ image. (may image).fail;
+      shows = shows_new;
+      lives = λ image. sym (live_synced (here image) well.live well.no_live command head new
+          (asks_here image) new.xattrs refl) ∙ ap (λ h. with_entry p.live h new.xattrs) (sym head_is);
+      writable = writable_new;
+      renews = tt;
+    }
