@@ -1,12 +1,12 @@
 -- The end of a job on a stopped store.
-use Rattle.std.proofs.Common.{false, ◌≡◌, ℕ, ◌<◌, List, ◌∷◌, length, Option, Some, None, refl, sym, ◌∙◌, ap, subst, inl}
+use Rattle.std.proofs.Common.{false, ◌≡◌, ℕ, ◌<◌, List, ◌∷◌, length, Option, Some, None, refl, sym, ◌∙◌, ap, inl}
 use Rattle.std.proofs.Common.{arith, Bool, option_map, true}
 use Rattle.std.specs.Option.{option_and_then}
 use Rattle.page_disk.specs.declared.disk.PageDisk.{Ghosts}
 use Rattle.volume_model.specs.declared.command.Command.{Command}
 use Rattle.volume_model.specs.declared.reply.Reply.TheVariants.{Stopped}
-use Rattle.store_model.specs.Rows.{Ended, InJob, Row}
-use Rattle.store_model.specs.StoreState.{JobState, logged, StoreState, ForCommand}
+use Rattle.store_model.specs.Rows.{InJob, Row}
+use Rattle.store_model.specs.StoreState.{JobState, logged, ForCommand}
 use Rattle.store_model.specs.RunInvariant.{IsServedRow}
 use Rattle.store_model.specs.Cases.{BreaksDown}
 use Rattle.store_core.specs.JobTurns.{waits_for_job}

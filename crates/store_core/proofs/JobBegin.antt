@@ -29,7 +29,7 @@ use Rattle.md_chain.proofs.Saying.{written_say}
 use Rattle.store_model.specs.Regions.{region_of}
 use Rattle.store_model.specs.Scans.{MetaAt}
 use Rattle.store_model.specs.Rows.{with_row, Ended, InJob, Posted, Row, Rows}
-use Rattle.store_model.specs.StoreState.{JobState, StoreState, logged}
+use Rattle.store_model.specs.StoreState.{StoreState, logged}
 use Rattle.store_model.specs.Places.{all_set, held_by, AreDistinct, AreLeastClear, IsLinked, UsedPages}
 use Rattle.store_model.specs.Jobs.{places_of, AsksFor, IsPacked, IsSyncing, Needs, MovesClusters}
 use Rattle.store_model.specs.Cases.{Begins, IsPosted, IsRefusedAtBegin, Refuses}

@@ -1,5 +1,5 @@
 -- What is kept of a running store, at its start and over each turn.
-use Rattle.std.proofs.Common.{ℕ, ◌≡◌, [], ◌++◌, ◌∷◌, Some, None, refl, sym, ◌∙◌, IsTrue}
+use Rattle.std.proofs.Common.{ℕ, ◌≡◌, [], ◌++◌, ◌∷◌, Some, None, refl, IsTrue}
 use Rattle.std.specs.FinMap as map
 use Rattle.page_disk.specs.Disk.{Telling}
 use Rattle.page_disk.specs.Moments.{CallsLeaveOnly}

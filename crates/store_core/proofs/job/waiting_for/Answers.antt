@@ -1,4 +1,4 @@
-use Rattle.std.proofs.Common.{◌≡◌, ℕ, Bool, Option, Some, None, List, drop, refl, sym, ◌∙◌, ap, ◌∷◌, []}
+use Rattle.std.proofs.Common.{◌≡◌, ℕ, Option, Some, None, drop, sym, ◌∙◌, ap, ◌∷◌, []}
 use Rattle.std.specs.Prelude.{if◌then◌else◌}
 use Rattle.std.specs.Option.{option_and_then, option_map}
 use Rattle.store_model.specs.Phases.{Replaces, erasing}

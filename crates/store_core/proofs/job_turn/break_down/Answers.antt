@@ -1,8 +1,5 @@
-use Rattle.std.proofs.Common.{◌≡◌, Some, ap, sym, ◌∙◌}
-use Rattle.std.specs.Option.{option_and_then}
+use Rattle.std.proofs.Common.{sym, ◌∙◌}
 use Rattle.store_core.specs.Running.{view_of}
-use Rattle.store_core.specs.StoreView.{StoreView}
-use Rattle.store_core.specs.JobTurns.{waits_for_job}
 use Rattle.store_core.proofs.BrokenDown.{broken_down, low, some_left, stopped_still, for_commands}
 use Rattle.store_core.proofs.job_turn.break_down.Goals as goal
 

@@ -1,12 +1,9 @@
-use Rattle.std.proofs.Common.{◌≡◌, ℕ, ◌+◌, ◌≤◌, ◌<◌, [], List, Some, length, get_or, drop, refl, sym, ◌∙◌, ap, subst}
+use Rattle.std.proofs.Common.{ℕ, ◌+◌, ◌≤◌, ◌<◌, [], List, length, get_or, drop, sym, ◌∙◌, ap, subst}
 use Rattle.std.proofs.Common.{arith}
 use Rattle.page_disk.specs.Moments.{IsReplaced, CallsLeaveOnly}
 use Rattle.md_chain.specs.declared.plan.PlannedPage.{PlannedPage}
 use Rattle.store_model.specs.Rows.{Row}
 use Rattle.store_model.specs.Cases.{WritesOnePage}
-use Rattle.store_core.specs.JobTurns.{answer_of, with_job, TurnsJob}
-use Rattle.store_core.specs.declared.job.Planned.{Planned}
-use Rattle.store_core.specs.declared.job_turn.JobTurn.TheVariants as turn
 use Rattle.store_core.specs.Running.{view_of, InOrder}
 use Rattle.store_core.specs.StoreView.{device_of, rows_of}
 use Rattle.store_core.proofs.JobTurned.{channel_low, on_err, on_ok, planned_some, row_some}

@@ -1,11 +1,11 @@
-use Rattle.std.proofs.Common.{◌<◌, ◌+◌, ℕ, List, length, get_or, refl, sym, ◌∙◌, ap, subst, arith}
+use Rattle.std.proofs.Common.{◌<◌, ◌+◌, ℕ, List, length, get_or, sym, ◌∙◌, ap, subst, arith}
 use Rattle.page_disk.specs.Disk.{Written}
 use Rattle.page_disk.specs.Moments.{CallsLeaveOnly}
 use Rattle.page_disk.specs.declared.disk.WriteKind.TheVariants.{Plain}
 use Rattle.store_model.specs.Cases.{WritesOnePage}
 use Rattle.store_core.specs.Running.{view_of}
 use Rattle.store_core.specs.StoreView.{device_of}
-use Rattle.store_core.proofs.JobTurned.{broke_off, freed_all, old_below, old_used, on_err, on_ok, zeros, broke_freeing}
+use Rattle.store_core.proofs.JobTurned.{freed_all, old_below, old_used, on_err, on_ok, zeros, broke_freeing}
 use Rattle.store_core.proofs.JobTurned.{old_differ}
 use Rattle.store_core.proofs.job_turn.free.Goals as goal
 use Rattle.store_core.proofs.AtWork.{got}

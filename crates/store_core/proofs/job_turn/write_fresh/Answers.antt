@@ -1,4 +1,4 @@
-use Rattle.std.proofs.Common.{◌+◌, [], ℕ, List, get_or, refl, sym, ◌∙◌, ap, subst, arith}
+use Rattle.std.proofs.Common.{◌+◌, [], ℕ, List, get_or, sym, ◌∙◌, ap, subst, arith}
 use Rattle.page_disk.specs.Disk.{Written}
 use Rattle.page_disk.specs.Moments.{CallsLeaveOnly}
 use Rattle.page_disk.specs.declared.disk.WriteKind.TheVariants.{Plain}

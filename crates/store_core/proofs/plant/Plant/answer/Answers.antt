@@ -1,10 +1,9 @@
 use Rattle.std.proofs.Common.{◌≡◌, None, subst, sym}
 use Rattle.store_model.specs.Cases as kind
 use Rattle.store_core.specs.Running.{view_of, with_opening}
-use Rattle.store_core.specs.StoreView.{WithOpening, rows_of}
+use Rattle.store_core.specs.StoreView.{WithOpening}
 use Rattle.blob_meta.specs.Asked.{IsOnHead}
 use Rattle.store_model.specs.Cases.{IsInMemory}
-use Rattle.store_model.specs.Rows.{Posted}
 use Rattle.store_core.specs.TurnMade.{TurnMade}
 use Rattle.store_core.specs.Steps.{Asks}
 use Rattle.store_core.specs.Requests.{IsPostedBy}

@@ -1,8 +1,7 @@
 use Rattle.std.proofs.Common.{◌≡◌, None, subst, sym}
-use Rattle.store_model.specs.Rows.{Posted}
 use Rattle.store_core.specs.Running.{view_of, with_opening}
 use Rattle.store_core.specs.Begins.{IsJobOf}
-use Rattle.store_core.specs.StoreView.{WithOpening, rows_of, state_of}
+use Rattle.store_core.specs.StoreView.{WithOpening, state_of}
 use Rattle.store_core.specs.Steps.{Asks}
 use Rattle.store_core.specs.Requests.{IsPostedBy}
 use Rattle.store_core.proofs.Posting.{begun_or_not, posted_at}

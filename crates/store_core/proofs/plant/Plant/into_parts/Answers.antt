@@ -1,11 +1,11 @@
-use Rattle.std.proofs.Common.{◌↔◌, true, ◌<◌, length, [], ◌≡◌, ◌⊎◌, ℕ, Bool, List, None, Some, IsSome, sym, subst, ap}
+use Rattle.std.proofs.Common.{◌↔◌, true, ◌<◌, length, [], ◌≡◌, ◌⊎◌, ℕ, Bool, List, None, IsSome, sym, subst, ap}
 use Rattle.std.proofs.Common.{◌∙◌}
 use Rattle.std.specs.FinMap as map
 use Rattle.bit_array.specs.Bits.{is_in}
 use Rattle.store_model.specs.Places.{held_by, Unclaimed, UsedClusters, UsedPages, claimed_by}
 use Rattle.store_model.proofs.Claims.{unclaimed_used}
 use Rattle.store_core.specs.Running.{view_of}
-use Rattle.store_core.specs.StoreView.{StoreView, WithOpening, rows_of, state_of}
+use Rattle.store_core.specs.StoreView.{StoreView, WithOpening, rows_of}
 use Rattle.store_core.specs.LoadedWhole.{AreMasks}
 use Rattle.store_core.proofs.Posting.{job_over}
 use Rattle.store_core.proofs.plant.Plant.into_parts.Goals as goal

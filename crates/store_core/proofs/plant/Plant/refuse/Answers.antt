@@ -1,8 +1,7 @@
-use Rattle.std.proofs.Common.{◌≡◌, subst, sym}
+use Rattle.std.proofs.Common.{subst, sym}
 use Rattle.store_model.specs.Cases as kind
 use Rattle.store_core.specs.Running.{view_of, with_opening}
-use Rattle.store_core.specs.StoreView.{WithOpening, rows_of}
-use Rattle.store_model.specs.Rows.{Posted}
+use Rattle.store_core.specs.StoreView.{WithOpening}
 use Rattle.store_core.specs.Requests.{IsPostedBy}
 use Rattle.store_core.proofs.Posting.{either, posted_at}
 use Rattle.store_core.proofs.plant.Plant.refuse.Goals as goal
