@@ -100,7 +100,7 @@ fn script_of(alloc: Global, puts: &[Letters]) -> Result<Vec<u8>, Fail> {
 /// What a look prints that finds this value.
 fn told(alloc: Global, value: Letters) -> Result<Vec<u8>, Fail> {
     let mut told = Vec::new(alloc);
-    push_told(alloc, &mut told, 0, value)?;
+    push_told(alloc, &mut told, 0, Some(value))?;
     Ok(told)
 }
 

@@ -55,7 +55,7 @@ fn stopped(alloc: Global, fail: Fail) -> Result<Ran<FaultDisk<MemDisk>>, TestFai
 /// Expects of a device that a run finds 4062 times this letter.
 fn expect_letter(alloc: Global, disk: MemDisk, letter: u8) -> Result<(), TestFail> {
     let mut told = Vec::new(alloc);
-    push_told(alloc, &mut told, 0, (letter, 4062))?;
+    push_told(alloc, &mut told, 0, Some((letter, 4062)))?;
     play(alloc, b"0 getx @0 k\n", &told, disk)?;
     Ok(())
 }

@@ -31,9 +31,9 @@ fn look_put_look(alloc: Global) -> Result<Vec<u8>, Fail> {
 /// What that script prints where the first look finds this letter 4062 times.
 fn told(alloc: Global, letter: u8) -> Result<Vec<u8>, Fail> {
     let mut told = Vec::new(alloc);
-    push_told(alloc, &mut told, 0, (letter, 4062))?;
+    push_told(alloc, &mut told, 0, Some((letter, 4062)))?;
     told.extend_from_slice(b"0 1 ok\n")?;
-    push_told(alloc, &mut told, 2, (b'z', 4062))?;
+    push_told(alloc, &mut told, 2, Some((b'z', 4062)))?;
     Ok(told)
 }
 

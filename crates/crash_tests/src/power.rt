@@ -1,63 +1,76 @@
 //! Puts that make a chain longer and shorter, and power that fails at each call of the device.
 
-use blob_report::render_entry;
 use page_disk::{FaultDisk, MemDisk};
-use script_lang::parse;
 use std::alloc::Global;
 use std::test::Fail;
-use test_runs::{Ran, play, push_long, run};
+use test_runs::{Letters, Ran, play, push_long, push_told, run};
 use test_stores::{LAST, THICK, expect_chains, expect_written, image};
-use volume_model::{Command, Entry, Name, Reply, TryCopy, Volumes};
 
-/// What stands once so many puts are done: how many calls of the device were made until the head of the last one was
-/// flushed, and the chain.
+/// What stands once some of the puts are done: how many calls of the device were made until the head of the last one
+/// was flushed, the chain, and the values of `k` and `j`.
 #[derive(Clone, Copy)]
 struct Point {
-    puts: usize,
     calls: u64,
     chain: &'static [u32],
+    k: Option<Letters>,
+    j: Option<Letters>,
 }
 
 /// The metadata pages of the store, just enough.
 const MD_PAGES: u32 = 4;
 
+/// The puts, by how their lines begin and their values.
+const PUTS: [(&[u8], Letters); 5] = [
+    (b"0 put @0 k t:", (b'1', 1)),
+    (b"0 put @0 k t:", (b'x', 4062)),
+    (b"0 put @0 j t:", (b'y', 4062)),
+    (b"0 put @0 k t:", (b'2', 1)),
+    (b"0 put @0 j t:", (b'3', 1)),
+];
+
 /// Before the puts, and after each. Loading reads six pages. A put writes each fresh page, flushes, writes the head,
 /// and flushes. Then it overwrites each old page behind the head, and flushes, if there was one.
 const POINTS: [Point; 6] = [
     Point {
-        puts: 0,
         calls: 0,
         chain: &[0],
+        k: None,
+        j: None,
     },
     // Nothing fresh: 6 + 3.
     Point {
-        puts: 1,
         calls: 9,
         chain: &[0],
+        k: Some((b'1', 1)),
+        j: None,
     },
     // One fresh page: 9 + 1 + 3.
     Point {
-        puts: 2,
         calls: 13,
         chain: &[0, 1],
+        k: Some((b'x', 4062)),
+        j: None,
     },
     // Two fresh pages: 13 + 2 + 3. Then one old page: 18 + 2.
     Point {
-        puts: 3,
         calls: 18,
         chain: &[0, 2, 3],
+        k: Some((b'x', 4062)),
+        j: Some((b'y', 4062)),
     },
     // One fresh page: 20 + 1 + 3. Then two old pages: 24 + 3.
     Point {
-        puts: 4,
         calls: 24,
         chain: &[0, 1],
+        k: Some((b'2', 1)),
+        j: Some((b'y', 4062)),
     },
     // Nothing fresh: 27 + 3. Then one old page: 30 + 2.
     Point {
-        puts: 5,
         calls: 30,
         chain: &[0],
+        k: Some((b'2', 1)),
+        j: Some((b'3', 1)),
     },
 ];
 
@@ -80,14 +93,12 @@ fn point_at(calls: u64) -> Point {
     last
 }
 
-/// The five puts.
-fn puts(alloc: Global) -> Result<Vec<u8>, Fail> {
+/// The script of the puts.
+fn script(alloc: Global) -> Result<Vec<u8>, Fail> {
     let mut script = Vec::new(alloc);
-    push_long(&mut script, b"0 put @0 k t:", (b'1', 1))?;
-    push_long(&mut script, b"0 put @0 k t:", (b'x', 4062))?;
-    push_long(&mut script, b"0 put @0 j t:", (b'y', 4062))?;
-    push_long(&mut script, b"0 put @0 k t:", (b'2', 1))?;
-    push_long(&mut script, b"0 put @0 j t:", (b'3', 1))?;
+    for (begin, value) in PUTS {
+        push_long(&mut script, begin, value)?;
+    }
     Ok(script)
 }
 
@@ -114,7 +125,7 @@ fn stopped(alloc: Global, calls: u64) -> Result<MemDisk, Fail> {
         status: _,
         out,
         disk,
-    } = run(alloc, &puts(alloc)?, disk)?;
+    } = run(alloc, &script(alloc)?, disk)?;
     let done = answered(alloc, calls)?;
     if !out.bytes().starts_with(&done) || count_of_ok(out.bytes()) != count_of_ok(&done) {
         return Err(Fail::new(format_args!("other puts are answered in {calls} calls")));
@@ -122,52 +133,18 @@ fn stopped(alloc: Global, calls: u64) -> Result<MemDisk, Fail> {
     Ok(disk.into_inner())
 }
 
-/// The two values as they are looked up.
-const LOOK: &[u8] = b"0 getx @0 k\n0 getx @0 j\n";
-
-/// The plain machine once so many of the puts are done.
-fn machine(alloc: Global, puts: usize) -> Result<Volumes, Fail> {
-    let mut volumes = Volumes::new(alloc, 4, MD_PAGES, None);
-    volumes.apply(
-        alloc,
-        &Command::Create {
-            name: Name::new(b"v"),
-            slots: 1,
-            thick: false,
-            uuid: None,
-        },
-    );
-    let script = parse(alloc, &self::puts(alloc)?)?;
-    for put in script.commands(0).iter().take(puts) {
-        volumes.apply(alloc, put);
-    }
-    Ok(volumes)
+/// What is printed of the two values of a point.
+fn told(alloc: Global, point: Point) -> Result<Vec<u8>, Fail> {
+    let mut lines = Vec::new(alloc);
+    push_told(alloc, &mut lines, 0, point.k)?;
+    push_told(alloc, &mut lines, 1, point.j)?;
+    Ok(lines)
 }
 
-/// What the plain machine tells of the two values once so many of the puts are done.
-fn told(alloc: Global, puts: usize) -> Result<Vec<u8>, Fail> {
-    let mut volumes = machine(alloc, puts)?;
-    let look = parse(alloc, LOOK)?;
-    let mut text = Vec::new(alloc);
-    for (index, command) in look.commands(0).iter().enumerate() {
-        let reply = volumes.apply(alloc, command);
-        if matches!(&reply, Reply::Content(_)) {
-            return Err(Fail::new("an attribute is no page"));
-        }
-        let entry = Entry {
-            channel: 0,
-            index: index as u32,
-            command: command.try_copy(alloc)?,
-            reply,
-        };
-        render_entry(&entry, &mut text)?;
-    }
-    Ok(text)
-}
-
-/// Expects that what is loaded has the values of the plain machine and the chain of a point.
+/// Expects that what is loaded has the values and the chain of a point.
 fn expect_point(alloc: Global, disk: MemDisk, point: Point) -> Result<(), Fail> {
-    let disk = play(alloc, LOOK, &told(alloc, point.puts)?, disk)?;
+    let look = b"0 getx @0 k\n0 getx @0 j\n";
+    let disk = play(alloc, look, &told(alloc, point)?, disk)?;
     expect_chains(alloc, disk, &[(0, point.chain)])
 }
 

@@ -5,19 +5,24 @@ use page_disk::{CallKind, Fail, FaultDisk, MemDisk, PageDisk};
 use std::alloc::Global;
 use std::test::Fail as TestFail;
 use streams::ListSink;
-use test_runs::{Ran, call, expect_printed, play, sink, source};
+use test_runs::{Call, Ran, expect_printed, perform, play};
 use test_stores::store;
 
-/// What comes of `format IMAGE` with these options, printed to a sink.
+/// What comes of `format IMAGE` with these options, where the writes with these numbers to the output fail.
 fn format<D: PageDisk + Drop + Send>(
     alloc: Global,
     options: &str,
-    out: ListSink,
+    failing_writes: &[u64],
     disk: D,
 ) -> Result<Ran<D>, TestFail> {
     let line = format!(in alloc; "format store.img {options}")?;
-    let script = source(alloc, b"no script", Vec::new(alloc))?;
-    call(alloc, line.as_str(), script, out, disk)
+    let call = Call {
+        line: line.as_str(),
+        script: b"no script",
+        failing_reads: &[],
+        failing_writes,
+    };
+    perform(alloc, &call, disk)
 }
 
 /// The exit status.
@@ -82,28 +87,28 @@ const CASES: [Case; 22] = [
     (64, "--cluster 16384 --md-pages 16 16", 1, b""),
 ];
 
-/// How it ends, and where it printed, on a device of so many pages.
-fn ended(alloc: Global, pages: u64, options: &str) -> Result<(Status, ListSink), TestFail> {
-    let out = sink(alloc, Vec::new(alloc))?;
-    let disk = MemDisk::new(alloc, pages, 512)?;
-    let ran = format(alloc, options, out, disk)?;
-    Ok((ran.status, ran.out))
+/// Expects the exit status of a case and what is printed.
+fn expect_case(alloc: Global, case: &Case) -> Result<(), TestFail> {
+    let (pages, options, answered, printed) = case;
+    let ran = format(alloc, options, &[], MemDisk::new(alloc, *pages, 512)?)?;
+    if number(&ran.status) != *answered {
+        return Err(TestFail::new(options));
+    }
+    expect_printed(&ran.out, printed)
 }
 
 #[test]
 fn options_decide_the_layout(rt: HostRuntime) -> Result<(), TestFail> {
-    for (pages, options, answered, printed) in CASES {
-        let (status, out) = ended(rt.alloc(), pages, options)?;
-        assert_eq!(rt; number(&status), answered);
-        expect_printed(&out, printed)?;
+    for case in &CASES {
+        expect_case(rt.alloc(), case)?;
     }
     Ok(())
 }
 
 /// The device of a new store that is written over one that has a blob.
 fn new_store(alloc: Global) -> Result<MemDisk, TestFail> {
-    let out = sink(alloc, Vec::new(alloc))?;
-    Ok(format(alloc, "--cluster 16384", out, store(alloc)?)?.disk)
+    let ran = format(alloc, "--cluster 16384", &[], store(alloc)?)?;
+    Ok(ran.disk)
 }
 
 #[test]
@@ -153,9 +158,8 @@ const FAILED_CALLS: [(CallKind, u64, u8); 8] = [
 
 /// How it ends, and where it printed, on the device of a store of which this call fails.
 fn ended_failing(alloc: Global, fail: Fail) -> Result<(Status, ListSink), TestFail> {
-    let out = sink(alloc, Vec::new(alloc))?;
     let failing = FaultDisk::new(store(alloc)?, vec![in alloc; fail]?);
-    let ran = format(alloc, "--cluster 16384", out, failing)?;
+    let ran = format(alloc, "--cluster 16384", &[], failing)?;
     Ok((ran.status, ran.out))
 }
 
@@ -169,36 +173,28 @@ fn a_failed_call_has_its_status(rt: HostRuntime) -> Result<(), TestFail> {
     Ok(())
 }
 
-/// A call of which the sink fails.
-fn unprinted(alloc: Global) -> Result<Ran<MemDisk>, TestFail> {
-    let closed = sink(alloc, vec![in alloc; 1]?)?;
-    format(alloc, "--cluster 16384", closed, store(alloc)?)
-}
-
 #[test]
 fn a_store_whose_line_is_not_printed_is_there(rt: HostRuntime) -> Result<(), TestFail> {
-    let ran = unprinted(rt.alloc())?;
+    let ran = format(rt.alloc(), "--cluster 16384", &[1], store(rt.alloc())?)?;
     assert_eq!(rt; number(&ran.status), 5);
     play(rt.alloc(), b"", b"", ran.disk)?;
     Ok(())
 }
 
-/// A call on a device that is a page too small.
-fn without_place(alloc: Global) -> Result<Ran<MemDisk>, TestFail> {
-    let out = sink(alloc, Vec::new(alloc))?;
-    let options = "--cluster 16384 --md-pages 16";
-    format(alloc, options, out, MemDisk::new(alloc, 19, 64)?)
+/// The fault that the image is said to have.
+fn fault_of(alloc: Global, status: &Status) -> Result<String, TestFail> {
+    match status {
+        Status::Image { fault } => Ok(format!(in alloc; "{fault}")?),
+        _ => Ok(format!(in alloc; "no fault of the image")?),
+    }
 }
 
 #[test]
 fn a_store_without_place_says_why(rt: HostRuntime) -> Result<(), TestFail> {
-    let ran = without_place(rt.alloc())?;
-    let fault = match &ran.status {
-        Status::Image { fault } => format!(in rt.alloc(); "{fault}")?,
-        _ => format!(in rt.alloc(); "no fault of the image")?,
-    };
+    let small = MemDisk::new(rt.alloc(), 19, 64)?;
+    let ran = format(rt.alloc(), "--cluster 16384 --md-pages 16", &[], small)?;
     assert_eq!(rt;
-        fault.as_str(),
+        fault_of(rt.alloc(), &ran.status)?.as_str(),
         "super block: the device has 19 pages, wanted at least 20"
     );
     assert_eq!(rt; ran.disk.clock(), 0);

@@ -68,14 +68,20 @@ const CASES: [Case; 11] = [
     ),
 ];
 
+/// Runs the script of a case, and expects what it prints and what a later run finds.
+fn expect_case(alloc: Global, case: &Case) -> Result<(), Fail> {
+    let (script, printed, found) = case;
+    let disk = play(alloc, b"0 put @0 k t:1\n", b"0 0 ok\n", store(alloc)?)?;
+    let disk = play(alloc, script, printed, disk)?;
+    play(alloc, b"0 getx @0 k\n", found, disk)?;
+    Ok(())
+}
+
 /// Only a put and a sync bring attributes to the disk: all that are set.
 #[test]
 fn each_verb_has_its_answer_and_its_trace(rt: HostRuntime) -> Result<(), Fail> {
-    let alloc = rt.alloc();
-    for (script, printed, found) in CASES {
-        let disk = play(alloc, b"0 put @0 k t:1\n", b"0 0 ok\n", store(alloc)?)?;
-        let disk = play(alloc, script, printed, disk)?;
-        play(alloc, b"0 getx @0 k\n", found, disk)?;
+    for case in &CASES {
+        expect_case(rt.alloc(), case)?;
     }
     Ok(())
 }
@@ -100,53 +106,57 @@ const OF_TWO: [Case; 3] = [
     ),
 ];
 
-/// What one blob has set stays in memory when the other is written.
-#[test]
-fn a_put_brings_only_its_own_blob_to_the_disk(rt: HostRuntime) -> Result<(), Fail> {
-    let alloc = rt.alloc();
+/// Runs the script of a case on two blobs, and expects what it prints and what a later run finds.
+fn expect_case_of_two(alloc: Global, case: &Case) -> Result<(), Fail> {
+    let (script, printed, found) = case;
     let begin = b"0 put @0 k t:1\n0 put @1 k t:1\n";
-    for (script, printed, found) in OF_TWO {
-        let disk = play(alloc, begin, b"0 0 ok\n0 1 ok\n", two_blobs(alloc)?)?;
-        let disk = play(alloc, script, printed, disk)?;
-        play(alloc, b"0 getx @0 k\n0 getx @1 k\n", found, disk)?;
-    }
+    let disk = play(alloc, begin, b"0 0 ok\n0 1 ok\n", two_blobs(alloc)?)?;
+    let disk = play(alloc, script, printed, disk)?;
+    play(alloc, b"0 getx @0 k\n0 getx @1 k\n", found, disk)?;
     Ok(())
 }
 
-/// The script of two puts of values that don't fit on one page together.
-fn large(alloc: Global) -> Result<Vec<u8>, Fail> {
-    let mut script = Vec::new(alloc);
-    push_long(&mut script, b"0 put @0 k1 t:", (b'x', 4000))?;
-    push_long(&mut script, b"0 put @0 k2 t:", (b'x', 4000))?;
-    Ok(script)
-}
-
-/// The script of a put whose key and value fit on no page.
-fn too_long(alloc: Global) -> Result<Vec<u8>, Fail> {
-    let mut script = Vec::new(alloc);
-    push_long(&mut script, b"0 put @0 k2 t:", (b'x', 4062))?;
-    Ok(script)
+/// What one blob has set stays in memory when the other is written.
+#[test]
+fn a_put_brings_only_its_own_blob_to_the_disk(rt: HostRuntime) -> Result<(), Fail> {
+    for case in &OF_TWO {
+        expect_case_of_two(rt.alloc(), case)?;
+    }
+    Ok(())
 }
 
 #[test]
 fn each_put_is_answered(rt: HostRuntime) -> Result<(), Fail> {
     let alloc = rt.alloc();
-    let (large, too_long) = (large(alloc)?, too_long(alloc)?);
-    let table: [(&[u8], &[u8]); 5] = [
-        (b"", b""),
-        (b"0 put @0 owner t:bob\n", b"0 0 ok\n"),
-        (
-            b"0 put @1 owner t:bob\n0 put @0 name t:x\n0 put @0 owner t:bob",
-            b"0 0 no volume\n0 1 reserved\n0 2 ok\n",
-        ),
-        (&large, b"0 0 ok\n0 1 ok\n"),
-        (&too_long, b"0 0 too long\n"),
-    ];
-    for (script, printed) in table {
-        play(alloc, script, printed, store(alloc)?)?;
-    }
+    play(alloc, b"", b"", store(alloc)?)?;
+    let script = b"0 put @1 owner t:bob\n0 put @0 name t:x\n0 put @0 owner t:bob";
+    let printed = b"0 0 no volume\n0 1 reserved\n0 2 ok\n";
+    play(alloc, script, printed, store(alloc)?)?;
     let disk = image(alloc, (64, 16), &[(0, 0, 0, LAST, &[READ_ONLY])])?;
     play(alloc, b"0 put @0 owner t:bob\n", b"0 0 read only\n", disk)?;
+    Ok(())
+}
+
+/// The script of two puts of so many letters each, whose keys have two bytes.
+fn long_puts(alloc: Global, length: usize) -> Result<Vec<u8>, Fail> {
+    let mut script = Vec::new(alloc);
+    push_long(&mut script, b"0 put @0 k1 t:", (b'x', length))?;
+    push_long(&mut script, b"0 put @0 k2 t:", (b'x', length))?;
+    Ok(script)
+}
+
+/// Two values that don't fit on one page together may be put; one that fits on no page with its key is too long.
+#[test]
+fn a_value_has_a_page_of_its_own_at_most(rt: HostRuntime) -> Result<(), Fail> {
+    let alloc = rt.alloc();
+    play(
+        alloc,
+        &long_puts(alloc, 4000)?,
+        b"0 0 ok\n0 1 ok\n",
+        store(alloc)?,
+    )?;
+    let too_long = b"0 0 too long\n0 1 too long\n";
+    play(alloc, &long_puts(alloc, 4062)?, too_long, store(alloc)?)?;
     Ok(())
 }
 

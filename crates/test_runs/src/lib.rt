@@ -5,4 +5,4 @@ mod lines;
 mod runs;
 
 pub use lines::{Letters, push_long, push_told};
-pub use runs::{Ran, call, expect_printed, play, run, sink, source};
+pub use runs::{Call, Ran, expect_printed, perform, play, run};

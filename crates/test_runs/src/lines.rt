@@ -17,14 +17,17 @@ pub fn push_long(script: &mut Vec<u8>, begin: &[u8], value: Letters) -> Result<(
     Ok(())
 }
 
-/// Appends the line of an entry with this number that tells a value.
+/// Appends the line of an entry with this number that tells a value, or that there is none.
 pub fn push_told(
     alloc: Global,
     lines: &mut Vec<u8>,
     index: usize,
-    value: Letters,
+    value: Option<Letters>,
 ) -> Result<(), Fail> {
-    let (letter, length) = value;
+    let Some((letter, length)) = value else {
+        lines.extend_from_slice(format!(in alloc; "0 {index} no value\n")?.as_bytes())?;
+        return Ok(());
+    };
     lines.extend_from_slice(format!(in alloc; "0 {index} value ")?.as_bytes())?;
     let digits = format!(in alloc; "{letter:02x}")?;
     for _ in 0..length {

@@ -6,7 +6,21 @@ use std::alloc::Global;
 use std::test::Fail;
 use streams::{ListSink, ListSource};
 
-/// What comes of a call of the program: how it ended, where it printed, and the device.
+/// What the program is called with: its words in a line, the script, and which reads of the script and which writes to
+/// the output fail, by their numbers from 1.
+#[derive(Clone, Copy, Debug)]
+pub struct Call<'a> {
+    /// The words, with spaces between them.
+    pub line: &'a str,
+    /// What the source gives.
+    pub script: &'a [u8],
+    /// The reads that fail.
+    pub failing_reads: &'a [u64],
+    /// The writes that fail.
+    pub failing_writes: &'a [u64],
+}
+
+/// What comes of a call: how it ended, where it printed, and the device.
 #[derive(Drop)]
 pub struct Ran<D> {
     /// How the call ended.
@@ -17,42 +31,52 @@ pub struct Ran<D> {
     pub disk: D,
 }
 
-/// A sink in memory of which the writes with these numbers fail.
-pub fn sink(alloc: Global, fails: Vec<u64>) -> Result<ListSink, Fail> {
-    Ok(ListSink::new(alloc, 1 << 15, fails)?)
-}
-
-/// A source of a script of which the reads with these numbers fail.
-pub fn source(alloc: Global, script: &[u8], fails: Vec<u64>) -> Result<ListSource, Fail> {
-    Ok(ListSource::new(Vec::from_slice(alloc, script)?, fails))
-}
-
-/// What comes of a call with the words of a line, over a source, a sink and a device.
-pub fn call<D: PageDisk + Drop + Send>(
-    alloc: Global,
-    line: &str,
-    source: ListSource,
-    out: ListSink,
-    disk: D,
-) -> Result<Ran<D>, Fail> {
+/// The words of a line.
+fn words_of(alloc: Global, line: &str) -> Result<Vec<String>, Fail> {
     let mut words = Vec::new(alloc);
     for word in line.split_whitespace() {
         words.push(format!(in alloc; "{word}")?)?;
     }
-    let (mut source, mut out) = (source, out);
+    Ok(words)
+}
+
+/// The source of a call.
+fn source_of(alloc: Global, call: &Call<'_>) -> Result<ListSource, Fail> {
+    let bytes = Vec::from_slice(alloc, call.script)?;
+    Ok(ListSource::new(bytes, Vec::from_slice(alloc, call.failing_reads)?))
+}
+
+/// The sink of a call, with room for some 32,000 bytes.
+fn sink_of(alloc: Global, call: &Call<'_>) -> Result<ListSink, Fail> {
+    let fails = Vec::from_slice(alloc, call.failing_writes)?;
+    Ok(ListSink::new(alloc, 1 << 15, fails)?)
+}
+
+/// What comes of a call over a device.
+pub fn perform<D: PageDisk + Drop + Send>(
+    alloc: Global,
+    call: &Call<'_>,
+    disk: D,
+) -> Result<Ran<D>, Fail> {
+    let words = words_of(alloc, call.line)?;
+    let (mut source, mut out) = (source_of(alloc, call)?, sink_of(alloc, call)?);
     let (status, disk) = blobtool(alloc, &words, &mut source, &mut out, disk);
     Ok(Ran { status, out, disk })
 }
 
-/// What comes of `run IMAGE` with a script, where neither the source nor the sink fails.
+/// What comes of `run IMAGE` with a script, where no read and no write fails.
 pub fn run<D: PageDisk + Drop + Send>(
     alloc: Global,
     script: &[u8],
     disk: D,
 ) -> Result<Ran<D>, Fail> {
-    let source = source(alloc, script, Vec::new(alloc))?;
-    let out = sink(alloc, Vec::new(alloc))?;
-    call(alloc, "run store.img", source, out, disk)
+    let call = Call {
+        line: "run store.img",
+        script,
+        failing_reads: &[],
+        failing_writes: &[],
+    };
+    perform(alloc, &call, disk)
 }
 
 /// The device after a run of a script that ends well and prints this; fails where it does not.
