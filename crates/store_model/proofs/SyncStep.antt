@@ -1,7 +1,7 @@
 -- What a verb that syncs asks for: metadata that can be written, and what each image shows with it.
 use Rattle.std.proofs.Common.{None, ◌≡◌, Some, refl, subst, sym, ap, ◌∙◌, inr, [], inl}
-use Rattle.std.proofs.Common.{ℕ}
-use Rattle.std.proofs.lemmas.Bool.{cases_eq}
+use Rattle.std.proofs.Common.{ℕ, false}
+use Rattle.std.proofs.lemmas.Bool.{cases_eq, false≢true}
 use Rattle.store_model.specs.StoreState.{StoreState, live_of, shown}
 use Rattle.store_model.specs.RunInvariant.{RunsWell}
 use Rattle.store_model.specs.Jobs.{AsksFor, IsStep, shown_of}
@@ -36,7 +36,7 @@ module _ (known : Known) where
   open known use {s, placed, first, script, p, facts}
 
   module _ (runs : p.stopped ≡ None) (command : Command) (head : ℕ) (new : Meta) (asks : AsksFor p command head new)
-      (r : Replacing) (head_is : r.head ≡ head) (new_is : r.new ≡ Some new) where
+      (r : Replacing) (head_is : r.head ≡ head) (new_is : r.new ≡ Some new) (there : r.makes ≡ false) where
     well : RunsWell first p
     well = facts.well runs
 
@@ -109,4 +109,5 @@ module _ (known : Known) where
           (asks_here image) new.xattrs refl) ∙ ap (λ h. with_entry p.live h new.xattrs) (sym head_is);
       writable = writable_new;
       renews = tt;
+      numbers = λ makes. absurd (false≢true (sym there ∙ makes));
     }

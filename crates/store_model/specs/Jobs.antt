@@ -37,6 +37,7 @@ use Rattle.store_model.specs.Inserting.{with_slot}
 use Rattle.store_model.specs.Places.{all_set, AreDistinct, AreLeastClear, IsMapped}
 use Rattle.store_model.specs.Phases.{Phase, Committing, with_live, Marks, Zeros, Writes, Replaces, Erases, Frees}
 use Rattle.store_model.specs.Phases.{Replacing, page_in, held_in, taken_by, taken_in, has_commit, replaced, rechained}
+use Rattle.store_model.specs.Phases.{chain_before}
 use Rattle.store_model.specs.StoreState.{ForCommand, JobState, StoreState, live_of, shown}
 
 -- ---- what a command asks for
@@ -120,7 +121,9 @@ pub record IsLaid (s : Super) (base : Metas) (chains : Chains) (pages : List Boo
     (r : Replacing) : Type 0 where
   pub head : r.head ≡ x.head
   pub new : r.new ≡ x.new
-  pub chain : chains r.head ≡ (if r.makes then None else Some (r.head ∷ r.old))
+  pub chain : chains r.head ≡ chain_before r
+  -- where the blob is new nothing is erased
+  pub unerased : r.makes ≡ true → r.old ≡ []
   pub planned : IsJobPlanned s pages x.new r
   pub clusters : MovesClusters s base (replaced base r) r.freed claimed
 
@@ -161,7 +164,8 @@ pub record CanReplace (s : Super) (base : Metas) (chains : Chains) (claimed writ
   pub says : (m : Meta) → r.new ≡ Some m → MetaAt (page_in r.planned) (region_of s) r.head m (r.head ∷ r.fresh)
   pub root : (m : Meta) → r.new ≡ Some m → IsRoot s r.head m
   pub gone : r.new ≡ None → r.fresh ≡ []
-  pub chain : chains r.head ≡ (if r.makes then None else Some (r.head ∷ r.old))
+  pub chain : chains r.head ≡ chain_before r
+  pub unerased : r.makes ≡ true → r.old ≡ []
   pub lawful : IsLawful s.md_len (replaced base r)
   pub clusters : MovesClusters s base (replaced base r) r.freed claimed
 
@@ -193,7 +197,7 @@ Keeps s base live (Replaces r commit ∷ rest) =
 Keeps s base live (_ ∷ rest) = Keeps s base live rest
 
 -- On whatever device, the command may be done with this reply, and may fail; then the metadata shows its step, and has
--- the blobs whose generations are renewed.
+-- the blobs whose generations are renewed, a new one among them.
 pub record IsStep (s : Super) (base : Metas) (replacing : Replacing) (live : Map Xattrs) (command : Command)
     (commit : Committing) : Type 0 where
   pub done : IsChangeDone commit.reply
@@ -209,6 +213,7 @@ pub record IsStep (s : Super) (base : Metas) (replacing : Replacing) (live : Map
   pub writable : (image : Image) (head : ℕ) (v : Volume)
       → change (fixed_of s) (shown_of s base live image) command commit.reply head ≡ Some v → CanBeWritten v.live
   pub renews : AllByRecursion (λ head. IsSome (replaced base replacing head)) commit.renews
+  pub numbers : replacing.makes ≡ true → is_among replacing.head commit.renews ≡ true
 
 -- The volumes are shown as they are up to the commit, and from it on as the command's step makes them.
 abbrev pub Does : Super → Metas → Map Xattrs → Command → List Phase → Type 0

@@ -89,6 +89,10 @@ planned_in (_ ∷ rest) place = planned_in rest place
 abbrev pub taken_by : Replacing → List ℕ
 taken_by r = if r.makes then r.head ∷ r.fresh else r.fresh
 
+-- the chain that stands at the head before a replacement: none where the blob is new
+abbrev pub chain_before : Replacing → Option (List ℕ)
+chain_before r = if r.makes then None else Some (r.head ∷ r.old)
+
 -- the places that all replacements to come take
 abbrev pub taken_in : List Phase → List ℕ
 taken_in [] = []

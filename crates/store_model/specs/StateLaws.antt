@@ -83,11 +83,11 @@ pub record JobLaws : Type 0 where
   pub zeros : (place : ℕ) → is_head place zero_page ≡ false
   pub fresh : (planned : Look) (r : MdRegion) (head : ℕ) (new : Meta) (fresh : List ℕ) (place : ℕ)
       → MetaAt planned r head new (head ∷ fresh) → is_among place fresh ≡ true → is_head place (planned place) ≡ false
-  -- Where the fresh pages are read as planned, and the head's page is the planned one, the metadata and the chain are
-  -- the new ones.
+  -- Where the fresh pages are read as planned, and the head's page, which no other blob's chain has, is the planned
+  -- one, the metadata and the chain are the new ones, whether the blob was there or not.
   pub replaced : (look other planned : Look) (r : MdRegion) (metas : Metas) (chains : Chains) (head : ℕ)
-      (new : Meta) (fresh old : List ℕ) → Scanned look r metas chains → MetaAt planned r head new (head ∷ fresh)
-      → chains head ≡ Some (head ∷ old)
+      (new : Meta) (fresh : List ℕ) → Scanned look r metas chains → MetaAt planned r head new (head ∷ fresh)
+      → ((k : ℕ) (pages : List ℕ) → k ≢ head → chains k ≡ Some pages → is_among head pages ≡ false)
       → ((place : ℕ) → is_among place fresh ≡ true → look place ≡ planned place)
       → other head ≡ planned head → ((place : ℕ) → place ≢ head → other place ≡ look place)
       → Scanned other r (with_entry metas head new) (with_entry chains head (head ∷ fresh))
