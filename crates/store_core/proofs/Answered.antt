@@ -1,4 +1,5 @@
 -- What an answer in memory is in the volumes that are shown.
+use Rattle.blob_meta.specs.Resolving.{resolved}
 use Rattle.std.proofs.Common.{◌≡◌, ℕ, Option, Some, None, refl, sym, ap, subst, ◌∙◌, inl, inr}
 use Rattle.std.specs.Prelude.{IfSome}
 use Rattle.std.specs.Option.{option_map, option_and_then}
@@ -37,16 +38,16 @@ use Rattle.store_core.specs.Answering.{ComesTo, DoesVerb}
 module _ (first : Volumes) (p : StoreState) (well : RunsWell first p) where
   abbrev by_live : ℕ → Xattrs → Option Meta → Option Volume
   by_live h xs o =
-      option_map (λ m. volume_of (fixed_of p.super).cluster_pages p.device.reads p.base p.super.md_len xs h m) o
+      option_map (λ m. volume_of (fixed_of p.super).cluster_pages p.device.reads (resolved p.base) p.super.md_len xs h m) o
 
-  live_at : (h : ℕ) (o : Option Meta) → p.base h ≡ o
+  live_at : (h : ℕ) (o : Option Meta) → resolved p.base h ≡ o
       → option_map (λ (x : Volume). x.live) (by_live h (or_empty (p.live h)) o) ≡ p.live h
   live_at h None is = sym (well.no_live h is)
   live_at h (Some m) is = let l = well.live h m is in ap (λ xs. Some (or_empty xs)) l.1 ∙ sym l.1
 
   -- the live attributes are those of the volumes
   pub live_same : live_of (shown p) ≡ p.live
-  live_same = fun_ext (λ h. live_at h (p.base h) refl)
+  live_same = fun_ext (λ h. live_at h (resolved p.base h) refl)
 
   read_only_at : (h : ℕ) (o : Option Meta) → option_map (λ (x : Volume). x.read_only)
       (by_live h (or_empty (p.live h)) o) ≡ option_map (λ (m : Meta). is_read_only m.flags) o
@@ -54,13 +55,13 @@ module _ (first : Volumes) (p : StoreState) (well : RunsWell first p) where
   read_only_at h (Some m) = refl
 
   -- they show the blob that a command names
-  pub shows_blob : (metas : map.FinMap nat_cmp Meta) (command : Command) (head : ℕ) → p.base ≡ map.get metas
+  pub shows_blob : (metas : map.FinMap nat_cmp Meta) (command : Command) (head : ℕ) → resolved p.base ≡ map.get metas
       → asked_head command ≡ Some head → ShowsBlob metas (p.live head) command (shown p)
   shows_blob metas command head base named = record {
     live_is = ap (λ o. option_map (λ (x : Volume). x.live) (option_and_then (shown p) o)) named
-        ∙ live_at head (p.base head) refl;
+        ∙ live_at head (resolved p.base head) refl;
     read_only_is = ap (λ o. option_map (λ (x : Volume). x.read_only) (option_and_then (shown p) o)) named
-        ∙ read_only_at head (p.base head)
+        ∙ read_only_at head (resolved p.base head)
         ∙ ap (λ (m : Map Meta). option_map (λ (x : Meta). is_read_only x.flags) (m head)) base
         ∙ ap (λ o. option_map (λ (m : Meta). is_read_only m.flags) (option_and_then (λ h. map.get metas h) o))
         (sym named);
@@ -182,7 +183,7 @@ module _ (f : Fixed) (v : Volumes) where
 -- ---- an effect in the volumes that are shown
 
 pub answered_by : (first : Volumes) (p : StoreState) (metas : map.FinMap nat_cmp Meta) (command : Command) (head : ℕ)
-    (e : Effect) → RunsWell first p → p.base ≡ map.get metas → asked_head command ≡ Some head → IsInMemory command
+    (e : Effect) → RunsWell first p → resolved p.base ≡ map.get metas → asked_head command ≡ Some head → IsInMemory command
     → ComesTo metas (p.live head) command p.super e
     → Answered (fixed_of p.super) (shown p) p.live command e.reply e.live
 answered_by first p metas command head e well base named in_memory (inl x) =

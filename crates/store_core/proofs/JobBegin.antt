@@ -33,7 +33,7 @@ use Rattle.store_model.specs.StoreState.{StoreState, logged}
 use Rattle.store_model.specs.Places.{all_set, held_by, AreDistinct, AreLeastClear, IsLinked, UsedPages}
 use Rattle.store_model.specs.Jobs.{places_of, AsksFor, IsPacked, IsSyncing, Needs, MovesClusters}
 use Rattle.store_model.specs.Cases.{Begins, IsPosted, IsRefusedAtBegin, Refuses}
-use Rattle.store_model.specs.RunInvariant.{CanBeWritten, IsRoot, RunsWell}
+use Rattle.store_model.specs.RunInvariant.{CanBeWritten, IsLoadable, RunsWell}
 use Rattle.store_model.proofs.StateBegins.{writable_root}
 use Rattle.store_model.proofs.Sets.{all_set_in, all_set_out, among_either, among_first, are_distinct, not_first}
 use Rattle.store_model.proofs.Sets.{length_all_set, were_clear, AllBelow}
@@ -120,8 +120,8 @@ module _ (p : StoreState) (running : IsRunning p) (runs : p.stopped ≡ None) (c
   well : RunsWell running.first p
   well = running.facts.well runs
 
-  pub root : IsRoot p.super head new
-  root = subst (λ s. IsRoot s head new) (sym running.facts.super)
+  pub loadable : IsLoadable p.super head new
+  loadable = subst (λ s. IsLoadable s head new) (sym running.facts.super)
       (writable_root running.store running.first running.script p command head new running.facts runs asks)
 
   pub has_chain : (behind : List ℕ) × (p.chains head ≡ Some (head ∷ behind))
@@ -157,7 +157,7 @@ module _ (p : StoreState) (running : IsRunning p) (runs : p.stopped ≡ None) (c
 
       below : (x : ℕ) → is_among x (head ∷ fresh) ≡ true → x < p.super.md_len
       below x among = elim (among_either x head fresh among) [
-        | inl first ↦ subst (λ y. y < p.super.md_len) (sym first) root.low
+        | inl first ↦ subst (λ y. y < p.super.md_len) (sym first) loadable.stored.low
         | inr later ↦ subst (λ n. x < n) used.count (were_clear p.pages fresh least x later).below
       ]
 
@@ -178,7 +178,7 @@ module _ (p : StoreState) (running : IsRunning p) (runs : p.stopped ≡ None) (c
 
       says_new : new ≡ meta_of head (written_items is.items)
       says_new = sym (written_say head is.items is.plannable
-          ∙ says head new is.items root.id root.clear root.xattrs.names root.internal.names is.are)
+          ∙ says head new is.items loadable.stored.id loadable.stored.clear loadable.stored.xattrs.names loadable.stored.internal.names is.are)
 
       ready_at : IsReady p head new after x.laid.pages t.fresh
       ready_at = record {
@@ -191,7 +191,7 @@ module _ (p : StoreState) (running : IsRunning p) (runs : p.stopped ≡ None) (c
           chain = t.laid_on.reads (page_in x.laid.pages) p.super.md_len small
               (once_each (head ∷ t.fresh) (all_differ t.fresh t.least)) (all_low t.fresh t.least) planned_pages;
           meta_is = says_new;
-          faultless = root.faultless;
+          faultless = loadable.stored.faultless;
         };
         places = planned_places;
       }

@@ -9,6 +9,7 @@ use Rattle.volume_model.specs.Steps.{change}
 use Rattle.volume_model.specs.declared.command.Command.{Command}
 use Rattle.volume_model.specs.declared.reply.Reply.TheVariants as r
 use Rattle.blob_meta.specs.declared.meta.Meta.{Meta}
+use Rattle.blob_meta.specs.Resolving.{resolved}
 use Rattle.store_model.specs.Maps.{with_entry}
 use Rattle.store_model.specs.Shown.{fixed_of}
 use Rattle.store_model.specs.StoreState.{StoreState, shown}
@@ -19,7 +20,7 @@ use Rattle.store_model.proofs.Shows.{or_empty}
 use Rattle.store_model.proofs.Synced.{syncs_to, SyncsTo}
 use Rattle.store_model.proofs.Moved.{HaveLive}
 
-module _ (p : StoreState) (have_live : HaveLive p) (no_live : (head : ℕ) → p.base head ≡ None → p.live head ≡ None)
+module _ (p : StoreState) (have_live : HaveLive p) (no_live : (head : ℕ) → resolved p.base head ≡ None → p.live head ≡ None)
     (command : Command) (head : ℕ) (new : Meta) (asks : AsksFor p command head new) where
   abbrev w : Volumes
   w = change (fixed_of p.super) (shown p) command r.Ok
@@ -33,7 +34,7 @@ module _ (p : StoreState) (have_live : HaveLive p) (no_live : (head : ℕ) → p
       let n : new.xattrs ≡ asks.after.synced = ap (λ (m : Meta). m.xattrs) asks.new_is in
       ap (λ o. option_map (λ (x : Volume). x.live) o) asks.step ∙ ap (λ (xs : Xattrs). Some xs) (l ∙ sym n)
 
-  synced_there : (k : ℕ) → k ≢ head → (o : Option Meta) → p.base k ≡ o → live_of w k ≡ p.live k
+  synced_there : (k : ℕ) → k ≢ head → (o : Option Meta) → resolved p.base k ≡ o → live_of w k ≡ p.live k
   synced_there k ne None is =
       let gone : shown p k ≡ None = rw is refl in
       ap (λ o. option_map (λ (x : Volume). x.live) o) (to.others k ne ∙ gone) ∙ sym (no_live k is)
@@ -47,5 +48,5 @@ module _ (p : StoreState) (have_live : HaveLive p) (no_live : (head : ℕ) → p
   live_synced xs same = fun_ext (λ k. elim (cases_eq k head) [
     | inl e ↦ given_here p.live head xs k e ∙ ap (λ (l : Xattrs). Some l) same ∙ sym synced_here
         ∙ sym (ap (live_of w) e)
-    | inr ne ↦ given_elsewhere p.live head xs k ne ∙ sym (synced_there k ne (p.base k) refl)
+    | inr ne ↦ given_elsewhere p.live head xs k ne ∙ sym (synced_there k ne (resolved p.base k) refl)
   ])

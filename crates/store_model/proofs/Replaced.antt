@@ -1,4 +1,4 @@
--- The metadata with one blob's attributes replaced: it is that of roots still, lawful, and has the same clusters.
+-- The metadata with one blob's attributes replaced: a load takes it still, it is lawful, and has the same clusters.
 use Rattle.std.proofs.Common.{◌≡◌, ℕ, ◌≤◌, ◌^◌, length, Option, Some, None, refl, sym, ◌∙◌, ap, subst, inl, inr}
 use Rattle.std.specs.List.{range_with_len, sum_by}
 use Rattle.std.specs.Prelude.{codes}
@@ -19,7 +19,7 @@ use Rattle.blob_meta.specs.Resolving.{IsLawful, slots_together}
 use Rattle.store_model.specs.Maps.{Metas, with_entry}
 use Rattle.store_model.specs.Places.{IsMapped}
 use Rattle.store_model.specs.Jobs.{IsSyncing}
-use Rattle.store_model.specs.RunInvariant.{CanBeWritten, IsRoot, AreRoots}
+use Rattle.store_model.specs.RunInvariant.{CanBeWritten, IsLoadable, AreLoadable}
 use Rattle.store_model.proofs.WithEntry.{given_here, given_elsewhere}
 use Rattle.store_model.proofs.Synced.{edited_here}
 use Rattle.store_model.proofs.Writable.{AllWritable, written_with, put_within}
@@ -47,32 +47,36 @@ synced_written f v (c.Sync volume) head after writable is asked found step =
     subst (λ (x : Volume). CanBeWritten x.synced) (sym from.2) made
 synced_written f v _ head after writable is asked found step = absurd is
 
-pub new_root : (s : Super) (head : ℕ) (old new : Meta) (xattrs : Xattrs) → IsRoot s head old
-    → new ≡ record old { xattrs = xattrs } → CanBeWritten xattrs → IsRoot s head new
-new_root s head old new xattrs root is can =
-    let made : IsRoot s head (record old { xattrs = xattrs }) =
+pub new_loadable : (s : Super) (head : ℕ) (old new : Meta) (xattrs : Xattrs) → IsLoadable s head old
+    → new ≡ record old { xattrs = xattrs } → CanBeWritten xattrs → IsLoadable s head new
+new_loadable s head old new xattrs old_one is can =
+    let made : IsLoadable s head (record old { xattrs = xattrs }) =
     record {
-      low = root.low;
-      id = root.id;
-      clear = root.clear;
-      xattrs = can;
-      internal = root.internal;
-      no_parent = root.no_parent;
-      not_made = root.not_made;
-      not_removed = root.not_removed;
-      faultless = root.faultless;
+      stored = record {
+        low = old_one.stored.low;
+        id = old_one.stored.id;
+        clear = old_one.stored.clear;
+        xattrs = can;
+        internal = old_one.stored.internal;
+        faultless = old_one.stored.faultless;
+      };
+      alone = record {
+        no_parent = old_one.alone.no_parent;
+        not_made = old_one.alone.not_made;
+        not_removed = old_one.alone.not_removed;
+      };
     } in
-    subst (IsRoot s head) (sym is) made
+    subst (IsLoadable s head) (sym is) made
 
 -- ---- the whole map
 
-pub roots_given : (s : Super) (metas : Metas) (head : ℕ) (new : Meta) → AreRoots s metas → IsRoot s head new
-    → AreRoots s (with_entry metas head new)
-roots_given s metas head new roots root h m is = elim (cases_eq h head) [
+pub loadable_given : (s : Super) (metas : Metas) (head : ℕ) (new : Meta) → AreLoadable s metas → IsLoadable s head new
+    → AreLoadable s (with_entry metas head new)
+loadable_given s metas head new all one_new h m is = elim (cases_eq h head) [
   | inl e ↦
       let one : new ≡ m = let both = sym (given_here metas head new h e) ∙ is in cc both in
-      subst (λ (k : ℕ). IsRoot s k m) (sym e) (subst (IsRoot s head) one root)
-  | inr ne ↦ roots h m (sym (given_elsewhere metas head new h ne) ∙ is)
+      subst (λ (k : ℕ). IsLoadable s k m) (sym e) (subst (IsLoadable s head) one one_new)
+  | inr ne ↦ all h m (sym (given_elsewhere metas head new h ne) ∙ is)
 ]
 
 module _ (metas : Metas) (head : ℕ) (old new : Meta) (xattrs : Xattrs) (there : metas head ≡ Some old)

@@ -1,5 +1,5 @@
 -- What a verb that syncs asks for: metadata that can be written, and what each image shows with it.
-use Rattle.std.proofs.Common.{None, ◌≡◌, Some, refl, subst, sym, ap, ◌∙◌, inr, [], inl}
+use Rattle.std.proofs.Common.{◌^◌, ◌≤◌, None, ◌≡◌, Some, refl, subst, sym, ap, ◌∙◌, inr, [], inl}
 use Rattle.std.proofs.Common.{ℕ, false}
 use Rattle.std.proofs.lemmas.Bool.{cases_eq, false≢true}
 use Rattle.store_model.specs.StoreState.{StoreState, live_of, shown}
@@ -10,9 +10,9 @@ use Rattle.store_model.proofs.Moved.{all_writable, live_writable}
 use Rattle.store_model.specs.Phases.{Replacing, replaced}
 use Rattle.store_model.specs.Phases.{Committing}
 use Rattle.volume_model.specs.declared.reply.Reply.TheVariants as r_
-use Rattle.store_model.specs.Roots.{AreRoots, IsRoot, CanBeWritten}
+use Rattle.store_model.specs.Loadable.{AreLoadable, IsLoadable, CanBeWritten}
 use Rattle.page_disk.specs.Disk.{Image}
-use Rattle.blob_meta.specs.Resolving.{IsLawful}
+use Rattle.blob_meta.specs.Resolving.{IsLawful, resolved, slots_together}
 use Rattle.blob_meta.specs.declared.meta.Meta.{Meta}
 use Rattle.super_block.specs.declared.page.Super.{Super}
 use Rattle.store_model.proofs.Writable.{AllWritable}
@@ -20,10 +20,11 @@ use Rattle.store_model.proofs.StateKept.{May, asks_may}
 use Rattle.store_model.specs.Maps.{Metas, with_entry}
 use Rattle.volume_model.specs.Volumes.{Volumes, Volume}
 use Rattle.store_model.proofs.Meanwhile.{asks_reading, reading}
-use Rattle.store_model.proofs.Replaced.{new_root, lawful_given, roots_given, synced_written}
+use Rattle.store_model.proofs.Replaced.{new_loadable, lawful_given, loadable_given, synced_written}
 use Rattle.volume_model.specs.Steps.{change}
 use Rattle.store_model.specs.Shown.{fixed_of}
 use Rattle.store_model.proofs.Heads.{replaced_is}
+use Rattle.store_model.proofs.Shows.{alone_resolved}
 use Rattle.store_model.proofs.Synced.{syncs_to, shown_synced}
 use Rattle.store_model.proofs.LiveSynced.{live_synced}
 use Rattle.volume_model.specs.declared.command.Command.{Command}
@@ -43,23 +44,35 @@ module _ (known : Known) where
     abbrev commit : Committing
     commit = sync_commit new
 
-    pub root_new : IsRoot s r.head new
-    root_new =
-        subst (λ h. IsRoot s h new) (sym head_is)
-        (new_root s head asks.old new asks.after.synced (facts.roots head asks.old asks.there) asks.new_is
+    pub loadable_new : IsLoadable s r.head new
+    loadable_new =
+        subst (λ h. IsLoadable s h new) (sym head_is)
+        (new_loadable s head asks.old new asks.after.synced (facts.loadable head asks.old asks.there) asks.new_is
         (synced_written (fixed_of p.super) (shown p) command head asks.after
         (all_writable first p well) asks.syncing asks.asked asks.found asks.step))
 
-    roots_new : AreRoots s (with_entry p.base head new)
-    roots_new = roots_given s p.base head new facts.roots (subst (λ h. IsRoot s h new) head_is root_new)
+    all_loadable : AreLoadable s (with_entry p.base head new)
+    all_loadable = loadable_given s p.base head new facts.loadable (subst (λ h. IsLoadable s h new) head_is loadable_new)
 
     pub base_is : replaced p.base r ≡ with_entry p.base head new
     base_is = replaced_is p.base r new new_is ∙ ap (λ h. with_entry p.base h new) head_is
 
-    pub lawful_new : IsLawful p.super.md_len (replaced p.base r)
-    lawful_new = subst (IsLawful p.super.md_len) (sym base_is)
-        (subst (λ (y : Super). IsLawful y.md_len (with_entry p.base head new)) (sym facts.super)
-        (lawful_given p.base head asks.old new asks.after.synced asks.there asks.new_is s.md_len facts.lawful))
+    lawful_there : IsLawful s.md_len (with_entry p.base head new)
+    lawful_there = lawful_given p.base head asks.old new asks.after.synced asks.there asks.new_is s.md_len
+        (subst (IsLawful s.md_len) (alone_resolved s p.base facts.loadable) facts.lawful)
+
+    pub few_new : slots_together p.super.md_len (replaced p.base r) ≤ 2 ^ 24
+    few_new =
+        subst (λ (m : Metas). slots_together p.super.md_len m ≤ 2 ^ 24) (sym base_is)
+        (subst (λ (x : Super). slots_together x.md_len (with_entry p.base head new) ≤ 2 ^ 24) (sym facts.super)
+        lawful_there.few)
+
+    pub lawful_new : IsLawful p.super.md_len (resolved (replaced p.base r))
+    lawful_new =
+        subst (λ (m : Metas). IsLawful p.super.md_len (resolved m)) (sym base_is)
+        (subst (λ (m : Metas). IsLawful p.super.md_len m)
+        (sym (alone_resolved s (with_entry p.base head new) all_loadable))
+        (subst (λ (x : Super). IsLawful x.md_len (with_entry p.base head new)) (sym facts.super) lawful_there))
 
     -- ---- what every image shows
 
@@ -79,9 +92,8 @@ module _ (known : Known) where
       shows_new : shown_of p.super (replaced p.base r) (live_of w) image ≡ w
       shows_new =
           ap (λ (m : Metas). shown_of p.super m (live_of w) image) base_is
-          ∙ shown_synced s here facts.super facts.roots command head new asks_here roots_new
-          (record here { base = with_entry p.base head new; live = live_of w }) facts.super refl refl
-          placed.some_pages (λ page behind. refl)
+          ∙ subst (λ (x : Super). shown_of x (with_entry p.base head new) (live_of w) image ≡ w) (sym facts.super)
+          (shown_synced s here facts.super facts.loadable command head new asks_here all_loadable)
 
       writable_new : AllWritable w
       writable_new h v is = elim (cases_eq h head) [

@@ -1,5 +1,5 @@
 -- What a command asks a job to do, and what is known of a job while it runs.
-use Rattle.std.specs.Prelude.{◌≡◌, ◌⊎◌, ℕ, ◌+◌, ◌*◌, ◌<◌, ◌≤◌, if◌then◌else◌, Bool, true, false, List, [], ◌∷◌, ◌++◌}
+use Rattle.std.specs.Prelude.{◌≡◌, ◌⊎◌, ℕ, ◌+◌, ◌*◌, ◌^◌, ◌<◌, ◌≤◌, if◌then◌else◌, Bool, true, false, List, [], ◌∷◌, ◌++◌}
 use Rattle.std.specs.Prelude.{length, map, Option, Some, None, IsSome}
 use Rattle.std.specs.List.{AllByRecursion, flat_map, range_with_len}
 use Rattle.std.specs.Option.{option_map}
@@ -20,7 +20,7 @@ use Rattle.blob_meta.specs.declared.job.Job.{Job as Changes}
 use Rattle.blob_meta.specs.declared.job.Replacement.{Replacement}
 use Rattle.blob_meta.specs.Items.{IsItemsOf}
 use Rattle.blob_meta.specs.Jobs.{job_of_one}
-use Rattle.blob_meta.specs.Resolving.{IsLawful}
+use Rattle.blob_meta.specs.Resolving.{IsLawful, resolved, slots_together}
 use Rattle.md_chain.specs.Chain.{is_among}
 use Rattle.md_chain.specs.Packing.{parts_of}
 use Rattle.md_chain.specs.Planned.{chain_pages}
@@ -28,11 +28,10 @@ use Rattle.md_chain.specs.declared.plan.PlannedPage.{PlannedPage}
 use Rattle.store_model.specs.Maps.{Map, Metas, Chains}
 use Rattle.store_model.specs.Regions.{region_of}
 use Rattle.store_model.specs.Scans.{MetaAt}
-use Rattle.store_model.specs.Shown.{fixed_of}
-use Rattle.store_model.specs.Agreeing.{shown_by}
+use Rattle.store_model.specs.Shown.{fixed_of, shown_by}
 use Rattle.store_model.specs.Recovers.{IsChangeDone}
 use Rattle.store_model.specs.Rows.{InJob}
-use Rattle.store_model.specs.Roots.{CanBeWritten, IsRoot}
+use Rattle.store_model.specs.Loadable.{CanBeWritten, IsLoadable}
 use Rattle.store_model.specs.Inserting.{with_slot}
 use Rattle.store_model.specs.Places.{all_set, AreDistinct, AreLeastClear, IsMapped}
 use Rattle.store_model.specs.Phases.{Phase, Committing, with_live, Marks, Zeros, Writes, Replaces, Erases, Frees}
@@ -155,18 +154,19 @@ zeroing s clusters =
 
 -- ---- what is left of a job
 
--- A replacement can be made once its fresh pages are written: it is planned on places that differ, and leaves lawful
--- metadata.
+-- A replacement can be made once its fresh pages are written: it is planned on places that differ, and leaves metadata
+-- that resolves to lawful one.
 pub record CanReplace (s : Super) (base : Metas) (chains : Chains) (claimed written : List ℕ)
     (r : Replacing) : Type 0 where
   pub all : written ≡ r.fresh
   pub places : places_of r.planned ≡ r.head ∷ r.fresh
   pub says : (m : Meta) → r.new ≡ Some m → MetaAt (page_in r.planned) (region_of s) r.head m (r.head ∷ r.fresh)
-  pub root : (m : Meta) → r.new ≡ Some m → IsRoot s r.head m
+  pub loadable : (m : Meta) → r.new ≡ Some m → IsLoadable s r.head m
   pub gone : r.new ≡ None → r.fresh ≡ []
   pub chain : chains r.head ≡ chain_before r
   pub unerased : r.makes ≡ true → r.old ≡ []
-  pub lawful : IsLawful s.md_len (replaced base r)
+  pub few : slots_together s.md_len (replaced base r) ≤ 2 ^ 24
+  pub lawful : IsLawful s.md_len (resolved (replaced base r))
   pub clusters : MovesClusters s base (replaced base r) r.freed claimed
 
 -- What is left can be done, phase by phase, over this metadata and these chains, where these fresh pages are written. A
@@ -184,9 +184,9 @@ Lays s base chains claimed written (Erases place ∷ rest) =
 Lays s base chains claimed written (Frees place old ∷ rest) =
     (written ≡ []) × (is_among place old ≡ true) × (held_in rest ≡ taken_in rest) × Lays s base chains claimed [] rest
 
--- the volumes that this metadata shows with these live attributes, by what a device holds
+-- the volumes that this metadata shows once it is resolved, with these live attributes, by what a device holds
 abbrev pub shown_of : Super → Metas → Map Xattrs → Image → Volumes
-shown_of s base live image = shown_by (fixed_of s) image base live
+shown_of s base live image = shown_by (fixed_of s) image (resolved base) live
 
 -- The volumes are shown as they are while these phases are made, whatever a device holds.
 abbrev pub Keeps : Super → Metas → Map Xattrs → List Phase → Type 0

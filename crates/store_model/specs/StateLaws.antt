@@ -1,5 +1,5 @@
 -- The laws of the turns of a running store, and of what an image recovers of it.
-use Rattle.std.specs.Prelude.{◌≡◌, ◌≢◌, ℕ, true, false, ◌*◌, ◌≤◌, ◌++◌, ◌∷◌, [], Bool, List, All, slice_get, Some, None}
+use Rattle.std.specs.Prelude.{◌≡◌, ◌≢◌, ℕ, true, false, ◌*◌, ◌^◌, ◌≤◌, ◌++◌, ◌∷◌, [], Bool, List, All, slice_get, Some, None}
 use Rattle.page_disk.specs.Disk.{Image, Rose}
 use Rattle.super_block.specs.declared.page.Super.{Super}
 use Rattle.super_block.specs.Numbers.{cluster_pages_of, fixed_clusters_of}
@@ -11,7 +11,7 @@ use Rattle.volume_model.specs.declared.command.Command.{Command}
 use Rattle.volume_model.specs.declared.reply.Reply.TheVariants as r
 use Rattle.volume_model.specs.declared.reply.Entry.{Entry}
 use Rattle.blob_meta.specs.declared.meta.Meta.{Meta}
-use Rattle.blob_meta.specs.Resolving.{IsLawful}
+use Rattle.blob_meta.specs.Resolving.{IsLawful, resolved, slots_together}
 use Rattle.store_model.specs.Maps.{with_entry, Metas, Chains}
 use Rattle.store_model.specs.Regions.{region_of, MdRegion}
 use Rattle.store_model.specs.Scans.{is_head, MetaAt, Says, Scanned}
@@ -21,20 +21,21 @@ use Rattle.store_model.specs.Guarding.{AreGenerations}
 use Rattle.store_model.specs.Places.{Unclaimed, UsedClusters, UsedPages}
 use Rattle.store_model.specs.Jobs.{AsksFor}
 use Rattle.store_model.specs.Cases.{Kind, Run, Turn}
-use Rattle.store_model.specs.RunInvariant.{AreRoots, RunInvariant, HaveChains, IsRoot}
+use Rattle.store_model.specs.RunInvariant.{AreLoadable, RunInvariant, HaveChains, IsLoadable}
 use Rattle.store_model.specs.Recovers.{HasStore, Recovers}
 
 -- what a store is loaded with: nothing of a job, each attribute live as it is synced, and each blob with a generation
 -- of its own
 pub record IsLoadedWith (s : Super) (p : StoreState) : Type 0 where
   pub super : p.super ≡ s
-  pub roots : AreRoots s p.base
-  pub lawful : IsLawful s.md_len p.base
+  pub loadable : AreLoadable s p.base
+  pub few : slots_together s.md_len p.base ≤ 2 ^ 24
+  pub lawful : IsLawful s.md_len (resolved p.base)
   pub chains : HaveChains s p.base p.chains
   pub pages : UsedPages s.md_len p.pages p.chains []
   pub clusters : UsedClusters s p.clusters p.base Unclaimed
-  pub live : (head : ℕ) (m : Meta) → p.base head ≡ Some m → p.live head ≡ Some m.xattrs
-  pub no_live : (head : ℕ) → p.base head ≡ None → p.live head ≡ None
+  pub live : (head : ℕ) (m : Meta) → resolved p.base head ≡ Some m → p.live head ≡ Some m.xattrs
+  pub no_live : (head : ℕ) → resolved p.base head ≡ None → p.live head ≡ None
   pub generations : AreGenerations p.base p.generations p.drawn
 
 -- the two images are the same behind the fixed clusters
@@ -53,7 +54,7 @@ pub record StateLaws : Type 0 where
   -- the metadata that a job is to write can be written
   pub writable : (s : Super) (first : Volumes) (script : ℕ → List Command) (p : StoreState) (command : Command)
       (head : ℕ) (new : Meta) → RunInvariant s first script p → p.stopped ≡ None → AsksFor p command head new
-      → IsRoot s head new
+      → IsLoadable s head new
   -- An image with this store, which says the metadata that the store has, recovers the whole log.
   pub recovers : (s : Super) (first : Volumes) (script : ℕ → List Command) (p : StoreState) (image : Image) → IsPlaced s
       → RunInvariant s first script p → p.stopped ≡ None

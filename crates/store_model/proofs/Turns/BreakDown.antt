@@ -34,7 +34,8 @@ module _ (known : Known) (j : JobState) (is : known.p.job ≡ Some j) (at : ℕ)
       let done : RunInvariant s first script now =
       record {
         super = facts.super;
-        roots = facts.roots;
+        loadable = facts.loadable;
+        few = facts.few;
         lawful = facts.lawful;
         legal = kept.legal;
         well = λ runs. absurd (runs_here known at runs stands);
@@ -59,7 +60,8 @@ module _ (known : Known) (j : JobState) (is : known.p.job ≡ Some j) (at : ℕ)
       let done : RunInvariant s first script now =
       record {
         super = facts.super;
-        roots = facts.roots;
+        loadable = facts.loadable;
+        few = facts.few;
         lawful = facts.lawful;
         legal = facts.legal;
         well = λ runs. absurd (runs_here known at runs stands);

@@ -1,7 +1,8 @@
-use Rattle.std.proofs.Common.{◌<◌, List, length, refl, sym, ◌∙◌, ap, subst, arith}
+use Rattle.store_model.proofs.Shows.{alone_resolved}
+use Rattle.std.proofs.Common.{◌<◌, Option, List, length, refl, sym, ◌∙◌, ap, subst, arith}
 use Rattle.std.specs.FinMap as map
 use Rattle.std.specs.Option.{option_map}
-use Rattle.blob_meta.specs.Asked.{asked_head}
+use Rattle.blob_meta.specs.Asked.{asked_head, IsLiveOf}
 use Rattle.volume_model.specs.Xattrs.{Xattrs}
 use Rattle.volume_model.specs.declared.command.Command.{Command}
 use Rattle.volume_model.specs.declared.reply.Reply.TheVariants.{Memory}
@@ -15,6 +16,7 @@ use Rattle.store_core.specs.Running.{view_of}
 use Rattle.store_core.specs.StoreView.{StoreView, device_of, rows_of, state_of}
 use Rattle.store_core.proofs.Answered.{answered_by, answered_memory, live_kept}
 use Rattle.store_core.proofs.Entered.{disk_same, entered}
+use Rattle.store_core.proofs.Planning.{is_live_of}
 use Rattle.store_core.proofs.answering.answer.Goals as goal
 
 pub effect_of-requires-clause-in_memory : goal.effect_of-requires-clause-in_memory
@@ -24,6 +26,16 @@ effect_of-requires-clause-in_memory g c =
     let seen = ap (λ (l : List Row). (rows_of l c.args.channel).left) c.deref.ensures.value ∙ left in
     subst IsInMemory (sym (c.first_of-command.ensures waits.command waits.rest seen))
     (c.requires.in_memory waits.command waits.rest left).1
+
+pub effect_of-requires-clause-live : goal.effect_of-requires-clause-live
+effect_of-requires-clause-live g c =
+    let running = c.requires.running in
+    let p = state_of g.D.PageDisk (view_of c.args.running.now) in
+    subst (λ (o : Option Xattrs). IsLiveOf c.args.running.now.metas o c.first_of-command.result.now)
+    (sym c.get-live.ensures)
+    (is_live_of running.first p (running.facts.well c.requires.runs) c.args.running.now.metas
+    (alone_resolved running.store p.base running.facts.loadable) refl c.first_of-command.result.now c.asked_head.result
+    c.asked_head.ensures)
 
 pub returns-in-Err-clause-case : goal.returns-in-Err-clause-case
 returns-in-Err-clause-case g c =
@@ -78,8 +90,8 @@ returns-in-Ok-clause-case g c =
     command_is (subst (λ o. ComesTo old.metas o c.first_of-command.result.now old.sup c.in-Ok.field-0)
     c.get-live.ensures c.in-Ok.ensures) in
     let named = ap asked_head (sym command_is) ∙ c.asked_head.ensures in
-    let x = answered_by c.requires.running.first p old.metas waits.command c.asked_head.result c.in-Ok.field-0 well refl
-    named in_memory comes in
+    let x = answered_by c.requires.running.first p old.metas waits.command c.asked_head.result c.in-Ok.field-0 well
+    (alone_resolved c.requires.running.store p.base c.requires.running.facts.loadable) named in_memory comes in
     let kept = live_kept old.live c.keep_live.new.live c.in-Ok.field-0.live c.keep_live.ensures.none
     c.keep_live.ensures.some in
     let is = c.log.ensures.logged waits.command waits.rest left in

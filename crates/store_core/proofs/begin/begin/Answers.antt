@@ -12,7 +12,7 @@ use Rattle.store_core.specs.declared.begin.Prepared.{Prepared}
 use Rattle.store_core.specs.Running.{view_of}
 use Rattle.store_core.specs.StoreView.{state_of}
 use Rattle.store_core.specs.declared.job.RunningJob.{RunningJob}
-use Rattle.store_core.proofs.JobBegin.{all_fit, begun, has_chain, may_lack, ready, refused, root, row_is}
+use Rattle.store_core.proofs.JobBegin.{all_fit, begun, has_chain, may_lack, ready, refused, loadable, row_is}
 use Rattle.store_core.proofs.begin.begin.Goals as goal
 use Rattle.store_core.specs.declared.job.Planned.{Planned}
 
@@ -27,15 +27,15 @@ pub prepare-requires-clause-xattrs : goal.prepare-requires-clause-xattrs
 prepare-requires-clause-xattrs g c =
     let waits = c.requires.posted.waits in
     let asks = c.requires.asks waits.command waits.rest (ap (λ (r : Row). r.left) waits.row) in
-    all_fit c.args.new.xattrs (root (state_of g.D.PageDisk (view_of c.args.running.now)) c.requires.running
-    c.requires.runs waits.command c.args.head c.args.new asks).xattrs
+    all_fit c.args.new.xattrs (loadable (state_of g.D.PageDisk (view_of c.args.running.now)) c.requires.running
+    c.requires.runs waits.command c.args.head c.args.new asks).stored.xattrs
 
 pub prepare-requires-clause-internal : goal.prepare-requires-clause-internal
 prepare-requires-clause-internal g c =
     let waits = c.requires.posted.waits in
     let asks = c.requires.asks waits.command waits.rest (ap (λ (r : Row). r.left) waits.row) in
-    all_fit c.args.new.internal (root (state_of g.D.PageDisk (view_of c.args.running.now)) c.requires.running
-    c.requires.runs waits.command c.args.head c.args.new asks).internal
+    all_fit c.args.new.internal (loadable (state_of g.D.PageDisk (view_of c.args.running.now)) c.requires.running
+    c.requires.runs waits.command c.args.head c.args.new asks).stored.internal
 
 pub returns-in-Ok-Some-clause-began : goal.returns-in-Ok-Some-clause-began
 returns-in-Ok-Some-clause-began g c = λ _.
