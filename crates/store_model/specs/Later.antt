@@ -10,12 +10,13 @@ use Rattle.store_model.specs.Later.ClaimTurns.{Claims, FindsEmpty, FindsFilled, 
 use Rattle.store_model.specs.Later.CopyTurns.{Copies, CopyFails, CopyNotRead, LosesCopy}
 use Rattle.store_model.specs.Later.InsertTurns.{BeginsInsert, InsertEnds, Inserts, LacksForInsert, LosesInsert, Sends}
 use Rattle.store_model.specs.Later.FillTurns.{ClaimsFill, EndsFill, LacksForFill}
-use Rattle.store_model.specs.Later.JobPhaseTurns.{BeginsRepair, CommitsMore, MarksDirty, ReplacesMore, Zeroes}
+use Rattle.store_model.specs.Later.JobPhaseTurns.{BeginsRepair, CommitsMore, MarksDirty, MoreBreaksOff, MoreFails}
+use Rattle.store_model.specs.Later.JobPhaseTurns.{ReplacesMore, Zeroes}
 
 pub data LaterKind : Type 0 where
   finds_empty finds_filled claims refuses_claim copies loses_copy copy_not_read copy_fails sends begins_insert
       loses_insert lacks_for_insert inserts insert_ends claims_fill lacks_for_fill ends_fill marks_dirty zeroes
-      replaces_more commits_more begins_repair : LaterKind
+      replaces_more commits_more more_fails more_breaks_off begins_repair : LaterKind
 
 module _ (told : Bool) where
   abbrev pub LaterTurn : StoreState → LaterKind → StoreState → Type 0
@@ -40,4 +41,6 @@ module _ (told : Bool) where
   LaterTurn p zeroes q = Zeroes told p q
   LaterTurn p replaces_more q = ReplacesMore told p q
   LaterTurn p commits_more q = CommitsMore told p q
+  LaterTurn p more_fails q = MoreFails p q
+  LaterTurn p more_breaks_off q = MoreBreaksOff p q
   LaterTurn p begins_repair q = BeginsRepair p q
