@@ -4,7 +4,7 @@ use Rattle.blob_meta.specs.declared.meta.Meta.{Meta}
 use Rattle.blob_meta.specs.Parents.{slot}
 use Rattle.store_model.specs.Maps.{with_entry}
 use Rattle.store_model.specs.Device.{Device}
-use Rattle.store_model.specs.Rows.{Decided, InJob, Lost, OpenClaim, Posted, Ready, with_row, Won}
+use Rattle.store_model.specs.Rows.{Answered, Decided, InJob, Lost, OpenClaim, Posted, Ready, with_row, Won}
 use Rattle.store_model.specs.Phases.{Frees as Frees_, page_in, phases_of, Replaces, Replacing, taken_by}
 use Rattle.store_model.specs.Places.{all_set}
 use Rattle.store_model.specs.Jobs.{IsLaid, LacksPages}
@@ -68,7 +68,7 @@ pub record LosesInsert (p q : StoreState) : Type 0 where
   pub runs : p.stopped ≡ None
   pub no_job : p.job ≡ None
   pub cannot : (meta : Meta) → CanInsert p posted.claim meta → ⊥
-  pub next : q ≡ given_back p posted (Decided Lost)
+  pub next : q ≡ given_back p posted.row (Decided Lost)
 
 -- Fewer pages are clear than the insert needs: its command is logged as that, and the claim given back.
 pub record LacksForInsert (p q : StoreState) : Type 0 where
@@ -79,7 +79,7 @@ pub record LacksForInsert (p q : StoreState) : Type 0 where
   pub meta : Meta
   pub can : CanInsert p posted.claim meta
   pub lacks : LacksPages (with_slot meta posted.claim.slot posted.claim.cluster) p.pages
-  pub logs : LogsFor (given_back p posted (Decided Lost)) posted.row r.NoPage p.device q
+  pub logs : LogsFor p posted.row (Decided Answered) r.NoPage p.device q
 
 -- The head's page is replaced: the cluster stands in the slot, the row's claim has ended, and nothing is logged.
 pub record Inserts (told : Bool) (p q : StoreState) : Type 0 where
