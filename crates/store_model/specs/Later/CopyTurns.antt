@@ -96,6 +96,7 @@ pub record CopyNotRead (p q : StoreState) : Type 0 where
   pub left : ℕ
   pub copying : IsCopying p (Copying (suc left))
   pub runs : p.stopped ≡ None
+  pub current : IsUpToDate p copying.claim
   pub device : Device
   pub reads : device.reads ≡ p.device.reads
   pub clock : device.clock ≡ p.device.clock
@@ -103,18 +104,18 @@ pub record CopyNotRead (p q : StoreState) : Type 0 where
   pub write_faults : device.write_faults ≡ p.device.write_faults
   pub logs : LogsFor p copying.row Idle r.ReadFault device q
 
--- the stages at which a turn writes a copy, or flushes all of them
-abbrev pub IsWritingCopies : Stage → Type 0
-IsWritingCopies (Copying left) = Unit {0}
-IsWritingCopies Ready = Unit {0}
-IsWritingCopies _ = ⊥
+-- The stages at which a turn writes a copy, of a blob that is up to date, or flushes all of them.
+abbrev pub IsWritingCopies : StoreState → OpenClaim → Stage → Type 0
+IsWritingCopies p claim (Copying left) = IsUpToDate p claim
+IsWritingCopies p claim Ready = Unit {0}
+IsWritingCopies p claim _ = ⊥
 
 -- A write of a copy, or the flush behind all, failed: the store stops, the command is logged as failed, and the claim
 -- given back.
 pub record CopyFails (p q : StoreState) : Type 0 where
   pub stage : Stage
   pub copying : IsCopying p stage
-  pub writing : IsWritingCopies stage
+  pub writing : IsWritingCopies p copying.claim stage
   pub runs : p.stopped ≡ None
   pub device : Device
   pub fails : FailsToReplace p.device device
