@@ -143,8 +143,8 @@ pub record InsertFails (p q : StoreState) : Type 0 where
   pub fails : FailsToReplace p.device device
   pub logs : LogsFor (record (stopped_now p) { job = None }) inserting.row (Decided Answered) r.Fault device q
 
--- A turn of the job on a stopped store: no device call, and no job runs any more. The command, which has no entry yet, is
--- logged as stopped, and the claim given back. Nothing has been frozen since the store stopped.
+-- A turn of the job on a stopped store: no device call, and no job runs any more. The command, which has no entry yet,
+-- is logged as stopped, and the claim given back. Nothing has been frozen since the store stopped.
 pub record InsertBreaksDown (p q : StoreState) : Type 0 where
   pub job : JobState
   pub is : p.job ≡ Some job
