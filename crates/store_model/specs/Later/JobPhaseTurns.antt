@@ -10,7 +10,7 @@ use Rattle.blob_meta.specs.declared.meta.Meta.{Meta}
 use Rattle.blob_meta.specs.declared.job.Replacement.{Replacement}
 use Rattle.blob_meta.specs.Resolving.{is_kept, mark_of, without_marks}
 use Rattle.store_model.specs.Device.{Device}
-use Rattle.store_model.specs.Maps.{with_entry, without_entry}
+use Rattle.store_model.specs.Maps.{without_entry}
 use Rattle.store_model.specs.Recovers.{IsChangeDone}
 use Rattle.store_model.specs.Shown.{fixed_of}
 use Rattle.store_model.specs.Guarding.{all_renewed, frozen_behind}
@@ -62,25 +62,19 @@ abbrev pub with_renewed : StoreState → List ℕ → StoreState
 with_renewed p heads =
     record p { generations = all_renewed p.generations p.drawn heads; drawn = p.drawn + length heads }
 
--- A blob that is made gets the next number as its generation, and is read with the attributes that it is made with.
-abbrev pub with_made : StoreState → ℕ → Meta → StoreState
-with_made p head new = record (with_renewed p (head ∷ [])) { live = with_entry p.live head new.xattrs }
-
--- A blob that is erased has no attributes and no generation any more, and its head's page is clear in this same turn.
+-- A blob that is erased has no generation any more, and its head's page is clear in this same turn.
 abbrev pub without_blob : StoreState → ℕ → StoreState
-without_blob p head = record p {
-  live = without_entry p.live head;
-  generations = without_entry p.generations head;
-  pages = slice_set p.pages head false;
-}
+without_blob p head =
+    record p { generations = without_entry p.generations head; pages = slice_set p.pages head false }
 
--- What a replacement makes of the store. A blob that is there and stays is read with the attributes that it had.
+-- What a replacement makes of the store: a blob that is made gets the next number as its generation. The attributes of
+-- the volumes are read as they were: with a commit they are those of its step, and else the same volumes are shown.
 abbrev pub with_replaced : StoreState → Replacing → StoreState
 with_replaced p r = by r.new
   where
     by : Option Meta → StoreState
     by None = without_blob (with_blob p r) r.head
-    by (Some new) = if r.makes then with_made (with_blob p r) r.head new else with_blob p r
+    by (Some new) = if r.makes then with_renewed (with_blob p r) (r.head ∷ []) else with_blob p r
 
 -- a replacement that makes a blob or erases one
 abbrev pub MakesOrErases : Replacing → Type 0
