@@ -16,7 +16,8 @@ use Rattle.store_model.specs.Shown.{fixed_of, volume_of}
 use Rattle.store_model.specs.Rows.{Rows, Row, InJob}
 use Rattle.store_model.specs.StoreState.{JobState, StoreState, shown, ForCommand}
 use Rattle.store_model.specs.Places.{IsClaimed, UsedClusters, IsMapped}
-use Rattle.store_model.specs.Jobs.{AsksFor, JobStands}
+use Rattle.store_model.specs.Jobs.{JobStands}
+use Rattle.store_model.specs.Asking.{AsksFor}
 use Rattle.store_model.specs.Cases.{live_of}
 use Rattle.store_model.specs.RunInvariant.{CanBeWritten, RunsWell}
 use Rattle.store_model.proofs.Shows.{or_empty}
