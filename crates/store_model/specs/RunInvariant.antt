@@ -59,7 +59,7 @@ pub record IsShaped (p : StoreState) : Type 0 where
   pub served : (job : JobState) (channel : ℕ) → p.job ≡ Some job → job.serves ≡ ForCommand channel
       → has_commit job.todo ≡ true → IsServedRow (p.rows channel)
   pub ended : (channel : ℕ) → (p.rows channel).stage ≡ Ended → (p.rows channel).left ≡ []
-  -- a claim is held from when it is made until its insert is decided
+  -- a claim is held from when it is made until it is inserted or given back
   pub claims : (channel : ℕ) (claim : OpenClaim) → (p.rows channel).claim ≡ Some claim → MayClaim (p.rows channel).stage
 
 -- while the store runs: what it has in memory is what the device says, and the volumes shown are the log's replay
