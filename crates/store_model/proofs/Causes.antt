@@ -9,7 +9,7 @@ use Rattle.volume_model.specs.declared.reply.Reply.{Reply}
 use Rattle.volume_model.specs.declared.reply.Reply.TheVariants as r
 use Rattle.store_model.specs.Shown.{fixed_of}
 use Rattle.store_model.specs.StoreState.{StoreState, shown}
-use Rattle.store_model.specs.Jobs.{AsksFor, IsSyncing}
+use Rattle.store_model.specs.Asking.{AsksFor, IsSyncing}
 use Rattle.store_model.specs.Cases.{IsCauseReply, IsRefusedAtBegin, IsRefusedBy}
 
 -- ---- refusals

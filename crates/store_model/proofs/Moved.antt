@@ -16,7 +16,8 @@ use Rattle.store_model.specs.Shown.{fixed_of, volume_of}
 use Rattle.store_model.specs.Rows.{Rows, Row, InJob}
 use Rattle.store_model.specs.StoreState.{JobState, StoreState, shown, ForCommand}
 use Rattle.store_model.specs.Places.{IsClaimed, UsedClusters, IsMapped}
-use Rattle.store_model.specs.Jobs.{AsksFor, JobStands}
+use Rattle.store_model.specs.Jobs.{JobStands}
+use Rattle.store_model.specs.Asking.{AsksFor}
 use Rattle.store_model.specs.Cases.{live_of}
 use Rattle.store_model.specs.RunInvariant.{CanBeWritten, RunsWell}
 use Rattle.store_model.proofs.Shows.{or_empty}
@@ -86,6 +87,23 @@ abbrev pub HaveLive : StoreState → Type 0
 HaveLive p =
     (head : ℕ) (m : Meta) → resolved p.base head ≡ Some m
     → (xattrs : Xattrs) × (p.live head ≡ Some xattrs) × CanBeWritten xattrs
+
+-- and no other has any
+abbrev pub NoOtherLive : StoreState → Type 0
+NoOtherLive p = (head : ℕ) → resolved p.base head ≡ None → p.live head ≡ None
+
+-- so the volumes shown have just these
+pub live_shown : (p : StoreState) → HaveLive p → NoOtherLive p → (h : ℕ) → live_of (shown p) h ≡ p.live h
+live_shown p have no_other h = by (resolved p.base h) refl
+  where
+    by : (o : Option Meta) → resolved p.base h ≡ o → live_of (shown p) h ≡ p.live h
+    by None is =
+        let gone : shown p h ≡ None = rw is refl in
+        ap (λ o. option_map (λ (x : Volume). x.live) o) gone ∙ sym (no_other h is)
+    by (Some m) is =
+        let l = have h m is in
+        let shows : live_of (shown p) h ≡ Some (or_empty (p.live h)) = rw is refl in
+        shows ∙ ap (λ o. Some (or_empty o)) l.1 ∙ sym l.1
 
 pub live_writable : (p : StoreState) → HaveLive p → AllWritable (shown p)
 live_writable p live h x is = at (resolved p.base h) refl is

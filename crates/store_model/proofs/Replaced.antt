@@ -18,9 +18,10 @@ use Rattle.blob_meta.specs.Parents.{named_in, slot, parent_of, is_read_only}
 use Rattle.blob_meta.specs.Resolving.{IsLawful, slots_together}
 use Rattle.store_model.specs.Maps.{Metas, with_entry}
 use Rattle.store_model.specs.Places.{IsMapped}
-use Rattle.store_model.specs.Jobs.{IsSyncing}
+use Rattle.store_model.specs.Asking.{IsSyncing}
 use Rattle.store_model.specs.RunInvariant.{CanBeWritten, IsLoadable, AreLoadable}
 use Rattle.store_model.proofs.WithEntry.{given_here, given_elsewhere}
+use Rattle.store_model.proofs.LawfulGiven.{TakesNone}
 use Rattle.store_model.proofs.Synced.{edited_here}
 use Rattle.store_model.proofs.Writable.{AllWritable, written_with, put_within}
 
@@ -173,24 +174,16 @@ module _ (metas : Metas) (head : ℕ) (old new : Meta) (xattrs : Xattrs) (there 
       mapped None = refl
       mapped (Some m) = refl
 
-  pub lawful_given : (md_len : ℕ) → IsLawful md_len metas → IsLawful md_len (with_entry metas head new)
-  lawful_given md_len law =
-      let slots : slots_together md_len (with_entry metas head new) ≡ slots_together md_len metas =
-      ap (λ f. sum_by f (range_with_len 0 md_len)) (fun_ext slots_at_same) in
-      record {
-        alone = λ h k i j cluster m n hm kn si sj.
-            let a = was_there h m hm in
-            let b = was_there k n kn in
-            law.alone h k i j cluster a.before b.before a.was b.was (slot_was m a.before i cluster a.map si)
-            (slot_was n b.before j cluster b.map sj);
-        parents = λ h p m hm parent.
-            let a = was_there h m hm in
-            let up = law.parents h p a.before a.was (parent_was m a.before p a.internal parent) in
-            let now = still p up.0 up.1 in
-            (now.0, now.1, ap is_read_only now.3 ∙ up.2);
-        rank = law.rank;
-        falls = λ h p m hm parent.
-            let a = was_there h m hm in
-            law.falls h p a.before a.was (parent_was m a.before p a.internal parent);
-        few = subst (λ n. n ≤ 2 ^ 24) (sym slots) law.few;
-      }
+  -- no cluster and no parent is new
+  pub takes_none : TakesNone metas head new
+  takes_none = record {
+    slots = λ i cluster at.
+        (old, there, slot_was new old i cluster (ap (λ (m : Meta). m.map) is) at);
+    parent = λ p of. (old, there, parent_was new old p (ap (λ (m : Meta). m.internal) is) of);
+    read_only = λ m was on.
+        let one : m ≡ old = let both = sym was ∙ there in cc both in
+        ap (λ (x : Meta). is_read_only x.flags) is ∙ ap (λ (x : Meta). is_read_only x.flags) (sym one) ∙ on;
+  }
+
+  pub slots_same : (md_len : ℕ) → slots_together md_len (with_entry metas head new) ≡ slots_together md_len metas
+  slots_same md_len = ap (λ f. sum_by f (range_with_len 0 md_len)) (fun_ext slots_at_same)

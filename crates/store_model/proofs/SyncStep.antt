@@ -4,7 +4,8 @@ use Rattle.std.proofs.Common.{ℕ, false}
 use Rattle.std.proofs.lemmas.Bool.{cases_eq, false≢true}
 use Rattle.store_model.specs.StoreState.{StoreState, live_of, shown}
 use Rattle.store_model.specs.RunInvariant.{RunsWell}
-use Rattle.store_model.specs.Jobs.{AsksFor, IsStep, shown_of}
+use Rattle.store_model.specs.Jobs.{IsStep, shown_of}
+use Rattle.store_model.specs.Asking.{AsksFor}
 use Rattle.store_model.proofs.Known.{Known}
 use Rattle.store_model.proofs.Moved.{all_writable, live_writable}
 use Rattle.store_model.specs.Phases.{Replacing, replaced}
@@ -20,7 +21,8 @@ use Rattle.store_model.proofs.StateKept.{May, asks_may}
 use Rattle.store_model.specs.Maps.{Metas, with_entry}
 use Rattle.volume_model.specs.Volumes.{Volumes, Volume}
 use Rattle.store_model.proofs.Meanwhile.{asks_reading, reading}
-use Rattle.store_model.proofs.Replaced.{new_loadable, lawful_given, loadable_given, synced_written}
+use Rattle.store_model.proofs.Replaced.{new_loadable, loadable_given, slots_same, synced_written, takes_none}
+use Rattle.store_model.proofs.LawfulGiven.{lawful_given}
 use Rattle.volume_model.specs.Steps.{change}
 use Rattle.store_model.specs.Shown.{fixed_of}
 use Rattle.store_model.proofs.Heads.{replaced_is}
@@ -58,8 +60,11 @@ module _ (known : Known) where
     base_is = replaced_is p.base r new new_is ∙ ap (λ h. with_entry p.base h new) head_is
 
     lawful_there : IsLawful s.md_len (with_entry p.base head new)
-    lawful_there = lawful_given p.base head asks.old new asks.after.synced asks.there asks.new_is s.md_len
+    lawful_there = lawful_given s.md_len p.base head new
+        (takes_none p.base head asks.old new asks.after.synced asks.there asks.new_is)
         (subst (IsLawful s.md_len) (alone_resolved s p.base facts.loadable) facts.lawful)
+        (subst (λ n. n ≤ 2 ^ 24)
+        (sym (slots_same p.base head asks.old new asks.after.synced asks.there asks.new_is s.md_len)) facts.few)
 
     pub few_new : slots_together p.super.md_len (replaced p.base r) ≤ 2 ^ 24
     few_new =

@@ -18,7 +18,8 @@ use Rattle.store_model.specs.Maps.{Metas, with_entry}
 use Rattle.store_model.specs.Shown.{content, fixed_of, shown_by, volume_of}
 use Rattle.blob_meta.specs.Resolving.{resolved}
 use Rattle.store_model.specs.StoreState.{StoreState, shown}
-use Rattle.store_model.specs.Jobs.{AsksFor, IsSyncing, shown_of}
+use Rattle.store_model.specs.Jobs.{shown_of}
+use Rattle.store_model.specs.Asking.{AsksFor, IsSyncing}
 use Rattle.store_model.specs.Cases.{live_of}
 use Rattle.store_model.specs.Loadable.{AreLoadable}
 use Rattle.store_model.proofs.WithEntry.{given_here, given_elsewhere}

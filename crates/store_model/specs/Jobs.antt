@@ -1,4 +1,4 @@
--- What a command asks a job to do, and what is known of a job while it runs.
+-- How a job is laid on pages, and what is known of it while it runs.
 use Rattle.std.specs.Prelude.{◌≡◌, ◌⊎◌, ℕ, ◌+◌, ◌*◌, ◌^◌, ◌<◌, ◌≤◌, if◌then◌else◌, Bool, true, false, List, [], ◌∷◌, ◌++◌}
 use Rattle.std.specs.Prelude.{length, map, Option, Some, None, IsSome}
 use Rattle.std.specs.List.{AllByRecursion, flat_map, range_with_len}
@@ -10,16 +10,12 @@ use Rattle.super_block.specs.declared.page.Super.{Super}
 use Rattle.super_block.specs.Numbers.{cluster_pages_of, fixed_clusters_of}
 use Rattle.volume_model.specs.Volumes.{Volume, Volumes, zero_page}
 use Rattle.volume_model.specs.Xattrs.{Xattrs}
-use Rattle.volume_model.specs.Steps.{Allowed, change, named_head}
-use Rattle.volume_model.specs.Refusals.{refusal}
+use Rattle.volume_model.specs.Steps.{Allowed, change}
 use Rattle.volume_model.specs.declared.command.Command.{Command}
-use Rattle.volume_model.specs.declared.command.Command.TheVariants as c
 use Rattle.volume_model.specs.declared.reply.Reply.TheVariants as r
 use Rattle.blob_meta.specs.declared.meta.Meta.{Meta}
-use Rattle.blob_meta.specs.declared.job.Job.{Job as Changes}
 use Rattle.blob_meta.specs.declared.job.Replacement.{Replacement}
 use Rattle.blob_meta.specs.Items.{IsItemsOf}
-use Rattle.blob_meta.specs.Jobs.{job_of_one}
 use Rattle.blob_meta.specs.Resolving.{IsLawful, resolved, slots_together}
 use Rattle.md_chain.specs.Chain.{is_among}
 use Rattle.md_chain.specs.Packing.{parts_of}
@@ -37,38 +33,9 @@ use Rattle.store_model.specs.Places.{all_set, AreDistinct, AreLeastClear, IsMapp
 use Rattle.store_model.specs.Phases.{Phase, Committing, with_live, Marks, Zeros, Writes, Replaces, Erases, Frees}
 use Rattle.store_model.specs.Phases.{Replacing, page_in, held_in, taken_by, taken_in, has_commit, replaced, rechained}
 use Rattle.store_model.specs.Phases.{chain_before}
-use Rattle.store_model.specs.StoreState.{ForCommand, JobState, StoreState, live_of, shown}
+use Rattle.store_model.specs.StoreState.{ForCommand, JobState, StoreState, live_of}
 
--- ---- what a command asks for
-
--- the verbs that replace a blob's metadata so that its attributes are synced
-abbrev pub IsSyncing : Command → Type 0
-IsSyncing (c.Put volume key value) = Unit {0}
-IsSyncing (c.Sync volume) = Unit {0}
-IsSyncing _ = ⊥
-
--- A command that nothing refuses, with the blob that it means and the metadata that it makes: as it was, but that the
--- attributes are those which the step makes synced.
-pub record AsksFor (p : StoreState) (command : Command) (head : ℕ) (new : Meta) : Type 0 where
-  pub syncing : IsSyncing command
-  pub asked : refusal (fixed_of p.super) (shown p) command ≡ None
-  pub found : named_head (fixed_of p.super) (shown p) command ≡ Some head
-  pub old : Meta
-  pub there : p.base head ≡ Some old
-  pub after : Volume
-  pub step : change (fixed_of p.super) (shown p) command r.Ok head ≡ Some after
-  pub new_is : new ≡ record old { xattrs = after.synced }
-
--- The changes that a command asks for, and what their commit makes: a verb that syncs has one replacement, with which
--- the blob's attributes are read as they are synced, and renews no generation.
-pub record IsJobFor (p : StoreState) (command : Command) (changes : Changes) (commit : Committing) : Type 0 where
-  pub head : ℕ
-  pub new : Meta
-  pub is : changes ≡ job_of_one head new
-  pub asks : AsksFor p command head new
-  pub commit_is : commit ≡ record { reply = r.Ok; live = Some new.xattrs; renews = [] }
-
--- ---- how it is laid on pages
+-- ---- how changes are laid on pages
 
 -- how many fresh pages the metadata needs: those of its chain but for the head
 pub record Needs (new : Meta) (count : ℕ) : Type 0 where

@@ -19,7 +19,7 @@ use Rattle.store_model.specs.Cases.{IsQuiet}
 use Rattle.store_model.specs.StoreState.{Opens, StoreState, shown}
 use Rattle.store_model.specs.Guarding.{AreGenerations}
 use Rattle.store_model.specs.Places.{Unclaimed, UsedClusters, UsedPages}
-use Rattle.store_model.specs.Jobs.{AsksFor}
+use Rattle.store_model.specs.Asking.{AsksFor}
 use Rattle.store_model.specs.Cases.{Kind, Run, Turn}
 use Rattle.store_model.specs.RunInvariant.{AreLoadable, RunInvariant, HaveChains, IsLoadable}
 use Rattle.store_model.specs.Recovers.{HasStore, Recovers}

@@ -1,5 +1,5 @@
 -- The other turns of jobs, and the begin of a repair.
-use Rattle.std.specs.Prelude.{◌≡◌, ◌≢◌, ◌⊎◌, ℕ, ◌+◌, ◌<◌, if◌then◌else◌, List, [], ◌∷◌, length, slice_set, Option, None}
+use Rattle.std.specs.Prelude.{◌≡◌, ◌≢◌, ℕ, ◌+◌, ◌<◌, if◌then◌else◌, List, [], ◌∷◌, length, slice_set, Option, None}
 use Rattle.std.specs.Prelude.{Some, Bool, true, false}
 use Rattle.super_block.specs.declared.page.Super.{Super}
 use Rattle.super_block.specs.Page.{super_bytes}
@@ -91,8 +91,8 @@ pub record ReplacesMore (told : Bool) (p q : StoreState) : Type 0 where
     device = device;
   }
 
--- A commit that erases a blob. The volumes are those of the command's step, which is logged, and the blobs that the
--- commit renews get the next numbers as their generations.
+-- A commit that erases a blob. The volumes are those of the command's step, which is logged, and the blobs
+-- that the commit renews get the next numbers as their generations.
 pub record CommitsMore (told : Bool) (p q : StoreState) : Type 0 where
   pub replacing : Replacing
   pub commit : Committing
@@ -111,8 +111,8 @@ pub record CommitsMore (told : Bool) (p q : StoreState) : Type 0 where
 
 -- ---- failures
 
--- the phases of these turns: all but those that write a page to a place that the job holds, and but for a commit that
--- leaves a blob
+-- the phases of these turns: all but those that write a page to a place that the job holds, and but for the commit of a
+-- blob that is made or stays
 abbrev pub WritesMore : Phase → Type 0
 WritesMore Marks = Unit {0}
 WritesMore (Zeros page) = Unit {0}
