@@ -7,3 +7,4 @@ pub mod Parents
 pub mod Resolving
 pub mod Jobs
 pub mod Asked
+pub mod ShownBy
