@@ -8,3 +8,4 @@ pub mod Resolving
 pub mod Jobs
 pub mod Asked
 pub mod ShownBy
+pub mod SlotCounts

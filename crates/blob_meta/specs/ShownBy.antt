@@ -1,11 +1,11 @@
 -- Volumes that show metadata: what names and refusals see of a volume is what its blob's metadata says.
-use Rattle.std.specs.Prelude.{◌≡◌, ℕ, ◌<◌, ◌≤◌, ◌^◌, Option, Some, None, IsSome, length}
+use Rattle.std.specs.Prelude.{◌≡◌, ℕ, ◌<◌, ◌≤◌, ◌^◌, Option, Some, None, IsSome, Bool, List, length}
 use Rattle.std.specs.Ordering.{nat_cmp}
 use Rattle.std.specs.FinMap as map
 use Rattle.super_block.specs.declared.page.Super.{Super}
 use Rattle.volume_model.specs.Xattrs.{told, name_key, uuid_key}
 use Rattle.volume_model.specs.Volumes.{Volume, Volumes, Fixed, slots_of, head_of}
-use Rattle.volume_model.specs.Refusals.{refusal}
+use Rattle.volume_model.specs.Refusals.{is_taken, refusal}
 use Rattle.volume_model.specs.declared.command.VolumeRef.{VolumeRef}
 use Rattle.volume_model.specs.declared.command.Command.{Command}
 use Rattle.volume_model.specs.declared.reply.Reply.{Reply}
@@ -47,3 +47,7 @@ module _ (metas : map.FinMap nat_cmp Meta) (sup : Super) where
   -- The head that a reference means, if it means one, in all volumes that show the metadata.
   abbrev pub IsHeadMeant : VolumeRef → Option ℕ → Type 0
   IsHeadMeant volume head = (f : Fixed) (v : Volumes) → ShowsMetas f sup metas v → head_of f v volume ≡ head
+
+  -- Whether a volume has the name, in all volumes that show the metadata.
+  abbrev pub IsTakenIn : List ℕ → Bool → Type 0
+  IsTakenIn name taken = (f : Fixed) (v : Volumes) → ShowsMetas f sup metas v → is_taken f v name ≡ taken

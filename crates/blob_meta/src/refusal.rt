@@ -45,7 +45,7 @@ pub fn asked_head(command: &Command) -> u32
 }
 
 /// Whether the super block names the head as the super blob's.
-fn is_super(sup: &Super, head: u32) -> bool
+pub fn is_super(sup: &Super, head: u32) -> bool
     ensures { result ≡ is_given_head head (head_of_id sup.now.super_blob) }
 {
     sup.super_blob == (1 << 32) + u64::from(head)
@@ -58,7 +58,8 @@ fn is_reserved(key: &[u8]) -> bool
     key == b"name".as_slice() || key == b"uuid".as_slice()
 }
 
-fn is_read_only(flags: Flags) -> bool
+/// Whether neither pages nor attributes of the blob may be written.
+pub fn is_read_only(flags: Flags) -> bool
     ensures { result ≡ read_only_said flags }
 {
     flags.data_ro >= 1 || flags.md_ro >= 4
