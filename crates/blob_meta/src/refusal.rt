@@ -8,10 +8,9 @@ ghost use Rattle.volume_model.specs.Refusals.{is_reserved as reserved_said};
 ghost use Rattle.volume_model.specs.declared.reply.Reply.TheVariants as r;
 ghost use Rattle.blob_meta.specs.Asked.{asked_head as head_said, blob_named, first_cause, HasValue, IsOnHead};
 ghost use Rattle.blob_meta.specs.Asked.{IsAttributeCause, IsLiveOf, IsFirstCause};
-ghost use Rattle.blob_meta.specs.Parents.{head_of_id, is_read_only as read_only_said};
+ghost use Rattle.blob_meta.specs.Parents.{head_of_id};
 
 use crate::head_map::Metas;
-use crate::meta::Flags;
 use super_block::Super;
 use volume_model::{Blobtext, Command, Reply, VolumeRef, XattrList};
 
@@ -56,13 +55,6 @@ fn is_reserved(key: &[u8]) -> bool
     ensures { result ≡ reserved_said key.now }
 {
     key == b"name".as_slice() || key == b"uuid".as_slice()
-}
-
-/// Whether neither pages nor attributes of the blob may be written.
-pub fn is_read_only(flags: Flags) -> bool
-    ensures { result ≡ read_only_said flags }
-{
-    flags.data_ro >= 1 || flags.md_ro >= 4
 }
 
 /// Whether key and value don't fit into one descriptor.
@@ -159,7 +151,7 @@ pub fn refusal_of(
         return Some(Reply::NoVolume);
     };
     let is_super = is_super(sup, head);
-    let read_only = is_read_only(meta.flags);
+    let read_only = meta.flags.is_read_only();
     match command {
         Command::SetX { key, value, .. } | Command::Put { key, value, .. } => {
             let reserved = is_super || is_reserved(key.bytes());

@@ -12,7 +12,7 @@ ghost use Rattle.blob_meta.specs.SlotCounts.{has_longer_parent as longer_said};
 use crate::head_map::Metas;
 use crate::looking_up::{find, is_taken};
 use crate::meta::Meta;
-use crate::refusal::{is_read_only, is_super};
+use crate::refusal::is_super;
 use crate::slot_count::{all_slots, has_longer_parent, is_too_large};
 use super_block::Super;
 use volume_model::{Command, Reply};
@@ -55,7 +55,7 @@ fn refusal_at(
 {
     if reserved {
         Some(Reply::Reserved)
-    } else if is_read_only(meta.flags) {
+    } else if meta.flags.is_read_only() {
         Some(Reply::ReadOnly)
     } else if slots > u64::from(meta.map.len()) && has_longer_parent(metas, meta) {
         Some(Reply::Short)
