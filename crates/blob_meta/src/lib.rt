@@ -3,6 +3,7 @@
 #![tactic(auto)]
 
 mod checks;
+mod entries;
 mod fault;
 mod head_map;
 mod job;
@@ -13,7 +14,7 @@ mod refusal;
 mod writing;
 
 pub use fault::MetaFault;
-pub use head_map::{Chains, HeadMap, Metas};
+pub use head_map::{Chains, HeadMap, Metas, Room};
 pub use job::{Job, Replacement, ReplacementList};
 pub use looking_up::find;
 pub use meta::{Flags, Meta};
