@@ -3,6 +3,7 @@
 #![tactic(auto)]
 
 mod checks;
+mod entries;
 mod fault;
 mod head_map;
 mod job;
@@ -17,7 +18,7 @@ mod slot_refusal;
 mod writing;
 
 pub use fault::MetaFault;
-pub use head_map::{Chains, HeadMap, Metas};
+pub use head_map::{Chains, HeadMap, Metas, Room};
 pub use job::{Job, Replacement, ReplacementList};
 pub use looking_up::{find, is_taken, least_heads_are_meant};
 pub use making::{new_meta, resized_meta};
