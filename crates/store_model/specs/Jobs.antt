@@ -43,11 +43,11 @@ pub record Needs (new : Meta) (count : ℕ) : Type 0 where
   pub are : IsItemsOf new items
   pub chain : length (parts_of items) ≡ count + 1
 
--- fewer pages are clear than the metadata needs
-pub record LacksPages (new : Meta) (bits : List Bool) : Type 0 where
+-- Fewer pages are clear than the metadata of a blob needs, which is there or new: a new one needs one for its head too.
+pub record LacksPages (there : Bool) (new : Meta) (bits : List Bool) : Type 0 where
   pub count : ℕ
   pub needs : Needs new count
-  pub lacking : clear_in bits < count
+  pub lacking : clear_in bits < (if there then count else count + 1)
 
 -- The planned pages are just those on which the items of the new metadata are packed.
 pub record IsPacked (new : Meta) (head : ℕ) (fresh : List ℕ) (planned : List PlannedPage) : Type 0 where

@@ -78,7 +78,7 @@ pub record LacksForInsert (p q : StoreState) : Type 0 where
   pub no_job : p.job ≡ None
   pub meta : Meta
   pub can : CanInsert p posted.claim meta
-  pub lacks : LacksPages (with_slot meta posted.claim.slot posted.claim.cluster) p.pages
+  pub lacks : LacksPages true (with_slot meta posted.claim.slot posted.claim.cluster) p.pages
   pub logs : LogsFor p posted.row (Decided Answered) r.NoPage p.device q
 
 -- ---- the job of an insert
