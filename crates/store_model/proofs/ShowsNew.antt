@@ -1,0 +1,154 @@
+-- What is shown with a new blob: one volume more, of zeros.
+use Rattle.std.proofs.Common.{◌≡◌, ◌≢◌, ℕ, suc, ◌*◌, ◌/◌, Bool, true, false, not, List, [], length, map, Option, Some, None}
+use Rattle.std.proofs.Common.{refl, sym, ap, ◌∙◌, subst, inl, inr, mul_comm}
+use Rattle.std.specs.Prelude.{replicate}
+use Rattle.std.specs.List.{range_with_len}
+use Rattle.std.specs.Option.{option_map}
+use Rattle.std.proofs.lemmas.Bool.{cases_eq, eq-eqb, ne_eqb}
+use Rattle.std.proofs.lemmas.List.{length-replicate}
+use Rattle.std.proofs.Math.Path.{fun_ext}
+use Rattle.page_disk.specs.Disk.{Image}
+use Rattle.super_block.specs.declared.page.Super.{Super}
+use Rattle.volume_model.specs.Volumes.{Fixed, Page, two_xattrs, Volume, Volumes, zero_page, zero_slots}
+use Rattle.volume_model.specs.Xattrs.{Text, Xattrs}
+use Rattle.volume_model.specs.Steps.{change, new_volume}
+use Rattle.volume_model.specs.declared.command.Command.TheVariants as c
+use Rattle.volume_model.specs.declared.reply.Reply.TheVariants as r
+use Rattle.blob_meta.specs.declared.meta.Meta.{Meta}
+use Rattle.blob_meta.specs.Faults.{is_thin}
+use Rattle.blob_meta.specs.Jobs.{new_meta}
+use Rattle.blob_meta.specs.Resolving.{IsLawful, resolved}
+use Rattle.store_model.specs.Maps.{Metas, with_entry}
+use Rattle.store_model.specs.Shown.{content, fixed_of, shown_by, volume_of}
+use Rattle.store_model.specs.StoreState.{live_of, shown, StoreState}
+use Rattle.store_model.specs.Jobs.{shown_of}
+use Rattle.store_model.specs.Loadable.{AreLoadable}
+use Rattle.store_model.proofs.Contents.{HasParents}
+use Rattle.store_model.proofs.Elsewhere.{IsChildless, volume_elsewhere}
+use Rattle.store_model.proofs.NewBlob.{empty_slot}
+use Rattle.store_model.proofs.Ranges.{all_one}
+use Rattle.store_model.proofs.Shows.{alone_resolved, or_empty}
+use Rattle.store_model.proofs.WithEntry.{given_here, given_elsewhere}
+
+-- a blob that isn't there is nobody's parent
+none_childless : (metas : Metas) (head : ℕ) → HasParents metas → metas head ≡ None → IsChildless metas head
+none_childless metas head parents none h p m there of e =
+    let up = parents h p m there of in let bad = sym none ∙ ap metas (sym e) ∙ up.1 in cc bad
+
+-- ---- its volume
+
+module _ (f : Fixed) (v : Volumes) (image : Image) (others : Metas) (head : ℕ) (name : Text) (slots : ℕ) (thick : Bool)
+    (uuid : Option (List ℕ)) (xattrs : Xattrs) (are : two_xattrs f v name uuid ≡ xattrs)
+    (there : others head ≡ Some (new_meta head xattrs thick slots)) where
+  abbrev k : ℕ
+  k = f.cluster_pages
+
+  abbrev new : Meta
+  new = new_meta head xattrs thick slots
+
+  -- it has no cluster and no parent
+  page_zero : (times q : ℕ) → content k image others (suc times) head q ≡ zero_page
+  page_zero times q = rw (there, empty_slot slots (q / k)) refl
+
+  pages_zero : map (content k image others (suc f.md_len) head) (range_with_len 0 (k * length new.map))
+      ≡ zero_slots f slots
+  pages_zero =
+      all_one (content k image others (suc f.md_len) head) zero_page (page_zero f.md_len) 0 (k * length new.map)
+      ∙ ap (λ n. replicate (k * n) zero_page) (length-replicate slots None)
+      ∙ ap (λ n. replicate n zero_page) (mul_comm k slots)
+
+  thin_by : (b : Bool) → is_thin (new_meta head xattrs b slots).flags ≡ not b
+  thin_by true = refl
+  thin_by false = refl
+
+  pub volume_new : volume_of k image others f.md_len xattrs head new
+      ≡ new_volume f v name uuid (zero_slots f slots) (not thick) false None
+  volume_new =
+      ap (λ (pages : List Page). record (volume_of k image others f.md_len xattrs head new) { pages = pages }) pages_zero
+      ∙ ap (λ (thin : Bool). record {
+        pages = zero_slots f slots;
+        live = xattrs;
+        synced = xattrs;
+        thin = thin;
+        read_only = false;
+        locked = false;
+        parent = None;
+      }) (thin_by thick)
+      ∙ ap (λ (xs : Xattrs). record {
+        pages = zero_slots f slots;
+        live = xs;
+        synced = xs;
+        thin = not thick;
+        read_only = false;
+        locked = false;
+        parent = None;
+      }) (sym are)
+
+-- ---- all volumes
+
+module _ (p : StoreState) (loadable : AreLoadable p.super p.base) (lawful : IsLawful p.super.md_len p.base) (head : ℕ)
+    (none : p.base head ≡ None) (name : Text) (slots : ℕ) (thick : Bool) (uuid : Option (List ℕ)) (xattrs : Xattrs)
+    (are : two_xattrs (fixed_of p.super) (shown p) name uuid ≡ xattrs)
+    (new_loadable : AreLoadable p.super (with_entry p.base head (new_meta head xattrs thick slots))) where
+  abbrev f : Fixed
+  f = fixed_of p.super
+
+  abbrev made : Meta
+  made = new_meta head xattrs thick slots
+
+  abbrev all : Metas
+  all = with_entry p.base head made
+
+  abbrev pub w : Volumes
+  w = change f (shown p) (c.Create name slots thick uuid) (r.Made head)
+
+  w_here : w head ≡ Some (new_volume f (shown p) name uuid (zero_slots f slots) (not thick) false None)
+  w_here = rw (eq-eqb head head refl) refl
+
+  pub w_elsewhere : (h : ℕ) → h ≢ head → w h ≡ shown p h
+  w_elsewhere h ne = rw (ne_eqb h head ne) refl
+
+  pub live_here : live_of w head ≡ Some xattrs
+  live_here = ap (λ o. option_map (λ (x : Volume). x.live) o) w_here ∙ ap (λ (xs : Xattrs). Some xs) are
+
+  -- a blob as a volume, over this metadata
+  abbrev by : Metas → Xattrs → ℕ → Meta → Volume
+  by metas live h m = volume_of f.cluster_pages p.device.reads metas f.md_len live h m
+
+  shown_is : (h : ℕ) → shown p h ≡ option_map (by p.base (or_empty (p.live h)) h) (p.base h)
+  shown_is h = ap (λ (m : Metas). shown_by f p.device.reads m p.live h) (alone_resolved p.super p.base loadable)
+
+  here : option_map (by all (or_empty (live_of w head)) head) (all head) ≡ w head
+  here =
+      ap (λ o. option_map (by all (or_empty (live_of w head)) head) o) (given_here p.base head made head refl)
+      ∙ ap (λ o. Some (by all (or_empty o) head made)) live_here
+      ∙ ap (λ (x : Volume). Some x) (volume_new f (shown p) p.device.reads all head name slots thick uuid xattrs are
+      (given_here p.base head made head refl))
+      ∙ sym w_here
+
+  elsewhere : (h : ℕ) → h ≢ head → (o : Option Meta) → p.base h ≡ o
+      → option_map (by all (or_empty (live_of w h)) h) o ≡ w h
+  elsewhere h ne None is =
+      sym (w_elsewhere h ne ∙ shown_is h ∙ ap (λ o. option_map (by p.base (or_empty (p.live h)) h) o) is)
+  elsewhere h ne (Some m) is =
+      let shows : w h ≡ Some (by p.base (or_empty (p.live h)) h m) =
+      w_elsewhere h ne ∙ shown_is h ∙ ap (λ o. option_map (by p.base (or_empty (p.live h)) h) o) is in
+      let live : or_empty (live_of w h) ≡ or_empty (p.live h) =
+      ap (λ o. or_empty (option_map (λ (y : Volume). y.live) o)) shows in
+      ap (λ (xs : Xattrs). Some (by all xs h m)) live
+      ∙ ap (λ (v : Volume). Some v) (volume_elsewhere f.cluster_pages p.base all head
+      (λ q other. given_elsewhere p.base head made q other) (none_childless p.base head lawful.parents none)
+      p.device.reads p.device.reads (λ _ _ _ _ _ _ _. refl) f.md_len (or_empty (p.live h)) h m ne)
+      ∙ sym shows
+
+  -- once the head is written, what is shown is the step's
+  pub shown_made : shown_of p.super all (live_of w) p.device.reads ≡ w
+  shown_made = fun_ext (λ h. ap (λ (m : Metas). shown_by f p.device.reads m (live_of w) h)
+      (alone_resolved p.super all new_loadable) ∙ at h)
+    where
+      at : (h : ℕ) → option_map (by all (or_empty (live_of w h)) h) (all h) ≡ w h
+      at h = elim (cases_eq h head) [
+        | inl e ↦ subst (λ n. option_map (by all (or_empty (live_of w n)) n) (all n) ≡ w n) (sym e) here
+        | inr ne ↦ ap (λ o. option_map (by all (or_empty (live_of w h)) h) o) (given_elsewhere p.base head made h ne)
+            ∙ elsewhere h ne (p.base h) refl
+      ]
