@@ -53,7 +53,8 @@ module _ (f : Fixed) (v : Volumes) (image : Image) (others : Metas) (head : ℕ)
   pages_zero : map (content k image others (suc f.md_len) head) (range_with_len 0 (k * length new.map))
       ≡ zero_slots f slots
   pages_zero =
-      all_one (content k image others (suc f.md_len) head) zero_page (page_zero f.md_len) 0 (k * length new.map)
+      all_one (content k image others (suc f.md_len) head) zero_page 0 (k * length new.map)
+      (λ q le. page_zero f.md_len q)
       ∙ ap (λ n. replicate (k * n) zero_page) (length-replicate slots None)
       ∙ ap (λ n. replicate n zero_page) (mul_comm k slots)
 
