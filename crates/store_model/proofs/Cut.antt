@@ -30,8 +30,12 @@ module _ {X : Type 0} (xs : List X) (n : ℕ) (x : X) where
   length_cut = elim (cases_lt (length xs) n) [
     | inl lt ↦
         let le : length xs ≤ n = omega (arith, lt) in
-        ap length (is_longer le) ∙ omega (arith, le, length-append xs (replicate (n - length xs) x),
-        length-replicate (n - length xs) x)
+        ap length (is_longer le) ∙ omega (
+          arith,
+          le,
+          length-append xs (replicate (n - length xs) x),
+          length-replicate (n - length xs) x,
+        )
     | inr le ↦ ap length (is_cut le) ∙ length-take-le n xs le
   ]
 

@@ -23,17 +23,11 @@ use Rattle.store_model.specs.Shown.{content, fixed_of, shown_by, volume_of}
 use Rattle.store_model.specs.StoreState.{live_of, shown, StoreState}
 use Rattle.store_model.specs.Jobs.{shown_of}
 use Rattle.store_model.specs.Loadable.{AreLoadable}
-use Rattle.store_model.proofs.Contents.{HasParents}
-use Rattle.store_model.proofs.Elsewhere.{IsChildless, volume_elsewhere}
 use Rattle.store_model.proofs.NewBlob.{empty_slot}
 use Rattle.store_model.proofs.Ranges.{all_one}
-use Rattle.store_model.proofs.Shows.{alone_resolved, or_empty}
-use Rattle.store_model.proofs.WithEntry.{given_here, given_elsewhere}
-
--- a blob that isn't there is nobody's parent
-none_childless : (metas : Metas) (head : ℕ) → HasParents metas → metas head ≡ None → IsChildless metas head
-none_childless metas head parents none h p m there of e =
-    let up = parents h p m there of in let bad = sym none ∙ ap metas (sym e) ∙ up.1 in cc bad
+use Rattle.store_model.proofs.Shows.{or_empty}
+use Rattle.store_model.proofs.ShowsGiven.{by, none_childless, shown_given}
+use Rattle.store_model.proofs.WithEntry.{given_here}
 
 -- ---- its volume
 
@@ -112,44 +106,11 @@ module _ (p : StoreState) (loadable : AreLoadable p.super p.base) (lawful : IsLa
   pub live_here : live_of w head ≡ Some xattrs
   live_here = ap (λ o. option_map (λ (x : Volume). x.live) o) w_here ∙ ap (λ (xs : Xattrs). Some xs) are
 
-  -- a blob as a volume, over this metadata
-  abbrev by : Metas → Xattrs → ℕ → Meta → Volume
-  by metas live h m = volume_of f.cluster_pages p.device.reads metas f.md_len live h m
-
-  shown_is : (h : ℕ) → shown p h ≡ option_map (by p.base (or_empty (p.live h)) h) (p.base h)
-  shown_is h = ap (λ (m : Metas). shown_by f p.device.reads m p.live h) (alone_resolved p.super p.base loadable)
-
-  here : option_map (by all (or_empty (live_of w head)) head) (all head) ≡ w head
-  here =
-      ap (λ o. option_map (by all (or_empty (live_of w head)) head) o) (given_here p.base head made head refl)
-      ∙ ap (λ o. Some (by all (or_empty o) head made)) live_here
-      ∙ ap (λ (x : Volume). Some x) (volume_new f (shown p) p.device.reads all head name slots thick uuid xattrs are
-      (given_here p.base head made head refl))
-      ∙ sym w_here
-
-  elsewhere : (h : ℕ) → h ≢ head → (o : Option Meta) → p.base h ≡ o
-      → option_map (by all (or_empty (live_of w h)) h) o ≡ w h
-  elsewhere h ne None is =
-      sym (w_elsewhere h ne ∙ shown_is h ∙ ap (λ o. option_map (by p.base (or_empty (p.live h)) h) o) is)
-  elsewhere h ne (Some m) is =
-      let shows : w h ≡ Some (by p.base (or_empty (p.live h)) h m) =
-      w_elsewhere h ne ∙ shown_is h ∙ ap (λ o. option_map (by p.base (or_empty (p.live h)) h) o) is in
-      let live : or_empty (live_of w h) ≡ or_empty (p.live h) =
-      ap (λ o. or_empty (option_map (λ (y : Volume). y.live) o)) shows in
-      ap (λ (xs : Xattrs). Some (by all xs h m)) live
-      ∙ ap (λ (v : Volume). Some v) (volume_elsewhere f.cluster_pages p.base all head
-      (λ q other. given_elsewhere p.base head made q other) (none_childless p.base head lawful.parents none)
-      p.device.reads p.device.reads (λ _ _ _ _ _ _ _. refl) f.md_len (or_empty (p.live h)) h m ne)
-      ∙ sym shows
-
   -- once the head is written, what is shown is the step's
   pub shown_made : shown_of p.super all (live_of w) p.device.reads ≡ w
-  shown_made = fun_ext (λ h. ap (λ (m : Metas). shown_by f p.device.reads m (live_of w) h)
-      (alone_resolved p.super all new_loadable) ∙ at h)
-    where
-      at : (h : ℕ) → option_map (by all (or_empty (live_of w h)) h) (all h) ≡ w h
-      at h = elim (cases_eq h head) [
-        | inl e ↦ subst (λ n. option_map (by all (or_empty (live_of w n)) n) (all n) ≡ w n) (sym e) here
-        | inr ne ↦ ap (λ o. option_map (by all (or_empty (live_of w h)) h) o) (given_elsewhere p.base head made h ne)
-            ∙ elsewhere h ne (p.base h) refl
-      ]
+  shown_made = shown_given p loadable head made (none_childless p.base head lawful.parents none) new_loadable w
+      w_elsewhere
+      (ap (λ o. Some (by p loadable all (or_empty o) head made)) live_here
+      ∙ ap (λ (x : Volume). Some x) (volume_new f (shown p) p.device.reads all head name slots thick uuid xattrs are
+      (given_here p.base head made head refl))
+      ∙ sym w_here)

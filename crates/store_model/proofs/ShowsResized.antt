@@ -22,14 +22,6 @@ use Rattle.store_model.proofs.Elsewhere.{IsChildless, same_elsewhere, through}
 use Rattle.store_model.proofs.Ranges.{all_one, in_two, same_below}
 use Rattle.store_model.proofs.WithEntry.{given_here, given_elsewhere}
 
--- a blob that can be written is nobody's parent
-pub writable_childless : (metas : Metas) (head : ℕ) (m : Meta) → HasParents metas → metas head ≡ Some m
-    → is_read_only m.flags ≡ false → IsChildless metas head
-writable_childless metas head m parents there writable h p n is of e =
-    let up = parents h p n is of in
-    let same : up.0 ≡ m = let both = sym up.1 ∙ ap metas e ∙ there in cc both in
-    false≢true (sym writable ∙ ap (λ (x : Meta). is_read_only x.flags) (sym same) ∙ up.2)
-
 -- slots of pages
 less_than : {k : ℕ} → 0 < k → (n q : ℕ) → q < 0 + k * n → q / k < n
 less_than {k} some n q lt = (div-lt_iff_lt-mul some).1 (subst (λ m. q < m) (mul_comm k n) (omega (arith, lt)))
@@ -92,8 +84,8 @@ module _ (k : ℕ) (some : 0 < k) (metas : Metas) (head : ℕ) (old : Meta) (the
           then content k image metas md_len p q else zero_page) o zero_page ≡ zero_page
       by_blob p of None is = refl
       by_blob p of (Some parent) is =
-          let no : nat_lt q (k * length parent.map) ≡ false = 
-              let less = mul-le-mul_left k (short p parent of is) in le-ltb q (k * length parent.map) (omega (arith, less, le)) in
+          let no : nat_lt q (k * length parent.map) ≡ false =
+          let less = mul-le-mul_left k (short p parent of is) in le-ltb q (k * length parent.map) (omega (arith, less, le)) in
           rw no refl
 
       by_parent : (o : Option ℕ) → parent_of old ≡ o
