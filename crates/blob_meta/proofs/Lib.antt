@@ -1,4 +1,10 @@
-pub mod EntriesAsMap
 pub mod ClustersOutside
 pub mod Firsts
 pub mod Inverse
+pub mod HeadsInRange
+pub mod Shown
+pub mod Refused
+pub mod SlotSums
+pub mod EntriesInOrder
+pub mod MapOfEntries
+pub mod NextHead

@@ -4,6 +4,7 @@ use Rattle.std.specs.Option.{option_map_or}
 use Rattle.std.specs.Ordering.{nat_cmp}
 use Rattle.std.specs.FinMap as map
 use Rattle.std.specs.Str.{bytes_eq}
+use Rattle.super_block.specs.declared.page.Super.{Super}
 use Rattle.volume_model.specs.Xattrs.{told, name_key}
 use Rattle.volume_model.specs.declared.command.VolumeRef.{VolumeRef}
 use Rattle.volume_model.specs.declared.command.VolumeRef.TheVariants.{Head, Named}
@@ -23,3 +24,7 @@ is_meant super_blob metas (Named name) k = not (super_blob == 2 ^ 32 + k)
 pub record IsLeast (test : ℕ → Bool) (head : ℕ) : Type 0 where
   pub passes : test head ≡ true
   pub none_below : (k : ℕ) → k < head → test k ≡ false
+
+-- a volume is meant, by a head of 32 bits
+abbrev pub IsThere : map.FinMap nat_cmp Meta → Super → VolumeRef → Type 0
+IsThere metas sup volume = (head : ℕ) × (head < 2 ^ 32) × (is_meant sup.super_blob metas volume head ≡ true)

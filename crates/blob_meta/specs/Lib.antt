@@ -7,3 +7,5 @@ pub mod Parents
 pub mod Resolving
 pub mod Jobs
 pub mod Asked
+pub mod ShownBy
+pub mod SlotCounts

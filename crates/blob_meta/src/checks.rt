@@ -93,7 +93,7 @@ fn first_hole(slots: &[Option<u32>]) -> Option<usize>
 pub fn hole_in_thick(flags: Flags, map: &SlotMap) -> Option<MetaFault>
     ensures { result ≡ hole flags map.now }
 {
-    if flags.invalid % 2 == 1 {
+    if flags.is_thin() {
         return None;
     }
     match first_hole(map.as_slice()) {

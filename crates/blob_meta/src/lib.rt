@@ -3,21 +3,30 @@
 #![tactic(auto)]
 
 mod checks;
+mod entries;
 mod fault;
 mod head_map;
 mod job;
 mod looking_up;
+mod making;
 mod meta;
+mod parent;
 mod reading;
 mod refusal;
+mod slot_count;
+mod slot_refusal;
 mod writing;
 
 pub use fault::MetaFault;
-pub use head_map::{Chains, HeadMap, Metas};
+pub use head_map::{Chains, HeadMap, Metas, Room};
 pub use job::{Job, Replacement, ReplacementList};
-pub use looking_up::find;
+pub use looking_up::{find, is_taken, least_heads_are_meant};
+pub use making::{new_meta, resized_meta};
 pub use meta::{Flags, Meta};
 pub use out_of_memory::Memory;
+pub use parent::parent_of;
 pub use reading::from_items;
-pub use refusal::{asked_head, refusal_of};
+pub use refusal::{asked_head, is_super, refusal_of};
+pub use slot_count::{all_slots, has_longer_parent, is_too_large};
+pub use slot_refusal::{refusal_of_create, refusal_of_resize};
 pub use writing::{items_say, to_items};

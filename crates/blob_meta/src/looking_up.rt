@@ -1,8 +1,14 @@
 //! Which blob a command means.
 
 ghost use Rattle.std.specs.Prelude.{◌≡◌, ◌<◌, ◌^◌, ℕ, false, IfSome, IfNone};
+ghost use Rattle.std.specs.FinMap as map;
+ghost use Rattle.std.specs.Ordering.{nat_cmp};
+ghost use Rattle.super_block.specs.declared.page.Super.{Super};
+ghost use Rattle.volume_model.specs.declared.command.VolumeRef.{VolumeRef};
 ghost use Rattle.volume_model.specs.declared.command.VolumeRef.TheVariants.{Named};
+ghost use Rattle.blob_meta.specs.declared.meta.Meta.{Meta};
 ghost use Rattle.blob_meta.specs.Find.{is_called as called, is_meant, IsLeast};
+ghost use Rattle.blob_meta.specs.ShownBy.{IsHeadMeant, IsTakenIn};
 
 use crate::head_map::Metas;
 use crate::meta::Meta;
@@ -16,10 +22,10 @@ fn is_called(meta: &Meta, name: &[u8]) -> bool
 }
 
 /// Whether a head is that of a blob of this name, other than the super blob.
-fn is_named(metas: &Metas, super_blob: u64, name: &Name, head: u32) -> bool
-    ensures { result ≡ is_meant super_blob metas.now (Named name.now) head }
+fn is_named(metas: &Metas, sup: &Super, name: &Name, head: u32) -> bool
+    ensures { result ≡ is_meant sup.now.super_blob metas.now (Named name.now) head }
 {
-    if super_blob == (1 << 32) + u64::from(head) {
+    if sup.super_blob == (1 << 32) + u64::from(head) {
         return false;
     }
     match metas.get(head) {
@@ -28,14 +34,14 @@ fn is_named(metas: &Metas, super_blob: u64, name: &Name, head: u32) -> bool
     }
 }
 
-fn find_named(metas: &Metas, super_blob: u64, name: &Name) -> Option<u32>
-    ensures some { IfSome result (λ head. IsLeast (is_meant super_blob metas.now (Named name.now)) head) }
+fn find_named(metas: &Metas, sup: &Super, name: &Name) -> Option<u32>
+    ensures some { IfSome result (λ head. IsLeast (is_meant sup.now.super_blob metas.now (Named name.now)) head) }
     ensures none { IfNone result ((head : ℕ) → head < 2 ^ 32
-        → is_meant super_blob metas.now (Named name.now) head ≡ false) }
+        → is_meant sup.now.super_blob metas.now (Named name.now) head ≡ false) }
 {
     let mut from = 0;
     while let Some(head) = metas.next_from(from) {
-        if is_named(metas, super_blob, name, head) {
+        if is_named(metas, sup, name, head) {
             return Some(head);
         }
         if head == u32::MAX {
@@ -46,12 +52,20 @@ fn find_named(metas: &Metas, super_blob: u64, name: &Name) -> Option<u32>
     None
 }
 
+/// Whether a blob other than the super blob has the name.
+pub fn is_taken(metas: &Metas, sup: &Super, name: &Name) -> bool
+    ensures { IsTakenIn metas.now sup.now name.now result }
+{
+    find_named(metas, sup, name).is_some()
+}
+
 /// The head of the blob that a command means: a head names its own blob, and a name that of the least head of a blob,
 /// other than the super blob, whose `name` up to its first NUL it is. `None` comes exactly where no blob is meant.
 pub fn find(metas: &Metas, sup: &Super, volume: &VolumeRef) -> Option<u32>
     ensures some { IfSome result (λ head. IsLeast (is_meant sup.now.super_blob metas.now volume.now) head) }
     ensures none { IfNone result ((head : ℕ) → head < 2 ^ 32
         → is_meant sup.now.super_blob metas.now volume.now head ≡ false) }
+    ensures meant { IsHeadMeant metas.now sup.now volume.now result }
 {
     match volume {
         VolumeRef::Head(head) => {
@@ -61,6 +75,12 @@ pub fn find(metas: &Metas, sup: &Super, volume: &VolumeRef) -> Option<u32>
                 None
             }
         }
-        VolumeRef::Named(name) => find_named(metas, sup.super_blob, name),
+        VolumeRef::Named(name) => find_named(metas, sup, name),
     }
 }
+
+/// The least head that passes is the one that is meant.
+pub fn least_heads_are_meant()
+    ensures { (metas : map.FinMap nat_cmp Meta) (sup : Super) (volume : VolumeRef) (head : ℕ)
+        → IsLeast (is_meant sup.super_blob metas volume) head → IsHeadMeant metas sup volume (Some head) }
+{}

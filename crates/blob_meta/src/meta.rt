@@ -15,6 +15,33 @@ pub struct Flags {
     pub md_ro: u64,
 }
 
+impl Flags {
+    ghost use Rattle.std.specs.Prelude.{◌≡◌};
+    ghost use Rattle.blob_meta.specs.Faults as f;
+    ghost use Rattle.blob_meta.specs.Parents as p;
+
+    /// Whether slots are filled only when they are written.
+    pub fn is_thin(self) -> bool
+        ensures { result ≡ f.is_thin self }
+    {
+        self.invalid % 2 == 1
+    }
+
+    /// Whether neither pages nor attributes may be written.
+    pub fn is_read_only(self) -> bool
+        ensures { result ≡ p.is_read_only self }
+    {
+        self.data_ro >= 1 || self.md_ro >= 4
+    }
+
+    /// Whether the blob can't be deleted either.
+    pub fn is_locked(self) -> bool
+        ensures { result ≡ p.is_locked self }
+    {
+        self.data_ro >= 2 || self.md_ro >= 4
+    }
+}
+
 /// What the chain of a blob says. `id` is 2^32 plus the head; `map` has a slot for each cluster of the blob.
 #[derive(Debug, Drop)]
 pub struct Meta {

@@ -8,10 +8,9 @@ ghost use Rattle.volume_model.specs.Refusals.{is_reserved as reserved_said};
 ghost use Rattle.volume_model.specs.declared.reply.Reply.TheVariants as r;
 ghost use Rattle.blob_meta.specs.Asked.{asked_head as head_said, blob_named, first_cause, HasValue, IsOnHead};
 ghost use Rattle.blob_meta.specs.Asked.{IsAttributeCause, IsLiveOf, IsFirstCause};
-ghost use Rattle.blob_meta.specs.Parents.{head_of_id, is_read_only as read_only_said};
+ghost use Rattle.blob_meta.specs.Parents.{head_of_id};
 
 use crate::head_map::Metas;
-use crate::meta::Flags;
 use super_block::Super;
 use volume_model::{Blobtext, Command, Reply, VolumeRef, XattrList};
 
@@ -45,7 +44,7 @@ pub fn asked_head(command: &Command) -> u32
 }
 
 /// Whether the super block names the head as the super blob's.
-fn is_super(sup: &Super, head: u32) -> bool
+pub fn is_super(sup: &Super, head: u32) -> bool
     ensures { result ≡ is_given_head head (head_of_id sup.now.super_blob) }
 {
     sup.super_blob == (1 << 32) + u64::from(head)
@@ -56,12 +55,6 @@ fn is_reserved(key: &[u8]) -> bool
     ensures { result ≡ reserved_said key.now }
 {
     key == b"name".as_slice() || key == b"uuid".as_slice()
-}
-
-fn is_read_only(flags: Flags) -> bool
-    ensures { result ≡ read_only_said flags }
-{
-    flags.data_ro >= 1 || flags.md_ro >= 4
 }
 
 /// Whether key and value don't fit into one descriptor.
@@ -158,7 +151,7 @@ pub fn refusal_of(
         return Some(Reply::NoVolume);
     };
     let is_super = is_super(sup, head);
-    let read_only = is_read_only(meta.flags);
+    let read_only = meta.flags.is_read_only();
     match command {
         Command::SetX { key, value, .. } | Command::Put { key, value, .. } => {
             let reserved = is_super || is_reserved(key.bytes());

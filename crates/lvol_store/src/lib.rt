@@ -3,7 +3,13 @@
 #![tactic(auto)]
 
 mod attributes;
+mod creating;
+mod resizing;
+mod slots;
 mod words;
 
 pub use attributes::{plan_put, plan_sync};
+pub use creating::{plan_create, store_uuid};
+pub use resizing::plan_resize;
+pub use volume_model::uuid_for;
 pub use words::{BadName, LvolFault, check_name, parse_uuid, uuid_in};

@@ -272,6 +272,7 @@ module _ {D : Type 0} (d : Ghosts D) (p : StoreView D) (channel : ℕ) (low : ch
         head = refl;
         new = refl;
         chain = chain;
+        unerased = λ made. absurd (cc made);
         planned =
             record { needs = is.needs; least = is.least; packed = is.packed; places = is.places; says = is.planned };
         clusters = moves_none planned.head planned.new asks;

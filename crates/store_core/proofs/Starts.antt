@@ -11,7 +11,7 @@ use Rattle.std.specs.FinMap as map
 use Rattle.std.specs.FinSet as set
 use Rattle.std.proofs.Math.Path.{fun_ext}
 use Rattle.store_model.specs.Guarding.{AreGenerations}
-use Rattle.store_model.proofs.Guarding.{one_numbered}
+use Rattle.store_model.proofs.Guarding.{one_more_numbered}
 use Rattle.std.proofs.lemmas.Bool.{cases_eq, cases_lt, le-ltb, lt-ltb}
 use Rattle.std.proofs.lemmas.List.{get_or_append_left, get_or_past, get_or_push, get_or-set_other}
 use Rattle.page_disk.specs.declared.disk.PageDisk.{Ghosts}
@@ -148,7 +148,7 @@ module _ (metas : map.FinMap nat_cmp Meta) (guards : GuardsState) (room end : �
         ∙ so_far.none h (omega (arith, ge));
     generations =
         subst (λ (g : Map ℕ). AreGenerations (those_below (map.get metas) (end + 1)) g (guards.drawn + 1)) (sym given)
-        (one_numbered (those_below (map.get metas) end) (those_below (map.get metas) (end + 1)) end
+        (one_more_numbered (those_below (map.get metas) end) (those_below (map.get metas) (end + 1)) end
         (map.get guards.generations) guards.drawn
         (subst IsSome (sym (next_here (map.get metas) end)) some)
         (λ h ne. ap is_some (next_other (map.get metas) end h ne)) so_far.generations);

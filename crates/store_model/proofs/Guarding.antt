@@ -12,7 +12,7 @@ use Rattle.store_model.specs.StoreState.{going_on, JobState, StoreState}
 use Rattle.store_model.specs.Guarding.{all_renewed, AreClaimsDrawn, AreGenerations, freezing, frozen_behind, IsGuarded}
 use Rattle.store_model.specs.Guarding.{releasing}
 use Rattle.store_model.proofs.WithEntry.{given_here, given_elsewhere}
-use Rattle.store_model.proofs.Sets.{among_either}
+use Rattle.store_model.proofs.Sets.{among_either, among_first}
 use Rattle.md_chain.specs.Chain.{is_among}
 
 -- ---- frozen blobs
@@ -170,6 +170,23 @@ all_numbered base generations drawn (head ∷ heads) g there =
     subst (AreGenerations base (all_renewed generations drawn (head ∷ heads))) (omega arith)
     (all_numbered base (with_entry generations head (drawn + 1)) (drawn + 1) heads
     (one_numbered base head heads generations drawn there.0 g) there.1)
+
+-- a blob is there that gets the next number, and the others are as they were
+pub one_more_numbered : (base other : Metas) (head : ℕ) (generations : Map ℕ) (drawn : ℕ) → IsSome (other head)
+    → ((h : ℕ) → h ≢ head → is_some (other h) ≡ is_some (base h)) → AreGenerations base generations drawn
+    → AreGenerations other (with_entry generations head (drawn + 1)) (drawn + 1)
+one_more_numbered base other head generations drawn there same g =
+    all_numbered other generations drawn (head ∷ []) (record {
+      each = λ h. elim (cases_eq h head) [
+        | inl e ↦ inr (among_here h head e)
+        | inr ne ↦ inl (g.each h ∙ sym (same h ne))
+      ];
+      low = g.low;
+      differ = g.differ;
+    }) (there, tt)
+  where
+    among_here : (h head : ℕ) → h ≡ head → is_among h (head ∷ []) ≡ true
+    among_here h head e = subst (λ n. is_among n (head ∷ []) ≡ true) (sym e) (among_first head [])
 
 -- One blob has other metadata, and blobs are renewed: it too, if it is new.
 pub generations_renewed : (base : Metas) (head : ℕ) (new : Meta) (generations : Map ℕ) (drawn : ℕ) (heads : List ℕ)

@@ -22,4 +22,5 @@ pub use out_of_memory::Memory;
 pub use reply::{Df, Entry, EntryList, Info, InfoList, Msg, MsgList, Reply};
 pub use script::Script;
 pub use text::{Blobtext, Xattr, XattrList};
-pub use uuids::uuid_for;
+pub use uuids::{named_xattrs, uuid_for, uuid_of_new, uuid_said};
+pub use xattrs::with_nul;

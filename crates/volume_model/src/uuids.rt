@@ -1,11 +1,15 @@
 //! The uuids of volumes: what one has where none is given, and how they stand in its attributes.
 
-ghost use Rattle.std.specs.Prelude.{◌≡◌, IfOk};
+ghost use Rattle.std.specs.Prelude.{◌≡◌, IfOk, Some};
+ghost use Rattle.std.specs.Option.{option_map_or};
 ghost use Rattle.volume_model.specs.Uuids as u;
-ghost use Rattle.volume_model.specs.Xattrs.{uuid_key, with_nul};
+ghost use Rattle.volume_model.specs.Volumes.{Fixed, Volumes, two_xattrs};
+ghost use Rattle.volume_model.specs.Xattrs.{uuid_key, with_nul as with_nul_said};
 
+use crate::lists::ListOf;
 use crate::name::Name;
-use crate::text::Xattr;
+use crate::text::{Xattr, XattrList};
+use crate::xattrs::with_nul;
 use out_of_memory::Memory;
 use std::alloc::Global;
 use uuid::Uuid;
@@ -19,9 +23,19 @@ pub fn uuid_for(store: [u8; 16], name: &Name) -> [u8; 16]
     Uuid::new_v5(&Uuid::from_bytes(store), name.bytes()).into_bytes()
 }
 
+/// The uuid of a new volume: the given one, or else that of its name in the store.
+pub fn uuid_of_new(store: [u8; 16], name: &Name, given: Option<[u8; 16]>) -> [u8; 16]
+    ensures { result ≡ option_map_or (λ bytes. bytes) given (u.default_uuid store name.now) }
+{
+    match given {
+        Some(uuid) => uuid,
+        None => uuid_for(store, name),
+    }
+}
+
 /// The uuid that a text says; the nil uuid where it says none.
 #[tactic(auto, unfolding(crate::specs::Uuids::uuid_said))]
-pub(crate) fn uuid_said(text: &[u8]) -> [u8; 16]
+pub fn uuid_said(text: &[u8]) -> [u8; 16]
     ensures { result ≡ u.uuid_said text.now }
 {
     match Uuid::try_parse_ascii(text) {
@@ -32,8 +46,8 @@ pub(crate) fn uuid_said(text: &[u8]) -> [u8; 16]
 
 /// The attribute `uuid`: the text in lower case, and one NUL.
 #[tactic(auto, unfolding(crate::specs::Uuids::uuid_text))]
-pub(crate) fn uuid_xattr(alloc: Global, uuid: [u8; 16]) -> Result<Xattr, Memory>
-    ensures { IfOk result (λ xattr. xattr ≡ record { key = uuid_key; value = with_nul (u.uuid_text uuid) }) }
+fn uuid_xattr(alloc: Global, uuid: [u8; 16]) -> Result<Xattr, Memory>
+    ensures { IfOk result (λ xattr. xattr ≡ record { key = uuid_key; value = with_nul_said (u.uuid_text uuid) }) }
 {
     let mut buffer = Uuid::encode_buffer();
     let text = Uuid::from_bytes(uuid)
@@ -42,4 +56,15 @@ pub(crate) fn uuid_xattr(alloc: Global, uuid: [u8; 16]) -> Result<Xattr, Memory>
     let mut value = Vec::from_slice(alloc, text.as_bytes())?;
     value.push(0)?;
     Xattr::new(alloc, b"uuid", value.as_slice())
+}
+
+/// The attributes `name` and `uuid`, which a new volume of this name and uuid has alone.
+pub fn named_xattrs(alloc: Global, name: &Name, uuid: [u8; 16]) -> Result<XattrList, Memory>
+    ensures { IfOk result (λ xattrs. (f : Fixed) (v : Volumes) → xattrs ≡ two_xattrs f v name.now (Some uuid)) }
+{
+    let value = with_nul(alloc, name.bytes())?;
+    let mut xattrs = ListOf::new(alloc);
+    xattrs.push(Xattr::new(alloc, b"name", value.as_slice())?)?;
+    xattrs.push(uuid_xattr(alloc, uuid)?)?;
+    Ok(xattrs)
 }

@@ -26,6 +26,15 @@ fn until_nul(bytes: &[u8]) -> &[u8]
     }
 }
 
+/// A text and one NUL, as the values of `name` and `uuid` are written.
+pub fn with_nul(alloc: Global, text: &[u8]) -> Result<Vec<u8>, Memory>
+    ensures { IfOk result (λ value. value.items ≡ x.with_nul text.now) }
+{
+    let mut value = Vec::from_slice(alloc, text)?;
+    value.push(0)?;
+    Ok(value)
+}
+
 impl ListOf<Xattr> {
     /// The value of an attribute, the first of that key; `None` exactly where there is none.
     pub fn value_of(&self, key: &[u8]) -> Option<&Blobtext>

@@ -13,17 +13,9 @@ use crate::machine::Volumes;
 use crate::name::Name;
 use crate::reply::Reply;
 use crate::text::{Blobtext, XattrList};
+use crate::xattrs::with_nul;
 use out_of_memory::Memory;
 use std::alloc::Global;
-
-/// A text and one NUL.
-pub(super) fn with_nul(alloc: Global, text: &[u8]) -> Result<Vec<u8>, Memory>
-    ensures { IfOk result (λ value. value.items ≡ x.with_nul text.now) }
-{
-    let mut value = Vec::from_slice(alloc, text)?;
-    value.push(0)?;
-    Ok(value)
-}
 
 impl Volumes {
     /// The live attributes of the volume at a head, with one set.

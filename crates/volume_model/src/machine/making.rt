@@ -6,15 +6,13 @@ ghost use Rattle.volume_model.specs.Volumes as v;
 ghost use Rattle.volume_model.specs.declared.command.Command.TheVariants as c;
 
 use crate::command::VolumeRef;
-use crate::lists::ListOf;
 use crate::machine::Volumes;
-use crate::machine::attributes::with_nul;
 use crate::machine::pages::zeros;
 use crate::machine::rows::Volume;
 use crate::name::Name;
 use crate::reply::Reply;
-use crate::text::{Xattr, XattrList};
-use crate::uuids::{uuid_for, uuid_said, uuid_xattr};
+use crate::text::XattrList;
+use crate::uuids::{named_xattrs, uuid_of_new, uuid_said};
 use out_of_memory::Memory;
 use std::alloc::Global;
 
@@ -41,15 +39,7 @@ impl Volumes {
     ) -> Result<XattrList, Memory>
         ensures { IfOk result (λ xattrs. xattrs ≡ v.two_xattrs self.now.fixed (volumes_in self.now) name.now uuid) }
     {
-        let uuid = match uuid {
-            Some(uuid) => uuid,
-            None => uuid_for(self.store_uuid(), name),
-        };
-        let value = with_nul(alloc, name.bytes())?;
-        let mut xattrs = ListOf::new(alloc);
-        xattrs.push(Xattr::new(alloc, b"name", value.as_slice())?)?;
-        xattrs.push(uuid_xattr(alloc, uuid)?)?;
-        Ok(xattrs)
+        named_xattrs(alloc, name, uuid_of_new(self.store_uuid(), name, uuid))
     }
 
     pub(super) fn create(
