@@ -41,7 +41,7 @@ two_written f v name uuid named = record {
 
 -- ---- its map
 
-none_in : (n : ℕ) → clusters_of (replicate n None) ≡ []
+pub none_in : (n : ℕ) → clusters_of (replicate n None) ≡ []
 none_in zero = refl
 none_in (suc n) = none_in n
 
