@@ -31,7 +31,8 @@ use Rattle.store_model.specs.Scans.{MetaAt}
 use Rattle.store_model.specs.Rows.{with_row, Ended, InJob, Posted, Row, Rows}
 use Rattle.store_model.specs.StoreState.{StoreState, logged}
 use Rattle.store_model.specs.Places.{all_set, held_by, AreDistinct, AreLeastClear, IsLinked, UsedPages}
-use Rattle.store_model.specs.Jobs.{places_of, AsksFor, IsPacked, IsSyncing, Needs, MovesClusters}
+use Rattle.store_model.specs.Asking.{AsksFor, IsSyncing}
+use Rattle.store_model.specs.Jobs.{places_of, IsPacked, Needs, MovesClusters}
 use Rattle.store_model.specs.Cases.{Begins, IsPosted, IsRefusedAtBegin, Refuses}
 use Rattle.store_model.specs.RunInvariant.{CanBeWritten, IsLoadable, RunsWell}
 use Rattle.store_model.proofs.StateBegins.{writable_root}
@@ -41,7 +42,7 @@ use Rattle.store_core.specs.Begins.{IsPrepared, IsTaken}
 use Rattle.store_core.specs.StoreInvariant.{IsRunning}
 use Rattle.store_core.specs.StoreView.{StoreView, device_of, rows_of, state_of}
 use Rattle.store_core.specs.Steps.{logged_at, IsPostedAt}
-use Rattle.store_core.specs.declared.begin.Prepared.{Prepared}
+use Rattle.store_core.specs.declared.preparing.Prepared.{Prepared}
 use Rattle.store_core.proofs.AtWork.{page_of, got}
 use Rattle.store_core.proofs.Cleared.{among_get}
 use Rattle.store_core.proofs.Entered.{disk_same, entered}

@@ -8,7 +8,7 @@ use Rattle.store_model.specs.StoreState.{shown}
 use Rattle.store_model.specs.Cases.{Begins}
 use Rattle.store_core.specs.Begins.{first_job, IsPrepared, LacksPages}
 use Rattle.store_core.specs.Jobs.{job_seen}
-use Rattle.store_core.specs.declared.begin.Prepared.{Prepared}
+use Rattle.store_core.specs.declared.preparing.Prepared.{Prepared}
 use Rattle.store_core.specs.Running.{view_of}
 use Rattle.store_core.specs.StoreView.{state_of}
 use Rattle.store_core.specs.declared.job.RunningJob.{RunningJob}

@@ -4,7 +4,7 @@ use Rattle.blob_meta.specs.declared.job.Job.{Job}
 use Rattle.blob_meta.specs.declared.job.Replacement.{Replacement}
 use Rattle.blob_meta.specs.declared.meta.Meta.{Meta}
 use Rattle.blob_meta.specs.Jobs.{job_of_one}
-use Rattle.store_model.specs.Jobs.{AsksFor}
+use Rattle.store_model.specs.Asking.{AsksFor}
 use Rattle.store_core.specs.Running.{view_of}
 use Rattle.store_core.specs.StoreView.{state_of}
 use Rattle.store_core.proofs.begin.begin_or_halt.Goals as goal

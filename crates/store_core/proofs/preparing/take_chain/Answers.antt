@@ -3,7 +3,7 @@ use Rattle.bit_array.specs.Bits.{is_in}
 use Rattle.store_model.specs.Places.{all_set}
 use Rattle.store_model.proofs.Sets.{are_distinct}
 use Rattle.store_core.proofs.JobBegin.{clear_again, taken_in_use}
-use Rattle.store_core.proofs.begin.take_chain.Goals as goal
+use Rattle.store_core.proofs.preparing.take_chain.Goals as goal
 
 pub clear_places-requires-clause-distinct : goal.clear_places-requires-clause-distinct
 clear_places-requires-clause-distinct c =

@@ -1,6 +1,6 @@
 use Rattle.std.proofs.Common.{◌-◌, refl, arith}
 use Rattle.md_chain.proofs.Fitting.{some_parts}
-use Rattle.store_core.proofs.begin.prepare.Goals as goal
+use Rattle.store_core.proofs.preparing.prepare.Goals as goal
 
 pub returns-then-clear_count-needs-clause-none : goal.returns-then-clear_count-needs-clause-none
 returns-then-clear_count-needs-clause-none c =
