@@ -26,6 +26,7 @@ use Rattle.store_model.proofs.LawfulGiven.{lawful_given}
 use Rattle.volume_model.specs.Steps.{change}
 use Rattle.store_model.specs.Shown.{fixed_of}
 use Rattle.store_model.proofs.Heads.{replaced_is}
+use Rattle.store_model.proofs.OneReplacement.{IsReady}
 use Rattle.store_model.proofs.Shows.{alone_resolved}
 use Rattle.store_model.proofs.Synced.{syncs_to, shown_synced}
 use Rattle.store_model.proofs.LiveSynced.{live_synced}
@@ -46,7 +47,7 @@ module _ (known : Known) where
     abbrev commit : Committing
     commit = sync_commit new
 
-    pub loadable_new : IsLoadable s r.head new
+    loadable_new : IsLoadable s r.head new
     loadable_new =
         subst (λ h. IsLoadable s h new) (sym head_is)
         (new_loadable s head asks.old new asks.after.synced (facts.loadable head asks.old asks.there) asks.new_is
@@ -56,7 +57,7 @@ module _ (known : Known) where
     all_loadable : AreLoadable s (with_entry p.base head new)
     all_loadable = loadable_given s p.base head new facts.loadable (subst (λ h. IsLoadable s h new) head_is loadable_new)
 
-    pub base_is : replaced p.base r ≡ with_entry p.base head new
+    base_is : replaced p.base r ≡ with_entry p.base head new
     base_is = replaced_is p.base r new new_is ∙ ap (λ h. with_entry p.base h new) head_is
 
     lawful_there : IsLawful s.md_len (with_entry p.base head new)
@@ -66,13 +67,13 @@ module _ (known : Known) where
         (subst (λ n. n ≤ 2 ^ 24)
         (sym (slots_same p.base head asks.old new asks.after.synced asks.there asks.new_is s.md_len)) facts.few)
 
-    pub few_new : slots_together p.super.md_len (replaced p.base r) ≤ 2 ^ 24
+    few_new : slots_together p.super.md_len (replaced p.base r) ≤ 2 ^ 24
     few_new =
         subst (λ (m : Metas). slots_together p.super.md_len m ≤ 2 ^ 24) (sym base_is)
         (subst (λ (x : Super). slots_together x.md_len (with_entry p.base head new) ≤ 2 ^ 24) (sym facts.super)
         lawful_there.few)
 
-    pub lawful_new : IsLawful p.super.md_len (resolved (replaced p.base r))
+    lawful_new : IsLawful p.super.md_len (resolved (replaced p.base r))
     lawful_new =
         subst (λ (m : Metas). IsLawful p.super.md_len (resolved m)) (sym base_is)
         (subst (λ (m : Metas). IsLawful p.super.md_len m)
@@ -116,7 +117,7 @@ module _ (known : Known) where
             live_writable here well.live h v (sym (to.others h ne) ∙ is)
       ]
 
-    pub step : IsStep p.super p.base r p.live command commit
+    step : IsStep p.super p.base r p.live command commit
     step = record {
       done = tt;
       allowed = λ image. (may image).done;
@@ -127,4 +128,12 @@ module _ (known : Known) where
       writable = writable_new;
       renews = tt;
       numbers = λ makes. absurd (false≢true (sym there ∙ makes));
+    }
+
+    pub sync_ready : IsReady p command commit new r
+    sync_ready = record {
+      loadable = subst (λ (x : Super). IsLoadable x r.head new) (sym facts.super) loadable_new;
+      few = few_new;
+      lawful = lawful_new;
+      step = step;
     }
