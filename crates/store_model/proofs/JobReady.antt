@@ -1,6 +1,6 @@
 -- A job that a command asks for is ready once it is laid on pages, whatever the verb.
-use Rattle.std.proofs.Common.{◌≡◌, ◌∙◌, ℕ, ◌<◌, Bool, true, false, List, [], ◌∷◌, length, None, Some, refl, sym, ap, subst, inl}
-use Rattle.std.proofs.Common.{inr, arith, Option}
+use Rattle.std.proofs.Common.{◌≡◌, ◌∙◌, ℕ, ◌<◌, Bool, true, false, List, [], ◌∷◌, None, Some, refl, sym, ap, subst, inl}
+use Rattle.std.proofs.Common.{inr, arith}
 use Rattle.std.specs.Prelude.{if◌then◌else◌}
 use Rattle.std.proofs.lemmas.Bool.{cases_Bool}
 use Rattle.bit_array.specs.Bits.{IsLeastClear}
@@ -17,6 +17,7 @@ use Rattle.store_model.specs.Places.{AreLeastClear}
 use Rattle.store_model.specs.StoreState.{shown, StoreState}
 use Rattle.store_model.specs.Asking.{creates, IsJobFor, resizes, syncs}
 use Rattle.store_model.specs.Jobs.{IsLaid}
+use Rattle.store_model.specs.Loadable.{IsLoadable}
 use Rattle.store_model.specs.RunInvariant.{RunsWell}
 use Rattle.store_model.proofs.CreateStep.{create_ready}
 use Rattle.store_model.proofs.Known.{Known}
@@ -99,3 +100,44 @@ module _ (known : Known) where
   job_ready runs command changes commit (resizes y) zeros r laid =
       resize_ready known runs command changes commit y zeros r laid.head laid.new
       (there_not_made runs r _ laid y.old (ap p.base laid.head ∙ y.there))
+
+  -- the metadata that it asks for can be written, before it is laid on pages
+  pub job_writable : p.stopped ≡ None → (command : Command) (changes : Changes) (commit : Committing)
+      → IsJobFor p command changes commit → changes.zero ≡ [] → (x : Replacement) (new : Meta)
+      → changes.list ≡ x ∷ [] → x.new ≡ Some new → x.head < s.md_len → IsLoadable s x.head new
+  job_writable runs command changes commit asked zeros x new list is low =
+      let one : x ≡ record {
+        head = head_of p command changes commit asked;
+        new = Some (new_of p command changes commit asked);
+      } = let both = sym list ∙ ap (λ (y : Changes). y.list) (one_change p command changes commit asked zeros) in cc both
+      in
+      let head_is : x.head ≡ head_of p command changes commit asked = ap (λ (y : Replacement). y.head) one in
+      let new_is : new_of p command changes commit asked ≡ new =
+      let both = sym (ap (λ (y : Replacement). y.new) one) ∙ is in cc both in
+      let written : IsLoadable p.super (head_of p command changes commit asked) (new_of p command changes commit asked) =
+      by asked (subst (λ h. h < p.super.md_len) head_is (subst (λ (y : Super). x.head < y.md_len) (sym facts.super) low))
+      in
+      subst (IsLoadable s x.head) new_is (subst (λ h. IsLoadable s h (new_of p command changes commit asked))
+      (sym head_is) (subst (λ (y : Super). IsLoadable y (head_of p command changes commit asked)
+      (new_of p command changes commit asked)) facts.super written))
+    where
+      -- on no pages
+      bare : ℕ → Meta → Bool → Replacing
+      bare head m makes = record {
+        head = head;
+        new = Some m;
+        makes = makes;
+        fresh = [];
+        planned = [];
+        old = [];
+        freed = [];
+      }
+
+      by : (asked : IsJobFor p command changes commit) → head_of p command changes commit asked < p.super.md_len
+          → IsLoadable p.super (head_of p command changes commit asked) (new_of p command changes commit asked)
+      by (syncs y) low =
+          (sync_ready known runs command y.head y.new y.asks (bare y.head y.new false) refl refl refl).loadable
+      by (creates y) low = (create_ready known runs command changes commit y zeros low
+          (bare y.head (new_of p command changes commit (creates y)) true) refl refl).loadable
+      by (resizes y) low = (resize_ready known runs command changes commit y zeros
+          (bare y.head (new_of p command changes commit (resizes y)) false) refl refl refl).loadable
