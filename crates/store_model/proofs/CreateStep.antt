@@ -1,5 +1,6 @@
 -- What a create asks for: a blob that a load takes, and what each image shows with it.
-use Rattle.std.proofs.Common.{◌≡◌, ◌⊎◌, ℕ, suc, zero, ◌+◌, ◌<◌, ◌≤◌, ◌^◌, Bool, true, false, List, [], ◌∷◌, length, Option}
+use Rattle.std.proofs.Common.{◌≡◌, ◌⊎◌, ℕ, suc, zero, ◌+◌, ◌<◌, ◌≤◌, ◌^◌, Bool, true, false, List, [], ◌∷◌, length}
+use Rattle.std.proofs.Common.{Option}
 use Rattle.std.proofs.Common.{Some, None, refl, sym, ap, ◌∙◌, subst, inl, inr, arith}
 use Rattle.std.specs.Prelude.{if◌then◌else◌, is_some}
 use Rattle.md_chain.specs.Chain.{is_among}
@@ -140,13 +141,16 @@ module _ (known : Known) where
 
       shows_new : shown_of p.super (replaced p.base r) (live_of w) image ≡ w
       shows_new = ap (λ (m : Metas). shown_of p.super m (live_of w) image) base_now
-          ∙ shown_made there (base_loadable known) (base_lawful known) head none name slots thick uuid xattrs same_two loadable
+          ∙ shown_made there (base_loadable known) (base_lawful known) head none name slots thick uuid xattrs
+          same_two loadable
 
       live_at : live_of w head ≡ Some xattrs
-      live_at = live_here there (base_loadable known) (base_lawful known) head none name slots thick uuid xattrs same_two loadable
+      live_at = live_here there (base_loadable known) (base_lawful known) head none name slots thick uuid xattrs
+          same_two loadable
 
       others : (h : ℕ) → (h ≡ head → ⊥) → w h ≡ shown there h
-      others = w_elsewhere there (base_loadable known) (base_lawful known) head none name slots thick uuid xattrs same_two loadable
+      others = w_elsewhere there (base_loadable known) (base_lawful known) head none name slots thick uuid xattrs
+          same_two loadable
 
       lives : live_of w ≡ with_entry p.live r.head xattrs
       lives = fun_ext (λ h. elim (cases_eq h head) [

@@ -1,7 +1,7 @@
 -- A job that a command asks for is ready once it is laid on pages, whatever the verb.
 use Rattle.std.proofs.Common.{◌≡◌, ◌∙◌, ℕ, ◌<◌, Bool, true, false, List, [], ◌∷◌, None, Some, refl, sym, ap, subst, inl}
 use Rattle.std.proofs.Common.{inr, arith}
-use Rattle.std.specs.Prelude.{if◌then◌else◌}
+use Rattle.std.specs.Prelude.{if◌then◌else◌, is_some, ◌+◌}
 use Rattle.std.proofs.lemmas.Bool.{cases_Bool}
 use Rattle.bit_array.specs.Bits.{IsLeastClear}
 use Rattle.super_block.specs.declared.page.Super.{Super}
@@ -16,7 +16,8 @@ use Rattle.store_model.specs.Phases.{Committing, Replacing, taken_by}
 use Rattle.store_model.specs.Places.{AreLeastClear}
 use Rattle.store_model.specs.StoreState.{shown, StoreState}
 use Rattle.store_model.specs.Asking.{creates, IsJobFor, resizes, syncs}
-use Rattle.store_model.specs.Jobs.{IsLaid}
+use Rattle.store_model.specs.Maps.{Metas}
+use Rattle.store_model.specs.Jobs.{IsLaid, LacksPages, LacksPagesFor}
 use Rattle.store_model.specs.Loadable.{IsLoadable}
 use Rattle.store_model.specs.RunInvariant.{RunsWell}
 use Rattle.store_model.proofs.CreateStep.{create_ready}
@@ -27,6 +28,14 @@ use Rattle.store_model.proofs.ResizeStep.{resize_ready}
 use Rattle.store_model.proofs.SyncStep.{sync_ready}
 
 -- ---- the one replacement
+
+-- the pages that it lacks
+pub lacks_for_one : (base : Metas) (head : ℕ) (new : Meta) (bits : List Bool)
+    → LacksPages (is_some (base head)) new bits
+    → LacksPagesFor base (record { head = head; new = Some new } ∷ []) bits
+lacks_for_one base head new bits x =
+    let count : ℕ = if is_some (base head) then x.count else x.count + 1 in
+    record { count = count; take = (count, 0, (x.count, x.needs, refl), refl, omega arith); lacking = x.lacking }
 
 module _ (p : StoreState) (command : Command) (changes : Changes) (commit : Committing) where
   abbrev pub head_of : IsJobFor p command changes commit → ℕ
@@ -44,9 +53,11 @@ module _ (p : StoreState) (command : Command) (changes : Changes) (commit : Comm
   pub one_change : (asked : IsJobFor p command changes commit) → changes.zero ≡ []
       → changes ≡ job_of_one (head_of asked) (new_of asked)
   one_change (syncs x) zeros = x.is
-  one_change (creates x) zeros = x.is ∙ ap (λ (z : List ℕ). record (job_of_one x.head (new_of (creates x))) { zero = z })
+  one_change (creates x) zeros =
+      x.is ∙ ap (λ (z : List ℕ). record (job_of_one x.head (new_of (creates x))) { zero = z })
       (sym (ap (λ (y : Changes). y.zero) x.is) ∙ zeros)
-  one_change (resizes x) zeros = x.is ∙ ap (λ (z : List ℕ). record (job_of_one x.head (new_of (resizes x))) { zero = z })
+  one_change (resizes x) zeros =
+      x.is ∙ ap (λ (z : List ℕ). record (job_of_one x.head (new_of (resizes x))) { zero = z })
       (sym (ap (λ (y : Changes). y.zero) x.is) ∙ zeros)
 
 -- ---- laid on pages
@@ -109,13 +120,16 @@ module _ (known : Known) where
       let one : x ≡ record {
         head = head_of p command changes commit asked;
         new = Some (new_of p command changes commit asked);
-      } = let both = sym list ∙ ap (λ (y : Changes). y.list) (one_change p command changes commit asked zeros) in cc both
+      } =
+      let both = sym list ∙ ap (λ (y : Changes). y.list) (one_change p command changes commit asked zeros) in cc both
       in
       let head_is : x.head ≡ head_of p command changes commit asked = ap (λ (y : Replacement). y.head) one in
       let new_is : new_of p command changes commit asked ≡ new =
       let both = sym (ap (λ (y : Replacement). y.new) one) ∙ is in cc both in
-      let written : IsLoadable p.super (head_of p command changes commit asked) (new_of p command changes commit asked) =
-      by asked (subst (λ h. h < p.super.md_len) head_is (subst (λ (y : Super). x.head < y.md_len) (sym facts.super) low))
+      let written : IsLoadable p.super (head_of p command changes commit asked)
+      (new_of p command changes commit asked) =
+      by asked
+      (subst (λ h. h < p.super.md_len) head_is (subst (λ (y : Super). x.head < y.md_len) (sym facts.super) low))
       in
       subst (IsLoadable s x.head) new_is (subst (λ h. IsLoadable s h (new_of p command changes commit asked))
       (sym head_is) (subst (λ (y : Super). IsLoadable y (head_of p command changes commit asked)

@@ -16,9 +16,10 @@ use Rattle.store_model.proofs.LawfulGiven.{lawful_given, TakesNone}
 use Rattle.store_model.proofs.Replaced.{loadable_given}
 use Rattle.store_model.proofs.Shows.{alone_resolved}
 
--- What is known of the replacement, whatever the verb: a load takes the new metadata, it leaves all metadata lawful, and
--- its commit is the command's step.
-pub record IsReady (p : StoreState) (command : Command) (commit : Committing) (new : Meta) (r : Replacing) : Type 0 where
+-- What is known of the replacement, whatever the verb: a load takes the new metadata, all metadata is lawful with it,
+-- and its commit is the command's step.
+pub record IsReady (p : StoreState) (command : Command) (commit : Committing) (new : Meta)
+    (r : Replacing) : Type 0 where
   pub loadable : IsLoadable p.super r.head new
   pub few : slots_together p.super.md_len (replaced p.base r) ≤ 2 ^ 24
   pub lawful : IsLawful p.super.md_len (resolved (replaced p.base r))

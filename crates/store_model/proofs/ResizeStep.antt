@@ -9,7 +9,8 @@ use Rattle.std.proofs.lemmas.Bool.Decides.{nat_tests}
 use Rattle.std.proofs.lemmas.List.FromFn.{length-range_with_len}
 use Rattle.std.proofs.Math.Path.{fun_ext}
 use Rattle.page_disk.specs.Disk.{Image}
-use Rattle.volume_model.specs.Volumes.{all_slots, Fixed, head_of, is_super, resized, slots_at, slots_of, Volume, Volumes}
+use Rattle.volume_model.specs.Volumes.{all_slots, Fixed, head_of, is_super, resized, slots_at, slots_of, Volume}
+use Rattle.volume_model.specs.Volumes.{Volumes}
 use Rattle.volume_model.specs.Refusals.{has_longer_parent, is_too_large, refusal}
 use Rattle.volume_model.specs.Steps.{Allowed, change, named_head}
 use Rattle.volume_model.specs.declared.command.Command.{Command}
@@ -109,7 +110,8 @@ module _ (known : Known) where
     x = by p (base_loadable known) p.base (or_empty (p.live head)) head old
 
     was : shown p head ≡ Some x
-    was = shown_is p (base_loadable known) head ∙ ap (λ o. option_map (by p (base_loadable known) p.base (or_empty (p.live head)) head) o)
+    was = shown_is p (base_loadable known) head
+        ∙ ap (λ o. option_map (by p (base_loadable known) p.base (or_empty (p.live head)) head) o)
         there
 
     can : CanResize f (shown p) slots x
@@ -123,7 +125,8 @@ module _ (known : Known) where
         ∙ ap (λ (m : Metas). slots_in (m h)) (base_resolved known)
 
     all_are : all_slots f (shown p) ≡ slots_together p.super.md_len p.base
-    all_are = all_shown f p.device.reads (resolved p.base) (some_pages known) p.live ∙ ap (slots_together p.super.md_len) (base_resolved known)
+    all_are = all_shown f p.device.reads (resolved p.base) (some_pages known) p.live
+        ∙ ap (slots_together p.super.md_len) (base_resolved known)
 
     -- a blob that grows has no longer parent
     no_longer : length old.map < slots → IsNoLonger p.base old (length old.map)
@@ -213,7 +216,8 @@ module _ (known : Known) where
           ap (λ (m : Metas). shown_of p.super m (live_of w) image) base_now
           ∙ shown_given now (base_loadable known) head new childless loadable w others
           (ap (λ o. Some (by now (base_loadable known) all (or_empty o) head new)) (live_same head)
-          ∙ ap (λ (v : Volume). Some v) (volume_resized f.cluster_pages (some_pages known) p.base head old there childless image
+          ∙ ap (λ (v : Volume). Some v)
+          (volume_resized f.cluster_pages (some_pages known) p.base head old there childless image
           f.md_len slots f refl no_longer (or_empty (p.live head)))
           ∙ sym is_now)
 

@@ -57,7 +57,8 @@ module _ (f : Fixed) (v : Volumes) (image : Image) (others : Metas) (head : ℕ)
   pub volume_new : volume_of k image others f.md_len xattrs head new
       ≡ new_volume f v name uuid (zero_slots f slots) (not thick) false None
   volume_new =
-      ap (λ (pages : List Page). record (volume_of k image others f.md_len xattrs head new) { pages = pages }) pages_zero
+      ap (λ (pages : List Page). record (volume_of k image others f.md_len xattrs head new) { pages = pages })
+      pages_zero
       ∙ ap (λ (thin : Bool). record {
         pages = zero_slots f slots;
         live = xattrs;

@@ -83,7 +83,8 @@ module _ (k : ℕ) (some : 0 < k) (metas : Metas) (head : ℕ) (old : Meta) (the
       by_blob p of None is = refl
       by_blob p of (Some parent) is =
           let no : nat_lt q (k * length parent.map) ≡ false =
-          let less = mul-le-mul_left k (short p parent of is) in le-ltb q (k * length parent.map) (omega (arith, less, le)) in
+          let less = mul-le-mul_left k (short p parent of is) in
+          le-ltb q (k * length parent.map) (omega (arith, less, le)) in
           rw no refl
 
       by_parent : (o : Option ℕ) → parent_of old ≡ o

@@ -44,7 +44,8 @@ module _ (known : Known) where
     commit = sync_commit new
 
     one_loadable : IsLoadable p.super head new
-    one_loadable = new_loadable p.super head asks.old new asks.after.synced (base_loadable known head asks.old asks.there)
+    one_loadable = new_loadable p.super head asks.old new asks.after.synced
+        (base_loadable known head asks.old asks.there)
         asks.new_is (synced_written (fixed_of p.super) (shown p) command head asks.after
         (all_writable first p well) asks.syncing asks.asked asks.found asks.step)
 

@@ -1,5 +1,6 @@
 -- How a job is laid on pages, and what is known of it while it runs.
-use Rattle.std.specs.Prelude.{◌≡◌, ◌⊎◌, ℕ, ◌+◌, ◌*◌, ◌^◌, ◌<◌, ◌≤◌, if◌then◌else◌, Bool, true, false, List, [], ◌∷◌, ◌++◌}
+use Rattle.std.specs.Prelude.{◌≡◌, ◌⊎◌, ℕ, ◌+◌, ◌*◌, ◌^◌, ◌<◌, ◌≤◌, if◌then◌else◌, Bool, true, false, List, [], ◌∷◌}
+use Rattle.std.specs.Prelude.{◌++◌}
 use Rattle.std.specs.Prelude.{length, map, Option, Some, None, IsSome, is_some}
 use Rattle.std.specs.List.{AllByRecursion, flat_map, range_with_len}
 use Rattle.std.specs.Option.{option_map}
@@ -43,15 +44,15 @@ pub record Needs (new : Meta) (count : ℕ) : Type 0 where
   pub are : IsItemsOf new items
   pub chain : length (parts_of items) ≡ count + 1
 
--- So many pages are taken for new metadata: the fresh ones, and the head where no blob is there.
-pub record TakesPages (there : Bool) (new : Meta) (count : ℕ) : Type 0 where
-  pub fresh : ℕ
-  pub needs : Needs new fresh
-  pub count_is : count ≡ (if there then fresh else fresh + 1)
+-- Fewer pages are clear than the metadata of a blob needs, which is there or new: a new one needs one for its head too.
+pub record LacksPages (there : Bool) (new : Meta) (bits : List Bool) : Type 0 where
+  pub count : ℕ
+  pub needs : Needs new count
+  pub lacking : clear_in bits < (if there then count else count + 1)
 
--- none is taken where the blob is erased
+-- so many pages are taken for new metadata, the head's among them where no blob is there, and none for an erased blob
 abbrev pub Takes : Bool → Option Meta → ℕ → Type 0
-Takes there (Some new) count = TakesPages there new count
+Takes there (Some new) count = (fresh : ℕ) × Needs new fresh × (count ≡ (if there then fresh else fresh + 1))
 Takes there None count = count ≡ 0
 
 -- So many are taken for replacements, each over what the one before it leaves.
@@ -62,7 +63,7 @@ AllTake base (x ∷ xs) count =
     × AllTake (with_option base x.head x.new) xs others × (count ≡ first + others)
 
 -- fewer pages are clear than the replacements take
-pub record LacksPages (base : Metas) (list : List Replacement) (bits : List Bool) : Type 0 where
+pub record LacksPagesFor (base : Metas) (list : List Replacement) (bits : List Bool) : Type 0 where
   pub count : ℕ
   pub take : AllTake base list count
   pub lacking : clear_in bits < count

@@ -1,5 +1,6 @@
 -- The laws of the turns of a running store, and of what an image recovers of it.
-use Rattle.std.specs.Prelude.{◌≡◌, ◌≢◌, ℕ, true, false, ◌*◌, ◌^◌, ◌<◌, ◌≤◌, ◌++◌, ◌∷◌, [], Bool, List, All, slice_get, Some, None}
+use Rattle.std.specs.Prelude.{◌≡◌, ◌≢◌, ℕ, true, false, ◌*◌, ◌^◌, ◌<◌, ◌≤◌, ◌++◌, ◌∷◌, [], Bool, List, All, slice_get}
+use Rattle.std.specs.Prelude.{Some, None}
 use Rattle.page_disk.specs.Disk.{Image, Rose}
 use Rattle.super_block.specs.declared.page.Super.{Super}
 use Rattle.super_block.specs.Numbers.{cluster_pages_of, fixed_clusters_of}

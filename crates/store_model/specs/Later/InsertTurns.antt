@@ -1,6 +1,5 @@
 -- The turns by which a copied cluster is inserted into its slot.
 use Rattle.std.specs.Prelude.{◌≡◌, ℕ, ◌<◌, List, [], ◌∷◌, length, None, Some, Bool, true, false}
-use Rattle.blob_meta.specs.declared.job.Replacement.{Replacement}
 use Rattle.blob_meta.specs.declared.meta.Meta.{Meta}
 use Rattle.blob_meta.specs.Parents.{slot}
 use Rattle.store_model.specs.Maps.{with_entry}
@@ -37,10 +36,6 @@ pub record CanInsert (p : StoreState) (claim : OpenClaim) (meta : Meta) : Type 0
   pub within : claim.slot < length meta.map
   pub empty : slot meta claim.slot ≡ None
 
--- the blob with the cluster in the slot
-abbrev pub insert_of : OpenClaim → Meta → Replacement
-insert_of claim meta = record { head = claim.head; new = Some (with_slot meta claim.slot claim.cluster) }
-
 -- The job of one replacement begins that puts the cluster into the slot.
 pub record BeginsInsert (p q : StoreState) : Type 0 where
   pub serial : ℕ
@@ -50,7 +45,9 @@ pub record BeginsInsert (p q : StoreState) : Type 0 where
   pub meta : Meta
   pub can : CanInsert p posted.claim meta
   pub replacing : Replacing
-  pub laid : IsLaid p.super p.base p.chains p.pages (posted.claim.cluster ∷ []) (insert_of posted.claim meta) replacing
+  pub laid : IsLaid p.super p.base p.chains p.pages (posted.claim.cluster ∷ [])
+      (record { head = posted.claim.head; new = Some (with_slot meta posted.claim.slot posted.claim.cluster) })
+      replacing
   pub next : q ≡ record p {
     rows = with_row p.rows posted.row (record { left = posted.left; stage = InJob; claim = Some posted.claim });
     job = Some (record {
@@ -81,7 +78,7 @@ pub record LacksForInsert (p q : StoreState) : Type 0 where
   pub no_job : p.job ≡ None
   pub meta : Meta
   pub can : CanInsert p posted.claim meta
-  pub lacks : LacksPages p.base (insert_of posted.claim meta ∷ []) p.pages
+  pub lacks : LacksPages true (with_slot meta posted.claim.slot posted.claim.cluster) p.pages
   pub logs : LogsFor p posted.row (Decided Answered) r.NoPage p.device q
 
 -- ---- the job of an insert

@@ -9,7 +9,8 @@ returns c = record {
   keep = turn_keeps c.refusal_changes_nothing.ensures;
   go_on = run_more;
   writable = λ s first script p command changes commit placed facts runs asked zeros x new list is low.
-      job_writable (record { s = s; placed = placed; first = first; script = script; p = p; facts = facts }) runs command
+      job_writable (record { s = s; placed = placed; first = first; script = script; p = p; facts = facts })
+      runs command
       changes commit asked zeros x new list is low;
   recovers = λ s first script p image placed facts runs store says same.
       behind_recovers s first script p facts runs placed image store says same;
