@@ -1,16 +1,16 @@
 -- What a create asks for: a blob that a load takes, and what each image shows with it.
-use Rattle.std.proofs.Common.{◌≡◌, ◌⊎◌, ℕ, suc, zero, ◌+◌, ◌<◌, ◌≤◌, ◌^◌, Bool, true, false, List, [], ◌∷◌, length, Option}
+use Rattle.std.proofs.Common.{◌≡◌, ◌⊎◌, ℕ, suc, zero, ◌+◌, ◌<◌, ◌≤◌, ◌^◌, Bool, true, false, List, [], ◌∷◌, length}
+use Rattle.std.proofs.Common.{Option}
 use Rattle.std.proofs.Common.{Some, None, refl, sym, ap, ◌∙◌, subst, inl, inr, arith}
 use Rattle.std.specs.Prelude.{if◌then◌else◌, is_some}
 use Rattle.md_chain.specs.Chain.{is_among}
 use Rattle.std.specs.List.{range_with_len}
 use Rattle.std.specs.Option.{option_map}
-use Rattle.std.proofs.lemmas.Bool.{cases_eq, eq-eqb}
+use Rattle.std.proofs.lemmas.Bool.{cases_eq}
 use Rattle.std.proofs.lemmas.Bool.Decides.{nat_tests}
 use Rattle.std.proofs.lemmas.List.{length-replicate}
 use Rattle.std.proofs.Math.Path.{fun_ext}
 use Rattle.page_disk.specs.Disk.{Image}
-use Rattle.super_block.specs.declared.page.Super.{Super}
 use Rattle.volume_model.specs.Blank.{blanked}
 use Rattle.volume_model.specs.Volumes.{all_slots, Fixed, two_xattrs, Volume, Volumes}
 use Rattle.volume_model.specs.Xattrs.{Text, Xattrs}
@@ -24,7 +24,7 @@ use Rattle.volume_model.proofs.BlankSteps.{same_change}
 use Rattle.blob_meta.specs.declared.meta.Meta.{Meta}
 use Rattle.blob_meta.specs.declared.job.Job.{Job as Changes}
 use Rattle.blob_meta.specs.Jobs.{new_meta}
-use Rattle.blob_meta.specs.Resolving.{IsLawful, resolved, slots_together}
+use Rattle.blob_meta.specs.Resolving.{resolved, slots_together}
 use Rattle.store_model.specs.Maps.{Metas, with_entry}
 use Rattle.store_model.specs.Shown.{fixed_of}
 use Rattle.store_model.specs.Phases.{Committing, replaced, Replacing}
@@ -34,13 +34,11 @@ use Rattle.store_model.specs.Jobs.{IsStep, shown_of}
 use Rattle.store_model.specs.Loadable.{AreLoadable, CanBeWritten, IsLoadable}
 use Rattle.store_model.specs.RunInvariant.{RunsWell}
 use Rattle.store_model.proofs.Known.{Known}
-use Rattle.store_model.proofs.LawfulGiven.{lawful_given}
 use Rattle.store_model.proofs.Meanwhile.{blank_reading, reading}
 use Rattle.store_model.proofs.Moved.{live_shown, live_writable}
 use Rattle.store_model.proofs.NewBlob.{new_loadable, new_takes_none, two_written}
-use Rattle.store_model.proofs.OneReplacement.{IsReady, replaced_at}
-use Rattle.store_model.proofs.Replaced.{loadable_given}
-use Rattle.store_model.proofs.Shows.{alone_resolved}
+use Rattle.store_model.proofs.OneReplacement.{all_loadable, base_is, base_lawful, base_loadable, base_resolved, IsReady}
+use Rattle.store_model.proofs.OneReplacement.{ready_by, some_pages}
 use Rattle.store_model.proofs.ShowsNew.{live_here, shown_made, w_elsewhere}
 use Rattle.store_model.proofs.SlotSums.{all_shown, slots_given, slots_in}
 use Rattle.store_model.proofs.Writable.{AllWritable, none_holds}
@@ -77,7 +75,7 @@ two_same f v w same name uuid =
     cc x
 
 module _ (known : Known) where
-  open known use {s, placed, first, script, p, facts}
+  open known use {first, p, facts}
 
   module _ (runs : p.stopped ≡ None) (name : Text) (slots : ℕ) (thick : Bool) (uuid : Option (List ℕ))
       (thin : (thick ≡ false) ⊎ (slots ≡ 0)) (xattrs : Xattrs) (can : CanBeWritten xattrs)
@@ -100,21 +98,11 @@ module _ (known : Known) where
     few : Fits (fixed_of p.super) (shown p) slots
     few = fits (fixed_of p.super) (shown p) name slots thick uuid asked
 
-    base_loadable : AreLoadable p.super p.base
-    base_loadable = subst (λ (y : Super). AreLoadable y p.base) (sym facts.super) facts.loadable
-
-    base_resolved : resolved p.base ≡ p.base
-    base_resolved = alone_resolved p.super p.base base_loadable
-
-    base_lawful : IsLawful p.super.md_len p.base
-    base_lawful = subst (IsLawful p.super.md_len) base_resolved
-        (subst (λ (y : Super). IsLawful y.md_len (resolved p.base)) (sym facts.super) facts.lawful)
-
     one_loadable : IsLoadable p.super head new
     one_loadable = new_loadable p.super head xattrs thick slots low can few.alone thin
 
-    all_loadable : AreLoadable p.super all
-    all_loadable = loadable_given p.super p.base head new base_loadable one_loadable
+    loadable : AreLoadable p.super all
+    loadable = all_loadable known head new one_loadable
 
     all_few : slots_together p.super.md_len all ≤ 2 ^ 24
     all_few =
@@ -123,16 +111,11 @@ module _ (known : Known) where
         ∙ slots_given p.super.md_len p.base head new low in
         let shows : all_slots (fixed_of p.super) (shown p) ≡ slots_together p.super.md_len p.base =
         all_shown (fixed_of p.super) p.device.reads (resolved p.base)
-        (subst (λ (y : Super). 0 < (fixed_of y).cluster_pages) (sym facts.super) placed.some_pages) p.live
-        ∙ ap (slots_together p.super.md_len) base_resolved in
+        (some_pages known) p.live ∙ ap (slots_together p.super.md_len) (base_resolved known) in
         omega (arith, counted, shows, few.together, length-replicate {A = Option ℕ} slots None)
 
-    all_lawful : IsLawful p.super.md_len all
-    all_lawful = lawful_given p.super.md_len p.base head new (new_takes_none p.base head xattrs thick slots none)
-        base_lawful all_few
-
-    base_is : replaced p.base r ≡ all
-    base_is = replaced_at p.base r head new head_is new_is
+    base_now : replaced p.base r ≡ all
+    base_now = base_is known head new one_loadable r head_is new_is
 
     -- ---- what every image shows
 
@@ -157,14 +140,17 @@ module _ (known : Known) where
       )
 
       shows_new : shown_of p.super (replaced p.base r) (live_of w) image ≡ w
-      shows_new = ap (λ (m : Metas). shown_of p.super m (live_of w) image) base_is
-          ∙ shown_made there base_loadable base_lawful head none name slots thick uuid xattrs same_two all_loadable
+      shows_new = ap (λ (m : Metas). shown_of p.super m (live_of w) image) base_now
+          ∙ shown_made there (base_loadable known) (base_lawful known) head none name slots thick uuid xattrs
+          same_two loadable
 
       live_at : live_of w head ≡ Some xattrs
-      live_at = live_here there base_loadable base_lawful head none name slots thick uuid xattrs same_two all_loadable
+      live_at = live_here there (base_loadable known) (base_lawful known) head none name slots thick uuid xattrs
+          same_two loadable
 
       others : (h : ℕ) → (h ≡ head → ⊥) → w h ≡ shown there h
-      others = w_elsewhere there base_loadable base_lawful head none name slots thick uuid xattrs same_two all_loadable
+      others = w_elsewhere there (base_loadable known) (base_lawful known) head none name slots thick uuid xattrs
+          same_two loadable
 
       lives : live_of w ≡ with_entry p.live r.head xattrs
       lives = fun_ext (λ h. elim (cases_eq h head) [
@@ -192,18 +178,13 @@ module _ (known : Known) where
       shows = shows_new;
       lives = lives;
       writable = writable;
-      renews = (ap (λ (m : Metas). is_some (m head)) base_is ∙ ap is_some (given_here p.base head new head refl), tt);
+      renews = (ap (λ (m : Metas). is_some (m head)) base_now ∙ ap is_some (given_here p.base head new head refl), tt);
       numbers = λ makes. subst (λ h. is_among h (head ∷ []) ≡ true) (sym head_is) (among_first head []);
     }
 
     pub ready : IsReady p (c.Create name slots thick uuid) commit new r
-    ready = record {
-      loadable = subst (λ h. IsLoadable p.super h new) (sym head_is) one_loadable;
-      few = subst (λ (m : Metas). slots_together p.super.md_len m ≤ 2 ^ 24) (sym base_is) all_few;
-      lawful = subst (λ (m : Metas). IsLawful p.super.md_len (resolved m)) (sym base_is)
-          (subst (IsLawful p.super.md_len) (sym (alone_resolved p.super all all_loadable)) all_lawful);
-      step = step;
-    }
+    ready = ready_by known head new one_loadable r head_is new_is (c.Create name slots thick uuid) commit
+        (new_takes_none p.base head xattrs thick slots none) all_few step
 
   -- what a create without slots of zeros asks for is ready, once its head is a place of the region
   pub create_ready : p.stopped ≡ None → (command : Command) (changes : Changes) (commit : Committing)

@@ -3,7 +3,8 @@ use Rattle.std.proofs.Common.{◌≡◌, ◌≢◌, ◌⊎◌, ℕ, ◌++◌, tr
 use Rattle.std.proofs.Common.{subst, ap, ◌∙◌, refl}
 use Rattle.store_model.specs.Places.{AreDistinct, claimed_by, held_by}
 use Rattle.store_model.specs.Phases.{Replacing, taken_by, Phase, Writes, held_in, next_replacing, page_in, has_commit}
-use Rattle.store_model.specs.Phases.{chain_before, planned_in, Erases, Zeros, Replaces, taken_in, Frees, Marks, replaced}
+use Rattle.store_model.specs.Phases.{chain_before, planned_in, Erases, Zeros, Replaces, taken_in, Frees, Marks}
+use Rattle.store_model.specs.Phases.{replaced}
 use Rattle.super_block.specs.declared.page.Super.{Super}
 use Rattle.md_chain.specs.Chain.{is_among, Look}
 use Rattle.store_model.specs.StoreState.{JobState, going_on, planned_at, waiting, Service, ForCommand, ForInsert}

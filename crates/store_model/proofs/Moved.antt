@@ -109,7 +109,8 @@ pub live_writable : (p : StoreState) → HaveLive p → AllWritable (shown p)
 live_writable p live h x is = at (resolved p.base h) refl is
   where
     shown_by : Option Meta → Option Volume
-    shown_by o = option_map (λ m. volume_of (fixed_of p.super).cluster_pages p.device.reads (resolved p.base) p.super.md_len
+    shown_by o = option_map (λ m. volume_of (fixed_of p.super).cluster_pages p.device.reads
+        (resolved p.base) p.super.md_len
         (or_empty (p.live h)) h m) o
 
     at : (o : Option Meta) → resolved p.base h ≡ o → shown_by o ≡ Some x → CanBeWritten x.live
@@ -128,7 +129,8 @@ module _ (p q : StoreState) (w : Volumes) (only : OnlyLive (shown p) w) (super :
     (base : q.base ≡ p.base) (reads : q.device.reads ≡ p.device.reads) (live : q.live ≡ live_of w) where
   abbrev with_live : ℕ → Xattrs → Option Meta → Option Volume
   with_live h xs o =
-      option_map (λ m. volume_of (fixed_of p.super).cluster_pages p.device.reads (resolved p.base) p.super.md_len xs h m) o
+      option_map (λ m. volume_of (fixed_of p.super).cluster_pages p.device.reads (resolved p.base)
+      p.super.md_len xs h m) o
 
   again : (h : ℕ) (xs : Xattrs) (o : Option Meta)
       → with_live h xs o ≡ option_map (λ (x : Volume). record x { live = xs }) (with_live h (or_empty (p.live h)) o)
@@ -137,7 +139,8 @@ module _ (p q : StoreState) (w : Volumes) (only : OnlyLive (shown p) w) (super :
 
   pub shown_live : shown q ≡ w
   shown_live =
-      fun_ext (λ h. (rw (super, base, reads, live) refl) ∙ again h (or_empty (live_of w h)) (resolved p.base h) ∙ sym (only h))
+      fun_ext (λ h. (rw (super, base, reads, live) refl) ∙ again h (or_empty (live_of w h)) (resolved p.base h)
+      ∙ sym (only h))
 
 -- each blob has live attributes that can be written
 module _ (p : StoreState) (w : Volumes) (only : OnlyLive (shown p) w) (can : AllWritable w) where

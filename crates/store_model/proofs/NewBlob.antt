@@ -1,7 +1,7 @@
 -- The metadata of a new blob: a load takes it, and with it the metadata of all blobs is lawful.
-use Rattle.std.proofs.Common.{◌≡◌, ◌⊎◌, ℕ, zero, suc, ◌+◌, ◌<◌, ◌≤◌, ◌^◌, Bool, true, false, List, [], ◌∷◌, length}
-use Rattle.std.proofs.Common.{Option, Some, None, refl, sym, ◌∙◌, inl, inr, arith, length-append}
-use Rattle.std.specs.Prelude.{if◌then◌else◌, nat_le, replicate, slice_get, codes}
+use Rattle.std.proofs.Common.{◌≡◌, ◌⊎◌, ℕ, zero, suc, ◌<◌, ◌≤◌, ◌^◌, Bool, true, false, List, [], ◌∷◌, length}
+use Rattle.std.proofs.Common.{Option, None, refl, sym, ◌∙◌, inl, inr, arith, length-append}
+use Rattle.std.specs.Prelude.{if◌then◌else◌, nat_le, replicate, slice_get}
 use Rattle.std.specs.Option.{option_and_then, option_map_or}
 use Rattle.std.proofs.lemmas.Bool.{le-leb}
 use Rattle.std.proofs.lemmas.List.{length-replicate}
@@ -10,14 +10,12 @@ use Rattle.volume_model.proofs.UuidTexts.{length-uuid_text}
 use Rattle.volume_model.specs.Names.{IsName}
 use Rattle.volume_model.specs.Uuids.{default_uuid, uuid_text}
 use Rattle.volume_model.specs.Volumes.{Fixed, store_uuid, two_xattrs, Volumes}
-use Rattle.volume_model.specs.Xattrs.{Text, with_nul, Xattrs}
-use Rattle.blob_meta.specs.declared.meta.Meta.{Meta}
+use Rattle.volume_model.specs.Xattrs.{Text, Xattrs}
 use Rattle.blob_meta.specs.declared.meta.Flags.{Flags}
 use Rattle.blob_meta.specs.declared.fault.MetaFault.{MetaFault}
-use Rattle.blob_meta.specs.Faults.{bad_mark, cluster_outside, clusters_of, first_some, hole_in_thick, map_fault, meta_fault}
+use Rattle.blob_meta.specs.Faults.{clusters_of, first_some, hole_in_thick, map_fault}
 use Rattle.blob_meta.specs.Faults.{too_large, unknown_flag}
 use Rattle.blob_meta.specs.Jobs.{new_meta}
-use Rattle.blob_meta.specs.Parents.{slot}
 use Rattle.blob_meta.specs.Says.{without_bit_1}
 use Rattle.store_model.specs.Maps.{Metas}
 use Rattle.store_model.specs.Regions.{region_of}

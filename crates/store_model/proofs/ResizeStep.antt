@@ -9,8 +9,8 @@ use Rattle.std.proofs.lemmas.Bool.Decides.{nat_tests}
 use Rattle.std.proofs.lemmas.List.FromFn.{length-range_with_len}
 use Rattle.std.proofs.Math.Path.{fun_ext}
 use Rattle.page_disk.specs.Disk.{Image}
-use Rattle.super_block.specs.declared.page.Super.{Super}
-use Rattle.volume_model.specs.Volumes.{all_slots, Fixed, head_of, is_super, resized, slots_at, slots_of, Volume, Volumes}
+use Rattle.volume_model.specs.Volumes.{all_slots, Fixed, head_of, is_super, resized, slots_at, slots_of, Volume}
+use Rattle.volume_model.specs.Volumes.{Volumes}
 use Rattle.volume_model.specs.Refusals.{has_longer_parent, is_too_large, refusal}
 use Rattle.volume_model.specs.Steps.{Allowed, change, named_head}
 use Rattle.volume_model.specs.declared.command.Command.{Command}
@@ -22,10 +22,9 @@ use Rattle.blob_meta.specs.declared.meta.Meta.{Meta}
 use Rattle.blob_meta.specs.declared.job.Job.{Job as Changes}
 use Rattle.blob_meta.specs.Faults.{is_thin}
 use Rattle.blob_meta.specs.Jobs.{resized_meta}
-use Rattle.blob_meta.specs.Parents.{is_read_only, parent_of}
-use Rattle.blob_meta.specs.Resolving.{IsLawful, resolved, slots_together}
+use Rattle.blob_meta.specs.Resolving.{resolved, slots_together}
 use Rattle.store_model.specs.Maps.{Metas, with_entry}
-use Rattle.store_model.specs.Shown.{fixed_of, shown_by}
+use Rattle.store_model.specs.Shown.{fixed_of}
 use Rattle.store_model.specs.Phases.{Committing, replaced, Replacing}
 use Rattle.store_model.specs.StoreState.{live_of, shown, StoreState}
 use Rattle.store_model.specs.Asking.{IsResizeJob}
@@ -35,13 +34,12 @@ use Rattle.store_model.specs.RunInvariant.{RunsWell}
 use Rattle.store_model.proofs.Cut.{length_cut}
 use Rattle.store_model.proofs.Elsewhere.{IsChildless}
 use Rattle.store_model.proofs.Known.{Known}
-use Rattle.store_model.proofs.LawfulGiven.{lawful_given}
 use Rattle.store_model.proofs.Meanwhile.{blank_reading, reading}
 use Rattle.store_model.proofs.Moved.{live_shown, live_writable}
-use Rattle.store_model.proofs.OneReplacement.{IsReady, replaced_at}
-use Rattle.store_model.proofs.Replaced.{loadable_given}
+use Rattle.store_model.proofs.OneReplacement.{all_loadable, base_is, base_lawful, base_loadable, base_resolved, IsReady}
+use Rattle.store_model.proofs.OneReplacement.{ready_by, some_pages}
 use Rattle.store_model.proofs.ResizedBlob.{resized_loadable, resized_takes_none}
-use Rattle.store_model.proofs.Shows.{alone_resolved, or_empty}
+use Rattle.store_model.proofs.Shows.{or_empty}
 use Rattle.store_model.proofs.ShowsGiven.{by, shown_given, shown_is, writable_childless}
 use Rattle.store_model.proofs.ShowsResized.{IsNoLonger, volume_resized}
 use Rattle.store_model.proofs.SlotSums.{all_shown, slots_at_shown, slots_given, slots_in, slots_shown}
@@ -81,7 +79,7 @@ can_resize f v volume slots head x found there asked =
     record { writable = none.1.0; short = none.1.1.0; large = none.1.1.1.0 }
 
 module _ (known : Known) where
-  open known use {s, placed, first, script, p, facts}
+  open known use {first, p, facts}
 
   module _ (runs : p.stopped ≡ None) (volume : VolumeRef) (slots : ℕ)
       (asked : refusal (fixed_of p.super) (shown p) (c.Resize volume slots) ≡ None) (head : ℕ)
@@ -106,40 +104,29 @@ module _ (known : Known) where
     abbrev commit : Committing
     commit = record { reply = r_.Ok; live = None; renews = renews }
 
-    some : 0 < f.cluster_pages
-    some = subst (λ (y : Super). 0 < (fixed_of y).cluster_pages) (sym facts.super) placed.some_pages
-
-    base_loadable : AreLoadable p.super p.base
-    base_loadable = subst (λ (y : Super). AreLoadable y p.base) (sym facts.super) facts.loadable
-
-    base_resolved : resolved p.base ≡ p.base
-    base_resolved = alone_resolved p.super p.base base_loadable
-
-    base_lawful : IsLawful p.super.md_len p.base
-    base_lawful = subst (IsLawful p.super.md_len) base_resolved
-        (subst (λ (y : Super). IsLawful y.md_len (resolved p.base)) (sym facts.super) facts.lawful)
-
     -- ---- the volume, and what doesn't hold of it
 
     abbrev x : Volume
-    x = by p base_loadable p.base (or_empty (p.live head)) head old
+    x = by p (base_loadable known) p.base (or_empty (p.live head)) head old
 
     was : shown p head ≡ Some x
-    was = shown_is p base_loadable head ∙ ap (λ o. option_map (by p base_loadable p.base (or_empty (p.live head)) head) o)
+    was = shown_is p (base_loadable known) head
+        ∙ ap (λ o. option_map (by p (base_loadable known) p.base (or_empty (p.live head)) head) o)
         there
 
     can : CanResize f (shown p) slots x
     can = can_resize f (shown p) volume slots head x found was asked
 
     slots_are : slots_of f x ≡ length old.map
-    slots_are = slots_shown f p.device.reads p.base some (or_empty (p.live head)) head old
+    slots_are = slots_shown f p.device.reads p.base (some_pages known) (or_empty (p.live head)) head old
 
     slots_at_are : (h : ℕ) → slots_at f (shown p) h ≡ slots_in (p.base h)
-    slots_at_are h = slots_at_shown f p.device.reads (resolved p.base) some p.live h
-        ∙ ap (λ (m : Metas). slots_in (m h)) base_resolved
+    slots_at_are h = slots_at_shown f p.device.reads (resolved p.base) (some_pages known) p.live h
+        ∙ ap (λ (m : Metas). slots_in (m h)) (base_resolved known)
 
     all_are : all_slots f (shown p) ≡ slots_together p.super.md_len p.base
-    all_are = all_shown f p.device.reads (resolved p.base) some p.live ∙ ap (slots_together p.super.md_len) base_resolved
+    all_are = all_shown f p.device.reads (resolved p.base) (some_pages known) p.live
+        ∙ ap (slots_together p.super.md_len) (base_resolved known)
 
     -- a blob that grows has no longer parent
     no_longer : length old.map < slots → IsNoLonger p.base old (length old.map)
@@ -154,16 +141,16 @@ module _ (known : Known) where
         omega (arith, le, long, slots_are)
 
     childless : IsChildless p.base head
-    childless = writable_childless p.base head old base_lawful.parents there can.writable
+    childless = writable_childless p.base head old (base_lawful known).parents there can.writable
 
     -- ---- the metadata
 
     one_loadable : IsLoadable p.super head new
     one_loadable = resized_loadable old slots thin p.super head
-        (let large = can.large in grind (arith, nat_tests, large)) (base_loadable head old there)
+        (let large = can.large in grind (arith, nat_tests, large)) (base_loadable known head old there)
 
-    all_loadable : AreLoadable p.super all
-    all_loadable = loadable_given p.super p.base head new base_loadable one_loadable
+    loadable : AreLoadable p.super all
+    loadable = all_loadable known head new one_loadable
 
     all_few : slots_together p.super.md_len all ≤ 2 ^ 24
     all_few =
@@ -172,20 +159,16 @@ module _ (known : Known) where
         let counted : slots_together p.super.md_len all + length old.map
         ≡ slots_together p.super.md_len p.base + length new.map =
         ap (λ o. slots_together p.super.md_len all + slots_in o) (sym there)
-        ∙ slots_given p.super.md_len p.base head new (base_loadable head old there).stored.low in
+        ∙ slots_given p.super.md_len p.base head new (base_loadable known head old there).stored.low in
         omega (arith, together, counted, all_are, slots_are, length_cut {X = Option ℕ} old.map slots None)
 
-    all_lawful : IsLawful p.super.md_len all
-    all_lawful = lawful_given p.super.md_len p.base head new (resized_takes_none p.base head old slots there)
-        base_lawful all_few
-
-    base_is : replaced p.base r ≡ all
-    base_is = replaced_at p.base r head new head_is new_is
+    base_now : replaced p.base r ≡ all
+    base_now = base_is known head new one_loadable r head_is new_is
 
     renews_there : (b : Bool) → AllByRecursion (λ h. IsSome (replaced p.base r h)) (if b then head ∷ [] else [])
     renews_there false = tt
     renews_there true =
-        (ap (λ (m : Metas). is_some (m head)) base_is ∙ ap is_some (given_here p.base head new head refl), tt)
+        (ap (λ (m : Metas). is_some (m head)) base_now ∙ ap is_some (given_here p.base head new head refl), tt)
 
     -- ---- what every image shows
 
@@ -209,11 +192,11 @@ module _ (known : Known) where
       others h ne = edited_there f (shown now) (head_of f (shown now) volume) edit head found_now h ne
 
       abbrev y : Volume
-      y = by now base_loadable p.base (or_empty (p.live head)) head old
+      y = by now (base_loadable known) p.base (or_empty (p.live head)) head old
 
       was_now : shown now head ≡ Some y
-      was_now = shown_is now base_loadable head
-          ∙ ap (λ o. option_map (by now base_loadable p.base (or_empty (p.live head)) head) o) there
+      was_now = shown_is now (base_loadable known) head
+          ∙ ap (λ o. option_map (by now (base_loadable known) p.base (or_empty (p.live head)) head) o) there
 
       is_now : w head ≡ Some (edit y)
       is_now = here ∙ ap (option_map edit) was_now
@@ -230,10 +213,11 @@ module _ (known : Known) where
 
       shows_new : shown_of p.super (replaced p.base r) (live_of w) image ≡ w
       shows_new =
-          ap (λ (m : Metas). shown_of p.super m (live_of w) image) base_is
-          ∙ shown_given now base_loadable head new childless all_loadable w others
-          (ap (λ o. Some (by now base_loadable all (or_empty o) head new)) (live_same head)
-          ∙ ap (λ (v : Volume). Some v) (volume_resized f.cluster_pages some p.base head old there childless image
+          ap (λ (m : Metas). shown_of p.super m (live_of w) image) base_now
+          ∙ shown_given now (base_loadable known) head new childless loadable w others
+          (ap (λ o. Some (by now (base_loadable known) all (or_empty o) head new)) (live_same head)
+          ∙ ap (λ (v : Volume). Some v)
+          (volume_resized f.cluster_pages (some_pages known) p.base head old there childless image
           f.md_len slots f refl no_longer (or_empty (p.live head)))
           ∙ sym is_now)
 
@@ -261,13 +245,8 @@ module _ (known : Known) where
     }
 
     pub ready : IsReady p (c.Resize volume slots) commit new r
-    ready = record {
-      loadable = subst (λ h. IsLoadable p.super h new) (sym head_is) one_loadable;
-      few = subst (λ (m : Metas). slots_together p.super.md_len m ≤ 2 ^ 24) (sym base_is) all_few;
-      lawful = subst (λ (m : Metas). IsLawful p.super.md_len (resolved m)) (sym base_is)
-          (subst (IsLawful p.super.md_len) (sym (alone_resolved p.super all all_loadable)) all_lawful);
-      step = step;
-    }
+    ready = ready_by known head new one_loadable r head_is new_is (c.Resize volume slots) commit
+        (resized_takes_none p.base head old slots there) all_few step
 
   -- what a resize without slots of zeros asks for is ready
   pub resize_ready : p.stopped ≡ None → (command : Command) (changes : Changes) (commit : Committing)

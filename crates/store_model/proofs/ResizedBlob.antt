@@ -1,16 +1,16 @@
--- The metadata of a blob with another number of slots: a load takes it, and with it the metadata of all blobs is lawful.
-use Rattle.std.proofs.Common.{◌≡◌, ◌⊎◌, ℕ, ◌≤◌, ◌^◌, Bool, true, false, List, [], ◌∷◌, Option, Some, None, refl, sym, ap, ◌∙◌}
+-- The metadata of a blob with another number of slots: a load takes it, and with it all metadata is lawful.
+use Rattle.std.proofs.Common.{◌≡◌, ◌⊎◌, ℕ, ◌≤◌, ◌^◌, true, List, [], ◌∷◌, Option, Some, None, refl, sym, ap, ◌∙◌}
 use Rattle.std.proofs.Common.{subst, inl, inr, length}
-use Rattle.std.specs.Prelude.{find, if◌then◌else◌, is_none, take}
+use Rattle.std.specs.Prelude.{find, if◌then◌else◌, is_none}
 use Rattle.std.specs.List.{position}
 use Rattle.std.specs.Option.{option_map}
 use Rattle.std.proofs.lemmas.Bool.{cases_Bool}
 use Rattle.super_block.specs.declared.page.Super.{Super}
 use Rattle.blob_meta.specs.declared.meta.Meta.{Meta}
-use Rattle.blob_meta.specs.declared.meta.Flags.{Flags}
 use Rattle.blob_meta.specs.declared.fault.MetaFault.{MetaFault}
 use Rattle.blob_meta.specs.declared.fault.MetaFault.TheVariants as faults
-use Rattle.blob_meta.specs.Faults.{bad_mark, cluster_outside, clusters_of, first_some, hole_in_thick, is_outside, is_thin}
+use Rattle.blob_meta.specs.Faults.{bad_mark, cluster_outside, clusters_of, first_some, hole_in_thick, is_outside}
+use Rattle.blob_meta.specs.Faults.{is_thin}
 use Rattle.blob_meta.specs.Faults.{map_fault, meta_fault, too_large, unknown_flag}
 use Rattle.blob_meta.specs.Jobs.{resized_meta}
 use Rattle.blob_meta.specs.Parents.{is_read_only}

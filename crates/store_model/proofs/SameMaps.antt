@@ -1,7 +1,7 @@
 -- The content of pages is by the maps and the parents of blobs alone.
 use Rattle.std.proofs.Common.{◌≡◌, ℕ, zero, suc, ◌*◌, ◌/◌, List, length, Option, Some, None, refl, sym, ap, ◌∙◌}
 use Rattle.std.specs.Prelude.{nat_lt, slice_get, if◌then◌else◌}
-use Rattle.std.specs.Option.{option_map, option_map_or, option_and_then}
+use Rattle.std.specs.Option.{option_map_or, option_and_then}
 use Rattle.page_disk.specs.Disk.{Image}
 use Rattle.volume_model.specs.Volumes.{zero_page}
 use Rattle.blob_meta.specs.declared.meta.Meta.{Meta}

@@ -101,5 +101,6 @@ pub shown_written : (told : Bool) (s : Super) (p : StoreState) (d : Device) (pla
     → AreLoadable s p.base → IsLawful s.md_len (resolved p.base) → IsPlaced s → place < s.md_len
     → d.reads ≡ read_after told p.device.reads (s.md_start + place) page → shown (record p { device = d }) ≡ shown p
 shown_written told s p d place page super loadable lawful placed low reads =
-    rw super (shown_same s (resolved p.base) lawful.parents (resolved_faultless s p.base loadable) p.device.reads d.reads
+    rw super (shown_same s (resolved p.base) lawful.parents (resolved_faultless s p.base loadable)
+    p.device.reads d.reads
     (λ q behind. rw reads (behind_region told s p.device.reads place page placed low q behind)) p.live)

@@ -1,14 +1,12 @@
 -- What is shown with a new blob: one volume more, of zeros.
-use Rattle.std.proofs.Common.{◌≡◌, ◌≢◌, ℕ, suc, ◌*◌, ◌/◌, Bool, true, false, not, List, [], length, map, Option, Some, None}
-use Rattle.std.proofs.Common.{refl, sym, ap, ◌∙◌, subst, inl, inr, mul_comm}
+use Rattle.std.proofs.Common.{◌≡◌, ◌≢◌, ℕ, suc, ◌*◌, ◌/◌, Bool, true, false, not, List, length, map, Option, Some, None}
+use Rattle.std.proofs.Common.{refl, sym, ap, ◌∙◌, mul_comm}
 use Rattle.std.specs.Prelude.{replicate}
 use Rattle.std.specs.List.{range_with_len}
 use Rattle.std.specs.Option.{option_map}
-use Rattle.std.proofs.lemmas.Bool.{cases_eq, eq-eqb, ne_eqb}
+use Rattle.std.proofs.lemmas.Bool.{eq-eqb, ne_eqb}
 use Rattle.std.proofs.lemmas.List.{length-replicate}
-use Rattle.std.proofs.Math.Path.{fun_ext}
 use Rattle.page_disk.specs.Disk.{Image}
-use Rattle.super_block.specs.declared.page.Super.{Super}
 use Rattle.volume_model.specs.Volumes.{Fixed, Page, two_xattrs, Volume, Volumes, zero_page, zero_slots}
 use Rattle.volume_model.specs.Xattrs.{Text, Xattrs}
 use Rattle.volume_model.specs.Steps.{change, new_volume}
@@ -17,9 +15,9 @@ use Rattle.volume_model.specs.declared.reply.Reply.TheVariants as r
 use Rattle.blob_meta.specs.declared.meta.Meta.{Meta}
 use Rattle.blob_meta.specs.Faults.{is_thin}
 use Rattle.blob_meta.specs.Jobs.{new_meta}
-use Rattle.blob_meta.specs.Resolving.{IsLawful, resolved}
+use Rattle.blob_meta.specs.Resolving.{IsLawful}
 use Rattle.store_model.specs.Maps.{Metas, with_entry}
-use Rattle.store_model.specs.Shown.{content, fixed_of, shown_by, volume_of}
+use Rattle.store_model.specs.Shown.{content, fixed_of, volume_of}
 use Rattle.store_model.specs.StoreState.{live_of, shown, StoreState}
 use Rattle.store_model.specs.Jobs.{shown_of}
 use Rattle.store_model.specs.Loadable.{AreLoadable}
@@ -59,7 +57,8 @@ module _ (f : Fixed) (v : Volumes) (image : Image) (others : Metas) (head : ℕ)
   pub volume_new : volume_of k image others f.md_len xattrs head new
       ≡ new_volume f v name uuid (zero_slots f slots) (not thick) false None
   volume_new =
-      ap (λ (pages : List Page). record (volume_of k image others f.md_len xattrs head new) { pages = pages }) pages_zero
+      ap (λ (pages : List Page). record (volume_of k image others f.md_len xattrs head new) { pages = pages })
+      pages_zero
       ∙ ap (λ (thin : Bool). record {
         pages = zero_slots f slots;
         live = xattrs;

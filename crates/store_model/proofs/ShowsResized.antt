@@ -1,22 +1,20 @@
 -- What is shown with a blob of another number of slots: its volume is cut, or has slots of zeros more.
-use Rattle.std.proofs.Common.{◌≡◌, ◌≢◌, ℕ, suc, ◌+◌, ◌-◌, ◌*◌, ◌/◌, ◌<◌, ◌≤◌, ◌++◌, Bool, true, false, List, [], length, map}
+use Rattle.std.proofs.Common.{◌≡◌, ◌≢◌, ℕ, suc, ◌+◌, ◌-◌, ◌*◌, ◌/◌, ◌<◌, ◌≤◌, ◌++◌, false, List, length, map}
 use Rattle.std.proofs.Common.{Option, Some, None, refl, sym, ap, ◌∙◌, subst, inl, inr, arith, mul_comm}
-use Rattle.std.specs.Prelude.{if◌then◌else◌, nat_lt, replicate, take}
+use Rattle.std.specs.Prelude.{if◌then◌else◌, nat_lt, replicate}
 use Rattle.std.specs.List.{range_with_len}
-use Rattle.std.specs.Option.{option_map, option_map_or}
-use Rattle.std.proofs.lemmas.Bool.{cases_lt, false≢true, le-ltb}
+use Rattle.std.specs.Option.{option_map_or}
+use Rattle.std.proofs.lemmas.Bool.{cases_lt, le-ltb}
 use Rattle.std.proofs.Math.Nat.{div-lt_iff_lt-mul, le-div_iff_mul-le, mul-le-mul_left}
 use Rattle.std.proofs.lemmas.List.FromFn.{length-map-range_with_len, take-map-range_with_len}
-use Rattle.std.proofs.Math.Path.{fun_ext}
 use Rattle.page_disk.specs.Disk.{Image}
-use Rattle.volume_model.specs.Volumes.{Fixed, Page, resized, Volume, Volumes, zero_page}
+use Rattle.volume_model.specs.Volumes.{Fixed, Page, resized, zero_page}
 use Rattle.volume_model.specs.Xattrs.{Xattrs}
 use Rattle.blob_meta.specs.declared.meta.Meta.{Meta}
 use Rattle.blob_meta.specs.Jobs.{resized_meta}
-use Rattle.blob_meta.specs.Parents.{is_read_only, parent_of, slot}
+use Rattle.blob_meta.specs.Parents.{parent_of, slot}
 use Rattle.store_model.specs.Maps.{Metas, with_entry}
 use Rattle.store_model.specs.Shown.{content, content_by, volume_of}
-use Rattle.store_model.proofs.Contents.{HasParents}
 use Rattle.store_model.proofs.Cut.{cut, is_cut, is_longer, length_cut, slot_kept, slot_past}
 use Rattle.store_model.proofs.Elsewhere.{IsChildless, same_elsewhere, through}
 use Rattle.store_model.proofs.Ranges.{all_one, in_two, same_below}
@@ -85,7 +83,8 @@ module _ (k : ℕ) (some : 0 < k) (metas : Metas) (head : ℕ) (old : Meta) (the
       by_blob p of None is = refl
       by_blob p of (Some parent) is =
           let no : nat_lt q (k * length parent.map) ≡ false =
-          let less = mul-le-mul_left k (short p parent of is) in le-ltb q (k * length parent.map) (omega (arith, less, le)) in
+          let less = mul-le-mul_left k (short p parent of is) in
+          le-ltb q (k * length parent.map) (omega (arith, less, le)) in
           rw no refl
 
       by_parent : (o : Option ℕ) → parent_of old ≡ o

@@ -1,6 +1,7 @@
 -- How a job is laid on pages, and what is known of it while it runs.
-use Rattle.std.specs.Prelude.{◌≡◌, ◌⊎◌, ℕ, ◌+◌, ◌*◌, ◌^◌, ◌<◌, ◌≤◌, if◌then◌else◌, Bool, true, false, List, [], ◌∷◌, ◌++◌}
-use Rattle.std.specs.Prelude.{length, map, Option, Some, None, IsSome}
+use Rattle.std.specs.Prelude.{◌≡◌, ◌⊎◌, ℕ, ◌+◌, ◌*◌, ◌^◌, ◌<◌, ◌≤◌, if◌then◌else◌, Bool, true, false, List, [], ◌∷◌}
+use Rattle.std.specs.Prelude.{◌++◌}
+use Rattle.std.specs.Prelude.{length, map, Option, Some, None, IsSome, is_some}
 use Rattle.std.specs.List.{AllByRecursion, flat_map, range_with_len}
 use Rattle.std.specs.Option.{option_map}
 use Rattle.page_disk.specs.Disk.{Image}
@@ -21,7 +22,7 @@ use Rattle.md_chain.specs.Chain.{is_among}
 use Rattle.md_chain.specs.Packing.{parts_of}
 use Rattle.md_chain.specs.Planned.{chain_pages}
 use Rattle.md_chain.specs.declared.plan.PlannedPage.{PlannedPage}
-use Rattle.store_model.specs.Maps.{Map, Metas, Chains}
+use Rattle.store_model.specs.Maps.{Map, Metas, Chains, with_option}
 use Rattle.store_model.specs.Regions.{region_of}
 use Rattle.store_model.specs.Scans.{MetaAt}
 use Rattle.store_model.specs.Shown.{fixed_of, shown_by}
@@ -48,6 +49,24 @@ pub record LacksPages (there : Bool) (new : Meta) (bits : List Bool) : Type 0 wh
   pub count : ℕ
   pub needs : Needs new count
   pub lacking : clear_in bits < (if there then count else count + 1)
+
+-- so many pages are taken for new metadata, the head's among them where no blob is there, and none for an erased blob
+abbrev pub Takes : Bool → Option Meta → ℕ → Type 0
+Takes there (Some new) count = (fresh : ℕ) × Needs new fresh × (count ≡ (if there then fresh else fresh + 1))
+Takes there None count = count ≡ 0
+
+-- So many are taken for replacements, each over what the one before it leaves.
+abbrev pub AllTake : Metas → List Replacement → ℕ → Type 0
+AllTake base [] count = count ≡ 0
+AllTake base (x ∷ xs) count =
+    (first : ℕ) × (others : ℕ) × Takes (is_some (base x.head)) x.new first
+    × AllTake (with_option base x.head x.new) xs others × (count ≡ first + others)
+
+-- fewer pages are clear than the replacements take
+pub record LacksPagesFor (base : Metas) (list : List Replacement) (bits : List Bool) : Type 0 where
+  pub count : ℕ
+  pub take : AllTake base list count
+  pub lacking : clear_in bits < count
 
 -- The planned pages are just those on which the items of the new metadata are packed.
 pub record IsPacked (new : Meta) (head : ℕ) (fresh : List ℕ) (planned : List PlannedPage) : Type 0 where
@@ -112,6 +131,11 @@ with_clusters m _ _ = m
 abbrev pub with_zeroed : List Replacement → List ℕ → List ℕ → List Replacement
 with_zeroed [] slots clusters = []
 with_zeroed (x ∷ xs) slots clusters = record x { new = option_map (λ m. with_clusters m slots clusters) x.new } ∷ xs
+
+-- The clusters that slots of zeros get: the least clear ones, one each; or none at all, where fewer are clear.
+pub record AreForZeros (bits : List Bool) (slots claimed : List ℕ) : Type 0 where
+  pub least : AreLeastClear bits claimed
+  pub count : (length claimed ≡ length slots) ⊎ ((claimed ≡ []) × (clear_in bits < length slots))
 
 -- each page of these clusters is overwritten with zeros
 abbrev pub zeroing : Super → List ℕ → List Phase

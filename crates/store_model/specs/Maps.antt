@@ -20,6 +20,10 @@ with_entry m head x = λ q. if q == head then Some x else m q
 abbrev pub without_entry : {X : Type 0} → Map X → ℕ → Map X
 without_entry m head = λ q. if q == head then None else m q
 
+-- the map with one entry given or gone
+abbrev pub with_option : {X : Type 0} → Map X → ℕ → Option X → Map X
+with_option m head o = λ q. if q == head then o else m q
+
 -- one entry is another, or new, or gone
 pub record Changed {X : Type 0} (old : Map X) (head : ℕ) (entry : Option X) (new : Map X) : Type 0 where
   pub here : new head ≡ entry

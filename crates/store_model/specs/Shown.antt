@@ -1,5 +1,6 @@
 -- The volumes that metadata and an image show.
-use Rattle.std.specs.Prelude.{[], ℕ, zero, suc, ◌+◌, ◌*◌, ◌/◌, ◌%◌, nat_lt, if◌then◌else◌, Option, Some, None, length, map}
+use Rattle.std.specs.Prelude.{[], ℕ, zero, suc, ◌+◌, ◌*◌, ◌/◌, ◌%◌, nat_lt, if◌then◌else◌, Option, Some, None, length}
+use Rattle.std.specs.Prelude.{map}
 use Rattle.std.specs.List.{range_with_len}
 use Rattle.std.specs.Option.{option_map, option_map_or}
 use Rattle.page_disk.specs.Disk.{Image}

@@ -1,5 +1,6 @@
 -- The laws of the turns of a running store, and of what an image recovers of it.
-use Rattle.std.specs.Prelude.{◌≡◌, ◌≢◌, ℕ, true, false, ◌*◌, ◌^◌, ◌≤◌, ◌++◌, ◌∷◌, [], Bool, List, All, slice_get, Some, None}
+use Rattle.std.specs.Prelude.{◌≡◌, ◌≢◌, ℕ, true, false, ◌*◌, ◌^◌, ◌<◌, ◌≤◌, ◌++◌, ◌∷◌, [], Bool, List, All, slice_get}
+use Rattle.std.specs.Prelude.{Some, None}
 use Rattle.page_disk.specs.Disk.{Image, Rose}
 use Rattle.super_block.specs.declared.page.Super.{Super}
 use Rattle.super_block.specs.Numbers.{cluster_pages_of, fixed_clusters_of}
@@ -10,7 +11,10 @@ use Rattle.volume_model.specs.Volumes.{Volumes, zero_page}
 use Rattle.volume_model.specs.declared.command.Command.{Command}
 use Rattle.volume_model.specs.declared.reply.Reply.TheVariants as r
 use Rattle.volume_model.specs.declared.reply.Entry.{Entry}
+use Rattle.blob_meta.specs.declared.job.Job.{Job as Changes}
+use Rattle.blob_meta.specs.declared.job.Replacement.{Replacement}
 use Rattle.blob_meta.specs.declared.meta.Meta.{Meta}
+use Rattle.store_model.specs.Phases.{Committing}
 use Rattle.blob_meta.specs.Resolving.{IsLawful, resolved, slots_together}
 use Rattle.store_model.specs.Maps.{with_entry, Metas, Chains}
 use Rattle.store_model.specs.Regions.{region_of, MdRegion}
@@ -19,7 +23,7 @@ use Rattle.store_model.specs.Cases.{IsQuiet}
 use Rattle.store_model.specs.StoreState.{Opens, StoreState, shown}
 use Rattle.store_model.specs.Guarding.{AreGenerations}
 use Rattle.store_model.specs.Places.{Unclaimed, UsedClusters, UsedPages}
-use Rattle.store_model.specs.Asking.{AsksFor}
+use Rattle.store_model.specs.Asking.{IsJobFor}
 use Rattle.store_model.specs.Cases.{Kind, Run, Turn}
 use Rattle.store_model.specs.RunInvariant.{AreLoadable, RunInvariant, HaveChains, IsLoadable}
 use Rattle.store_model.specs.Recovers.{HasStore, Recovers}
@@ -51,10 +55,11 @@ pub record StateLaws : Type 0 where
       → IsPlaced s → RunInvariant s first script p → Turn told p kind q → RunInvariant s first script q
   pub go_on : (told : Bool) (p q r : StoreState) (kinds : List Kind) (kind : Kind) → Run told p kinds q
       → Turn told q kind r → Run told p (kinds ++ kind ∷ []) r
-  -- the metadata that a job is to write can be written
+  -- the metadata that a job without slots of zeros is to write can be written, at a head of the region
   pub writable : (s : Super) (first : Volumes) (script : ℕ → List Command) (p : StoreState) (command : Command)
-      (head : ℕ) (new : Meta) → RunInvariant s first script p → p.stopped ≡ None → AsksFor p command head new
-      → IsLoadable s head new
+      (changes : Changes) (commit : Committing) → IsPlaced s → RunInvariant s first script p → p.stopped ≡ None
+      → IsJobFor p command changes commit → changes.zero ≡ [] → (x : Replacement) (new : Meta)
+      → changes.list ≡ x ∷ [] → x.new ≡ Some new → x.head < s.md_len → IsLoadable s x.head new
   -- An image with this store, which says the metadata that the store has, recovers the whole log.
   pub recovers : (s : Super) (first : Volumes) (script : ℕ → List Command) (p : StoreState) (image : Image) → IsPlaced s
       → RunInvariant s first script p → p.stopped ≡ None
