@@ -1,6 +1,6 @@
 -- What a job is made of before it begins.
 use Rattle.std.specs.Prelude.{◌≡◌, ◌⊎◌, ℕ, ◌+◌, ◌-◌, ◌<◌, ◌^◌, nat_eq, if◌then◌else◌, is_some, Bool, true, List, [], ◌∷◌}
-use Rattle.std.specs.Prelude.{length, Option, None, Some, IsSome}
+use Rattle.std.specs.Prelude.{drop, length, Option, None, Some, IsSome}
 use Rattle.bit_array.specs.Bits.{IsFull, IsLeastClear}
 use Rattle.std.specs.List.{All, IsDistinct}
 use Rattle.std.specs.Ordering.{nat_cmp}
@@ -18,7 +18,7 @@ use Rattle.blob_meta.specs.declared.job.Job.{Job}
 use Rattle.blob_meta.specs.Jobs.{job_of_one}
 use Rattle.store_model.specs.StoreState.{StoreState}
 use Rattle.store_model.specs.Cases as kind
-use Rattle.store_model.specs.Asking.{AsksFor, IsCreateJob}
+use Rattle.store_model.specs.Asking.{IsJobFor}
 pub use Rattle.store_model.specs.Jobs.{LacksPages}
 use Rattle.store_core.specs.TurnMade.{TurnMade}
 use Rattle.store_core.specs.StoreView.{StoreView}
@@ -52,6 +52,10 @@ needed makes items = if makes then length (parts_of items) else length (parts_of
 -- the places that are taken for them
 abbrev pub taken_for : Bool → ℕ → List ℕ → List ℕ
 taken_for makes head fresh = if makes then head ∷ fresh else fresh
+
+-- of places that are taken so, those behind the head
+abbrev pub behind_in : Bool → List ℕ → List ℕ
+behind_in makes taken = if makes then drop 1 taken else taken
 
 -- a new blob's head: the least page that is clear, where one is
 abbrev pub IsFreshHead : List Bool → ℕ → Type 0
@@ -101,15 +105,13 @@ pub record ReplacesOne (job : Job) : Type 0 where
   pub new : Meta
   pub is : job ≡ job_of_one head new
 
--- A create that makes a blob of this metadata, at the head that is next, without a slot that is to be filled.
-pub record AsksToMake (p : StoreState) (command : Command) (head : ℕ) (new : Meta) : Type 0 where
+-- What a command asks to be written at a head: new metadata, without slots of zeros. Its commit makes the attributes
+-- read that are written. Where no blob is there the head is the page that is next.
+pub record AsksToWrite (p : StoreState) (command : Command) (head : ℕ) (new : Meta) : Type 0 where
   pub commit : Committing
-  pub asked : IsCreateJob p command (job_of_one head new) commit
-  pub next : IsFreshHead p.pages head
-
--- what a command asks to be written: new metadata of the blob that it means, or a new blob
-abbrev pub AsksToWrite : StoreState → Command → ℕ → Meta → Type 0
-AsksToWrite p command head new = AsksFor p command head new ⊎ AsksToMake p command head new
+  pub asked : IsJobFor p command (job_of_one head new) commit
+  pub synced : commit.live ≡ Some new.xattrs
+  pub next : p.base head ≡ None → IsFreshHead p.pages head
 
 -- the job that a command asks for
 pub record IsJobOf (p : StoreState) (command : Command) (job : Job) : Type 0 where

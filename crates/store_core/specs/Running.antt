@@ -9,7 +9,10 @@ use Rattle.std.specs.Option.{option_map}
 use Rattle.page_disk.specs.declared.disk.PageDisk.{Ghosts}
 use Rattle.store_model.specs.Rows.{Row, entries_of}
 use Rattle.store_core.specs.Jobs.{AreRoomsOf, job_seen, IsHeaded}
-use Rattle.io_freeze.specs.Guards.{renewed}
+use Rattle.std.specs.Ordering.{nat_cmp}
+use Rattle.blob_meta.specs.declared.meta.Meta.{Meta}
+use Rattle.volume_model.specs.Xattrs.{Xattrs}
+use Rattle.io_freeze.specs.Guards.{GuardsState, renewed}
 use Rattle.store_core.specs.declared.job.Planned.{Planned}
 use Rattle.store_core.specs.declared.job.Rooms.{Rooms}
 use Rattle.store_core.specs.declared.job.RunningJob.{RunningJob}
@@ -49,17 +52,19 @@ pub record AreHeads (md_len : ℕ) (metas : Metas) (heads : List Bool) : Type 0 
   pub are : (head : ℕ) → head < md_len → (is_in heads head ≡ true) ↔ IsSome (metas head)
 
 -- Room for the blob that a job makes, also for its generation, and a number left for that.
-pub record HasRooms {D : Type 0} (running : Running D) (rooms : Rooms) : Type 0 where
-  pub maps : AreRoomsOf running.metas running.chains running.live rooms
-  pub guards : map.len running.guards.generations < running.guards.room
-  pub numbers : running.guards.drawn < 2 ^ 64 - 1
+pub record HasRooms (metas : map.FinMap nat_cmp Meta) (chains : map.FinMap nat_cmp (List ℕ))
+    (live : map.FinMap nat_cmp Xattrs) (guards : GuardsState) (rooms : Rooms) : Type 0 where
+  pub maps : AreRoomsOf metas chains live rooms
+  pub guards_fit : map.len guards.generations < guards.room
+  pub numbers : guards.drawn < 2 ^ 64 - 1
 
 -- the same, of what a job is to write
-abbrev pub IsRoomy : {D : Type 0} → Running D → RunningJob → Type 0
-IsRoomy running j = by j.work
+abbrev pub IsRoomy : map.FinMap nat_cmp Meta → map.FinMap nat_cmp (List ℕ) → map.FinMap nat_cmp Xattrs → GuardsState
+    → RunningJob → Type 0
+IsRoomy metas chains live guards j = by j.work
   where
     by : Work → Type 0
-    by (work.Writing planned written) = IfSome planned.rooms (HasRooms running)
+    by (work.Writing planned written) = IfSome planned.rooms (HasRooms metas chains live guards)
     by (work.Erasing erased) = Unit {0}
 
 -- the store once it has the blob that was planned
@@ -88,4 +93,4 @@ pub record InOrder {D : Type 0} (d : Ghosts D) (running : Running D) : Type 0 wh
   pub no_cluster : running.clusters.claims ≡ []
   pub headed : IfSome running.job IsHeaded
   pub heads : AreHeads running.sup.md_len (map.get running.metas) running.heads
-  pub roomy : IfSome running.job (IsRoomy running)
+  pub roomy : IfSome running.job (IsRoomy running.metas running.chains running.live running.guards)

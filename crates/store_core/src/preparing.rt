@@ -1,13 +1,13 @@
 //! What a job takes before it begins: memory, pages, and what it will write.
 
-ghost use Rattle.std.specs.Prelude.{◌≡◌, ◌+◌, ◌≤◌, ◌∷◌, [], true, Some, None, length, is_some, IfOk, IfErr, IfSome, IfNone};
+ghost use Rattle.std.specs.Prelude.{◌≡◌, ◌+◌, ◌<◌, ◌≤◌, ◌∷◌, [], true, Some, None, length, is_some, IfOk, IfErr, IfSome, IfNone};
 ghost use Rattle.std.specs.Prelude.{IsSome};
 ghost use Rattle.std.specs.FinMap as map;
 ghost use Rattle.std.specs.List.{All};
 ghost use Rattle.pools.specs.Pool.{clear_in};
 ghost use Rattle.blob_meta.specs.Items.{IsItemsOf};
 ghost use Rattle.md_chain.specs.Packing.{parts_of, ArePlannable, AreFew, FitsPage};
-ghost use Rattle.store_core.specs.Begins.{HasChain, IsFreshHead, IsLaid, IsPrepared, IsTaken, LacksPages, needed};
+ghost use Rattle.store_core.specs.Begins.{behind_in, HasChain, IsFreshHead, IsLaid, IsPrepared, IsTaken, LacksPages, needed};
 ghost use Rattle.store_core.specs.Running.{HasRooms};
 
 use crate::clearing::clear_places;
@@ -75,7 +75,8 @@ impl Prepared {
 pub(crate) fn rooms_for<D>(running: &Running<D>, head: u32) -> Result<Option<Rooms>, Memory>
     ensures there { IfOk result (λ o. IfNone o (IsSome (map.get running.now.chains head))) }
     ensures new { IfOk result (λ o. IfSome o (λ rooms. map.get running.now.chains head ≡ None)) }
-    ensures rooms { IfOk result (λ o. IfSome o (HasRooms running.now)) }
+    ensures rooms { IfOk result
+        (λ o. IfSome o (HasRooms running.now.metas running.now.chains running.now.live running.now.guards)) }
 {
     if running.chains.get(head).is_some() {
         return Ok(None);
@@ -191,17 +192,25 @@ fn take_chain(
     ensures unclaimed { pages.new.claims ≡ [] }
 {
     let taken = take_pages(alloc, pages, pages_needed(items, makes))?;
-    let fresh = if makes {
-        &taken.as_slice()[1..]
-    } else {
-        taken.as_slice()
-    };
+    let fresh = behind_head(&taken, makes);
     match lay(alloc, items, head, fresh) {
         Ok(laid) => Ok(laid),
         Err(Memory) => {
             clear_places(pages, &taken);
             Err(Memory)
         }
+    }
+}
+
+/// Of places that are taken for a chain, those behind its head: all, but for the first where the blob is new.
+fn behind_head(taken: &PlaceList, makes: bool) -> &[u32]
+    requires { makes ≡ true → 0 < length taken.now }
+    ensures { result.now ≡ behind_in makes taken.now }
+{
+    if makes {
+        &taken.as_slice()[1..]
+    } else {
+        taken.as_slice()
     }
 }
 
