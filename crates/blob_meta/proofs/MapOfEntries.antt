@@ -1,14 +1,14 @@
 -- The finite map that entries in order make, and what an edit of them makes of it.
-use Rattle.std.proofs.Common.{◌≡◌, ℕ, zero, suc, ◌<◌, true, false, Bool, cond, not, List, [], ◌∷◌, length, get_or}
-use Rattle.std.proofs.Common.{Option, None, refl, sym, ap, ◌∙◌, subst, arith, inl, inr}
+use Rattle.std.proofs.Common.{◌≡◌, ℕ, zero, suc, ◌<◌, ◌≢◌, true, false, Bool, not, List, [], ◌∷◌, length}
+use Rattle.std.proofs.Common.{None, refl, sym, ap, ◌∙◌, subst, arith}
 use Rattle.std.specs.Prelude.{All, T}
 use Rattle.std.specs.List.{HoldsAt, remove}
-use Rattle.std.specs.Ordering.{nat_cmp, eq_by_cmp, is_eq}
-use Rattle.std.specs.declared.cmp.Ordering.TheVariants.{Less, Equal, Greater}
-use Rattle.std.specs.Cmp.{nat_cmp_total, nat_cmp_is, ranked, unsigned_tied, eq_by_cmp_equiv}
+use Rattle.std.specs.Ordering.{nat_cmp, eq_by_cmp}
+use Rattle.std.specs.declared.cmp.Ordering.TheVariants.{Equal}
+use Rattle.std.specs.Cmp.{nat_cmp_total, ranked}
 use Rattle.std.specs.FinMap as map
 use Rattle.std.specs.FinMap.Entries.{where_key, is_sorted-put, is_sorted-where_key, find-where_key}
-use Rattle.std.proofs.lemmas.Bool.{cases_eq, ne_eqb}
+use Rattle.std.proofs.lemmas.Bool.Decides.{nat_tests}
 use Rattle.std.proofs.lemmas.List.Elements.{All-head, All-tail}
 use Rattle.blob_meta.specs.Heads.{IsInOrder}
 use Rattle.blob_meta.proofs.EntriesInOrder.{HasHead, rises}
@@ -18,12 +18,17 @@ truth true p = refl
 truth false p = absurd p
 
 -- another key than the head
-abbrev pub apart : ℕ → ℕ → Bool
+abbrev apart : ℕ → ℕ → Bool
 apart head q = not (eq_by_cmp nat_cmp head q)
 
 module _ {V : Type 0} where
+  -- the map of entries in order
   abbrev pub map_of : List (ℕ × V) → map.FinMap nat_cmp V
   map_of es = map.from_sorted es
+
+  -- the entries of all other heads
+  abbrev without : ℕ → List (ℕ × V) → List (ℕ × V)
+  without head es = where_key nat_cmp (apart head) es
 
   sorted : (es : List (ℕ × V)) → IsInOrder es → T (map.is_sorted nat_cmp es)
   sorted es ok = subst T (sym ok) tt
@@ -61,62 +66,57 @@ module _ {V : Type 0} where
 
   -- ---- an entry taken out
 
-  keeps_all : (head : ℕ) (es : List (ℕ × V)) → All (λ e. head < e.0) es → where_key nat_cmp (apart head) es ≡ es
+  -- an entry of another head is kept
+  keeps : (head : ℕ) (e : ℕ × V) (es : List (ℕ × V)) → e.0 ≢ head
+      → without head (e ∷ es) ≡ e ∷ without head es
+  keeps head e es other = grind (arith, nat_tests)
+
+  -- an entry of the head is not
+  drops : (head : ℕ) (e : ℕ × V) (es : List (ℕ × V)) → e.0 ≡ head
+      → without head (e ∷ es) ≡ without head es
+  drops head e es same = grind (arith, nat_tests)
+
+  -- a head below all others is in no entry
+  keeps_all : (head : ℕ) (es : List (ℕ × V)) → All (λ e. head < e.0) es → without head es ≡ es
   keeps_all head [] low = refl
   keeps_all head (e ∷ es) low =
-      ap (λ o. cond (not (is_eq o)) (e ∷ where_key nat_cmp (apart head) es) (where_key nat_cmp (apart head) es))
-      (sym (nat_cmp_is head e.0 Less (All-head (λ x. head < x.0) e es low)))
+      let above = All-head (λ x. head < x.0) e es low in
+      keeps head e es (λ same. omega arith)
       ∙ ap (λ (l : List (ℕ × V)). e ∷ l) (keeps_all head es (All-tail (λ x. head < x.0) e es low))
 
-  remove-where_key : (es : List (ℕ × V)) (head place : ℕ) → IsInOrder es → place < length es
-      → HoldsAt (HasHead head) es place → remove es place ≡ where_key nat_cmp (apart head) es
-  remove-where_key [] head place ok within there = absurd (omega arith)
-  remove-where_key (e ∷ es) head zero ok within there =
-      let here : e.0 ≡ head = there e in
-      sym (keeps_all head es (λ k d lt.
-      let more : e.0 < (get_or es k d).0 = rises (e ∷ es) ok zero (suc k) d (omega arith) (omega arith) in omega arith))
-      ∙ ap (λ o. cond (not (is_eq o)) (e ∷ where_key nat_cmp (apart head) es) (where_key nat_cmp (apart head) es))
-      (nat_cmp_is head e.0 Equal (sym here))
-  remove-where_key (e ∷ es) head (suc place) ok within there =
-      let lower : e.0 < (get_or es place e).0 = rises (e ∷ es) ok zero (suc place) e (omega arith) within in
-      let here : (get_or es place e).0 ≡ head = there e in
-      ap (λ (l : List (ℕ × V)). e ∷ l) (remove-where_key es head place (grind arith) (omega arith) there)
-      ∙ ap (λ o. cond (not (is_eq o)) (e ∷ where_key nat_cmp (apart head) es) (where_key nat_cmp (apart head) es))
-      (nat_cmp_is head e.0 Greater (omega arith))
+  -- the head's entry taken out leaves those of all other heads
+  remove-without : (es : List (ℕ × V)) (head place : ℕ) → IsInOrder es → place < length es
+      → HoldsAt (HasHead head) es place → remove es place ≡ without head es
+  remove-without [] head place ok within there = absurd (omega arith)
+  remove-without (e ∷ es) head zero ok within there =
+      let above : All (λ x. head < x.0) es = λ k d lt. grind (arith, there e, rises (e ∷ es) ok zero (suc k) d) in
+      sym (drops head e es (there e) ∙ keeps_all head es above)
+  remove-without (e ∷ es) head (suc place) ok within there =
+      let lower = rises (e ∷ es) ok zero (suc place) e (omega arith) within in
+      let here = there e in
+      ap (λ (l : List (ℕ × V)). e ∷ l) (remove-without es head place (grind arith) (omega arith) there)
+      ∙ sym (keeps head e es (λ same. omega arith))
 
   -- the heads that are left rise
   pub in_order-remove : (es : List (ℕ × V)) (head place : ℕ) → IsInOrder es → place < length es
       → HoldsAt (HasHead head) es place → IsInOrder (remove es place)
   in_order-remove es head place ok within there =
-      rw (remove-where_key es head place ok within there)
-      (truth (map.is_sorted nat_cmp (where_key nat_cmp (apart head) es))
+      rw (remove-without es head place ok within there)
+      (truth (map.is_sorted nat_cmp (without head es))
       (is_sorted-where_key nat_cmp (apart head) es (sorted es ok)))
-
-  turned : (b : Bool) (x : Option V) → cond (not b) x None ≡ cond b None x
-  turned true x = refl
-  turned false x = refl
 
   -- the map has the head no longer
   pub entries-remove : (es : List (ℕ × V)) (head place : ℕ) → IsInOrder es → place < length es
-      → HoldsAt (HasHead head) es place
-      → map_of (remove es place) ≡ map.remove (map_of es) head
+      → HoldsAt (HasHead head) es place → map_of (remove es place) ≡ map.remove (map_of es) head
   entries-remove es head place ok within there =
       map.same_map nat_cmp_total map.nat_cmp-IsAntisymmetric _ _ (λ q.
+      let alike = λ (x : ℕ) (same : nat_cmp q x ≡ Equal). ap (apart head) (sym (ranked q x Equal (sym same))) in
       get-entries (remove es place) q (in_order-remove es head place ok within there)
-      ∙ ap (map.find nat_cmp q) (remove-where_key es head place ok within there)
-      ∙ find-where_key nat_cmp (apart head) q (λ x same. ap (apart head) (sym (ranked q x Equal (sym same)))) es
-      ∙ turned (eq_by_cmp nat_cmp head q) (map.find nat_cmp q es)
-      ∙ sym (map.get-remove nat_cmp_total (map_of es) head q
-      ∙ ap (λ (b : Bool). cond b None (map.get (map_of es) q)) ((eq_by_cmp_equiv nat_cmp_total).symm q head)
-      ∙ ap (cond (eq_by_cmp nat_cmp head q) None) (get-entries es q ok)))
+      ∙ ap (map.find nat_cmp q) (remove-without es head place ok within there)
+      ∙ find-where_key nat_cmp (apart head) q alike es
+      ∙ grind (arith, nat_tests, map.get-remove nat_cmp_total (map_of es) head q, get-entries es q ok))
 
 -- a head that the map doesn't have is none to take out
 pub remove-absent : {V : Type 0} (m : map.FinMap nat_cmp V) (head : ℕ) → map.get m head ≡ None → m ≡ map.remove m head
 remove-absent m head none =
-    map.same_map nat_cmp_total map.nat_cmp-IsAntisymmetric _ _ (λ q.
-    let left = map.get-remove nat_cmp_total m head q in
-    elim (cases_eq q head) [
-      | inl same ↦ rw same (none ∙ sym (map.get-remove nat_cmp_total m head head
-          ∙ elim (eq_by_cmp nat_cmp head head) as (λ b. cond b None (map.get m head) ≡ None) [ true ↦ refl | false ↦ none ]))
-      | inr other ↦ sym (left ∙ ap (λ (b : Bool). cond b None (map.get m q)) (unsigned_tied q head ∙ ne_eqb q head other))
-    ])
+    map.same_map nat_cmp_total map.nat_cmp-IsAntisymmetric _ _ (λ q. grind (arith, nat_tests, map.gets))

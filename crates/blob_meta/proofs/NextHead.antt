@@ -1,8 +1,7 @@
 -- The least head of entries in order that isn't below a head.
-use Rattle.std.proofs.Common.{◌≡◌, ℕ, ◌<◌, ◌≤◌, List, [], ◌∷◌, length, get_or, sym, ap, ◌∙◌, arith, inl, inr}
+use Rattle.std.proofs.Common.{◌≡◌, ℕ, ◌<◌, ◌≤◌, List, [], ◌∷◌, length, get_or, sym, ap, ◌∙◌, arith}
 use Rattle.std.specs.Prelude.{is_some}
-use Rattle.std.specs.List.{HoldsAt}
-use Rattle.std.proofs.lemmas.Bool.{cases_lt}
+use Rattle.std.specs.List.{AllWithin, HoldsAt}
 use Rattle.std.proofs.lemmas.List.{get_or_read}
 use Rattle.blob_meta.specs.Heads.{IsInOrder, IsNextFrom, HasNoKeyFrom}
 use Rattle.blob_meta.proofs.EntriesInOrder.{HasHead, IsGap, rises, find-at, find-gap}
@@ -24,6 +23,11 @@ module _ {V : Type 0} (es : List (ℕ × V)) (head place : ℕ) (ok : IsInOrder 
         none_between = λ h le lt. absurd (omega arith);
       }
 
+  -- the gap for a head is one for each higher head that is below those behind it
+  gap_above : (h : ℕ) → head ≤ h → IsGap es head place → AllWithin (λ e. h < e.0) es place (length es)
+      → IsGap es h place
+  gap_above h le gap behind = ((λ k d low before. grind (arith, gap.0 k d)), behind)
+
   -- it is that of the entry behind the gap
   pub next-gap : (next : ℕ × V) → next ≡ get_or es place next → place < length es → IsGap es head place
       → IsNextFrom (map_of es) head next.0
@@ -32,25 +36,14 @@ module _ {V : Type 0} (es : List (ℕ × V)) (head place : ℕ) (ok : IsInOrder 
       λ d. ap (λ (e : ℕ × V). e.0) (sym (get_or_read es place next within is d)) in
       record {
         there = ap is_some (get-entries es next.0 ok ∙ find-at es next.0 place next ok within there);
-        above = let more = gap.1 place next (omega arith) within in let here = there next in omega arith;
+        above = grind (arith, there next, gap.1 place next);
         none_between = λ h le lt.
-            get-entries es h ok
-            ∙ find-gap es h place (
-              (λ k d low before. let less = gap.0 k d low before in omega arith),
-              (λ k d from in'.
-                  let here = there d in
-                  elim (cases_lt place k) [
-                    | inl behind ↦ let more = rises es ok place k d behind in' in omega arith
-                    | inr same ↦ let alike : place ≡ k = omega arith in rw (← alike, here) lt
-                  ]),
-            );
+            let behind : AllWithin (λ e. h < e.0) es place (length es) = λ k d from in'.
+            grind (arith, there d, rises es ok place k d, λ (same : place ≡ k). ap (λ i. (get_or es i d).0) same) in
+            get-entries es h ok ∙ find-gap es h place (gap_above h le gap behind);
       }
 
   -- there is none where the gap is the end
   pub next-none : length es ≤ place → IsGap es head place → HasNoKeyFrom (map_of es) head
   next-none end gap = λ h le.
-      get-entries es h ok
-      ∙ find-gap es h place (
-        (λ k e low before. let less : (get_or es k e).0 < head = gap.0 k e low before in omega arith),
-        (λ k e from in'. absurd (omega arith)),
-      )
+      get-entries es h ok ∙ find-gap es h place (gap_above h le gap (λ k d from in'. absurd (omega arith)))

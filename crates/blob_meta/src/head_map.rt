@@ -33,8 +33,8 @@ impl<V> Model for HeadMap<V> {
     ghost invariant = { λ a. IsInOrder a.entries.items };
 }
 
-/// Memory for a map of heads. Contracts see for how many. It is taken while want of memory can still be answered, for an
-/// `insert_in` that can't answer it.
+/// Memory for a map from heads; contracts see for how many heads. It is taken while want of memory can still be
+/// answered, for an `insert_in` that can't answer it.
 #[derive(Drop)]
 pub struct Room<V> {
     entries: Vec<(u32, V)>,

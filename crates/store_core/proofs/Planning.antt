@@ -19,7 +19,7 @@ use Rattle.blob_meta.specs.Asked.{asked_head, IsFirstCause, IsLiveOf, ShowsBlob}
 use Rattle.store_model.specs.Maps.{Map}
 use Rattle.store_model.specs.Shown.{fixed_of}
 use Rattle.store_model.specs.StoreState.{StoreState, shown}
-use Rattle.store_model.specs.Jobs.{AsksFor}
+use Rattle.store_model.specs.Asking.{AsksFor}
 use Rattle.store_model.specs.RunInvariant.{RunsWell}
 use Rattle.store_model.proofs.Synced.{edited_here}
 use Rattle.store_core.specs.Planning.{PlanLaws}

@@ -24,8 +24,8 @@ returns-in-Ok-clause-in_order g c =
 pub returns-in_ok-insert-in-Err-clause-ok : goal.returns-in_ok-insert-in-Err-clause-ok
 returns-in_ok-insert-in-Err-clause-ok g c =
     let gap = rw c.deref.ensures.value at c.in-Err.ensures in
-    c.in_ok-insert-in-Err.ensures.items
-    ∙ put-gap c.args.entries.now.items c.args.head c.in-Err.place c.args.value gap.within gap.place
+    rw c.in_ok-insert-in-Err.ensures.items
+    (put-gap c.args.entries.now.items c.args.head c.in-Err.place c.args.value gap.within gap.place)
 
 pub returns-in_ok-insert-in-Err-clause-in_order : goal.returns-in_ok-insert-in-Err-clause-in_order
 returns-in_ok-insert-in-Err-clause-in_order g c =
@@ -35,6 +35,7 @@ returns-in_ok-insert-in-Err-clause-in_order g c =
 -- there is no memory for a new one
 pub returns-in_err-insert-in-Err-clause-absent : goal.returns-in_err-insert-in-Err-clause-absent
 returns-in_err-insert-in-Err-clause-absent g c =
+    let es = c.args.entries.now.items in
     let gap = rw c.deref.ensures.value at c.in-Err.ensures in
-    MatchResult-from_err c.from_residual.result (λ _. ⊤) (λ _. map.find nat_cmp c.args.head c.args.entries.now.items ≡ None)
-    c.from_residual.ensures.0 (λ _. find-gap c.args.entries.now.items c.args.head c.in-Err.place gap.place)
+    MatchResult-from_err c.from_residual.result (λ _. ⊤) (λ _. map.find nat_cmp c.args.head es ≡ None)
+    c.from_residual.ensures.0 (λ _. find-gap es c.args.head c.in-Err.place gap.place)

@@ -34,9 +34,10 @@ on_ok (Err e) ok p = absurd (cc ok)
 pub returns : goal.returns
 returns g c =
     let es = c.self.inside.entries.items in
+    let put = c.insert_entry in
     let moved : is_ok c.append.result ≡ true = c.is_err.ensures.negation ∙ ap not c.if-is_err.false in
-    let done : is_ok c.insert_entry.result ≡ true = c.is_err-else-is_err.ensures.negation ∙ ap not c.if-is_err-2.false in
+    let fits : is_ok put.result ≡ true = c.is_err-else-is_err.ensures.negation ∙ ap not c.if-is_err-2.false in
     let all : c.append.new.self.items ≡ es = rw (moved, c.room.invariant) at c.append.ensures.items in
-    ap map_of (on_ok c.insert_entry.result done c.insert_entry.ensures.ok ∙ ap (map.put nat_cmp c.args.head c.args.value) all)
+    ap map_of (on_ok put.result fits put.ensures.ok ∙ ap (map.put nat_cmp c.args.head c.args.value) all)
     ∙ entries-put es c.args.head c.args.value c.self.invariant
     ∙ ap (λ m. map.insert m c.args.head c.args.value) c.self.view_is
