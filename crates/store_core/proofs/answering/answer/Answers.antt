@@ -1,5 +1,4 @@
 use Rattle.std.proofs.Common.{◌∙◌, ap, inl, inr}
-use Rattle.store_model.specs.Rows.{Row}
 use Rattle.store_core.specs.StoreView.{rows_of}
 use Rattle.store_core.proofs.answering.answer.Goals as goal
 
