@@ -209,12 +209,8 @@ module _ (f : Fixed) (v : Volumes) (writable : AllWritable v) where
     in_memory (c.DelX volume key) (r.List list) is allowed = absurd allowed.1
     in_memory (c.DelX volume key) (r.Df df) is allowed = absurd allowed.1
     in_memory (c.DelX volume key) reply is allowed = refused (c.DelX volume key) reply tt allowed
-    in_memory (c.GetX volume key) r.Ok is allowed = absurd allowed.1
-    in_memory (c.GetX volume key) (r.Made h) is allowed = absurd allowed.1
-    in_memory (c.GetX volume key) (r.Content page) is allowed = absurd allowed.1
-    in_memory (c.GetX volume key) (r.Value x) is allowed = unchanged _ (λ h. refl)
-    in_memory (c.GetX volume key) (r.Info info) is allowed = absurd allowed.1
-    in_memory (c.GetX volume key) (r.List list) is allowed = absurd allowed.1
-    in_memory (c.GetX volume key) (r.Df df) is allowed = absurd allowed.1
-    in_memory (c.GetX volume key) reply is allowed = refused (c.GetX volume key) reply tt allowed
+    in_memory (c.GetX volume key) reply is allowed = unchanged _ (λ h. refl)
+    in_memory (c.Info volume) reply is allowed = unchanged _ (λ h. refl)
+    in_memory c.List reply is allowed = unchanged _ (λ h. refl)
+    in_memory c.Df reply is allowed = unchanged _ (λ h. refl)
     in_memory _ reply is allowed = absurd is

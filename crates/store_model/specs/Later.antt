@@ -4,7 +4,6 @@ pub mod CopyTurns
 pub mod InsertTurns
 pub mod FillTurns
 pub mod JobPhaseTurns
-pub mod TellTurns
 use Rattle.std.specs.Prelude.{Bool}
 use Rattle.store_model.specs.StoreState.{StoreState}
 use Rattle.store_model.specs.Later.ClaimTurns.{Claims, FindsEmpty, FindsFilled, RefusesClaim}
@@ -14,13 +13,12 @@ use Rattle.store_model.specs.Later.InsertTurns.{LacksForInsert, LosesInsert, Sen
 use Rattle.store_model.specs.Later.FillTurns.{ClaimsFill, EndsFill, HaltsFill, LacksForFill}
 use Rattle.store_model.specs.Later.JobPhaseTurns.{BeginsRepair, CommitsMore, MarksDirty, MoreBreaksOff, MoreFails}
 use Rattle.store_model.specs.Later.JobPhaseTurns.{ReplacesMore, Zeroes}
-use Rattle.store_model.specs.Later.TellTurns.{Tells}
 
 pub data LaterKind : Type 0 where
   finds_empty finds_filled claims refuses_claim copies loses_copy copy_not_read copy_fails sends begins_insert
       loses_insert lacks_for_insert inserts insert_ends insert_fails insert_breaks_down claims_fill lacks_for_fill
-      halts_fill ends_fill marks_dirty zeroes replaces_more commits_more more_fails more_breaks_off begins_repair
-      tells : LaterKind
+      halts_fill ends_fill marks_dirty zeroes replaces_more commits_more more_fails more_breaks_off
+      begins_repair : LaterKind
 
 module _ (told : Bool) where
   abbrev pub LaterTurn : StoreState → LaterKind → StoreState → Type 0
@@ -51,4 +49,3 @@ module _ (told : Bool) where
   LaterTurn p more_fails q = MoreFails p q
   LaterTurn p more_breaks_off q = MoreBreaksOff p q
   LaterTurn p begins_repair q = BeginsRepair p q
-  LaterTurn p tells q = Tells p q
