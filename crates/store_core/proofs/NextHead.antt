@@ -1,0 +1,91 @@
+-- The head that is next is a new blob's, and a create asks for its job there.
+use Rattle.std.proofs.Common.{◌≡◌, ℕ, ◌<◌, ◌==◌, ◌||◌, Bool, true, false, List, [], ◌∷◌, Option, Some, None, refl, sym, ap, subst, ◌∙◌, inl, inr}
+use Rattle.std.proofs.Common.{arith}
+use Rattle.std.proofs.lemmas.Bool.{eq-eqb}
+use Rattle.std.specs.Ordering.{nat_cmp}
+use Rattle.std.specs.FinMap as map
+use Rattle.super_block.specs.declared.page.Super.{Super}
+use Rattle.bit_array.specs.Bits.{is_in}
+use Rattle.volume_model.specs.Names.{IsName}
+use Rattle.volume_model.specs.Xattrs.{Text, Xattrs}
+use Rattle.volume_model.specs.Volumes.{Fixed, two_xattrs, Volumes}
+use Rattle.volume_model.specs.declared.command.Command.TheVariants as c
+use Rattle.volume_model.specs.declared.reply.Reply.TheVariants as r
+use Rattle.md_chain.specs.Chain.{is_among}
+use Rattle.blob_meta.specs.declared.meta.Meta.{Meta}
+use Rattle.blob_meta.specs.Jobs.{create_job, new_meta}
+use Rattle.blob_meta.specs.ShownBy.{IsFirstRefusal, ShowsMetas}
+use Rattle.store_model.specs.Asking.{creates}
+use Rattle.store_model.specs.Maps.{Metas}
+use Rattle.store_model.specs.Shown.{fixed_of}
+use Rattle.store_model.specs.StoreState.{StoreState, shown}
+use Rattle.store_model.specs.RunInvariant.{RunInvariant, RunsWell}
+use Rattle.store_core.specs.Begins.{IsFreshHead, IsJobOf}
+use Rattle.store_core.specs.LoadedWhole.{IsNextHead}
+
+first_among : (head : ℕ) (rest : List ℕ) → is_among head (head ∷ rest) ≡ true
+first_among head rest = rw (eq-eqb head head refl) refl
+
+module _ (s : Super) (first : Volumes) (script : ℕ → List _) (p : StoreState) (facts : RunInvariant s first script p)
+    (well : RunsWell first p) where
+  -- no blob's head is clear
+  none_at_clear : (head : ℕ) (o : Option Meta) → p.base head ≡ o → is_in p.pages head ≡ false → p.base head ≡ None
+  none_at_clear head None is clear = is
+  none_at_clear head (Some m) is clear =
+      let chain = well.chains.chain head m is in
+      let set : is_in p.pages head ≡ true =
+      well.pages.linked head
+      (record { head = head; pages = head ∷ chain.0; chain = chain.1; among = first_among head chain.0 }) in
+      let e : true ≡ false = sym set ∙ clear in absurd (cc e)
+
+  -- and none is at the end of the region
+  none_at_end : (head : ℕ) (o : Option Meta) → p.base head ≡ o → head ≡ p.super.md_len → p.base head ≡ None
+  none_at_end head None is end = is
+  none_at_end head (Some m) is end =
+      let low = (facts.loadable head m is).stored.low in
+      let e : head ≡ s.md_len = end ∙ ap (λ (x : Super). x.md_len) facts.super in
+      absurd (omega (arith, low, e))
+
+  no_blob : (head : ℕ) → IsNextHead p.super.md_len p.pages head → p.base head ≡ None
+  no_blob head (inl least) = none_at_clear head (p.base head) refl least.clear
+  no_blob head (inr full) = none_at_end head (p.base head) refl full.1
+
+  fresh_head : (head : ℕ) → IsNextHead p.super.md_len p.pages head → IsFreshHead p.pages head
+  fresh_head head (inl least) = inl least
+  fresh_head head (inr full) = inr full.0
+
+  -- a create that nothing refuses asks for a blob at the head that is next, with the attributes that its step gives
+  pub asks_create : (metas : map.FinMap nat_cmp Meta) → ShowsMetas (fixed_of p.super) p.super metas (shown p)
+      → (name : Text) (slots : ℕ) (uuid : Option (List ℕ)) (head : ℕ) (xattrs : Xattrs) → IsName name
+      → IsNextHead p.super.md_len p.pages head → IsFirstRefusal metas p.super (c.Create name slots false uuid) None
+      → ((f : Fixed) (v : Volumes) → ShowsMetas f p.super metas v → two_xattrs f v name uuid ≡ xattrs)
+      → IsJobOf p (c.Create name slots false uuid) (create_job head xattrs false slots)
+  asks_create metas shows name slots uuid head xattrs is_name next unrefused named =
+      let same : xattrs ≡ two_xattrs (fixed_of p.super) (shown p) name uuid =
+      sym (named (fixed_of p.super) (shown p) shows) in
+      record {
+        head = head;
+        new = new_meta head xattrs false slots;
+        is = refl;
+        asks =
+            record {
+              commit = record { reply = r.Made head; live = Some xattrs; renews = head ∷ [] };
+              asked =
+                  creates
+                  (record {
+                    name = name;
+                    named = is_name;
+                    slots = slots;
+                    thick = false;
+                    uuid = uuid;
+                    command_is = refl;
+                    asked = unrefused (fixed_of p.super) (shown p) shows;
+                    head = head;
+                    none = no_blob head next;
+                    is = ap (λ xs. create_job head xs false slots) same;
+                    commit_is = ap (λ xs. record { reply = r.Made head; live = Some xs; renews = head ∷ [] }) same;
+                  });
+              synced = refl;
+              next = λ none. fresh_head head next;
+            };
+      }
