@@ -39,7 +39,14 @@ use Rattle.blob_tool.specs.Serving.{IsPlanOf}
 -- a store has what every state of a run has
 pub is_running : {D : Type 0} (d : Ghosts D) (b : WithOpening D) → StoreInvariant d b → IsRunning (state_of d b.at)
 is_running d b kept =
-    record { store = b.opening.super; first = _; script = _; placed = kept.placed; facts = kept.facts }
+    record {
+      store = b.opening.super;
+      first = _;
+      script = _;
+      placed = kept.placed;
+      named = kept.named;
+      facts = kept.facts;
+    }
 
 -- what a job is for the command that it was planned for
 abbrev pub IsFor : {D : Type 0} → Ghosts D → StoreView D → Command → Job → Type 0

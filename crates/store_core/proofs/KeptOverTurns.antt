@@ -13,6 +13,7 @@ use Rattle.store_model.specs.RunInvariant.{RunInvariant}
 use Rattle.store_model.proofs.Going.{survives_start}
 use Rattle.store_model.proofs.Over.{CrashLaws, Over}
 use Rattle.store_model.proofs.Turns as turns
+use Rattle.store_core.proofs.Showing.{loaded_alike}
 use Rattle.store_core.specs.JobTurns.{TurnsJob}
 use Rattle.store_core.specs.StoreInvariant.{StoreInvariant, opening_script}
 use Rattle.store_core.specs.TurnMade.{TurnMade}
@@ -34,6 +35,7 @@ module _ {D : Type 0} (d : Ghosts D) (laws : CrashLaws)
         run = ([], refl);
         facts = facts;
         placed = placed;
+        named = loaded_alike p.super (state_of d p) loaded;
         survives = λ one. survives_start d laws one.0 law p.super placed (shown (state_of d p)) (opening_script p)
             (state_of d p) p.disk refl opens.log opens.marks opens.stopped opens.job facts one.1 (holds one.0);
       }
@@ -76,6 +78,7 @@ module _ {D : Type 0} (d : Ghosts D) (laws : CrashLaws)
       );
       facts = facts_after;
       placed = kept.placed;
+      named = kept.named;
       survives = λ one. turns.survives d (over one) kind made.0 made.1;
     }
 

@@ -24,6 +24,8 @@ use Rattle.store_model.specs.RunInvariant.{RunsWell}
 use Rattle.store_model.proofs.Synced.{edited_here}
 use Rattle.store_core.specs.Planning.{PlanLaws}
 use Rattle.store_core.specs.StoreView.{StoreView, state_of}
+use Rattle.store_core.proofs.NextHead.{asks_create}
+use Rattle.store_core.proofs.Showing.{shows_metas}
 use Rattle.store_core.proofs.Answered.{found, live_same, meant, shows_blob}
 
 module _ (first : Volumes) (p : StoreState) (well : RunsWell first p) (metas : map.FinMap nat_cmp Meta)
@@ -104,8 +106,13 @@ plan_laws d = record {
   shows = λ p command head running runs named.
       shows_blob running.first (state_of d p) (running.facts.well runs) p.metas command head
       (whole_base d p running) named;
+  shows_all = λ p running runs. shows_metas (state_of d p) running runs p.metas refl;
   put = λ p head key value old live running runs blob cause. asks_put running.first (state_of d p)
       (running.facts.well runs) p.metas (whole_base d p running) refl head old live blob.there blob.is_live key value cause;
   sync = λ p head old live running runs blob cause. asks_sync running.first (state_of d p)
       (running.facts.well runs) p.metas (whole_base d p running) refl head old live blob.there blob.is_live cause;
+  create = λ p name slots uuid head xattrs running runs is_name next unrefused named.
+      asks_create running.store running.first running.script (state_of d p) running.facts (running.facts.well runs)
+      p.metas (shows_metas (state_of d p) running runs p.metas refl) name slots uuid head xattrs is_name next unrefused
+      named;
 }

@@ -137,7 +137,14 @@ posted_at d p msg kept is = by (rows_of p.at.rows msg.channel).left refl
 
 pub kept_running : {D : Type 0} (d : Ghosts D) (p : WithOpening D) → StoreInvariant d p → IsRunning (state_of d p.at)
 kept_running d p kept =
-    record { store = p.opening.super; first = _; script = _; placed = kept.placed; facts = kept.facts }
+    record {
+      store = p.opening.super;
+      first = _;
+      script = _;
+      placed = kept.placed;
+      named = kept.named;
+      facts = kept.facts;
+    }
 
 -- one of two cases, by whether the store is stopped
 pub either : {D : Type 0} (d : Ghosts D) (p : WithOpening D) (q : StoreView D) (a b : kind.Kind) → ((k : kind.Kind)

@@ -72,7 +72,7 @@ renamed_alike x value alike = record {
 }
 
 -- one whose attributes are all synced
-synced_alike : (x : Volume) → x.live ≡ x.synced → IsNamedAlike x
+pub synced_alike : (x : Volume) → x.live ≡ x.synced → IsNamedAlike x
 synced_alike x e = record {
   name_told = ap (λ (xs : Xattrs). told xs name_key) e;
   uuid_told = ap (λ (xs : Xattrs). told xs uuid_key) e;
