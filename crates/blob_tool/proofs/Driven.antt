@@ -6,7 +6,7 @@ use Rattle.page_disk.specs.declared.disk.PageDisk.{Ghosts}
 use Rattle.volume_model.specs.declared.command.Command.{Command}
 use Rattle.volume_model.specs.declared.command.Command.TheVariants as c
 use Rattle.script_lang.specs.Served.{IsServed}
-use Rattle.store_model.specs.Rows.{Answered, Decided, Decision, Idle, Posted, Row, Ended}
+use Rattle.store_model.specs.Rows.{Answered, Decided, Decision, Idle, Posted, Row}
 use Rattle.store_model.specs.Cases as kind
 use Rattle.store_core.specs.declared.rows.RowStage.{RowStage}
 use Rattle.store_core.specs.declared.rows.RowStage.TheVariants as told

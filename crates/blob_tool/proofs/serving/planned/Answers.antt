@@ -1,10 +1,4 @@
-use Rattle.std.proofs.Common.{◌≡◌, None, sym, subst}
 use Rattle.std.specs.Option.{option_copied}
-use Rattle.std.specs.Prelude.{Some, Ok, Err}
-use Rattle.volume_model.specs.declared.command.Command.TheVariants as c
-use Rattle.volume_model.specs.declared.command.Command.{Command}
-use Rattle.store_model.specs.Asking.{IsSyncing}
-use Rattle.blob_tool.specs.Serving.{IsPlanOf}
 use Rattle.blob_tool.proofs.Planned.{create_plan, is_running, put_plan, sync_plan}
 use Rattle.blob_tool.proofs.serving.planned.Goals as goal
 
