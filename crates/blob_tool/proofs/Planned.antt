@@ -256,9 +256,9 @@ module _ {D : Type 0} (d : Ghosts D) (laws : PlanLaws d) (p : StoreView D) (runn
     put_plan command volume key value e =
         subst
         (λ (command : Command). ((head : ℕ) → asked_head command ≡ Some head → o ≡ map.get p.live head)
-            → IsServed command → (planned : Result Job Reply) → IfOk planned (PlansPut metas o command)
-            → IfOk planned (λ job. IsFirstCause metas o command sup None)
-            → IfErr planned (RefusesPlan metas o command sup) → IsPlanOf d p command (Some planned)) (sym e)
+        → IsServed command → (planned : Result Job Reply) → IfOk planned (PlansPut metas o command)
+        → IfOk planned (λ job. IsFirstCause metas o command sup None)
+        → IfErr planned (RefusesPlan metas o command sup) → IsPlanOf d p command (Some planned)) (sym e)
         (put_by_head volume key value)
 
     sync_by_head : (volume : VolumeRef)
@@ -278,65 +278,65 @@ module _ {D : Type 0} (d : Ghosts D) (laws : PlanLaws d) (p : StoreView D) (runn
     sync_plan command volume e =
         subst
         (λ (command : Command). ((head : ℕ) → asked_head command ≡ Some head → o ≡ map.get p.live head)
-            → IsServed command → (planned : Result Job Reply) → IfOk planned (PlansSync metas o command)
-            → IfOk planned (λ job. IsFirstCause metas o command sup None)
-            → IfErr planned (RefusesPlan metas o command sup) → IsPlanOf d p command (Some planned)) (sym e)
+        → IsServed command → (planned : Result Job Reply) → IfOk planned (PlansSync metas o command)
+        → IfOk planned (λ job. IsFirstCause metas o command sup None)
+        → IfErr planned (RefusesPlan metas o command sup) → IsPlanOf d p command (Some planned)) (sym e)
         (sync_by_head volume)
 
   module _ (metas : map.FinMap nat_cmp Meta) (sup : Super) (m : metas ≡ p.metas) (s : sup ≡ p.super)
       (shows : ShowsMetas (fixed_of p.super) p.super p.metas (shown (state_of d p)))
       (made : (name : Text) (slots : ℕ) (uuid : Option (List ℕ)) (head : ℕ) (xattrs : Xattrs) → IsName name
-          → IsNextHead p.super.md_len p.pages head
+      → IsNextHead p.super.md_len p.pages head
+      → IsFirstRefusal p.metas p.super (c.Create name slots false uuid) None
+      → ((f : Fixed) (v : Volumes) → ShowsMetas f p.super p.metas v → two_xattrs f v name uuid ≡ xattrs)
+      → IsJobOf (state_of d p) (c.Create name slots false uuid) (create_job head xattrs false slots))
+    where
+      given : (P : map.FinMap nat_cmp Meta → Super → Type 0) → P metas sup → P p.metas p.super
+      given P x = subst (λ (sup : Super). P p.metas sup) s (subst (λ (metas : map.FinMap nat_cmp Meta). P metas sup) m x)
+
+      made_so : (name : Text) (slots : ℕ) (uuid : Option (List ℕ)) (head : ℕ)
+          → IsNextHead p.super.md_len p.pages head → (job : Job) → Creates p.metas p.super head name slots false uuid job
           → IsFirstRefusal p.metas p.super (c.Create name slots false uuid) None
-          → ((f : Fixed) (v : Volumes) → ShowsMetas f p.super p.metas v → two_xattrs f v name uuid ≡ xattrs)
-          → IsJobOf (state_of d p) (c.Create name slots false uuid) (create_job head xattrs false slots))
-      where
-    given : (P : map.FinMap nat_cmp Meta → Super → Type 0) → P metas sup → P p.metas p.super
-    given P x = subst (λ (sup : Super). P p.metas sup) s (subst (λ (metas : map.FinMap nat_cmp Meta). P metas sup) m x)
+          → IsFor d p (c.Create name slots false uuid) job
+      made_so name slots uuid head next job plan first = (
+        record { head = head; new = new_meta head plan.xattrs false slots; is = plan.job_is },
+        subst (λ (job : Job). IsJobOf (state_of d p) (c.Create name slots false uuid) job) (sym plan.job_is)
+            (made name slots uuid head plan.xattrs plan.is_name next first plan.named),
+      )
 
-    made_so : (name : Text) (slots : ℕ) (uuid : Option (List ℕ)) (head : ℕ)
-        → IsNextHead p.super.md_len p.pages head → (job : Job) → Creates p.metas p.super head name slots false uuid job
-        → IsFirstRefusal p.metas p.super (c.Create name slots false uuid) None
-        → IsFor d p (c.Create name slots false uuid) job
-    made_so name slots uuid head next job plan first = (
-      record { head = head; new = new_meta head plan.xattrs false slots; is = plan.job_is },
-      subst (λ (job : Job). IsJobOf (state_of d p) (c.Create name slots false uuid) job) (sym plan.job_is)
-          (made name slots uuid head plan.xattrs plan.is_name next first plan.named),
-    )
+      create_thin : (head : ℕ) → IsNextHead p.super.md_len p.pages head → (name : Text) (slots : ℕ) (thick : Bool)
+          (uuid : Option (List ℕ)) → IsServed (c.Create name slots thick uuid) → (planned : Result Job Reply)
+          → IfOk planned (PlansCreate p.metas p.super head (c.Create name slots thick uuid))
+          → IfOk planned (λ job. IsFirstRefusal p.metas p.super (c.Create name slots thick uuid) None)
+          → IfErr planned (RefusesFirst p.metas p.super (c.Create name slots thick uuid))
+          → IsPlanOf d p (c.Create name slots thick uuid) (Some planned)
+      create_thin head next name slots false uuid served (Ok job) plan first refused =
+          made_so name slots uuid head next job plan first
+      create_thin head next name slots false uuid served (Err reply) plan first refused =
+          refused_first (c.Create name slots false uuid) reply shows tt refused
+      create_thin head next name slots true uuid served planned plan first refused = absurd (cc served)
 
-    create_thin : (head : ℕ) → IsNextHead p.super.md_len p.pages head → (name : Text) (slots : ℕ) (thick : Bool)
-        (uuid : Option (List ℕ)) → IsServed (c.Create name slots thick uuid) → (planned : Result Job Reply)
-        → IfOk planned (PlansCreate p.metas p.super head (c.Create name slots thick uuid))
-        → IfOk planned (λ job. IsFirstRefusal p.metas p.super (c.Create name slots thick uuid) None)
-        → IfErr planned (RefusesFirst p.metas p.super (c.Create name slots thick uuid))
-        → IsPlanOf d p (c.Create name slots thick uuid) (Some planned)
-    create_thin head next name slots false uuid served (Ok job) plan first refused =
-        made_so name slots uuid head next job plan first
-    create_thin head next name slots false uuid served (Err reply) plan first refused =
-        refused_first (c.Create name slots false uuid) reply shows tt refused
-    create_thin head next name slots true uuid served planned plan first refused = absurd (cc served)
+      create_so : (head : ℕ) → IsNextHead p.super.md_len p.pages head → (command : Command) (name : Text) (slots : ℕ)
+          (thick : Bool) (uuid : Option (List ℕ)) → command ≡ c.Create name slots thick uuid → IsServed command
+          → (planned : Result Job Reply) → IfOk planned (PlansCreate p.metas p.super head command)
+          → IfOk planned (λ job. IsFirstRefusal p.metas p.super command None)
+          → IfErr planned (RefusesFirst p.metas p.super command) → IsPlanOf d p command (Some planned)
+      create_so head next command name slots thick uuid e =
+          subst
+          (λ (command : Command). IsServed command → (planned : Result Job Reply)
+          → IfOk planned (PlansCreate p.metas p.super head command)
+          → IfOk planned (λ job. IsFirstRefusal p.metas p.super command None)
+          → IfErr planned (RefusesFirst p.metas p.super command) → IsPlanOf d p command (Some planned)) (sym e)
+          (create_thin head next name slots thick uuid)
 
-    create_so : (head : ℕ) → IsNextHead p.super.md_len p.pages head → (command : Command) (name : Text) (slots : ℕ)
-        (thick : Bool) (uuid : Option (List ℕ)) → command ≡ c.Create name slots thick uuid → IsServed command
-        → (planned : Result Job Reply) → IfOk planned (PlansCreate p.metas p.super head command)
-        → IfOk planned (λ job. IsFirstRefusal p.metas p.super command None)
-        → IfErr planned (RefusesFirst p.metas p.super command) → IsPlanOf d p command (Some planned)
-    create_so head next command name slots thick uuid e =
-        subst
-        (λ (command : Command). IsServed command → (planned : Result Job Reply)
-            → IfOk planned (PlansCreate p.metas p.super head command)
-            → IfOk planned (λ job. IsFirstRefusal p.metas p.super command None)
-            → IfErr planned (RefusesFirst p.metas p.super command) → IsPlanOf d p command (Some planned)) (sym e)
-        (create_thin head next name slots thick uuid)
-
-    -- what is planned for a create of a thin volume
-    pub create_plan : (head : ℕ) → IsNextHead p.super.md_len p.pages head → (command : Command) (name : Text)
-        (slots : ℕ) (thick : Bool) (uuid : Option (List ℕ)) → command ≡ c.Create name slots thick uuid
-        → IsServed command → (planned : Result Job Reply) → IfOk planned (PlansCreate metas sup head command)
-        → IfOk planned (λ job. IsFirstRefusal metas sup command None)
-        → IfErr planned (RefusesFirst metas sup command) → IsPlanOf d p command (Some planned)
-    create_plan head next command name slots thick uuid e served planned plan first refused =
-        create_so head next command name slots thick uuid e served planned
-        (given (λ metas sup. IfOk planned (PlansCreate metas sup head command)) plan)
-        (given (λ metas sup. IfOk planned (λ job. IsFirstRefusal metas sup command None)) first)
-        (given (λ metas sup. IfErr planned (RefusesFirst metas sup command)) refused)
+      -- what is planned for a create of a thin volume
+      pub create_plan : (head : ℕ) → IsNextHead p.super.md_len p.pages head → (command : Command) (name : Text)
+          (slots : ℕ) (thick : Bool) (uuid : Option (List ℕ)) → command ≡ c.Create name slots thick uuid
+          → IsServed command → (planned : Result Job Reply) → IfOk planned (PlansCreate metas sup head command)
+          → IfOk planned (λ job. IsFirstRefusal metas sup command None)
+          → IfErr planned (RefusesFirst metas sup command) → IsPlanOf d p command (Some planned)
+      create_plan head next command name slots thick uuid e served planned plan first refused =
+          create_so head next command name slots thick uuid e served planned
+          (given (λ metas sup. IfOk planned (PlansCreate metas sup head command)) plan)
+          (given (λ metas sup. IfOk planned (λ job. IsFirstRefusal metas sup command None)) first)
+          (given (λ metas sup. IfErr planned (RefusesFirst metas sup command)) refused)

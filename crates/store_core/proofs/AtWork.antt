@@ -7,7 +7,7 @@ use Rattle.bit_array.specs.Bits.{is_in}
 use Rattle.md_chain.specs.Chain.{is_among}
 use Rattle.md_chain.specs.declared.plan.PlannedPage.{PlannedPage}
 use Rattle.store_model.specs.StoreState.{JobState, StoreState, planned_at, waiting, ForCommand}
-use Rattle.store_model.specs.Places.{held_by, AreDistinct, IsLinked}
+use Rattle.store_model.specs.Places.{held_by, AreDistinct}
 use Rattle.store_model.specs.Jobs.{places_of, IsServed, JobStands, CanReplace, IsStep, Lays}
 use Rattle.store_model.specs.RunInvariant.{RunsWell}
 use Rattle.store_model.proofs.Sets.{among_first, among_later}

@@ -4,7 +4,7 @@ use Rattle.std.proofs.Common.{nat_eq, All, refl, sym, ◌∙◌, ap, subst, arit
 use Rattle.std.specs.List.{AllByRecursion, IsDistinct}
 use Rattle.std.proofs.lemmas.Bool.{cases_Bool, cases_lt, both_ways, ne_eqb}
 use Rattle.std.proofs.lemmas.List.{ext_get_or}
-use Rattle.bit_array.specs.Bits.{is_in, IsFull, IsLeastClear}
+use Rattle.bit_array.specs.Bits.{is_in, IsLeastClear}
 use Rattle.descriptors.specs.declared.item.Item.{Item}
 use Rattle.md_chain.specs.Chain.{is_among}
 use Rattle.md_chain.specs.Planned.{pages_from}

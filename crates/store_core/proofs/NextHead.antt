@@ -1,5 +1,5 @@
 -- The head that is next is a new blob's, and a create asks for its job there.
-use Rattle.std.proofs.Common.{◌≡◌, ℕ, ◌<◌, ◌==◌, ◌||◌, Bool, true, false, List, [], ◌∷◌, Option, Some, None, refl, sym, ap, subst, ◌∙◌, inl, inr}
+use Rattle.std.proofs.Common.{◌≡◌, ℕ, true, false, List, [], ◌∷◌, Option, Some, None, refl, sym, ap, ◌∙◌, inl, inr}
 use Rattle.std.proofs.Common.{arith}
 use Rattle.std.proofs.lemmas.Bool.{eq-eqb}
 use Rattle.std.specs.Ordering.{nat_cmp}
@@ -16,7 +16,6 @@ use Rattle.blob_meta.specs.declared.meta.Meta.{Meta}
 use Rattle.blob_meta.specs.Jobs.{create_job, new_meta}
 use Rattle.blob_meta.specs.ShownBy.{IsFirstRefusal, ShowsMetas}
 use Rattle.store_model.specs.Asking.{creates}
-use Rattle.store_model.specs.Maps.{Metas}
 use Rattle.store_model.specs.Shown.{fixed_of}
 use Rattle.store_model.specs.StoreState.{StoreState, shown}
 use Rattle.store_model.specs.RunInvariant.{RunInvariant, RunsWell}

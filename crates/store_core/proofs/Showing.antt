@@ -1,5 +1,5 @@
 -- The volumes that a running store shows are those of its metadata: what is read of a name and a uuid is on the disk.
-use Rattle.std.proofs.Common.{◌≡◌, ℕ, ◌<◌, ◌≤◌, ◌^◌, Option, Some, None, IsSome, refl, sym, ap, subst, ◌∙◌, arith}
+use Rattle.std.proofs.Common.{◌≡◌, ℕ, ◌<◌, Option, Some, None, IsSome, refl, sym, ap, subst, ◌∙◌, arith}
 use Rattle.std.specs.Option.{option_map}
 use Rattle.std.specs.Ordering.{nat_cmp}
 use Rattle.std.specs.FinMap as map
@@ -7,13 +7,12 @@ use Rattle.std.proofs.lemmas.Option.{same_Some}
 use Rattle.super_block.specs.declared.page.Super.{Super}
 use Rattle.super_block.specs.Placed.{IsPlaced}
 use Rattle.volume_model.specs.Naming.{AreNamedAlike, IsNamedAlike}
-use Rattle.volume_model.specs.Volumes.{Volume, Volumes}
-use Rattle.volume_model.specs.Xattrs.{Xattrs}
+use Rattle.volume_model.specs.Volumes.{Volume}
 use Rattle.volume_model.specs.Logs.{replay}
 use Rattle.volume_model.proofs.Naming.{after_log, synced_alike}
 use Rattle.blob_meta.specs.declared.meta.Meta.{Meta}
 use Rattle.blob_meta.specs.Resolving.{resolved}
-use Rattle.blob_meta.specs.ShownBy.{ShowsAt, ShowsMeta, ShowsMetas}
+use Rattle.blob_meta.specs.ShownBy.{ShowsAt, ShowsMetas}
 use Rattle.store_model.specs.Maps.{Map}
 use Rattle.store_model.specs.Shown.{fixed_of, volume_of}
 use Rattle.store_model.specs.StateLaws.{IsLoadedWith}

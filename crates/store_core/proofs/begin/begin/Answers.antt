@@ -1,4 +1,4 @@
-use Rattle.std.proofs.Common.{◌≡◌, ◌<◌, ℕ, Bool, true, false, List, length, Option, Some, None, IfSome, IfNone, refl, sym}
+use Rattle.std.proofs.Common.{◌≡◌, ◌<◌, ℕ, Bool, false, List, length, Option, Some, None, IfSome, IfNone, refl, sym}
 use Rattle.std.proofs.Common.{ap, subst, ◌∙◌, arith, inl, []}
 use Rattle.std.specs.Prelude.{is_some, not, slice_set, IsSome}
 use Rattle.std.specs.FinMap as map
@@ -8,7 +8,7 @@ use Rattle.store_model.specs.Rows.{InJob, Row}
 use Rattle.store_model.specs.Cases.{Begins}
 use Rattle.store_model.proofs.JobReady.{lacks_for_one}
 use Rattle.blob_meta.specs.Jobs.{job_of_one}
-use Rattle.store_core.specs.Begins.{first_job, AsksToWrite, IsPrepared, LacksPages}
+use Rattle.store_core.specs.Begins.{first_job, IsPrepared, LacksPages}
 use Rattle.store_core.specs.Jobs.{job_seen}
 use Rattle.store_core.specs.Running.{view_of}
 use Rattle.store_core.specs.StoreView.{state_of}

@@ -1,4 +1,4 @@
-use Rattle.std.proofs.Common.{◌≡◌, ◌<◌, ◌+◌, ℕ, List, Bool, true, false, All, ap, sym, subst, ◌∙◌, arith, length}
+use Rattle.std.proofs.Common.{◌≡◌, ℕ, List, Bool, true, false, All, ap, sym, subst, ◌∙◌, length}
 use Rattle.store_model.specs.Places.{AreLeastClear}
 use Rattle.bit_array.specs.Bits.{is_in}
 use Rattle.store_model.specs.Places.{all_set}
