@@ -44,7 +44,8 @@ served_meta _ is = refl
 -- a waiting row whose command the metadata thread is to be asked has a first command
 pub next_of : (row : Row) (channel : ℕ) → is_stage row channel ≡ told.Meta → IsWaiting row → HasNext row
 next_of row channel is waiting = elim waiting.at [
-  | inl idle ↦ by row.left waiting.all_served refl (ap (λ s. is_stage (record row { stage = s }) channel) (sym idle) ∙ is)
+  | inl idle ↦ by row.left waiting.all_served refl (ap (λ s. is_stage (record row { stage = s }) channel)
+      (sym idle) ∙ is)
   | inr ended ↦ absurd (let bad = sym (ap (λ (r : Row). is_stage r channel) ended) ∙ is in cc bad)
 ]
   where
@@ -98,7 +99,8 @@ pub over : (row : Row) (channel : ℕ) → IsWaiting row → (is_stage row chann
     → (is_stage row channel ≡ told.Over → ⊥) → row ≡ ended_row
 over row channel waiting no_meta not_over = elim waiting.at [
   | inl idle ↦ absurd
-      (by row.left waiting.all_served refl (λ s same. ap (λ x. is_stage (record row { stage = x }) channel) idle ∙ same))
+      (by row.left waiting.all_served refl (λ s same. ap (λ x. is_stage (record row { stage = x }) channel) idle
+          ∙ same))
   | inr ended ↦ ended
 ]
   where

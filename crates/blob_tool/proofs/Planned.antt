@@ -1,5 +1,6 @@
 -- What is planned for a command is what the command asks for.
-use Rattle.std.proofs.Common.{◌≡◌, ℕ, Bool, true, false, List, ◌∷◌, Option, Some, None, [], Result, Ok, Err, refl, sym, subst, ◌∙◌, inl, inr}
+use Rattle.std.proofs.Common.{◌≡◌, ℕ, Bool, true, false, List, ◌∷◌, Option, Some, None, [], Result, Ok, Err, refl}
+use Rattle.std.proofs.Common.{sym, subst, ◌∙◌, inl, inr}
 use Rattle.std.specs.Prelude.{IfOk, IfErr}
 use Rattle.std.specs.Ordering.{nat_cmp}
 use Rattle.std.specs.FinMap as map
@@ -292,10 +293,13 @@ module _ {D : Type 0} (d : Ghosts D) (laws : PlanLaws d) (p : StoreView D) (runn
       → IsJobOf (state_of d p) (c.Create name slots false uuid) (create_job head xattrs false slots))
     where
       given : (P : map.FinMap nat_cmp Meta → Super → Type 0) → P metas sup → P p.metas p.super
-      given P x = subst (λ (sup : Super). P p.metas sup) s (subst (λ (metas : map.FinMap nat_cmp Meta). P metas sup) m x)
+      given P x =
+          subst (λ (sup : Super). P p.metas sup) s
+          (subst (λ (metas : map.FinMap nat_cmp Meta). P metas sup) m x)
 
       made_so : (name : Text) (slots : ℕ) (uuid : Option (List ℕ)) (head : ℕ)
-          → IsNextHead p.super.md_len p.pages head → (job : Job) → Creates p.metas p.super head name slots false uuid job
+          → IsNextHead p.super.md_len p.pages head → (job : Job)
+          → Creates p.metas p.super head name slots false uuid job
           → IsFirstRefusal p.metas p.super (c.Create name slots false uuid) None
           → IsFor d p (c.Create name slots false uuid) job
       made_so name slots uuid head next job plan first = (

@@ -37,7 +37,8 @@ impl Model for Guards {
 }
 
 impl Guards {
-    ghost use Rattle.std.specs.Prelude.{◌≡◌, ◌<◌, ◌≤◌, ◌-◌, ◌^◌, ◌&&◌, nat_lt, None, IsSome, IsTrue, IfOk, IfSome, false};
+    ghost use Rattle.std.specs.Prelude.{◌≡◌, ◌<◌, ◌≤◌, ◌-◌, ◌^◌, ◌&&◌, nat_lt, None, IsSome, IsTrue, IfOk, IfSome};
+    ghost use Rattle.std.specs.Prelude.{false};
     ghost use Rattle.std.specs.FinMap as map;
     ghost use Rattle.std.specs.FinSet as set;
     ghost use Rattle.io_freeze.specs.Guards.{frozen_at, no_guards, released, removed, renewed};

@@ -1,7 +1,8 @@
 //! What is read of the grammar.
 
 ghost use Rattle.std.specs.Prelude.{◌≡◌, ◌≤◌};
-ghost use Rattle.script_lang.specs.Grammar.{serves as serves_said, channels_of, has_names as names_said, has_thick as thick_said};
+ghost use Rattle.script_lang.specs.Grammar.{serves as serves_said, channels_of, has_names as names_said};
+ghost use Rattle.script_lang.specs.Grammar.{has_thick as thick_said};
 
 use crate::verb::Verb;
 

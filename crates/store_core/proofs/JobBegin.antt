@@ -91,7 +91,13 @@ module _ {D : Type 0} (d : Ghosts D) (p : StoreView D) (channel : ℕ) (low : ch
             chain = chain_is makes planned.head old (s.chains planned.head) was chain;
             unerased = λ made. unerased (was ∙ ap not made);
             planned =
-                record { needs = is.needs; least = is.least; packed = is.packed; places = is.places; says = is.planned };
+                record {
+                  needs = is.needs;
+                  least = is.least;
+                  packed = is.packed;
+                  places = is.places;
+                  says = is.planned;
+                };
             clusters = known.moves;
           },
           tt,

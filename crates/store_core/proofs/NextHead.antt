@@ -1,7 +1,6 @@
 -- The head that is next is a new blob's, and a create asks for its job there.
 use Rattle.std.proofs.Common.{◌≡◌, ℕ, true, false, List, [], ◌∷◌, Option, Some, None, refl, sym, ap, ◌∙◌, inl, inr}
 use Rattle.std.proofs.Common.{arith}
-use Rattle.std.proofs.lemmas.Bool.{eq-eqb}
 use Rattle.std.specs.Ordering.{nat_cmp}
 use Rattle.std.specs.FinMap as map
 use Rattle.super_block.specs.declared.page.Super.{Super}
@@ -19,11 +18,9 @@ use Rattle.store_model.specs.Asking.{creates}
 use Rattle.store_model.specs.Shown.{fixed_of}
 use Rattle.store_model.specs.StoreState.{StoreState, shown}
 use Rattle.store_model.specs.RunInvariant.{RunInvariant, RunsWell}
+use Rattle.store_model.proofs.Sets.{among_first}
 use Rattle.store_core.specs.Begins.{IsFreshHead, IsJobOf}
 use Rattle.store_core.specs.LoadedWhole.{IsNextHead}
-
-first_among : (head : ℕ) (rest : List ℕ) → is_among head (head ∷ rest) ≡ true
-first_among head rest = rw (eq-eqb head head refl) refl
 
 module _ (s : Super) (first : Volumes) (script : ℕ → List _) (p : StoreState) (facts : RunInvariant s first script p)
     (well : RunsWell first p) where
@@ -34,7 +31,7 @@ module _ (s : Super) (first : Volumes) (script : ℕ → List _) (p : StoreState
       let chain = well.chains.chain head m is in
       let set : is_in p.pages head ≡ true =
       well.pages.linked head
-      (record { head = head; pages = head ∷ chain.0; chain = chain.1; among = first_among head chain.0 }) in
+      (record { head = head; pages = head ∷ chain.0; chain = chain.1; among = among_first head chain.0 }) in
       let e : true ≡ false = sym set ∙ clear in absurd (cc e)
 
   -- and none is at the end of the region

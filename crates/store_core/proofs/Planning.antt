@@ -108,7 +108,8 @@ plan_laws d = record {
       (whole_base d p running) named;
   shows_all = λ p running runs. shows_metas (state_of d p) running runs p.metas refl;
   put = λ p head key value old live running runs blob cause. asks_put running.first (state_of d p)
-      (running.facts.well runs) p.metas (whole_base d p running) refl head old live blob.there blob.is_live key value cause;
+      (running.facts.well runs) p.metas (whole_base d p running) refl head old
+      live blob.there blob.is_live key value cause;
   sync = λ p head old live running runs blob cause. asks_sync running.first (state_of d p)
       (running.facts.well runs) p.metas (whole_base d p running) refl head old live blob.there blob.is_live cause;
   create = λ p name slots uuid head xattrs running runs is_name next unrefused named.

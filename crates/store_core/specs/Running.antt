@@ -1,5 +1,6 @@
 -- The fields of a running store as contracts see them, and how they are kept in order.
-use Rattle.std.specs.Prelude.{◌≡◌, ◌↔◌, ℕ, ◌+◌, ◌-◌, ◌^◌, ◌<◌, ◌≤◌, Bool, true, [], length, vec_capacity, slice_index_or}
+use Rattle.std.specs.Prelude.{◌≡◌, ◌↔◌, ℕ, ◌+◌, ◌-◌, ◌^◌, ◌<◌, ◌≤◌, Bool, true, [], length, vec_capacity}
+use Rattle.std.specs.Prelude.{slice_index_or}
 use Rattle.std.specs.Prelude.{IfSome, IsSome, List, if◌then◌else◌, is_some, slice_set}
 use Rattle.std.specs.FinMap as map
 use Rattle.bit_array.specs.Bits.{is_in}

@@ -27,9 +27,9 @@ pub record IsRunning (p : StoreState) : Type 0 where
   pub named : AreNamedAlike first
   pub facts : RunInvariant store first script p
 
--- It began with nothing logged, on a super block without fault, and with each volume's name and uuid on the disk as they
--- are read; turns led from there to here, and the state has what every state of a run has; and power may fail at any
--- moment.
+-- It began with nothing logged, on a super block without fault, and with each volume's name and uuid on the disk as
+-- they are read; turns led from there to here, and the state has what every state of a run has; and power may fail at
+-- any moment.
 pub record StoreInvariant {D : Type 0} (d : Ghosts D) (p : WithOpening D) : Type 0 where
   pub began : Opens (state_of d p.opening)
   pub faultless : IsFaultless p.opening.super

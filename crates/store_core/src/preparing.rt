@@ -1,13 +1,15 @@
 //! What a job takes before it begins: memory, pages, and what it will write.
 
-ghost use Rattle.std.specs.Prelude.{◌≡◌, ◌+◌, ◌<◌, ◌≤◌, ◌∷◌, [], true, Some, None, length, is_some, IfOk, IfErr, IfSome, IfNone};
+ghost use Rattle.std.specs.Prelude.{◌≡◌, ◌+◌, ◌<◌, ◌≤◌, ◌∷◌, [], true, Some, None, length, is_some, IfOk, IfErr};
+ghost use Rattle.std.specs.Prelude.{IfSome, IfNone};
 ghost use Rattle.std.specs.Prelude.{IsSome};
 ghost use Rattle.std.specs.FinMap as map;
 ghost use Rattle.std.specs.List.{All};
 ghost use Rattle.pools.specs.Pool.{clear_in};
 ghost use Rattle.blob_meta.specs.Items.{IsItemsOf};
 ghost use Rattle.md_chain.specs.Packing.{parts_of, ArePlannable, AreFew, FitsPage};
-ghost use Rattle.store_core.specs.Begins.{behind_in, HasChain, IsFreshHead, IsLaid, IsPrepared, IsTaken, LacksPages, needed};
+ghost use Rattle.store_core.specs.Begins.{behind_in, HasChain, IsFreshHead, IsLaid, IsPrepared, IsTaken};
+ghost use Rattle.store_core.specs.Begins.{LacksPages, needed};
 ghost use Rattle.store_core.specs.Running.{HasRooms};
 
 use crate::clearing::clear_places;
@@ -110,7 +112,8 @@ pub(crate) fn prepare(
     requires unclaimed { pages.old.claims ≡ [] }
     requires xattrs { All FitsPage new.now.xattrs }
     requires internal { All FitsPage new.now.internal }
-    ensures some { IfOk result (λ o. IfSome o (IsPrepared chains.now head new.now rooms pages.old.bits pages.new.bits)) }
+    ensures some { IfOk result (λ o. IfSome o
+        (IsPrepared chains.now head new.now rooms pages.old.bits pages.new.bits)) }
     ensures none { IfOk result
         (λ o. IfNone o (LacksPages (is_some (map.get chains.now head)) new.now pages.old.bits
         × (pages.new.bits ≡ pages.old.bits))) }
@@ -173,8 +176,8 @@ fn places_behind(alloc: Global, chains: &Chains, head: u32) -> Result<PlaceList,
     Ok(PlaceList::from_vec(behind))
 }
 
-/// Takes the pages that the items need, and lays them on the head and on these. After `Memory` the same pages are in use
-/// as before.
+/// Takes the pages that the items need, and lays them on the head and on these. After `Memory` the same pages are in
+/// use as before.
 fn take_chain(
     alloc: Global,
     pages: &mut PagePool,

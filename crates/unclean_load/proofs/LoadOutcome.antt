@@ -47,11 +47,14 @@ pub lawful : (s : Super) (metas : Metas) → AreLoadable s metas → slots_toget
     → ((cluster : ℕ) → copies s.md_len metas cluster ≤ 1) → IsLawful s.md_len metas
 lawful s metas all few most = record {
   alone =
-      λ h k i j cluster m n a b x y. one_slot metas cluster s.md_len (λ head meta there. (all head meta there).stored.low)
+      λ h k i j cluster m n a b x y. one_slot metas cluster s.md_len
+          (λ head meta there. (all head meta there).stored.low)
       (most cluster) h k i j m n a b x y;
-  parents = λ h p m there is. let none : parent_of m ≡ None = rw (all h m there).alone.no_parent refl in absurd (cc (none, is));
+  parents = λ h p m there is.
+      let none : parent_of m ≡ None = rw (all h m there).alone.no_parent refl in absurd (cc (none, is));
   rank = λ _. 0;
-  falls = λ h p m there is. let none : parent_of m ≡ None = rw (all h m there).alone.no_parent refl in absurd (cc (none, is));
+  falls = λ h p m there is.
+      let none : parent_of m ≡ None = rw (all h m there).alone.no_parent refl in absurd (cc (none, is));
   few = few;
 }
 

@@ -1,5 +1,5 @@
--- What a volume's `name` and `uuid` tell as they are read is what they tell on the disk: after each step, and so after a
--- log.
+-- What a volume's `name` and `uuid` tell as they are read is what they tell on the disk: after each step, and so after
+-- a log.
 use Rattle.std.proofs.Common.{◌≡◌, ℕ, ◌+◌, ◌==◌, if◌then◌else◌, Option, Some, None, Bool, true, false, ◌||◌, List, []}
 use Rattle.std.proofs.Common.{◌∷◌, refl, sym, ap, subst, ◌∙◌, inl, inr}
 use Rattle.std.specs.Prelude.{find, nat_lt, is_none, length, not}

@@ -129,7 +129,8 @@ returns-in-Err-clause-logged g c = λ _.
     let asks = c.requires.asks waits.command waits.rest (ap (λ (r : Row). r.left) waits.row) in
     let low : c.args.channel < length p.rows = omega (arith, c.requires.channel, c.requires.order.sixteen) in
     refused g.D.PageDisk p c.args.channel low c.requires.posted c.requires.runs Memory
-    (asked (state_of g.D.PageDisk p) c.requires.running c.requires.runs waits.command c.args.head c.args.new asks).memory
+    (asked (state_of g.D.PageDisk p) c.requires.running c.requires.runs waits.command c.args.head c.args.new
+        asks).memory
     c.prepare.new.pages.bits c.in-Err.ensures.memory (view_of c.log-in-Err.new.running) c.log-in-Err.ensures.logged
 
 pub returns-in_default-clause-logged : goal.returns-in_default-clause-logged
@@ -139,5 +140,6 @@ returns-in_default-clause-logged g c = λ _.
     let asks = c.requires.asks waits.command waits.rest (ap (λ (r : Row). r.left) waits.row) in
     let low : c.args.channel < length p.rows = omega (arith, c.requires.channel, c.requires.order.sixteen) in
     refused g.D.PageDisk p c.args.channel low c.requires.posted c.requires.runs Memory
-    (asked (state_of g.D.PageDisk p) c.requires.running c.requires.runs waits.command c.args.head c.args.new asks).memory
+    (asked (state_of g.D.PageDisk p) c.requires.running c.requires.runs waits.command c.args.head c.args.new
+        asks).memory
     p.pages refl (view_of c.log.new.running) c.log.ensures.logged

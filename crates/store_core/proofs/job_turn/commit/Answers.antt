@@ -1,4 +1,5 @@
-use Rattle.std.proofs.Common.{◌≡◌, ◌∷◌, Option, Some, None, ℕ, ◌+◌, ◌≤◌, ◌<◌, [], List, length, get_or, drop, sym, ◌∙◌, ap, subst}
+use Rattle.std.proofs.Common.{◌≡◌, ◌∷◌, Option, Some, None, ℕ, ◌+◌, ◌≤◌, ◌<◌, [], List, length, get_or, drop, sym}
+use Rattle.std.proofs.Common.{◌∙◌, ap, subst}
 use Rattle.std.proofs.Common.{arith}
 use Rattle.page_disk.specs.Moments.{IsReplaced, CallsLeaveOnly}
 use Rattle.md_chain.specs.declared.plan.PlannedPage.{PlannedPage}
