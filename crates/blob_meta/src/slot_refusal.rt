@@ -18,8 +18,8 @@ use super_block::Super;
 use volume_model::{Command, Reply};
 
 /// The first cause for which a create is refused; `None` exactly where nothing refuses it. `NameTaken` comes where a
-/// blob other than the super blob has the name, `TooLarge` for more than 2^20 slots, or more than 2^24 with those of all
-/// blobs.
+/// blob other than the super blob has the name, `TooLarge` for more than 2^20 slots, or more than 2^24 with those of
+/// all blobs.
 pub fn refusal_of_create(metas: &Metas, sup: &Super, command: &Command) -> Option<Reply>
     requires { IsCreate command.now }
     ensures caused { IfSome result IsCauseOfRefusal }

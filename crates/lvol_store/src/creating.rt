@@ -88,9 +88,9 @@ fn create(
     make_blob(alloc, new, xattrs, *thick, *slots as u32)
 }
 
-/// Plans a create: a blob at the head `new`, of the asked slots, which are filled by clusters of zeros where it is thick;
-/// with the attributes `name` and `uuid`, the uuid being the given one or else the name's in the store's. `Err` is the
-/// first cause for which the create is refused, or `Memory`.
+/// Plans a create: a blob at the head `new`, of the asked slots, which are filled by clusters of zeros where it is
+/// thick; with the attributes `name` and `uuid`, the uuid being the given one or else the name's in the store's. `Err`
+/// is the first cause for which the create is refused, or `Memory`.
 pub fn plan_create(
     alloc: Global,
     metas: &Metas,

@@ -48,9 +48,9 @@ fn resize(alloc: Global, metas: &Metas, sup: &Super, command: &Command) -> Resul
     give_slots(alloc, head, old, *slots as u32)
 }
 
-/// Plans a resize of the blob that is meant: its map is cut to the asked slots, or empty ones are added behind, which are
-/// filled by clusters of zeros where the blob isn't thin. No blob is made, so the head for a new one isn't used. `Err` is
-/// the first cause for which the resize is refused, or `Memory`.
+/// Plans a resize of the blob that is meant: its map is cut to the asked slots, or empty ones are added behind, which
+/// are filled by clusters of zeros where the blob isn't thin. No blob is made, so the head for a new one isn't used.
+/// `Err` is the first cause for which the resize is refused, or `Memory`.
 pub fn plan_resize(
     alloc: Global,
     metas: &Metas,

@@ -46,7 +46,7 @@ fn blob(
     })
 }
 
-/// The super blob of this uuid at 2, a thin blob at 5, a read-only one at 6, a thick one at 7, and at 8 one whose parent
+/// The super blob with a uuid at 2, a thin blob at 5, a read-only one at 6, a thick one at 7, and at 8 one whose parent
 /// at 6 has more slots.
 fn metas(alloc: Global) -> Result<Metas, Memory> {
     let mut metas = Metas::new(alloc);

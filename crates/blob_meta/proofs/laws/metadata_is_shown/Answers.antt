@@ -25,7 +25,8 @@ said m = record {
 one_page : ℕ → Option ℕ → Fixed
 one_page md_len super_blob = record { cluster_pages = 1; md_len = md_len; super_blob = super_blob }
 
-each : (md_len : ℕ) (super_blob : Option ℕ) (o : Option Meta) → ShowsAt (one_page md_len super_blob) (option_map said o) o
+each : (md_len : ℕ) (super_blob : Option ℕ) (o : Option Meta)
+    → ShowsAt (one_page md_len super_blob) (option_map said o) o
 unfolding said one_page
 each md_len super_blob None = tt
 each md_len super_blob (Some m) = record {
