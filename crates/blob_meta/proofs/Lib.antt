@@ -1,4 +1,3 @@
-pub mod EntriesAsMap
 pub mod ClustersOutside
 pub mod Firsts
 pub mod Inverse
@@ -6,3 +5,6 @@ pub mod HeadsInRange
 pub mod Shown
 pub mod Refused
 pub mod SlotSums
+pub mod EntriesInOrder
+pub mod MapOfEntries
+pub mod NextHead

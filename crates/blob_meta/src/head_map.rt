@@ -1,32 +1,56 @@
 //! Finite maps from the heads of blobs.
 
-ghost use Rattle.std.specs.Prelude.{◌≡◌, OnOk, OnErr, IfSome, IfNone, None, option_copied};
+ghost use Rattle.std.specs.Prelude.{◌≡◌, ◌+◌, ◌<◌, OnOk, OnErr, IfOk, IfSome, IfNone, None, option_copied};
 ghost use Rattle.std.specs.FinMap as map;
 ghost use Rattle.blob_meta.specs.Heads.{IsNextFrom, HasNoKeyFrom};
 
+use crate::entries::{insert_entry, place_of};
 use crate::meta::Meta;
 use out_of_memory::Memory;
 use std::alloc::Global;
-use std::collections::BTreeMap;
 use std::marker::Model;
 use volume_model::PlaceList;
 
-/// A finite map from heads, which are places of metadata pages. Contracts see it as that.
+/// A finite map from heads, which are places of metadata pages. Contracts see it as that. Only `insert` of a new head
+/// and `room` take memory.
 #[derive(Drop)]
 pub struct HeadMap<V> {
-    entries: BTreeMap<u32, V>,
+    entries: Vec<(u32, V)>,
 }
 
 impl<V> Model for HeadMap<V> {
     ghost use Rattle.std.specs.Ordering.{nat_cmp};
     ghost use Rattle.std.specs.FinMap as map;
     ghost use Rattle.std.specs.Coded.{coded_ℕ};
+    ghost use Rattle.blob_meta.specs.Heads.{IsInOrder};
 
     ghost Value = { map.FinMap nat_cmp V };
 
     ghost coded = { map.code coded_ℕ V.code };
 
-    ghost view = { λ a. map.from_entries a.entries.entries };
+    ghost view = { λ a. map.from_sorted a.entries.items };
+
+    ghost invariant = { λ a. IsInOrder a.entries.items };
+}
+
+/// Memory for a map from heads; contracts see for how many heads. It is taken while want of memory can still be
+/// answered, for an `insert_in` that can't answer it.
+#[derive(Drop)]
+pub struct Room<V> {
+    entries: Vec<(u32, V)>,
+}
+
+impl<V> Model for Room<V> {
+    ghost use Rattle.std.specs.Prelude.{◌≡◌, ℕ, [], vec_capacity};
+    ghost use Rattle.std.specs.Coded.{coded_ℕ};
+
+    ghost Value = { ℕ };
+
+    ghost coded = { coded_ℕ };
+
+    ghost view = { λ a. vec_capacity a.entries };
+
+    ghost invariant = { λ a. a.entries.items ≡ [] };
 }
 
 impl<V: Drop> HeadMap<V> {
@@ -35,7 +59,7 @@ impl<V: Drop> HeadMap<V> {
         ensures { result ≡ map.empty }
     {
         HeadMap {
-            entries: BTreeMap::new(alloc),
+            entries: Vec::new(alloc),
         }
     }
 
@@ -43,7 +67,10 @@ impl<V: Drop> HeadMap<V> {
     pub fn get(&self, head: u32) -> Option<&V>
         ensures { option_copied result ≡ map.get self.now head }
     {
-        self.entries.get(&head)
+        match place_of(&self.entries, head) {
+            Ok(place) => Some(&self.entries[place].1),
+            Err(_) => None,
+        }
     }
 
     /// Gives the head this value, whatever it had. After `Memory`, which comes only for a head that the map doesn't
@@ -53,10 +80,30 @@ impl<V: Drop> HeadMap<V> {
         ensures absent { OnErr result (map.get self.old head ≡ None) }
         ensures memory { OnErr result (self.new ≡ self.old) }
     {
-        match self.entries.insert(head, value) {
-            Ok(_) => Ok(()),
-            Err(_) => Err(Memory),
+        insert_entry(&mut self.entries, head, value)
+    }
+
+    /// Room for one head more than the map has.
+    pub fn room(&self, alloc: Global) -> Result<Room<V>, Memory>
+        ensures { IfOk result (λ room. room ≡ map.len self.now + 1) }
+    {
+        Ok(Room {
+            entries: Vec::with_capacity(alloc, self.entries.len() + 1)?,
+        })
+    }
+
+    /// Gives the head this value, whatever it had, and takes no memory: the map moves into this room.
+    pub fn insert_in(&mut self, room: Room<V>, head: u32, value: V)
+        requires { map.len self.old < room }
+        ensures { self.new ≡ map.insert self.old head value }
+    {
+        let mut entries = room.entries;
+        if entries.append(&mut self.entries).is_err()
+            || insert_entry(&mut entries, head, value).is_err()
+        {
+            unreachable!()
         }
+        self.entries = entries;
     }
 
     /// Takes the head out, and gives what it had; `None` exactly where the map didn't have it.
@@ -64,7 +111,10 @@ impl<V: Drop> HeadMap<V> {
         ensures value { result ≡ map.get self.old head }
         ensures removed { self.new ≡ map.remove self.old head }
     {
-        self.entries.remove(&head)
+        match place_of(&self.entries, head) {
+            Ok(place) => Some(self.entries.remove(place).1),
+            Err(_) => None,
+        }
     }
 
     /// The least head of the map that isn't below `head`; `None` exactly where there is none.
@@ -72,9 +122,12 @@ impl<V: Drop> HeadMap<V> {
         ensures some { IfSome result (λ next. IsNextFrom self.now head next) }
         ensures none { IfNone result (HasNoKeyFrom self.now head) }
     {
-        match self.entries.range(head..).next() {
-            Some((next, _)) => Some(*next),
-            None => None,
+        match place_of(&self.entries, head) {
+            Ok(_) => Some(head),
+            Err(place) => match self.entries.get(place) {
+                Some(entry) => Some(entry.0),
+                None => None,
+            },
         }
     }
 }

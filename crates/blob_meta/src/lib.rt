@@ -3,6 +3,7 @@
 #![tactic(auto)]
 
 mod checks;
+mod entries;
 mod fault;
 mod head_map;
 mod job;
@@ -18,7 +19,7 @@ mod slot_refusal;
 mod writing;
 
 pub use fault::MetaFault;
-pub use head_map::{Chains, HeadMap, Metas};
+pub use head_map::{Chains, HeadMap, Metas, Room};
 pub use job::{Job, Replacement, ReplacementList};
 pub use laws::{least_heads_are_meant, metadata_is_shown};
 pub use looking_up::{find, is_taken};

@@ -5,7 +5,7 @@ use Rattle.std.specs.List.{AllByRecursion}
 use Rattle.page_disk.specs.declared.disk.PageDisk.{Ghosts}
 use Rattle.volume_model.specs.declared.command.Command.{Command}
 use Rattle.volume_model.specs.declared.command.Command.TheVariants as c
-use Rattle.blob_meta.specs.Asked.{IsOnHead}
+use Rattle.script_lang.specs.Served.{IsServed}
 use Rattle.store_model.specs.Rows.{Answered, Decided, Decision, Idle, Posted, Row, Ended}
 use Rattle.store_model.specs.Cases as kind
 use Rattle.store_core.specs.declared.rows.RowStage.{RowStage}
@@ -31,30 +31,30 @@ pub record HasNext (row : Row) : Type 0 where
   pub command : Command
   pub rest : List Command
   pub left : row.left ≡ command ∷ rest
-  pub on_head : IsOnHead command
-  pub on_heads : AllByRecursion IsOnHead rest
+  pub served : IsServed command
+  pub all_served : AllByRecursion IsServed rest
 
 -- a command on a blob that is named by its head is one for the metadata thread
-on_head_meta : (command : Command) → IsOnHead command → waits_for command ≡ told.Meta
-on_head_meta (c.Read volume page) is = absurd (cc is)
-on_head_meta (c.Write volume page word) is = absurd (cc is)
-on_head_meta c.Flush is = absurd (cc is)
-on_head_meta _ is = refl
+served_meta : (command : Command) → IsServed command → waits_for command ≡ told.Meta
+served_meta (c.Read volume page) is = absurd (cc is)
+served_meta (c.Write volume page word) is = absurd (cc is)
+served_meta c.Flush is = absurd (cc is)
+served_meta _ is = refl
 
 -- a waiting row whose command the metadata thread is to be asked has a first command
 pub next_of : (row : Row) (channel : ℕ) → is_stage row channel ≡ told.Meta → IsWaiting row → HasNext row
 next_of row channel is waiting = elim waiting.at [
-  | inl idle ↦ by row.left waiting.on_heads refl (ap (λ s. is_stage (record row { stage = s }) channel) (sym idle) ∙ is)
+  | inl idle ↦ by row.left waiting.all_served refl (ap (λ s. is_stage (record row { stage = s }) channel) (sym idle) ∙ is)
   | inr ended ↦ absurd (let bad = sym (ap (λ (r : Row). is_stage r channel) ended) ∙ is in cc bad)
 ]
   where
-    by : (left : List Command) → AllByRecursion IsOnHead left → row.left ≡ left
+    by : (left : List Command) → AllByRecursion IsServed left → row.left ≡ left
         → is_stage (record row { stage = Idle }) channel ≡ told.Meta → HasNext row
     by [] on e stage =
         absurd (let bad = sym (ap (λ (l : List Command). is_stage (record row { left = l; stage = Idle }) channel) e)
         ∙ stage in cc bad)
     by (command ∷ rest) on e stage =
-        record { command = command; rest = rest; left = e; on_head = on.0; on_heads = on.1 }
+        record { command = command; rest = rest; left = e; served = on.0; all_served = on.1 }
 
 -- what a turn of settling comes to, where the command is logged
 pub settled : {D : Type 0} (d : Ghosts D) (p q : StoreView D) (channel : ℕ) (turn : SettleTurn)
@@ -82,7 +82,7 @@ module _ {D : Type 0} (first p posted served q : StoreView D) (channel : ℕ) (s
   serves_on none = record {
     others =
         λ other ne. settles.others other ne ∙ logs.others other ne ∙ posts.others other ne ∙ serves.others other ne;
-    waiting = subst IsWaiting (sym row_now) (record { on_heads = next.on_heads; at = inl refl; unclaimed = refl });
+    waiting = subst IsWaiting (sym row_now) (record { all_served = next.all_served; at = inl refl; unclaimed = refl });
     no_job = none;
   }
 
@@ -98,18 +98,18 @@ pub over : (row : Row) (channel : ℕ) → IsWaiting row → (is_stage row chann
     → (is_stage row channel ≡ told.Over → ⊥) → row ≡ ended_row
 over row channel waiting no_meta not_over = elim waiting.at [
   | inl idle ↦ absurd
-      (by row.left waiting.on_heads refl (λ s same. ap (λ x. is_stage (record row { stage = x }) channel) idle ∙ same))
+      (by row.left waiting.all_served refl (λ s same. ap (λ x. is_stage (record row { stage = x }) channel) idle ∙ same))
   | inr ended ↦ ended
 ]
   where
-    by : (left : List Command) → AllByRecursion IsOnHead left → row.left ≡ left
+    by : (left : List Command) → AllByRecursion IsServed left → row.left ≡ left
         → ((s : RowStage) → is_stage (record row { stage = Idle }) channel ≡ s → is_stage row channel ≡ s) → ⊥
     by [] on e same =
         not_over
         (same told.Over (ap (λ (l : List Command). is_stage (record row { left = l; stage = Idle }) channel) e))
     by (command ∷ rest) on e same =
         no_meta (same told.Meta (ap (λ (l : List Command). is_stage (record row { left = l; stage = Idle }) channel) e
-        ∙ on_head_meta command on.0))
+        ∙ served_meta command on.0))
 
 -- ---- all channels
 

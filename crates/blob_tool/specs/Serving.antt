@@ -1,7 +1,10 @@
 -- What is to be done for a posted command.
-use Rattle.std.specs.Prelude.{◌≡◌, ℕ, None}
+use Rattle.std.specs.Prelude.{◌≡◌, ℕ, Option, None, Some, Result, Ok, Err}
+use Rattle.volume_model.specs.declared.command.Command.{Command}
+use Rattle.volume_model.specs.declared.reply.Reply.{Reply}
+use Rattle.blob_meta.specs.declared.job.Job.{Job}
 use Rattle.page_disk.specs.declared.disk.PageDisk.{Ghosts}
-use Rattle.blob_meta.specs.Asked.{IsOnHead}
+use Rattle.script_lang.specs.Served.{IsServed}
 use Rattle.store_model.specs.Cases.{IsInMemory, IsRefusedBy}
 use Rattle.store_core.specs.Begins.{IsJobOf, ReplacesOne}
 use Rattle.store_core.specs.StoreView.{StoreView, state_of}
@@ -9,10 +12,17 @@ use Rattle.store_core.specs.Steps.{Asks}
 use Rattle.blob_tool.specs.declared.serving.Task.{Task}
 use Rattle.blob_tool.specs.declared.serving.Task.TheVariants as task
 
+-- What is planned for a command of a store that runs: nothing, if it is answered in memory; else its job, or a refusal
+-- for its first cause or for want of memory.
+abbrev pub IsPlanOf : {D : Type 0} → Ghosts D → StoreView D → Command → Option (Result Job Reply) → Type 0
+IsPlanOf d p command None = IsServed command × IsInMemory command
+IsPlanOf d p command (Some (Ok job)) = ReplacesOne job × IsJobOf (state_of d p) command job
+IsPlanOf d p command (Some (Err reply)) = IsRefusedBy (state_of d p) command reply
+
 -- A command in memory is answered; another is refused for a cause, or has its job. What a stopped store is asked to do
 -- doesn't count.
 abbrev pub IsTaskOf : {D : Type 0} → Ghosts D → StoreView D → ℕ → Task → Type 0
-IsTaskOf d p channel task.Answer = Asks p channel (λ command. IsOnHead command × IsInMemory command)
+IsTaskOf d p channel task.Answer = Asks p channel (λ command. IsServed command × IsInMemory command)
 IsTaskOf d p channel (task.Refuse reply) =
     p.stopped ≡ None → Asks p channel (λ command. IsRefusedBy (state_of d p) command reply)
 IsTaskOf d p channel (task.Begin job) =

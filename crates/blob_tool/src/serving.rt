@@ -1,19 +1,21 @@
 //! One posted command, from its message to its entry.
 
-ghost use Rattle.std.specs.Prelude.{◌≡◌, None};
-ghost use Rattle.blob_meta.specs.Asked.{IsOnHead};
+ghost use Rattle.std.specs.Prelude.{◌≡◌, ℕ, None, Some, option_copied};
+ghost use Rattle.std.specs.FinMap as map;
+ghost use Rattle.blob_meta.specs.Asked.{asked_head as head_said, IsOnHead};
+ghost use Rattle.script_lang.specs.Served.{IsServed};
 ghost use Rattle.store_model.specs.Rows.{InJob};
 ghost use Rattle.store_core.specs.Requests.{asked_by, IsPostedBy};
 ghost use Rattle.store_core.specs.StoreView.{rows_of};
 ghost use Rattle.store_core.specs.Steps.{decided, Asks, OnlyRow};
-ghost use Rattle.blob_tool.specs.Serving.{IsTaskOf};
+ghost use Rattle.blob_tool.specs.Serving.{IsPlanOf, IsTaskOf};
 
 use blob_meta::{Job, asked_head};
-use lvol_store::{plan_put, plan_sync};
+use lvol_store::{plan_create, plan_put, plan_sync};
 use page_disk::PageDisk;
 use std::alloc::Global;
 use store_core::{BeginTurn, MdRight, Plant, Request, plans};
-use volume_model::{Command, Msg, Reply};
+use volume_model::{Command, Msg, Reply, XattrList};
 
 /// What is to be done for a posted command.
 #[derive(Drop)]
@@ -35,32 +37,59 @@ fn command_of<'a>(request: Request<'a>) -> &'a Command
     }
 }
 
+/// The live attributes of the blob that a command on attributes names.
+fn live_of<'a, D: PageDisk>(plant: &'a Plant<D>, command: &Command) -> Option<&'a XattrList>
+    requires on_head { IsOnHead command.now }
+    ensures { (head : ℕ) → head_said command.now ≡ Some head
+        → option_copied result ≡ map.get plant.now.at.live head }
+{
+    plant.live(asked_head(command))
+}
+
+/// The job that is planned for a command, or why it is refused; `None` for a command that is answered in memory.
+fn planned<D: PageDisk>(
+    alloc: Global,
+    plant: &Plant<D>,
+    command: &Command,
+) -> Option<Result<Job, Reply>>
+    requires served { IsServed command.now }
+    requires runs { plant.now.at.stopped ≡ None }
+    ensures { IsPlanOf D.PageDisk plant.now.at command.now result }
+{
+    plans::<D>();
+    plant.keeps();
+    let (metas, sup, new) = (plant.metas(), plant.sup(), plant.next_head());
+    match command {
+        Command::Put { .. } => {
+            let live = live_of(plant, command);
+            Some(plan_put(alloc, metas, sup, command, new, live))
+        }
+        Command::Sync { .. } => {
+            let live = live_of(plant, command);
+            Some(plan_sync(alloc, metas, sup, command, new, live))
+        }
+        Command::Create { .. } => Some(plan_create(alloc, metas, sup, command, new)),
+        _ => None,
+    }
+}
+
 /// What is to be done for the command of a message. On a stopped store it is refused as that.
 fn task_of<D: PageDisk>(alloc: Global, plant: &Plant<D>, right: &MdRight, msg: Msg) -> Task
     requires right { right.now ≡ plant.now.right }
     requires posted { IsPostedBy plant.now.at.rows msg }
-    requires on_head { Asks plant.now.at msg.channel IsOnHead }
+    requires served { Asks plant.now.at msg.channel IsServed }
     ensures { IsTaskOf D.PageDisk plant.now.at msg.channel result }
 {
-    plans::<D>();
-    plant.keeps();
     if let Some(at) = plant.stopped() {
         return Task::Refuse(Reply::Stopped(at));
     }
     let Ok(request) = plant.request(right, msg) else {
         unreachable!()
     };
-    let command = command_of(request);
-    let (metas, sup, new) = (plant.metas(), plant.sup(), plant.next_head());
-    let live = plant.live(asked_head(command));
-    let planned = match command {
-        Command::Put { .. } => plan_put(alloc, metas, sup, command, new, live),
-        Command::Sync { .. } => plan_sync(alloc, metas, sup, command, new, live),
-        _ => return Task::Answer,
-    };
-    match planned {
-        Ok(job) => Task::Begin(job),
-        Err(reply) => Task::Refuse(reply),
+    match planned(alloc, plant, command_of(request)) {
+        None => Task::Answer,
+        Some(Ok(job)) => Task::Begin(job),
+        Some(Err(reply)) => Task::Refuse(reply),
     }
 }
 
@@ -84,7 +113,7 @@ fn finish<D: PageDisk>(plant: &mut Plant<D>, right: &mut MdRight, channel: u8)
 pub(crate) fn serve<D: PageDisk>(alloc: Global, plant: &mut Plant<D>, right: &mut MdRight, msg: Msg)
     requires right { right.old ≡ plant.old.right }
     requires posted { IsPostedBy plant.old.at.rows msg }
-    requires on_head { Asks plant.old.at msg.channel IsOnHead }
+    requires served { Asks plant.old.at msg.channel IsServed }
     requires no_job { plant.old.at.job ≡ None }
     ensures row { OnlyRow plant.old.at.rows plant.new.at.rows msg.channel
         (decided (rows_of plant.old.at.rows msg.channel)) }

@@ -37,7 +37,7 @@ impl Model for Guards {
 }
 
 impl Guards {
-    ghost use Rattle.std.specs.Prelude.{◌≡◌, ◌<◌, ◌≤◌, ◌-◌, ◌^◌, None, IsSome, IsTrue, IfOk, IfSome, false};
+    ghost use Rattle.std.specs.Prelude.{◌≡◌, ◌<◌, ◌≤◌, ◌-◌, ◌^◌, ◌&&◌, nat_lt, None, IsSome, IsTrue, IfOk, IfSome, false};
     ghost use Rattle.std.specs.FinMap as map;
     ghost use Rattle.std.specs.FinSet as set;
     ghost use Rattle.io_freeze.specs.Guards.{frozen_at, no_guards, released, removed, renewed};
@@ -51,6 +51,13 @@ impl Guards {
             drawn: 0,
             room,
         })
+    }
+
+    /// Whether one head more can be held: there is room for it, and a number is left for it.
+    pub fn can_add(&self) -> bool
+        ensures { result ≡ (nat_lt (map.len self.now.generations) self.now.room && nat_lt self.now.drawn (2 ^ 64 - 1)) }
+    {
+        (self.rows.len() as u64) < u64::from(self.room) && self.drawn < u64::MAX
     }
 
     /// Holds a head. It isn't frozen, and its generation is a number above every one drawn before.

@@ -3,6 +3,7 @@ use Rattle.std.specs.Prelude.{◌≡◌, ◌⊎◌, ℕ, Bool, Option, Some, Lis
 use Rattle.std.specs.Ordering.{nat_cmp}
 use Rattle.std.specs.FinMap as map
 use Rattle.super_block.specs.declared.page.Super.{Super}
+use Rattle.volume_model.specs.Names.{IsName}
 use Rattle.volume_model.specs.Xattrs.{Text, Xattrs}
 use Rattle.volume_model.specs.Volumes.{Volumes, Fixed, store_uuid, two_xattrs}
 use Rattle.volume_model.specs.Machine.{IsCauseOfRefusal}
@@ -25,6 +26,7 @@ module _ (metas : map.FinMap nat_cmp Meta) (sup : Super) where
   -- A new blob, with the attributes that a new volume has beside all volumes that show the metadata.
   pub record Creates (head : ℕ) (name : Text) (slots : ℕ) (thick : Bool) (uuid : Option (List ℕ)) (job : Job)
       : Type 0 where
+    pub is_name : IsName name
     pub xattrs : Xattrs
     pub named : (f : Fixed) (v : Volumes) → ShowsMetas f sup metas v → two_xattrs f v name uuid ≡ xattrs
     pub job_is : job ≡ create_job head xattrs thick slots

@@ -205,6 +205,27 @@ fn a_map_from_heads_keeps_what_it_is_given(rt: HostRuntime) -> Result<(), Fail> 
 }
 
 #[test]
+fn a_map_from_heads_moves_into_its_room(rt: HostRuntime) -> Result<(), Fail> {
+    let mut map = HeadMap::new(rt.alloc());
+    map.insert(7, 1u64)?;
+    map.insert(3, 2)?;
+    for (head, value) in [(5, 3), (7, 4)] {
+        let room = map.room(rt.alloc())?;
+        map.insert_in(room, head, value);
+    }
+    assert_eq!(rt;
+        (
+            map.get(3).copied(),
+            map.get(5).copied(),
+            map.get(7).copied()
+        ),
+        (Some(2), Some(3), Some(4))
+    );
+    assert_eq!(rt; (map.next_from(4), map.next_from(6)), (Some(5), Some(7)));
+    Ok(())
+}
+
+#[test]
 fn a_job_of_one_replacement_is_its_commit(rt: HostRuntime) -> Result<(), Fail> {
     let alloc = rt.alloc();
     let job = Job::of_one(alloc, 7, named(alloc, 7, b"a")?)?;

@@ -12,7 +12,7 @@ use Rattle.std.proofs.lemmas.List.{map-append, get_or_past}
 use Rattle.std.proofs.lemmas.Grind.{common_steps}
 use Rattle.volume_model.specs.declared.command.Command.{Command}
 use Rattle.volume_model.specs.Scripts.{commands_in}
-use Rattle.blob_meta.specs.Asked.{IsOnHead}
+use Rattle.script_lang.specs.Served.{IsServed}
 use Rattle.script_lang.specs.declared.fault.LineKind.{LineKind}
 use Rattle.script_lang.specs.declared.fault.LineKind.TheVariants as kind
 use Rattle.script_lang.specs.declared.grammar.Grammar.{Grammar}
@@ -41,7 +41,7 @@ pub record IsReading (grammar : Grammar) (all left : List (List ℕ)) (script : 
   pub within : pages ≤ 2 ^ 16
   pub room : commands_in script ≤ pages + number
   pub paged : 0 < pages → commands_in script + 1 ≤ pages + number
-  pub heads : grammar ≡ Served → All (All IsOnHead) script
+  pub heads : grammar ≡ Served → All (All IsServed) script
   pub unpaged : grammar ≡ Served → pages ≡ 0
 
 -- before the first line nothing is asked for
@@ -59,26 +59,26 @@ begun grammar all left script e s = record {
   within = omega arith;
   room = omega (arith, ap commands_in s);
   paged = λ more. absurd (omega arith);
-  heads = λ served. subst (All (All IsOnHead)) (sym s) (All-replicate (All IsOnHead) 16 [] (All-nil IsOnHead));
+  heads = λ served. subst (All (All IsServed)) (sym s) (All-replicate (All IsServed) 16 [] (All-nil IsServed));
   unpaged = λ served. refl;
 }
 
 -- the list of a channel, if each list is of commands on heads
-pub heads_in : (script : List (List Command)) → All (All IsOnHead) script → (channel : ℕ)
-    → All IsOnHead (slice_index_or script channel [])
-heads_in script all channel = elim (cases_lt channel (length script)) [
-  | inl lt ↦ All-get_or (All IsOnHead) script channel [] lt all
-  | inr past ↦ subst (All IsOnHead) (sym (get_or_past script channel [] past)) (All-nil IsOnHead)
+pub all_served : (script : List (List Command)) → All (All IsServed) script → (channel : ℕ)
+    → All IsServed (slice_index_or script channel [])
+all_served script all channel = elim (cases_lt channel (length script)) [
+  | inl lt ↦ All-get_or (All IsServed) script channel [] lt all
+  | inr past ↦ subst (All IsServed) (sym (get_or_past script channel [] past)) (All-nil IsServed)
 ]
 
-heads_pushed : (channel : ℕ) (commands : List Command) (script : List (List Command)) → All (All IsOnHead) script
-    → All IsOnHead commands → All (All IsOnHead) (fold (with_command channel) script commands)
-heads_pushed channel [] script all on = all
-heads_pushed channel (command ∷ commands) script all on =
-    heads_pushed channel commands (with_command channel script command)
-    (All-set (All IsOnHead) script channel _
-    (All-push IsOnHead _ command (heads_in script all channel) (All-head IsOnHead command commands on)) all)
-    (All-tail IsOnHead command commands on)
+served_pushed : (channel : ℕ) (commands : List Command) (script : List (List Command)) → All (All IsServed) script
+    → All IsServed commands → All (All IsServed) (fold (with_command channel) script commands)
+served_pushed channel [] script all on = all
+served_pushed channel (command ∷ commands) script all on =
+    served_pushed channel commands (with_command channel script command)
+    (All-set (All IsServed) script channel _
+    (All-push IsServed _ command (all_served script all channel) (All-head IsServed command commands on)) all)
+    (All-tail IsServed command commands on)
 
 -- the numbers after one more request
 more_room : (commands number pages len more : ℕ) → (len ≤ 1) ⊎ (len ≡ more) → commands ≤ pages + number
@@ -145,7 +145,7 @@ module _ (grammar : Grammar) (all left : List (List ℕ)) (line : List ℕ) (res
   module _ (request : LineRequest) (said : says grammar line ≡ Ok request) where
     -- one line more, within the limits, adds what it asks for
     pub one_more : (next : List (List Command)) → IsSized request.commands
-        → (grammar ≡ Served → All IsOnHead request.commands)
+        → (grammar ≡ Served → All IsServed request.commands)
         → number + 1 ≤ 2 ^ 16 → pages + pages_of request.commands ≤ 2 ^ 16
         → next ≡ with_request script request → commands_in next ≡ commands_in script + length request.commands
         → IsReading grammar all rest next (number + 1) (pages + pages_of request.commands)
@@ -171,8 +171,8 @@ module _ (grammar : Grammar) (all left : List (List ℕ)) (line : List ℕ) (res
           within = within;
           room = omega (arith, count, numbers.0);
           paged = λ some. let more = numbers.1 some in omega (arith, count);
-          heads = λ served. subst (All (All IsOnHead)) (sym pushed)
-              (heads_pushed request.channel request.commands script (r.heads served) (on served));
+          heads = λ served. subst (All (All IsServed)) (sym pushed)
+              (served_pushed request.channel request.commands script (r.heads served) (on served));
           unpaged = λ served. omega (arith, r.unpaged served, no_pages request.commands (on served));
         }
 
@@ -254,10 +254,10 @@ pushed_room grammar all left script {number} {pages} r request sized few within 
     ]
 
 -- as served, each command is on a blob named by its head
-pub served_heads : (grammar : Grammar) (all left : List (List ℕ)) (script : List (List Command)) {number pages : ℕ}
+pub served_in : (grammar : Grammar) (all left : List (List ℕ)) (script : List (List Command)) {number pages : ℕ}
     → IsReading grammar all left script number pages → grammar ≡ Served → (channel : ℕ)
-    → All IsOnHead (slice_index_or script channel [])
-served_heads grammar all left script r served = heads_in script (r.heads served)
+    → All IsServed (slice_index_or script channel [])
+served_in grammar all left script r served = all_served script (r.heads served)
 
 -- as served, there is a command a line at most
 pub served_few : (grammar : Grammar) (all left : List (List ℕ)) (script : List (List Command)) {number pages : ℕ}

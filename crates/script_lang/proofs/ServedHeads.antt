@@ -1,4 +1,4 @@
--- Commands that are served are on blobs named by their heads.
+-- What the served grammar reads are commands that are served.
 use Rattle.std.proofs.Common.{◌≡◌, ℕ, Bool, true, false, cond, ◌&&◌, List, [], ◌∷◌, ◌++◌, length, Option, Some, None}
 use Rattle.std.proofs.Common.{Result, Ok, Err, refl, ap, arith}
 use Rattle.std.specs.Prelude.{IfOk, IfSome, slice_index, ◌==◌}
@@ -9,7 +9,7 @@ use Rattle.std.proofs.lemmas.List.Elements.{All-nil, All-cons, All-head, All-tai
 use Rattle.volume_model.specs.declared.command.VolumeRef.TheVariants.{Head, Named}
 use Rattle.volume_model.specs.declared.command.Command.{Command}
 use Rattle.volume_model.specs.declared.command.Command.TheVariants as c
-use Rattle.blob_meta.specs.Asked.{IsOnHead}
+use Rattle.script_lang.specs.Served.{IsServed}
 use Rattle.script_lang.specs.declared.fault.LineKind.{LineKind}
 use Rattle.script_lang.specs.declared.form.Form.{Form}
 use Rattle.script_lang.specs.declared.form.Form.TheVariants as form
@@ -24,32 +24,33 @@ use Rattle.script_lang.specs.Forms.{says_word, says_values, joined, or_kind}
 use Rattle.script_lang.specs.Grammar.{serves}
 use Rattle.script_lang.specs.Lines.{says, says_verb, commands_said, words}
 use Rattle.script_lang.specs.Verbs.{verb_in, verbs, is_verb, forms_of, takes}
-use Rattle.script_lang.specs.Words.{head_in, name_in, number_in, count_in, thickness_in, key_in, value_in}
+use Rattle.script_lang.specs.Words.{head_in, name_in, number_in, count_in, is_thin, key_in, value_in}
 use Rattle.uuid.specs.Text.{parsed}
 use Rattle.script_lang.proofs.Requests.{either, pages_first, says_has}
 
--- each volume among the values is named by its head
-abbrev AreHeads : List Value → Type 0
-AreHeads [] = Unit {0}
-AreHeads (Volume (Head head) ∷ values) = AreHeads values
-AreHeads (Volume (Named name) ∷ values) = ⊥
-AreHeads (_ ∷ values) = AreHeads values
+-- each volume among the values is named by its head, and none is to be thick
+abbrev AreServedValues : List Value → Type 0
+AreServedValues [] = Unit {0}
+AreServedValues (Volume (Head head) ∷ values) = AreServedValues values
+AreServedValues (Volume (Named name) ∷ values) = ⊥
+AreServedValues (Thick true ∷ values) = ⊥
+AreServedValues (_ ∷ values) = AreServedValues values
 
-abbrev AreOnHeads : List Command → Type 0
-AreOnHeads commands = All IsOnHead commands
+abbrev AreServed : List Command → Type 0
+AreServed commands = All IsServed commands
 
-one_head : (command : Command) → IsOnHead command → AreOnHeads (command ∷ [])
-one_head command on = All-cons IsOnHead command [] on (All-nil IsOnHead)
+one_served_alone : (command : Command) → IsServed command → AreServed (command ∷ [])
+one_served_alone command on = All-cons IsServed command [] on (All-nil IsServed)
 
-plain_served : (verb : Verb) → serves Served verb ≡ true → IfOk (alone (plain verb)) AreOnHeads
+plain_served : (verb : Verb) → serves Served verb ≡ true → IfOk (alone (plain verb)) AreServed
 plain_served v.Flush s = absurd (false≢true s)
 plain_served v.List s = absurd (false≢true s)
-plain_served v.Df s = absurd (false≢true s)
+plain_served v.Df s = one_served_alone c.Df tt
 plain_served _ s = tt
 
 volume_served : (verb : Verb) (head : ℕ) → serves Served verb ≡ true
-    → IfOk (alone (command_on_volume verb (Head head))) AreOnHeads
-volume_served v.Sync head s = one_head _ refl
+    → IfOk (alone (command_on_volume verb (Head head))) AreServed
+volume_served v.Sync head s = one_served_alone _ refl
 volume_served v.Inflate head s = absurd (false≢true s)
 volume_served v.Decouple head s = absurd (false≢true s)
 volume_served v.Delete head s = absurd (false≢true s)
@@ -58,35 +59,35 @@ volume_served v.Info head s = absurd (false≢true s)
 volume_served _ head s = tt
 
 slots_served : (verb : Verb) (head slots : ℕ) → serves Served verb ≡ true
-    → IfOk (alone (on_slots verb (Head head) slots)) AreOnHeads
+    → IfOk (alone (on_slots verb (Head head) slots)) AreServed
 slots_served v.Resize head slots s = absurd (false≢true s)
 slots_served _ head slots s = tt
 
 name_served : (verb : Verb) (head : ℕ) (name : List ℕ) → serves Served verb ≡ true
-    → IfOk (alone (on_name verb (Head head) name)) AreOnHeads
+    → IfOk (alone (on_name verb (Head head) name)) AreServed
 name_served v.Snapshot head name s = absurd (false≢true s)
 name_served v.Clone head name s = absurd (false≢true s)
 name_served v.Rename head name s = absurd (false≢true s)
 name_served _ head name s = tt
 
-key_served : (verb : Verb) (head : ℕ) (key : List ℕ) → IfOk (alone (on_key verb (Head head) key)) AreOnHeads
-key_served v.DelX head key = one_head _ refl
-key_served v.GetX head key = one_head _ refl
+key_served : (verb : Verb) (head : ℕ) (key : List ℕ) → IfOk (alone (on_key verb (Head head) key)) AreServed
+key_served v.DelX head key = one_served_alone _ refl
+key_served v.GetX head key = one_served_alone _ refl
 key_served _ head key = tt
 
 value_served : (verb : Verb) (head : ℕ) (key value : List ℕ)
-    → IfOk (alone (on_value verb (Head head) key value)) AreOnHeads
-value_served v.SetX head key value = one_head _ refl
-value_served v.Put head key value = one_head _ refl
+    → IfOk (alone (on_value verb (Head head) key value)) AreServed
+value_served v.SetX head key value = one_served_alone _ refl
+value_served v.Put head key value = one_served_alone _ refl
 value_served _ head key value = tt
 
-creation_served : (verb : Verb) (name : List ℕ) (slots : ℕ) (thick : Bool) (uuid : Option (List ℕ))
-    → serves Served verb ≡ true → IfOk (alone (creation verb name slots thick uuid)) AreOnHeads
-creation_served v.Create name slots thick uuid s = absurd (false≢true s)
-creation_served _ name slots thick uuid s = tt
+creation_served : (verb : Verb) (name : List ℕ) (slots : ℕ) (uuid : Option (List ℕ))
+    → IfOk (alone (creation verb name slots false uuid)) AreServed
+creation_served v.Create name slots uuid = one_served_alone (c.Create name slots false uuid) tt
+creation_served _ name slots uuid = tt
 
 on_served : (verb : Verb) (head : ℕ) (values : List Value) → serves Served verb ≡ true
-    → IfOk (alone (command_on verb (Head head) values)) AreOnHeads
+    → IfOk (alone (command_on verb (Head head) values)) AreServed
 on_served verb head [] s = volume_served verb head s
 on_served verb head (Number slots ∷ []) s = slots_served verb head slots s
 on_served verb head (Name name ∷ []) s = name_served verb head name s
@@ -94,65 +95,70 @@ on_served verb head (Text key ∷ []) s = key_served verb head key
 on_served verb head (Text key ∷ Text value ∷ []) s = value_served verb head key value
 on_served verb head _ s = tt
 
-named_served : (verb : Verb) (name : List ℕ) (values : List Value) → serves Served verb ≡ true
-    → IfOk (alone (command_of_name verb name values)) AreOnHeads
-named_served verb name (Number slots ∷ Thick thick ∷ []) s = creation_served verb name slots thick None s
-named_served verb name (Number slots ∷ Thick thick ∷ Uuid uuid ∷ []) s = creation_served verb name slots thick
-    (Some uuid) s
-named_served verb name _ s = tt
+named_served : (verb : Verb) (name : List ℕ) (values : List Value) → AreServedValues values
+    → IfOk (alone (command_of_name verb name values)) AreServed
+named_served verb name (Number slots ∷ Thick false ∷ []) are = creation_served verb name slots None
+named_served verb name (Number slots ∷ Thick false ∷ Uuid uuid ∷ []) are = creation_served verb name slots (Some uuid)
+named_served verb name (Number slots ∷ Thick true ∷ values) are = absurd are
+named_served verb name _ are = tt
 
-one_served : (verb : Verb) (values : List Value) → serves Served verb ≡ true → AreHeads values
-    → IfOk (alone (command_of verb values)) AreOnHeads
+one_served : (verb : Verb) (values : List Value) → serves Served verb ≡ true → AreServedValues values
+    → IfOk (alone (command_of verb values)) AreServed
 one_served verb [] s heads = plain_served verb s
 one_served verb (Volume (Head head) ∷ values) s heads = on_served verb head values s
 one_served verb (Volume (Named name) ∷ values) s heads = absurd heads
-one_served verb (Name name ∷ values) s heads = named_served verb name values s
+one_served verb (Name name ∷ values) s heads = named_served verb name values heads
 one_served verb _ s heads = tt
 
-served_heads : (verb : Verb) (values : List Value) → serves Served verb ≡ true → AreHeads values
-    → IfOk (commands_of verb values) AreOnHeads
-served_heads v.Write values s heads = absurd (false≢true s)
-served_heads v.Read values s heads = absurd (false≢true s)
-served_heads verb values s heads = one_served verb values s heads
+served_in : (verb : Verb) (values : List Value) → serves Served verb ≡ true → AreServedValues values
+    → IfOk (commands_of verb values) AreServed
+served_in v.Write values s heads = absurd (false≢true s)
+served_in v.Read values s heads = absurd (false≢true s)
+served_in verb values s heads = one_served verb values s heads
 
-heads_append : (a b : List Value) → AreHeads a → AreHeads b → AreHeads (a ++ b)
+heads_append : (a b : List Value) → AreServedValues a → AreServedValues b → AreServedValues (a ++ b)
 heads_append [] b ha hb = hb
 heads_append (Volume (Head head) ∷ a) b ha hb = heads_append a b ha hb
 heads_append (Volume (Named name) ∷ a) b ha hb = absurd ha
 heads_append (Name name ∷ a) b ha hb = heads_append a b ha hb
 heads_append (Number number ∷ a) b ha hb = heads_append a b ha hb
-heads_append (Thick thick ∷ a) b ha hb = heads_append a b ha hb
+heads_append (Thick false ∷ a) b ha hb = heads_append a b ha hb
+heads_append (Thick true ∷ a) b ha hb = absurd ha
 heads_append (Uuid uuid ∷ a) b ha hb = heads_append a b ha hb
 heads_append (Text text ∷ a) b ha hb = heads_append a b ha hb
 
-joined_heads : (a b : Result (List Value) LineKind) → IfOk a AreHeads → IfOk b AreHeads → IfOk (joined a b) AreHeads
+joined_heads : (a b : Result (List Value) LineKind) → IfOk a AreServedValues → IfOk b AreServedValues → IfOk (joined a b) AreServedValues
 joined_heads (Ok a) (Ok b) ha hb = heads_append a b ha hb
 joined_heads (Ok a) (Err k) ha hb = tt
 joined_heads (Err k) (Ok b) ha hb = tt
 joined_heads (Err k) (Err l) ha hb = tt
 
-no_volume : {X : Type 0} (form : Form) (C : X → Value) → ((x : X) → AreHeads (C x ∷ [])) → (o : Option X)
-    → IfOk (or_kind form (option_map C o)) AreHeads
+no_volume : {X : Type 0} (form : Form) (C : X → Value) → ((x : X) → AreServedValues (C x ∷ [])) → (o : Option X)
+    → IfOk (or_kind form (option_map C o)) AreServedValues
 no_volume form C heads (Some x) = heads x
 no_volume form C heads None = tt
 
 a_head : (b : Bool) (o : Option ℕ)
-    → IfOk (or_kind form.Volume (option_map Volume (cond b (option_map Head o) None))) AreHeads
+    → IfOk (or_kind form.Volume (option_map Volume (cond b (option_map Head o) None))) AreServedValues
 a_head true (Some head) = tt
 a_head true None = tt
 a_head false o = tt
 
-word_heads : (f : Form) (word : List ℕ) → IfOk (or_kind f (says_word Served f word)) AreHeads
+a_thin : (b : Bool) → IfOk (or_kind form.Thickness (option_map Thick (cond b (Some false) None))) AreServedValues
+a_thin true = tt
+a_thin false = tt
+
+word_heads : (f : Form) (word : List ℕ) → IfOk (or_kind f (says_word Served f word)) AreServedValues
 word_heads form.Volume word = a_head (slice_index word 0 == 64) (head_in word)
 word_heads form.Name word = no_volume form.Name Name (λ x. tt) (name_in word)
 word_heads form.Number word = no_volume form.Number Number (λ x. tt) (number_in word)
 word_heads form.Count word = no_volume form.Count Number (λ x. tt) (count_in word)
-word_heads form.Thickness word = no_volume form.Thickness Thick (λ x. tt) (thickness_in word)
+word_heads form.Thickness word = a_thin (is_thin word)
 word_heads form.Uuid word = no_volume form.Uuid Uuid (λ x. tt) (parsed word)
 word_heads form.Key word = no_volume form.Key Text (λ x. tt) (key_in word)
 word_heads form.Value word = no_volume form.Value Text (λ x. tt) (value_in word)
 
-values_heads : (forms : List Form) (words : List (List ℕ)) → IfOk (says_values Served forms words) AreHeads
+values_heads : (forms : List Form) (words : List (List ℕ)) → IfOk (says_values Served forms words) AreServedValues
 values_heads [] words = tt
 values_heads (f ∷ forms) [] = tt
 values_heads (f ∷ forms) (word ∷ words) = joined_heads (or_kind f (says_word Served f word))
@@ -171,37 +177,37 @@ right : (a b : Bool) → (a && b) ≡ true → b ≡ true
 right true b e = e
 right false b e = absurd (false≢true e)
 
-values_served : (verb : Verb) → serves Served verb ≡ true → (r : Result (List Value) LineKind) → IfOk r AreHeads
-    → IfOk (commands_said verb r) AreOnHeads
-values_served verb s (Ok values) heads = served_heads verb values s heads
+values_served : (verb : Verb) → serves Served verb ≡ true → (r : Result (List Value) LineKind) → IfOk r AreServedValues
+    → IfOk (commands_said verb r) AreServed
+values_served verb s (Ok values) heads = served_in verb values s heads
 values_served verb s (Err kind) heads = tt
 
 verb_served : (word : List ℕ) (words : List (List ℕ)) (o : Option Verb)
-    → IfSome o (λ verb. is_verb Served word verb ≡ true) → IfOk (says_verb Served o words) AreOnHeads
+    → IfSome o (λ verb. is_verb Served word verb ≡ true) → IfOk (says_verb Served o words) AreServed
 verb_served word words None e = tt
 verb_served word words (Some verb) e =
-    either (λ (r : Result (List Command) LineKind). IfOk r AreOnHeads) (takes verb (length words)) _ _
+    either (λ (r : Result (List Command) LineKind). IfOk r AreServed) (takes verb (length words)) _ _
     (values_served verb (right _ _ e) (says_values Served (forms_of verb) words) (values_heads (forms_of verb) words))
     tt
 
-verb_heads : (word : List ℕ) (words : List (List ℕ)) → IfOk (says_verb Served (verb_in Served word) words) AreOnHeads
+verb_heads : (word : List ℕ) (words : List (List ℕ)) → IfOk (says_verb Served (verb_in Served word) words) AreServed
 unfolding verb_in
 verb_heads word words = verb_served word words (find (is_verb Served word) verbs)
     (found_passes (is_verb Served word) verbs)
 
 -- so are those of each line
-pub says_heads : (line : List ℕ) → IfOk (says Served line) (λ request. All IsOnHead request.commands)
-says_heads = says_has Served AreOnHeads (All-nil IsOnHead) verb_heads
+pub says_served : (line : List ℕ) → IfOk (says Served line) (λ request. All IsServed request.commands)
+says_served = says_has Served AreServed (All-nil IsServed) verb_heads
 
-not_page : (command : Command) → IsOnHead command → is_page command ≡ false
+not_page : (command : Command) → IsServed command → is_page command ≡ false
 not_page (c.Write volume page word) on = absurd (cc)
 not_page (c.Read volume page) on = absurd (cc)
 not_page _ on = refl
 
 -- commands on heads read and write no page
-pub no_pages : (commands : List Command) → All IsOnHead commands → pages_of commands ≡ 0
+pub no_pages : (commands : List Command) → All IsServed commands → pages_of commands ≡ 0
 no_pages [] on = refl
 no_pages (command ∷ commands) on =
     let none : cond {A = ℕ} (is_page command) 1 0 ≡ 0 = ap (λ b. cond {A = ℕ} b 1 0)
-    (not_page command (All-head IsOnHead command commands on)) in
-    omega (arith, none, pages_first command commands, no_pages commands (All-tail IsOnHead command commands on))
+    (not_page command (All-head IsServed command commands on)) in
+    omega (arith, none, pages_first command commands, no_pages commands (All-tail IsServed command commands on))

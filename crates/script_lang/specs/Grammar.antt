@@ -7,17 +7,24 @@ use Rattle.script_lang.specs.declared.verb.Verb.TheVariants as v
 
 abbrev pub serves : Grammar → Verb → Bool
 serves g.Whole verb = true
+serves g.Served v.Create = true
 serves g.Served v.SetX = true
 serves g.Served v.DelX = true
 serves g.Served v.GetX = true
 serves g.Served v.Put = true
 serves g.Served v.Sync = true
+serves g.Served v.Df = true
 serves g.Served verb = false
 
 -- how many channels there are
 abbrev pub channels_of : Grammar → ℕ
 channels_of g.Whole = 16
 channels_of g.Served = 1
+
+-- whether a volume may be made thick, and not thin alone
+abbrev pub has_thick : Grammar → Bool
+has_thick g.Whole = true
+has_thick g.Served = false
 
 -- whether a volume may be named by its name, and not by its head alone
 abbrev pub has_names : Grammar → Bool

@@ -11,3 +11,4 @@ pub mod Generator
 pub mod Generated
 pub mod Schedules
 pub mod Reading
+pub mod Served

@@ -34,10 +34,14 @@ head_in word = if slice_index word 0 == 64 then number_below (2 ^ 32) (drop 1 wo
 abbrev pub name_in : List ℕ → Option (List ℕ)
 name_in word = if is_name word then Some word else None
 
+-- clusters are claimed as they are written
+abbrev pub is_thin : List ℕ → Bool
+is_thin word = bytes_eq word (codes "thin")
+
 -- whether all clusters are claimed at once
 abbrev pub thickness_in : List ℕ → Option Bool
 thickness_in word =
-    if bytes_eq word (codes "thin") then Some false
+    if is_thin word then Some false
     else (if bytes_eq word (codes "thick") then Some true else None)
 
 -- bytes that can be seen, from 0x21 to 0x7E

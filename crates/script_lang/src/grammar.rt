@@ -1,7 +1,7 @@
 //! What is read of the grammar.
 
 ghost use Rattle.std.specs.Prelude.{◌≡◌, ◌≤◌};
-ghost use Rattle.script_lang.specs.Grammar.{serves as serves_said, channels_of, has_names as names_said};
+ghost use Rattle.script_lang.specs.Grammar.{serves as serves_said, channels_of, has_names as names_said, has_thick as thick_said};
 
 use crate::verb::Verb;
 
@@ -21,7 +21,13 @@ impl Grammar {
             Grammar::Whole => true,
             Grammar::Served => matches!(
                 verb,
-                Verb::SetX | Verb::DelX | Verb::GetX | Verb::Put | Verb::Sync
+                Verb::Create
+                    | Verb::SetX
+                    | Verb::DelX
+                    | Verb::GetX
+                    | Verb::Put
+                    | Verb::Sync
+                    | Verb::Df
             ),
         }
     }
@@ -34,6 +40,16 @@ impl Grammar {
         match self {
             Grammar::Whole => 16,
             Grammar::Served => 1,
+        }
+    }
+
+    /// Whether a volume may be made thick, and not thin alone.
+    pub fn has_thick(self) -> bool
+        ensures { result ≡ thick_said self }
+    {
+        match self {
+            Grammar::Whole => true,
+            Grammar::Served => false,
         }
     }
 

@@ -5,7 +5,7 @@ ghost use Rattle.std.specs.Prelude.{OnOk, OnErr};
 ghost use Rattle.std.specs.List.{All};
 ghost use Rattle.std.specs.Option.{option_copied};
 ghost use Rattle.volume_model.specs.Scripts.{commands_in};
-ghost use Rattle.blob_meta.specs.Asked.{IsOnHead};
+ghost use Rattle.script_lang.specs.Served.{IsServed};
 ghost use Rattle.script_lang.specs.declared.grammar.Grammar.TheVariants.{Served};
 ghost use Rattle.script_lang.specs.Commands.{pages_of, is_page as page_said};
 ghost use Rattle.script_lang.specs.Parts.{parts, size_left};
@@ -81,8 +81,8 @@ fn push_request(alloc: Global, script: &mut Script, request: LineRequest) -> Res
 /// The script of a text, read by a grammar; the clauses of `parse` say what is what.
 pub fn read_script(alloc: Global, grammar: Grammar, text: &[u8]) -> Result<Script, ScriptFault>
     ensures found { IfOk result (λ script. reads_as grammar text.now ≡ Some script) }
-    ensures on_heads { IfOk result
-        (λ script. grammar ≡ Served → (channel : ℕ) → All IsOnHead (slice_index_or script channel [])) }
+    ensures served { IfOk result
+        (λ script. grammar ≡ Served → (channel : ℕ) → All IsServed (slice_index_or script channel [])) }
     ensures few { IfOk result (λ script. grammar ≡ Served → commands_in script ≤ 2 ^ 16) }
     ensures within { IfOk result (λ script. length text.now ≤ 2 ^ 20) }
     ensures refused { IfErr result (RefusesText grammar text.now) }
@@ -129,7 +129,7 @@ pub fn read_script(alloc: Global, grammar: Grammar, text: &[u8]) -> Result<Scrip
 /// `BadLine` names the first line that is outside the grammar, or with which a limit is passed (`Limit`).
 pub fn parse(alloc: Global, text: &[u8]) -> Result<Script, ScriptFault>
     ensures found { IfOk result (λ script. reads text.now ≡ Some script) }
-    ensures on_heads { IfOk result (λ script. (channel : ℕ) → All IsOnHead (slice_index_or script channel [])) }
+    ensures served { IfOk result (λ script. (channel : ℕ) → All IsServed (slice_index_or script channel [])) }
     ensures few { IfOk result (λ script. commands_in script ≤ 2 ^ 16) }
     ensures within { IfOk result (λ script. length text.now ≤ 2 ^ 20) }
     ensures refused { IfErr result (RefusesText Served text.now) }

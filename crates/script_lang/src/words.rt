@@ -3,7 +3,7 @@
 ghost use Rattle.std.specs.Prelude.{◌≡◌, ◌<◌, ◌≤◌, ◌^◌, IfSome, IfOk};
 ghost use Rattle.std.specs.Option.{option_copied};
 ghost use Rattle.script_lang.specs.Words.{number_below as number_below_said, number_in, count_in, head_in, name_in};
-ghost use Rattle.script_lang.specs.Words.{thickness_in, is_visible as visible_said, key_in, if_decoded, value_in};
+ghost use Rattle.script_lang.specs.Words.{is_thin as thin_said, thickness_in, is_visible as visible_said, key_in, if_decoded, value_in};
 ghost use Rattle.hex.specs.Hex.{decode_of};
 
 use hex::FromHexError;
@@ -74,11 +74,18 @@ pub fn name(word: &[u8]) -> Option<Name>
     }
 }
 
+/// Whether `thin` is said.
+pub fn is_thin(word: &[u8]) -> bool
+    ensures { result ≡ thin_said word.now }
+{
+    word == b"thin".as_slice()
+}
+
 /// Whether `thick` is said and not `thin`.
 pub fn thickness(word: &[u8]) -> Option<bool>
     ensures { result ≡ thickness_in word.now }
 {
-    if word == b"thin".as_slice() {
+    if is_thin(word) {
         Some(false)
     } else if word == b"thick".as_slice() {
         Some(true)

@@ -1,4 +1,5 @@
 -- What an answer in memory is in the volumes that are shown.
+use Rattle.blob_meta.specs.Resolving.{resolved}
 use Rattle.std.proofs.Common.{◌≡◌, ℕ, Option, Some, None, refl, sym, ap, subst, ◌∙◌, inl, inr}
 use Rattle.std.specs.Prelude.{IfSome}
 use Rattle.std.specs.Option.{option_map, option_and_then}
@@ -13,6 +14,7 @@ use Rattle.volume_model.specs.Steps.{Allowed, change, edited_at, volume_at}
 use Rattle.volume_model.specs.declared.command.VolumeRef.TheVariants.{Head}
 use Rattle.volume_model.specs.declared.command.Command.{Command}
 use Rattle.volume_model.specs.declared.command.Command.TheVariants as c
+use Rattle.volume_model.specs.declared.reply.Df.{Df}
 use Rattle.volume_model.specs.declared.reply.Reply.{Reply}
 use Rattle.volume_model.specs.declared.reply.Reply.TheVariants as r
 use Rattle.blob_meta.specs.declared.meta.Meta.{Meta}
@@ -30,23 +32,23 @@ use Rattle.store_model.proofs.Synced.{edited_here, edited_there}
 use Rattle.store_core.specs.declared.answering.Effect.{Effect}
 use Rattle.store_core.specs.declared.answering.NewLive.{NewLive}
 use Rattle.store_core.proofs.Maps.{insert_given}
-use Rattle.store_core.specs.Answering.{ComesTo, DoesVerb}
+use Rattle.store_core.specs.Answering.{ComesTo, DoesVerb, IsOnAttributes}
 
 -- ---- what a running store shows of a blob
 
 module _ (first : Volumes) (p : StoreState) (well : RunsWell first p) where
   abbrev by_live : ℕ → Xattrs → Option Meta → Option Volume
   by_live h xs o =
-      option_map (λ m. volume_of (fixed_of p.super).cluster_pages p.device.reads p.base p.super.md_len xs h m) o
+      option_map (λ m. volume_of (fixed_of p.super).cluster_pages p.device.reads (resolved p.base) p.super.md_len xs h m) o
 
-  live_at : (h : ℕ) (o : Option Meta) → p.base h ≡ o
+  live_at : (h : ℕ) (o : Option Meta) → resolved p.base h ≡ o
       → option_map (λ (x : Volume). x.live) (by_live h (or_empty (p.live h)) o) ≡ p.live h
   live_at h None is = sym (well.no_live h is)
   live_at h (Some m) is = let l = well.live h m is in ap (λ xs. Some (or_empty xs)) l.1 ∙ sym l.1
 
   -- the live attributes are those of the volumes
   pub live_same : live_of (shown p) ≡ p.live
-  live_same = fun_ext (λ h. live_at h (p.base h) refl)
+  live_same = fun_ext (λ h. live_at h (resolved p.base h) refl)
 
   read_only_at : (h : ℕ) (o : Option Meta) → option_map (λ (x : Volume). x.read_only)
       (by_live h (or_empty (p.live h)) o) ≡ option_map (λ (m : Meta). is_read_only m.flags) o
@@ -54,13 +56,13 @@ module _ (first : Volumes) (p : StoreState) (well : RunsWell first p) where
   read_only_at h (Some m) = refl
 
   -- they show the blob that a command names
-  pub shows_blob : (metas : map.FinMap nat_cmp Meta) (command : Command) (head : ℕ) → p.base ≡ map.get metas
+  pub shows_blob : (metas : map.FinMap nat_cmp Meta) (command : Command) (head : ℕ) → resolved p.base ≡ map.get metas
       → asked_head command ≡ Some head → ShowsBlob metas (p.live head) command (shown p)
   shows_blob metas command head base named = record {
     live_is = ap (λ o. option_map (λ (x : Volume). x.live) (option_and_then (shown p) o)) named
-        ∙ live_at head (p.base head) refl;
+        ∙ live_at head (resolved p.base head) refl;
     read_only_is = ap (λ o. option_map (λ (x : Volume). x.read_only) (option_and_then (shown p) o)) named
-        ∙ read_only_at head (p.base head)
+        ∙ read_only_at head (resolved p.base head)
         ∙ ap (λ (m : Map Meta). option_map (λ (x : Meta). is_read_only x.flags) (m head)) base
         ∙ ap (λ o. option_map (λ (m : Meta). is_read_only m.flags) (option_and_then (λ h. map.get metas h) o))
         (sym named);
@@ -103,8 +105,10 @@ module _ (f : Fixed) (v : Volumes) where
       by_cause (λ x. change f v (c.SetX volume key value) x) refl refl refl refl refl reply cause
   refused_same (c.DelX volume key) reply is cause =
       by_cause (λ x. change f v (c.DelX volume key) x) refl refl refl refl refl reply cause
-  refused_same (c.GetX volume key) reply is cause =
-      by_cause (λ x. change f v (c.GetX volume key) x) refl refl refl refl refl reply cause
+  refused_same (c.GetX volume key) reply is cause = refl
+  refused_same (c.Info volume) reply is cause = refl
+  refused_same c.List reply is cause = refl
+  refused_same c.Df reply is cause = refl
   refused_same _ reply is cause = absurd is
 
   -- a volume at a head
@@ -182,7 +186,7 @@ module _ (f : Fixed) (v : Volumes) where
 -- ---- an effect in the volumes that are shown
 
 pub answered_by : (first : Volumes) (p : StoreState) (metas : map.FinMap nat_cmp Meta) (command : Command) (head : ℕ)
-    (e : Effect) → RunsWell first p → p.base ≡ map.get metas → asked_head command ≡ Some head → IsInMemory command
+    (e : Effect) → RunsWell first p → resolved p.base ≡ map.get metas → asked_head command ≡ Some head → IsInMemory command
     → ComesTo metas (p.live head) command p.super e
     → Answered (fixed_of p.super) (shown p) p.live command e.reply e.live
 answered_by first p metas command head e well base named in_memory (inl x) =
@@ -206,16 +210,46 @@ answered_by first p metas command head e well base named in_memory (inr x) = by 
     by (Some mine) is does = done (fixed_of p.super) (shown p) p.live
         (live_same first p well) head mine is command e.reply e.live named none does
 
+-- an answer that changes no volume
+unchanging : (first : Volumes) (p : StoreState) → RunsWell first p → (command : Command) (reply : Reply)
+    → Allowed (fixed_of p.super) (shown p) command reply → IsQuiet reply
+    → change (fixed_of p.super) (shown p) command reply ≡ shown p
+    → Answered (fixed_of p.super) (shown p) p.live command reply None
+unchanging first p well command reply allowed quiet same = record {
+  allowed = allowed;
+  quiet = quiet;
+  live_is = sym (live_same first p well) ∙ ap live_of (sym same);
+}
+
 -- want of memory answers a command in memory
 pub answered_memory : (first : Volumes) (p : StoreState) (command : Command) → RunsWell first p → IsInMemory command
     → Answered (fixed_of p.super) (shown p) p.live command r.Memory None
 answered_memory first p (c.SetX volume key value) well is =
-    record { allowed = tt; quiet = tt; live_is = sym (live_same first p well) }
-answered_memory first p (c.DelX volume key) well is =
-    record { allowed = tt; quiet = tt; live_is = sym (live_same first p well) }
-answered_memory first p (c.GetX volume key) well is =
-    record { allowed = tt; quiet = tt; live_is = sym (live_same first p well) }
+    unchanging first p well (c.SetX volume key value) r.Memory tt tt refl
+answered_memory first p (c.DelX volume key) well is = unchanging first p well (c.DelX volume key) r.Memory tt tt refl
+answered_memory first p (c.GetX volume key) well is = unchanging first p well (c.GetX volume key) r.Memory tt tt refl
+answered_memory first p (c.Info volume) well is = unchanging first p well (c.Info volume) r.Memory tt tt refl
+answered_memory first p c.List well is = unchanging first p well c.List r.Memory tt tt refl
+answered_memory first p c.Df well is = unchanging first p well c.Df r.Memory tt tt refl
 answered_memory first p _ well is = absurd is
+
+-- how much is free answers a `df`
+pub answered_df : (first : Volumes) (p : StoreState) (command : Command) (df : Df) → RunsWell first p → command ≡ c.Df
+    → Answered (fixed_of p.super) (shown p) p.live command (r.Df df) None
+answered_df first p command df well is =
+    subst (λ (k : Command). Answered (fixed_of p.super) (shown p) p.live k (r.Df df) None) (sym is)
+    (unchanging first p well c.Df (r.Df df) (refl, tt) tt refl)
+
+-- a command on attributes says nothing of what is free
+pub not_df : (f : Fixed) (v : Volumes) (command : Command) (reply : Reply) → IsOnAttributes command
+    → Allowed f v command reply → (df : Df) → reply ≡ r.Df df → ⊥
+not_df f v (c.SetX volume key value) reply on allowed df is = (subst (Allowed f v (c.SetX volume key value)) is allowed).1
+not_df f v (c.DelX volume key) reply on allowed df is = (subst (Allowed f v (c.DelX volume key)) is allowed).1
+not_df f v (c.GetX volume key) reply on allowed df is = (subst (Allowed f v (c.GetX volume key)) is allowed).1
+not_df f v (c.Info volume) reply on allowed df is = absurd (cc on.0)
+not_df f v c.List reply on allowed df is = absurd (cc on.0)
+not_df f v c.Df reply on allowed df is = absurd (cc on.0)
+not_df f v _ reply on allowed df is = absurd on.1
 
 -- the map of live attributes, once the new ones are kept
 pub live_kept : (old new : map.FinMap nat_cmp Xattrs) (o : Option NewLive) → (o ≡ None → new ≡ old)

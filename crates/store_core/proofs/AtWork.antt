@@ -17,12 +17,12 @@ use Rattle.store_core.proofs.Cleared.{among_get}
 use Rattle.store_core.specs.declared.job.Planned.{Planned}
 use Rattle.store_core.specs.Jobs.{erasing_job, writing_job, commit_of, replacing_of}
 use Rattle.store_model.specs.Phases.{page_in, held_in, Erases, Frees, Phase, Replacing, erasing, has_commit, taken_in}
-use Rattle.store_model.specs.Phases.{Replaces}
+use Rattle.store_model.specs.Phases.{Replaces, taken_by}
 use Rattle.store_model.proofs.Phases.{held_clearing, planned_behind, commit_behind, held_behind, lays_reached}
 use Rattle.store_model.proofs.Phases.{does_reached, no_commit}
 use Rattle.blob_meta.specs.declared.meta.Meta.{Meta}
 use Rattle.store_model.proofs.LeftToDo.{among_left, distinct_left}
-use Rattle.std.specs.Prelude.{if◌then◌else◌}
+use Rattle.std.specs.Prelude.{if◌then◌else◌, is_some, Bool}
 
 -- ---- the pages of a plan
 
@@ -126,27 +126,44 @@ module _ (p : StoreState) (r : IsRunning p) (runs : p.stopped ≡ None) where
 
     held_fresh : (x : ℕ) → is_among x fresh ≡ true → is_among x (held_by p.job) ≡ true
     held_fresh x among =
-        let held : held_by p.job ≡ fresh ++ taken_in (erasing old old []) =
+        let held : held_by p.job ≡ taken_by replacing ++ taken_in (erasing old old []) =
         ap held_by is ∙ held_behind (drop written fresh) behind in
-        subst (λ l. is_among x l ≡ true) (sym held) (among_left x fresh (taken_in (erasing old old [])) among)
+        subst (λ l. is_among x l ≡ true) (sym held)
+        (among_left x (taken_by replacing) (taken_in (erasing old old [])) (taken (is_some planned.rooms)))
+      where
+        taken : (makes : Bool) → is_among x (if makes then planned.head ∷ fresh else fresh) ≡ true
+        taken true = among_later x planned.head fresh among
+        taken false = among
 
-    linked_head : IsLinked p.chains planned.head
-    linked_head = record {
-      head = planned.head;
-      pages = planned.head ∷ old;
-      chain = can.chain;
-      among = among_first planned.head old;
-    }
+    -- the chain of a blob that is there
+    pub chain_there : is_some planned.rooms ≡ false → p.chains planned.head ≡ Some (planned.head ∷ old)
+    chain_there not = can.chain ∙ ap (λ b. if b then None else Some (planned.head ∷ old)) not
+
+    -- and none, where the blob is new
+    pub none_there : is_some planned.rooms ≡ true → p.chains planned.head ≡ None
+    none_there makes = can.chain ∙ ap (λ b. if b then None else Some (planned.head ∷ old)) makes
 
     distinct : AreDistinct (places_of planned.pages)
     distinct =
-        let apart : is_among planned.head fresh ≡ false = elim (cases_Bool (is_among planned.head fresh)) [
-          | inl among ↦ absurd (well.pages.apart planned.head (held_fresh planned.head among) linked_head)
-          | inr out ↦ out
-        ] in
-        let differ : AreDistinct (fresh ++ taken_in (erasing old old [])) =
+        let differ : AreDistinct (taken_by replacing ++ taken_in (erasing old old [])) =
         subst AreDistinct (held_behind (drop written fresh) behind) stands.distinct in
-        subst AreDistinct (sym can.places) (apart, distinct_left fresh (taken_in (erasing old old [])) differ)
+        let taken : AreDistinct (taken_by replacing) =
+        distinct_left (taken_by replacing) (taken_in (erasing old old [])) differ in
+        subst AreDistinct (sym can.places) (elim (cases_Bool (is_some planned.rooms)) [
+          | inl makes ↦ subst (λ (b : Bool). AreDistinct (if b then planned.head ∷ fresh else fresh)) makes taken
+          | inr not ↦ (
+            elim (cases_Bool (is_among planned.head fresh)) [
+              | inl among ↦ absurd (well.pages.apart planned.head (held_fresh planned.head among) (record {
+                head = planned.head;
+                pages = planned.head ∷ old;
+                chain = chain_there not;
+                among = among_first planned.head old;
+              }))
+              | inr out ↦ out
+            ],
+            subst (λ (b : Bool). AreDistinct (if b then planned.head ∷ fresh else fresh)) not taken,
+          )
+        ])
 
     -- the next fresh page
     pub next_place : (k : ℕ) (x : PlannedPage) → slice_get planned.pages (suc k) ≡ Some x
@@ -168,7 +185,7 @@ module _ (p : StoreState) (r : IsRunning p) (runs : p.stopped ≡ None) where
         ap (page_in planned.pages) here ∙ page_of planned.pages zero x distinct at
 
     pub head_low : planned.head < p.super.md_len
-    head_low = well.chains.low planned.head planned.head (planned.head ∷ old) can.chain (among_first planned.head old)
+    head_low = (can.loadable planned.new refl).stored.low
 
     -- the plan has a page for the head, and one for each fresh place
     pub pages_planned : length planned.pages ≡ suc (length fresh)
@@ -178,12 +195,12 @@ module _ (p : StoreState) (r : IsRunning p) (runs : p.stopped ≡ None) where
         length_places [] = refl
         length_places (x ∷ xs) = ap suc (length_places xs)
 
-    -- the blob has its metadata
-    pub has_meta : (m : Meta) × (p.base planned.head ≡ Some m)
-    has_meta = by (p.base planned.head) refl
+    -- a blob that is there has its metadata
+    pub has_meta : is_some planned.rooms ≡ false → (m : Meta) × (p.base planned.head ≡ Some m)
+    has_meta not = by (p.base planned.head) refl
       where
         by : (o : Option Meta) → p.base planned.head ≡ o → (m : Meta) × (p.base planned.head ≡ Some m)
-        by None none = absurd (let bad = sym (well.chains.none planned.head none) ∙ can.chain in cc bad)
+        by None none = absurd (let bad = sym (well.chains.none planned.head none) ∙ chain_there not in cc bad)
         by (Some m) some = (m, some)
 
   -- ---- a job behind its commit

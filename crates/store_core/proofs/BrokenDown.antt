@@ -91,12 +91,14 @@ module _ {D : Type 0} (d : Ghosts D) (p : StoreView D) (running : IsRunning (sta
           at = at;
           stands = stands;
           ends = inl (record {
-            channel = channel;
-            serves = w.serves;
+            served = record {
+              channel = channel;
+              serves = w.serves;
+              command = served.command;
+              rest = served.rest;
+              row = served.is;
+            };
             waits = w.commit;
-            command = served.command;
-            rest = served.rest;
-            row = served.is;
             next = next;
           });
         },

@@ -4,6 +4,7 @@ use Rattle.std.specs.FinMap as map
 use Rattle.page_disk.specs.Disk.{Telling}
 use Rattle.page_disk.specs.Moments.{CallsLeaveOnly}
 use Rattle.page_disk.specs.declared.disk.PageDisk.{Ghosts}
+use Rattle.super_block.specs.Faults.{IsFaultless}
 use Rattle.super_block.specs.Placed.{IsPlaced}
 use Rattle.store_model.specs.Cases.{Kind}
 use Rattle.store_model.specs.StoreState.{JobState, Opens, shown}
@@ -20,14 +21,16 @@ use Rattle.store_core.specs.Surviving.{HasOneImage, HoldsMetadata, OldOrNew}
 
 module _ {D : Type 0} (d : Ghosts D) (laws : CrashLaws)
     (law : IsTrue d.tells → Telling d.now d.images d.since d.clock) where
-  pub kept_begins : (p : StoreView D) → IsLoadedWith p.super (state_of d p) → Opens (state_of d p) → IsPlaced p.super
+  pub kept_begins : (p : StoreView D) → IsLoadedWith p.super (state_of d p) → Opens (state_of d p) → IsFaultless p.super
+      → IsPlaced p.super
       → (IsTrue d.tells → HoldsMetadata p.super (map.get p.metas) (map.get p.chains) (d.now p.disk))
       → (right : ℕ) → StoreInvariant d (record { at = p; opening = p; right = right })
-  kept_begins p loaded opens placed holds right =
+  kept_begins p loaded opens faultless placed holds right =
       let facts : RunInvariant p.super (shown (state_of d p)) (opening_script p) (state_of d p) =
       laws.plants.begin p.super (state_of d p) loaded opens in
       record {
         began = opens;
+        faultless = faultless;
         run = ([], refl);
         facts = facts;
         placed = placed;
@@ -65,6 +68,7 @@ module _ {D : Type 0} (d : Ghosts D) (laws : CrashLaws)
     unfolding over
     kept_goes_on = record {
       began = kept.began;
+      faultless = kept.faultless;
       run = (
         kept.run.0 ++ kind ∷ [],
         laws.plants.go_on d.tells (state_of d p.opening) (state_of d p.at)

@@ -1,4 +1,7 @@
 -- What a plan made of what a running store has in memory is in the volumes that the store shows.
+use Rattle.store_core.specs.StoreInvariant.{IsRunning}
+use Rattle.store_model.proofs.Shows.{alone_resolved}
+use Rattle.blob_meta.specs.Resolving.{resolved}
 use Rattle.std.proofs.Common.{◌≡◌, ℕ, Option, Some, None, refl, sym, ap, subst, ◌∙◌}
 use Rattle.std.specs.Option.{is_some, option_map, option_and_then}
 use Rattle.std.specs.Ordering.{nat_cmp}
@@ -16,23 +19,26 @@ use Rattle.blob_meta.specs.Asked.{asked_head, IsFirstCause, IsLiveOf, ShowsBlob}
 use Rattle.store_model.specs.Maps.{Map}
 use Rattle.store_model.specs.Shown.{fixed_of}
 use Rattle.store_model.specs.StoreState.{StoreState, shown}
-use Rattle.store_model.specs.Jobs.{AsksFor}
+use Rattle.store_model.specs.Asking.{AsksFor}
 use Rattle.store_model.specs.RunInvariant.{RunsWell}
 use Rattle.store_model.proofs.Synced.{edited_here}
 use Rattle.store_core.specs.Planning.{PlanLaws}
-use Rattle.store_core.specs.StoreView.{state_of}
+use Rattle.store_core.specs.StoreView.{StoreView, state_of}
 use Rattle.store_core.proofs.Answered.{found, live_same, meant, shows_blob}
 
 module _ (first : Volumes) (p : StoreState) (well : RunsWell first p) (metas : map.FinMap nat_cmp Meta)
-    (base : p.base ≡ map.get metas) where
-  live_there : (head : ℕ) (o : Option Meta) → p.base head ≡ o → is_some (p.live head) ≡ is_some o
+    (whole : resolved p.base ≡ p.base) (base : p.base ≡ map.get metas) where
+  resolved_is : resolved p.base ≡ map.get metas
+  resolved_is = whole ∙ base
+
+  live_there : (head : ℕ) (o : Option Meta) → resolved p.base head ≡ o → is_some (p.live head) ≡ is_some o
   live_there head None is = ap is_some (well.no_live head is)
   live_there head (Some m) is = ap is_some (well.live head m is).1
 
   pub is_live_of : (command : Command) (head : ℕ) → asked_head command ≡ Some head
       → IsLiveOf metas (p.live head) command
   is_live_of command head named =
-      live_there head (p.base head) refl ∙ ap (λ (m : Map Meta). is_some (m head)) base
+      live_there head (resolved p.base head) refl ∙ ap (λ (m : Map Meta). is_some (m head)) resolved_is
       ∙ ap (λ o. is_some (option_and_then (λ h. map.get metas h) o)) (sym named)
 
   module _ (head : ℕ) (old : Meta) (live : Xattrs) (there : map.get metas head ≡ Some old)
@@ -57,7 +63,7 @@ module _ (first : Volumes) (p : StoreState) (well : RunsWell first p) (metas : m
     unrefused : (command : Command) → asked_head command ≡ Some head
         → IsFirstCause metas (Some live) command p.super None → refusal f v command ≡ None
     unrefused command named cause = cause f v refl (subst (λ (o : Option Xattrs). ShowsBlob metas o command v) is_live
-        (shows_blob first p well metas command head base named))
+        (shows_blob first p well metas command head resolved_is named))
 
     pub asks_put : (key value : Text) → IsFirstCause metas (Some live) (c.Put (Head head) key value) p.super None
         → AsksFor p (c.Put (Head head) key value) head (record old { xattrs = with_value live key value })
@@ -85,14 +91,21 @@ module _ (first : Volumes) (p : StoreState) (well : RunsWell first p) (metas : m
       new_is = ap (λ (xs : Xattrs). record old { xattrs = xs }) (sym here.2);
     }
 
+-- no blob has a mark to be resolved
+whole_base : {D : Type 0} (d : Ghosts D) (p : StoreView D) (running : IsRunning (state_of d p))
+    → resolved (state_of d p).base ≡ (state_of d p).base
+whole_base d p running = alone_resolved running.store (state_of d p).base running.facts.loadable
+
 pub plan_laws : {D : Type 0} (d : Ghosts D) → PlanLaws d
 plan_laws d = record {
   live = λ p command head running runs named.
-      is_live_of running.first (state_of d p) (running.facts.well runs) p.metas refl command head named;
+      is_live_of running.first (state_of d p) (running.facts.well runs) p.metas (whole_base d p running) refl command
+      head named;
   shows = λ p command head running runs named.
-      shows_blob running.first (state_of d p) (running.facts.well runs) p.metas command head refl named;
+      shows_blob running.first (state_of d p) (running.facts.well runs) p.metas command head
+      (whole_base d p running) named;
   put = λ p head key value old live running runs blob cause. asks_put running.first (state_of d p)
-      (running.facts.well runs) p.metas refl head old live blob.there blob.is_live key value cause;
+      (running.facts.well runs) p.metas (whole_base d p running) refl head old live blob.there blob.is_live key value cause;
   sync = λ p head old live running runs blob cause. asks_sync running.first (state_of d p)
-      (running.facts.well runs) p.metas refl head old live blob.there blob.is_live cause;
+      (running.facts.well runs) p.metas (whole_base d p running) refl head old live blob.there blob.is_live cause;
 }

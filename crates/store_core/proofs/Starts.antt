@@ -1,4 +1,6 @@
 -- What the loops of a start have made so far.
+use Rattle.store_model.proofs.Shows.{alone_resolved}
+use Rattle.blob_meta.specs.Resolving.{IsLawful, resolved}
 use Rattle.std.proofs.Common.{◌≡◌, ℕ, ◌+◌, ◌<◌, ◌≤◌, Bool, true, false, cond, List, [], ◌∷◌, ◌++◌, length, Option, Some}
 use Rattle.std.proofs.Common.{None, refl, sym, ◌∙◌, ap, subst, ◌⊎◌, arith, inl, inr, length-append, ◌≢◌}
 use Rattle.std.specs.Prelude.{if◌then◌else◌, is_some, IsSome, nat_lt, slice_index_or, slice_set}
@@ -9,7 +11,7 @@ use Rattle.std.specs.FinMap as map
 use Rattle.std.specs.FinSet as set
 use Rattle.std.proofs.Math.Path.{fun_ext}
 use Rattle.store_model.specs.Guarding.{AreGenerations}
-use Rattle.store_model.proofs.Guarding.{one_numbered}
+use Rattle.store_model.proofs.Guarding.{one_more_numbered}
 use Rattle.std.proofs.lemmas.Bool.{cases_eq, cases_lt, le-ltb, lt-ltb}
 use Rattle.std.proofs.lemmas.List.{get_or_append_left, get_or_past, get_or_push, get_or-set_other}
 use Rattle.page_disk.specs.declared.disk.PageDisk.{Ghosts}
@@ -21,7 +23,7 @@ use Rattle.io_freeze.specs.Guards.{GuardsState, no_guards, renewed}
 use Rattle.store_model.specs.Maps.{Map, Metas, with_entry}
 use Rattle.store_model.specs.StateLaws.{IsLoadedWith}
 use Rattle.store_model.specs.StoreState.{Opens}
-use Rattle.store_model.specs.RunInvariant.{AreRoots}
+use Rattle.store_model.specs.RunInvariant.{AreLoadable}
 use Rattle.store_model.specs.Rows.{Row, Idle, Ended}
 use Rattle.store_model.proofs.WithEntry.{given_here, given_elsewhere}
 use Rattle.store_core.specs.declared.loaded.Loaded.{Loaded}
@@ -146,7 +148,7 @@ module _ (metas : map.FinMap nat_cmp Meta) (guards : GuardsState) (room end : �
         ∙ so_far.none h (omega (arith, ge));
     generations =
         subst (λ (g : Map ℕ). AreGenerations (those_below (map.get metas) (end + 1)) g (guards.drawn + 1)) (sym given)
-        (one_numbered (those_below (map.get metas) end) (those_below (map.get metas) (end + 1)) end
+        (one_more_numbered (those_below (map.get metas) end) (those_below (map.get metas) (end + 1)) end
         (map.get guards.generations) guards.drawn
         (subst IsSome (sym (next_here (map.get metas) end)) some)
         (λ h ne. ap is_some (next_other (map.get metas) end h ne)) so_far.generations);
@@ -243,17 +245,23 @@ module _ (script : List (List Command)) (rows : List Row) (are : AreRows script 
 -- what was loaded is what a store begins with
 module _ {D : Type 0} (d : Ghosts D) (loaded : Loaded D) (live : map.FinMap nat_cmp Xattrs) (guards : GuardsState)
     (rows : List Row) (guarded : AreGuardsAtStart loaded.metas guards) where
+  resolved_is : IsWhole loaded → resolved (map.get loaded.metas) ≡ map.get loaded.metas
+  resolved_is whole = alone_resolved loaded.sup (map.get loaded.metas) whole.loadable
+
   pub is_loaded_with : IsWhole loaded → IsLiveAtStart loaded.metas live
       → IsLoadedWith loaded.sup (state_of d (opened_with d loaded live guards rows))
   is_loaded_with whole is = record {
     super = refl;
-    roots = whole.roots;
-    lawful = whole.lawful;
+    loadable = whole.loadable;
+    few = whole.lawful.few;
+    lawful = subst (IsLawful loaded.sup.md_len) (sym (resolved_is whole)) whole.lawful;
     chains = whole.chains;
     pages = whole.masks.pages;
     clusters = whole.masks.clusters;
-    live = λ head m some. is head ∙ ap (option_map (λ (x : Meta). x.xattrs)) some;
-    no_live = λ head none. is head ∙ ap (option_map (λ (x : Meta). x.xattrs)) none;
+    live = λ head m some. is head ∙ ap (option_map (λ (x : Meta). x.xattrs))
+        (sym (ap (λ (x : Map Meta). x head) (resolved_is whole)) ∙ some);
+    no_live = λ head none. is head ∙ ap (option_map (λ (x : Meta). x.xattrs))
+        (sym (ap (λ (x : Map Meta). x head) (resolved_is whole)) ∙ none);
     generations = guarded.generations;
   }
 
@@ -270,11 +278,11 @@ module _ {D : Type 0} (d : Ghosts D) (loaded : Loaded D) (live : map.FinMap nat_
     stopped = refl;
   }
 
-none_by : (s : Super) (metas : Metas) → AreRoots s metas → (head : ℕ) → s.md_len ≤ head → (found : Option Meta)
+none_by : (s : Super) (metas : Metas) → AreLoadable s metas → (head : ℕ) → s.md_len ≤ head → (found : Option Meta)
     → metas head ≡ found → metas head ≡ None
-none_by s metas roots head past None is = is
-none_by s metas roots head past (Some m) is = absurd (omega (arith, (roots head m is).low, past))
+none_by s metas all head past None is = is
+none_by s metas all head past (Some m) is = absurd (omega (arith, (all head m is).stored.low, past))
 
 -- no blob's head lies past the metadata pages
-pub none_past : (s : Super) (metas : Metas) → AreRoots s metas → (head : ℕ) → s.md_len ≤ head → metas head ≡ None
-none_past s metas roots head past = none_by s metas roots head past (metas head) refl
+pub none_past : (s : Super) (metas : Metas) → AreLoadable s metas → (head : ℕ) → s.md_len ≤ head → metas head ≡ None
+none_past s metas all head past = none_by s metas all head past (metas head) refl

@@ -10,9 +10,18 @@ use Rattle.volume_model.specs.declared.command.Command.TheVariants as c
 use Rattle.volume_model.specs.declared.reply.Reply.{Reply}
 use Rattle.volume_model.specs.declared.reply.Reply.TheVariants as r
 use Rattle.blob_meta.specs.declared.meta.Meta.{Meta}
-use Rattle.blob_meta.specs.Asked.{IsAttributeCause, IsFirstCause}
+use Rattle.blob_meta.specs.Asked.{IsAttributeCause, IsFirstCause, IsOnHead}
+use Rattle.store_model.specs.Cases.{IsInMemory}
 use Rattle.store_core.specs.declared.answering.Effect.{Effect}
 use Rattle.store_core.specs.declared.answering.NewLive.{NewLive}
+
+-- a command on the attributes of a blob that it names by its head, answered in memory
+abbrev pub IsOnAttributes : Command → Type 0
+IsOnAttributes command = IsOnHead command × IsInMemory command
+
+-- such a command, or one that asks how much is free
+abbrev pub IsAnswerable : Command → Type 0
+IsAnswerable command = IsOnAttributes command ⊎ (command ≡ c.Df)
 
 -- a command that nothing refuses, with its reply and new live attributes
 abbrev pub DoesVerb : Option Xattrs → Command → Reply → Option NewLive → Type 0

@@ -1,5 +1,7 @@
 -- What a job is made of before it begins.
-use Rattle.std.specs.Prelude.{◌≡◌, ℕ, ◌+◌, ◌<◌, ◌^◌, nat_eq, Bool, true, List, ◌∷◌, length, Some}
+use Rattle.std.specs.Prelude.{◌≡◌, ◌⊎◌, ℕ, ◌+◌, ◌-◌, ◌<◌, ◌^◌, nat_eq, if◌then◌else◌, is_some, Bool, true, List, [], ◌∷◌}
+use Rattle.std.specs.Prelude.{drop, length, Option, None, Some, IsSome}
+use Rattle.bit_array.specs.Bits.{IsFull, IsLeastClear}
 use Rattle.std.specs.List.{All, IsDistinct}
 use Rattle.std.specs.Ordering.{nat_cmp}
 use Rattle.std.specs.FinMap as map
@@ -16,7 +18,7 @@ use Rattle.blob_meta.specs.declared.job.Job.{Job}
 use Rattle.blob_meta.specs.Jobs.{job_of_one}
 use Rattle.store_model.specs.StoreState.{StoreState}
 use Rattle.store_model.specs.Cases as kind
-use Rattle.store_model.specs.Jobs.{AsksFor}
+use Rattle.store_model.specs.Asking.{IsJobFor}
 pub use Rattle.store_model.specs.Jobs.{LacksPages}
 use Rattle.store_core.specs.TurnMade.{TurnMade}
 use Rattle.store_core.specs.StoreView.{StoreView}
@@ -24,8 +26,10 @@ use Rattle.store_core.specs.Steps.{decided}
 use Rattle.store_model.specs.Rows.{Row, InJob}
 use Rattle.store_core.specs.declared.begin.BeginTurn.{BeginTurn}
 use Rattle.store_core.specs.declared.begin.BeginTurn.TheVariants as begin
-use Rattle.store_core.specs.declared.begin.Laid.{Laid}
-use Rattle.store_core.specs.declared.begin.Prepared.{Prepared}
+use Rattle.store_model.specs.Phases.{Committing}
+use Rattle.store_core.specs.declared.job.Rooms.{Rooms}
+use Rattle.store_core.specs.declared.preparing.Laid.{Laid}
+use Rattle.store_core.specs.declared.preparing.Prepared.{Prepared}
 use Rattle.store_core.specs.declared.job.RunningJob.{RunningJob}
 use Rattle.store_core.specs.declared.job.Work.TheVariants as work
 
@@ -41,23 +45,41 @@ pub record IsLaid (items : List Item) (head : ℕ) (fresh : List ℕ) (laid : La
       → All (λ p. p < md_len) (head ∷ fresh) → All (λ p. look p.place ≡ p.page) laid.pages
       → Chain look md_len head (written_items items) (head ∷ fresh)
 
--- The fresh places are the least clear ones, as many as the items need, and are in use from now on.
-pub record IsTaken (items : List Item) (head : ℕ) (old new : List Bool) (laid : Laid) : Type 0 where
+-- how many pages the items take: those behind the head, and the head's where the blob is new
+abbrev pub needed : Bool → List Item → ℕ
+needed makes items = if makes then length (parts_of items) else length (parts_of items) - 1
+
+-- the places that are taken for them
+abbrev pub taken_for : Bool → ℕ → List ℕ → List ℕ
+taken_for makes head fresh = if makes then head ∷ fresh else fresh
+
+-- of places that are taken so, those behind the head
+abbrev pub behind_in : Bool → List ℕ → List ℕ
+behind_in makes taken = if makes then drop 1 taken else taken
+
+-- a new blob's head: the least page that is clear, where one is
+abbrev pub IsFreshHead : List Bool → ℕ → Type 0
+IsFreshHead pages head = IsLeastClear pages head ⊎ IsFull pages
+
+-- These places are the least clear ones, as many as the items need, and are in use from now on.
+pub record IsTaken (items : List Item) (head : ℕ) (makes : Bool) (old new : List Bool) (laid : Laid) : Type 0 where
   pub fresh : List ℕ
   pub laid_on : IsLaid items head fresh laid
   pub count : length fresh + 1 ≡ length (parts_of items)
-  pub least : AreLeastClear old fresh
-  pub taken : new ≡ all_set old fresh true
+  pub least : AreLeastClear old (taken_for makes head fresh)
+  pub taken : new ≡ all_set old (taken_for makes head fresh) true
 
--- what a job needs for new metadata at a head
-pub record IsPrepared (chains : map.FinMap nat_cmp (List ℕ)) (head : ℕ) (meta : Meta) (old new : List Bool)
-    (x : Prepared) : Type 0 where
+-- what a job needs for new metadata at a head, with this room where the blob is new
+pub record IsPrepared (chains : map.FinMap nat_cmp (List ℕ)) (head : ℕ) (meta : Meta) (rooms : Option Rooms)
+    (old new : List Bool) (x : Prepared) : Type 0 where
   pub live : x.live ≡ meta.xattrs
-  pub behind : map.get chains head ≡ Some (head ∷ x.old)
+  pub rooms_are : x.rooms ≡ rooms
+  pub behind : IsSome (map.get chains head) → map.get chains head ≡ Some (head ∷ x.old)
+  pub none_behind : map.get chains head ≡ None → x.old ≡ []
   pub items : List Item
   pub are : IsItemsOf meta items
   pub plannable : ArePlannable items
-  pub taken : IsTaken items head old new x.laid
+  pub taken : IsTaken items head (is_some rooms) old new x.laid
 
 -- the job that begins with it
 abbrev pub first_job : Prepared → ℕ → ℕ → Meta → RunningJob
@@ -66,7 +88,14 @@ first_job x channel head meta =
       channel = channel;
       work =
           work.Writing
-          (record { head = head; new = meta; live = x.live; chain = x.laid.chain; pages = x.laid.pages }) 0;
+          (record {
+            head = head;
+            new = meta;
+            live = x.live;
+            chain = x.laid.chain;
+            pages = x.laid.pages;
+            rooms = x.rooms;
+          }) 0;
       old = x.old;
     }
 
@@ -76,12 +105,20 @@ pub record ReplacesOne (job : Job) : Type 0 where
   pub new : Meta
   pub is : job ≡ job_of_one head new
 
+-- What a command asks to be written at a head: new metadata, without slots of zeros. Its commit makes the attributes
+-- read that are written. Where no blob is there the head is the page that is next.
+pub record AsksToWrite (p : StoreState) (command : Command) (head : ℕ) (new : Meta) : Type 0 where
+  pub commit : Committing
+  pub asked : IsJobFor p command (job_of_one head new) commit
+  pub synced : commit.live ≡ Some new.xattrs
+  pub next : p.base head ≡ None → IsFreshHead p.pages head
+
 -- the job that a command asks for
 pub record IsJobOf (p : StoreState) (command : Command) (job : Job) : Type 0 where
   pub head : ℕ
   pub new : Meta
   pub is : job ≡ job_of_one head new
-  pub asks : AsksFor p command head new
+  pub asks : AsksToWrite p command head new
 
 -- the job begins, or its command is logged: too few pages are clear, or memory ran out
 abbrev pub BeginsOrNot : {D : Type 0} → Ghosts D → StoreView D → StoreView D → BeginTurn → Type 0

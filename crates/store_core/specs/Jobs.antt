@@ -1,12 +1,15 @@
 -- What contracts see of the running job.
-use Rattle.std.specs.Prelude.{◌≡◌, ◌⊎◌, ℕ, ◌==◌, if◌then◌else◌, Bool, false, List, [], ◌∷◌, Option, None, Some, drop}
-use Rattle.std.specs.Prelude.{take, refl}
+use Rattle.std.specs.Prelude.{◌≡◌, ◌⊎◌, ℕ, ◌==◌, ◌<◌, if◌then◌else◌, is_some, Bool, List, [], ◌∷◌, Option, None, Some}
+use Rattle.std.specs.Prelude.{drop, take, refl}
+use Rattle.std.specs.Ordering.{nat_cmp}
+use Rattle.std.specs.FinMap as map
 use Rattle.std.specs.Coded.{Coded, code_by, coded×, coded⊎, coded_ℕ, coded_bool, coded_list, coded_option}
 use Rattle.volume_model.specs.declared.reply.Reply.{Reply}
 use Rattle.volume_model.specs.declared.reply.Reply.TheVariants as r
 use Rattle.volume_model.specs.contracts.reply.Reply as reply
 use Rattle.volume_model.specs.contracts.text.Xattr as xattr
 use Rattle.volume_model.specs.declared.text.Xattr.{Xattr}
+use Rattle.volume_model.specs.Xattrs.{Xattrs}
 use Rattle.blob_meta.specs.declared.meta.Meta.{Meta}
 use Rattle.blob_meta.specs.contracts.meta.Meta as meta
 use Rattle.md_chain.specs.declared.plan.PlannedPage.{PlannedPage}
@@ -15,6 +18,7 @@ use Rattle.store_model.specs.Phases.{Committing, Phase, Marks, Zeros, Writes, Re
 use Rattle.store_model.specs.Phases.{writing, erasing}
 use Rattle.store_model.specs.StoreState.{JobState, Service, ForCommand, ForInsert, ForRepair}
 use Rattle.store_core.specs.declared.job.Planned.{Planned}
+use Rattle.store_core.specs.declared.job.Rooms.{Rooms}
 use Rattle.store_core.specs.declared.job.RunningJob.{RunningJob}
 use Rattle.store_core.specs.declared.job.Work.{Work}
 use Rattle.store_core.specs.declared.job.Work.TheVariants as work
@@ -22,21 +26,36 @@ use Rattle.std.proofs.Common.{ap, inl, inr}
 
 -- ---- what is planned, as the model has it
 
--- the replacement of a blob that is there, which leaves its clusters as they are
+-- Room for one blob more in each map of blobs.
+pub record AreRoomsOf (metas : map.FinMap nat_cmp Meta) (chains : map.FinMap nat_cmp (List ℕ))
+    (live : map.FinMap nat_cmp Xattrs) (rooms : Rooms) : Type 0 where
+  pub metas_fit : map.len metas < rooms.metas
+  pub chains_fit : map.len chains < rooms.chains
+  pub live_fit : map.len live < rooms.live
+
+-- the replacement of a blob that is there, or one that makes a blob; it leaves clusters as they are
 abbrev pub replacing_of : Planned → List ℕ → Replacing
 replacing_of p old = record {
   head = p.head;
   new = Some p.new;
-  makes = false;
+  makes = is_some p.rooms;
   fresh = drop 1 p.chain;
   planned = p.pages;
   old = old;
   freed = [];
 }
 
--- its commit, with which the attributes are read as they are synced, and no generation is renewed
+-- what the command is answered with then
+abbrev pub reply_of : Planned → Reply
+reply_of p = if is_some p.rooms then r.Made p.head else r.Ok
+
+-- the blob that gets a generation then: a new one
+abbrev pub numbered_by : Planned → List ℕ
+numbered_by p = if is_some p.rooms then p.head ∷ [] else []
+
+-- its commit, with which the attributes are read as they are synced
 abbrev pub commit_of : Planned → Committing
-commit_of p = record { reply = r.Ok; live = Some p.live; renews = [] }
+commit_of p = record { reply = reply_of p; live = Some p.live; renews = numbered_by p }
 
 -- a job of which so many fresh pages are written
 abbrev pub writing_job : ℕ → Planned → List ℕ → ℕ → JobState

@@ -7,7 +7,7 @@ use Rattle.super_block.specs.declared.masks.Masks.{Masks}
 use Rattle.blob_meta.specs.Resolving.{IsLawful}
 use Rattle.store_model.specs.Maps.{Metas, Chains}
 use Rattle.store_model.specs.Places.{Unclaimed, UsedClusters, UsedPages}
-use Rattle.store_model.specs.RunInvariant.{AreRoots, HaveChains}
+use Rattle.store_model.specs.RunInvariant.{AreLoadable, HaveChains}
 use Rattle.store_core.specs.declared.loaded.Loaded.{Loaded}
 
 -- The masks are what the chains and the maps claim: pages, clusters and heads.
@@ -17,9 +17,9 @@ pub record AreMasks (s : Super) (metas : Metas) (chains : Chains) (masks : Masks
   pub count : length masks.blobs ≡ s.md_len
   pub blobs : (head : ℕ) → head < s.md_len → (is_in masks.blobs head ≡ true) ↔ IsSome (metas head)
 
--- The metadata is that of roots and lawful; each blob has its chain; and nothing is left to recover.
+-- The metadata is what a load takes, and lawful; each blob has its chain; and nothing is left to recover.
 pub record IsWhole {D : Type 0} (loaded : Loaded D) : Type 0 where
-  pub roots : AreRoots loaded.sup (map.get loaded.metas)
+  pub loadable : AreLoadable loaded.sup (map.get loaded.metas)
   pub lawful : IsLawful loaded.sup.md_len (map.get loaded.metas)
   pub chains : HaveChains loaded.sup (map.get loaded.metas) (map.get loaded.chains)
   pub masks : AreMasks loaded.sup (map.get loaded.metas) (map.get loaded.chains) loaded.masks

@@ -1,6 +1,6 @@
 -- The fields of a running store as contracts see them, and how they are kept in order.
-use Rattle.std.specs.Prelude.{◌≡◌, ◌↔◌, ℕ, ◌+◌, ◌^◌, ◌<◌, ◌≤◌, Bool, true, [], length, vec_capacity, slice_index_or}
-use Rattle.std.specs.Prelude.{IfSome, IsSome, List}
+use Rattle.std.specs.Prelude.{◌≡◌, ◌↔◌, ℕ, ◌+◌, ◌-◌, ◌^◌, ◌<◌, ◌≤◌, Bool, true, [], length, vec_capacity, slice_index_or}
+use Rattle.std.specs.Prelude.{IfSome, IsSome, List, if◌then◌else◌, is_some, slice_set}
 use Rattle.std.specs.FinMap as map
 use Rattle.bit_array.specs.Bits.{is_in}
 use Rattle.store_model.specs.Maps.{Metas}
@@ -8,7 +8,16 @@ use Rattle.std.specs.List.{sum_by}
 use Rattle.std.specs.Option.{option_map}
 use Rattle.page_disk.specs.declared.disk.PageDisk.{Ghosts}
 use Rattle.store_model.specs.Rows.{Row, entries_of}
-use Rattle.store_core.specs.Jobs.{job_seen, IsHeaded}
+use Rattle.store_core.specs.Jobs.{AreRoomsOf, job_seen, IsHeaded}
+use Rattle.std.specs.Ordering.{nat_cmp}
+use Rattle.blob_meta.specs.declared.meta.Meta.{Meta}
+use Rattle.volume_model.specs.Xattrs.{Xattrs}
+use Rattle.io_freeze.specs.Guards.{GuardsState, renewed}
+use Rattle.store_core.specs.declared.job.Planned.{Planned}
+use Rattle.store_core.specs.declared.job.Rooms.{Rooms}
+use Rattle.store_core.specs.declared.job.RunningJob.{RunningJob}
+use Rattle.store_core.specs.declared.job.Work.{Work}
+use Rattle.store_core.specs.declared.job.Work.TheVariants as work
 use Rattle.store_core.specs.declared.running.Running.{Running}
 use Rattle.store_core.specs.StoreView.{StoreView, WithOpening}
 
@@ -42,8 +51,35 @@ pub record AreHeads (md_len : ℕ) (metas : Metas) (heads : List Bool) : Type 0 
   pub count : length heads ≡ md_len
   pub are : (head : ℕ) → head < md_len → (is_in heads head ≡ true) ↔ IsSome (metas head)
 
+-- Room for the blob that a job makes, also for its generation, and a number left for that.
+pub record HasRooms (metas : map.FinMap nat_cmp Meta) (chains : map.FinMap nat_cmp (List ℕ))
+    (live : map.FinMap nat_cmp Xattrs) (guards : GuardsState) (rooms : Rooms) : Type 0 where
+  pub maps : AreRoomsOf metas chains live rooms
+  pub guards_fit : map.len guards.generations < guards.room
+  pub numbers : guards.drawn < 2 ^ 64 - 1
+
+-- the same, of what a job is to write
+abbrev pub IsRoomy : map.FinMap nat_cmp Meta → map.FinMap nat_cmp (List ℕ) → map.FinMap nat_cmp Xattrs → GuardsState
+    → RunningJob → Type 0
+IsRoomy metas chains live guards j = by j.work
+  where
+    by : Work → Type 0
+    by (work.Writing planned written) = IfSome planned.rooms (HasRooms metas chains live guards)
+    by (work.Erasing erased) = Unit {0}
+
+-- the store once it has the blob that was planned
+abbrev pub adopted : {D : Type 0} → Running D → Planned → Running D
+adopted running p = record running {
+  metas = map.insert running.metas p.head p.new;
+  chains = map.insert running.chains p.head p.chain;
+  live = map.insert running.live p.head p.live;
+  guards = if is_some p.rooms then renewed running.guards p.head else running.guards;
+  heads = if is_some p.rooms then slice_set running.heads p.head true else running.heads;
+}
+
 -- There are sixteen rows; the log and the marks have room for all that is left; the entries of each channel are
--- counted; no place is claimed; the metadata region lies on the device; and the heads are set.
+-- counted; no place is claimed; the metadata region lies on the device; the heads are set; and what the job makes has
+-- its room.
 pub record InOrder {D : Type 0} (d : Ghosts D) (running : Running D) : Type 0 where
   pub inside : running.sup.md_start + running.sup.md_len ≤ d.pages running.disk
   pub sixteen : length running.rows.items ≡ 16
@@ -57,3 +93,4 @@ pub record InOrder {D : Type 0} (d : Ghosts D) (running : Running D) : Type 0 wh
   pub no_cluster : running.clusters.claims ≡ []
   pub headed : IfSome running.job IsHeaded
   pub heads : AreHeads running.sup.md_len (map.get running.metas) running.heads
+  pub roomy : IfSome running.job (IsRoomy running.metas running.chains running.live running.guards)

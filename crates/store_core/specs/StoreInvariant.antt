@@ -2,6 +2,7 @@
 use Rattle.std.specs.Prelude.{ℕ, List}
 use Rattle.page_disk.specs.declared.disk.PageDisk.{Ghosts}
 use Rattle.super_block.specs.declared.page.Super.{Super}
+use Rattle.super_block.specs.Faults.{IsFaultless}
 use Rattle.super_block.specs.Placed.{IsPlaced}
 use Rattle.volume_model.specs.Volumes.{Volumes}
 use Rattle.volume_model.specs.declared.command.Command.{Command}
@@ -23,10 +24,11 @@ pub record IsRunning (p : StoreState) : Type 0 where
   pub placed : IsPlaced store
   pub facts : RunInvariant store first script p
 
--- It began with nothing logged, turns led from there to here, and the state has what every state of a run has; and
--- power may fail at any moment.
+-- It began with nothing logged, on a super block without fault; turns led from there to here, and the state has what
+-- every state of a run has; and power may fail at any moment.
 pub record StoreInvariant {D : Type 0} (d : Ghosts D) (p : WithOpening D) : Type 0 where
   pub began : Opens (state_of d p.opening)
+  pub faultless : IsFaultless p.opening.super
   pub run : (kinds : List Kind) × Run d.tells (state_of d p.opening) kinds (state_of d p.at)
   pub facts : RunInvariant p.opening.super (shown (state_of d p.opening)) (opening_script p.opening) (state_of d p.at)
   pub placed : IsPlaced p.opening.super

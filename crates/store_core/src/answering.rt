@@ -5,7 +5,9 @@ ghost use Rattle.std.specs.FinMap as map;
 ghost use Rattle.blob_meta.specs.Asked.{HasValue, IsOnHead, IsLiveOf};
 ghost use Rattle.store_model.specs.Cases.{IsInMemory};
 ghost use Rattle.store_model.specs.Cases as kind;
-ghost use Rattle.store_core.specs.Answering.{ComesTo, DoesVerb};
+ghost use Rattle.volume_model.specs.declared.command.Command.TheVariants.{Df as DfCommand};
+ghost use Rattle.super_block.specs.Faults.{IsFaultless};
+ghost use Rattle.store_core.specs.Answering.{ComesTo, DoesVerb, IsAnswerable, IsOnAttributes};
 ghost use Rattle.store_core.specs.StoreInvariant.{IsRunning};
 ghost use Rattle.store_core.specs.TurnMade.{TurnMade};
 ghost use Rattle.store_core.specs.Running.{view_of, InOrder};
@@ -116,12 +118,13 @@ fn keep_live(live: &mut HeadMap<XattrList>, new: Option<NewLive>)
     }
 }
 
-/// Answers the posted command of a channel in memory: its reply is logged, and new live attributes are kept.
-pub(crate) fn answer<D: PageDisk>(running: &mut Running<D>, channel: u8)
+/// Answers the posted command of a channel on a blob's attributes: its reply is logged, and new live attributes are
+/// kept.
+fn answer_on_attributes<D: PageDisk>(running: &mut Running<D>, channel: u8)
     requires order { InOrder D.PageDisk running.old }
     requires channel { channel < 16 }
     requires posted { IsPostedAt (view_of running.old) channel }
-    requires in_memory { Asks (view_of running.old) channel (λ command. IsOnHead command × IsInMemory command) }
+    requires on_attributes { Asks (view_of running.old) channel IsOnAttributes }
     requires running { IsRunning (state_of D.PageDisk (view_of running.old)) }
     requires runs { running.old.stopped ≡ None }
     requires no_job { running.old.job ≡ None }
@@ -141,13 +144,54 @@ pub(crate) fn answer<D: PageDisk>(running: &mut Running<D>, channel: u8)
     }
 }
 
+/// Answers the posted command of a channel by how much is free.
+fn answer_df<D: PageDisk>(running: &mut Running<D>, channel: u8)
+    requires order { InOrder D.PageDisk running.old }
+    requires channel { channel < 16 }
+    requires posted { IsPostedAt (view_of running.old) channel }
+    requires asks { Asks (view_of running.old) channel (λ command. command ≡ DfCommand) }
+    requires running { IsRunning (state_of D.PageDisk (view_of running.old)) }
+    requires faultless { IsFaultless running.old.sup }
+    requires runs { running.old.stopped ≡ None }
+    requires no_job { running.old.job ≡ None }
+    ensures case { TurnMade D.PageDisk (view_of running.old) (view_of running.new) kind.answers }
+    ensures row { OnlyRow running.old.rows.items running.new.rows.items channel
+        (decided (rows_of running.old.rows.items channel)) }
+    ensures order { InOrder D.PageDisk running.new }
+{
+    let df = running.df();
+    log(running, channel, Reply::Df(df));
+}
+
+/// Answers the posted command of a channel in memory.
+pub(crate) fn answer<D: PageDisk>(running: &mut Running<D>, channel: u8)
+    requires order { InOrder D.PageDisk running.old }
+    requires channel { channel < 16 }
+    requires posted { IsPostedAt (view_of running.old) channel }
+    requires answerable { Asks (view_of running.old) channel IsAnswerable }
+    requires running { IsRunning (state_of D.PageDisk (view_of running.old)) }
+    requires faultless { IsFaultless running.old.sup }
+    requires runs { running.old.stopped ≡ None }
+    requires no_job { running.old.job ≡ None }
+    ensures case { TurnMade D.PageDisk (view_of running.old) (view_of running.new) kind.answers }
+    ensures row { OnlyRow running.old.rows.items running.new.rows.items channel
+        (decided (rows_of running.old.rows.items channel)) }
+    ensures order { InOrder D.PageDisk running.new }
+{
+    match first_of(&running.rows, channel) {
+        Command::Df => answer_df(running, channel),
+        _ => answer_on_attributes(running, channel),
+    }
+}
+
 /// Answers the posted command of a channel in memory, or, on a stopped store, logs that it is stopped.
 pub(crate) fn answer_or_halt<D: PageDisk>(running: &mut Running<D>, channel: u8)
     requires order { InOrder D.PageDisk running.old }
     requires channel { channel < 16 }
     requires posted { IsPostedAt (view_of running.old) channel }
-    requires in_memory { Asks (view_of running.old) channel (λ command. IsOnHead command × IsInMemory command) }
+    requires answerable { Asks (view_of running.old) channel IsAnswerable }
     requires running { IsRunning (state_of D.PageDisk (view_of running.old)) }
+    requires faultless { IsFaultless running.old.sup }
     requires no_job { running.old.job ≡ None }
     ensures answered { running.old.stopped ≡ None
         → TurnMade D.PageDisk (view_of running.old) (view_of running.new) kind.answers }

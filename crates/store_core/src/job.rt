@@ -5,9 +5,40 @@ ghost use Rattle.std.specs.Option.{option_and_then, option_map};
 ghost use Rattle.store_core.specs.JobTurns.{waits_for_job};
 ghost use Rattle.store_core.specs.Jobs.{job_seen};
 
-use blob_meta::Meta;
+use blob_meta::{Chains, HeadMap, Meta, Metas, Room};
 use md_chain::Plan;
-use volume_model::{PlaceList, XattrList};
+use out_of_memory::Memory;
+use std::alloc::Global;
+use volume_model::{PlaceList, Reply, XattrList};
+
+/// Room for one blob more in each map of blobs.
+#[derive(Drop)]
+pub(crate) struct Rooms {
+    pub(crate) metas: Room<Meta>,
+    pub(crate) chains: Room<PlaceList>,
+    pub(crate) live: Room<XattrList>,
+}
+
+impl Rooms {
+    ghost use Rattle.std.specs.Prelude.{IfOk};
+    ghost use Rattle.store_core.specs.Jobs.{AreRoomsOf};
+
+    /// All memory that a new blob takes in the maps.
+    pub(crate) fn new(
+        alloc: Global,
+        metas: &Metas,
+        chains: &Chains,
+        live: &HeadMap<XattrList>,
+    ) -> Result<Rooms, Memory>
+        ensures { IfOk result (AreRoomsOf metas.now chains.now live.now) }
+    {
+        Ok(Rooms {
+            metas: metas.room(alloc)?,
+            chains: chains.room(alloc)?,
+            live: live.room(alloc)?,
+        })
+    }
+}
 
 /// What a job writes: new metadata of the blob at a head, as a chain of pages.
 #[derive(Drop)]
@@ -19,6 +50,23 @@ pub(crate) struct Planned {
     /// The places of the chain, the head first, and their pages.
     pub(crate) chain: PlaceList,
     pub(crate) pages: Plan,
+    /// Room for the blob, where it is new.
+    pub(crate) rooms: Option<Rooms>,
+}
+
+impl Planned {
+    ghost use Rattle.std.specs.Prelude.{◌≡◌};
+    ghost use Rattle.store_core.specs.Jobs.{reply_of};
+
+    /// What the command is answered with once this is written.
+    pub(crate) fn reply(&self) -> Reply
+        ensures { result ≡ reply_of self.now }
+    {
+        match &self.rooms {
+            Some(_) => Reply::Made(self.head),
+            None => Reply::Ok,
+        }
+    }
 }
 
 /// How far a job has come.

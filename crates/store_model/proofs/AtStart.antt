@@ -41,7 +41,8 @@ holds_loaded s first script p facts image x = record {
   metas = p.base;
   chains = p.chains;
   says = x.says;
-  roots = facts.roots;
+  loadable = facts.loadable;
+  few = facts.few;
   lawful = facts.lawful;
 }
 

@@ -1,5 +1,5 @@
 -- Why a command is refused, and that a refusal is allowed.
-use Rattle.std.proofs.Common.{◌≡◌, ℕ, Some, None}
+use Rattle.std.proofs.Common.{◌≡◌, ◌∙◌, ℕ, Some, None, ap, subst, sym}
 use Rattle.volume_model.specs.Volumes.{Fixed, Volumes}
 use Rattle.volume_model.specs.Refusals.{refusal}
 use Rattle.volume_model.specs.Steps.{IsRefusal, Allowed}
@@ -9,7 +9,9 @@ use Rattle.volume_model.specs.declared.reply.Reply.{Reply}
 use Rattle.volume_model.specs.declared.reply.Reply.TheVariants as r
 use Rattle.store_model.specs.Shown.{fixed_of}
 use Rattle.store_model.specs.StoreState.{StoreState, shown}
-use Rattle.store_model.specs.Jobs.{AsksFor, IsSyncing}
+use Rattle.blob_meta.specs.declared.job.Job.{Job as Changes}
+use Rattle.store_model.specs.Phases.{Committing}
+use Rattle.store_model.specs.Asking.{AsksFor, IsJobFor, IsSyncing, syncs, creates, resizes}
 use Rattle.store_model.specs.Cases.{IsCauseReply, IsRefusedAtBegin, IsRefusedBy}
 
 -- ---- refusals
@@ -41,6 +43,19 @@ pub asks_may : (p : StoreState) (command : Command) (head : ℕ) (new : _) → A
     → May (fixed_of p.super) (shown p) command
 asks_may p command head new a = syncing_may (fixed_of p.super) (shown p) command a.syncing a.asked
 
+-- each verb that asks for a job may lack pages
+may_lack : (p : StoreState) (command : Command) (changes : Changes) (commit : Committing)
+    → IsJobFor p command changes commit → Allowed (fixed_of p.super) (shown p) command r.NoPage
+may_lack p command changes commit (syncs x) = (asks_may p command x.head x.new x.asks).lack
+may_lack p command changes commit (creates x) =
+    let lack : Allowed (fixed_of p.super) (shown p) (c.Create x.name x.slots x.thick x.uuid) r.NoPage =
+    (ap (refusal (fixed_of p.super) (shown p)) (sym x.command_is) ∙ x.asked, tt) in
+    subst (λ (k : Command). Allowed (fixed_of p.super) (shown p) k r.NoPage) (sym x.command_is) lack
+may_lack p command changes commit (resizes x) =
+    let lack : Allowed (fixed_of p.super) (shown p) (c.Resize x.volume x.slots) r.NoPage =
+    (ap (refusal (fixed_of p.super) (shown p)) (sym x.command_is) ∙ x.asked, tt) in
+    subst (λ (k : Command). Allowed (fixed_of p.super) (shown p) k r.NoPage) (sym x.command_is) lack
+
 pub is_allowed : (p : StoreState) (command : Command) (reply : Reply) → IsRefusedAtBegin p command reply
     → Allowed (fixed_of p.super) (shown p) command reply
 is_allowed p command r.Ok why = absurd why.0
@@ -51,7 +66,7 @@ is_allowed p command (r.Info info) why = absurd why.0
 is_allowed p command (r.List infos) why = absurd why.0
 is_allowed p command (r.Df df) why = absurd why.0
 is_allowed p command r.Full why = absurd why.0
-is_allowed p command r.NoPage why = (asks_may p command why.head why.new why.asks).lack
+is_allowed p command r.NoPage why = may_lack p command why.changes why.commit why.asked
 is_allowed p command r.ReadFault why = absurd why.0
 is_allowed p command r.Fault why = absurd why.0
 is_allowed p command (r.Stopped at) why = absurd why.0

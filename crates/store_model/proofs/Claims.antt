@@ -3,7 +3,7 @@ use Rattle.std.proofs.Common.{◌≡◌, ℕ, Bool, List, Option, None, Some, in
 use Rattle.super_block.specs.declared.page.Super.{Super}
 use Rattle.store_model.specs.Maps.{Metas}
 use Rattle.store_model.specs.Rows.{OpenClaim, Row, Rows, with_row}
-use Rattle.store_model.specs.Places.{ClaimsDiffer, Unclaimed, UsedClusters, claimed_by, HasClaim}
+use Rattle.store_model.specs.Places.{ClaimsDiffer, Unclaimed, UsedClusters, claimed_by, HasClaim, IsClaimed}
 use Rattle.std.proofs.lemmas.Bool.{cases_eq}
 use Rattle.store_model.proofs.RowsKept.{row_here, row_other}
 use Rattle.store_model.specs.StoreState.{JobState}
@@ -18,16 +18,20 @@ with_row_claims rows channel row none given c = elim (cases_eq c channel) [
   | inr ne ↦ ap (λ (r : Row). r.claim) (row_other rows channel row c ne)
 ]
 
+-- rows with the same claims have claimed the same clusters
+pub claimed_still : (rows other : Rows) → ((c : ℕ) → (other c).claim ≡ (rows c).claim) → (cluster : ℕ)
+    → IsClaimed rows cluster → IsClaimed other cluster
+claimed_still rows other same cluster x =
+    record { channel = x.channel; claim = x.claim; held = same x.channel ∙ x.held; is = x.is }
+
 module _ (rows other : Rows) (a b : Option JobState) (same : (c : ℕ) → (other c).claim ≡ (rows c).claim)
     (job : claimed_by b ≡ claimed_by a) where
   claimed_there : (cluster : ℕ) → HasClaim rows a cluster → HasClaim other b cluster
-  claimed_there cluster (inl x) =
-      inl (record { channel = x.channel; claim = x.claim; held = same x.channel ∙ x.held; is = x.is })
+  claimed_there cluster (inl x) = inl (claimed_still rows other same cluster x)
   claimed_there cluster (inr among) = inr (ap (is_among cluster) job ∙ among)
 
   claimed_back : (cluster : ℕ) → HasClaim other b cluster → HasClaim rows a cluster
-  claimed_back cluster (inl x) =
-      inl (record { channel = x.channel; claim = x.claim; held = sym (same x.channel) ∙ x.held; is = x.is })
+  claimed_back cluster (inl x) = inl (claimed_still other rows (λ c. sym (same c)) cluster x)
   claimed_back cluster (inr among) = inr (sym (ap (is_among cluster) job) ∙ among)
 
   -- the same claims keep the clusters in use

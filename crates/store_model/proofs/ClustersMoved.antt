@@ -14,6 +14,7 @@ use Rattle.std.proofs.lemmas.Bool.{cases_Bool, both_ways}
 use Rattle.store_model.proofs.Used.{within}
 use Rattle.store_model.specs.Places.{IsMapped}
 use Rattle.store_model.proofs.LeftToDo.{no_place}
+use Rattle.store_model.proofs.Claims.{claimed_still}
 
 -- The clusters that are let go are clear, those that the job had claimed are in maps, and no row's claim is touched.
 pub clusters_moved : (s : Super) (bits : List Bool) (base later : Metas) (freed : List ℕ) (rows others : Rows)
@@ -29,12 +30,7 @@ clusters_moved s bits base later freed rows others job next same none moves diff
   mapped = λ c is. stays c (λ among. (moves.let_go c among).2 is) ∙ in_use c is;
   claimed_too = λ c x. elim x [
     | inl row ↦
-        let was : IsClaimed rows c = record {
-          channel = row.channel;
-          claim = row.claim;
-          held = sym (same row.channel) ∙ row.held;
-          is = row.is;
-        } in
+        let was = claimed_before c row in
         stays c (λ among. (u.apart c (inl was)).1 (moves.let_go c among).1) ∙ u.claimed_too c (inl was)
     | inr among ↦ absurd (no_place (claimed_by next) c among none)
   ];
@@ -49,8 +45,7 @@ clusters_moved s bits base later freed rows others job next same none moves diff
           | inr gone ↦ absurd (both_ways (is_among c freed) out gone)
         ]
         | inr claimed ↦ elim claimed [
-          | inl row ↦ inr (inr (inl
-              (record { channel = row.channel; claim = row.claim; held = same row.channel ∙ row.held; is = row.is })))
+          | inl row ↦ inr (inr (inl (claimed_still rows others same c row)))
           | inr among ↦ inr (inl (moves.filled c among))
         ]
       ]
@@ -58,18 +53,14 @@ clusters_moved s bits base later freed rows others job next same none moves diff
   ];
   apart = λ c x. elim x [
     | inl row ↦
-        let was : IsClaimed rows c = record {
-          channel = row.channel;
-          claim = row.claim;
-          held = sym (same row.channel) ∙ row.held;
-          is = row.is;
-        } in
+        let was = claimed_before c row in
         let old = u.apart c (inl was) in (
           old.0,
           λ is. elim (moves.gained c is) [
             | inl mapped ↦ old.1 mapped
             | inr among ↦
-                both_ways (is_among row.claim.cluster (claimed_by job)) (differ.job row.channel row.claim was.held)
+                both_ways (is_among row.claim.cluster (claimed_by job))
+                (differ.job row.channel row.claim (sym (same row.channel) ∙ row.held))
                 (subst (λ n. is_among n (claimed_by job) ≡ true) (sym row.is) among)
           ],
         )
@@ -77,6 +68,9 @@ clusters_moved s bits base later freed rows others job next same none moves diff
   ];
 }
   where
+    claimed_before : (c : ℕ) → IsClaimed others c → IsClaimed rows c
+    claimed_before = claimed_still others rows (λ c. sym (same c))
+
     low_freed : AllBelow (length bits) freed
     low_freed x is = within bits x (u.mapped x (moves.let_go x is).1)
 

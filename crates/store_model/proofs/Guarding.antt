@@ -1,5 +1,6 @@
 -- The blobs that are frozen and the generations, as states change.
-use Rattle.std.proofs.Common.{◌≡◌, ◌≢◌, ℕ, ◌+◌, ◌≤◌, Bool, true, false, List, [], ◌∷◌, length, Option, Some, None, refl}
+use Rattle.std.proofs.Common.{◌≡◌, ◌≢◌, ◌⊎◌, ℕ, ◌+◌, ◌≤◌, Bool, true, false, List, [], ◌∷◌, length, Option, Some, None}
+use Rattle.std.proofs.Common.{refl}
 use Rattle.std.proofs.Common.{sym, ◌∙◌, ap, subst, arith, inl, inr}
 use Rattle.std.specs.Prelude.{if◌then◌else◌, is_some, IsSome}
 use Rattle.std.specs.List.{AllByRecursion}
@@ -12,6 +13,8 @@ use Rattle.store_model.specs.StoreState.{going_on, JobState, StoreState}
 use Rattle.store_model.specs.Guarding.{all_renewed, AreClaimsDrawn, AreGenerations, freezing, frozen_behind, IsGuarded}
 use Rattle.store_model.specs.Guarding.{releasing}
 use Rattle.store_model.proofs.WithEntry.{given_here, given_elsewhere}
+use Rattle.store_model.proofs.Sets.{among_either, among_first}
+use Rattle.md_chain.specs.Chain.{is_among}
 
 -- ---- frozen blobs
 
@@ -105,23 +108,15 @@ frozen_still frozen j (x ∷ xs) none = refl
 
 -- ---- generations
 
--- the blobs stay where one has other metadata
-pub generations_over : (base : Metas) (head : ℕ) (new : Meta) (generations : Map ℕ) (drawn : ℕ)
-    → is_some (base head) ≡ true → AreGenerations base generations drawn
-    → AreGenerations (with_entry base head new) generations drawn
-generations_over base head new generations drawn there g = record {
-  each = λ h. g.each h ∙ elim (cases_eq h head) [
-    | inl e ↦ ap (λ n. is_some (base n)) e ∙ there ∙ sym (ap is_some (given_here base head new h e))
-    | inr ne ↦ sym (ap is_some (given_elsewhere base head new h ne))
-  ];
-  low = g.low;
-  differ = g.differ;
-}
+-- Numbers are as generations are to be, but that these blobs may have none yet.
+record NumberedBut (base : Metas) (generations : Map ℕ) (drawn : ℕ) (heads : List ℕ) : Type 0 where
+  each : (head : ℕ) → (is_some (generations head) ≡ is_some (base head)) ⊎ (is_among head heads ≡ true)
+  low : (head number : ℕ) → generations head ≡ Some number → number ≤ drawn
+  differ : (head other number : ℕ) → generations head ≡ Some number → generations other ≡ Some number → head ≡ other
 
--- one blob, which is there then, gets the next number
-module _ (base other : Metas) (head : ℕ) (generations : Map ℕ) (drawn : ℕ) (there : IsSome (other head))
-    (same : (h : ℕ) → h ≢ head → is_some (other h) ≡ is_some (base h))
-    (g : AreGenerations base generations drawn) where
+-- the first of them, which is there, gets the next number
+module _ (base : Metas) (head : ℕ) (heads : List ℕ) (generations : Map ℕ) (drawn : ℕ) (there : IsSome (base head))
+    (g : NumberedBut base generations drawn (head ∷ heads)) where
   abbrev next : Map ℕ
   next = with_entry generations head (drawn + 1)
 
@@ -131,11 +126,14 @@ module _ (base other : Metas) (head : ℕ) (generations : Map ℕ) (drawn : ℕ)
   elsewhere : (h : ℕ) → h ≢ head → next h ≡ generations h
   elsewhere h ne = given_elsewhere generations head (drawn + 1) h ne
 
-  pub one_numbered : AreGenerations other next (drawn + 1)
+  one_numbered : NumberedBut base next (drawn + 1) heads
   one_numbered = record {
     each = λ h. elim (cases_eq h head) [
-      | inl e ↦ ap is_some (here h e) ∙ sym (ap (λ n. is_some (other n)) e ∙ there)
-      | inr ne ↦ ap is_some (elsewhere h ne) ∙ g.each h ∙ sym (same h ne)
+      | inl e ↦ inl (ap is_some (here h e) ∙ sym (ap (λ n. is_some (base n)) e ∙ there))
+      | inr ne ↦ elim (g.each h) [
+        | inl same ↦ inl (ap is_some (elsewhere h ne) ∙ same)
+        | inr among ↦ elim (among_either h head heads among) [ inl e ↦ absurd (ne e) | inr later ↦ inr later ]
+      ]
     ];
     low = λ h number is. elim (cases_eq h head) [
       | inl e ↦ let same : drawn + 1 ≡ number = let both = sym (here h e) ∙ is in cc both in omega (arith, same)
@@ -159,15 +157,56 @@ module _ (base other : Metas) (head : ℕ) (generations : Map ℕ) (drawn : ℕ)
           let old = g.low k number (sym (elsewhere k nf) ∙ too) in
           omega (arith, same, old)
 
--- blobs that are there are renewed one after another
-pub generations_renewed : (base : Metas) (generations : Map ℕ) (drawn : ℕ) (heads : List ℕ)
-    → AreGenerations base generations drawn → AllByRecursion (λ head. IsSome (base head)) heads
+-- blobs that are there are numbered one after another
+all_numbered : (base : Metas) (generations : Map ℕ) (drawn : ℕ) (heads : List ℕ)
+    → NumberedBut base generations drawn heads → AllByRecursion (λ head. IsSome (base head)) heads
     → AreGenerations base (all_renewed generations drawn heads) (drawn + length heads)
-generations_renewed base generations drawn [] g there = subst (AreGenerations base generations) (omega arith) g
-generations_renewed base generations drawn (head ∷ heads) g there =
+all_numbered base generations drawn [] g there = subst (AreGenerations base generations) (omega arith)
+    (record {
+      each = λ h. elim (g.each h) [ inl same ↦ same | inr none ↦ absurd (cc none) ];
+      low = g.low;
+      differ = g.differ;
+    })
+all_numbered base generations drawn (head ∷ heads) g there =
     subst (AreGenerations base (all_renewed generations drawn (head ∷ heads))) (omega arith)
-    (generations_renewed base (with_entry generations head (drawn + 1)) (drawn + 1) heads
-    (one_numbered base base head generations drawn there.0 (λ h ne. refl) g) there.1)
+    (all_numbered base (with_entry generations head (drawn + 1)) (drawn + 1) heads
+    (one_numbered base head heads generations drawn there.0 g) there.1)
+
+-- a blob is there that gets the next number, and the others are as they were
+pub one_more_numbered : (base other : Metas) (head : ℕ) (generations : Map ℕ) (drawn : ℕ) → IsSome (other head)
+    → ((h : ℕ) → h ≢ head → is_some (other h) ≡ is_some (base h)) → AreGenerations base generations drawn
+    → AreGenerations other (with_entry generations head (drawn + 1)) (drawn + 1)
+one_more_numbered base other head generations drawn there same g =
+    all_numbered other generations drawn (head ∷ []) (record {
+      each = λ h. elim (cases_eq h head) [
+        | inl e ↦ inr (among_here h head e)
+        | inr ne ↦ inl (g.each h ∙ sym (same h ne))
+      ];
+      low = g.low;
+      differ = g.differ;
+    }) (there, tt)
+  where
+    among_here : (h head : ℕ) → h ≡ head → is_among h (head ∷ []) ≡ true
+    among_here h head e = subst (λ n. is_among n (head ∷ []) ≡ true) (sym e) (among_first head [])
+
+-- One blob has other metadata, and blobs are renewed: it too, if it is new.
+pub generations_renewed : (base : Metas) (head : ℕ) (new : Meta) (generations : Map ℕ) (drawn : ℕ) (heads : List ℕ)
+    → AreGenerations base generations drawn → (is_some (base head) ≡ true) ⊎ (is_among head heads ≡ true)
+    → AllByRecursion (λ h. IsSome (with_entry base head new h)) heads
+    → AreGenerations (with_entry base head new) (all_renewed generations drawn heads) (drawn + length heads)
+generations_renewed base head new generations drawn heads g was there =
+    all_numbered (with_entry base head new) generations drawn heads (record {
+      each = λ h. elim (cases_eq h head) [
+        | inl e ↦ elim was [
+          | inl some ↦ inl (g.each h ∙ ap (λ n. is_some (base n)) e ∙ some
+              ∙ sym (ap is_some (given_here base head new h e)))
+          | inr among ↦ inr (ap (λ n. is_among n heads) e ∙ among)
+        ]
+        | inr ne ↦ inl (g.each h ∙ sym (ap is_some (given_elsewhere base head new h ne)))
+      ];
+      low = g.low;
+      differ = g.differ;
+    }) there
 
 -- ---- open claims
 

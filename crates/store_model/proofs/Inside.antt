@@ -15,12 +15,12 @@ pub record IsInside (fixed clusters cluster : ℕ) : Type 0 where
   pub behind : fixed ≤ cluster
   pub below : cluster < clusters
 
-none_second : {X : Type 0} (x y : Option X) (rest : List (Option X)) → first_some (x ∷ y ∷ rest) ≡ None → y ≡ None
+pub none_second : {X : Type 0} (x y : Option X) (rest : List (Option X)) → first_some (x ∷ y ∷ rest) ≡ None → y ≡ None
 none_second None None rest none = refl
 none_second None (Some y) rest none = none
 none_second (Some x) y rest none = absurd (cc none)
 
-none_of_map : {X Y : Type 0} (f : X → Y) (o : Option X) → option_map f o ≡ None → o ≡ None
+pub none_of_map : {X Y : Type 0} (f : X → Y) (o : Option X) → option_map f o ≡ None → o ≡ None
 none_of_map f None none = refl
 none_of_map f (Some x) none = absurd (cc none)
 
@@ -28,7 +28,7 @@ module _ (fixed clusters : ℕ) where
   not_outside : (cluster : ℕ) → is_outside fixed clusters cluster ≡ false → IsInside fixed clusters cluster
   not_outside cluster is = record { behind = grind (arith, nat_tests, is); below = grind (arith, nat_tests, is) }
 
-  passes : (c : ℕ) (rest : List ℕ) → find (is_outside fixed clusters) (c ∷ rest) ≡ None
+  pub passes : (c : ℕ) (rest : List ℕ) → find (is_outside fixed clusters) (c ∷ rest) ≡ None
       → (is_outside fixed clusters c ≡ false) × (find (is_outside fixed clusters) rest ≡ None)
   passes c rest none = elim (cases_Bool (is_outside fixed clusters c)) [
     | inl out ↦ absurd (let e : Some c ≡ None = subst

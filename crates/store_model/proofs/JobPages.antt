@@ -2,7 +2,7 @@
 use Rattle.std.proofs.Common.{◌≡◌, ◌≢◌, ℕ, ◌≤◌, true, false, List, [], ◌∷◌, Some, refl, sym, subst, ◌∙◌, inl, inr}
 use Rattle.std.proofs.Common.{arith}
 use Rattle.std.specs.Prelude.{◌==◌, ◌&&◌}
-use Rattle.std.proofs.lemmas.Bool.{cases_eq, false_from_ne_true, ne_eqb, and_left, and_right}
+use Rattle.std.proofs.lemmas.Bool.{cases_eq, ne_eqb, and_left, and_right}
 use Rattle.page_fields.specs.Fields.{field, number}
 use Rattle.crc32c.specs.Crc.{is_sound}
 use Rattle.md_page.specs.Page.{id_of, sequence_of}
@@ -15,7 +15,7 @@ use Rattle.store_model.specs.Regions.{MdRegion}
 use Rattle.store_model.specs.Scans.{is_head, MetaAt, Scanned}
 use Rattle.store_model.proofs.WithEntry.{given_here, given_elsewhere}
 use Rattle.store_model.proofs.Sets.{among_either}
-use Rattle.store_model.proofs.Scanning.{head_replaced, heads_apart, meta_kept}
+use Rattle.store_model.proofs.Scanning.{head_replaced, meta_kept}
 
 pub torn_no_head : (place : ℕ) (page : List ℕ) → is_sound page ≡ false → is_head place page ≡ false
 torn_no_head place page torn = rw torn refl
@@ -38,15 +38,13 @@ fresh_no_head planned r head new fresh place x among = late_no_head place (plann
     ((later planned r.len head 0 [] head head x.items head fresh x.chain).1 place among).late
 
 pub head_written : (look other planned : Look) (r : MdRegion) (metas : Metas) (chains : Chains) (head : ℕ)
-    (new : Meta) (fresh old : List ℕ) → Scanned look r metas chains → MetaAt planned r head new (head ∷ fresh)
-    → chains head ≡ Some (head ∷ old)
+    (new : Meta) (fresh : List ℕ) → Scanned look r metas chains → MetaAt planned r head new (head ∷ fresh)
+    → ((k : ℕ) (pages : List ℕ) → k ≢ head → chains k ≡ Some pages → is_among head pages ≡ false)
     → ((place : ℕ) → is_among place fresh ≡ true → look place ≡ planned place)
     → other head ≡ planned head → ((place : ℕ) → place ≢ head → other place ≡ look place)
     → Scanned other r (with_entry metas head new) (with_entry chains head (head ∷ fresh))
-head_written look other planned r metas chains head new fresh old said says there written here elsewhere =
-    head_replaced look r metas chains said other head
-    (λ k ps ne is. false_from_ne_true _
-    (λ t. ne (sym (heads_apart look r metas chains said head k (head ∷ old) ps there is t)))) elsewhere
+head_written look other planned r metas chains head new fresh said says apart written here elsewhere =
+    head_replaced look r metas chains said other head apart elsewhere
     (with_entry metas head new) (with_entry chains head (head ∷ fresh)) new (head ∷ fresh)
     (meta_kept planned other r head new (head ∷ fresh)
     (agree_by planned other (head ∷ fresh) (λ q among. elim (cases_eq q head) [

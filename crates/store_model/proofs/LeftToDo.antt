@@ -3,7 +3,8 @@ use Rattle.std.proofs.Common.{◌≡◌, ◌≢◌, ◌⊎◌, ℕ, ◌++◌, tr
 use Rattle.std.proofs.Common.{subst, ap, ◌∙◌, refl}
 use Rattle.store_model.specs.Places.{AreDistinct, claimed_by, held_by}
 use Rattle.store_model.specs.Phases.{Replacing, taken_by, Phase, Writes, held_in, next_replacing, page_in, has_commit}
-use Rattle.store_model.specs.Phases.{planned_in, Erases, Zeros, Replaces, taken_in, Frees, Marks, replaced}
+use Rattle.store_model.specs.Phases.{chain_before, planned_in, Erases, Zeros, Replaces, taken_in, Frees, Marks}
+use Rattle.store_model.specs.Phases.{replaced}
 use Rattle.super_block.specs.declared.page.Super.{Super}
 use Rattle.md_chain.specs.Chain.{is_among, Look}
 use Rattle.store_model.specs.StoreState.{JobState, going_on, planned_at, waiting, Service, ForCommand, ForInsert}
@@ -89,6 +90,12 @@ no_place ps place among none =
     let bad : is_among place [] ≡ true = subst (λ l. is_among place l ≡ true) none among in cc bad
 
 -- ---- the next replacement
+
+pub chain_new : (r : Replacing) → r.makes ≡ true → chain_before r ≡ None
+chain_new r makes = rw makes refl
+
+pub chain_there : (r : Replacing) → r.makes ≡ false → chain_before r ≡ Some (r.head ∷ r.old)
+chain_there r there = rw there refl
 
 pub among_taken : (r : Replacing) (place : ℕ) → is_among place r.fresh ≡ true → is_among place (taken_by r) ≡ true
 among_taken r place among = elim (cases_Bool r.makes) [

@@ -1,5 +1,5 @@
 -- The attributes as they are read behind a commit that syncs.
-use Rattle.std.proofs.Common.{◌≡◌, ◌≢◌, ℕ, Option, Some, None, refl, sym, ◌∙◌, ap, inl, inr}
+use Rattle.std.proofs.Common.{◌≡◌, ◌≢◌, ℕ, Some, sym, ◌∙◌, ap, inl, inr}
 use Rattle.std.specs.Option.{option_map}
 use Rattle.std.proofs.lemmas.Bool.{cases_eq}
 use Rattle.std.proofs.Math.Path.{fun_ext}
@@ -12,14 +12,13 @@ use Rattle.blob_meta.specs.declared.meta.Meta.{Meta}
 use Rattle.store_model.specs.Maps.{with_entry}
 use Rattle.store_model.specs.Shown.{fixed_of}
 use Rattle.store_model.specs.StoreState.{StoreState, shown}
-use Rattle.store_model.specs.Jobs.{AsksFor}
+use Rattle.store_model.specs.Asking.{AsksFor}
 use Rattle.store_model.specs.Cases.{live_of}
 use Rattle.store_model.proofs.WithEntry.{given_here, given_elsewhere}
-use Rattle.store_model.proofs.Shows.{or_empty}
 use Rattle.store_model.proofs.Synced.{syncs_to, SyncsTo}
-use Rattle.store_model.proofs.Moved.{HaveLive}
+use Rattle.store_model.proofs.Moved.{HaveLive, live_shown, NoOtherLive}
 
-module _ (p : StoreState) (have_live : HaveLive p) (no_live : (head : ℕ) → p.base head ≡ None → p.live head ≡ None)
+module _ (p : StoreState) (have_live : HaveLive p) (no_live : NoOtherLive p)
     (command : Command) (head : ℕ) (new : Meta) (asks : AsksFor p command head new) where
   abbrev w : Volumes
   w = change (fixed_of p.super) (shown p) command r.Ok
@@ -33,19 +32,13 @@ module _ (p : StoreState) (have_live : HaveLive p) (no_live : (head : ℕ) → p
       let n : new.xattrs ≡ asks.after.synced = ap (λ (m : Meta). m.xattrs) asks.new_is in
       ap (λ o. option_map (λ (x : Volume). x.live) o) asks.step ∙ ap (λ (xs : Xattrs). Some xs) (l ∙ sym n)
 
-  synced_there : (k : ℕ) → k ≢ head → (o : Option Meta) → p.base k ≡ o → live_of w k ≡ p.live k
-  synced_there k ne None is =
-      let gone : shown p k ≡ None = rw is refl in
-      ap (λ o. option_map (λ (x : Volume). x.live) o) (to.others k ne ∙ gone) ∙ sym (no_live k is)
-  synced_there k ne (Some m) is =
-      let l = have_live k m is in
-      let shows : live_of (shown p) k ≡ Some (or_empty (p.live k)) = rw is refl in
-      ap (λ o. option_map (λ (x : Volume). x.live) o) (to.others k ne) ∙ shows ∙ ap (λ o. Some (or_empty o)) l.1
-      ∙ sym l.1
+  synced_there : (k : ℕ) → k ≢ head → live_of w k ≡ p.live k
+  synced_there k ne =
+      ap (λ o. option_map (λ (x : Volume). x.live) o) (to.others k ne) ∙ live_shown p have_live no_live k
 
   pub live_synced : (xs : Xattrs) → xs ≡ new.xattrs → with_entry p.live head xs ≡ live_of w
   live_synced xs same = fun_ext (λ k. elim (cases_eq k head) [
     | inl e ↦ given_here p.live head xs k e ∙ ap (λ (l : Xattrs). Some l) same ∙ sym synced_here
         ∙ sym (ap (live_of w) e)
-    | inr ne ↦ given_elsewhere p.live head xs k ne ∙ sym (synced_there k ne (p.base k) refl)
+    | inr ne ↦ given_elsewhere p.live head xs k ne ∙ sym (synced_there k ne)
   ])

@@ -10,12 +10,14 @@ use Rattle.volume_model.specs.declared.command.Command.{Command}
 use Rattle.volume_model.specs.declared.reply.Reply.TheVariants as r
 use Rattle.super_block.specs.declared.page.Super.{Super}
 use Rattle.blob_meta.specs.declared.meta.Meta.{Meta}
+use Rattle.blob_meta.specs.Resolving.{resolved}
 use Rattle.store_model.specs.Maps.{Map}
 use Rattle.store_model.specs.Shown.{fixed_of, volume_of}
 use Rattle.store_model.specs.Rows.{Rows, Row, InJob}
 use Rattle.store_model.specs.StoreState.{JobState, StoreState, shown, ForCommand}
 use Rattle.store_model.specs.Places.{IsClaimed, UsedClusters, IsMapped}
-use Rattle.store_model.specs.Jobs.{AsksFor, JobStands}
+use Rattle.store_model.specs.Jobs.{JobStands}
+use Rattle.store_model.specs.Asking.{AsksFor}
 use Rattle.store_model.specs.Cases.{live_of}
 use Rattle.store_model.specs.RunInvariant.{CanBeWritten, RunsWell}
 use Rattle.store_model.proofs.Shows.{or_empty}
@@ -83,21 +85,40 @@ clusters_same s bits metas others rows there back u = record {
 -- each blob has live attributes that can be written
 abbrev pub HaveLive : StoreState → Type 0
 HaveLive p =
-    (head : ℕ) (m : Meta) → p.base head ≡ Some m → (xattrs : Xattrs) × (p.live head ≡ Some xattrs) × CanBeWritten xattrs
+    (head : ℕ) (m : Meta) → resolved p.base head ≡ Some m
+    → (xattrs : Xattrs) × (p.live head ≡ Some xattrs) × CanBeWritten xattrs
+
+-- and no other has any
+abbrev pub NoOtherLive : StoreState → Type 0
+NoOtherLive p = (head : ℕ) → resolved p.base head ≡ None → p.live head ≡ None
+
+-- so the volumes shown have just these
+pub live_shown : (p : StoreState) → HaveLive p → NoOtherLive p → (h : ℕ) → live_of (shown p) h ≡ p.live h
+live_shown p have no_other h = by (resolved p.base h) refl
+  where
+    by : (o : Option Meta) → resolved p.base h ≡ o → live_of (shown p) h ≡ p.live h
+    by None is =
+        let gone : shown p h ≡ None = rw is refl in
+        ap (λ o. option_map (λ (x : Volume). x.live) o) gone ∙ sym (no_other h is)
+    by (Some m) is =
+        let l = have h m is in
+        let shows : live_of (shown p) h ≡ Some (or_empty (p.live h)) = rw is refl in
+        shows ∙ ap (λ o. Some (or_empty o)) l.1 ∙ sym l.1
 
 pub live_writable : (p : StoreState) → HaveLive p → AllWritable (shown p)
-live_writable p live h x is = at (p.base h) refl is
+live_writable p live h x is = at (resolved p.base h) refl is
   where
     shown_by : Option Meta → Option Volume
-    shown_by o = option_map (λ m. volume_of (fixed_of p.super).cluster_pages p.device.reads p.base p.super.md_len
+    shown_by o = option_map (λ m. volume_of (fixed_of p.super).cluster_pages p.device.reads
+        (resolved p.base) p.super.md_len
         (or_empty (p.live h)) h m) o
 
-    at : (o : Option Meta) → p.base h ≡ o → shown_by o ≡ Some x → CanBeWritten x.live
+    at : (o : Option Meta) → resolved p.base h ≡ o → shown_by o ≡ Some x → CanBeWritten x.live
     at None there made = absurd (cc made)
     at (Some m) there made =
         let l = live h m there in
         let same : or_empty (p.live h) ≡ l.0 = ap or_empty l.1 in
-        let e : volume_of (fixed_of p.super).cluster_pages p.device.reads p.base p.super.md_len
+        let e : volume_of (fixed_of p.super).cluster_pages p.device.reads (resolved p.base) p.super.md_len
         (or_empty (p.live h)) h m ≡ x = cc made in
         subst CanBeWritten (sym same ∙ ap (λ (y : Volume). y.live) e) l.2
 
@@ -108,7 +129,8 @@ module _ (p q : StoreState) (w : Volumes) (only : OnlyLive (shown p) w) (super :
     (base : q.base ≡ p.base) (reads : q.device.reads ≡ p.device.reads) (live : q.live ≡ live_of w) where
   abbrev with_live : ℕ → Xattrs → Option Meta → Option Volume
   with_live h xs o =
-      option_map (λ m. volume_of (fixed_of p.super).cluster_pages p.device.reads p.base p.super.md_len xs h m) o
+      option_map (λ m. volume_of (fixed_of p.super).cluster_pages p.device.reads (resolved p.base)
+      p.super.md_len xs h m) o
 
   again : (h : ℕ) (xs : Xattrs) (o : Option Meta)
       → with_live h xs o ≡ option_map (λ (x : Volume). record x { live = xs }) (with_live h (or_empty (p.live h)) o)
@@ -117,18 +139,19 @@ module _ (p q : StoreState) (w : Volumes) (only : OnlyLive (shown p) w) (super :
 
   pub shown_live : shown q ≡ w
   shown_live =
-      fun_ext (λ h. (rw (super, base, reads, live) refl) ∙ again h (or_empty (live_of w h)) (p.base h) ∙ sym (only h))
+      fun_ext (λ h. (rw (super, base, reads, live) refl) ∙ again h (or_empty (live_of w h)) (resolved p.base h)
+      ∙ sym (only h))
 
 -- each blob has live attributes that can be written
 module _ (p : StoreState) (w : Volumes) (only : OnlyLive (shown p) w) (can : AllWritable w) where
-  pub live_now : (head : ℕ) (m : Meta) → p.base head ≡ Some m
+  pub live_now : (head : ℕ) (m : Meta) → resolved p.base head ≡ Some m
       → (xattrs : Xattrs) × (live_of w head ≡ Some xattrs) × CanBeWritten xattrs
   live_now head m there =
-      let v : Volume = volume_of (fixed_of p.super).cluster_pages p.device.reads p.base p.super.md_len
+      let v : Volume = volume_of (fixed_of p.super).cluster_pages p.device.reads (resolved p.base) p.super.md_len
       (or_empty (p.live head)) head m in
       let is : w head ≡ Some (record v { live = or_empty (live_of w head) }) = only head ∙ rw there refl in
       (or_empty (live_of w head), ap (λ o. option_map (λ (x : Volume). x.live) o) is, can head _ is)
 
-  pub no_live_now : (head : ℕ) → p.base head ≡ None → live_of w head ≡ None
+  pub no_live_now : (head : ℕ) → resolved p.base head ≡ None → live_of w head ≡ None
   no_live_now head none =
       let gone : w head ≡ None = only head ∙ rw none refl in ap (λ o. option_map (λ (x : Volume). x.live) o) gone

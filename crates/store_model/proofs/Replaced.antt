@@ -1,5 +1,5 @@
--- The metadata with one blob's attributes replaced: it is that of roots still, lawful, and has the same clusters.
-use Rattle.std.proofs.Common.{◌≡◌, ℕ, ◌≤◌, ◌^◌, length, Option, Some, None, refl, sym, ◌∙◌, ap, subst, inl, inr}
+-- The metadata with one blob's attributes replaced: a load takes it still, it is lawful, and has the same clusters.
+use Rattle.std.proofs.Common.{◌≡◌, ℕ, length, Option, Some, None, refl, sym, ◌∙◌, ap, subst, inl, inr}
 use Rattle.std.specs.List.{range_with_len, sum_by}
 use Rattle.std.specs.Prelude.{codes}
 use Rattle.std.specs.Option.{option_map, option_map_or, option_and_then}
@@ -15,12 +15,13 @@ use Rattle.volume_model.specs.declared.command.Command.TheVariants as c
 use Rattle.volume_model.specs.declared.reply.Reply.TheVariants as r
 use Rattle.blob_meta.specs.declared.meta.Meta.{Meta}
 use Rattle.blob_meta.specs.Parents.{named_in, slot, parent_of, is_read_only}
-use Rattle.blob_meta.specs.Resolving.{IsLawful, slots_together}
+use Rattle.blob_meta.specs.Resolving.{slots_together}
 use Rattle.store_model.specs.Maps.{Metas, with_entry}
 use Rattle.store_model.specs.Places.{IsMapped}
-use Rattle.store_model.specs.Jobs.{IsSyncing}
-use Rattle.store_model.specs.RunInvariant.{CanBeWritten, IsRoot, AreRoots}
+use Rattle.store_model.specs.Asking.{IsSyncing}
+use Rattle.store_model.specs.RunInvariant.{CanBeWritten, IsLoadable, AreLoadable}
 use Rattle.store_model.proofs.WithEntry.{given_here, given_elsewhere}
+use Rattle.store_model.proofs.LawfulGiven.{TakesNone}
 use Rattle.store_model.proofs.Synced.{edited_here}
 use Rattle.store_model.proofs.Writable.{AllWritable, written_with, put_within}
 
@@ -47,32 +48,36 @@ synced_written f v (c.Sync volume) head after writable is asked found step =
     subst (λ (x : Volume). CanBeWritten x.synced) (sym from.2) made
 synced_written f v _ head after writable is asked found step = absurd is
 
-pub new_root : (s : Super) (head : ℕ) (old new : Meta) (xattrs : Xattrs) → IsRoot s head old
-    → new ≡ record old { xattrs = xattrs } → CanBeWritten xattrs → IsRoot s head new
-new_root s head old new xattrs root is can =
-    let made : IsRoot s head (record old { xattrs = xattrs }) =
+pub new_loadable : (s : Super) (head : ℕ) (old new : Meta) (xattrs : Xattrs) → IsLoadable s head old
+    → new ≡ record old { xattrs = xattrs } → CanBeWritten xattrs → IsLoadable s head new
+new_loadable s head old new xattrs old_one is can =
+    let made : IsLoadable s head (record old { xattrs = xattrs }) =
     record {
-      low = root.low;
-      id = root.id;
-      clear = root.clear;
-      xattrs = can;
-      internal = root.internal;
-      no_parent = root.no_parent;
-      not_made = root.not_made;
-      not_removed = root.not_removed;
-      faultless = root.faultless;
+      stored = record {
+        low = old_one.stored.low;
+        id = old_one.stored.id;
+        clear = old_one.stored.clear;
+        xattrs = can;
+        internal = old_one.stored.internal;
+        faultless = old_one.stored.faultless;
+      };
+      alone = record {
+        no_parent = old_one.alone.no_parent;
+        not_made = old_one.alone.not_made;
+        not_removed = old_one.alone.not_removed;
+      };
     } in
-    subst (IsRoot s head) (sym is) made
+    subst (IsLoadable s head) (sym is) made
 
 -- ---- the whole map
 
-pub roots_given : (s : Super) (metas : Metas) (head : ℕ) (new : Meta) → AreRoots s metas → IsRoot s head new
-    → AreRoots s (with_entry metas head new)
-roots_given s metas head new roots root h m is = elim (cases_eq h head) [
+pub loadable_given : (s : Super) (metas : Metas) (head : ℕ) (new : Meta) → AreLoadable s metas → IsLoadable s head new
+    → AreLoadable s (with_entry metas head new)
+loadable_given s metas head new all one_new h m is = elim (cases_eq h head) [
   | inl e ↦
       let one : new ≡ m = let both = sym (given_here metas head new h e) ∙ is in cc both in
-      subst (λ (k : ℕ). IsRoot s k m) (sym e) (subst (IsRoot s head) one root)
-  | inr ne ↦ roots h m (sym (given_elsewhere metas head new h ne) ∙ is)
+      subst (λ (k : ℕ). IsLoadable s k m) (sym e) (subst (IsLoadable s head) one one_new)
+  | inr ne ↦ all h m (sym (given_elsewhere metas head new h ne) ∙ is)
 ]
 
 module _ (metas : Metas) (head : ℕ) (old new : Meta) (xattrs : Xattrs) (there : metas head ≡ Some old)
@@ -169,24 +174,16 @@ module _ (metas : Metas) (head : ℕ) (old new : Meta) (xattrs : Xattrs) (there 
       mapped None = refl
       mapped (Some m) = refl
 
-  pub lawful_given : (md_len : ℕ) → IsLawful md_len metas → IsLawful md_len (with_entry metas head new)
-  lawful_given md_len law =
-      let slots : slots_together md_len (with_entry metas head new) ≡ slots_together md_len metas =
-      ap (λ f. sum_by f (range_with_len 0 md_len)) (fun_ext slots_at_same) in
-      record {
-        alone = λ h k i j cluster m n hm kn si sj.
-            let a = was_there h m hm in
-            let b = was_there k n kn in
-            law.alone h k i j cluster a.before b.before a.was b.was (slot_was m a.before i cluster a.map si)
-            (slot_was n b.before j cluster b.map sj);
-        parents = λ h p m hm parent.
-            let a = was_there h m hm in
-            let up = law.parents h p a.before a.was (parent_was m a.before p a.internal parent) in
-            let now = still p up.0 up.1 in
-            (now.0, now.1, ap is_read_only now.3 ∙ up.2);
-        rank = law.rank;
-        falls = λ h p m hm parent.
-            let a = was_there h m hm in
-            law.falls h p a.before a.was (parent_was m a.before p a.internal parent);
-        few = subst (λ n. n ≤ 2 ^ 24) (sym slots) law.few;
-      }
+  -- no cluster and no parent is new
+  pub takes_none : TakesNone metas head new
+  takes_none = record {
+    slots = λ i cluster at.
+        (old, there, slot_was new old i cluster (ap (λ (m : Meta). m.map) is) at);
+    parent = λ p of. (old, there, parent_was new old p (ap (λ (m : Meta). m.internal) is) of);
+    read_only = λ m was on.
+        let one : m ≡ old = let both = sym was ∙ there in cc both in
+        ap (λ (x : Meta). is_read_only x.flags) is ∙ ap (λ (x : Meta). is_read_only x.flags) (sym one) ∙ on;
+  }
+
+  pub slots_same : (md_len : ℕ) → slots_together md_len (with_entry metas head new) ≡ slots_together md_len metas
+  slots_same md_len = ap (λ f. sum_by f (range_with_len 0 md_len)) (fun_ext slots_at_same)

@@ -63,16 +63,6 @@ module _ (look : Look) (r : MdRegion) (metas : Metas) (chains : Chains) (said : 
       one_id h k (sym (chain_of look r h (metas h) (chains h) ps a (said h) p x).id
       ∙ (chain_of look r k (metas k) (chains k) qs b (said k) p y).id)
 
-  -- a head that some chain has is its own chain's
-  pub heads_apart : (h k : ℕ) (ps qs : List ℕ) → chains h ≡ Some ps → chains k ≡ Some qs → is_among h qs ≡ true → h ≡ k
-  heads_apart h k ps qs a b y = elim (said h) [
-    | inl w ↦
-        let one : w.pages ≡ ps = let e = sym w.pages_are ∙ a in cc e in
-        apart h k h ps qs a b (subst (λ (l : List ℕ). is_among h l ≡ true) one
-        (begins look r.len h 0 [] h h w.says.items w.pages w.says.chain)) y
-    | inr w ↦ absurd (let e = sym w.no_chain ∙ a in cc e)
-  ]
-
   -- A page that no chain has isn't a head.
   pub unlinked_no_head : (p : ℕ) → Unlinked chains p → head_at look r.len p ≡ false
   unlinked_no_head p free = elim (said p) [

@@ -1,6 +1,6 @@
--- What a running store shows, blob by blob, and what of it a write to the metadata region changes: nothing.
-use Rattle.std.proofs.Common.{◌≡◌, ◌≢◌, ℕ, ◌+◌, ◌*◌, ◌/◌, ◌%◌, ◌<◌, ◌≤◌, Bool, true, false, List, [], length, map}
-use Rattle.std.proofs.Common.{Option, Some, None, refl, sym, ◌∙◌, ap, arith}
+-- What of the volumes shown a write to the metadata region changes: nothing.
+use Rattle.std.proofs.Common.{◌≡◌, ◌≢◌, ℕ, suc, ◌+◌, ◌*◌, ◌/◌, ◌%◌, ◌<◌, ◌≤◌, true, false, List, [], length, map}
+use Rattle.std.proofs.Common.{Bool, Option, Some, None, refl, ap, arith, subst}
 use Rattle.std.specs.List.{range_with_len}
 use Rattle.std.specs.Option.{option_map, option_map_or}
 use Rattle.std.proofs.lemmas.Bool.{ne_eqb}
@@ -10,74 +10,80 @@ use Rattle.page_disk.specs.Disk.{Image, with_page}
 use Rattle.super_block.specs.declared.page.Super.{Super}
 use Rattle.super_block.specs.Numbers.{cluster_pages_of, fixed_clusters_of}
 use Rattle.super_block.specs.Placed.{IsPlaced}
-use Rattle.volume_model.specs.Volumes.{Volumes, zero_page}
 use Rattle.volume_model.specs.Xattrs.{Xattrs}
 use Rattle.blob_meta.specs.declared.meta.Meta.{Meta}
-use Rattle.blob_meta.specs.Parents.{slot}
+use Rattle.blob_meta.specs.Faults.{meta_fault}
+use Rattle.blob_meta.specs.Resolving.{IsLawful, mark_of, resolved}
 use Rattle.store_model.specs.Maps.{Map, Metas}
-use Rattle.store_model.specs.Shown.{volume_of}
+use Rattle.store_model.specs.Regions.{region_of}
+use Rattle.store_model.specs.Shown.{content, fixed_of, shown_by, volume_of}
 use Rattle.store_model.specs.Device.{Device}
 use Rattle.store_model.specs.StoreState.{StoreState, shown}
 use Rattle.store_model.specs.Cases.{read_after}
-use Rattle.store_model.specs.RunInvariant.{IsRoot, AreRoots}
+use Rattle.store_model.specs.Agreeing.{AgreeOn}
+use Rattle.store_model.specs.Loadable.{AreLoadable, StandsAlone}
+use Rattle.store_model.proofs.Contents.{HasParents, same_content}
 use Rattle.store_model.proofs.Inside.{inside_slot}
-use Rattle.store_model.proofs.Roots.{root_page, root_volume, volume_root, no_parent}
 
 abbrev pub or_empty : Option Xattrs → Xattrs
 or_empty o = option_map_or (λ xs. xs) o []
 
--- the volumes of roots
-abbrev pub shown_roots : ℕ → Image → Map Xattrs → Metas → Volumes
-shown_roots k image live metas head = option_map (λ m. root_volume k image (or_empty (live head)) m) (metas head)
+-- ---- metadata without marks is resolved
 
-module _ (s : Super) (metas : Metas) (roots : AreRoots s metas) where
-  root_at : (k : ℕ) (image : Image) (live : Map Xattrs) (head : ℕ) (o : Option Meta) → metas head ≡ o
-      → option_map (λ m. volume_of k image metas s.md_len (or_empty (live head)) head m) o
-      ≡ option_map (λ m. root_volume k image (or_empty (live head)) m) o
-  root_at k image live head None is = refl
-  root_at k image live head (Some m) is = ap (λ v. Some v)
-      (volume_root k image metas s.md_len (or_empty (live head)) head m is (no_parent s head m (roots head m is)))
+no_mark : (m : Meta) → StandsAlone m → mark_of m ≡ None
+no_mark m alone = rw alone.not_removed alone.not_made
 
-  pub shown_as_roots : (p : StoreState) → p.super ≡ s → p.base ≡ metas
-      → shown p ≡ shown_roots (cluster_pages_of s) p.device.reads p.live metas
-  shown_as_roots p super base = fun_ext
-      (λ head. (rw (super, base) refl) ∙ root_at (cluster_pages_of s) p.device.reads p.live head (metas head) refl)
+unmarked : (metas : Metas) (head : ℕ) (o : Option Meta) → metas head ≡ o → ((m : Meta) → o ≡ Some m → mark_of m ≡ None)
+    → resolved metas head ≡ o
+unmarked metas head None is none = rw is refl
+unmarked metas head (Some m) is none = rw (is, none m refl) refl
 
-  -- two images with the same pages behind the fixed clusters
-  module _ (image other : Image)
-      (same : (page : ℕ) → fixed_clusters_of s * cluster_pages_of s ≤ page → other page ≡ image page)
-      (some : 0 < cluster_pages_of s) where
-    cluster_behind : (fixed cluster k rest : ℕ) → fixed ≤ cluster → fixed * k ≤ cluster * k + rest
-    cluster_behind fixed cluster k rest le = let m = mul-le-mul_right k le in omega (arith, m)
+pub alone_resolved : (s : Super) (metas : Metas) → AreLoadable s metas → resolved metas ≡ metas
+alone_resolved s metas loadable =
+    fun_ext (λ head. unmarked metas head (metas head) refl (λ m is. no_mark m (loadable head m is).alone))
 
-    slot_same : (head : ℕ) (m : Meta) → IsRoot s head m → (page : ℕ) (o : Option ℕ)
-        → slot m (page / cluster_pages_of s) ≡ o
-        → option_map_or (λ cluster. other (cluster * cluster_pages_of s + page % cluster_pages_of s)) o zero_page
-        ≡ option_map_or (λ cluster. image (cluster * cluster_pages_of s + page % cluster_pages_of s)) o zero_page
-    slot_same head m root page None is = refl
-    slot_same head m root page (Some cluster) is =
-        let inside = inside_slot _ _ m (page / cluster_pages_of s) cluster root.faultless is in
-        same _ (cluster_behind (fixed_clusters_of s) cluster (cluster_pages_of s)
-        (page % cluster_pages_of s) inside.behind)
+-- ---- two images with the same pages behind the fixed clusters
 
-    volume_same : (live : Xattrs) (head : ℕ) (m : Meta) → IsRoot s head m
-        → root_volume (cluster_pages_of s) other live m ≡ root_volume (cluster_pages_of s) image live m
-    volume_same live head m root =
-        let pages : root_page (cluster_pages_of s) other m ≡ root_page (cluster_pages_of s) image m =
-        fun_ext (λ page. slot_same head m root page (slot m (page / cluster_pages_of s)) refl) in
-        ap (λ f. record (root_volume (cluster_pages_of s) image live m) {
-          pages = map f (range_with_len 0 (cluster_pages_of s * length m.map));
-        }) pages
+-- no map has a fault
+abbrev pub AreFaultless : Super → Metas → Type 0
+AreFaultless s metas =
+    (head : ℕ) (m : Meta) → metas head ≡ Some m → meta_fault (region_of s).fixed (region_of s).clusters m ≡ None
 
-    at_same : (live : Map Xattrs) (head : ℕ) (o : Option Meta) → metas head ≡ o
-        → option_map (λ m. root_volume (cluster_pages_of s) other (or_empty (live head)) m) o
-        ≡ option_map (λ m. root_volume (cluster_pages_of s) image (or_empty (live head)) m) o
-    at_same live head None is = refl
-    at_same live head (Some m) is = ap (λ v. Some v) (volume_same (or_empty (live head)) head m (roots head m is))
+pub resolved_faultless : (s : Super) (metas : Metas) → AreLoadable s metas → AreFaultless s (resolved metas)
+resolved_faultless s metas loadable head m is =
+    (loadable head m (subst (λ (x : Metas). x head ≡ Some m) (alone_resolved s metas loadable) is)).stored.faultless
 
-    pub roots_same : (live : Map Xattrs)
-        → shown_roots (cluster_pages_of s) other live metas ≡ shown_roots (cluster_pages_of s) image live metas
-    roots_same live = fun_ext (λ head. at_same live head (metas head) refl)
+module _ (s : Super) (metas : Metas) (parents : HasParents metas) (faultless : AreFaultless s metas)
+    (image other : Image)
+    (same : (page : ℕ) → fixed_clusters_of s * cluster_pages_of s ≤ page → other page ≡ image page) where
+  abbrev k : ℕ
+  k = cluster_pages_of s
+
+  cluster_behind : (fixed cluster k rest : ℕ) → fixed ≤ cluster → fixed * k ≤ cluster * k + rest
+  cluster_behind fixed cluster k rest le = let m = mul-le-mul_right k le in omega (arith, m)
+
+  agree : AgreeOn k metas (λ _ _. false) image other
+  agree head page cluster m there is _ =
+      let inside = inside_slot _ _ m (page / k) cluster (faultless head m there) is in
+      same _ (cluster_behind (fixed_clusters_of s) cluster k (page % k) inside.behind)
+
+  volume_same : (live : Xattrs) (head : ℕ) (m : Meta)
+      → volume_of k other metas s.md_len live head m ≡ volume_of k image metas s.md_len live head m
+  volume_same live head m =
+      let pages : content k other metas (suc s.md_len) head ≡ content k image metas (suc s.md_len) head =
+      fun_ext (λ page. same_content k metas parents (λ _ _. false) image other agree (suc s.md_len) head page refl) in
+      ap (λ (f : ℕ → List ℕ). record (volume_of k image metas s.md_len live head m) {
+        pages = map f (range_with_len 0 (k * length m.map));
+      }) pages
+
+  at_same : (live : Map Xattrs) (head : ℕ) (o : Option Meta)
+      → option_map (λ m. volume_of k other metas s.md_len (or_empty (live head)) head m) o
+      ≡ option_map (λ m. volume_of k image metas s.md_len (or_empty (live head)) head m) o
+  at_same live head None = refl
+  at_same live head (Some m) = ap (λ v. Some v) (volume_same (or_empty (live head)) head m)
+
+  pub shown_same : (live : Map Xattrs) → shown_by (fixed_of s) other metas live ≡ shown_by (fixed_of s) image metas live
+  shown_same live = fun_ext (λ head. at_same live head (metas head))
 
 -- a write to a place of the metadata region leaves the pages behind the fixed clusters
 pub behind_region : (told : Bool) (s : Super) (image : Image) (place : ℕ) (page : List ℕ) → IsPlaced s
@@ -92,11 +98,9 @@ behind_region true s image place page placed low q behind =
 behind_region false s image place page placed low q behind = refl
 
 pub shown_written : (told : Bool) (s : Super) (p : StoreState) (d : Device) (place : ℕ) (page : List ℕ) → p.super ≡ s
-    → AreRoots s p.base → IsPlaced s → place < s.md_len
+    → AreLoadable s p.base → IsLawful s.md_len (resolved p.base) → IsPlaced s → place < s.md_len
     → d.reads ≡ read_after told p.device.reads (s.md_start + place) page → shown (record p { device = d }) ≡ shown p
-shown_written told s p d place page super roots placed low reads =
-    shown_as_roots s p.base roots (record p { device = d }) super refl
-    ∙ roots_same s p.base roots p.device.reads d.reads
-    (λ q behind. ap (λ (i : Image). i q) reads ∙ behind_region told s p.device.reads place page placed low q behind)
-    placed.some_pages p.live
-    ∙ sym (shown_as_roots s p.base roots p super refl)
+shown_written told s p d place page super loadable lawful placed low reads =
+    rw super (shown_same s (resolved p.base) lawful.parents (resolved_faultless s p.base loadable)
+    p.device.reads d.reads
+    (λ q behind. rw reads (behind_region told s p.device.reads place page placed low q behind)) p.live)

@@ -1,29 +1,29 @@
 -- What a verb that syncs asks for: metadata that can be written, and what each image shows with it.
-use Rattle.std.proofs.Common.{None, ◌≡◌, Some, refl, subst, sym, ap, ◌∙◌, inr, [], inl}
-use Rattle.std.proofs.Common.{ℕ}
-use Rattle.std.proofs.lemmas.Bool.{cases_eq}
+use Rattle.std.proofs.Common.{◌^◌, ◌≤◌, None, ◌≡◌, Some, refl, subst, sym, ap, ◌∙◌, inr, [], inl}
+use Rattle.std.proofs.Common.{ℕ, false}
+use Rattle.std.proofs.lemmas.Bool.{cases_eq, false≢true}
 use Rattle.store_model.specs.StoreState.{StoreState, live_of, shown}
 use Rattle.store_model.specs.RunInvariant.{RunsWell}
-use Rattle.store_model.specs.Jobs.{AsksFor, IsStep, shown_of}
+use Rattle.store_model.specs.Jobs.{IsStep, shown_of}
+use Rattle.store_model.specs.Asking.{AsksFor}
 use Rattle.store_model.proofs.Known.{Known}
 use Rattle.store_model.proofs.Moved.{all_writable, live_writable}
 use Rattle.store_model.specs.Phases.{Replacing, replaced}
 use Rattle.store_model.specs.Phases.{Committing}
 use Rattle.volume_model.specs.declared.reply.Reply.TheVariants as r_
-use Rattle.store_model.specs.Roots.{AreRoots, IsRoot, CanBeWritten}
+use Rattle.store_model.specs.Loadable.{IsLoadable, CanBeWritten}
 use Rattle.page_disk.specs.Disk.{Image}
-use Rattle.blob_meta.specs.Resolving.{IsLawful}
+use Rattle.blob_meta.specs.Resolving.{slots_together}
 use Rattle.blob_meta.specs.declared.meta.Meta.{Meta}
-use Rattle.super_block.specs.declared.page.Super.{Super}
 use Rattle.store_model.proofs.Writable.{AllWritable}
 use Rattle.store_model.proofs.StateKept.{May, asks_may}
 use Rattle.store_model.specs.Maps.{Metas, with_entry}
 use Rattle.volume_model.specs.Volumes.{Volumes, Volume}
 use Rattle.store_model.proofs.Meanwhile.{asks_reading, reading}
-use Rattle.store_model.proofs.Replaced.{new_root, lawful_given, roots_given, synced_written}
+use Rattle.store_model.proofs.Replaced.{new_loadable, slots_same, synced_written, takes_none}
 use Rattle.volume_model.specs.Steps.{change}
 use Rattle.store_model.specs.Shown.{fixed_of}
-use Rattle.store_model.proofs.Heads.{replaced_is}
+use Rattle.store_model.proofs.OneReplacement.{all_loadable, base_is, base_lawful, base_loadable, IsReady, ready_by}
 use Rattle.store_model.proofs.Synced.{syncs_to, shown_synced}
 use Rattle.store_model.proofs.LiveSynced.{live_synced}
 use Rattle.volume_model.specs.declared.command.Command.{Command}
@@ -33,33 +33,29 @@ abbrev pub sync_commit : Meta → Committing
 sync_commit new = record { reply = r_.Ok; live = Some new.xattrs; renews = [] }
 
 module _ (known : Known) where
-  open known use {s, placed, first, script, p, facts}
+  open known use {first, p, facts}
 
   module _ (runs : p.stopped ≡ None) (command : Command) (head : ℕ) (new : Meta) (asks : AsksFor p command head new)
-      (r : Replacing) (head_is : r.head ≡ head) (new_is : r.new ≡ Some new) where
+      (r : Replacing) (head_is : r.head ≡ head) (new_is : r.new ≡ Some new) (there : r.makes ≡ false) where
     well : RunsWell first p
     well = facts.well runs
 
     abbrev commit : Committing
     commit = sync_commit new
 
-    pub root_new : IsRoot s r.head new
-    root_new =
-        subst (λ h. IsRoot s h new) (sym head_is)
-        (new_root s head asks.old new asks.after.synced (facts.roots head asks.old asks.there) asks.new_is
-        (synced_written (fixed_of p.super) (shown p) command head asks.after
-        (all_writable first p well) asks.syncing asks.asked asks.found asks.step))
+    one_loadable : IsLoadable p.super head new
+    one_loadable = new_loadable p.super head asks.old new asks.after.synced
+        (base_loadable known head asks.old asks.there)
+        asks.new_is (synced_written (fixed_of p.super) (shown p) command head asks.after
+        (all_writable first p well) asks.syncing asks.asked asks.found asks.step)
 
-    roots_new : AreRoots s (with_entry p.base head new)
-    roots_new = roots_given s p.base head new facts.roots (subst (λ h. IsRoot s h new) head_is root_new)
+    base_now : replaced p.base r ≡ with_entry p.base head new
+    base_now = base_is known head new one_loadable r head_is new_is
 
-    pub base_is : replaced p.base r ≡ with_entry p.base head new
-    base_is = replaced_is p.base r new new_is ∙ ap (λ h. with_entry p.base h new) head_is
-
-    pub lawful_new : IsLawful p.super.md_len (replaced p.base r)
-    lawful_new = subst (IsLawful p.super.md_len) (sym base_is)
-        (subst (λ (y : Super). IsLawful y.md_len (with_entry p.base head new)) (sym facts.super)
-        (lawful_given p.base head asks.old new asks.after.synced asks.there asks.new_is s.md_len facts.lawful))
+    few : slots_together p.super.md_len (with_entry p.base head new) ≤ 2 ^ 24
+    few = subst (λ n. n ≤ 2 ^ 24)
+        (sym (slots_same p.base head asks.old new asks.after.synced asks.there asks.new_is p.super.md_len))
+        (base_lawful known).few
 
     -- ---- what every image shows
 
@@ -78,10 +74,9 @@ module _ (known : Known) where
 
       shows_new : shown_of p.super (replaced p.base r) (live_of w) image ≡ w
       shows_new =
-          ap (λ (m : Metas). shown_of p.super m (live_of w) image) base_is
-          ∙ shown_synced s here facts.super facts.roots command head new asks_here roots_new
-          (record here { base = with_entry p.base head new; live = live_of w }) facts.super refl refl
-          placed.some_pages (λ page behind. refl)
+          ap (λ (m : Metas). shown_of p.super m (live_of w) image) base_now
+          ∙ shown_synced p.super here refl (base_loadable known) command head new asks_here
+          (all_loadable known head new one_loadable)
 
       writable_new : AllWritable w
       writable_new h v is = elim (cases_eq h head) [
@@ -99,7 +94,7 @@ module _ (known : Known) where
             live_writable here well.live h v (sym (to.others h ne) ∙ is)
       ]
 
-    pub step : IsStep p.super p.base r p.live command commit
+    step : IsStep p.super p.base r p.live command commit
     step = record {
       done = tt;
       allowed = λ image. (may image).done;
@@ -109,4 +104,9 @@ module _ (known : Known) where
           (asks_here image) new.xattrs refl) ∙ ap (λ h. with_entry p.live h new.xattrs) (sym head_is);
       writable = writable_new;
       renews = tt;
+      numbers = λ makes. absurd (false≢true (sym there ∙ makes));
     }
+
+    pub sync_ready : IsReady p command commit new r
+    sync_ready = ready_by known head new one_loadable r head_is new_is command commit
+        (takes_none p.base head asks.old new asks.after.synced asks.there asks.new_is) few step

@@ -1,10 +1,13 @@
 -- The blob whose attributes a command syncs, in the volumes and in the metadata.
-use Rattle.std.proofs.Common.{◌≡◌, ◌≢◌, ℕ, ◌*◌, ◌<◌, ◌≤◌, Option, Some, None, refl, sym, ◌∙◌, ap, subst, inl, inr}
+use Rattle.std.proofs.Common.{◌≡◌, ◌≢◌, ℕ, suc, ◌*◌, List, length, map, Option, Some, None, refl, sym, ◌∙◌, ap, subst}
+use Rattle.std.proofs.Common.{inl, inr}
+use Rattle.std.specs.List.{range_with_len}
 use Rattle.std.specs.Option.{option_map}
 use Rattle.std.proofs.lemmas.Bool.{cases_eq, eq-eqb, ne_eqb}
 use Rattle.std.proofs.Math.Path.{fun_ext}
+use Rattle.page_disk.specs.Disk.{Image}
 use Rattle.super_block.specs.declared.page.Super.{Super}
-use Rattle.super_block.specs.Numbers.{cluster_pages_of, fixed_clusters_of}
+use Rattle.super_block.specs.Numbers.{cluster_pages_of}
 use Rattle.volume_model.specs.Volumes.{Fixed, Volume, Volumes}
 use Rattle.volume_model.specs.Xattrs.{Xattrs, with_value}
 use Rattle.volume_model.specs.Steps.{change, edited_at, named_head}
@@ -12,15 +15,17 @@ use Rattle.volume_model.specs.declared.command.Command.{Command}
 use Rattle.volume_model.specs.declared.command.Command.TheVariants as c
 use Rattle.volume_model.specs.declared.reply.Reply.TheVariants as r
 use Rattle.blob_meta.specs.declared.meta.Meta.{Meta}
-use Rattle.store_model.specs.Maps.{Map, with_entry}
-use Rattle.store_model.specs.Shown.{fixed_of}
+use Rattle.store_model.specs.Maps.{Metas, with_entry}
+use Rattle.store_model.specs.Shown.{content, fixed_of, shown_by, volume_of}
+use Rattle.blob_meta.specs.Resolving.{resolved}
 use Rattle.store_model.specs.StoreState.{StoreState, shown}
-use Rattle.store_model.specs.Jobs.{AsksFor, IsSyncing}
+use Rattle.store_model.specs.Jobs.{shown_of}
+use Rattle.store_model.specs.Asking.{AsksFor, IsSyncing}
 use Rattle.store_model.specs.Cases.{live_of}
-use Rattle.store_model.specs.RunInvariant.{AreRoots}
+use Rattle.store_model.specs.Loadable.{AreLoadable}
 use Rattle.store_model.proofs.WithEntry.{given_here, given_elsewhere}
-use Rattle.store_model.proofs.Roots.{root_volume}
-use Rattle.store_model.proofs.Shows.{or_empty, shown_roots, shown_as_roots, roots_same}
+use Rattle.store_model.proofs.SameMaps.{IsPlacedAlike, content_alike}
+use Rattle.store_model.proofs.Shows.{or_empty, alone_resolved}
 
 module _ (f : Fixed) (v : Volumes) (o : Option ℕ) (edit : Volume → Volume) (head : ℕ) (is : o ≡ Some head) where
   pub edited_here : edited_at f v o edit head ≡ option_map edit (v head)
@@ -69,9 +74,38 @@ syncs_to f v (c.Sync volume) head after is found step =
     same k = refl
 syncs_to f v _ head after is found step = absurd is
 
-module _ (s : Super) (p : StoreState) (super : p.super ≡ s) (roots : AreRoots s p.base) (command : Command) (head : ℕ)
-    (new : Meta) (asks : AsksFor p command head new)
-    (new_roots : AreRoots s (with_entry p.base head new)) where
+-- of what a blob that syncs shows, its attributes alone are others
+module _ (k : ℕ) (image : Image) (metas others : Metas) (alike : (h : ℕ) → IsPlacedAlike (others h) (metas h))
+    (md_len : ℕ) where
+  pages_alike : (h : ℕ) → content k image others (suc md_len) h ≡ content k image metas (suc md_len) h
+  pages_alike h = fun_ext (λ page. content_alike k image metas others alike (suc md_len) h page)
+
+  -- with these attributes
+  pub volume_alike : (live was : Xattrs) (h : ℕ) (m : Meta) (xattrs : Xattrs)
+      → volume_of k image others md_len live h (record m { xattrs = xattrs })
+      ≡ record (volume_of k image metas md_len was h m) { live = live; synced = xattrs }
+  volume_alike live was h m xattrs =
+      ap (λ (f : ℕ → List ℕ). record (volume_of k image metas md_len was h m) {
+        pages = map f (range_with_len 0 (k * length m.map));
+        live = live;
+        synced = xattrs;
+      }) (pages_alike h)
+
+-- metadata that differs in attributes alone
+pub alike_synced : (metas : Metas) (head : ℕ) (old new : Meta) (xattrs : Xattrs) → metas head ≡ Some old
+    → new ≡ record old { xattrs = xattrs } → (h : ℕ) → IsPlacedAlike (with_entry metas head new h) (metas h)
+alike_synced metas head old new xattrs there is h = elim (cases_eq h head) [
+  | inl e ↦ rw (given_here metas head new h e, ap metas e ∙ there, is) (refl, refl)
+  | inr ne ↦ rw (given_elsewhere metas head new h ne) (itself (metas h))
+]
+  where
+    itself : (o : Option Meta) → IsPlacedAlike o o
+    itself None = tt
+    itself (Some m) = (refl, refl)
+
+module _ (s : Super) (p : StoreState) (super : p.super ≡ s) (loadable : AreLoadable s p.base) (command : Command)
+    (head : ℕ) (new : Meta) (asks : AsksFor p command head new)
+    (new_loadable : AreLoadable s (with_entry p.base head new)) where
   abbrev k : ℕ
   k = cluster_pages_of s
 
@@ -81,54 +115,66 @@ module _ (s : Super) (p : StoreState) (super : p.super ≡ s) (roots : AreRoots 
   to : SyncsTo (shown p) w head asks.after
   to = syncs_to (fixed_of p.super) (shown p) command head asks.after asks.syncing asks.found asks.step
 
-  was : Some to.before ≡ Some (root_volume k p.device.reads (or_empty (p.live head)) asks.old)
-  was = sym to.was ∙ ap (λ (v : Volumes). v head) (shown_as_roots s p.base roots p super refl)
-      ∙ ap (λ o. option_map (λ m. root_volume k p.device.reads (or_empty (p.live head)) m) o) asks.there
+  -- a blob as a volume, over this metadata
+  abbrev by : Metas → Xattrs → ℕ → Meta → Volume
+  by metas live h m = volume_of k p.device.reads metas s.md_len live h m
 
-  here : option_map (λ m. root_volume k p.device.reads (or_empty (live_of w head)) m) (with_entry p.base head new head)
-      ≡ w head
+  alike : (h : ℕ) → IsPlacedAlike (with_entry p.base head new h) (p.base h)
+  alike = alike_synced p.base head asks.old new asks.after.synced asks.there asks.new_is
+
+  shown_is : (h : ℕ) → shown p h ≡ option_map (by p.base (or_empty (p.live h)) h) (p.base h)
+  shown_is h =
+      ap (λ (x : Super). shown_by (fixed_of x) p.device.reads (resolved p.base) p.live h) super
+      ∙ ap (λ (m : Metas). shown_by (fixed_of s) p.device.reads m p.live h) (alone_resolved s p.base loadable)
+
+  here : Some (by (with_entry p.base head new) asks.after.live head new) ≡ w head
   here =
-      let x : to.before ≡ root_volume k p.device.reads (or_empty (p.live head)) asks.old = let e = was in cc e in
+      let was : Some to.before ≡ Some (by p.base (or_empty (p.live head)) head asks.old) =
+      sym to.was ∙ shown_is head
+      ∙ ap (λ o. option_map (by p.base (or_empty (p.live head)) head) o) asks.there in
+      let x : to.before ≡ by p.base (or_empty (p.live head)) head asks.old = let e = was in cc e in
       let l : asks.after.live ≡ asks.after.synced = ap (λ (y : Volume). y.live) to.is in
-      ap (λ o. option_map (λ m. root_volume k p.device.reads (or_empty (live_of w head)) m) o)
-      (given_here p.base head new head refl)
-      ∙ ap (λ o. Some (root_volume k p.device.reads (or_empty (option_map (λ y. y.live) o)) new)) asks.step
-      ∙ ap (λ (xs : Xattrs). Some (root_volume k p.device.reads xs new)) l
-      ∙ ap (λ (m : Meta). Some (root_volume k p.device.reads asks.after.synced m)) asks.new_is
+      ap (λ (m : Meta). Some (by (with_entry p.base head new) asks.after.live head m)) asks.new_is
+      ∙ ap (λ (v : Volume). Some v) (volume_alike k p.device.reads p.base (with_entry p.base head new) alike s.md_len
+      asks.after.live (or_empty (p.live head)) head asks.old asks.after.synced)
+      ∙ ap (λ (xs : Xattrs). Some (record (by p.base (or_empty (p.live head)) head asks.old) {
+        live = xs;
+        synced = asks.after.synced;
+      })) l
       ∙ ap (λ (y : Volume). Some (record y { live = asks.after.synced; synced = asks.after.synced })) (sym x)
       ∙ ap (λ (y : Volume). Some y) (sym to.is) ∙ sym asks.step
 
   elsewhere : (h : ℕ) → h ≢ head → (o : Option Meta) → p.base h ≡ o
-      → option_map (λ m. root_volume k p.device.reads (or_empty (live_of w h)) m) (with_entry p.base head new h) ≡ w h
-  elsewhere h ne o is =
-      let shows : shown p h ≡ option_map (λ m. root_volume k p.device.reads (or_empty (p.live h)) m) o =
-      ap (λ (v : Volumes). v h) (shown_as_roots s p.base roots p super refl)
-      ∙ ap (λ b. option_map (λ m. root_volume k p.device.reads (or_empty (p.live h)) m) b) is in
-      ap (λ b. option_map (λ m. root_volume k p.device.reads (or_empty (live_of w h)) m) b)
-      (given_elsewhere p.base head new h ne ∙ is)
-      ∙ ap (λ b. option_map (λ m. root_volume k p.device.reads (or_empty (option_map (λ y. y.live) b)) m) o)
-      (to.others h ne ∙ shows)
-      ∙ read_again o ∙ sym (to.others h ne ∙ shows)
-    where
-      read_again : (o : Option Meta)
-          → option_map (λ m. root_volume k p.device.reads (or_empty (option_map (λ (y : Volume). y.live)
-          (option_map (λ m. root_volume k p.device.reads (or_empty (p.live h)) m) o))) m) o
-          ≡ option_map (λ m. root_volume k p.device.reads (or_empty (p.live h)) m) o
-      read_again None = refl
-      read_again (Some m) = refl
+      → option_map (by (with_entry p.base head new) (or_empty (live_of w h)) h) o ≡ w h
+  elsewhere h ne None is = sym (to.others h ne ∙ shown_is h ∙ ap (λ o. option_map (by p.base (or_empty (p.live h)) h) o)
+      is)
+  elsewhere h ne (Some m) is =
+      let shows : w h ≡ Some (by p.base (or_empty (p.live h)) h m) =
+      to.others h ne ∙ shown_is h ∙ ap (λ o. option_map (by p.base (or_empty (p.live h)) h) o) is in
+      let live : or_empty (live_of w h) ≡ or_empty (p.live h) =
+      ap (λ o. or_empty (option_map (λ (y : Volume). y.live) o)) shows in
+      ap (λ (xs : Xattrs). Some (by (with_entry p.base head new) xs h m)) live
+      ∙ ap (λ (v : Volume). Some v) (volume_alike k p.device.reads p.base (with_entry p.base head new) alike s.md_len
+      (or_empty (p.live h)) (or_empty (p.live h)) h m m.xattrs)
+      ∙ sym shows
 
   -- once the head is written, what is shown is the step's
-  pub shown_synced : (q : StoreState) → q.super ≡ s → q.base ≡ with_entry p.base head new → q.live ≡ live_of w → 0 < k
-      → ((page : ℕ) → fixed_clusters_of s * k ≤ page → q.device.reads page ≡ p.device.reads page) → shown q ≡ w
-  shown_synced q q_super base live some same =
-      shown_as_roots s (with_entry p.base head new) new_roots q q_super base
-      ∙ ap (λ (l : Map Xattrs). shown_roots k q.device.reads l (with_entry p.base head new)) live
-      ∙ roots_same s (with_entry p.base head new) new_roots p.device.reads q.device.reads same some (live_of w)
-      ∙ fun_ext (λ h. at h)
+  pub shown_synced : shown_of s (with_entry p.base head new) (live_of w) p.device.reads ≡ w
+  shown_synced = fun_ext (λ h. ap (λ (m : Metas). shown_by (fixed_of s) p.device.reads m (live_of w) h)
+      (alone_resolved s (with_entry p.base head new) new_loadable) ∙ at h)
     where
-      at : (h : ℕ) → shown_roots k p.device.reads (live_of w) (with_entry p.base head new) h ≡ w h
+      at : (h : ℕ)
+          → option_map (by (with_entry p.base head new) (or_empty (live_of w h)) h) (with_entry p.base head new h)
+          ≡ w h
       at h = elim (cases_eq h head) [
         | inl e ↦
-            subst (λ n. shown_roots k p.device.reads (live_of w) (with_entry p.base head new) n ≡ w n) (sym e) here
-        | inr ne ↦ elsewhere h ne (p.base h) refl
+            ap (λ o. option_map (by (with_entry p.base head new) (or_empty (live_of w h)) h) o)
+            (given_here p.base head new h e)
+            ∙ subst (λ n. Some (by (with_entry p.base head new) (or_empty (live_of w n)) n new) ≡ w n) (sym e)
+            (ap (λ (xs : Xattrs). Some (by (with_entry p.base head new) xs head new))
+            (ap (λ o. or_empty (option_map (λ (y : Volume). y.live) o)) asks.step) ∙ here)
+        | inr ne ↦
+            ap (λ o. option_map (by (with_entry p.base head new) (or_empty (live_of w h)) h) o)
+            (given_elsewhere p.base head new h ne)
+            ∙ elsewhere h ne (p.base h) refl
       ]

@@ -10,7 +10,7 @@ use Rattle.std.proofs.lemmas.Bool.Decides.{nat_tests}
 use Rattle.std.proofs.lemmas.Slice.Eq.{bytes_eq-Decides}
 use Rattle.volume_model.specs.Volumes.{Fixed, Volume, Volumes, head_of, is_super}
 use Rattle.volume_model.specs.Xattrs.{Xattrs, with_value, without}
-use Rattle.volume_model.specs.Refusals.{is_reserved, refusal}
+use Rattle.volume_model.specs.Refusals.{Causes, is_reserved, refusal}
 use Rattle.volume_model.specs.Steps.{Allowed, change, edited_at, IsRefusal}
 use Rattle.volume_model.specs.declared.text.Xattr.{Xattr}
 use Rattle.volume_model.specs.declared.command.VolumeRef.{VolumeRef}
@@ -85,13 +85,17 @@ written_without xs key can =
 
 -- ---- what a cause says that doesn't hold
 
+pub none_holds : (causes : Causes)
+    → option_map (λ (cause : Bool × Reply). cause.1) (find (λ (cause : Bool × Reply). cause.0) causes) ≡ None
+    → AllByRecursion (λ (cause : Bool × Reply). cause.0 ≡ false) causes
+none_holds [] none = tt
+none_holds ((true, reply) ∷ causes) none = absurd (cc none)
+none_holds ((false, reply) ∷ causes) none = (refl, none_holds causes none)
+
 none_third : (a b c : Bool) (x y z : Reply)
     → option_map (λ (cause : Bool × Reply). cause.1) (find (λ cause. cause.0) ((a, x) ∷ (b, y) ∷ (c, z) ∷ [])) ≡ None
     → c ≡ false
-none_third false false false x y z none = refl
-none_third false false true x y z none = absurd (cc none)
-none_third false true c x y z none = absurd (cc none)
-none_third true b c x y z none = absurd (cc none)
+none_third a b c x y z none = (none_holds ((a, x) ∷ (b, y) ∷ (c, z) ∷ []) none).1.1.0
 
 module _ (f : Fixed) (v : Volumes) (volume : VolumeRef) (head : ℕ) (x : Volume) (found : head_of f v volume ≡ Some head)
     (there : v head ≡ Some x) (key value : List ℕ) where
@@ -205,12 +209,8 @@ module _ (f : Fixed) (v : Volumes) (writable : AllWritable v) where
     in_memory (c.DelX volume key) (r.List list) is allowed = absurd allowed.1
     in_memory (c.DelX volume key) (r.Df df) is allowed = absurd allowed.1
     in_memory (c.DelX volume key) reply is allowed = refused (c.DelX volume key) reply tt allowed
-    in_memory (c.GetX volume key) r.Ok is allowed = absurd allowed.1
-    in_memory (c.GetX volume key) (r.Made h) is allowed = absurd allowed.1
-    in_memory (c.GetX volume key) (r.Content page) is allowed = absurd allowed.1
-    in_memory (c.GetX volume key) (r.Value x) is allowed = unchanged _ (λ h. refl)
-    in_memory (c.GetX volume key) (r.Info info) is allowed = absurd allowed.1
-    in_memory (c.GetX volume key) (r.List list) is allowed = absurd allowed.1
-    in_memory (c.GetX volume key) (r.Df df) is allowed = absurd allowed.1
-    in_memory (c.GetX volume key) reply is allowed = refused (c.GetX volume key) reply tt allowed
+    in_memory (c.GetX volume key) reply is allowed = unchanged _ (λ h. refl)
+    in_memory (c.Info volume) reply is allowed = unchanged _ (λ h. refl)
+    in_memory c.List reply is allowed = unchanged _ (λ h. refl)
+    in_memory c.Df reply is allowed = unchanged _ (λ h. refl)
     in_memory _ reply is allowed = absurd is

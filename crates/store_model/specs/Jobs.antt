@@ -1,6 +1,7 @@
--- What a command asks a job to do, and what is known of a job while it runs.
-use Rattle.std.specs.Prelude.{◌≡◌, ◌⊎◌, ℕ, ◌+◌, ◌*◌, ◌<◌, ◌≤◌, if◌then◌else◌, Bool, true, false, List, [], ◌∷◌, ◌++◌}
-use Rattle.std.specs.Prelude.{length, map, Option, Some, None, IsSome}
+-- How a job is laid on pages, and what is known of it while it runs.
+use Rattle.std.specs.Prelude.{◌≡◌, ◌⊎◌, ℕ, ◌+◌, ◌*◌, ◌^◌, ◌<◌, ◌≤◌, if◌then◌else◌, Bool, true, false, List, [], ◌∷◌}
+use Rattle.std.specs.Prelude.{◌++◌}
+use Rattle.std.specs.Prelude.{length, map, Option, Some, None, IsSome, is_some}
 use Rattle.std.specs.List.{AllByRecursion, flat_map, range_with_len}
 use Rattle.std.specs.Option.{option_map}
 use Rattle.page_disk.specs.Disk.{Image}
@@ -10,65 +11,32 @@ use Rattle.super_block.specs.declared.page.Super.{Super}
 use Rattle.super_block.specs.Numbers.{cluster_pages_of, fixed_clusters_of}
 use Rattle.volume_model.specs.Volumes.{Volume, Volumes, zero_page}
 use Rattle.volume_model.specs.Xattrs.{Xattrs}
-use Rattle.volume_model.specs.Steps.{Allowed, change, named_head}
-use Rattle.volume_model.specs.Refusals.{refusal}
+use Rattle.volume_model.specs.Steps.{Allowed, change}
 use Rattle.volume_model.specs.declared.command.Command.{Command}
-use Rattle.volume_model.specs.declared.command.Command.TheVariants as c
 use Rattle.volume_model.specs.declared.reply.Reply.TheVariants as r
 use Rattle.blob_meta.specs.declared.meta.Meta.{Meta}
-use Rattle.blob_meta.specs.declared.job.Job.{Job as Changes}
 use Rattle.blob_meta.specs.declared.job.Replacement.{Replacement}
 use Rattle.blob_meta.specs.Items.{IsItemsOf}
-use Rattle.blob_meta.specs.Jobs.{job_of_one}
-use Rattle.blob_meta.specs.Resolving.{IsLawful}
+use Rattle.blob_meta.specs.Resolving.{IsLawful, resolved, slots_together}
 use Rattle.md_chain.specs.Chain.{is_among}
 use Rattle.md_chain.specs.Packing.{parts_of}
 use Rattle.md_chain.specs.Planned.{chain_pages}
 use Rattle.md_chain.specs.declared.plan.PlannedPage.{PlannedPage}
-use Rattle.store_model.specs.Maps.{Map, Metas, Chains}
+use Rattle.store_model.specs.Maps.{Map, Metas, Chains, with_option}
 use Rattle.store_model.specs.Regions.{region_of}
 use Rattle.store_model.specs.Scans.{MetaAt}
-use Rattle.store_model.specs.Shown.{fixed_of}
-use Rattle.store_model.specs.Agreeing.{shown_by}
+use Rattle.store_model.specs.Shown.{fixed_of, shown_by}
 use Rattle.store_model.specs.Recovers.{IsChangeDone}
 use Rattle.store_model.specs.Rows.{InJob}
-use Rattle.store_model.specs.Roots.{CanBeWritten, IsRoot}
+use Rattle.store_model.specs.Loadable.{CanBeWritten, IsLoadable}
 use Rattle.store_model.specs.Inserting.{with_slot}
 use Rattle.store_model.specs.Places.{all_set, AreDistinct, AreLeastClear, IsMapped}
 use Rattle.store_model.specs.Phases.{Phase, Committing, with_live, Marks, Zeros, Writes, Replaces, Erases, Frees}
 use Rattle.store_model.specs.Phases.{Replacing, page_in, held_in, taken_by, taken_in, has_commit, replaced, rechained}
-use Rattle.store_model.specs.StoreState.{ForCommand, JobState, StoreState, live_of, shown}
+use Rattle.store_model.specs.Phases.{chain_before}
+use Rattle.store_model.specs.StoreState.{ForCommand, JobState, StoreState, live_of}
 
--- ---- what a command asks for
-
--- the verbs that replace a blob's metadata so that its attributes are synced
-abbrev pub IsSyncing : Command → Type 0
-IsSyncing (c.Put volume key value) = Unit {0}
-IsSyncing (c.Sync volume) = Unit {0}
-IsSyncing _ = ⊥
-
--- A command that nothing refuses, with the blob that it means and the metadata that it makes: as it was, but that the
--- attributes are those which the step makes synced.
-pub record AsksFor (p : StoreState) (command : Command) (head : ℕ) (new : Meta) : Type 0 where
-  pub syncing : IsSyncing command
-  pub asked : refusal (fixed_of p.super) (shown p) command ≡ None
-  pub found : named_head (fixed_of p.super) (shown p) command ≡ Some head
-  pub old : Meta
-  pub there : p.base head ≡ Some old
-  pub after : Volume
-  pub step : change (fixed_of p.super) (shown p) command r.Ok head ≡ Some after
-  pub new_is : new ≡ record old { xattrs = after.synced }
-
--- The changes that a command asks for, and what their commit makes: a verb that syncs has one replacement, with which
--- the blob's attributes are read as they are synced, and renews no generation.
-pub record IsJobFor (p : StoreState) (command : Command) (changes : Changes) (commit : Committing) : Type 0 where
-  pub head : ℕ
-  pub new : Meta
-  pub is : changes ≡ job_of_one head new
-  pub asks : AsksFor p command head new
-  pub commit_is : commit ≡ record { reply = r.Ok; live = Some new.xattrs; renews = [] }
-
--- ---- how it is laid on pages
+-- ---- how changes are laid on pages
 
 -- how many fresh pages the metadata needs: those of its chain but for the head
 pub record Needs (new : Meta) (count : ℕ) : Type 0 where
@@ -76,10 +44,28 @@ pub record Needs (new : Meta) (count : ℕ) : Type 0 where
   pub are : IsItemsOf new items
   pub chain : length (parts_of items) ≡ count + 1
 
--- fewer pages are clear than the metadata needs
-pub record LacksPages (new : Meta) (bits : List Bool) : Type 0 where
+-- Fewer pages are clear than the metadata of a blob needs, which is there or new: a new one needs one for its head too.
+pub record LacksPages (there : Bool) (new : Meta) (bits : List Bool) : Type 0 where
   pub count : ℕ
   pub needs : Needs new count
+  pub lacking : clear_in bits < (if there then count else count + 1)
+
+-- so many pages are taken for new metadata, the head's among them where no blob is there, and none for an erased blob
+abbrev pub Takes : Bool → Option Meta → ℕ → Type 0
+Takes there (Some new) count = (fresh : ℕ) × Needs new fresh × (count ≡ (if there then fresh else fresh + 1))
+Takes there None count = count ≡ 0
+
+-- So many are taken for replacements, each over what the one before it leaves.
+abbrev pub AllTake : Metas → List Replacement → ℕ → Type 0
+AllTake base [] count = count ≡ 0
+AllTake base (x ∷ xs) count =
+    (first : ℕ) × (others : ℕ) × Takes (is_some (base x.head)) x.new first
+    × AllTake (with_option base x.head x.new) xs others × (count ≡ first + others)
+
+-- fewer pages are clear than the replacements take
+pub record LacksPagesFor (base : Metas) (list : List Replacement) (bits : List Bool) : Type 0 where
+  pub count : ℕ
+  pub take : AllTake base list count
   pub lacking : clear_in bits < count
 
 -- The planned pages are just those on which the items of the new metadata are packed.
@@ -120,7 +106,9 @@ pub record IsLaid (s : Super) (base : Metas) (chains : Chains) (pages : List Boo
     (r : Replacing) : Type 0 where
   pub head : r.head ≡ x.head
   pub new : r.new ≡ x.new
-  pub chain : chains r.head ≡ (if r.makes then None else Some (r.head ∷ r.old))
+  pub chain : chains r.head ≡ chain_before r
+  -- where the blob is new nothing is erased
+  pub unerased : r.makes ≡ true → r.old ≡ []
   pub planned : IsJobPlanned s pages x.new r
   pub clusters : MovesClusters s base (replaced base r) r.freed claimed
 
@@ -144,6 +132,11 @@ abbrev pub with_zeroed : List Replacement → List ℕ → List ℕ → List Rep
 with_zeroed [] slots clusters = []
 with_zeroed (x ∷ xs) slots clusters = record x { new = option_map (λ m. with_clusters m slots clusters) x.new } ∷ xs
 
+-- The clusters that slots of zeros get: the least clear ones, one each; or none at all, where fewer are clear.
+pub record AreForZeros (bits : List Bool) (slots claimed : List ℕ) : Type 0 where
+  pub least : AreLeastClear bits claimed
+  pub count : (length claimed ≡ length slots) ⊎ ((claimed ≡ []) × (clear_in bits < length slots))
+
 -- each page of these clusters is overwritten with zeros
 abbrev pub zeroing : Super → List ℕ → List Phase
 zeroing s clusters =
@@ -152,17 +145,19 @@ zeroing s clusters =
 
 -- ---- what is left of a job
 
--- A replacement can be made once its fresh pages are written: it is planned on places that differ, and leaves lawful
--- metadata.
+-- A replacement can be made once its fresh pages are written: it is planned on places that differ, and leaves metadata
+-- that resolves to lawful one.
 pub record CanReplace (s : Super) (base : Metas) (chains : Chains) (claimed written : List ℕ)
     (r : Replacing) : Type 0 where
   pub all : written ≡ r.fresh
   pub places : places_of r.planned ≡ r.head ∷ r.fresh
   pub says : (m : Meta) → r.new ≡ Some m → MetaAt (page_in r.planned) (region_of s) r.head m (r.head ∷ r.fresh)
-  pub root : (m : Meta) → r.new ≡ Some m → IsRoot s r.head m
+  pub loadable : (m : Meta) → r.new ≡ Some m → IsLoadable s r.head m
   pub gone : r.new ≡ None → r.fresh ≡ []
-  pub chain : chains r.head ≡ (if r.makes then None else Some (r.head ∷ r.old))
-  pub lawful : IsLawful s.md_len (replaced base r)
+  pub chain : chains r.head ≡ chain_before r
+  pub unerased : r.makes ≡ true → r.old ≡ []
+  pub few : slots_together s.md_len (replaced base r) ≤ 2 ^ 24
+  pub lawful : IsLawful s.md_len (resolved (replaced base r))
   pub clusters : MovesClusters s base (replaced base r) r.freed claimed
 
 -- What is left can be done, phase by phase, over this metadata and these chains, where these fresh pages are written. A
@@ -180,9 +175,9 @@ Lays s base chains claimed written (Erases place ∷ rest) =
 Lays s base chains claimed written (Frees place old ∷ rest) =
     (written ≡ []) × (is_among place old ≡ true) × (held_in rest ≡ taken_in rest) × Lays s base chains claimed [] rest
 
--- the volumes that this metadata shows with these live attributes, by what a device holds
+-- the volumes that this metadata shows once it is resolved, with these live attributes, by what a device holds
 abbrev pub shown_of : Super → Metas → Map Xattrs → Image → Volumes
-shown_of s base live image = shown_by (fixed_of s) image base live
+shown_of s base live image = shown_by (fixed_of s) image (resolved base) live
 
 -- The volumes are shown as they are while these phases are made, whatever a device holds.
 abbrev pub Keeps : Super → Metas → Map Xattrs → List Phase → Type 0
@@ -193,7 +188,7 @@ Keeps s base live (Replaces r commit ∷ rest) =
 Keeps s base live (_ ∷ rest) = Keeps s base live rest
 
 -- On whatever device, the command may be done with this reply, and may fail; then the metadata shows its step, and has
--- the blobs whose generations are renewed.
+-- the blobs whose generations are renewed, a new one among them.
 pub record IsStep (s : Super) (base : Metas) (replacing : Replacing) (live : Map Xattrs) (command : Command)
     (commit : Committing) : Type 0 where
   pub done : IsChangeDone commit.reply
@@ -209,6 +204,7 @@ pub record IsStep (s : Super) (base : Metas) (replacing : Replacing) (live : Map
   pub writable : (image : Image) (head : ℕ) (v : Volume)
       → change (fixed_of s) (shown_of s base live image) command commit.reply head ≡ Some v → CanBeWritten v.live
   pub renews : AllByRecursion (λ head. IsSome (replaced base replacing head)) commit.renews
+  pub numbers : replacing.makes ≡ true → is_among replacing.head commit.renews ≡ true
 
 -- The volumes are shown as they are up to the commit, and from it on as the command's step makes them.
 abbrev pub Does : Super → Metas → Map Xattrs → Command → List Phase → Type 0

@@ -8,14 +8,17 @@ use Rattle.std.specs.Prelude.{Bool}
 use Rattle.store_model.specs.StoreState.{StoreState}
 use Rattle.store_model.specs.Later.ClaimTurns.{Claims, FindsEmpty, FindsFilled, RefusesClaim}
 use Rattle.store_model.specs.Later.CopyTurns.{Copies, CopyFails, CopyNotRead, LosesCopy}
-use Rattle.store_model.specs.Later.InsertTurns.{BeginsInsert, InsertEnds, Inserts, LacksForInsert, LosesInsert, Sends}
-use Rattle.store_model.specs.Later.FillTurns.{ClaimsFill, EndsFill, LacksForFill}
-use Rattle.store_model.specs.Later.JobPhaseTurns.{BeginsRepair, CommitsMore, MarksDirty, ReplacesMore, Zeroes}
+use Rattle.store_model.specs.Later.InsertTurns.{BeginsInsert, InsertBreaksDown, InsertEnds, InsertFails, Inserts}
+use Rattle.store_model.specs.Later.InsertTurns.{LacksForInsert, LosesInsert, Sends}
+use Rattle.store_model.specs.Later.FillTurns.{ClaimsFill, EndsFill, HaltsFill, LacksForFill}
+use Rattle.store_model.specs.Later.JobPhaseTurns.{BeginsRepair, CommitsMore, MarksDirty, MoreBreaksOff, MoreFails}
+use Rattle.store_model.specs.Later.JobPhaseTurns.{ReplacesMore, Zeroes}
 
 pub data LaterKind : Type 0 where
   finds_empty finds_filled claims refuses_claim copies loses_copy copy_not_read copy_fails sends begins_insert
-      loses_insert lacks_for_insert inserts insert_ends claims_fill lacks_for_fill ends_fill marks_dirty zeroes
-      replaces_more commits_more begins_repair : LaterKind
+      loses_insert lacks_for_insert inserts insert_ends insert_fails insert_breaks_down claims_fill lacks_for_fill
+      halts_fill ends_fill marks_dirty zeroes replaces_more commits_more more_fails more_breaks_off
+      begins_repair : LaterKind
 
 module _ (told : Bool) where
   abbrev pub LaterTurn : StoreState → LaterKind → StoreState → Type 0
@@ -33,11 +36,16 @@ module _ (told : Bool) where
   LaterTurn p lacks_for_insert q = LacksForInsert p q
   LaterTurn p inserts q = Inserts told p q
   LaterTurn p insert_ends q = InsertEnds told p q
+  LaterTurn p insert_fails q = InsertFails p q
+  LaterTurn p insert_breaks_down q = InsertBreaksDown p q
   LaterTurn p claims_fill q = ClaimsFill p q
   LaterTurn p lacks_for_fill q = LacksForFill p q
+  LaterTurn p halts_fill q = HaltsFill p q
   LaterTurn p ends_fill q = EndsFill p q
   LaterTurn p marks_dirty q = MarksDirty told p q
   LaterTurn p zeroes q = Zeroes told p q
   LaterTurn p replaces_more q = ReplacesMore told p q
   LaterTurn p commits_more q = CommitsMore told p q
+  LaterTurn p more_fails q = MoreFails p q
+  LaterTurn p more_breaks_off q = MoreBreaksOff p q
   LaterTurn p begins_repair q = BeginsRepair p q

@@ -6,7 +6,7 @@ use Rattle.blob_meta.specs.declared.meta.Meta.{Meta}
 use Rattle.md_chain.specs.Chain.{Look}
 use Rattle.md_chain.specs.declared.plan.PlannedPage.{PlannedPage}
 use Rattle.volume_model.specs.Xattrs.{Xattrs}
-use Rattle.store_model.specs.Maps.{Map, Metas, Chains, with_entry}
+use Rattle.store_model.specs.Maps.{Map, Metas, Chains, with_entry, with_option}
 
 -- The metadata of the blob at a head replaced by new metadata, or, where there is none, the blob erased, as it is laid
 -- on pages: the head's page is replaced in place, those behind it go to fresh places, and those that stood behind it
@@ -89,6 +89,10 @@ planned_in (_ ∷ rest) place = planned_in rest place
 abbrev pub taken_by : Replacing → List ℕ
 taken_by r = if r.makes then r.head ∷ r.fresh else r.fresh
 
+-- the chain that stands at the head before a replacement: none where the blob is new
+abbrev pub chain_before : Replacing → Option (List ℕ)
+chain_before r = if r.makes then None else Some (r.head ∷ r.old)
+
 -- the places that all replacements to come take
 abbrev pub taken_in : List Phase → List ℕ
 taken_in [] = []
@@ -105,10 +109,10 @@ held_in (_ ∷ rest) = held_in rest
 
 -- the metadata and the chains once the replacement is made
 abbrev pub replaced : Metas → Replacing → Metas
-replaced base r head = if head == r.head then r.new else base head
+replaced base r = with_option base r.head r.new
 
 abbrev pub rechained : Chains → Replacing → Chains
-rechained chains r head = if head == r.head then option_map (λ m. r.head ∷ r.fresh) r.new else chains head
+rechained chains r = with_option chains r.head (option_map (λ m. r.head ∷ r.fresh) r.new)
 
 -- the attributes as they are read behind a commit
 abbrev pub with_live : Map Xattrs → ℕ → Option Xattrs → Map Xattrs

@@ -1,14 +1,14 @@
 -- What every state of a run has: plain data alone, whatever the device may leave after a crash.
-use Rattle.std.specs.Prelude.{◌≡◌, ◌≢◌, ℕ, ◌+◌, ◌<◌, ◌≤◌, List, [], ◌∷◌, ◌++◌, length, Some, None, All, true}
+use Rattle.std.specs.Prelude.{◌≡◌, ◌≢◌, ℕ, ◌+◌, ◌^◌, ◌<◌, ◌≤◌, List, [], ◌∷◌, ◌++◌, length, Some, None, All, true}
 use Rattle.volume_model.specs.Volumes.{Volumes}
 use Rattle.volume_model.specs.Xattrs.{Xattrs}
 use Rattle.volume_model.specs.Logs.{replay, IsLegal, Numbered}
 use Rattle.volume_model.specs.declared.command.Command.{Command}
 use Rattle.super_block.specs.declared.page.Super.{Super}
 use Rattle.blob_meta.specs.declared.meta.Meta.{Meta}
-use Rattle.blob_meta.specs.Resolving.{IsLawful}
+use Rattle.blob_meta.specs.Resolving.{IsLawful, resolved, slots_together}
 use Rattle.md_chain.specs.Chain.{is_among}
-pub use Rattle.store_model.specs.Roots.{CanBeWritten, IsRoot, AreRoots}
+pub use Rattle.store_model.specs.Loadable.{CanBeWritten, IsLoadable, AreLoadable}
 use Rattle.store_model.specs.Maps.{Metas, Chains}
 use Rattle.store_model.specs.Shown.{fixed_of}
 use Rattle.store_model.specs.Rows.{Copying, entries_of, InJob, OpenClaim, Posted, Ended, Ready, Row, Stage}
@@ -59,15 +59,15 @@ pub record IsShaped (p : StoreState) : Type 0 where
   pub served : (job : JobState) (channel : ℕ) → p.job ≡ Some job → job.serves ≡ ForCommand channel
       → has_commit job.todo ≡ true → IsServedRow (p.rows channel)
   pub ended : (channel : ℕ) → (p.rows channel).stage ≡ Ended → (p.rows channel).left ≡ []
-  -- a claim is held from when it is made until its insert is decided
+  -- a claim is held from when it is made until it is inserted or given back
   pub claims : (channel : ℕ) (claim : OpenClaim) → (p.rows channel).claim ≡ Some claim → MayClaim (p.rows channel).stage
 
 -- while the store runs: what it has in memory is what the device says, and the volumes shown are the log's replay
 pub record RunsWell (first : Volumes) (p : StoreState) : Type 0 where
   pub chains : HaveChains p.super p.base p.chains
-  pub live : (head : ℕ) (m : Meta) → p.base head ≡ Some m
+  pub live : (head : ℕ) (m : Meta) → resolved p.base head ≡ Some m
       → (xattrs : Xattrs) × (p.live head ≡ Some xattrs) × CanBeWritten xattrs
-  pub no_live : (head : ℕ) → p.base head ≡ None → p.live head ≡ None
+  pub no_live : (head : ℕ) → resolved p.base head ≡ None → p.live head ≡ None
   pub pages : UsedPages p.super.md_len p.pages p.chains (held_by p.job)
   pub clusters : UsedClusters p.super p.clusters p.base (HasClaim p.rows p.job)
   pub claims : ClaimsDiffer p.rows p.job
@@ -78,8 +78,9 @@ pub record RunsWell (first : Volumes) (p : StoreState) : Type 0 where
 
 pub record RunInvariant (s : Super) (first : Volumes) (script : ℕ → List Command) (p : StoreState) : Type 0 where
   pub super : p.super ≡ s
-  pub roots : AreRoots s p.base
-  pub lawful : IsLawful s.md_len p.base
+  pub loadable : AreLoadable s p.base
+  pub few : slots_together s.md_len p.base ≤ 2 ^ 24
+  pub lawful : IsLawful s.md_len (resolved p.base)
   pub legal : IsLegal (fixed_of s) first p.log
   pub well : p.stopped ≡ None → RunsWell first p
   pub way : (channel : ℕ) → OnItsWay p script channel

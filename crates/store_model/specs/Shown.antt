@@ -1,5 +1,6 @@
 -- The volumes that metadata and an image show.
-use Rattle.std.specs.Prelude.{ℕ, zero, suc, ◌+◌, ◌*◌, ◌/◌, ◌%◌, nat_lt, if◌then◌else◌, Option, Some, None, length, map}
+use Rattle.std.specs.Prelude.{[], ℕ, zero, suc, ◌+◌, ◌*◌, ◌/◌, ◌%◌, nat_lt, if◌then◌else◌, Option, Some, None, length}
+use Rattle.std.specs.Prelude.{map}
 use Rattle.std.specs.List.{range_with_len}
 use Rattle.std.specs.Option.{option_map, option_map_or}
 use Rattle.page_disk.specs.Disk.{Image}
@@ -10,7 +11,7 @@ use Rattle.volume_model.specs.Xattrs.{Xattrs}
 use Rattle.blob_meta.specs.declared.meta.Meta.{Meta}
 use Rattle.blob_meta.specs.Faults.{is_thin}
 use Rattle.blob_meta.specs.Parents.{head_of_id, parent_of, slot, is_read_only, is_locked}
-use Rattle.store_model.specs.Maps.{Metas}
+use Rattle.store_model.specs.Maps.{Map, Metas}
 
 -- what a super block fixes for volumes
 abbrev pub fixed_of : Super → Fixed
@@ -44,6 +45,11 @@ module _ (cluster_pages : ℕ) (image : Image) (metas : Metas) where
     parent = parent_of m;
   }
 
--- what an image shows that says this metadata: each attribute is live as it is synced
+-- what an image shows that says this metadata, with these attributes live
+abbrev pub shown_by : Fixed → Image → Metas → Map Xattrs → Volumes
+shown_by f image metas live head = option_map
+    (λ m. volume_of f.cluster_pages image metas f.md_len (option_map_or (λ xs. xs) (live head) []) head m) (metas head)
+
+-- each attribute being live as it is synced
 abbrev pub shows : Fixed → Image → Metas → Volumes
 shows f image metas head = option_map (λ m. volume_of f.cluster_pages image metas f.md_len m.xattrs head m) (metas head)

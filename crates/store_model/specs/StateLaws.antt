@@ -1,5 +1,6 @@
 -- The laws of the turns of a running store, and of what an image recovers of it.
-use Rattle.std.specs.Prelude.{◌≡◌, ◌≢◌, ℕ, true, false, ◌*◌, ◌≤◌, ◌++◌, ◌∷◌, [], Bool, List, All, slice_get, Some, None}
+use Rattle.std.specs.Prelude.{◌≡◌, ◌≢◌, ℕ, true, false, ◌*◌, ◌^◌, ◌<◌, ◌≤◌, ◌++◌, ◌∷◌, [], Bool, List, All, slice_get}
+use Rattle.std.specs.Prelude.{Some, None}
 use Rattle.page_disk.specs.Disk.{Image, Rose}
 use Rattle.super_block.specs.declared.page.Super.{Super}
 use Rattle.super_block.specs.Numbers.{cluster_pages_of, fixed_clusters_of}
@@ -10,8 +11,11 @@ use Rattle.volume_model.specs.Volumes.{Volumes, zero_page}
 use Rattle.volume_model.specs.declared.command.Command.{Command}
 use Rattle.volume_model.specs.declared.reply.Reply.TheVariants as r
 use Rattle.volume_model.specs.declared.reply.Entry.{Entry}
+use Rattle.blob_meta.specs.declared.job.Job.{Job as Changes}
+use Rattle.blob_meta.specs.declared.job.Replacement.{Replacement}
 use Rattle.blob_meta.specs.declared.meta.Meta.{Meta}
-use Rattle.blob_meta.specs.Resolving.{IsLawful}
+use Rattle.store_model.specs.Phases.{Committing}
+use Rattle.blob_meta.specs.Resolving.{IsLawful, resolved, slots_together}
 use Rattle.store_model.specs.Maps.{with_entry, Metas, Chains}
 use Rattle.store_model.specs.Regions.{region_of, MdRegion}
 use Rattle.store_model.specs.Scans.{is_head, MetaAt, Says, Scanned}
@@ -19,22 +23,23 @@ use Rattle.store_model.specs.Cases.{IsQuiet}
 use Rattle.store_model.specs.StoreState.{Opens, StoreState, shown}
 use Rattle.store_model.specs.Guarding.{AreGenerations}
 use Rattle.store_model.specs.Places.{Unclaimed, UsedClusters, UsedPages}
-use Rattle.store_model.specs.Jobs.{AsksFor}
+use Rattle.store_model.specs.Asking.{IsJobFor}
 use Rattle.store_model.specs.Cases.{Kind, Run, Turn}
-use Rattle.store_model.specs.RunInvariant.{AreRoots, RunInvariant, HaveChains, IsRoot}
+use Rattle.store_model.specs.RunInvariant.{AreLoadable, RunInvariant, HaveChains, IsLoadable}
 use Rattle.store_model.specs.Recovers.{HasStore, Recovers}
 
 -- what a store is loaded with: nothing of a job, each attribute live as it is synced, and each blob with a generation
 -- of its own
 pub record IsLoadedWith (s : Super) (p : StoreState) : Type 0 where
   pub super : p.super ≡ s
-  pub roots : AreRoots s p.base
-  pub lawful : IsLawful s.md_len p.base
+  pub loadable : AreLoadable s p.base
+  pub few : slots_together s.md_len p.base ≤ 2 ^ 24
+  pub lawful : IsLawful s.md_len (resolved p.base)
   pub chains : HaveChains s p.base p.chains
   pub pages : UsedPages s.md_len p.pages p.chains []
   pub clusters : UsedClusters s p.clusters p.base Unclaimed
-  pub live : (head : ℕ) (m : Meta) → p.base head ≡ Some m → p.live head ≡ Some m.xattrs
-  pub no_live : (head : ℕ) → p.base head ≡ None → p.live head ≡ None
+  pub live : (head : ℕ) (m : Meta) → resolved p.base head ≡ Some m → p.live head ≡ Some m.xattrs
+  pub no_live : (head : ℕ) → resolved p.base head ≡ None → p.live head ≡ None
   pub generations : AreGenerations p.base p.generations p.drawn
 
 -- the two images are the same behind the fixed clusters
@@ -50,10 +55,11 @@ pub record StateLaws : Type 0 where
       → IsPlaced s → RunInvariant s first script p → Turn told p kind q → RunInvariant s first script q
   pub go_on : (told : Bool) (p q r : StoreState) (kinds : List Kind) (kind : Kind) → Run told p kinds q
       → Turn told q kind r → Run told p (kinds ++ kind ∷ []) r
-  -- the metadata that a job is to write can be written
+  -- the metadata that a job without slots of zeros is to write can be written, at a head of the region
   pub writable : (s : Super) (first : Volumes) (script : ℕ → List Command) (p : StoreState) (command : Command)
-      (head : ℕ) (new : Meta) → RunInvariant s first script p → p.stopped ≡ None → AsksFor p command head new
-      → IsRoot s head new
+      (changes : Changes) (commit : Committing) → IsPlaced s → RunInvariant s first script p → p.stopped ≡ None
+      → IsJobFor p command changes commit → changes.zero ≡ [] → (x : Replacement) (new : Meta)
+      → changes.list ≡ x ∷ [] → x.new ≡ Some new → x.head < s.md_len → IsLoadable s x.head new
   -- An image with this store, which says the metadata that the store has, recovers the whole log.
   pub recovers : (s : Super) (first : Volumes) (script : ℕ → List Command) (p : StoreState) (image : Image) → IsPlaced s
       → RunInvariant s first script p → p.stopped ≡ None
@@ -83,11 +89,11 @@ pub record JobLaws : Type 0 where
   pub zeros : (place : ℕ) → is_head place zero_page ≡ false
   pub fresh : (planned : Look) (r : MdRegion) (head : ℕ) (new : Meta) (fresh : List ℕ) (place : ℕ)
       → MetaAt planned r head new (head ∷ fresh) → is_among place fresh ≡ true → is_head place (planned place) ≡ false
-  -- Where the fresh pages are read as planned, and the head's page is the planned one, the metadata and the chain are
-  -- the new ones.
+  -- Where the fresh pages are read as planned, and the head's page, which no other blob's chain has, is the planned
+  -- one, the metadata and the chain are the new ones, whether the blob was there or not.
   pub replaced : (look other planned : Look) (r : MdRegion) (metas : Metas) (chains : Chains) (head : ℕ)
-      (new : Meta) (fresh old : List ℕ) → Scanned look r metas chains → MetaAt planned r head new (head ∷ fresh)
-      → chains head ≡ Some (head ∷ old)
+      (new : Meta) (fresh : List ℕ) → Scanned look r metas chains → MetaAt planned r head new (head ∷ fresh)
+      → ((k : ℕ) (pages : List ℕ) → k ≢ head → chains k ≡ Some pages → is_among head pages ≡ false)
       → ((place : ℕ) → is_among place fresh ≡ true → look place ≡ planned place)
       → other head ≡ planned head → ((place : ℕ) → place ≢ head → other place ≡ look place)
       → Scanned other r (with_entry metas head new) (with_entry chains head (head ∷ fresh))

@@ -8,10 +8,11 @@ use Rattle.volume_model.specs.Xattrs.{Xattrs}
 use Rattle.volume_model.specs.declared.command.Command.{Command}
 use Rattle.volume_model.specs.declared.reply.Reply.{Reply}
 use Rattle.volume_model.specs.declared.reply.Entry.{Entry}
+use Rattle.blob_meta.specs.Resolving.{resolved}
 use Rattle.md_chain.specs.Chain.{Look}
 use Rattle.store_model.specs.Maps.{Map, Metas, Chains}
 use Rattle.store_model.specs.Phases.{Phase, has_commit, planned_in}
-use Rattle.store_model.specs.Shown.{fixed_of, volume_of}
+use Rattle.store_model.specs.Shown.{fixed_of, shown_by}
 use Rattle.store_model.specs.Device.{Device}
 use Rattle.store_model.specs.Rows.{Rows, Stage, with_row, entry_of, Idle, Answered, Decided, Ended}
 
@@ -54,10 +55,10 @@ going_on j written (x ∷ xs) = Some (record j { written = written; todo = x ∷
 
 pub record StoreState : Type 0 where
   pub super : Super
-  -- the metadata as the device says it, and the places of each blob's chain
+  -- the metadata as the device says it, marked blobs among it, and the places of each blob's chain
   pub base : Metas
   pub chains : Chains
-  -- the attributes as they are read
+  -- the attributes of volumes as they are read
   pub live : Map Xattrs
   -- which metadata pages and which clusters are in use
   pub pages : List Bool
@@ -80,10 +81,9 @@ pub record StoreState : Type 0 where
   pub stopped : Option ℕ
   pub device : Device
 
--- the volumes that are shown
+-- the volumes that are shown: those of the metadata once it is resolved
 abbrev pub shown : StoreState → Volumes
-shown p head = option_map (λ m. volume_of (fixed_of p.super).cluster_pages p.device.reads p.base p.super.md_len
-    (option_map_or (λ xs. xs) (p.live head) []) head m) (p.base head)
+shown p = shown_by (fixed_of p.super) p.device.reads (resolved p.base) p.live
 
 -- the attributes of volumes as they are read
 abbrev pub live_of : Volumes → Map Xattrs

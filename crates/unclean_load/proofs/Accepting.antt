@@ -23,7 +23,7 @@ use Rattle.blob_meta.specs.Resolving.{IsLawful}
 use Rattle.store_model.specs.Maps.{Metas, Chains}
 use Rattle.store_model.specs.Regions.{region_of}
 use Rattle.store_model.specs.Scans.{Says}
-use Rattle.store_model.specs.RunInvariant.{AreRoots, IsRoot}
+use Rattle.store_model.specs.RunInvariant.{AreLoadable, IsLoadable}
 use Rattle.unclean_load.specs.Accepted.{IsAccepted}
 use Rattle.unclean_load.specs.Heads.{has_mark}
 use Rattle.unclean_load.proofs.Slots.{one_copy}
@@ -76,18 +76,18 @@ none_marked (x ∷ xs) a b c =
     let r = other_first (codes "SNAPRM") x xs c in
     or_from (is_mark x.key) _ (or_from _ _ (or_from _ _ p.0 q.0) r.0) (none_marked xs p.1 q.1 r.1)
 
-unmarked : (s : Super) (head : ℕ) (m : Meta) → IsRoot s head m → has_mark m ≡ false
-unmarked s head m root = none_marked m.internal root.no_parent root.not_made root.not_removed
+unmarked : (s : Super) (head : ℕ) (m : Meta) → IsLoadable s head m → has_mark m ≡ false
+unmarked s head m taken = none_marked m.internal taken.alone.no_parent taken.alone.not_made taken.alone.not_removed
 
 -- ---- the image
 
--- an image that says lawful metadata of roots is accepted
+-- an image that says lawful metadata which a load takes is accepted
 pub accepted : ((s : Super) → IsFaultless s → IsPlaced s)
     → (s : Super) (image : Image) (metas : Metas) (chains : Chains) → super_fault (image 0) s.device_pages ≡ None
     → s ≡ super_of (image 0) s.device_pages
-    → Says (region_of s) metas chains image → AreRoots s metas → IsLawful s.md_len metas
+    → Says (region_of s) metas chains image → AreLoadable s metas → IsLawful s.md_len metas
     → IsAccepted s.device_pages image
-accepted placed s image metas chains none is says roots lawful =
+accepted placed s image metas chains none is says all lawful =
     let fine : fault_of (is_sound (image 0)) s ≡ None = ap (λ (t : Super). fault_of (is_sound (image 0)) t) is ∙ none in
     record {
       sup = s;
@@ -101,7 +101,7 @@ accepted placed s image metas chains none is says roots lawful =
       metas = metas;
       chains = chains;
       whole =
-          record { says = says; few = lawful.few; unmarked = λ head m there. unmarked s head m (roots head m there) };
+          record { says = says; few = lawful.few; unmarked = λ head m there. unmarked s head m (all head m there) };
       alone =
           λ cluster. one_copy metas cluster (λ h k i j m n a b x y. lawful.alone h k i j cluster m n a b x y) s.md_len;
     }

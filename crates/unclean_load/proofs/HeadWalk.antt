@@ -17,7 +17,7 @@ use Rattle.md_chain.proofs.DeviceWalk.{no_read, read_on}
 use Rattle.store_model.specs.Maps.{Metas, Chains, with_entry}
 use Rattle.store_model.specs.Regions.{MdRegion, region_of}
 use Rattle.store_model.specs.Scans.{is_head, MetaAt, BlobAt}
-use Rattle.store_model.specs.RunInvariant.{IsRoot}
+use Rattle.store_model.specs.RunInvariant.{IsLoadable}
 use Rattle.store_model.proofs.WithEntry.{given_here, given_elsewhere}
 use Rattle.store_model.proofs.Scanning.{is_at}
 use Rattle.unclean_load.specs.declared.fault.LoadFault.{LoadFault}
@@ -27,7 +27,7 @@ use Rattle.unclean_load.specs.Heads.{has_mark, AreWholeBelow, Shows, ShowsFirst,
 use Rattle.unclean_load.specs.Reading.{SaysAt, IsBlobFault, IsPlaceFault, AreRead, HasNoneFrom, IsChainOf}
 use Rattle.unclean_load.specs.Reading.{IsBlobRefused, meta_in, chain_in, IsFaultCounted}
 use Rattle.store_core.proofs.Maps.{insert_given}
-use Rattle.unclean_load.proofs.Roots.{root, chain_of_region}
+use Rattle.unclean_load.proofs.Taken.{loadable, chain_of_region}
 use Rattle.unclean_load.proofs.Sums.{sum_more, sum_same}
 
 -- what is known of the blobs read so far, at the heads below a place
@@ -83,7 +83,7 @@ module _ {D : Type 0} (d : Ghosts D) (s : Super) (first : D) where
               (omega (arith, lt));
         };
     read = record {
-      roots = λ k m there. let no = none k in absurd (cc (no, there));
+      loadable = λ k m there. let no = none k in absurd (cc (no, there));
       chain = λ k m there. let no = none k in absurd (cc (no, there));
       none = λ k _. no_chain k;
     };
@@ -186,12 +186,12 @@ module _ {D : Type 0} (d : Ghosts D) (s : Super) (first : D) where
 
         read_now : AreRead s metas_now chains_now
         read_now = record {
-          roots = λ k m there. elim (cases_eq k place) [
+          loadable = λ k m there. elim (cases_eq k place) [
             | inl here ↦
-                subst (λ (n : Meta). IsRoot s k n) (same_meta k m here there)
-                (subst (λ (n : ℕ). IsRoot s n blob.meta) (sym here)
-                (root x.look s place blob.meta blob.pages says unmarked))
-            | inr other ↦ w.read.roots k m (sym (given_elsewhere metas place blob.meta k other) ∙ there)
+                subst (λ (n : Meta). IsLoadable s k n) (same_meta k m here there)
+                (subst (λ (n : ℕ). IsLoadable s n blob.meta) (sym here)
+                (loadable x.look s place blob.meta blob.pages says unmarked))
+            | inr other ↦ w.read.loadable k m (sym (given_elsewhere metas place blob.meta k other) ∙ there)
           ];
           chain = λ k m there. elim (cases_eq k place) [
             | inl here ↦ (

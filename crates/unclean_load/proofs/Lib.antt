@@ -1,6 +1,6 @@
 pub mod Places
 pub mod Attributes
-pub mod Roots
+pub mod Taken
 pub mod Sums
 pub mod HeadWalk
 pub mod Marks

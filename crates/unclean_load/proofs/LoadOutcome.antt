@@ -13,9 +13,9 @@ use Rattle.md_chain.specs.declared.fault.ChainFault.{ChainFault}
 use Rattle.md_chain.specs.declared.fault.ChainFault.TheVariants as chain
 use Rattle.store_model.specs.Maps.{Metas, Chains}
 use Rattle.store_model.specs.Regions.{MdRegion, region_of, look_of}
-use Rattle.store_model.specs.RunInvariant.{AreRoots}
+use Rattle.store_model.specs.RunInvariant.{AreLoadable}
 use Rattle.store_model.proofs.Scanning.{apart}
-use Rattle.store_model.proofs.Roots.{no_parent}
+use Rattle.blob_meta.specs.Parents.{parent_of}
 use Rattle.unclean_load.specs.declared.fault.LoadFault.{LoadFault}
 use Rattle.unclean_load.specs.declared.fault.LoadFault.TheVariants as fault
 use Rattle.unclean_load.specs.Accepted.{SuperAt, IsFaultOf}
@@ -34,7 +34,7 @@ module _ (s : Super) (metas : Metas) (chains : Chains) (read : AreRead s metas c
   one_chain head pages (Some m) is there =
       let x = read.chain head m is in
       let same : x.0 ≡ pages = let both = sym x.1 ∙ there in cc both in
-      ((read.roots head m is).low, subst (λ (ps : List ℕ). IsChainOf s.md_len head ps) same x.2)
+      ((read.loadable head m is).stored.low, subst (λ (ps : List ℕ). IsChainOf s.md_len head ps) same x.2)
 
   -- the chains that were read are chains of the region
   pub read_chains : AreChains s.md_len chains
@@ -42,16 +42,16 @@ module _ (s : Super) (metas : Metas) (chains : Chains) (read : AreRead s metas c
 
 -- ---- the metadata is lawful
 
--- metadata of roots with no shared cluster and few slots is lawful
-pub lawful : (s : Super) (metas : Metas) → AreRoots s metas → slots_together s.md_len metas ≤ 2 ^ 24
+-- what a load takes, with no shared cluster and few slots, is lawful
+pub lawful : (s : Super) (metas : Metas) → AreLoadable s metas → slots_together s.md_len metas ≤ 2 ^ 24
     → ((cluster : ℕ) → copies s.md_len metas cluster ≤ 1) → IsLawful s.md_len metas
-lawful s metas roots few most = record {
+lawful s metas all few most = record {
   alone =
-      λ h k i j cluster m n a b x y. one_slot metas cluster s.md_len (λ head meta there. (roots head meta there).low)
+      λ h k i j cluster m n a b x y. one_slot metas cluster s.md_len (λ head meta there. (all head meta there).stored.low)
       (most cluster) h k i j m n a b x y;
-  parents = λ h p m there is. let none = no_parent s h m (roots h m there) in absurd (cc (none, is));
+  parents = λ h p m there is. let none : parent_of m ≡ None = rw (all h m there).alone.no_parent refl in absurd (cc (none, is));
   rank = λ _. 0;
-  falls = λ h p m there is. let none = no_parent s h m (roots h m there) in absurd (cc (none, is));
+  falls = λ h p m there is. let none : parent_of m ≡ None = rw (all h m there).alone.no_parent refl in absurd (cc (none, is));
   few = few;
 }
 

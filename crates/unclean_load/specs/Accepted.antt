@@ -9,7 +9,7 @@ use Rattle.super_block.specs.Faults.{super_fault}
 use Rattle.store_model.specs.Maps.{Metas, Chains}
 use Rattle.store_model.specs.Regions.{region_of, look_of}
 use Rattle.store_model.specs.Scans.{Says}
-use Rattle.store_model.specs.RunInvariant.{AreRoots}
+use Rattle.store_model.specs.RunInvariant.{AreLoadable}
 use Rattle.blob_meta.specs.Resolving.{IsLawful}
 use Rattle.unclean_load.specs.declared.fault.LoadFault.{LoadFault}
 use Rattle.unclean_load.specs.declared.fault.LoadFault.TheVariants as fault
@@ -81,5 +81,5 @@ abbrev pub StoresAreAccepted : Type 0
 StoresAreAccepted =
     (s : Super) (image : Image) (metas : Metas) (chains : Chains) → super_fault (image 0) s.device_pages ≡ None
     → s ≡ super_of (image 0) s.device_pages
-    → Says (region_of s) metas chains image → AreRoots s metas → IsLawful s.md_len metas
+    → Says (region_of s) metas chains image → AreLoadable s metas → IsLawful s.md_len metas
     → IsAccepted s.device_pages image

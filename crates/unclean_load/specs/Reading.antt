@@ -13,7 +13,7 @@ use Rattle.md_chain.specs.Reading.{WasSeen}
 use Rattle.store_model.specs.Maps.{Metas, Chains}
 use Rattle.store_model.specs.Regions.{MdRegion, region_of}
 use Rattle.store_model.specs.Scans.{is_head, BlobAt}
-use Rattle.store_model.specs.RunInvariant.{AreRoots}
+use Rattle.store_model.specs.RunInvariant.{AreLoadable}
 use Rattle.store_model.specs.Places.{AreDistinct}
 use Rattle.unclean_load.specs.declared.heads.Blob.{Blob}
 use Rattle.unclean_load.specs.declared.fault.LoadFault.{LoadFault}
@@ -79,9 +79,9 @@ pub record IsChainOf (md_len head : ℕ) (pages : List ℕ) : Type 0 where
   pub low : (place : ℕ) → is_among place pages ≡ true → place < md_len
   pub differ : AreDistinct pages
 
--- The metadata is that of roots, and each blob has a chain.
+-- The metadata is what a load takes, and each blob has a chain.
 pub record AreRead (s : Super) (metas : Metas) (chains : Chains) : Type 0 where
-  pub roots : AreRoots s metas
+  pub loadable : AreLoadable s metas
   pub chain : (head : ℕ) (m : Meta) → metas head ≡ Some m → (pages : List ℕ) × (chains head ≡ Some pages)
       × IsChainOf s.md_len head pages
   pub none : (head : ℕ) → metas head ≡ None → chains head ≡ None

@@ -7,7 +7,7 @@ ghost use Rattle.md_chain.specs.Reading.{OnlyRead};
 ghost use Rattle.store_core.specs.LoadedWhole.{AreMasks, IsWhole};
 ghost use Rattle.store_model.specs.Regions.{region_of, look_of};
 ghost use Rattle.store_model.specs.Scans.{Says};
-ghost use Rattle.store_model.specs.RunInvariant.{AreRoots, HaveChains};
+ghost use Rattle.store_model.specs.RunInvariant.{AreLoadable, HaveChains};
 ghost use Rattle.super_block.specs.Faults.{IsFaultless};
 ghost use Rattle.super_block.specs.Page.{super_of};
 ghost use Rattle.unclean_load.specs.Accepted.{IsAccepted, IsFaultOf, IsImageFault, SuperAt};
@@ -67,7 +67,7 @@ fn read_store<D: PageDisk>(alloc: Global, disk: &mut D) -> Result<Store, LoadFau
     ensures faultless { IfOk result (λ s. IsFaultless s.sup) }
     ensures device { IfOk result (λ s. s.sup.device_pages ≡ D.pages disk.old) }
     ensures inside { IfOk result (λ s. s.sup.md_start + s.sup.md_len ≤ D.pages disk.old) }
-    ensures roots { IfOk result (λ s. AreRoots s.sup (map.get s.metas)) }
+    ensures loadable { IfOk result (λ s. AreLoadable s.sup (map.get s.metas)) }
     ensures few { IfOk result (λ s. slots_together s.sup.md_len (map.get s.metas) ≤ 2 ^ 24) }
     ensures alone { IfOk result (λ s. (cluster : ℕ) → copies s.sup.md_len (map.get s.metas) cluster ≤ 1) }
     ensures chains { IfOk result (λ s. HaveChains s.sup (map.get s.metas) (map.get s.chains)) }

@@ -1,5 +1,6 @@
 //! The uuids of volumes: what one has where none is given, and how they stand in its attributes.
 
+ghost use Rattle.volume_model.specs.Names.{IsName};
 ghost use Rattle.std.specs.Prelude.{◌≡◌, IfOk, Some};
 ghost use Rattle.std.specs.Option.{option_map_or};
 ghost use Rattle.volume_model.specs.Uuids as u;
@@ -60,7 +61,8 @@ fn uuid_xattr(alloc: Global, uuid: [u8; 16]) -> Result<Xattr, Memory>
 
 /// The attributes `name` and `uuid`, which a new volume of this name and uuid has alone.
 pub fn named_xattrs(alloc: Global, name: &Name, uuid: [u8; 16]) -> Result<XattrList, Memory>
-    ensures { IfOk result (λ xattrs. (f : Fixed) (v : Volumes) → xattrs ≡ two_xattrs f v name.now (Some uuid)) }
+    ensures two { IfOk result (λ xattrs. (f : Fixed) (v : Volumes) → xattrs ≡ two_xattrs f v name.now (Some uuid)) }
+    ensures name { IsName name.now }
 {
     let value = with_nul(alloc, name.bytes())?;
     let mut xattrs = ListOf::new(alloc);

@@ -9,7 +9,7 @@ use Rattle.store_model.specs.Cases.BreakDown.{BreaksDown, IsUnlogged, WasLogged}
 use Rattle.store_model.specs.RunInvariant.{RunInvariant}
 use Rattle.store_model.proofs.Known.{Known}
 use Rattle.store_model.proofs.Over.{Effect, halt, nothing, stays, TurnLaw}
-use Rattle.store_model.proofs.Progress.{clears, JobLaw, logs, no_job}
+use Rattle.store_model.proofs.Progress.{clears, JobLaw, logs_served, no_job}
 use Rattle.store_model.proofs.Shapes.{Idles, untouched_images}
 use Rattle.store_model.proofs.Shaped.{decided_may, shaped_same, shaped_with, waits_for_commit}
 use Rattle.store_model.proofs.JobKept.{no_other, none_here}
@@ -23,35 +23,39 @@ use Rattle.store_model.proofs.Guarding.{none_guarded}
 module _ (known : Known) (j : JobState) (is : known.p.job ≡ Some j) (at : ℕ) (stands : known.p.stopped ≡ Some at) where
   open known use {s, placed, first, script, p, facts}
 
-  keeps_unlogged : (q : StoreState) → IsUnlogged p j at q → RunInvariant s first script q
-  keeps_unlogged q t =
-      let base : StoreState = record p { job = None } in
-      let now : StoreState = logged base t.channel t.command t.rest (r.Stopped at) p.device in
-      let kept : LogKept known now =
-      log_kept known (Decided Answered) base t.channel t.command t.rest (r.Stopped at) p.device refl refl refl
-      (ap (λ (row : Row). row.left) t.row) (omega arith) tt in
-      let low = facts.halted at stands in
-      let done : RunInvariant s first script now =
-      record {
-        super = facts.super;
-        roots = facts.roots;
-        lawful = facts.lawful;
-        legal = kept.legal;
-        well = λ runs. absurd (runs_here known at runs stands);
-        way = kept.way;
-        shaped = shaped_with p facts.shaped now t.channel _ refl
-            (no_other known j is t.channel (waits_for_commit j t.channel t.serves t.waits) now)
-            (decided_may now t.channel t.rest)
-            (λ job c bad serves waits. absurd (cc bad));
-        guarded = none_guarded now (facts.guarded.stopped at stands);
-        counted = kept.counted;
-        past = kept.past;
-        halted = λ n halts.
-            let below = facts.halted n halts in
-            omega (arith, below, length-append p.log (entry_of p.log t.channel t.command (r.Stopped at) ∷ []));
-        unfinished = λ job bad. absurd (cc bad);
-      } in
-      subst (RunInvariant s first script) (sym t.next) done
+  module _ (q : StoreState) (t : IsUnlogged p j at q) where
+    open t.served use {channel, serves, command, rest, row}
+
+    keeps_unlogged : RunInvariant s first script q
+    keeps_unlogged =
+        let base : StoreState = record p { job = None } in
+        let now : StoreState = logged base channel command rest (r.Stopped at) p.device in
+        let kept : LogKept known now =
+        log_kept known (Decided Answered) base channel command rest (r.Stopped at) p.device refl refl refl
+        (ap (λ (row : Row). row.left) row) (omega arith) tt in
+        let low = facts.halted at stands in
+        let done : RunInvariant s first script now =
+        record {
+          super = facts.super;
+          loadable = facts.loadable;
+          few = facts.few;
+          lawful = facts.lawful;
+          legal = kept.legal;
+          well = λ runs. absurd (runs_here known at runs stands);
+          way = kept.way;
+          shaped = shaped_with p facts.shaped now channel _ refl
+              (no_other known j is channel (waits_for_commit j channel serves t.waits) now)
+              (decided_may now channel rest)
+              (λ job c bad serves waits. absurd (cc bad));
+          guarded = none_guarded now (facts.guarded.stopped at stands);
+          counted = kept.counted;
+          past = kept.past;
+          halted = λ n halts.
+              let below = facts.halted n halts in
+              omega (arith, below, length-append p.log (entry_of p.log channel command (r.Stopped at) ∷ []));
+          unfinished = λ job bad. absurd (cc bad);
+        } in
+        subst (RunInvariant s first script) (sym t.next) done
 
   keeps_logged : (q : StoreState) → WasLogged p j q → RunInvariant s first script q
   keeps_logged q t =
@@ -59,7 +63,8 @@ module _ (known : Known) (j : JobState) (is : known.p.job ≡ Some j) (at : ℕ)
       let done : RunInvariant s first script now =
       record {
         super = facts.super;
-        roots = facts.roots;
+        loadable = facts.loadable;
+        few = facts.few;
         lawful = facts.lawful;
         legal = facts.legal;
         well = λ runs. absurd (runs_here known at runs stands);
@@ -93,9 +98,8 @@ module _ (known : Known) (q : StoreState) (t : BreaksDown known.p q) where
     | inl x ↦
         let none : q.job ≡ None = ap (λ (v : StoreState). v.job) x.next in
         record {
-          progress =
-              logs t.job t.is x.channel (waits_for_commit t.job x.channel x.serves x.waits) x.command x.rest x.row
-              (ap (λ (v : StoreState). v.rows) x.next) (no_job q.job none);
+          progress = logs_served known.p q t.job t.is x.served x.waits (ap (λ (v : StoreState). v.rows) x.next)
+              (no_job q.job none);
           less = less none;
         }
     | inr x ↦
@@ -110,7 +114,7 @@ effect_of : (p q : StoreState) → BreaksDown p q → Effect p q
 effect_of p q t = elim t.ends [
   | inl x ↦ subst (Effect p) (sym x.next) (record {
     goes = stays refl refl;
-    logs = halt (entry_of p.log x.channel x.command (r.Stopped t.at)) t.at refl refl refl t.stands;
+    logs = halt (entry_of p.log x.served.channel x.served.command (r.Stopped t.at)) t.at refl refl refl t.stands;
   })
   | inr x ↦ subst (Effect p) (sym x.next) (record { goes = stays refl refl; logs = nothing refl refl })
 ]

@@ -1,21 +1,17 @@
 -- The turn breaks_down.
-use Rattle.std.specs.Prelude.{◌≡◌, ◌⊎◌, ℕ, List, ◌∷◌, Some, None, true}
-use Rattle.volume_model.specs.declared.command.Command.{Command}
+use Rattle.std.specs.Prelude.{◌≡◌, ◌⊎◌, ℕ, Some, None, true}
 use Rattle.volume_model.specs.declared.reply.Reply.TheVariants as r
-use Rattle.store_model.specs.Rows.{InJob}
 use Rattle.store_model.specs.Phases.{has_commit}
-use Rattle.store_model.specs.StoreState.{ForCommand, JobState, logged, StoreState, waiting}
+use Rattle.store_model.specs.StoreState.{JobState, logged, StoreState, waiting}
+use Rattle.store_model.specs.Turning.{IsServedNow}
 use Rattle.store_model.specs.Touches.{TurnKind, untouched}
 
 -- The command that the job serves has no entry yet, and is logged as stopped.
 pub record IsUnlogged (p : StoreState) (j : JobState) (at : ℕ) (q : StoreState) : Type 0 where
-  pub channel : ℕ
-  pub serves : j.serves ≡ ForCommand channel
+  pub served : IsServedNow p j
   pub waits : has_commit j.todo ≡ true
-  pub command : Command
-  pub rest : List Command
-  pub row : p.rows channel ≡ record { left = command ∷ rest; stage = InJob; claim = None }
-  pub next : q ≡ logged (record p { job = None }) channel command rest (r.Stopped at) p.device
+  pub next : q
+      ≡ logged (record p { job = None }) served.channel served.command served.rest (r.Stopped at) p.device
 
 -- It was logged at the job's commit, or the job serves none.
 pub record WasLogged (p : StoreState) (j : JobState) (q : StoreState) : Type 0 where

@@ -9,10 +9,11 @@ use Rattle.volume_model.specs.declared.reply.Reply.{Reply}
 use Rattle.store_model.specs.Rows.{Idle}
 use Rattle.store_model.specs.Shown.{fixed_of}
 use Rattle.store_model.specs.StoreState.{logged_here, StoreState, shown}
-use Rattle.store_model.specs.Turning.{IsCauseReply}
+use Rattle.store_model.specs.Turning.{IsCauseReply, IsNotFrozen}
 use Rattle.store_model.specs.Touches.{TurnKind, untouched}
 
--- A channel's write of a page is refused, by the first cause that holds. No device call; a job may run.
+-- A channel's write of a page is refused, by the first cause that holds, where the blob isn't frozen. No device call; a
+-- job may run.
 pub record RefusesWrite (p q : StoreState) : Type 0 where
   pub channel : ℕ
   pub volume : VolumeRef
@@ -21,6 +22,7 @@ pub record RefusesWrite (p q : StoreState) : Type 0 where
   pub rest : List Command
   pub row : p.rows channel ≡ record { left = c.Write volume page word ∷ rest; stage = Idle; claim = None }
   pub runs : p.stopped ≡ None
+  pub free : IsNotFrozen p volume
   pub reply : Reply
   pub caused : IsCauseReply reply
   pub cause : refusal (fixed_of p.super) (shown p) (c.Write volume page word) ≡ Some reply

@@ -16,7 +16,7 @@ use Rattle.blob_meta.specs.Resolving.{resolved}
 use Rattle.store_model.specs.Shown.{fixed_of}
 use Rattle.store_model.specs.Rows.{Claiming, Copying, Idle, OpenClaim, Stage, with_row}
 use Rattle.store_model.specs.StoreState.{logged_here, shown, StoreState}
-use Rattle.store_model.specs.Turning.{IsCauseReply}
+use Rattle.store_model.specs.Turning.{IsCauseReply, IsNotFrozen}
 
 -- a channel's write of a page at this stage, with this claim
 pub record IsWriting (p : StoreState) (stage : Stage) (claim : Option OpenClaim) : Type 0 where
@@ -86,10 +86,12 @@ pub record Claims (p q : StoreState) : Type 0 where
         clusters = slice_set p.clusters cluster true;
       }
 
--- By then the write is refused, or no cluster is clear.
+-- By then the write is refused, or no cluster is clear, while the blob isn't frozen and the slot isn't filled.
 pub record RefusesClaim (p q : StoreState) : Type 0 where
   pub write : IsWriting p Claiming None
   pub runs : p.stopped ≡ None
+  pub free : IsNotFrozen p write.volume
+  pub unfilled : (cluster : ℕ) → MeansSlot p write (Some cluster) → ⊥
   pub reply : Reply
   pub why : (IsCauseReply reply × (refused_by p write ≡ Some reply))
       ⊎ ((reply ≡ r.Full) × (refused_by p write ≡ None) × IsFull p.clusters)

@@ -1,5 +1,5 @@
 -- The turns of the fill's own row, by which the metadata thread fills slots.
-use Rattle.std.specs.Prelude.{◌≡◌, ℕ, [], Option, None, Some, true, slice_set}
+use Rattle.std.specs.Prelude.{◌≡◌, ◌⊎◌, ℕ, ◌<◌, [], length, Option, None, Some, true, slice_set}
 use Rattle.bit_array.specs.Bits.{IsFull, IsLeastClear}
 use Rattle.super_block.specs.Numbers.{cluster_pages_of}
 use Rattle.volume_model.specs.Volumes.{head_of}
@@ -13,10 +13,10 @@ use Rattle.blob_meta.specs.Parents.{parent_of, slot}
 use Rattle.blob_meta.specs.Resolving.{resolved}
 use Rattle.store_model.specs.Shown.{fixed_of}
 use Rattle.store_model.specs.Rows.{Copying, Idle, with_row}
-use Rattle.store_model.specs.Places.{without_claim}
 use Rattle.store_model.specs.StoreState.{logged, shown, StoreState}
 use Rattle.store_model.specs.Turning.{IsPosted}
-use Rattle.store_model.specs.Later.CopyTurns.{fill_row}
+use Rattle.store_model.specs.Cases.Halt.{MayLog, stage_after}
+use Rattle.store_model.specs.Later.CopyTurns.{fill_row, given_back}
 
 -- the volume whose slots the command fills
 abbrev pub filled_by : Command → Option VolumeRef
@@ -38,7 +38,13 @@ abbrev pub IsToFill : StoreState → Command → Meta → ℕ → Type 0
 IsToFill p (c.Decouple volume) m place = (slot m place ≡ None) × IsHeldByParent p m place
 IsToFill p command m place = slot m place ≡ None
 
--- a posted inflating or decoupling that nothing refuses, with the blob
+-- the least slot that is to be filled
+pub record IsNextToFill (p : StoreState) (command : Command) (m : Meta) (place : ℕ) : Type 0 where
+  pub within : place < length m.map
+  pub to_fill : IsToFill p command m place
+  pub first : (other : ℕ) → other < place → IsToFill p command m other → ⊥
+
+-- a posted inflating or decoupling that nothing refuses, with the blob, and the slot that is to be filled next
 pub record IsFilling (p : StoreState) : Type 0 where
   pub posted : IsPosted p
   pub runs : p.stopped ≡ None
@@ -51,12 +57,12 @@ pub record IsFilling (p : StoreState) : Type 0 where
   pub found : head_of (fixed_of p.super) (shown p) volume ≡ Some head
   pub meta : Meta
   pub there : resolved p.base head ≡ Some meta
+  pub place : ℕ
+  pub is_next : IsNextToFill p posted.command meta place
 
--- The least clear cluster is claimed for a slot, on the fill's row, which works for the command from now on.
+-- The least clear cluster is claimed for the slot, on the fill's row, which works for the command from now on.
 pub record ClaimsFill (p q : StoreState) : Type 0 where
   pub fill : IsFilling p
-  pub place : ℕ
-  pub to_fill : IsToFill p fill.posted.command fill.meta place
   pub cluster : ℕ
   pub least : IsLeastClear p.clusters cluster
   pub generation : ℕ
@@ -65,23 +71,34 @@ pub record ClaimsFill (p q : StoreState) : Type 0 where
     rows = with_row p.rows fill_row (record {
       left = [];
       stage = Copying (cluster_pages_of p.super);
-      claim = Some (record { cluster = cluster; head = fill.head; slot = place; generation = generation });
+      claim = Some (record { cluster = cluster; head = fill.head; slot = fill.place; generation = generation });
     });
     filling = Some fill.posted.channel;
     clusters = slice_set p.clusters cluster true;
   }
 
--- No cluster is clear: the command is logged as that.
+-- No cluster is clear: the command is logged as that, and the fill's row works for none any more.
 pub record LacksForFill (p q : StoreState) : Type 0 where
   pub fill : IsFilling p
   pub full : IsFull p.clusters
-  pub next : q ≡ logged p fill.posted.channel fill.posted.command fill.posted.rest r.Full p.device
+  pub next : q
+      ≡ logged (record p { filling = None }) fill.posted.channel fill.posted.command fill.posted.rest r.Full p.device
+
+-- On a stopped store the command is logged as that, at the claim for its next slot or by a turn of the fill's row that
+-- works for it: the row gives its claim back, if it has one, and works for no command any more.
+pub record HaltsFill (p q : StoreState) : Type 0 where
+  pub posted : IsPosted p
+  pub volume : VolumeRef
+  pub fills : filled_by posted.command ≡ Some volume
+  pub works : (p.rows fill_row ≡ record { left = []; stage = Idle; claim = None })
+      ⊎ (p.filling ≡ Some posted.channel)
+  pub may : MayLog (p.rows fill_row).stage
+  pub at : ℕ
+  pub stands : p.stopped ≡ Some at
+  pub next : q ≡ logged (record (given_back p fill_row (stage_after (p.rows fill_row).stage)) { filling = None })
+      posted.channel posted.command posted.rest (r.Stopped at) p.device
 
 -- The fill's row gives its claim back, if it has one, and works for no command any more.
 pub record EndsFill (p q : StoreState) : Type 0 where
   pub no_job : p.job ≡ None
-  pub next : q ≡ record p {
-    rows = with_row p.rows fill_row (record { left = []; stage = Idle; claim = None });
-    filling = None;
-    clusters = without_claim p.clusters (p.rows fill_row).claim;
-  }
+  pub next : q ≡ record (given_back p fill_row Idle) { filling = None }

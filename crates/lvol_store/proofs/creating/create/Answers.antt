@@ -16,8 +16,9 @@ returns c =
     let given = c.in-Create.uuid in
     IfOk-weaker c.make_blob.result _ (PlansCreate metas sup c.args.new c.args.command.now)
     (λ (job : Job) is. subst (λ (k : Command). PlansCreate metas sup c.args.new k job) (sym c.in-Create.is) (record {
+      is_name = c.named_xattrs.ensures.name;
       xattrs = c.in_ok-xattrs.xattrs;
-      named = λ f v s. sym (c.in_ok-xattrs.ensures f v
+      named = λ f v s. sym (c.in_ok-xattrs.ensures.two f v
           ∙ ap (λ uuid. two_xattrs f v name (Some uuid)) (c.uuid_of_new-uuid.ensures
           ∙ ap (λ store. option_map_or (λ bytes. bytes) given (default_uuid store name))
           (sym (c.store_uuid.ensures f v s))));

@@ -1,14 +1,14 @@
 use Rattle.std.proofs.Common.{◌≡◌, ◌+◌, ◌<◌, ◌∙◌, sym, ap, refl, Ok, Err, rules, arith}
 use Rattle.std.specs.List.{All}
-use Rattle.blob_meta.specs.Asked.{IsOnHead}
+use Rattle.script_lang.specs.Served.{IsServed}
 use Rattle.script_lang.specs.declared.grammar.Grammar.TheVariants.{Served}
 use Rattle.script_lang.specs.declared.line.LineRequest.{LineRequest}
 use Rattle.script_lang.specs.Commands.{pages_of}
 use Rattle.script_lang.specs.Lines.{says}
 use Rattle.script_lang.proofs.ByLines.{begun, one_more, all_read, bad_line, too_many_pages, too_many_lines, pushed_room}
-use Rattle.script_lang.proofs.ByLines.{served_heads, served_few, same_pages}
+use Rattle.script_lang.proofs.ByLines.{served_in, served_few, same_pages}
 use Rattle.script_lang.proofs.Requests.{IsSized, says_sized, says_channel, if_said}
-use Rattle.script_lang.proofs.ServedHeads.{says_heads}
+use Rattle.script_lang.proofs.ServedHeads.{says_served}
 use Rattle.script_lang.proofs.parsing.read_script.Goals as goal
 
 pub loop-line-init : goal.loop-line-init
@@ -75,9 +75,9 @@ loop-line-preserved c =
     let sized = if_said (λ request. IsSized request.commands) _ c.in-Ok.request said
     (says_sized c.args.grammar c.in-Some.line.now) in
     let on : c.args.grammar ≡ Served
-    → All IsOnHead c.in-Ok.request.commands = λ served. if_said
-    (λ (request : LineRequest). All IsOnHead request.commands) _ c.in-Ok.request
-    (ap (λ g. says g c.in-Some.line.now) (sym served) ∙ said) (says_heads c.in-Some.line.now) in
+    → All IsServed c.in-Ok.request.commands = λ served. if_said
+    (λ (request : LineRequest). All IsServed request.commands) _ c.in-Ok.request
+    (ap (λ g. says g c.in-Some.line.now) (sym served) ∙ said) (says_served c.in-Some.line.now) in
     same_pages _ _ _ _ _ _ _
     (one_more _ _ _ c.in-Some.line.now _ _ _ _ c.loop-line.invariant c.in-Some.ensures.some c.in-Ok.request said
     c.push_request.new.script sized on (omega arith) (omega (arith, more)) c.in_ok-push_request.ensures.ok
@@ -88,8 +88,8 @@ pub returns-clause-found : goal.returns-clause-found
 returns-clause-found c = all_read c.args.grammar c.args.text.now _ _ _ _ (omega arith) c.loop-line.invariant
     c.in_default.ensures.none
 
-pub returns-clause-on_heads : goal.returns-clause-on_heads
-returns-clause-on_heads c = served_heads _ _ _ _ c.loop-line.invariant
+pub returns-clause-served : goal.returns-clause-served
+returns-clause-served c = served_in _ _ _ _ c.loop-line.invariant
 
 pub returns-clause-few : goal.returns-clause-few
 returns-clause-few c = served_few _ _ _ _ c.loop-line.invariant

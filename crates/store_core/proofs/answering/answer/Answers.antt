@@ -1,106 +1,12 @@
-use Rattle.std.proofs.Common.{◌<◌, List, length, refl, sym, ◌∙◌, ap, subst, arith}
-use Rattle.std.specs.FinMap as map
-use Rattle.std.specs.Option.{option_map}
-use Rattle.blob_meta.specs.Asked.{asked_head}
-use Rattle.volume_model.specs.Xattrs.{Xattrs}
-use Rattle.volume_model.specs.declared.command.Command.{Command}
-use Rattle.volume_model.specs.declared.reply.Reply.TheVariants.{Memory}
-use Rattle.store_model.specs.Maps.{Map}
-use Rattle.store_model.specs.Rows.{Row}
-use Rattle.store_model.specs.StoreState.{logged}
-use Rattle.store_model.specs.Cases.{IsInMemory}
-use Rattle.store_core.specs.Answering.{ComesTo}
-use Rattle.store_core.specs.Jobs.{job_seen}
-use Rattle.store_core.specs.Running.{view_of}
-use Rattle.store_core.specs.StoreView.{StoreView, device_of, rows_of, state_of}
-use Rattle.store_core.proofs.Answered.{answered_by, answered_memory, live_kept}
-use Rattle.store_core.proofs.Entered.{disk_same, entered}
+use Rattle.std.proofs.Common.{◌∙◌, ap, inl, inr}
+use Rattle.store_core.specs.StoreView.{rows_of}
 use Rattle.store_core.proofs.answering.answer.Goals as goal
 
-pub effect_of-requires-clause-in_memory : goal.effect_of-requires-clause-in_memory
-effect_of-requires-clause-in_memory g c =
-    let waits = c.requires.posted.waits in
-    let left = ap (λ (r : Row). r.left) waits.row in
-    let seen = ap (λ (l : List Row). (rows_of l c.args.channel).left) c.deref.ensures.value ∙ left in
-    subst IsInMemory (sym (c.first_of-command.ensures waits.command waits.rest seen))
-    (c.requires.in_memory waits.command waits.rest left).1
-
-pub returns-in-Err-clause-case : goal.returns-in-Err-clause-case
-returns-in-Err-clause-case g c =
-    let d = g.D.PageDisk in
-    let waits = c.requires.posted.waits in
-    let left = ap (λ (r : Row). r.left) waits.row in
-    let p = state_of d (view_of c.args.running.now) in
-    let low : c.args.channel < length c.args.running.now.rows.items =
-    omega (arith, c.requires.channel, c.requires.order.sixteen) in
-    let in_memory = (c.requires.in_memory waits.command waits.rest left).1 in
-    let well = c.requires.running.facts.well c.requires.runs in
-    let x = answered_memory c.requires.running.first p waits.command well in_memory in
-    let is = c.log-in-Err.ensures.logged waits.command waits.rest left in (
-      record {
-        posted = record {
-          channel = c.args.channel;
-          serial = c.requires.posted.serial;
-          command = waits.command;
-          rest = waits.rest;
-          row = waits.row;
-        };
-        runs = c.requires.runs;
-        no_job = ap (λ o. option_map job_seen o) c.requires.no_job;
-        in_memory = in_memory;
-        reply = Memory;
-        quiet = x.quiet;
-        step = x.allowed;
-        next = entered d (view_of c.args.running.now)
-            (view_of c.log-in-Err.new.running) c.args.channel waits.command waits.rest Memory low is
-            ∙ ap (λ (l : Map Xattrs). logged (record p { live = l }) c.args.channel waits.command waits.rest Memory
-            (device_of d c.args.running.now.disk)) x.live_is;
-      },
-      disk_same d (view_of c.args.running.now)
-          (view_of c.log-in-Err.new.running) c.args.channel waits.command waits.rest Memory low is,
-    )
-
-pub returns-in-Ok-clause-case : goal.returns-in-Ok-clause-case
-returns-in-Ok-clause-case g c =
-    let d = g.D.PageDisk in
-    let waits = c.requires.posted.waits in
-    let left = ap (λ (r : Row). r.left) waits.row in
-    let old = c.args.running.now in
-    let p = state_of d (view_of old) in
-    let reply = c.in-Ok.field-0.reply in
-    let low : c.args.channel < length old.rows.items = omega (arith, c.requires.channel, c.requires.order.sixteen) in
-    let in_memory = (c.requires.in_memory waits.command waits.rest left).1 in
-    let well = c.requires.running.facts.well c.requires.runs in
-    let seen = ap (λ (l : List Row). (rows_of l c.args.channel).left) c.deref.ensures.value ∙ left in
-    let command_is = c.first_of-command.ensures waits.command waits.rest seen in
-    let comes : ComesTo old.metas (map.get old.live c.asked_head.result) waits.command old.sup c.in-Ok.field-0 =
-    subst (λ (k : Command). ComesTo old.metas (map.get old.live c.asked_head.result) k old.sup c.in-Ok.field-0)
-    command_is (subst (λ o. ComesTo old.metas o c.first_of-command.result.now old.sup c.in-Ok.field-0)
-    c.get-live.ensures c.in-Ok.ensures) in
-    let named = ap asked_head (sym command_is) ∙ c.asked_head.ensures in
-    let x = answered_by c.requires.running.first p old.metas waits.command c.asked_head.result c.in-Ok.field-0 well refl
-    named in_memory comes in
-    let kept = live_kept old.live c.keep_live.new.live c.in-Ok.field-0.live c.keep_live.ensures.none
-    c.keep_live.ensures.some in
-    let is = c.log.ensures.logged waits.command waits.rest left in
-    let mid : StoreView g.row.D.Denot = record (view_of old) { live = c.keep_live.new.live } in (
-      record {
-        posted = record {
-          channel = c.args.channel;
-          serial = c.requires.posted.serial;
-          command = waits.command;
-          rest = waits.rest;
-          row = waits.row;
-        };
-        runs = c.requires.runs;
-        no_job = ap (λ o. option_map job_seen o) c.requires.no_job;
-        in_memory = in_memory;
-        reply = reply;
-        quiet = x.quiet;
-        step = x.allowed;
-        next = entered d mid (view_of c.log.new.running) c.args.channel waits.command waits.rest reply low is
-            ∙ ap (λ (l : Map Xattrs). logged (record p { live = l }) c.args.channel waits.command waits.rest reply
-            (device_of d old.disk)) (kept ∙ x.live_is);
-      },
-      disk_same d mid (view_of c.log.new.running) c.args.channel waits.command waits.rest reply low is,
-    )
+pub answer_on_attributes-requires-clause-on_attributes : goal.answer_on_attributes-requires-clause-on_attributes
+answer_on_attributes-requires-clause-on_attributes g c command rest left =
+    elim (c.requires.answerable command rest left) [
+      | inl on ↦ on
+      | inr df ↦
+          let seen = ap (λ l. (rows_of l c.args.channel).left) c.deref.ensures.value ∙ left in
+          absurd (c.in_default.not-Df (c.first_of.ensures command rest seen ∙ df))
+    ]

@@ -1,63 +1,94 @@
-use Rattle.std.proofs.Common.{◌≡◌, ◌<◌, length, Option, Some, IfSome, IfNone, refl, sym, ap, subst, ◌∙◌, arith}
-use Rattle.std.specs.Prelude.{slice_set}
+use Rattle.std.proofs.Common.{◌≡◌, ◌<◌, ℕ, Bool, true, false, List, length, Option, Some, None, IfSome, IfNone, refl, sym}
+use Rattle.std.proofs.Common.{ap, subst, ◌∙◌, arith, inl, []}
+use Rattle.std.specs.Prelude.{is_some, not, slice_set, IsSome}
+use Rattle.std.specs.FinMap as map
 use Rattle.std.specs.Option.{option_map}
 use Rattle.volume_model.specs.declared.reply.Reply.TheVariants.{Memory, NoPage}
 use Rattle.store_model.specs.Rows.{InJob, Row}
-use Rattle.store_model.specs.Shown.{fixed_of}
-use Rattle.store_model.specs.StoreState.{shown}
 use Rattle.store_model.specs.Cases.{Begins}
-use Rattle.store_core.specs.Begins.{first_job, IsPrepared, LacksPages}
+use Rattle.store_model.proofs.JobReady.{lacks_for_one}
+use Rattle.blob_meta.specs.Jobs.{job_of_one}
+use Rattle.store_core.specs.Begins.{first_job, AsksToWrite, IsPrepared, LacksPages}
 use Rattle.store_core.specs.Jobs.{job_seen}
-use Rattle.store_core.specs.declared.begin.Prepared.{Prepared}
 use Rattle.store_core.specs.Running.{view_of}
 use Rattle.store_core.specs.StoreView.{state_of}
-use Rattle.store_core.specs.declared.job.RunningJob.{RunningJob}
-use Rattle.store_core.proofs.JobBegin.{all_fit, begun, has_chain, may_lack, ready, refused, root, row_is}
-use Rattle.store_core.proofs.begin.begin.Goals as goal
 use Rattle.store_core.specs.declared.job.Planned.{Planned}
+use Rattle.store_core.specs.declared.job.Rooms.{Rooms}
+use Rattle.store_core.specs.declared.job.RunningJob.{RunningJob}
+use Rattle.store_core.specs.declared.preparing.Prepared.{Prepared}
+use Rattle.store_core.proofs.JobAsked.{all_fit, asked, ready, there_is}
+use Rattle.store_core.proofs.JobBegin.{begun, refused, row_is}
+use Rattle.store_core.proofs.begin.begin.Goals as goal
 
-pub prepare-requires-clause-chain : goal.prepare-requires-clause-chain
-prepare-requires-clause-chain g c =
+-- where room is taken no blob is there
+not_there : (rooms : Option Rooms) (chain : Option (List ℕ)) → IfNone rooms (IsSome chain)
+    → IfSome rooms (λ _. chain ≡ None) → is_some chain ≡ not (is_some rooms)
+not_there None chain there none = there
+not_there (Some x) chain there none = ap is_some none
+
+none_of : (o : Option (List ℕ)) → is_some o ≡ false → o ≡ None
+none_of None is = refl
+none_of (Some x) is = absurd (cc is)
+
+pub prepare-requires-clause-next : goal.prepare-requires-clause-next
+prepare-requires-clause-next g c = λ made.
+    let p = state_of g.D.PageDisk (view_of c.args.running.now) in
     let waits = c.requires.posted.waits in
     let asks = c.requires.asks waits.command waits.rest (ap (λ (r : Row). r.left) waits.row) in
-    has_chain (state_of g.D.PageDisk (view_of c.args.running.now)) c.requires.running c.requires.runs waits.command
-    c.args.head c.args.new asks
+    let was = not_there c.in-Ok.rooms (p.chains c.args.head) c.in-Ok.ensures.there c.in-Ok.ensures.new in
+    let there = there_is p c.requires.running c.requires.runs waits.command c.args.head c.args.new asks in
+    asks.next (no_meta (p.base c.args.head) (there ∙ was ∙ ap not made))
+  where
+    no_meta : {M : Type 0} (o : Option M) → is_some o ≡ false → o ≡ None
+    no_meta None is = refl
+    no_meta (Some x) is = absurd (cc is)
 
 pub prepare-requires-clause-xattrs : goal.prepare-requires-clause-xattrs
 prepare-requires-clause-xattrs g c =
     let waits = c.requires.posted.waits in
     let asks = c.requires.asks waits.command waits.rest (ap (λ (r : Row). r.left) waits.row) in
-    all_fit c.args.new.xattrs (root (state_of g.D.PageDisk (view_of c.args.running.now)) c.requires.running
+    all_fit c.args.new.xattrs (asked (state_of g.D.PageDisk (view_of c.args.running.now)) c.requires.running
     c.requires.runs waits.command c.args.head c.args.new asks).xattrs
 
 pub prepare-requires-clause-internal : goal.prepare-requires-clause-internal
 prepare-requires-clause-internal g c =
     let waits = c.requires.posted.waits in
     let asks = c.requires.asks waits.command waits.rest (ap (λ (r : Row). r.left) waits.row) in
-    all_fit c.args.new.internal (root (state_of g.D.PageDisk (view_of c.args.running.now)) c.requires.running
+    all_fit c.args.new.internal (asked (state_of g.D.PageDisk (view_of c.args.running.now)) c.requires.running
     c.requires.runs waits.command c.args.head c.args.new asks).internal
 
 pub returns-in-Ok-Some-clause-began : goal.returns-in-Ok-Some-clause-began
 returns-in-Ok-Some-clause-began g c = λ _.
     let d = g.D.PageDisk in
     let p = view_of c.args.running.now in
+    let s = state_of d p in
     let posted = c.requires.posted in
     let waits = posted.waits in
     let asks = c.requires.asks waits.command waits.rest (ap (λ (r : Row). r.left) waits.row) in
     let low : c.args.channel < length p.rows = omega (arith, c.requires.channel, c.requires.order.sixteen) in
     let no_job = ap (λ o. option_map job_seen o) c.requires.no_job in
     let x = c.in-Ok-Some.prepared in
-    let is : IsPrepared c.args.running.now.chains c.args.head c.args.new c.args.running.now.pages.bits
+    let rooms = c.in-Ok.rooms in
+    let was = not_there rooms (s.chains c.args.head) c.in-Ok.ensures.there c.in-Ok.ensures.new in
+    let is : IsPrepared c.args.running.now.chains c.args.head c.args.new rooms c.args.running.now.pages.bits
     c.prepare.new.pages.bits x =
-    subst (λ (o : Option Prepared). IfSome o (IsPrepared c.args.running.now.chains c.args.head c.args.new
+    subst (λ (o : Option Prepared). IfSome o (IsPrepared c.args.running.now.chains c.args.head c.args.new rooms
     c.args.running.now.pages.bits c.prepare.new.pages.bits)) c.in-Ok-Some.field-0-is c.in-Ok-Some.ensures.some in
+    let made : is_some rooms ≡ is_some x.rooms = ap is_some (sym is.rooms_are) in
     let row = row_is d p c.args.channel low posted c.requires.runs c.index_mut.result.now c.index_mut.ensures.value in
-    let planned : Planned =
-    record { head = c.args.head; new = c.args.new; live = x.live; chain = x.laid.chain; pages = x.laid.pages } in
-    let begins = begun d p c.args.channel low posted c.requires.runs no_job planned x.old asks is.live is.behind
+    let planned : Planned = record {
+      head = c.args.head;
+      new = c.args.new;
+      live = x.live;
+      chain = x.laid.chain;
+      pages = x.laid.pages;
+      rooms = x.rooms;
+    } in
+    let begins = begun d p c.args.channel low posted c.requires.runs c.requires.running no_job planned x.old asks
+    is.live (was ∙ ap not made) is.behind (λ none. is.none_behind (none_of (s.chains c.args.head) none))
     c.prepare.new.pages.bits
-    (ready (state_of d p) c.requires.running c.requires.runs waits.command c.args.head c.args.new asks no_job
-    c.args.running.now.chains c.prepare.new.pages.bits x is)
+    (ready s c.requires.running c.requires.runs waits.command c.args.head c.args.new asks no_job (is_some x.rooms)
+    (was ∙ ap not made) c.args.running.now.chains rooms c.prepare.new.pages.bits x is made)
     c.serve.new.self (c.serve.ensures ∙ ap (λ (r : Row). record r { stage = InJob }) row) in (
       subst (λ (j : RunningJob). Begins (state_of d p) (state_of d (record p {
         rows = slice_set p.rows c.args.channel c.serve.new.self;
@@ -70,29 +101,43 @@ returns-in-Ok-Some-clause-began g c = λ _.
 pub returns-in-Ok-None-clause-logged : goal.returns-in-Ok-None-clause-logged
 returns-in-Ok-None-clause-logged g c = λ _.
     let p = view_of c.args.running.now in
-    let waits = c.requires.posted.waits in
-    let asks = c.requires.asks waits.command waits.rest (ap (λ (r : Row). r.left) waits.row) in
-    let low : c.args.channel < length p.rows = omega (arith, c.requires.channel, c.requires.order.sixteen) in
-    let none : LacksPages c.args.new c.args.running.now.pages.bits
-    × (c.prepare.new.pages.bits ≡ c.args.running.now.pages.bits) =
-    subst (λ (o : Option Prepared). IfNone o (LacksPages c.args.new c.args.running.now.pages.bits
-    × (c.prepare.new.pages.bits ≡ c.args.running.now.pages.bits))) c.in-Ok-None.field-0-is
-    c.in-Ok-None.ensures.none in
-    refused g.D.PageDisk p c.args.channel low c.requires.posted c.requires.runs NoPage (record {
-      no_job = ap (λ o. option_map job_seen o) c.requires.no_job;
-      head = c.args.head;
-      new = c.args.new;
-      asks = asks;
-      lacks = none.0;
-    }) c.prepare.new.pages.bits none.1 (view_of c.log.new.running) c.log.ensures.logged
-
-pub returns-in-Err-clause-logged : goal.returns-in-Err-clause-logged
-returns-in-Err-clause-logged g c = λ _.
-    let p = view_of c.args.running.now in
     let s = state_of g.D.PageDisk p in
     let waits = c.requires.posted.waits in
     let asks = c.requires.asks waits.command waits.rest (ap (λ (r : Row). r.left) waits.row) in
     let low : c.args.channel < length p.rows = omega (arith, c.requires.channel, c.requires.order.sixteen) in
+    let there = is_some (map.get c.args.running.now.chains c.args.head) in
+    let none : LacksPages there c.args.new c.args.running.now.pages.bits
+    × (c.prepare.new.pages.bits ≡ c.args.running.now.pages.bits) =
+    subst (λ (o : Option Prepared). IfNone o (LacksPages there c.args.new c.args.running.now.pages.bits
+    × (c.prepare.new.pages.bits ≡ c.args.running.now.pages.bits))) c.in-Ok-None.field-0-is
+    c.in-Ok-None.ensures.none in
+    refused g.D.PageDisk p c.args.channel low c.requires.posted c.requires.runs NoPage (record {
+      no_job = ap (λ o. option_map job_seen o) c.requires.no_job;
+      changes = job_of_one c.args.head c.args.new;
+      commit = asks.commit;
+      asked = asks.asked;
+      claimed = [];
+      claims = record { least = tt; count = inl refl };
+      lacks = lacks_for_one s.base c.args.head c.args.new p.pages (subst (λ (b : Bool). LacksPages b c.args.new p.pages)
+          (sym (there_is s c.requires.running c.requires.runs waits.command c.args.head c.args.new asks)) none.0);
+    }) c.prepare.new.pages.bits none.1 (view_of c.log-in-Ok-None.new.running) c.log-in-Ok-None.ensures.logged
+
+pub returns-in-Err-clause-logged : goal.returns-in-Err-clause-logged
+returns-in-Err-clause-logged g c = λ _.
+    let p = view_of c.args.running.now in
+    let waits = c.requires.posted.waits in
+    let asks = c.requires.asks waits.command waits.rest (ap (λ (r : Row). r.left) waits.row) in
+    let low : c.args.channel < length p.rows = omega (arith, c.requires.channel, c.requires.order.sixteen) in
     refused g.D.PageDisk p c.args.channel low c.requires.posted c.requires.runs Memory
-    (may_lack (fixed_of s.super) (shown s) waits.command asks.syncing) c.prepare.new.pages.bits
-    c.in-Err.ensures.memory (view_of c.log-in-Err.new.running) c.log-in-Err.ensures.logged
+    (asked (state_of g.D.PageDisk p) c.requires.running c.requires.runs waits.command c.args.head c.args.new asks).memory
+    c.prepare.new.pages.bits c.in-Err.ensures.memory (view_of c.log-in-Err.new.running) c.log-in-Err.ensures.logged
+
+pub returns-in_default-clause-logged : goal.returns-in_default-clause-logged
+returns-in_default-clause-logged g c = λ _.
+    let p = view_of c.args.running.now in
+    let waits = c.requires.posted.waits in
+    let asks = c.requires.asks waits.command waits.rest (ap (λ (r : Row). r.left) waits.row) in
+    let low : c.args.channel < length p.rows = omega (arith, c.requires.channel, c.requires.order.sixteen) in
+    refused g.D.PageDisk p c.args.channel low c.requires.posted c.requires.runs Memory
+    (asked (state_of g.D.PageDisk p) c.requires.running c.requires.runs waits.command c.args.head c.args.new asks).memory
+    p.pages refl (view_of c.log.new.running) c.log.ensures.logged

@@ -4,7 +4,7 @@ use Rattle.blob_meta.specs.declared.job.Job.{Job}
 use Rattle.blob_meta.specs.declared.job.Replacement.{Replacement}
 use Rattle.blob_meta.specs.declared.meta.Meta.{Meta}
 use Rattle.blob_meta.specs.Jobs.{job_of_one}
-use Rattle.store_model.specs.Jobs.{AsksFor}
+use Rattle.store_core.specs.Begins.{AsksToWrite}
 use Rattle.store_core.specs.Running.{view_of}
 use Rattle.store_core.specs.StoreView.{state_of}
 use Rattle.store_core.proofs.begin.begin_or_halt.Goals as goal
@@ -32,5 +32,5 @@ begin-requires-clause-asks g c command rest left =
     let new = c.replacement_of-head.result.1 in
     let x = c.requires.asks (none_of c.args.running.now.stopped c.if-is_some.ensures) command rest left in
     let same = one_replacement x.head head x.new new (sym x.is ∙ c.replacement_of-head.ensures) in
-    subst (λ h. AsksFor p command h new) (ap (λ (r : Replacement). r.head) same)
-    (subst (AsksFor p command x.head) (one_meta x.new new (ap (λ (r : Replacement). r.new) same)) x.asks)
+    subst (λ h. AsksToWrite p command h new) (ap (λ (r : Replacement). r.head) same)
+    (subst (AsksToWrite p command x.head) (one_meta x.new new (ap (λ (r : Replacement). r.new) same)) x.asks)

@@ -1,17 +1,41 @@
-use Rattle.std.proofs.Common.{ℕ, ◌+◌, ◌≤◌, ◌<◌, [], List, length, get_or, drop, sym, ◌∙◌, ap, subst}
+use Rattle.std.proofs.Common.{◌≡◌, ◌∷◌, Option, Some, None, ℕ, ◌+◌, ◌≤◌, ◌<◌, [], List, length, get_or, drop, sym, ◌∙◌, ap, subst}
 use Rattle.std.proofs.Common.{arith}
 use Rattle.page_disk.specs.Moments.{IsReplaced, CallsLeaveOnly}
 use Rattle.md_chain.specs.declared.plan.PlannedPage.{PlannedPage}
 use Rattle.store_model.specs.Rows.{Row}
 use Rattle.store_model.specs.Cases.{WritesOnePage}
 use Rattle.store_core.specs.Running.{view_of, InOrder}
-use Rattle.store_core.specs.StoreView.{device_of, rows_of}
+use Rattle.store_core.specs.StoreView.{device_of, rows_of, StoreView}
 use Rattle.store_core.proofs.JobTurned.{channel_low, on_err, on_ok, planned_some, row_some}
 use Rattle.store_core.proofs.JobCommitted.{chain_there, committed_done, committed_more, done_answer, failed_committing}
-use Rattle.store_core.proofs.JobCommitted.{head_below, live_there, meta_there, more_answer}
-use Rattle.store_core.proofs.Maps.{heads_stay}
+use Rattle.store_core.proofs.JobCommitted.{head_below, live_there, meta_there, more_answer, unguarded}
+use Rattle.store_core.proofs.Maps.{heads_adopted}
+use Rattle.std.specs.Prelude.{is_some, IfSome}
+use Rattle.std.specs.Option.{option_map}
+use Rattle.page_disk.specs.declared.disk.PageDisk.{Ghosts}
+use Rattle.volume_model.specs.declared.command.Command.{Command}
+use Rattle.volume_model.specs.declared.reply.Reply.{Reply}
+use Rattle.store_core.specs.Jobs.{job_seen, reply_of}
+use Rattle.store_core.specs.Steps.{logged_at}
+use Rattle.store_core.specs.declared.job.Planned.{Planned}
+use Rattle.store_core.specs.declared.job.RunningJob.{RunningJob}
 use Rattle.store_core.proofs.job_turn.commit.Goals as goal
 use Rattle.store_core.proofs.AtWork.{got}
+
+-- no job runs while its turn is made
+none_roomy : (o : Option RunningJob) (P : RunningJob → Type 0) → option_map job_seen o ≡ None → IfSome o P
+none_roomy None P none = tt
+none_roomy (Some j) P none = absurd (cc none)
+
+-- the entry has the reply of what was planned
+module _ {D : Type 0} (d : Ghosts D) (a l : StoreView D) (channel : ℕ) (reply : Reply) (planned : Planned)
+    (is : reply ≡ reply_of planned) where
+  abbrev IsEntered : Reply → Type 0
+  IsEntered x = (k : Command) (ks : List Command) → (rows_of a.rows channel).left ≡ k ∷ ks
+      → l ≡ logged_at a channel k ks x (d.clock l.disk)
+
+  entered_so : IsEntered reply → IsEntered (reply_of planned)
+  entered_so x = subst IsEntered is x
 
 -- the head's page of the plan
 abbrev first : List PlannedPage → PlannedPage
@@ -57,21 +81,37 @@ returns-then-is_err-clause-case g c =
     (view_of c.fail.new.running) c.fail.ensures.logged
 
 pub adopt-requires-clause-meta : goal.adopt-requires-clause-meta
-adopt-requires-clause-meta g c =
+adopt-requires-clause-meta g c = λ none.
     meta_there g.D.PageDisk (view_of c.args.running.now) c.args.channel c.args.planned c.args.old c.requires.at_work
+    (ap is_some none)
 
 pub adopt-requires-clause-chain : goal.adopt-requires-clause-chain
-adopt-requires-clause-chain g c =
+adopt-requires-clause-chain g c = λ none.
     chain_there g.D.PageDisk (view_of c.args.running.now) c.args.channel c.args.planned c.args.old c.requires.at_work
+    (ap is_some none)
 
 pub adopt-requires-clause-live : goal.adopt-requires-clause-live
-adopt-requires-clause-live g c =
+adopt-requires-clause-live g c = λ none.
     live_there g.D.PageDisk (view_of c.args.running.now) c.args.channel c.args.planned c.args.old c.requires.at_work
+    (ap is_some none)
+
+pub adopt-requires-clause-unguarded : goal.adopt-requires-clause-unguarded
+adopt-requires-clause-unguarded g c = λ some.
+    unguarded g.D.PageDisk (view_of c.args.running.now) c.args.channel c.args.planned c.args.old c.requires.at_work some
+
+pub adopt-requires-clause-marked : goal.adopt-requires-clause-marked
+adopt-requires-clause-marked g c = λ _.
+    let below = head_below g.D.PageDisk
+    (view_of c.args.running.now) c.args.channel c.args.planned c.args.old c.requires.at_work in
+    let count = c.requires.order.heads.count in
+    omega (arith, below, count)
 
 pub log-requires-clause-order : goal.log-requires-clause-order
 log-requires-clause-order g c =
     let order = c.requires.order in
     let old = c.args.running.now in
+    let below = head_below g.D.PageDisk
+    (view_of c.args.running.now) c.args.channel c.args.planned c.args.old c.requires.at_work in
     let there = meta_there g.D.PageDisk
     (view_of c.args.running.now) c.args.channel c.args.planned c.args.old c.requires.at_work in
     subst (InOrder g.D.PageDisk) (sym c.adopt.ensures) (record {
@@ -85,7 +125,9 @@ log-requires-clause-order g c =
       no_page = order.no_page;
       no_cluster = order.no_cluster;
       headed = order.headed;
-      heads = heads_stay old.sup.md_len old.metas c.args.planned.head c.args.planned.new old.heads there order.heads;
+      heads = heads_adopted (is_some c.args.planned.rooms) old.sup.md_len old.metas c.args.planned.head
+          c.args.planned.new old.heads there below order.heads;
+      roomy = none_roomy old.job _ c.requires.at_work.taken;
     })
 
 pub log-requires-clause-channel : goal.log-requires-clause-channel
@@ -110,7 +152,9 @@ returns-then-len-eq0-clause-case g c =
     (subst (λ (l : List PlannedPage). CallsLeaveOnly g.D.PageDisk c.args.running.now.disk c.replace.new.disk
     (IsReplaced (g.D.PageDisk.images c.args.running.now.disk) (g.D.PageDisk.now c.args.running.now.disk)
     c.page_at-page.result (first l).page)) c.as_slice.ensures c.replace.ensures.any_moment) c.requires.matched
-    (view_of c.adopt.new.running) (ap view_of c.adopt.ensures) (view_of c.log.new.running) c.log.ensures.logged
+    (view_of c.adopt.new.running) (ap view_of c.adopt.ensures) (view_of c.log.new.running)
+    (entered_so g.D.PageDisk (view_of c.adopt.new.running) (view_of c.log.new.running) c.args.channel
+    c.reply-reply.result c.args.planned c.reply-reply.ensures c.log.ensures.logged)
     (subst (λ (l : List PlannedPage). WritesOnePage g.D.PageDisk.tells (device_of g.D.PageDisk c.args.running.now.disk)
     c.page_at-page.result (first l).page 3 (device_of g.D.PageDisk c.replace.new.disk)) c.as_slice.ensures
     (on_ok c.replace.result _ (sym c.is_err.ensures.value ∙ c.if-is_err.false) c.replace.ensures.moves))
@@ -127,7 +171,9 @@ returns-then-len-eq0-clause-answer g c =
     (subst (λ (l : List PlannedPage). CallsLeaveOnly g.D.PageDisk c.args.running.now.disk c.replace.new.disk
     (IsReplaced (g.D.PageDisk.images c.args.running.now.disk) (g.D.PageDisk.now c.args.running.now.disk)
     c.page_at-page.result (first l).page)) c.as_slice.ensures c.replace.ensures.any_moment) c.requires.matched
-    (view_of c.adopt.new.running) (ap view_of c.adopt.ensures) (view_of c.log.new.running) c.log.ensures.logged
+    (view_of c.adopt.new.running) (ap view_of c.adopt.ensures) (view_of c.log.new.running)
+    (entered_so g.D.PageDisk (view_of c.adopt.new.running) (view_of c.log.new.running) c.args.channel
+    c.reply-reply.result c.args.planned c.reply-reply.ensures c.log.ensures.logged)
 
 pub returns-clause-case : goal.returns-clause-case
 returns-clause-case g c =
@@ -140,7 +186,9 @@ returns-clause-case g c =
     (subst (λ (l : List PlannedPage). CallsLeaveOnly g.D.PageDisk c.args.running.now.disk c.replace.new.disk
     (IsReplaced (g.D.PageDisk.images c.args.running.now.disk) (g.D.PageDisk.now c.args.running.now.disk)
     c.page_at-page.result (first l).page)) c.as_slice.ensures c.replace.ensures.any_moment) c.requires.matched
-    (view_of c.adopt.new.running) (ap view_of c.adopt.ensures) (view_of c.log.new.running) c.log.ensures.logged
+    (view_of c.adopt.new.running) (ap view_of c.adopt.ensures) (view_of c.log.new.running)
+    (entered_so g.D.PageDisk (view_of c.adopt.new.running) (view_of c.log.new.running) c.args.channel
+    c.reply-reply.result c.args.planned c.reply-reply.ensures c.log.ensures.logged)
     (subst (λ (l : List PlannedPage). WritesOnePage g.D.PageDisk.tells (device_of g.D.PageDisk c.args.running.now.disk)
     c.page_at-page.result (first l).page 3 (device_of g.D.PageDisk c.replace.new.disk)) c.as_slice.ensures
     (on_ok c.replace.result _ (sym c.is_err.ensures.value ∙ c.if-is_err.false) c.replace.ensures.moves))
@@ -157,4 +205,6 @@ returns-clause-answer g c =
     (subst (λ (l : List PlannedPage). CallsLeaveOnly g.D.PageDisk c.args.running.now.disk c.replace.new.disk
     (IsReplaced (g.D.PageDisk.images c.args.running.now.disk) (g.D.PageDisk.now c.args.running.now.disk)
     c.page_at-page.result (first l).page)) c.as_slice.ensures c.replace.ensures.any_moment) c.requires.matched
-    (view_of c.adopt.new.running) (ap view_of c.adopt.ensures) (view_of c.log.new.running) c.log.ensures.logged
+    (view_of c.adopt.new.running) (ap view_of c.adopt.ensures) (view_of c.log.new.running)
+    (entered_so g.D.PageDisk (view_of c.adopt.new.running) (view_of c.log.new.running) c.args.channel
+    c.reply-reply.result c.args.planned c.reply-reply.ensures c.log.ensures.logged)

@@ -53,6 +53,7 @@ returns-clause-order g c =
       no_cluster = order.no_cluster;
       headed = order.headed;
       heads = order.heads;
+      roomy = order.roomy;
     }
 
 pub returns-clause-row : goal.returns-clause-row

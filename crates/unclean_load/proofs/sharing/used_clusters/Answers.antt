@@ -4,21 +4,21 @@ use Rattle.super_block.specs.declared.page.Super.{Super}
 use Rattle.super_block.specs.Numbers.{clusters_of, fixed_clusters_of}
 use Rattle.store_model.specs.Maps.{Metas}
 use Rattle.store_model.specs.Places.{Unclaimed, UsedClusters}
-use Rattle.store_model.specs.RunInvariant.{AreRoots}
+use Rattle.store_model.specs.RunInvariant.{AreLoadable}
 use Rattle.unclean_load.specs.Sharing.{copies, AreCounted}
 use Rattle.unclean_load.proofs.Slots.{all_inside, mapped_copy, find_mapped}
 use Rattle.unclean_load.proofs.sharing.used_clusters.Goals as goal
 
 pub claims_of-requires-clause-inside : goal.claims_of-requires-clause-inside
-claims_of-requires-clause-inside c = all_inside c.args.sup.now (map.get c.args.metas.now) c.requires.roots
+claims_of-requires-clause-inside c = all_inside c.args.sup.now (map.get c.args.metas.now) c.requires.loadable
 
-counted_used : (s : Super) (metas : Metas) (bits : List Bool) (twice : Option ℕ) → AreRoots s metas
+counted_used : (s : Super) (metas : Metas) (bits : List Bool) (twice : Option ℕ) → AreLoadable s metas
     → length bits ≡ clusters_of s → AreCounted (fixed_clusters_of s) (copies s.md_len metas) bits twice
     → UsedClusters s bits metas Unclaimed
-counted_used s metas bits twice roots count x = record {
+counted_used s metas bits twice all count x = record {
   count = count;
   fixed = λ k lt below. x.first k lt (subst (λ (n : ℕ). k < n) (sym count) below);
-  mapped = λ k m. x.claimed k (mapped_copy metas k s.md_len (λ h n there. (roots h n there).low) m);
+  mapped = λ k m. x.claimed k (mapped_copy metas k s.md_len (λ h n there. (all h n there).stored.low) m);
   claimed_too = λ k bad. absurd bad;
   no_other = λ k is. elim (x.no_other k is) [
     | inl first ↦ inl first
@@ -31,5 +31,5 @@ pub returns-in_default-clause-used : goal.returns-in_default-clause-used
 returns-in_default-clause-used c =
     let claims = c.in_ok-claims.claims in
     counted_used c.args.sup.now
-    (map.get c.args.metas.now) claims.clusters claims.twice c.requires.roots c.in_ok-claims.ensures.count
+    (map.get c.args.metas.now) claims.clusters claims.twice c.requires.loadable c.in_ok-claims.ensures.count
     c.in_ok-claims.ensures.counted

@@ -1,14 +1,17 @@
 use Rattle.std.proofs.Common.{sym, ap, ◌∙◌}
 use Rattle.std.specs.FinMap as map
-use Rattle.blob_meta.proofs.EntriesAsMap.{one_given, get_found}
+use Rattle.std.proofs.lemmas.Result.{on_ok_weaker, on_err_weaker}
+use Rattle.blob_meta.proofs.MapOfEntries.{map_of, get-entries, entries-put}
 use Rattle.blob_meta.proofs.head_map.HeadMap.insert.Goals as goal
 
-pub returns-in-Ok-clause-ok : goal.returns-in-Ok-clause-ok
-returns-in-Ok-clause-ok g c =
-    one_given c.self.inside.entries.entries c.insert.new.self.entries c.args.head c.args.value c.in-Ok.ensures.updates.0
-    ∙ ap (λ m. map.insert m c.args.head c.args.value) c.self.view_is
+pub returns-clause-ok : goal.returns-clause-ok
+returns-clause-ok g c =
+    on_ok_weaker c.insert_entry.result (λ is.
+    ap map_of is ∙ entries-put c.self.inside.entries.items c.args.head c.args.value c.self.invariant
+    ∙ ap (λ m. map.insert m c.args.head c.args.value) c.self.view_is) c.insert_entry.ensures.ok
 
 pub returns-clause-absent : goal.returns-clause-absent
 returns-clause-absent g c =
-    ap (λ m. map.get m c.args.head) (sym c.self.view_is) ∙ get_found c.self.inside.entries.entries c.args.head
-    ∙ c.in-Err.ensures.absent
+    on_err_weaker c.insert_entry.result (λ none.
+    ap (λ m. map.get m c.args.head) (sym c.self.view_is)
+    ∙ get-entries c.self.inside.entries.items c.args.head c.self.invariant ∙ none) c.insert_entry.ensures.absent

@@ -2,10 +2,7 @@ use Rattle.std.proofs.Common.{◌≡◌, None, subst, sym}
 use Rattle.store_model.specs.Cases as kind
 use Rattle.store_core.specs.Running.{view_of, with_opening}
 use Rattle.store_core.specs.StoreView.{WithOpening}
-use Rattle.blob_meta.specs.Asked.{IsOnHead}
-use Rattle.store_model.specs.Cases.{IsInMemory}
 use Rattle.store_core.specs.TurnMade.{TurnMade}
-use Rattle.store_core.specs.Steps.{Asks}
 use Rattle.store_core.specs.Requests.{IsPostedBy}
 use Rattle.store_core.proofs.Posting.{either, posted_at}
 use Rattle.store_core.proofs.plant.Plant.answer.Goals as goal
@@ -15,11 +12,6 @@ answer_or_halt-requires-clause-posted g c = posted_at g.D.PageDisk
     (with_opening c.self.inside.running c.self.inside.opening.value c.self.inside.right.value.name)
     c.args.msg c.self.invariant.0
     (subst (λ (b : WithOpening g.row.D.Denot). IsPostedBy b.at.rows c.args.msg) (sym c.self.view_is) c.requires.posted)
-
-pub answer_or_halt-requires-clause-in_memory : goal.answer_or_halt-requires-clause-in_memory
-answer_or_halt-requires-clause-in_memory g c = subst
-    (λ (b : WithOpening g.row.D.Denot). Asks b.at c.args.msg.channel (λ command. IsOnHead command × IsInMemory command))
-    (sym c.self.view_is) c.requires.in_memory
 
 pub invariant_of-self : goal.invariant_of-self
 invariant_of-self g c =

@@ -9,7 +9,7 @@ use Rattle.store_core.proofs.Starts.{is_loaded_with, it_opens, none_past}
 use Rattle.store_core.proofs.plant.Plant.start.Goals as goal
 
 pub parts_at_start-requires : goal.parts_at_start-requires
-parts_at_start-requires g c = none_past c.args.loaded.sup (map.get c.args.loaded.metas) c.requires.whole.roots
+parts_at_start-requires g c = none_past c.args.loaded.sup (map.get c.args.loaded.metas) c.requires.whole.loadable
 
 pub invariant_of-result : goal.invariant_of-result
 invariant_of-result g c =
@@ -25,7 +25,7 @@ invariant_of-result g c =
     c.begins.ensures opened
     (is_loaded_with d c.args.loaded live guards rows c.in-Ok.ensures.guards c.requires.whole c.in-Ok.ensures.live)
     (it_opens d c.args.loaded live guards rows c.in-Ok.ensures.guards c.args.script c.in-Ok.ensures.rows)
-    (c.regions_are_placed.ensures c.args.loaded.sup c.requires.faultless) c.requires.holds right in
+    c.requires.faultless c.requires.holds right in
     let kept_at : StoreInvariant d (with_opening running running right) =
     subst (λ (p : StoreView g.row.D.Denot). StoreInvariant d (record { at = p; opening = p; right = right }))
     (sym at) kept in (

@@ -15,4 +15,4 @@ returns c =
     let same = c.uuid_of_new.ensures
     ∙ ap (λ store. option_map_or (λ bytes. bytes) c.args.uuid (default_uuid store name)) c.store_uuid.ensures in
     IfOk-weaker c.named_xattrs.result _ (λ (xattrs : Xattrs). xattrs ≡ two_xattrs f v name c.args.uuid)
-    (λ xattrs is. is f v ∙ ap (λ uuid. two_xattrs f v name (Some uuid)) same) c.named_xattrs.ensures
+    (λ xattrs is. is f v ∙ ap (λ uuid. two_xattrs f v name (Some uuid)) same) c.named_xattrs.ensures.two

@@ -1,4 +1,4 @@
--- A blob without a mark that was read from a chain is a root, and its chain is one of the region.
+-- A load takes a blob that was read from a chain and stands alone; its chain is one of the region.
 use Rattle.std.proofs.Common.{◌≡◌, ℕ, suc, true, false, List, [], ◌∷◌, None, refl, sym, subst, inl, inr, arith}
 use Rattle.std.specs.Prelude.{codes, ◌||◌, ◌==◌}
 use Rattle.std.specs.List.{list_any}
@@ -16,7 +16,7 @@ use Rattle.md_chain.proofs.Links.{passes, first, linked}
 use Rattle.store_model.specs.Regions.{region_of}
 use Rattle.store_model.specs.Scans.{MetaAt}
 use Rattle.store_model.specs.Places.{AreDistinct}
-use Rattle.store_model.specs.RunInvariant.{IsRoot}
+use Rattle.store_model.specs.RunInvariant.{IsLoadable}
 use Rattle.unclean_load.specs.Heads.{has_mark}
 use Rattle.unclean_load.specs.Reading.{IsChainOf}
 use Rattle.unclean_load.proofs.Attributes.{xattrs_written, internal_written}
@@ -96,23 +96,27 @@ module _ (look : Look) (s : Super) (head : ℕ) (m : Meta) (pages : List ℕ)
     differ = distinct look s.md_len head 0 [] head head says.items pages says.chain;
   }
 
-  said_root : has_mark (meta_of head says.items) ≡ false → IsRoot s head (meta_of head says.items)
-  said_root none = record {
-    low = (first look s.md_len head 0 [] head head says.items pages says.chain).low;
-    id = refl;
-    clear = clear_twice _;
-    xattrs = xattrs_written look s.md_len head 0 [] head head says.items pages says.chain;
-    internal = internal_written look s.md_len head 0 [] head head says.items pages says.chain;
-    no_parent = none_named (codes "SNAP") is_snap (meta_of head says.items).internal none;
-    not_made = none_named (codes "SNAPTMP") is_snaptmp (meta_of head says.items).internal none;
-    not_removed = none_named (codes "SNAPRM") is_snaprm (meta_of head says.items).internal none;
-    faultless =
-        subst (λ (n : Meta). meta_fault (region_of s).fixed
-        (region_of s).clusters n ≡ None) says.meta_is says.faultless;
+  said_loadable : has_mark (meta_of head says.items) ≡ false → IsLoadable s head (meta_of head says.items)
+  said_loadable none = record {
+    stored = record {
+      low = (first look s.md_len head 0 [] head head says.items pages says.chain).low;
+      id = refl;
+      clear = clear_twice _;
+      xattrs = xattrs_written look s.md_len head 0 [] head head says.items pages says.chain;
+      internal = internal_written look s.md_len head 0 [] head head says.items pages says.chain;
+      faultless =
+          subst (λ (n : Meta). meta_fault (region_of s).fixed
+          (region_of s).clusters n ≡ None) says.meta_is says.faultless;
+    };
+    alone = record {
+      no_parent = none_named (codes "SNAP") is_snap (meta_of head says.items).internal none;
+      not_made = none_named (codes "SNAPTMP") is_snaptmp (meta_of head says.items).internal none;
+      not_removed = none_named (codes "SNAPRM") is_snaprm (meta_of head says.items).internal none;
+    };
   }
 
-  -- a blob that was read and has no mark can be held by the store
-  pub root : has_mark m ≡ false → IsRoot s head m
-  root none =
-      subst (λ (n : Meta). IsRoot s head n) (sym says.meta_is)
-      (said_root (subst (λ (n : Meta). has_mark n ≡ false) says.meta_is none))
+  -- a load takes a blob that was read and stands alone
+  pub loadable : has_mark m ≡ false → IsLoadable s head m
+  loadable none =
+      subst (λ (n : Meta). IsLoadable s head n) (sym says.meta_is)
+      (said_loadable (subst (λ (n : Meta). has_mark n ≡ false) says.meta_is none))

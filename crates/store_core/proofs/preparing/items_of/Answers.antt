@@ -2,7 +2,7 @@ use Rattle.std.proofs.Common.{Result, Ok, Err, IfOk, arith}
 use Rattle.blob_meta.specs.Items.{IsItemsOf}
 use Rattle.md_chain.specs.Packing.{ArePlannable, AreFew}
 use Rattle.md_chain.proofs.OfMeta.{few, plannable}
-use Rattle.store_core.proofs.begin.items_of.Goals as goal
+use Rattle.store_core.proofs.preparing.items_of.Goals as goal
 
 so : {T E : Type 0} (P Q : T → Type 0) (r : Result T E) → ((x : T) → P x → Q x) → IfOk r P → IfOk r Q
 so P Q (Ok x) by is = by x is

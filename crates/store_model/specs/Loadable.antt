@@ -1,4 +1,4 @@
--- Which metadata the store can hold.
+-- Which metadata the store can hold, and a load takes.
 use Rattle.std.specs.Prelude.{◌≡◌, ℕ, ◌+◌, ◌<◌, ◌≤◌, length, Some, None, codes}
 use Rattle.std.specs.List.{AllByRecursion}
 use Rattle.volume_model.specs.Xattrs.{Xattrs, value_of}
@@ -17,17 +17,26 @@ pub record CanBeWritten (xattrs : Xattrs) : Type 0 where
   pub names : HasDistinctNames xattrs
   pub short : AllByRecursion (λ (x : Xattr). length x.key + length x.value ≤ 4063) xattrs
 
--- the metadata of a blob that the store can hold now: in the region, without fault, with no parent and no mark
-pub record IsRoot (s : Super) (head : ℕ) (m : Meta) : Type 0 where
+-- the metadata of a blob that the store can hold: of a head in the region, without fault
+pub record IsStored (s : Super) (head : ℕ) (m : Meta) : Type 0 where
   pub low : head < s.md_len
   pub id : m.id ≡ blob_id head
   pub clear : without_bit_1 m.flags.invalid ≡ m.flags.invalid
   pub xattrs : CanBeWritten m.xattrs
   pub internal : CanBeWritten m.internal
+  pub faultless : meta_fault (region_of s).fixed (region_of s).clusters m ≡ None
+
+-- a blob that has no parent, and no mark of a snapshot that is being made or removed
+pub record StandsAlone (m : Meta) : Type 0 where
   pub no_parent : value_of m.internal (codes "SNAP") ≡ None
   pub not_made : value_of m.internal (codes "SNAPTMP") ≡ None
   pub not_removed : value_of m.internal (codes "SNAPRM") ≡ None
-  pub faultless : meta_fault (region_of s).fixed (region_of s).clusters m ≡ None
 
-abbrev pub AreRoots : Super → Metas → Type 0
-AreRoots s metas = (head : ℕ) (m : Meta) → metas head ≡ Some m → IsRoot s head m
+-- What a load takes: the metadata of a blob that the store can hold and that stands alone. Snapshots and clones are
+-- answered with `NotYet`.
+pub record IsLoadable (s : Super) (head : ℕ) (m : Meta) : Type 0 where
+  pub stored : IsStored s head m
+  pub alone : StandsAlone m
+
+abbrev pub AreLoadable : Super → Metas → Type 0
+AreLoadable s metas = (head : ℕ) (m : Meta) → metas head ≡ Some m → IsLoadable s head m

@@ -1,0 +1,39 @@
+use Rattle.std.proofs.Common.{◌≡◌, None, sym, subst}
+use Rattle.std.specs.Option.{option_copied}
+use Rattle.std.specs.Prelude.{Some, Ok, Err}
+use Rattle.volume_model.specs.declared.command.Command.TheVariants as c
+use Rattle.volume_model.specs.declared.command.Command.{Command}
+use Rattle.store_model.specs.Asking.{IsSyncing}
+use Rattle.blob_tool.specs.Serving.{IsPlanOf}
+use Rattle.blob_tool.proofs.Planned.{create_plan, is_running, put_plan, sync_plan}
+use Rattle.blob_tool.proofs.serving.planned.Goals as goal
+
+pub returns-in-Put : goal.returns-in-Put
+returns-in-Put g c =
+    let d = g.D.PageDisk in
+    let p = c.args.plant.now.at in
+    let running = is_running d c.args.plant.now c.keeps.ensures in
+    put_plan d c.plans.ensures p running c.requires.runs c.metas-metas.result.now c.sup-sup.result.now
+    (option_copied c.live_of-live.result) c.metas-metas.ensures c.sup-sup.ensures c.args.command.now c.in-Put.volume
+    c.in-Put.key c.in-Put.value c.in-Put.is c.live_of-live.ensures c.requires.served c.plan_put.result
+    c.plan_put.ensures.job c.plan_put.ensures.unrefused c.plan_put.ensures.refused
+
+pub returns-in-Sync : goal.returns-in-Sync
+returns-in-Sync g c =
+    let d = g.D.PageDisk in
+    let p = c.args.plant.now.at in
+    let running = is_running d c.args.plant.now c.keeps.ensures in
+    sync_plan d c.plans.ensures p running c.requires.runs c.metas-metas.result.now c.sup-sup.result.now
+    (option_copied c.live_of-live-in-Sync.result) c.metas-metas.ensures c.sup-sup.ensures c.args.command.now
+    c.in-Sync.volume c.in-Sync.is c.live_of-live-in-Sync.ensures c.requires.served c.plan_sync.result
+    c.plan_sync.ensures.job c.plan_sync.ensures.unrefused c.plan_sync.ensures.refused
+
+pub returns-in-Create : goal.returns-in-Create
+returns-in-Create g c =
+    let d = g.D.PageDisk in
+    let p = c.args.plant.now.at in
+    let running = is_running d c.args.plant.now c.keeps.ensures in
+    create_plan d c.plans.ensures p running c.requires.runs c.metas-metas.result.now c.sup-sup.result.now
+    c.metas-metas.ensures c.sup-sup.ensures ? ? c.next_head-new.result c.next_head-new.ensures
+    c.args.command.now c.in-Create.name c.in-Create.slots c.in-Create.thick c.in-Create.uuid c.in-Create.is c.requires.served
+    c.plan_create.result c.plan_create.ensures.job c.plan_create.ensures.unrefused c.plan_create.ensures.refused

@@ -1,0 +1,330 @@
+-- What is known of a job that a command asks for, before it begins.
+use Rattle.std.proofs.Common.{◌≡◌, ◌≢◌, ℕ, ◌+◌, ◌<◌, ◌^◌, Bool, true, false, List, [], ◌∷◌, length, get_or, drop}
+use Rattle.std.proofs.Common.{All, Option, Some, None, refl, sym, ◌∙◌, ap, subst, arith, inl, inr}
+use Rattle.std.specs.Prelude.{if◌then◌else◌, is_some, not}
+use Rattle.std.specs.Ordering.{nat_cmp}
+use Rattle.std.specs.FinMap as map
+use Rattle.std.proofs.lemmas.Bool.{cases_Bool, both_ways, cases_eq}
+use Rattle.std.proofs.lemmas.List.Elements.{All-from_recursion}
+use Rattle.bit_array.specs.Bits.{is_in, IsLeastClear}
+use Rattle.super_block.specs.declared.page.Super.{Super}
+use Rattle.super_block.specs.Placed.{IsPlaced}
+use Rattle.volume_model.specs.Xattrs.{Xattrs}
+use Rattle.volume_model.specs.Volumes.{two_xattrs}
+use Rattle.volume_model.specs.Steps.{MayLackMemory}
+use Rattle.volume_model.specs.declared.command.Command.{Command}
+use Rattle.volume_model.specs.declared.command.Command.TheVariants as c
+use Rattle.volume_model.specs.declared.reply.Reply.TheVariants as r
+use Rattle.blob_meta.specs.declared.meta.Meta.{Meta}
+use Rattle.blob_meta.specs.declared.job.Job.{Job}
+use Rattle.blob_meta.specs.declared.job.Replacement.{Replacement}
+use Rattle.blob_meta.specs.Jobs.{create_job, job_of_one, new_meta}
+use Rattle.blob_meta.specs.Parents.{slot}
+use Rattle.blob_meta.specs.Says.{meta_of}
+use Rattle.blob_meta.proofs.Inverse.{says}
+use Rattle.md_chain.specs.Chain.{is_among}
+use Rattle.md_chain.specs.Packing.{parts_of, FitsPage}
+use Rattle.md_chain.specs.Planned.{written_items}
+use Rattle.md_chain.specs.declared.plan.PlannedPage.{PlannedPage}
+use Rattle.md_chain.proofs.Saying.{written_say}
+use Rattle.store_model.specs.Maps.{Metas, with_entry}
+use Rattle.store_model.specs.Regions.{region_of}
+use Rattle.store_model.specs.Scans.{MetaAt}
+use Rattle.store_model.specs.Shown.{fixed_of}
+use Rattle.store_model.specs.Phases.{Committing, page_in}
+use Rattle.store_model.specs.StoreState.{StoreState, shown}
+use Rattle.store_model.specs.Places.{all_set, held_by, AreDistinct, AreLeastClear, IsLinked, IsMapped, UsedPages}
+use Rattle.store_model.specs.Jobs.{places_of, IsPacked, MovesClusters, Needs}
+use Rattle.store_model.specs.Asking.{AsksFor, creates, IsJobFor, IsSyncing, resizes, syncs}
+use Rattle.store_model.specs.RunInvariant.{CanBeWritten, IsLoadable, RunsWell}
+use Rattle.store_model.proofs.JobReady.{job_writable}
+use Rattle.store_model.proofs.Known.{Known}
+use Rattle.store_model.proofs.NewBlob.{empty_slot, two_written}
+use Rattle.store_model.proofs.Replaced.{mapped_still, mapped_was}
+use Rattle.store_model.proofs.Sets.{among_either, among_first, are_distinct, were_clear}
+use Rattle.store_model.proofs.WithEntry.{given_here, given_elsewhere}
+use Rattle.store_core.specs.Begins.{taken_for, AsksToWrite, IsPrepared, IsTaken}
+use Rattle.store_core.specs.StoreInvariant.{IsRunning}
+use Rattle.store_core.specs.declared.job.Rooms.{Rooms}
+use Rattle.store_core.specs.declared.preparing.Prepared.{Prepared}
+use Rattle.store_core.proofs.AtWork.{page_of, got}
+use Rattle.store_core.proofs.Cleared.{among_get}
+use Rattle.store_core.proofs.JobPlaces.{once_each, places_from}
+
+pub all_fit : (xattrs : Xattrs) → CanBeWritten xattrs → All FitsPage xattrs
+all_fit xattrs can = All-from_recursion FitsPage xattrs can.short
+
+-- one replacement is that of another job, which is the same
+record IsSameOne (head other : ℕ) (new meta : Meta) : Type 0 where
+  head_is : head ≡ other
+  new_is : new ≡ meta
+
+same_one : (head other : ℕ) (new meta : Meta) (changes : Job) → job_of_one head new ≡ changes
+    → changes.list ≡ record { head = other; new = Some meta } ∷ [] → IsSameOne head other new meta
+same_one head other new meta changes is list =
+    let lists = ap (λ (j : Job). j.list) is ∙ list in
+    let one : record { head = head; new = Some new } ≡ record { head = other; new = Some meta } = cc lists in
+    let metas : Some new ≡ Some meta = ap (λ (x : Replacement). x.new) one in
+    record { head_is = ap (λ (x : Replacement). x.head) one; new_is = cc metas }
+
+-- what the commit makes of a blob that is there, or new
+abbrev pub commit_by : Bool → ℕ → Xattrs → Committing
+commit_by there head xattrs = record {
+  reply = if there then r.Ok else r.Made head;
+  live = Some xattrs;
+  renews = if there then [] else head ∷ [];
+}
+
+-- what is taken and planned is what a job begins with
+pub record IsReady (p : StoreState) (head : ℕ) (new : Meta) (makes : Bool) (after : List Bool)
+    (plan : List PlannedPage) (fresh : List ℕ) : Type 0 where
+  pub needs : Needs new (length fresh)
+  pub least : AreLeastClear p.pages (taken_for makes head fresh)
+  pub taken : after ≡ all_set p.pages (taken_for makes head fresh) true
+  pub packed : IsPacked new head fresh plan
+  pub planned : MetaAt (page_in plan) (region_of p.super) head new (head ∷ fresh)
+  pub places : places_of plan ≡ head ∷ fresh
+
+-- ---- clusters stay as they are
+
+-- a blob that is made has none
+moves_made : (s : Super) (base : Metas) (head : ℕ) (new : Meta) → base head ≡ None → ((i : ℕ) → slot new i ≡ None)
+    → MovesClusters s base (with_entry base head new) [] []
+moves_made s base head new none empty = record {
+  kept = λ c x. elim (cases_eq x.head head) [
+    | inl e ↦ absurd (let bad = sym (ap base e ∙ none) ∙ x.there in cc bad)
+    | inr ne ↦ inl (record {
+      head = x.head;
+      meta = x.meta;
+      there = given_elsewhere base head new x.head ne ∙ x.there;
+      place = x.place;
+      in_slot = x.in_slot;
+    })
+  ];
+  let_go = λ c bad. absurd (cc bad);
+  gained = λ c x. elim (cases_eq x.head head) [
+    | inl e ↦
+        let one : new ≡ x.meta = let both = sym (given_here base head new x.head e) ∙ x.there in cc both in
+        absurd (let bad = sym (empty x.place) ∙ subst (λ (m : Meta). slot m x.place ≡ Some c) (sym one) x.in_slot in
+        cc bad)
+    | inr ne ↦ inl (record {
+      head = x.head;
+      meta = x.meta;
+      there = sym (given_elsewhere base head new x.head ne) ∙ x.there;
+      place = x.place;
+      in_slot = x.in_slot;
+    })
+  ];
+  filled = λ c bad. absurd (cc bad);
+}
+
+-- one whose attributes are synced has its own
+moves_synced : (s : Super) (p : StoreState) (command : Command) (head : ℕ) (new : Meta) → AsksFor p command head new
+    → MovesClusters s p.base (with_entry p.base head new) [] []
+moves_synced s p command head new asks = record {
+  kept = λ c is. inl (mapped_still p.base head asks.old new asks.after.synced asks.there asks.new_is c is);
+  let_go = λ c bad. absurd (cc bad);
+  gained = λ c is. inl (mapped_was p.base head asks.old new asks.after.synced asks.there asks.new_is c is);
+  filled = λ c bad. absurd (cc bad);
+}
+
+-- ---- what is asked
+
+module _ (p : StoreState) (running : IsRunning p) (runs : p.stopped ≡ None) (command : Command) (head : ℕ) (new : Meta)
+    (asks : AsksToWrite p command head new) where
+  abbrev known : Known
+  known = record {
+    s = running.store;
+    placed = running.placed;
+    first = running.first;
+    script = running.script;
+    p = p;
+    facts = running.facts;
+  }
+
+  well : RunsWell running.first p
+  well = running.facts.well runs
+
+  pub loadable : head < p.super.md_len → IsLoadable p.super head new
+  loadable low = subst (λ s. IsLoadable s head new) (sym running.facts.super)
+      (job_writable known runs command (job_of_one head new) asks.commit asks.asked refl
+      (record { head = head; new = Some new }) new refl refl
+      (subst (λ (s : Super). head < s.md_len) running.facts.super low))
+
+  there_low : (m : Meta) → p.base head ≡ Some m → head < p.super.md_len
+  there_low m there = subst (λ (s : Super). head < s.md_len) (sym running.facts.super)
+      (running.facts.loadable head m there).stored.low
+
+  -- what is known of it, whichever verb asks
+  pub record IsAsked (there : Bool) : Type 0 where
+    pub commit : asks.commit ≡ commit_by there head new.xattrs
+    pub xattrs : CanBeWritten new.xattrs
+    pub internal : CanBeWritten new.internal
+    pub moves : MovesClusters p.super p.base (with_entry p.base head new) [] []
+    pub memory : MayLackMemory (fixed_of p.super) (shown p) command
+
+  may_lack : IsSyncing command → MayLackMemory (fixed_of p.super) (shown p) command
+  may_lack is = by command is
+    where
+      by : (k : Command) → IsSyncing k → MayLackMemory (fixed_of p.super) (shown p) k
+      by (c.Put volume key value) is = tt
+      by (c.Sync volume) is = tt
+      by _ is = absurd is
+
+  asked_by : IsJobFor p command (job_of_one head new) asks.commit → IsAsked (is_some (p.base head))
+  asked_by (syncs y) =
+      let same = same_one head y.head new y.new (job_of_one y.head y.new) y.is refl in
+      let mine : AsksFor p command head new = subst (λ h. AsksFor p command h new) (sym same.head_is)
+      (subst (AsksFor p command y.head) (sym same.new_is) y.asks) in
+      let whole = loadable (there_low mine.old mine.there) in
+      subst IsAsked (sym (ap is_some mine.there)) (record {
+        commit = y.commit_is
+            ∙ ap (λ (m : Meta). record { reply = r.Ok; live = Some m.xattrs; renews = [] }) (sym same.new_is);
+        xattrs = whole.stored.xattrs;
+        internal = whole.stored.internal;
+        moves = moves_synced p.super p command head new mine;
+        memory = may_lack y.asks.syncing;
+      })
+  asked_by (creates y) =
+      let xattrs = two_xattrs (fixed_of p.super) (shown p) y.name y.uuid in
+      let made = new_meta y.head xattrs y.thick y.slots in
+      let same = same_one head y.head new made (create_job y.head xattrs y.thick y.slots) y.is refl in
+      let none : p.base head ≡ None = ap p.base same.head_is ∙ y.none in
+      subst IsAsked (sym (ap is_some none)) (record {
+        commit = y.commit_is
+            ∙ ap (λ (h : ℕ). record { reply = r.Made h; live = Some xattrs; renews = h ∷ [] }) (sym same.head_is)
+            ∙ ap (λ (m : Meta). record { reply = r.Made head; live = Some m.xattrs; renews = head ∷ [] })
+            (sym same.new_is);
+        xattrs = subst (λ (m : Meta). CanBeWritten m.xattrs) (sym same.new_is)
+            (two_written (fixed_of p.super) (shown p) y.name y.uuid y.named);
+        internal = subst (λ (m : Meta). CanBeWritten m.internal) (sym same.new_is) (record { names = tt; short = tt });
+        moves = moves_made p.super p.base head new none
+            (λ i. ap (λ (m : Meta). slot m i) same.new_is ∙ empty_slot y.slots i);
+        memory = subst (MayLackMemory (fixed_of p.super) (shown p)) (sym y.command_is) tt;
+      })
+  asked_by (resizes y) = absurd (let bad = sym (ap (λ (x : Committing). x.live) y.commit_is) ∙ asks.synced in cc bad)
+
+  pub asked : IsAsked (is_some (p.base head))
+  asked = asked_by asks.asked
+
+  -- ---- its chain
+
+  chain_where : (there : Bool) → is_some (p.chains head) ≡ there → is_some (p.base head) ≡ there
+  chain_where there is = by (p.base head) refl
+    where
+      by : (o : Option Meta) → p.base head ≡ o → is_some (p.base head) ≡ there
+      by None none = ap is_some none ∙ sym (ap is_some (well.chains.none head none)) ∙ is
+      by (Some m) some = ap is_some some ∙ sym (ap is_some (well.chains.chain head m some).1) ∙ is
+
+  -- a blob has one exactly where it is there
+  pub there_is : is_some (p.base head) ≡ is_some (p.chains head)
+  there_is = chain_where (is_some (p.chains head)) refl
+
+  pub has_chain : is_some (p.chains head) ≡ true → (behind : List ℕ) × (p.chains head ≡ Some (head ∷ behind))
+  has_chain some = by (p.base head) refl
+    where
+      by : (o : Option Meta) → p.base head ≡ o → (behind : List ℕ) × (p.chains head ≡ Some (head ∷ behind))
+      by None none = absurd (let bad = sym (there_is ∙ some) ∙ ap is_some none in cc bad)
+      by (Some m) there = well.chains.chain head m there
+
+  small : p.super.md_len < 2 ^ 32
+  small =
+      let placed : IsPlaced p.super = subst IsPlaced (sym running.facts.super) running.placed in
+      let few = placed.few_md_pages in
+      omega (arith, few)
+
+  -- ---- laid on pages
+
+  module _ (no_job : p.job ≡ None) (makes : Bool) (was : is_some (p.chains head) ≡ not makes) where
+    used : UsedPages p.super.md_len p.pages p.chains []
+    used = subst (UsedPages p.super.md_len p.pages p.chains) (ap held_by no_job) well.pages
+
+    module _ (fresh : List ℕ) (least : AreLeastClear p.pages (taken_for makes head fresh)) where
+      as_made : makes ≡ true → AreLeastClear p.pages (head ∷ fresh)
+      as_made e = subst (λ (b : Bool). AreLeastClear p.pages (taken_for b head fresh)) e least
+
+      as_there : makes ≡ false → AreLeastClear p.pages fresh
+      as_there e = subst (λ (b : Bool). AreLeastClear p.pages (taken_for b head fresh)) e least
+
+      chain_there : makes ≡ false → (behind : List ℕ) × (p.chains head ≡ Some (head ∷ behind))
+      chain_there e = has_chain (was ∙ ap not e)
+
+      -- the head of a blob that is there is in use
+      head_apart : makes ≡ false → is_among head fresh ≡ false
+      head_apart e = elim (cases_Bool (is_among head fresh)) [
+        | inl among ↦
+            let chain = chain_there e in
+            let linked : IsLinked p.chains head = record {
+              head = head;
+              pages = head ∷ chain.0;
+              chain = chain.1;
+              among = among_first head chain.0;
+            } in
+            absurd (both_ways (is_in p.pages head) (were_clear p.pages fresh (as_there e) head among).clear
+            (used.linked head linked))
+        | inr out ↦ out
+      ]
+
+      pub all_differ : AreDistinct (head ∷ fresh)
+      all_differ = elim (cases_Bool makes) [
+        | inl e ↦ are_distinct p.pages (head ∷ fresh) (as_made e)
+        | inr e ↦ (head_apart e, are_distinct p.pages fresh (as_there e))
+      ]
+
+      pub head_low : head < p.super.md_len
+      head_low = elim (cases_Bool makes) [
+        | inl e ↦ subst (λ n. head < n) used.count (as_made e).0.within
+        | inr e ↦ well.chains.low head head (head ∷ (chain_there e).0) (chain_there e).1
+            (among_first head (chain_there e).0)
+      ]
+
+      below : (x : ℕ) → is_among x (head ∷ fresh) ≡ true → x < p.super.md_len
+      below x among = elim (among_either x head fresh among) [
+        | inl first ↦ subst (λ y. y < p.super.md_len) (sym first) head_low
+        | inr later ↦ elim (cases_Bool makes) [
+          | inl e ↦ subst (λ n. x < n) used.count (were_clear p.pages (head ∷ fresh) (as_made e) x among).below
+          | inr e ↦ subst (λ n. x < n) used.count (were_clear p.pages fresh (as_there e) x later).below
+        ]
+      ]
+
+      pub all_low : All (λ x. x < p.super.md_len) (head ∷ fresh)
+      all_low k d lt = below (get_or (head ∷ fresh) k d) (among_get (head ∷ fresh) k d lt)
+
+    module _ (chains : map.FinMap nat_cmp (List ℕ)) (rooms : Option Rooms) (after : List Bool) (x : Prepared)
+        (is : IsPrepared chains head new rooms p.pages after x) (made : is_some rooms ≡ makes) where
+      t : IsTaken is.items head makes p.pages after x.laid
+      t = subst (λ (b : Bool). IsTaken is.items head b p.pages after x.laid) made is.taken
+
+      planned_places : places_of x.laid.pages ≡ head ∷ t.fresh
+      planned_places = ap places_of t.laid_on.pages ∙ places_from head 0 head t.fresh (parts_of is.items) t.count
+
+      planned_pages : All (λ (q : PlannedPage). page_in x.laid.pages q.place ≡ q.page) x.laid.pages
+      planned_pages k d lt = page_of x.laid.pages k (get_or x.laid.pages k d)
+          (subst AreDistinct (sym planned_places) (all_differ t.fresh t.least)) (got x.laid.pages k d lt)
+
+      whole : IsLoadable p.super head new
+      whole = loadable (head_low t.fresh t.least)
+
+      says_new : new ≡ meta_of head (written_items is.items)
+      says_new = sym (written_say head is.items is.plannable
+          ∙ says head new is.items whole.stored.id whole.stored.clear whole.stored.xattrs.names
+          whole.stored.internal.names is.are)
+
+      ready_at : IsReady p head new makes after x.laid.pages t.fresh
+      ready_at = record {
+        needs = record { items = is.items; are = is.are; chain = sym t.count };
+        least = t.least;
+        taken = t.taken;
+        packed = record { items = is.items; are = is.are; pages = t.laid_on.pages };
+        planned = record {
+          items = written_items is.items;
+          chain = t.laid_on.reads (page_in x.laid.pages) p.super.md_len small
+              (once_each (head ∷ t.fresh) (all_differ t.fresh t.least)) (all_low t.fresh t.least) planned_pages;
+          meta_is = says_new;
+          faultless = whole.stored.faultless;
+        };
+        places = planned_places;
+      }
+
+      pub ready : IsReady p head new makes after x.laid.pages (drop 1 x.laid.chain)
+      ready = subst (IsReady p head new makes after x.laid.pages) (sym (ap (drop 1) t.laid_on.chain)) ready_at

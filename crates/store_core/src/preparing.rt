@@ -1,0 +1,234 @@
+//! What a job takes before it begins: memory, pages, and what it will write.
+
+ghost use Rattle.std.specs.Prelude.{◌≡◌, ◌+◌, ◌<◌, ◌≤◌, ◌∷◌, [], true, Some, None, length, is_some, IfOk, IfErr, IfSome, IfNone};
+ghost use Rattle.std.specs.Prelude.{IsSome};
+ghost use Rattle.std.specs.FinMap as map;
+ghost use Rattle.std.specs.List.{All};
+ghost use Rattle.pools.specs.Pool.{clear_in};
+ghost use Rattle.blob_meta.specs.Items.{IsItemsOf};
+ghost use Rattle.md_chain.specs.Packing.{parts_of, ArePlannable, AreFew, FitsPage};
+ghost use Rattle.store_core.specs.Begins.{behind_in, HasChain, IsFreshHead, IsLaid, IsPrepared, IsTaken, LacksPages, needed};
+ghost use Rattle.store_core.specs.Running.{HasRooms};
+
+use crate::clearing::clear_places;
+use crate::job::{Planned, Rooms, RunningJob, Work};
+use crate::running::Running;
+use crate::taking::take_pages;
+use blob_meta::{Chains, Meta, to_items};
+use descriptors::ItemList;
+use md_chain::{Plan, chain_len, plan_chain};
+use out_of_memory::Memory;
+use pools::PagePool;
+use std::alloc::Global;
+use volume_model::{PlaceList, TryCopy, XattrList};
+
+/// Metadata with as many attributes and slots together isn't written: what counts the pages of a chain takes fewer.
+const MOST_PARTS: usize = (1 << 31) - 2;
+
+/// A chain that is to be written: its places, the head first, and their pages.
+#[derive(Drop)]
+pub(crate) struct Laid {
+    pub(crate) chain: PlaceList,
+    pub(crate) pages: Plan,
+}
+
+/// What a job needs besides the metadata that it writes.
+#[derive(Drop)]
+pub(crate) struct Prepared {
+    /// The attributes of the metadata once more.
+    pub(crate) live: XattrList,
+    pub(crate) laid: Laid,
+    /// The places that stand behind the head.
+    pub(crate) old: PlaceList,
+    /// Room for the blob, where it is new.
+    pub(crate) rooms: Option<Rooms>,
+}
+
+impl Prepared {
+    ghost use Rattle.std.specs.Prelude.{◌≡◌};
+    ghost use Rattle.store_core.specs.Begins.{first_job};
+
+    /// The job that writes the metadata, at its begin.
+    pub(crate) fn job(self, channel: u8, head: u32, new: Meta) -> RunningJob
+        ensures { result ≡ first_job self channel head new }
+    {
+        let planned = Planned {
+            head,
+            new,
+            live: self.live,
+            chain: self.laid.chain,
+            pages: self.laid.pages,
+            rooms: self.rooms,
+        };
+        RunningJob {
+            channel,
+            work: Work::Writing {
+                planned,
+                written: 0,
+            },
+            old: self.old,
+        }
+    }
+}
+
+/// Room for the blob at a head, where it is new. (Want of memory too if no generation is left for it.)
+pub(crate) fn rooms_for<D>(running: &Running<D>, head: u32) -> Result<Option<Rooms>, Memory>
+    ensures there { IfOk result (λ o. IfNone o (IsSome (map.get running.now.chains head))) }
+    ensures new { IfOk result (λ o. IfSome o (λ rooms. map.get running.now.chains head ≡ None)) }
+    ensures rooms { IfOk result
+        (λ o. IfSome o (HasRooms running.now.metas running.now.chains running.now.live running.now.guards)) }
+{
+    if running.chains.get(head).is_some() {
+        return Ok(None);
+    }
+    if !running.guards.can_add() {
+        return Err(Memory);
+    }
+    let rooms = Rooms::new(
+        running.alloc,
+        &running.metas,
+        &running.chains,
+        &running.live,
+    )?;
+    Ok(Some(rooms))
+}
+
+/// Makes what a job needs for new metadata at a head, and takes its pages, that of the head too where the blob is new;
+/// `None` where too few are clear. Pages are taken last: after `None` and after `Memory` the same ones are in use as
+/// before.
+pub(crate) fn prepare(
+    alloc: Global,
+    chains: &Chains,
+    pages: &mut PagePool,
+    head: u32,
+    new: &Meta,
+    rooms: Option<Rooms>,
+) -> Result<Option<Prepared>, Memory>
+    requires there { rooms ≡ None → HasChain chains.now head }
+    requires none { IsSome rooms → map.get chains.now head ≡ None }
+    requires next { IsSome rooms → IsFreshHead pages.old.bits head }
+    requires unclaimed { pages.old.claims ≡ [] }
+    requires xattrs { All FitsPage new.now.xattrs }
+    requires internal { All FitsPage new.now.internal }
+    ensures some { IfOk result (λ o. IfSome o (IsPrepared chains.now head new.now rooms pages.old.bits pages.new.bits)) }
+    ensures none { IfOk result
+        (λ o. IfNone o (LacksPages (is_some (map.get chains.now head)) new.now pages.old.bits
+        × (pages.new.bits ≡ pages.old.bits))) }
+    ensures memory { IfErr result (λ _. pages.new.bits ≡ pages.old.bits) }
+    ensures unclaimed { pages.new.claims ≡ [] }
+{
+    let items = items_of(alloc, new)?;
+    let live = new.xattrs.try_copy(alloc)?;
+    let old = places_behind(alloc, chains, head)?;
+    let makes = rooms.is_some();
+    let needs = pages_needed(&items, makes);
+    if pages.clear_count() < needs {
+        return Ok(None);
+    }
+    let laid = take_chain(alloc, pages, &items, head, makes)?;
+    Ok(Some(Prepared {
+        live,
+        laid,
+        old,
+        rooms,
+    }))
+}
+
+/// How many pages the chain of these items takes: those behind the head, and the head's where the blob is new.
+fn pages_needed(items: &ItemList, makes: bool) -> u32
+    requires plannable { ArePlannable items.now }
+    requires few { AreFew items.now }
+    ensures { result ≡ needed makes items.now }
+{
+    let len = chain_len(items);
+    if makes { len } else { len - 1 }
+}
+
+/// The items by which metadata is written: few enough for a chain, each short enough for a page.
+fn items_of(alloc: Global, new: &Meta) -> Result<ItemList, Memory>
+    requires xattrs { All FitsPage new.now.xattrs }
+    requires internal { All FitsPage new.now.internal }
+    ensures are { IfOk result (IsItemsOf new.now) }
+    ensures plannable { IfOk result ArePlannable }
+    ensures few { IfOk result AreFew }
+{
+    let attributes = new.xattrs.len().saturating_add(new.internal.len());
+    if attributes.saturating_add(new.map.len() as usize) >= MOST_PARTS {
+        return Err(Memory);
+    }
+    to_items(alloc, new)
+}
+
+/// The places that stand behind the head in the chain of a blob; none where no blob is there.
+fn places_behind(alloc: Global, chains: &Chains, head: u32) -> Result<PlaceList, Memory>
+    requires { IsSome (map.get chains.now head) → HasChain chains.now head }
+    ensures there { IfOk result (λ behind. IsSome (map.get chains.now head)
+        → map.get chains.now head ≡ Some (head ∷ behind)) }
+    ensures none { IfOk result (λ behind. map.get chains.now head ≡ None → behind ≡ []) }
+{
+    let mut behind = Vec::new(alloc);
+    if let Some(chain) = chains.get(head) {
+        behind.extend_from_slice(&chain.as_slice()[1..])?;
+    }
+    Ok(PlaceList::from_vec(behind))
+}
+
+/// Takes the pages that the items need, and lays them on the head and on these. After `Memory` the same pages are in use
+/// as before.
+fn take_chain(
+    alloc: Global,
+    pages: &mut PagePool,
+    items: &ItemList,
+    head: u32,
+    makes: bool,
+) -> Result<Laid, Memory>
+    requires plannable { ArePlannable items.now }
+    requires few { AreFew items.now }
+    requires unclaimed { pages.old.claims ≡ [] }
+    requires enough { needed makes items.now ≤ clear_in pages.old.bits }
+    requires next { makes ≡ true → IsFreshHead pages.old.bits head }
+    ensures taken { IfOk result (IsTaken items.now head makes pages.old.bits pages.new.bits) }
+    ensures memory { IfErr result (λ _. pages.new.bits ≡ pages.old.bits) }
+    ensures unclaimed { pages.new.claims ≡ [] }
+{
+    let taken = take_pages(alloc, pages, pages_needed(items, makes))?;
+    let fresh = behind_head(&taken, makes);
+    match lay(alloc, items, head, fresh) {
+        Ok(laid) => Ok(laid),
+        Err(Memory) => {
+            clear_places(pages, &taken);
+            Err(Memory)
+        }
+    }
+}
+
+/// Of places that are taken for a chain, those behind its head: all, but for the first where the blob is new.
+fn behind_head(taken: &PlaceList, makes: bool) -> &[u32]
+    requires { makes ≡ true → 0 < length taken.now }
+    ensures { result.now ≡ behind_in makes taken.now }
+{
+    if makes {
+        &taken.as_slice()[1..]
+    } else {
+        taken.as_slice()
+    }
+}
+
+/// The chain of a head and fresh places on which the items are written.
+fn lay(alloc: Global, items: &ItemList, head: u32, fresh: &[u32]) -> Result<Laid, Memory>
+    requires plannable { ArePlannable items.now }
+    requires few { AreFew items.now }
+    requires places { length fresh.now + 1 ≡ length (parts_of items.now) }
+    ensures { IfOk result (IsLaid items.now head fresh.now) }
+{
+    let mut chain = Vec::new(alloc);
+    chain.push(head)?;
+    chain.extend_from_slice(fresh)?;
+    let mut behind = Vec::new(alloc);
+    behind.extend_from_slice(fresh)?;
+    let pages = plan_chain(alloc, items, head, &PlaceList::from_vec(behind))?;
+    Ok(Laid {
+        chain: PlaceList::from_vec(chain),
+        pages,
+    })
+}

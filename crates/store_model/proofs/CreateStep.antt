@@ -1,0 +1,207 @@
+-- What a create asks for: a blob that a load takes, and what each image shows with it.
+use Rattle.std.proofs.Common.{◌≡◌, ◌⊎◌, ℕ, suc, zero, ◌+◌, ◌<◌, ◌≤◌, ◌^◌, Bool, true, false, List, [], ◌∷◌, length}
+use Rattle.std.proofs.Common.{Option}
+use Rattle.std.proofs.Common.{Some, None, refl, sym, ap, ◌∙◌, subst, inl, inr, arith}
+use Rattle.std.specs.Prelude.{if◌then◌else◌, is_some}
+use Rattle.md_chain.specs.Chain.{is_among}
+use Rattle.std.specs.List.{range_with_len}
+use Rattle.std.specs.Option.{option_map}
+use Rattle.std.proofs.lemmas.Bool.{cases_eq}
+use Rattle.std.proofs.lemmas.Bool.Decides.{nat_tests}
+use Rattle.std.proofs.lemmas.List.{length-replicate}
+use Rattle.std.proofs.Math.Path.{fun_ext}
+use Rattle.page_disk.specs.Disk.{Image}
+use Rattle.volume_model.specs.Blank.{blanked}
+use Rattle.volume_model.specs.Volumes.{all_slots, Fixed, two_xattrs, Volume, Volumes}
+use Rattle.volume_model.specs.Xattrs.{Text, Xattrs}
+use Rattle.volume_model.specs.Refusals.{is_taken, is_too_large, refusal}
+use Rattle.volume_model.specs.Steps.{Allowed, change}
+use Rattle.volume_model.specs.declared.command.Command.{Command}
+use Rattle.volume_model.specs.declared.command.Command.TheVariants as c
+use Rattle.volume_model.specs.declared.reply.Reply.TheVariants as r_
+use Rattle.volume_model.proofs.Blank.{same_refusal}
+use Rattle.volume_model.proofs.BlankSteps.{same_change}
+use Rattle.blob_meta.specs.declared.meta.Meta.{Meta}
+use Rattle.blob_meta.specs.declared.job.Job.{Job as Changes}
+use Rattle.blob_meta.specs.Jobs.{new_meta}
+use Rattle.blob_meta.specs.Resolving.{resolved, slots_together}
+use Rattle.store_model.specs.Maps.{Metas, with_entry}
+use Rattle.store_model.specs.Shown.{fixed_of}
+use Rattle.store_model.specs.Phases.{Committing, replaced, Replacing}
+use Rattle.store_model.specs.StoreState.{live_of, shown, StoreState}
+use Rattle.store_model.specs.Asking.{IsCreateJob}
+use Rattle.store_model.specs.Jobs.{IsStep, shown_of}
+use Rattle.store_model.specs.Loadable.{AreLoadable, CanBeWritten, IsLoadable}
+use Rattle.store_model.specs.RunInvariant.{RunsWell}
+use Rattle.store_model.proofs.Known.{Known}
+use Rattle.store_model.proofs.Meanwhile.{blank_reading, reading}
+use Rattle.store_model.proofs.Moved.{live_shown, live_writable}
+use Rattle.store_model.proofs.NewBlob.{new_loadable, new_takes_none, two_written}
+use Rattle.store_model.proofs.OneReplacement.{all_loadable, base_is, base_lawful, base_loadable, base_resolved, IsReady}
+use Rattle.store_model.proofs.OneReplacement.{ready_by, some_pages}
+use Rattle.store_model.proofs.ShowsNew.{live_here, shown_made, w_elsewhere}
+use Rattle.store_model.proofs.SlotSums.{all_shown, slots_given, slots_in}
+use Rattle.store_model.proofs.Writable.{AllWritable, none_holds}
+use Rattle.store_model.proofs.WithEntry.{given_here, given_elsewhere}
+use Rattle.store_model.proofs.Sets.{among_first}
+
+-- a new blob without slots of zeros is thin, or has no slot
+thin_or_none : (thick : Bool) (slots : ℕ) → (if thick then range_with_len 0 slots else []) ≡ []
+    → (thick ≡ false) ⊎ (slots ≡ 0)
+thin_or_none false slots none = inl refl
+thin_or_none true zero none = inr refl
+thin_or_none true (suc n) none = absurd (cc none)
+
+-- a create that isn't too large
+record Fits (f : Fixed) (v : Volumes) (slots : ℕ) : Type 0 where
+  alone : slots ≤ 2 ^ 20
+  together : all_slots f v + slots ≤ 2 ^ 24
+
+fits : (f : Fixed) (v : Volumes) (name : Text) (slots : ℕ) (thick : Bool) (uuid : Option (List ℕ))
+    → refusal f v (c.Create name slots thick uuid) ≡ None → Fits f v slots
+fits f v name slots thick uuid asked =
+    let none = none_holds ((is_taken f v name, r_.NameTaken)
+    ∷ (is_too_large f v slots (all_slots f v), r_.TooLarge) ∷ []) asked in
+    let large : is_too_large f v slots (all_slots f v) ≡ false = none.1.0 in
+    record { alone = grind (arith, nat_tests, large); together = grind (arith, nat_tests, large) }
+
+-- the attributes of a new volume don't depend on the content of pages
+two_same : (f : Fixed) (v w : Volumes) → ((h : ℕ) → blanked v h ≡ blanked w h) → (name : Text)
+    (uuid : Option (List ℕ)) → two_xattrs f v name uuid ≡ two_xattrs f w name uuid
+two_same f v w same name uuid =
+    let x : Some (two_xattrs f v name uuid) ≡ Some (two_xattrs f w name uuid) =
+    ap (λ o. option_map (λ (x : Volume). x.live) o)
+    (same_change f v w same (c.Create name 0 false uuid) (r_.Made 0) 0) in
+    cc x
+
+module _ (known : Known) where
+  open known use {first, p, facts}
+
+  module _ (runs : p.stopped ≡ None) (name : Text) (slots : ℕ) (thick : Bool) (uuid : Option (List ℕ))
+      (thin : (thick ≡ false) ⊎ (slots ≡ 0)) (xattrs : Xattrs) (can : CanBeWritten xattrs)
+      (are : two_xattrs (fixed_of p.super) (shown p) name uuid ≡ xattrs)
+      (asked : refusal (fixed_of p.super) (shown p) (c.Create name slots thick uuid) ≡ None) (head : ℕ)
+      (none : p.base head ≡ None) (low : head < p.super.md_len) (r : Replacing) (head_is : r.head ≡ head)
+      (new_is : r.new ≡ Some (new_meta head xattrs thick slots)) where
+    well : RunsWell first p
+    well = facts.well runs
+
+    abbrev new : Meta
+    new = new_meta head xattrs thick slots
+
+    abbrev all : Metas
+    all = with_entry p.base head new
+
+    abbrev commit : Committing
+    commit = record { reply = r_.Made head; live = Some xattrs; renews = head ∷ [] }
+
+    few : Fits (fixed_of p.super) (shown p) slots
+    few = fits (fixed_of p.super) (shown p) name slots thick uuid asked
+
+    one_loadable : IsLoadable p.super head new
+    one_loadable = new_loadable p.super head xattrs thick slots low can few.alone thin
+
+    loadable : AreLoadable p.super all
+    loadable = all_loadable known head new one_loadable
+
+    all_few : slots_together p.super.md_len all ≤ 2 ^ 24
+    all_few =
+        let counted : slots_together p.super.md_len all + 0 ≡ slots_together p.super.md_len p.base + length new.map =
+        ap (λ o. slots_together p.super.md_len all + slots_in o) (sym none)
+        ∙ slots_given p.super.md_len p.base head new low in
+        let shows : all_slots (fixed_of p.super) (shown p) ≡ slots_together p.super.md_len p.base =
+        all_shown (fixed_of p.super) p.device.reads (resolved p.base)
+        (some_pages known) p.live ∙ ap (slots_together p.super.md_len) (base_resolved known) in
+        omega (arith, counted, shows, few.together, length-replicate {A = Option ℕ} slots None)
+
+    base_now : replaced p.base r ≡ all
+    base_now = base_is known head new one_loadable r head_is new_is
+
+    -- ---- what every image shows
+
+    module _ (image : Image) where
+      abbrev there : StoreState
+      there = reading p image
+
+      abbrev w : Volumes
+      w = change (fixed_of p.super) (shown there) (c.Create name slots thick uuid) (r_.Made head)
+
+      same_two : two_xattrs (fixed_of p.super) (shown there) name uuid ≡ xattrs
+      same_two = two_same (fixed_of p.super) (shown there) (shown p) (blank_reading p image) name uuid ∙ are
+
+      free : shown there head ≡ None
+      free = rw none refl
+
+      allowed : Allowed (fixed_of p.super) (shown there) (c.Create name slots thick uuid) (r_.Made head)
+      allowed = (
+        same_refusal (fixed_of p.super) (shown there) (shown p) (blank_reading p image)
+            (c.Create name slots thick uuid) ∙ asked,
+        (low, free),
+      )
+
+      shows_new : shown_of p.super (replaced p.base r) (live_of w) image ≡ w
+      shows_new = ap (λ (m : Metas). shown_of p.super m (live_of w) image) base_now
+          ∙ shown_made there (base_loadable known) (base_lawful known) head none name slots thick uuid xattrs
+          same_two loadable
+
+      live_at : live_of w head ≡ Some xattrs
+      live_at = live_here there (base_loadable known) (base_lawful known) head none name slots thick uuid xattrs
+          same_two loadable
+
+      others : (h : ℕ) → (h ≡ head → ⊥) → w h ≡ shown there h
+      others = w_elsewhere there (base_loadable known) (base_lawful known) head none name slots thick uuid xattrs
+          same_two loadable
+
+      lives : live_of w ≡ with_entry p.live r.head xattrs
+      lives = fun_ext (λ h. elim (cases_eq h head) [
+        | inl e ↦ ap (live_of w) e ∙ live_at ∙ sym (given_here p.live r.head xattrs h (e ∙ sym head_is))
+        | inr ne ↦
+            ap (λ o. option_map (λ (x : Volume). x.live) o) (others h ne)
+            ∙ live_shown there well.live well.no_live h
+            ∙ sym (given_elsewhere p.live r.head xattrs h (λ e. ne (e ∙ head_is)))
+      ])
+
+      writable : AllWritable w
+      writable h v is = elim (cases_eq h head) [
+        | inl e ↦
+            let live : Some v.live ≡ Some xattrs =
+            ap (λ o. option_map (λ (x : Volume). x.live) o) (sym is ∙ ap w e) ∙ live_at in
+            subst CanBeWritten (sym (cc live)) can
+        | inr ne ↦ live_writable there well.live h v (sym (others h ne) ∙ is)
+      ]
+
+    step : IsStep p.super p.base r p.live (c.Create name slots thick uuid) commit
+    step = record {
+      done = tt;
+      allowed = allowed;
+      may_fail = λ image. tt;
+      shows = shows_new;
+      lives = lives;
+      writable = writable;
+      renews = (ap (λ (m : Metas). is_some (m head)) base_now ∙ ap is_some (given_here p.base head new head refl), tt);
+      numbers = λ makes. subst (λ h. is_among h (head ∷ []) ≡ true) (sym head_is) (among_first head []);
+    }
+
+    pub ready : IsReady p (c.Create name slots thick uuid) commit new r
+    ready = ready_by known head new one_loadable r head_is new_is (c.Create name slots thick uuid) commit
+        (new_takes_none p.base head xattrs thick slots none) all_few step
+
+  -- what a create without slots of zeros asks for is ready, once its head is a place of the region
+  pub create_ready : p.stopped ≡ None → (command : Command) (changes : Changes) (commit : Committing)
+      → (asks : IsCreateJob p command changes commit) → changes.zero ≡ [] → asks.head < p.super.md_len → (r : Replacing)
+      → r.head ≡ asks.head
+      → r.new ≡ Some (new_meta asks.head (two_xattrs (fixed_of p.super) (shown p) asks.name asks.uuid) asks.thick
+      asks.slots)
+      → IsReady p command commit (new_meta asks.head
+      (two_xattrs (fixed_of p.super) (shown p) asks.name asks.uuid) asks.thick asks.slots) r
+  create_ready runs command changes commit asks zeros low r head_is new_is =
+      let xattrs = two_xattrs (fixed_of p.super) (shown p) asks.name asks.uuid in
+      let new = new_meta asks.head xattrs asks.thick asks.slots in
+      let one = ready runs asks.name asks.slots asks.thick asks.uuid
+      (thin_or_none asks.thick asks.slots (sym (ap (λ (x : Changes). x.zero) asks.is) ∙ zeros)) xattrs
+      (two_written (fixed_of p.super) (shown p) asks.name asks.uuid asks.named) refl
+      (ap (refusal (fixed_of p.super) (shown p)) (sym asks.command_is) ∙ asks.asked) asks.head asks.none low r
+      head_is new_is in
+      subst (λ (x : Command). IsReady p x commit new r) (sym asks.command_is)
+      (subst (λ (x : Committing). IsReady p (c.Create asks.name asks.slots asks.thick asks.uuid) x new r)
+      (sym asks.commit_is) one)

@@ -1,0 +1,130 @@
+-- Lists that are cut to a length, or lengthened to it by one value; maps among them.
+use Rattle.std.proofs.Common.{◌≡◌, ℕ, zero, suc, ◌-◌, ◌<◌, ◌≤◌, Bool, true, false, List, [], ◌∷◌, ◌++◌, length, Option}
+use Rattle.std.proofs.Common.{Some, None, refl, sym, ap, ◌∙◌, inl, inr, arith, length-append, subst}
+use Rattle.std.specs.Prelude.{find, if◌then◌else◌, is_none, nat_lt, replicate, slice_get, slice_index_or, take}
+use Rattle.std.specs.List.{position, position_or_len}
+use Rattle.std.specs.Option.{option_and_then}
+use Rattle.std.proofs.lemmas.Bool.{cases_lt, false≢true, lt-ltb}
+use Rattle.std.proofs.lemmas.List.{append-nil, get_or-take, length-replicate, length-take-le, take_all}
+use Rattle.std.proofs.lemmas.List.Quantifiers.{position-Some}
+use Rattle.std.proofs.lemmas.List.Sums.{fails_before_first}
+use Rattle.std.proofs.lemmas.Option.{slice_get_past}
+use Rattle.blob_meta.specs.Faults.{clusters_of, is_outside}
+use Rattle.blob_meta.proofs.ClustersOutside.{clusters-append}
+use Rattle.store_model.proofs.Inside.{passes}
+use Rattle.store_model.proofs.NewBlob.{empty_slot, none_in}
+
+-- so many elements: the first ones, and then as many of this value as are wanting
+abbrev pub cut : {X : Type 0} → List X → ℕ → X → List X
+cut xs n x = take n xs ++ replicate (n - length xs) x
+
+module _ {X : Type 0} (xs : List X) (n : ℕ) (x : X) where
+  pub is_cut : n ≤ length xs → cut xs n x ≡ take n xs
+  is_cut le = let none : n - length xs ≡ 0 = omega (arith, le) in
+      ap (λ i. take n xs ++ replicate i x) none ∙ append-nil (take n xs)
+
+  pub is_longer : length xs ≤ n → cut xs n x ≡ xs ++ replicate (n - length xs) x
+  is_longer le = ap (λ ys. ys ++ replicate (n - length xs) x) (take_all n xs le)
+
+  pub length_cut : length (cut xs n x) ≡ n
+  length_cut = elim (cases_lt (length xs) n) [
+    | inl lt ↦
+        let le : length xs ≤ n = omega (arith, lt) in
+        ap length (is_longer le) ∙ omega (
+          arith,
+          le,
+          length-append xs (replicate (n - length xs) x),
+          length-replicate (n - length xs) x,
+        )
+    | inr le ↦ ap length (is_cut le) ∙ length-take-le n xs le
+  ]
+
+get_take : {X : Type 0} (xs : List X) (n i : ℕ) → i < n → slice_get (take n xs) i ≡ slice_get xs i
+get_take [] zero i lt = refl
+get_take [] (suc n) i lt = refl
+get_take (x ∷ xs) zero i lt = absurd (omega (arith, lt))
+get_take (x ∷ xs) (suc n) zero lt = refl
+get_take (x ∷ xs) (suc n) (suc i) lt = get_take xs n i (omega (arith, lt))
+
+-- ---- maps
+
+-- the cluster in a slot of a map
+abbrev pub slot_in : List (Option ℕ) → ℕ → Option ℕ
+slot_in map i = option_and_then (λ s. s) (slice_get map i)
+
+slot_longer : (map : List (Option ℕ)) (n i : ℕ) → slot_in (map ++ replicate n None) i ≡ slot_in map i
+slot_longer [] n i = empty_slot n i
+slot_longer (s ∷ map) n zero = refl
+slot_longer (s ∷ map) n (suc i) = slot_longer map n i
+
+-- slots are as they were
+pub slot_kept : (map : List (Option ℕ)) (slots i : ℕ) → i < slots → slot_in (cut map slots None) i ≡ slot_in map i
+slot_kept map slots i lt = elim (cases_lt (length map) slots) [
+  | inl longer ↦
+      ap (λ m. slot_in m i) (is_longer map slots None (omega (arith, longer)))
+      ∙ slot_longer map (slots - length map) i
+  | inr le ↦
+      ap (λ m. slot_in m i) (is_cut map slots None le) ∙ ap (option_and_then (λ s. s)) (get_take map slots i lt)
+]
+
+-- and none is behind the last
+pub slot_past : (map : List (Option ℕ)) (i : ℕ) → length map ≤ i → slot_in map i ≡ None
+slot_past map i le = ap (option_and_then (λ s. s)) (slice_get_past map i le)
+
+-- so no cluster is new
+pub slot_was : (map : List (Option ℕ)) (slots i cluster : ℕ) → slot_in (cut map slots None) i ≡ Some cluster
+    → slot_in map i ≡ Some cluster
+slot_was map slots i cluster at = elim (cases_lt i slots) [
+  | inl lt ↦ sym (slot_kept map slots i lt) ∙ at
+  | inr past ↦ absurd (let bad = sym (slot_past (cut map slots None) i
+      (subst (λ n. n ≤ i) (sym (length_cut map slots None)) past)) ∙ at in cc bad)
+]
+
+-- ---- tests of maps
+
+module _ (fixed clusters : ℕ) where
+  inside_take : (map : List (Option ℕ)) (n : ℕ) → find (is_outside fixed clusters) (clusters_of map) ≡ None
+      → find (is_outside fixed clusters) (clusters_of (take n map)) ≡ None
+  inside_take [] zero none = refl
+  inside_take [] (suc n) none = refl
+  inside_take (s ∷ map) zero none = refl
+  inside_take (None ∷ map) (suc n) none = inside_take map n none
+  inside_take (Some c ∷ map) (suc n) none =
+      let parts = passes fixed clusters c (clusters_of map) none in
+      subst (λ (b : Bool). (if b then Some c else find (is_outside fixed clusters) (clusters_of (take n map))) ≡ None)
+      (sym parts.0) (inside_take map n parts.1)
+
+  -- no cluster lies outside that didn't
+  pub inside_cut : (map : List (Option ℕ)) (slots : ℕ) → find (is_outside fixed clusters) (clusters_of map) ≡ None
+      → find (is_outside fixed clusters) (clusters_of (cut map slots None)) ≡ None
+  inside_cut map slots none = elim (cases_lt (length map) slots) [
+    | inl longer ↦
+        ap (λ m. find (is_outside fixed clusters) (clusters_of m)) (is_longer map slots None (omega (arith, longer)))
+        ∙ ap (find (is_outside fixed clusters)) (clusters-append map (replicate (slots - length map) None)
+        ∙ ap (λ cs. clusters_of map ++ cs) (none_in (slots - length map)) ∙ append-nil (clusters_of map))
+        ∙ none
+    | inr le ↦
+        ap (λ m. find (is_outside fixed clusters) (clusters_of m)) (is_cut map slots None le)
+        ∙ inside_take map slots none
+  ]
+
+-- no slot is empty that wasn't, where none is added
+all_full : (map : List (Option ℕ)) → position is_none map ≡ None → (i : ℕ) → i < length map
+    → is_none (slice_index_or map i None) ≡ false
+all_full map none i lt = elim (cases_lt (position_or_len is_none map) (length map)) [
+  | inl some ↦ absurd (let t : nat_lt (position_or_len is_none map) (length map) ≡ true = lt-ltb _ _ some in
+      let bad : Some (position_or_len is_none map) ≡ None = sym (rw t refl) ∙ none in cc bad)
+  | inr past ↦ fails_before_first is_none map i None (omega (arith, past, lt))
+]
+
+pub full_cut : (map : List (Option ℕ)) (n : ℕ) → n ≤ length map → position is_none map ≡ None
+    → position is_none (take n map) ≡ None
+full_cut map n le none = by (position is_none (take n map)) refl
+  where
+    by : (o : Option ℕ) → position is_none (take n map) ≡ o → position is_none (take n map) ≡ None
+    by None is = is
+    by (Some i) is =
+        let some = position-Some is_none (take n map) i None is in
+        let low : i < n = omega (arith, some.0, length-take-le n map le) in
+        let full = all_full map none i (omega (arith, low, le)) in
+        absurd (false≢true (sym full ∙ ap is_none (sym (get_or-take n map i None low)) ∙ some.1))

@@ -1,0 +1,157 @@
+-- A job that a command asks for is ready once it is laid on pages, whatever the verb.
+use Rattle.std.proofs.Common.{◌≡◌, ◌∙◌, ℕ, ◌<◌, Bool, true, false, List, [], ◌∷◌, None, Some, refl, sym, ap, subst, inl}
+use Rattle.std.proofs.Common.{inr, arith}
+use Rattle.std.specs.Prelude.{if◌then◌else◌, is_some, ◌+◌}
+use Rattle.std.proofs.lemmas.Bool.{cases_Bool}
+use Rattle.bit_array.specs.Bits.{IsLeastClear}
+use Rattle.super_block.specs.declared.page.Super.{Super}
+use Rattle.volume_model.specs.Volumes.{two_xattrs}
+use Rattle.volume_model.specs.declared.command.Command.{Command}
+use Rattle.blob_meta.specs.declared.meta.Meta.{Meta}
+use Rattle.blob_meta.specs.declared.job.Job.{Job as Changes}
+use Rattle.blob_meta.specs.declared.job.Replacement.{Replacement}
+use Rattle.blob_meta.specs.Jobs.{job_of_one, new_meta, resized_meta}
+use Rattle.store_model.specs.Shown.{fixed_of}
+use Rattle.store_model.specs.Phases.{Committing, Replacing, taken_by}
+use Rattle.store_model.specs.Places.{AreLeastClear}
+use Rattle.store_model.specs.StoreState.{shown, StoreState}
+use Rattle.store_model.specs.Asking.{creates, IsJobFor, resizes, syncs}
+use Rattle.store_model.specs.Maps.{Metas}
+use Rattle.store_model.specs.Jobs.{IsLaid, LacksPages, LacksPagesFor}
+use Rattle.store_model.specs.Loadable.{IsLoadable}
+use Rattle.store_model.specs.RunInvariant.{RunsWell}
+use Rattle.store_model.proofs.CreateStep.{create_ready}
+use Rattle.store_model.proofs.Known.{Known}
+use Rattle.store_model.proofs.LeftToDo.{chain_new, chain_there}
+use Rattle.store_model.proofs.OneReplacement.{IsReady}
+use Rattle.store_model.proofs.ResizeStep.{resize_ready}
+use Rattle.store_model.proofs.SyncStep.{sync_ready}
+
+-- ---- the one replacement
+
+-- the pages that it lacks
+pub lacks_for_one : (base : Metas) (head : ℕ) (new : Meta) (bits : List Bool)
+    → LacksPages (is_some (base head)) new bits
+    → LacksPagesFor base (record { head = head; new = Some new } ∷ []) bits
+lacks_for_one base head new bits x =
+    let count : ℕ = if is_some (base head) then x.count else x.count + 1 in
+    record { count = count; take = (count, 0, (x.count, x.needs, refl), refl, omega arith); lacking = x.lacking }
+
+module _ (p : StoreState) (command : Command) (changes : Changes) (commit : Committing) where
+  abbrev pub head_of : IsJobFor p command changes commit → ℕ
+  head_of (syncs x) = x.head
+  head_of (creates x) = x.head
+  head_of (resizes x) = x.head
+
+  abbrev pub new_of : IsJobFor p command changes commit → Meta
+  new_of (syncs x) = x.new
+  new_of (creates x) =
+      new_meta x.head (two_xattrs (fixed_of p.super) (shown p) x.name x.uuid) x.thick x.slots
+  new_of (resizes x) = resized_meta x.old x.slots
+
+  -- changes without slots of zeros are no more than that
+  pub one_change : (asked : IsJobFor p command changes commit) → changes.zero ≡ []
+      → changes ≡ job_of_one (head_of asked) (new_of asked)
+  one_change (syncs x) zeros = x.is
+  one_change (creates x) zeros =
+      x.is ∙ ap (λ (z : List ℕ). record (job_of_one x.head (new_of (creates x))) { zero = z })
+      (sym (ap (λ (y : Changes). y.zero) x.is) ∙ zeros)
+  one_change (resizes x) zeros =
+      x.is ∙ ap (λ (z : List ℕ). record (job_of_one x.head (new_of (resizes x))) { zero = z })
+      (sym (ap (λ (y : Changes). y.zero) x.is) ∙ zeros)
+
+-- ---- laid on pages
+
+module _ (known : Known) where
+  open known use {s, placed, first, script, p, facts}
+
+  module _ (runs : p.stopped ≡ None) (r : Replacing) (x : Replacement)
+      (laid : IsLaid p.super p.base p.chains p.pages [] x r) where
+    well : RunsWell first p
+    well = facts.well runs
+
+    -- a blob that is there isn't made
+    there_not_made : (m : Meta) → p.base r.head ≡ Some m → r.makes ≡ false
+    there_not_made m there = elim (cases_Bool r.makes) [
+      | inl makes ↦
+          let chain = well.chains.chain r.head m there in
+          absurd (let bad = sym chain.1 ∙ laid.chain ∙ chain_new r makes in cc bad)
+      | inr not ↦ not
+    ]
+
+    -- and one that isn't is made
+    none_made : p.base r.head ≡ None → r.makes ≡ true
+    none_made none = elim (cases_Bool r.makes) [
+      | inl makes ↦ makes
+      | inr not ↦ absurd (let bad = sym (well.chains.none r.head none) ∙ laid.chain ∙ chain_there r not in cc bad)
+    ]
+
+    -- its head is a place of the region: the least that is clear
+    made_low : r.makes ≡ true → AreLeastClear p.pages (taken_by r) → r.head < p.super.md_len
+    made_low makes least =
+        let first : IsLeastClear p.pages r.head = (subst (λ b.
+        AreLeastClear p.pages (if b then r.head ∷ r.fresh else r.fresh)) makes least).0 in
+        let below = first.within in
+        omega (arith, below, well.pages.count)
+
+  pub job_ready : p.stopped ≡ None → (command : Command) (changes : Changes) (commit : Committing)
+      → (asked : IsJobFor p command changes commit) → changes.zero ≡ [] → (r : Replacing)
+      → IsLaid p.super p.base p.chains p.pages []
+      (record { head = head_of p command changes commit asked; new = Some (new_of p command changes commit asked) }) r
+      → IsReady p command commit (new_of p command changes commit asked) r
+  job_ready runs command changes commit (syncs y) zeros r laid =
+      subst (λ (c : Committing). IsReady p command c y.new r) (sym y.commit_is)
+      (sync_ready known runs command y.head y.new y.asks r laid.head laid.new
+      (there_not_made runs r _ laid y.asks.old (ap p.base laid.head ∙ y.asks.there)))
+  job_ready runs command changes commit (creates y) zeros r laid =
+      create_ready known runs command changes commit y zeros
+      (subst (λ h. h < p.super.md_len) laid.head
+      (made_low runs r _ laid (none_made runs r _ laid (ap p.base laid.head ∙ y.none)) laid.planned.least)) r laid.head
+      laid.new
+  job_ready runs command changes commit (resizes y) zeros r laid =
+      resize_ready known runs command changes commit y zeros r laid.head laid.new
+      (there_not_made runs r _ laid y.old (ap p.base laid.head ∙ y.there))
+
+  -- the metadata that it asks for can be written, before it is laid on pages
+  pub job_writable : p.stopped ≡ None → (command : Command) (changes : Changes) (commit : Committing)
+      → IsJobFor p command changes commit → changes.zero ≡ [] → (x : Replacement) (new : Meta)
+      → changes.list ≡ x ∷ [] → x.new ≡ Some new → x.head < s.md_len → IsLoadable s x.head new
+  job_writable runs command changes commit asked zeros x new list is low =
+      let one : x ≡ record {
+        head = head_of p command changes commit asked;
+        new = Some (new_of p command changes commit asked);
+      } =
+      let both = sym list ∙ ap (λ (y : Changes). y.list) (one_change p command changes commit asked zeros) in cc both
+      in
+      let head_is : x.head ≡ head_of p command changes commit asked = ap (λ (y : Replacement). y.head) one in
+      let new_is : new_of p command changes commit asked ≡ new =
+      let both = sym (ap (λ (y : Replacement). y.new) one) ∙ is in cc both in
+      let written : IsLoadable p.super (head_of p command changes commit asked)
+      (new_of p command changes commit asked) =
+      by asked
+      (subst (λ h. h < p.super.md_len) head_is (subst (λ (y : Super). x.head < y.md_len) (sym facts.super) low))
+      in
+      subst (IsLoadable s x.head) new_is (subst (λ h. IsLoadable s h (new_of p command changes commit asked))
+      (sym head_is) (subst (λ (y : Super). IsLoadable y (head_of p command changes commit asked)
+      (new_of p command changes commit asked)) facts.super written))
+    where
+      -- on no pages
+      bare : ℕ → Meta → Bool → Replacing
+      bare head m makes = record {
+        head = head;
+        new = Some m;
+        makes = makes;
+        fresh = [];
+        planned = [];
+        old = [];
+        freed = [];
+      }
+
+      by : (asked : IsJobFor p command changes commit) → head_of p command changes commit asked < p.super.md_len
+          → IsLoadable p.super (head_of p command changes commit asked) (new_of p command changes commit asked)
+      by (syncs y) low =
+          (sync_ready known runs command y.head y.new y.asks (bare y.head y.new false) refl refl refl).loadable
+      by (creates y) low = (create_ready known runs command changes commit y zeros low
+          (bare y.head (new_of p command changes commit (creates y)) true) refl refl).loadable
+      by (resizes y) low = (resize_ready known runs command changes commit y zeros
+          (bare y.head (new_of p command changes commit (resizes y)) false) refl refl refl).loadable

@@ -1,0 +1,264 @@
+-- What a resize asks for: metadata that a load takes, and what each image shows with it.
+use Rattle.std.proofs.Common.{◌≡◌, ◌≢◌, ◌⊎◌, ℕ, ◌+◌, ◌-◌, ◌<◌, ◌≤◌, ◌^◌, ◌&&◌, Bool, true, false, List, [], ◌∷◌, length}
+use Rattle.std.proofs.Common.{Option, Some, None, refl, sym, ap, ◌∙◌, subst, inl, inr, arith}
+use Rattle.std.specs.Prelude.{if◌then◌else◌, is_some, IsSome, nat_lt}
+use Rattle.std.specs.List.{AllByRecursion, range_with_len}
+use Rattle.std.specs.Option.{option_map, option_map_or}
+use Rattle.std.proofs.lemmas.Bool.{cases_Bool, cases_eq, false≢true, lt-ltb, ltb-false}
+use Rattle.std.proofs.lemmas.Bool.Decides.{nat_tests}
+use Rattle.std.proofs.lemmas.List.FromFn.{length-range_with_len}
+use Rattle.std.proofs.Math.Path.{fun_ext}
+use Rattle.page_disk.specs.Disk.{Image}
+use Rattle.volume_model.specs.Volumes.{all_slots, Fixed, head_of, is_super, resized, slots_at, slots_of, Volume}
+use Rattle.volume_model.specs.Volumes.{Volumes}
+use Rattle.volume_model.specs.Refusals.{has_longer_parent, is_too_large, refusal}
+use Rattle.volume_model.specs.Steps.{Allowed, change, named_head}
+use Rattle.volume_model.specs.declared.command.Command.{Command}
+use Rattle.volume_model.specs.declared.command.Command.TheVariants as c
+use Rattle.volume_model.specs.declared.command.VolumeRef.{VolumeRef}
+use Rattle.volume_model.specs.declared.reply.Reply.TheVariants as r_
+use Rattle.volume_model.proofs.Blank.{same_named, same_refusal}
+use Rattle.blob_meta.specs.declared.meta.Meta.{Meta}
+use Rattle.blob_meta.specs.declared.job.Job.{Job as Changes}
+use Rattle.blob_meta.specs.Faults.{is_thin}
+use Rattle.blob_meta.specs.Jobs.{resized_meta}
+use Rattle.blob_meta.specs.Resolving.{resolved, slots_together}
+use Rattle.store_model.specs.Maps.{Metas, with_entry}
+use Rattle.store_model.specs.Shown.{fixed_of}
+use Rattle.store_model.specs.Phases.{Committing, replaced, Replacing}
+use Rattle.store_model.specs.StoreState.{live_of, shown, StoreState}
+use Rattle.store_model.specs.Asking.{IsResizeJob}
+use Rattle.store_model.specs.Jobs.{IsStep, shown_of}
+use Rattle.store_model.specs.Loadable.{AreLoadable, CanBeWritten, IsLoadable}
+use Rattle.store_model.specs.RunInvariant.{RunsWell}
+use Rattle.store_model.proofs.Cut.{length_cut}
+use Rattle.store_model.proofs.Elsewhere.{IsChildless}
+use Rattle.store_model.proofs.Known.{Known}
+use Rattle.store_model.proofs.Meanwhile.{blank_reading, reading}
+use Rattle.store_model.proofs.Moved.{live_shown, live_writable}
+use Rattle.store_model.proofs.OneReplacement.{all_loadable, base_is, base_lawful, base_loadable, base_resolved, IsReady}
+use Rattle.store_model.proofs.OneReplacement.{ready_by, some_pages}
+use Rattle.store_model.proofs.ResizedBlob.{resized_loadable, resized_takes_none}
+use Rattle.store_model.proofs.Shows.{or_empty}
+use Rattle.store_model.proofs.ShowsGiven.{by, shown_given, shown_is, writable_childless}
+use Rattle.store_model.proofs.ShowsResized.{IsNoLonger, volume_resized}
+use Rattle.store_model.proofs.SlotSums.{all_shown, slots_at_shown, slots_given, slots_in, slots_shown}
+use Rattle.store_model.proofs.Synced.{edited_here, edited_there}
+use Rattle.store_model.proofs.Writable.{AllWritable, none_holds}
+use Rattle.store_model.proofs.WithEntry.{given_here}
+
+-- no slot of zeros: the blob is thin, or no slot is added
+thin_or_cut : (m : Meta) (slots : ℕ)
+    → (if is_thin m.flags then [] else range_with_len (length m.map) (slots - length m.map)) ≡ []
+    → (is_thin m.flags ≡ true) ⊎ (slots ≤ length m.map)
+thin_or_cut m slots none = elim (cases_Bool (is_thin m.flags)) [
+  | inl thin ↦ inl thin
+  | inr thick ↦
+      let all : range_with_len (length m.map) (slots - length m.map) ≡ [] = subst (λ b.
+      (if b then [] else range_with_len (length m.map) (slots - length m.map)) ≡ []) thick none in
+      let count = sym (length-range_with_len (length m.map) (slots - length m.map))
+      ∙ ap (λ (l : List ℕ). length l) all in
+      inr (omega (arith, count))
+]
+
+-- ---- a resize that nothing refuses
+
+record CanResize (f : Fixed) (v : Volumes) (slots : ℕ) (x : Volume) : Type 0 where
+  writable : x.read_only ≡ false
+  short : (nat_lt (slots_of f x) slots && has_longer_parent f v x (slots_of f x)) ≡ false
+  large : is_too_large f v slots (all_slots f v - slots_of f x) ≡ false
+
+can_resize : (f : Fixed) (v : Volumes) (volume : VolumeRef) (slots head : ℕ) (x : Volume)
+    → head_of f v volume ≡ Some head → v head ≡ Some x → refusal f v (c.Resize volume slots) ≡ None
+    → CanResize f v slots x
+can_resize f v volume slots head x found there asked =
+    let none = none_holds
+    ((is_super f head, r_.Reserved) ∷ (x.read_only, r_.ReadOnly)
+    ∷ (nat_lt (slots_of f x) slots && has_longer_parent f v x (slots_of f x), r_.Short)
+    ∷ (is_too_large f v slots (all_slots f v - slots_of f x), r_.TooLarge) ∷ []) (rw (found, there) at asked) in
+    record { writable = none.1.0; short = none.1.1.0; large = none.1.1.1.0 }
+
+module _ (known : Known) where
+  open known use {first, p, facts}
+
+  module _ (runs : p.stopped ≡ None) (volume : VolumeRef) (slots : ℕ)
+      (asked : refusal (fixed_of p.super) (shown p) (c.Resize volume slots) ≡ None) (head : ℕ)
+      (found : head_of (fixed_of p.super) (shown p) volume ≡ Some head) (old : Meta) (there : p.base head ≡ Some old)
+      (thin : (is_thin old.flags ≡ true) ⊎ (slots ≤ length old.map)) (r : Replacing) (head_is : r.head ≡ head)
+      (new_is : r.new ≡ Some (resized_meta old slots)) (not_made : r.makes ≡ false) where
+    well : RunsWell first p
+    well = facts.well runs
+
+    abbrev f : Fixed
+    f = fixed_of p.super
+
+    abbrev new : Meta
+    new = resized_meta old slots
+
+    abbrev all : Metas
+    all = with_entry p.base head new
+
+    abbrev renews : List ℕ
+    renews = if nat_lt slots (length old.map) then head ∷ [] else []
+
+    abbrev commit : Committing
+    commit = record { reply = r_.Ok; live = None; renews = renews }
+
+    -- ---- the volume, and what doesn't hold of it
+
+    abbrev x : Volume
+    x = by p (base_loadable known) p.base (or_empty (p.live head)) head old
+
+    was : shown p head ≡ Some x
+    was = shown_is p (base_loadable known) head
+        ∙ ap (λ o. option_map (by p (base_loadable known) p.base (or_empty (p.live head)) head) o)
+        there
+
+    can : CanResize f (shown p) slots x
+    can = can_resize f (shown p) volume slots head x found was asked
+
+    slots_are : slots_of f x ≡ length old.map
+    slots_are = slots_shown f p.device.reads p.base (some_pages known) (or_empty (p.live head)) head old
+
+    slots_at_are : (h : ℕ) → slots_at f (shown p) h ≡ slots_in (p.base h)
+    slots_at_are h = slots_at_shown f p.device.reads (resolved p.base) (some_pages known) p.live h
+        ∙ ap (λ (m : Metas). slots_in (m h)) (base_resolved known)
+
+    all_are : all_slots f (shown p) ≡ slots_together p.super.md_len p.base
+    all_are = all_shown f p.device.reads (resolved p.base) (some_pages known) p.live
+        ∙ ap (slots_together p.super.md_len) (base_resolved known)
+
+    -- a blob that grows has no longer parent
+    no_longer : length old.map < slots → IsNoLonger p.base old (length old.map)
+    no_longer lt up parent of is =
+        let grows : nat_lt (slots_of f x) slots ≡ true = ap (λ n. nat_lt n slots) slots_are ∙ lt-ltb _ _ lt in
+        let none : has_longer_parent f (shown p) x (slots_of f x) ≡ false =
+        subst (λ b. (b && has_longer_parent f (shown p) x (slots_of f x)) ≡ false) grows can.short in
+        let one : nat_lt (slots_of f x) (slots_at f (shown p) up) ≡ false =
+        subst (λ o. option_map_or (λ q. nat_lt (slots_of f x) (slots_at f (shown p) q)) o false ≡ false) of none in
+        let le = ltb-false (slots_of f x) (slots_at f (shown p) up) one in
+        let long : slots_at f (shown p) up ≡ length parent.map = slots_at_are up ∙ ap slots_in is in
+        omega (arith, le, long, slots_are)
+
+    childless : IsChildless p.base head
+    childless = writable_childless p.base head old (base_lawful known).parents there can.writable
+
+    -- ---- the metadata
+
+    one_loadable : IsLoadable p.super head new
+    one_loadable = resized_loadable old slots thin p.super head
+        (let large = can.large in grind (arith, nat_tests, large)) (base_loadable known head old there)
+
+    loadable : AreLoadable p.super all
+    loadable = all_loadable known head new one_loadable
+
+    all_few : slots_together p.super.md_len all ≤ 2 ^ 24
+    all_few =
+        let large = can.large in
+        let together : (all_slots f (shown p) - slots_of f x) + slots ≤ 2 ^ 24 = grind (arith, nat_tests, large) in
+        let counted : slots_together p.super.md_len all + length old.map
+        ≡ slots_together p.super.md_len p.base + length new.map =
+        ap (λ o. slots_together p.super.md_len all + slots_in o) (sym there)
+        ∙ slots_given p.super.md_len p.base head new (base_loadable known head old there).stored.low in
+        omega (arith, together, counted, all_are, slots_are, length_cut {X = Option ℕ} old.map slots None)
+
+    base_now : replaced p.base r ≡ all
+    base_now = base_is known head new one_loadable r head_is new_is
+
+    renews_there : (b : Bool) → AllByRecursion (λ h. IsSome (replaced p.base r h)) (if b then head ∷ [] else [])
+    renews_there false = tt
+    renews_there true =
+        (ap (λ (m : Metas). is_some (m head)) base_now ∙ ap is_some (given_here p.base head new head refl), tt)
+
+    -- ---- what every image shows
+
+    module _ (image : Image) where
+      abbrev now : StoreState
+      now = reading p image
+
+      abbrev edit : Volume → Volume
+      edit y = record y { pages = resized f y.pages slots }
+
+      abbrev w : Volumes
+      w = change f (shown now) (c.Resize volume slots) r_.Ok
+
+      found_now : head_of f (shown now) volume ≡ Some head
+      found_now = same_named f (shown now) (shown p) (blank_reading p image) (c.Resize volume slots) ∙ found
+
+      here : w head ≡ option_map edit (shown now head)
+      here = edited_here f (shown now) (head_of f (shown now) volume) edit head found_now
+
+      others : (h : ℕ) → h ≢ head → w h ≡ shown now h
+      others h ne = edited_there f (shown now) (head_of f (shown now) volume) edit head found_now h ne
+
+      abbrev y : Volume
+      y = by now (base_loadable known) p.base (or_empty (p.live head)) head old
+
+      was_now : shown now head ≡ Some y
+      was_now = shown_is now (base_loadable known) head
+          ∙ ap (λ o. option_map (by now (base_loadable known) p.base (or_empty (p.live head)) head) o) there
+
+      is_now : w head ≡ Some (edit y)
+      is_now = here ∙ ap (option_map edit) was_now
+
+      -- attributes are read as they were
+      live_same : (h : ℕ) → live_of w h ≡ p.live h
+      live_same h = elim (cases_eq h head) [
+        | inl e ↦ ap (live_of w) e ∙ ap (λ o. option_map (λ (v : Volume). v.live) o) (is_now)
+            ∙ sym (ap (λ o. option_map (λ (v : Volume). v.live) o) was_now)
+            ∙ live_shown now well.live well.no_live head ∙ sym (ap p.live e)
+        | inr ne ↦ ap (λ o. option_map (λ (v : Volume). v.live) o) (others h ne)
+            ∙ live_shown now well.live well.no_live h
+      ]
+
+      shows_new : shown_of p.super (replaced p.base r) (live_of w) image ≡ w
+      shows_new =
+          ap (λ (m : Metas). shown_of p.super m (live_of w) image) base_now
+          ∙ shown_given now (base_loadable known) head new childless loadable w others
+          (ap (λ o. Some (by now (base_loadable known) all (or_empty o) head new)) (live_same head)
+          ∙ ap (λ (v : Volume). Some v)
+          (volume_resized f.cluster_pages (some_pages known) p.base head old there childless image
+          f.md_len slots f refl no_longer (or_empty (p.live head)))
+          ∙ sym is_now)
+
+      allowed : Allowed f (shown now) (c.Resize volume slots) r_.Ok
+      allowed = (same_refusal f (shown now) (shown p) (blank_reading p image) (c.Resize volume slots) ∙ asked, tt)
+
+      writable : AllWritable w
+      writable h v is = elim (cases_eq h head) [
+        | inl e ↦
+            let same : edit y ≡ v = let both = sym is_now ∙ sym (ap w e) ∙ is in cc both in
+            subst (λ (u : Volume). CanBeWritten u.live) same (live_writable now well.live head y was_now)
+        | inr ne ↦ live_writable now well.live h v (sym (others h ne) ∙ is)
+      ]
+
+    step : IsStep p.super p.base r p.live (c.Resize volume slots) commit
+    step = record {
+      done = tt;
+      allowed = allowed;
+      may_fail = λ image. tt;
+      shows = shows_new;
+      lives = λ image. fun_ext (live_same image);
+      writable = writable;
+      renews = renews_there (nat_lt slots (length old.map));
+      numbers = λ makes. absurd (false≢true (sym not_made ∙ makes));
+    }
+
+    pub ready : IsReady p (c.Resize volume slots) commit new r
+    ready = ready_by known head new one_loadable r head_is new_is (c.Resize volume slots) commit
+        (resized_takes_none p.base head old slots there) all_few step
+
+  -- what a resize without slots of zeros asks for is ready
+  pub resize_ready : p.stopped ≡ None → (command : Command) (changes : Changes) (commit : Committing)
+      → (asks : IsResizeJob p command changes commit) → changes.zero ≡ [] → (r : Replacing) → r.head ≡ asks.head
+      → r.new ≡ Some (resized_meta asks.old asks.slots) → r.makes ≡ false
+      → IsReady p command commit (resized_meta asks.old asks.slots) r
+  resize_ready runs command changes commit asks zeros r head_is new_is not_made =
+      let new = resized_meta asks.old asks.slots in
+      let one = ready runs asks.volume asks.slots
+      (ap (refusal (fixed_of p.super) (shown p)) (sym asks.command_is) ∙ asks.asked) asks.head
+      (ap (named_head (fixed_of p.super) (shown p)) (sym asks.command_is) ∙ asks.found) asks.old asks.there
+      (thin_or_cut asks.old asks.slots (sym (ap (λ (x : Changes). x.zero) asks.is) ∙ zeros)) r head_is new_is
+      not_made in
+      subst (λ (x : Command). IsReady p x commit new r) (sym asks.command_is)
+      (subst (λ (x : Committing). IsReady p (c.Resize asks.volume asks.slots) x new r) (sym asks.commit_is) one)

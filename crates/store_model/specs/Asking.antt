@@ -1,0 +1,93 @@
+-- What a command asks a job to do: changes of metadata, and what their commit makes.
+use Rattle.std.specs.Prelude.{◌≡◌, ℕ, nat_lt, if◌then◌else◌, Bool, [], ◌∷◌, List, length, Option, Some, None}
+use Rattle.volume_model.specs.Names.{IsName}
+use Rattle.volume_model.specs.Volumes.{two_xattrs, Volume}
+use Rattle.volume_model.specs.Xattrs.{Text}
+use Rattle.volume_model.specs.Steps.{change, named_head}
+use Rattle.volume_model.specs.Refusals.{refusal}
+use Rattle.volume_model.specs.declared.command.Command.{Command}
+use Rattle.volume_model.specs.declared.command.Command.TheVariants as c
+use Rattle.volume_model.specs.declared.command.VolumeRef.{VolumeRef}
+use Rattle.volume_model.specs.declared.reply.Reply.TheVariants as r
+use Rattle.blob_meta.specs.declared.meta.Meta.{Meta}
+use Rattle.blob_meta.specs.declared.job.Job.{Job as Changes}
+use Rattle.blob_meta.specs.Jobs.{create_job, job_of_one, resize_job}
+use Rattle.store_model.specs.Shown.{fixed_of}
+use Rattle.store_model.specs.Phases.{Committing}
+use Rattle.store_model.specs.StoreState.{StoreState, shown}
+
+-- ---- verbs that sync
+
+-- the verbs that replace a blob's metadata so that its attributes are synced
+abbrev pub IsSyncing : Command → Type 0
+IsSyncing (c.Put volume key value) = Unit {0}
+IsSyncing (c.Sync volume) = Unit {0}
+IsSyncing _ = ⊥
+
+-- A command that nothing refuses, with the blob that it means and the metadata that it makes: as it was, but that the
+-- attributes are those which the step makes synced.
+pub record AsksFor (p : StoreState) (command : Command) (head : ℕ) (new : Meta) : Type 0 where
+  pub syncing : IsSyncing command
+  pub asked : refusal (fixed_of p.super) (shown p) command ≡ None
+  pub found : named_head (fixed_of p.super) (shown p) command ≡ Some head
+  pub old : Meta
+  pub there : p.base head ≡ Some old
+  pub after : Volume
+  pub step : change (fixed_of p.super) (shown p) command r.Ok head ≡ Some after
+  pub new_is : new ≡ record old { xattrs = after.synced }
+
+-- A verb that syncs has one replacement, with which the blob's attributes are read as they are synced, and renews no
+-- generation.
+pub record IsSyncJob (p : StoreState) (command : Command) (changes : Changes) (commit : Committing) : Type 0 where
+  pub head : ℕ
+  pub new : Meta
+  pub is : changes ≡ job_of_one head new
+  pub asks : AsksFor p command head new
+  pub commit_is : commit ≡ record { reply = r.Ok; live = Some new.xattrs; renews = [] }
+
+-- ---- a new blob
+
+-- A create that nothing refuses makes a blob at a head where none is, with the attributes `name` and `uuid` alone, as
+-- they are read and as they are synced, and with a generation.
+pub record IsCreateJob (p : StoreState) (command : Command) (changes : Changes) (commit : Committing) : Type 0 where
+  pub name : Text
+  pub named : IsName name
+  pub slots : ℕ
+  pub thick : Bool
+  pub uuid : Option (List ℕ)
+  pub command_is : command ≡ c.Create name slots thick uuid
+  pub asked : refusal (fixed_of p.super) (shown p) command ≡ None
+  pub head : ℕ
+  pub none : p.base head ≡ None
+  pub is : changes ≡ create_job head (two_xattrs (fixed_of p.super) (shown p) name uuid) thick slots
+  pub commit_is : commit ≡ record {
+    reply = r.Made head;
+    live = Some (two_xattrs (fixed_of p.super) (shown p) name uuid);
+    renews = head ∷ [];
+  }
+
+-- ---- another number of slots
+
+-- A resize that nothing refuses cuts the map of the blob that it means, or adds empty slots. Its attributes stay as
+-- they are, and it is renewed where slots are cut.
+pub record IsResizeJob (p : StoreState) (command : Command) (changes : Changes) (commit : Committing) : Type 0 where
+  pub volume : VolumeRef
+  pub slots : ℕ
+  pub command_is : command ≡ c.Resize volume slots
+  pub asked : refusal (fixed_of p.super) (shown p) command ≡ None
+  pub head : ℕ
+  pub found : named_head (fixed_of p.super) (shown p) command ≡ Some head
+  pub old : Meta
+  pub there : p.base head ≡ Some old
+  pub is : changes ≡ resize_job head old slots
+  pub commit_is : commit ≡ record {
+    reply = r.Ok;
+    live = None;
+    renews = if nat_lt slots (length old.map) then head ∷ [] else [];
+  }
+
+-- The changes that a command asks for, and what their commit makes.
+pub data IsJobFor (p : StoreState) (command : Command) (changes : Changes) (commit : Committing) : Type 0 where
+  syncs : IsSyncJob p command changes commit → IsJobFor p command changes commit
+  creates : IsCreateJob p command changes commit → IsJobFor p command changes commit
+  resizes : IsResizeJob p command changes commit → IsJobFor p command changes commit
