@@ -5,7 +5,7 @@ ghost use Rattle.blob_meta.specs.SlotCounts.{IsCreate, IsResize};
 use crate::plan_tests::told;
 use blob_meta::{Flags, Job, Meta, Metas};
 use descriptors::SlotMap;
-use lvol_store::{check_name, parse_uuid, plan_create, plan_resize, uuid_for};
+use lvol_store::{check_name, parse_uuid, plan_create, plan_resize, store_uuid, uuid_for};
 use out_of_memory::Memory;
 use std::alloc::Global;
 use std::test::Fail;
@@ -167,8 +167,11 @@ fn creates_are_planned_or_refused(rt: HostRuntime) -> Result<(), Fail> {
         let plan = planned_create(alloc, &metas, &sup, *asked)?;
         assert_eq!(rt; plan.as_slice(), *wanted);
     }
+    let uuid = parse_uuid("5f2b4e66-0d0c-4c1e-9a55-3f0a7c2d9b10")?;
+    assert_eq!(rt; store_uuid(&metas, &sup), uuid);
     // Without a super blob the store's uuid is nil.
     let other = Layout::plan(64, 4, Some(16))?.new_super(u64::MAX, [0; 16]);
+    assert_eq!(rt; store_uuid(&metas, &other), [0; 16]);
     let plan = planned_create(alloc, &metas, &other, (b"v", 0, false, None))?;
     assert_eq!(rt;
         plan.as_slice(),
