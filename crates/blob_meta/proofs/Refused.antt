@@ -37,7 +37,7 @@ pub create_refused : (metas : map.FinMap nat_cmp Meta) (sup : Super) (name : Lis
     (first_cause ((taken, r.NameTaken) ∷ (large, r.TooLarge) ∷ []))
 create_refused metas sup name slots thick uuid all taken large is_taken has is f v s =
     ap (λ b. first_cause ((b, r.NameTaken) ∷ (is_too_large f v slots (all_slots f v), r.TooLarge) ∷ []))
-        (is_taken f v s)
+    (is_taken f v s)
     ∙ ap (λ n. first_cause ((taken, r.NameTaken) ∷ (is_too_large f v slots n, r.TooLarge) ∷ []))
     (all_are f sup metas v s all has)
     ∙ ap (λ b. first_cause ((taken, r.NameTaken) ∷ (b, r.TooLarge) ∷ [])) (sym (is f v))

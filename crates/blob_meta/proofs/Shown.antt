@@ -13,8 +13,7 @@ use Rattle.std.proofs.lemmas.Bool.Decides.{nat_tests}
 use Rattle.super_block.specs.declared.page.Super.{Super}
 use Rattle.volume_model.specs.Xattrs.{told, name_key}
 use Rattle.volume_model.specs.Volumes.{Volume, Volumes, Fixed, all_slots, has_name, head_of, heads, is_given_head}
-use Rattle.volume_model.specs.Volumes.{is_super}
-use Rattle.volume_model.specs.Volumes.{slots_at, slots_of}
+use Rattle.volume_model.specs.Volumes.{is_super, slots_at, slots_of}
 use Rattle.volume_model.specs.Refusals.{has_longer_parent}
 use Rattle.volume_model.specs.declared.command.VolumeRef.{VolumeRef}
 use Rattle.volume_model.specs.declared.command.VolumeRef.TheVariants.{Head, Named}

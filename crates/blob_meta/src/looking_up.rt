@@ -1,12 +1,7 @@
 //! Which blob a command means.
 
 ghost use Rattle.std.specs.Prelude.{◌≡◌, ◌<◌, ◌^◌, ℕ, false, IfSome, IfNone};
-ghost use Rattle.std.specs.FinMap as map;
-ghost use Rattle.std.specs.Ordering.{nat_cmp};
-ghost use Rattle.super_block.specs.declared.page.Super.{Super};
-ghost use Rattle.volume_model.specs.declared.command.VolumeRef.{VolumeRef};
 ghost use Rattle.volume_model.specs.declared.command.VolumeRef.TheVariants.{Named};
-ghost use Rattle.blob_meta.specs.declared.meta.Meta.{Meta};
 ghost use Rattle.blob_meta.specs.Find.{is_called as called, is_meant, IsLeast};
 ghost use Rattle.blob_meta.specs.ShownBy.{IsHeadMeant, IsTakenIn};
 
@@ -78,9 +73,3 @@ pub fn find(metas: &Metas, sup: &Super, volume: &VolumeRef) -> Option<u32>
         VolumeRef::Named(name) => find_named(metas, sup, name),
     }
 }
-
-/// The least head that passes is the one that is meant.
-pub fn least_heads_are_meant()
-    ensures { (metas : map.FinMap nat_cmp Meta) (sup : Super) (volume : VolumeRef) (head : ℕ)
-        → IsLeast (is_meant sup.super_blob metas volume) head → IsHeadMeant metas sup volume (Some head) }
-{}

@@ -4,6 +4,8 @@
 #[cfg(test)]
 mod crashes;
 #[cfg(test)]
+mod creates;
+#[cfg(test)]
 mod cut_puts;
 #[cfg(test)]
 mod power;

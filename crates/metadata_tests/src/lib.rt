@@ -13,4 +13,6 @@ mod metadata;
 #[cfg(test)]
 mod refusals;
 #[cfg(test)]
+mod slot_commands;
+#[cfg(test)]
 mod slots;

@@ -1,4 +1,4 @@
-//! Tests of the program's calls over a device in memory: the verbs on attributes, new stores, and each status.
+//! Tests of the program's calls over a device in memory: the verbs on attributes, new volumes, new stores, and each status.
 #![tactic(auto)]
 
 #[cfg(test)]
@@ -7,3 +7,5 @@ mod failures;
 mod formats;
 #[cfg(test)]
 mod verbs;
+#[cfg(test)]
+mod volumes;

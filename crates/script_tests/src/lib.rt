@@ -15,6 +15,8 @@ mod report_tests;
 #[cfg(test)]
 mod schedule_tests;
 #[cfg(test)]
+mod slot_plan_tests;
+#[cfg(test)]
 mod told;
 #[cfg(test)]
 mod word_tests;

@@ -48,7 +48,7 @@ fn sync(head: u32) -> Command
 }
 
 /// The attributes that a plan gives its blob, one a line, with the head first, or the reply.
-fn told(alloc: Global, plan: &Result<Job, Reply>) -> Result<Vec<u8>, Fail> {
+pub(crate) fn told(alloc: Global, plan: &Result<Job, Reply>) -> Result<Vec<u8>, Fail> {
     let mut text = Vec::new(alloc);
     match plan {
         Err(reply) => text.extend_from_slice(format!(in alloc; "{reply:?}")?.as_bytes())?,

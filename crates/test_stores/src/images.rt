@@ -21,8 +21,8 @@ pub const THIN: &[u8] = b"\x03\x18\0\0\0\x01\0\0\0\0\0\0\0\0\0\0\0\0\0\0\0\0\0\0
 /// The flags of a blob whose data is read-only.
 pub const READ_ONLY: &[u8] = b"\x03\x18\0\0\0\0\0\0\0\0\0\0\0\x01\0\0\0\0\0\0\0\0\0\0\0\0\0\0\0";
 
-/// A name and a uuid: with the flags 94 bytes.
-const NAMED: &[u8] = b"\x02\x0A\0\0\0\x04\0\x02\0namev\0\
+/// The name `v` and the uuid 11223344-5566-4788-99aa-bbccddeeff00: with the flags 94 bytes.
+pub const NAMED: &[u8] = b"\x02\x0A\0\0\0\x04\0\x02\0namev\0\
     \x02\x2D\0\0\0\x04\0\x25\0uuid11223344-5566-4788-99aa-bbccddeeff00\0";
 
 /// An attribute `k` with a value of 4062 times the letter x: they fill the page.
@@ -70,20 +70,30 @@ fn put_row(disk: &mut MemDisk, row: PageRow) -> Result<(), Fail> {
     put(disk, 4 + u64::from(place), &page)
 }
 
-/// Writes the super block of a store that has clusters of 4 pages and so many metadata pages.
-fn put_super(disk: &mut MemDisk, md_pages: u32) -> Result<(), Fail> {
-    let sup = Layout::plan(disk.pages(), 4, Some(md_pages))?.new_super(u64::MAX, [0; 16]);
+/// Writes the super block of a store that has clusters of 4 pages, so many metadata pages, and this super blob.
+fn put_super(disk: &mut MemDisk, md_pages: u32, super_blob: u64) -> Result<(), Fail> {
+    let sup = Layout::plan(disk.pages(), 4, Some(md_pages))?.new_super(super_blob, [0; 16]);
     let mut page: Page = [0; 4096];
     write_super(&sup, &mut page);
     put(disk, 0, &page)
 }
 
 /// A device of so many pages with a store, which has clusters of 4 pages and so many metadata pages from page 4 on,
-/// with these in them. Its masks are zeros.
+/// with these in them. Its masks are zeros, and it has no super blob.
 pub fn image(alloc: Global, sizes: (u64, u32), rows: &[PageRow]) -> Result<MemDisk, Fail> {
+    image_with_super(alloc, sizes, u64::MAX, rows)
+}
+
+/// Such a device, where the super block names the blob with this id as the super blob.
+pub fn image_with_super(
+    alloc: Global,
+    sizes: (u64, u32),
+    super_blob: u64,
+    rows: &[PageRow],
+) -> Result<MemDisk, Fail> {
     let (pages, md_pages) = sizes;
     let mut disk = MemDisk::new(alloc, pages, 64)?;
-    put_super(&mut disk, md_pages)?;
+    put_super(&mut disk, md_pages, super_blob)?;
     for row in rows {
         put_row(&mut disk, *row)?;
     }

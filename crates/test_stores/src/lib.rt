@@ -4,5 +4,7 @@
 mod images;
 mod looks;
 
-pub use images::{LAST, PageRow, READ_ONLY, THICK, THIN, image, store, two_blobs, volume};
+pub use images::{
+    LAST, NAMED, PageRow, READ_ONLY, THICK, THIN, image, image_with_super, store, two_blobs, volume,
+};
 pub use looks::{ChainRow, expect_chains, expect_written, first_value};

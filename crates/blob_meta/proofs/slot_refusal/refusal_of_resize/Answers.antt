@@ -22,4 +22,4 @@ returns-clause-first c = λ f v s.
     (λ fit. c.refusal_at.ensures.first fit
     ∙ ap (λ b. first_cause (resize_causes b (is_read_only m.flags)
     (nat_lt (length m.map) slots && has_longer_parent metas m) c.is_too_large-too_large.result)) c.is_super.ensures)
-        f v s
+    f v s

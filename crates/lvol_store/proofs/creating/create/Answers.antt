@@ -20,8 +20,8 @@ returns c =
       xattrs = c.in_ok-xattrs.xattrs;
       named = λ f v s. sym (c.in_ok-xattrs.ensures.two f v
           ∙ ap (λ uuid. two_xattrs f v name (Some uuid)) (c.uuid_of_new-uuid.ensures
-          ∙ ap (λ store. option_map_or (λ bytes. bytes) given (default_uuid store name)) (sym
-              (c.store_uuid.ensures f v s))));
+          ∙ ap (λ store. option_map_or (λ bytes. bytes) given (default_uuid store name))
+          (sym (c.store_uuid.ensures f v s))));
       job_is = is;
     }))
     c.make_blob.ensures

@@ -1,0 +1,159 @@
+//! Each cause for which a create or a resize is refused, and the metadata that they make.
+
+ghost use Rattle.blob_meta.specs.SlotCounts.{IsCreate, IsResize};
+
+use crate::fixtures::{THREE_RUNS, small};
+use blob_meta::{Flags, Meta, Metas, new_meta, refusal_of_create, refusal_of_resize, resized_meta};
+use descriptors::SlotMap;
+use std::alloc::Global;
+use std::test::Fail;
+use volume_model::{Command, Memory, Name, VolumeRef, XattrList};
+
+const SNAP: &[u8] = b"SNAP";
+
+const SIX: &[u8] = b"\x06\0\0\0\x01\0\0\0";
+
+fn name_of(name: &str) -> Name {
+    match name {
+        "v" => Name::new(b"v"),
+        "w" => Name::new(b"w"),
+        "store" => Name::new(b"store"),
+        _ => Name::new(b"u"),
+    }
+}
+
+fn create(name: Name, slots: u64) -> Command
+    ensures { IsCreate result }
+{
+    Command::Create {
+        name,
+        slots,
+        thick: false,
+        uuid: None,
+    }
+}
+
+fn resize(head: u32, slots: u64) -> Command
+    ensures { IsResize result }
+{
+    Command::Resize {
+        volume: VolumeRef::Head(head),
+        slots,
+    }
+}
+
+/// A thin blob of this name that has six slots, of which two are empty, and this flag `data_ro`.
+fn blob(alloc: Global, head: u32, name: &[u8], data_ro: u64) -> Result<Meta, Memory> {
+    let mut map = SlotMap::new(alloc);
+    for run in THREE_RUNS {
+        let cluster = if run.cluster == 0 {
+            None
+        } else {
+            Some(run.cluster)
+        };
+        map.push_run(cluster, run.length)?;
+    }
+    Ok(Meta {
+        id: (1 << 32) + u64::from(head),
+        flags: Flags {
+            invalid: 1,
+            data_ro,
+            md_ro: 0,
+        },
+        xattrs: XattrList::new(alloc).with_value(alloc, b"name", name)?,
+        internal: XattrList::new(alloc),
+        map,
+    })
+}
+
+/// The super blob at 2, a blob at 5, a read-only one at 6, and at 8 one of no slot whose parent is at 6.
+fn metas(alloc: Global) -> Result<Metas, Memory> {
+    let mut metas = Metas::new(alloc);
+    metas.insert(2, blob(alloc, 2, b"store\0", 0)?)?;
+    metas.insert(5, blob(alloc, 5, b"v\0", 0)?)?;
+    metas.insert(6, blob(alloc, 6, b"w\0", 1)?)?;
+    let mut clone = new_meta(alloc, 8, XattrList::new(alloc), false, 0)?;
+    clone.internal = clone.internal.with_value(alloc, SNAP, SIX)?;
+    metas.insert(8, clone)?;
+    Ok(metas)
+}
+
+/// The most slots of a blob, and one more.
+const MOST: u64 = 1 << 20;
+
+const TOO_MANY: u64 = MOST + 1;
+
+#[test]
+fn the_first_cause_is_answered(rt: HostRuntime) -> Result<(), Fail> {
+    let alloc = rt.alloc();
+    let metas = metas(alloc)?;
+    let sup = small((1 << 32) + 2)?;
+    let creates: &[(&str, u64, &str)] = &[
+        ("v", TOO_MANY, "Some(NameTaken)"),
+        ("w", 1, "Some(NameTaken)"),
+        ("u", TOO_MANY, "Some(TooLarge)"),
+        ("u", u64::MAX, "Some(TooLarge)"),
+        ("u", MOST, "None"),
+        ("store", 0, "None"),
+    ];
+    for (name, slots, wanted) in creates {
+        let command = create(name_of(name), *slots);
+        let found = refusal_of_create(&metas, &sup, &command);
+        assert_eq!(rt; format!(in alloc; "{found:?}")?.as_str(), *wanted);
+    }
+    let resizes: &[(u32, u64, &str)] = &[
+        (9, TOO_MANY, "Some(NoVolume)"),
+        (2, TOO_MANY, "Some(Reserved)"),
+        (6, TOO_MANY, "Some(ReadOnly)"),
+        (8, TOO_MANY, "Some(Short)"),
+        (8, 1, "Some(Short)"),
+        (8, 0, "None"),
+        (5, TOO_MANY, "Some(TooLarge)"),
+        (5, MOST, "None"),
+        (5, 0, "None"),
+    ];
+    for (head, slots, wanted) in resizes {
+        let found = refusal_of_resize(&metas, &sup, &resize(*head, *slots));
+        assert_eq!(rt; format!(in alloc; "{found:?}")?.as_str(), *wanted);
+    }
+    Ok(())
+}
+
+/// The flags, the number of attributes, and the map.
+fn shown(alloc: Global, meta: &Meta) -> Result<String, Memory> {
+    let (flags, map) = (meta.flags, meta.map.as_slice());
+    format!(in alloc;
+        "{} {} {} {} {map:?}",
+        meta.id,
+        flags.invalid,
+        flags.data_ro,
+        meta.xattrs.len()
+    )
+    .map_err(|_| Memory)
+}
+
+#[test]
+fn new_slots_are_empty(rt: HostRuntime) -> Result<(), Fail> {
+    let alloc = rt.alloc();
+    let thin = new_meta(alloc, 3, XattrList::new(alloc), false, 2)?;
+    assert_eq!(rt;
+        shown(alloc, &thin)?.as_str(),
+        "4294967299 1 0 0 [None, None]"
+    );
+    let thick = new_meta(alloc, 3, XattrList::new(alloc), true, 0)?;
+    assert_eq!(rt; shown(alloc, &thick)?.as_str(), "4294967299 0 0 0 []");
+    let six = blob(alloc, 5, b"v\0", 0)?;
+    let cases: &[(u32, &str)] = &[
+        (0, "4294967301 1 0 1 []"),
+        (4, "4294967301 1 0 1 [Some(5), Some(6), Some(7), None]"),
+        (
+            8,
+            "4294967301 1 0 1 [Some(5), Some(6), Some(7), None, None, Some(9), None, None]",
+        ),
+    ];
+    for (slots, wanted) in cases {
+        let meta = resized_meta(alloc, &six, *slots)?;
+        assert_eq!(rt; shown(alloc, &meta)?.as_str(), *wanted);
+    }
+    Ok(())
+}

@@ -1,0 +1,140 @@
+//! Thin volumes that are made, and how much is clear.
+
+use page_disk::MemDisk;
+use std::alloc::Global;
+use std::test::Fail;
+use test_runs::play;
+use test_stores::{LAST, NAMED, PageRow, THICK, THIN, image, image_with_super, volume};
+
+/// A store with clusters of 4 pages, of which 16 are on the device.
+#[derive(Clone, Copy)]
+enum On {
+    /// No blob.
+    Empty,
+    /// A blob without a name at place 1 of 16.
+    One,
+    /// The volume `v` of three clusters at the places 0 to 2 of 5.
+    Volume,
+    /// A super blob at place 0, whose name is `v` and whose uuid is 11223344-5566-4788-99aa-bbccddeeff00.
+    Super,
+    /// A super block that names a super blob at place 0, which isn't there.
+    NoSuper,
+}
+
+/// The id of the blob at place 0.
+const FIRST: u64 = 1 << 32;
+
+fn disk(alloc: Global, on: On) -> Result<MemDisk, Fail> {
+    let one: [PageRow; 1] = [(1, 1, 0, LAST, &[THICK])];
+    let named: [PageRow; 1] = [(0, 0, 0, LAST, &[THIN, NAMED])];
+    match on {
+        On::Empty => image(alloc, (64, 16), &[]),
+        On::One => image(alloc, (64, 16), &one),
+        On::Volume => volume(alloc, 5),
+        On::Super => image_with_super(alloc, (64, 16), FIRST, &named),
+        On::NoSuper => image_with_super(alloc, (64, 16), FIRST, &[]),
+    }
+}
+
+/// A store, a script, what it prints, and a look and what it prints in a later run.
+type Case = (
+    On,
+    &'static [u8],
+    &'static [u8],
+    &'static [u8],
+    &'static [u8],
+);
+
+const CASES: [Case; 8] = [
+    // A thin volume takes a page and no cluster.
+    (
+        On::Empty,
+        b"0 df\n0 create v 1 thin\n0 df\n",
+        b"0 0 df clusters 11 of 16 pages 16 of 16\n0 1 ok @0\n0 2 df clusters 11 of 16 pages 15 of 16\n",
+        b"0 getx @0 name\n0 df\n",
+        b"0 0 value 7600\n0 1 df clusters 11 of 16 pages 15 of 16\n",
+    ),
+    // A name that is taken comes before a size that is too large.
+    (
+        On::Empty,
+        b"0 create a 1 thin\n0 create b 0 thin\n0 create a 1048577 thin\n0 create c 1048577 thin\n\
+            0 create c 18446744073709551615 thin\n0 create c 1048576 thin\n",
+        b"0 0 ok @0\n0 1 ok @1\n0 2 name taken\n0 3 too large\n0 4 too large\n0 5 ok @2\n",
+        b"0 getx @0 name\n0 getx @1 name\n0 getx @2 name\n0 getx @3 name\n0 create b 1 thin\n",
+        b"0 0 value 6100\n0 1 value 6200\n0 2 value 6300\n0 3 no volume\n0 4 name taken\n",
+    ),
+    // No page comes last of the causes.
+    (
+        On::Empty,
+        b"0 create a 1 thin\n0 create b 1 thin\n0 create c 1 thin\n0 create d 1 thin\n0 create e 1 thin\n\
+            0 create f 1 thin\n0 create g 1 thin\n0 create h 1 thin\n0 create i 1 thin\n0 create j 1 thin\n\
+            0 create k 1 thin\n0 create l 1 thin\n0 create m 1 thin\n0 create n 1 thin\n0 create o 1 thin\n\
+            0 create p 1 thin\n0 create q 1 thin\n0 create a 1 thin\n0 create q 1048577 thin\n0 df\n",
+        b"0 0 ok @0\n0 1 ok @1\n0 2 ok @2\n0 3 ok @3\n0 4 ok @4\n0 5 ok @5\n0 6 ok @6\n0 7 ok @7\n\
+            0 8 ok @8\n0 9 ok @9\n0 10 ok @10\n0 11 ok @11\n0 12 ok @12\n0 13 ok @13\n0 14 ok @14\n\
+            0 15 ok @15\n0 16 no page\n0 17 name taken\n0 18 too large\n\
+            0 19 df clusters 11 of 16 pages 0 of 16\n",
+        b"0 getx @15 name\n0 create q 1 thin\n0 put @15 k t:1\n",
+        b"0 0 value 7000\n0 1 no page\n0 2 ok\n",
+    ),
+    // A given uuid, and that of the name in the nil uuid. What is set on one volume isn't set on the other.
+    (
+        On::Empty,
+        b"0 create v 8 thin\n0 create w 0 thin {5F2B4E66-0D0C-4C1E-9A55-3F0A7C2D9B10}\n0 put @0 name t:w\n\
+            0 setx @1 k t:1\n0 getx @0 k\n0 sync @1\n0 setx @1 k t:2\n",
+        b"0 0 ok @0\n0 1 ok @1\n0 2 reserved\n0 3 ok\n0 4 no value\n0 5 ok\n0 6 ok\n",
+        b"0 getx @0 uuid\n0 getx @1 uuid\n0 getx @1 k\n",
+        b"0 0 value 38306532343334632d343636632d353961302d613336342d35643864303136303133333800\n\
+            0 1 value 35663262346536362d306430632d346331652d396135352d33663061376332643962313000\n\
+            0 2 value 31\n",
+    ),
+    // A new volume has the least page that is clear.
+    (
+        On::One,
+        b"0 create a 1 thin\n0 create b 1 thin\n0 df\n",
+        b"0 0 ok @0\n0 1 ok @2\n0 2 df clusters 11 of 16 pages 13 of 16\n",
+        b"0 getx @0 name\n0 getx @1 name\n0 getx @2 name\n",
+        b"0 0 value 6100\n0 1 no value\n0 2 value 6200\n",
+    ),
+    (
+        On::Volume,
+        b"0 df\n0 create v 1 thin\n0 create w 1 thin\n0 create x 1 thin\n0 create y 1 thin\n0 df\n",
+        b"0 0 df clusters 10 of 16 pages 2 of 5\n0 1 name taken\n0 2 ok @3\n0 3 ok @4\n0 4 no page\n\
+            0 5 df clusters 10 of 16 pages 0 of 5\n",
+        b"0 getx @3 name\n0 getx @4 name\n",
+        b"0 0 value 7700\n0 1 value 7800\n",
+    ),
+    // The super blob's name is free, and its uuid is the store's.
+    (
+        On::Super,
+        b"0 create v 1 thin\n0 create v 1 thin\n0 put @0 k t:1\n",
+        b"0 0 ok @1\n0 1 name taken\n0 2 reserved\n",
+        b"0 getx @1 uuid\n",
+        b"0 0 value 63366434393633392d616666652d353432612d393161612d66363865346434336237623300\n",
+    ),
+    // The blob that is made at the super blob's place is the super blob.
+    (
+        On::NoSuper,
+        b"0 create v 1 thin\n0 put @0 k t:1\n0 create v 1 thin\n",
+        b"0 0 ok @0\n0 1 reserved\n0 2 ok @1\n",
+        b"0 getx @0 uuid\n0 getx @1 uuid\n",
+        b"0 0 value 38306532343334632d343636632d353961302d613336342d35643864303136303133333800\n\
+            0 1 value 39343962363234612d306464642d353439652d386634302d39616463313339363564366200\n",
+    ),
+];
+
+/// Runs the script of a case, and expects what it prints and what a later run finds.
+fn expect_case(alloc: Global, case: &Case) -> Result<(), Fail> {
+    let (on, script, printed, look, found) = case;
+    let disk = play(alloc, script, printed, disk(alloc, *on)?)?;
+    play(alloc, look, found, disk)?;
+    Ok(())
+}
+
+#[test]
+fn each_create_is_answered_and_outlasts_the_run(rt: HostRuntime) -> Result<(), Fail> {
+    for case in &CASES {
+        expect_case(rt.alloc(), case)?;
+    }
+    Ok(())
+}

@@ -1,0 +1,223 @@
+//! Plans of creates and resizes, each cause of a refusal, and uuids of names.
+
+ghost use Rattle.blob_meta.specs.SlotCounts.{IsCreate, IsResize};
+
+use crate::plan_tests::told;
+use blob_meta::{Flags, Job, Meta, Metas};
+use descriptors::SlotMap;
+use lvol_store::{check_name, parse_uuid, plan_create, plan_resize, store_uuid, uuid_for};
+use out_of_memory::Memory;
+use std::alloc::Global;
+use std::test::Fail;
+use super_block::{Layout, Super};
+use volume_model::{Command, Name, Reply, VolumeRef, Xattr, XattrList};
+
+fn xattrs(alloc: Global, all: &[(&[u8], &[u8])]) -> Result<XattrList, Memory> {
+    let mut list = XattrList::new(alloc);
+    for (key, value) in all {
+        list.push(Xattr::new(alloc, key, value)?)?;
+    }
+    Ok(list)
+}
+
+/// A blob of this name, with the flags `invalid` and `data_ro`, and so many slots, from cluster 5 on or empty.
+fn blob(
+    alloc: Global,
+    head: u32,
+    name: &[u8],
+    flags: (u64, u64),
+    slots: u32,
+) -> Result<Meta, Memory> {
+    let mut map = SlotMap::new(alloc);
+    let filled = if flags.0 == 0 { Some(5) } else { None };
+    if slots <= 16 {
+        map.push_run(filled, slots)?;
+    }
+    Ok(Meta {
+        id: (1 << 32) + u64::from(head),
+        flags: Flags {
+            invalid: flags.0,
+            data_ro: flags.1,
+            md_ro: 0,
+        },
+        xattrs: xattrs(alloc, &[(b"name", name)])?,
+        internal: XattrList::new(alloc),
+        map,
+    })
+}
+
+/// The super blob with a uuid at 2, a thin blob at 5, a read-only one at 6, a thick one at 7, and at 8 one whose parent
+/// at 6 has more slots.
+fn metas(alloc: Global) -> Result<Metas, Memory> {
+    let mut metas = Metas::new(alloc);
+    let mut super_blob = blob(alloc, 2, b"store", (1, 0), 0)?;
+    super_blob.xattrs = xattrs(
+        alloc,
+        &[
+            (b"name", b"store\0"),
+            (b"uuid", b"5f2b4e66-0d0c-4c1e-9a55-3f0a7c2d9b10\0"),
+        ],
+    )?;
+    metas.insert(2, super_blob)?;
+    metas.insert(5, blob(alloc, 5, b"thin\0", (1, 0), 3)?)?;
+    metas.insert(6, blob(alloc, 6, b"fixed\0", (1, 1), 3)?)?;
+    metas.insert(7, blob(alloc, 7, b"thick\0", (0, 0), 2)?)?;
+    let mut clone = blob(alloc, 8, b"clone\0", (1, 0), 1)?;
+    clone.internal = xattrs(alloc, &[(b"SNAP", b"\x06\0\0\0\x01\0\0\0")])?;
+    metas.insert(8, clone)?;
+    Ok(metas)
+}
+
+fn create(name: Name, slots: u64, thick: bool, uuid: Option<[u8; 16]>) -> Command
+    ensures { IsCreate result }
+{
+    Command::Create {
+        name,
+        slots,
+        thick,
+        uuid,
+    }
+}
+
+fn resize(volume: VolumeRef, slots: u64) -> Command
+    ensures { IsResize result }
+{
+    Command::Resize { volume, slots }
+}
+
+/// The volume of a name, or the one at a head where the name is empty.
+fn volume(head: u32, name: &[u8]) -> VolumeRef {
+    match check_name(name) {
+        Ok(name) => VolumeRef::Named(name),
+        Err(_) => VolumeRef::Head(head),
+    }
+}
+
+fn push_numbers(text: &mut Vec<u8>, alloc: Global, numbers: &[Option<u32>]) -> Result<(), Fail> {
+    for number in numbers {
+        match number {
+            Some(number) => text.extend_from_slice(format!(in alloc; " {number}")?.as_bytes())?,
+            None => text.extend_from_slice(b" -")?,
+        }
+    }
+    Ok(())
+}
+
+/// A plan with its attributes, its slots, and those that get a cluster of zeros; or the reply.
+fn told_whole(alloc: Global, plan: &Result<Job, Reply>) -> Result<Vec<u8>, Fail> {
+    let mut text = told(alloc, plan)?;
+    let Ok(job) = plan else {
+        return Ok(text);
+    };
+    for replacement in job.list.as_slice() {
+        if let Some(meta) = &replacement.new {
+            text.extend_from_slice(format!(in alloc; " flags {}", meta.flags.invalid)?.as_bytes())?;
+            text.extend_from_slice(b" slots")?;
+            push_numbers(&mut text, alloc, meta.map.as_slice())?;
+        }
+    }
+    text.extend_from_slice(b" zero")?;
+    for slot in job.zero.as_slice() {
+        push_numbers(&mut text, alloc, &[Some(*slot)])?;
+    }
+    Ok(text)
+}
+
+const UUID: [u8; 16] = [
+    0x67, 0xe5, 0x50, 0x44, 0x10, 0xb1, 0x42, 0x6f, 0x92, 0x47, 0xbb, 0x68, 0x0e, 0x5f, 0xe0, 0xc8,
+];
+
+fn planned_create(
+    alloc: Global,
+    metas: &Metas,
+    sup: &Super,
+    asked: (&[u8], u64, bool, Option<[u8; 16]>),
+) -> Result<Vec<u8>, Fail> {
+    let Ok(name) = check_name(asked.0) else {
+        return Ok(Vec::new(alloc));
+    };
+    let command = create(name, asked.1, asked.2, asked.3);
+    told_whole(alloc, &plan_create(alloc, metas, sup, &command, 9))
+}
+
+#[test]
+fn creates_are_planned_or_refused(rt: HostRuntime) -> Result<(), Fail> {
+    let alloc = rt.alloc();
+    let metas = metas(alloc)?;
+    let sup = Layout::plan(64, 4, Some(16))?.new_super((1 << 32) + 2, [0; 16]);
+    let cases: &[((&[u8], u64, bool, Option<[u8; 16]>), &[u8])] = &[
+        (
+            (b"v", 2, false, None),
+            b"9 name=v\0 uuid=98487c0f-efa2-5b6a-ab3e-3f7187dfcaee\0 flags 1 slots - - zero",
+        ),
+        (
+            (b"v", 3, true, Some(UUID)),
+            b"9 name=v\0 uuid=67e55044-10b1-426f-9247-bb680e5fe0c8\0 flags 0 slots - - - zero 0 1 2",
+        ),
+        // The super blob's name is free.
+        (
+            (b"store", 0, true, None),
+            b"9 name=store\0 uuid=da63599b-b92b-598d-9e3f-032e55362006\0 flags 0 slots zero",
+        ),
+        ((b"thin", 2, false, None), b"NameTaken"),
+        ((b"fixed", 1 << 30, false, None), b"NameTaken"),
+        ((b"v", (1 << 20) + 1, false, None), b"TooLarge"),
+    ];
+    for (asked, wanted) in cases {
+        let plan = planned_create(alloc, &metas, &sup, *asked)?;
+        assert_eq!(rt; plan.as_slice(), *wanted);
+    }
+    let uuid = parse_uuid("5f2b4e66-0d0c-4c1e-9a55-3f0a7c2d9b10")?;
+    assert_eq!(rt; store_uuid(&metas, &sup), uuid);
+    // Without a super blob the store's uuid is nil.
+    let other = Layout::plan(64, 4, Some(16))?.new_super(u64::MAX, [0; 16]);
+    assert_eq!(rt; store_uuid(&metas, &other), [0; 16]);
+    let plan = planned_create(alloc, &metas, &other, (b"v", 0, false, None))?;
+    assert_eq!(rt;
+        plan.as_slice(),
+        b"9 name=v\0 uuid=80e2434c-466c-59a0-a364-5d8d01601338\0 flags 1 slots zero".as_slice()
+    );
+    Ok(())
+}
+
+#[test]
+fn resizes_are_planned_or_refused(rt: HostRuntime) -> Result<(), Fail> {
+    let alloc = rt.alloc();
+    let metas = metas(alloc)?;
+    let sup = Layout::plan(64, 4, Some(16))?.new_super((1 << 32) + 2, [0; 16]);
+    let cases: &[(u32, &[u8], u64, &[u8])] = &[
+        (0, b"thin", 5, b"5 name=thin\0 flags 1 slots - - - - - zero"),
+        (5, b"", 1, b"5 name=thin\0 flags 1 slots - zero"),
+        (
+            0,
+            b"thick",
+            5,
+            b"7 name=thick\0 flags 0 slots 5 6 - - - zero 2 3 4",
+        ),
+        (0, b"thick", 1, b"7 name=thick\0 flags 0 slots 5 zero"),
+        (0, b"clone", 0, b"8 name=clone\0 flags 1 slots zero"),
+        (0, b"none", 5, b"NoVolume"),
+        (9, b"", 5, b"NoVolume"),
+        (0, b"store", 5, b"NoVolume"),
+        (2, b"", 5, b"Reserved"),
+        (0, b"fixed", 1 << 30, b"ReadOnly"),
+        (0, b"clone", 1 << 30, b"Short"),
+        (0, b"thin", (1 << 20) + 1, b"TooLarge"),
+    ];
+    for (head, name, slots, wanted) in cases {
+        let command = resize(volume(*head, name), *slots);
+        let plan = plan_resize(alloc, &metas, &sup, &command, 9);
+        assert_eq!(rt; told_whole(alloc, &plan)?.as_slice(), *wanted);
+    }
+    Ok(())
+}
+
+/// The name space of domain names, and the uuid of one name in it, as RFC 9562 prints them.
+#[test]
+fn a_name_has_its_uuid(rt: HostRuntime) -> Result<(), Fail> {
+    let names = parse_uuid("6ba7b810-9dad-11d1-80b4-00c04fd430c8")?;
+    let wanted = parse_uuid("2ed6657d-e927-568b-95e1-2665a8aea6a2")?;
+    let name = Name::new(b"www.example.com");
+    assert_eq!(rt; uuid_for(names, &name), wanted);
+    Ok(())
+}
