@@ -65,7 +65,7 @@ STEPS = [
     "1  main opens the image, and hands over words, source, sink and device",
     "2  the source is read to its end, and the text becomes each channel's commands",
     "3  the store of the image is loaded: super block, heads, chains; the device is only read",
-    "4  the driver posts a command; a put or a sync is planned from what the store shows",
+    "4  the driver posts a command; a put, a sync or a create is planned from what the store shows",
     "5  the store makes its turns: post, answer or refuse, or begin_job and job_turn; then settle",
     "6  a turn of a job writes and flushes; its entry is logged, with the clock as its mark",
     "7  the log is printed, an entry a line",

@@ -5,8 +5,8 @@ ghost use Rattle.store_core.specs.Planning.{PlanLaws};
 use page_disk::PageDisk;
 
 /// What a plan made of what a running store has in memory is in the volumes that the store shows: a cause that refuses
-/// a command in all volumes that show its blob so refuses it there, and the metadata that a put or a sync makes is what
-/// it asks for.
+/// a command in all volumes that show its blob, or all metadata, so refuses it there, and the job that is planned of a
+/// put, a sync or a create is what it asks for.
 pub fn plans<D: PageDisk>()
     ensures { PlanLaws D.PageDisk }
 {}
