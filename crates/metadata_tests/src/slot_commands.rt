@@ -2,7 +2,7 @@
 
 ghost use Rattle.blob_meta.specs.SlotCounts.{IsCreate, IsResize};
 
-use crate::fixtures::{THREE_RUNS, small};
+use crate::fixtures::small;
 use blob_meta::{Flags, Meta, Metas, new_meta, refusal_of_create, refusal_of_resize, resized_meta};
 use descriptors::SlotMap;
 use std::alloc::Global;
@@ -45,14 +45,9 @@ fn resize(head: u32, slots: u64) -> Command
 /// A thin blob of this name that has six slots, of which two are empty, and this flag `data_ro`.
 fn blob(alloc: Global, head: u32, name: &[u8], data_ro: u64) -> Result<Meta, Memory> {
     let mut map = SlotMap::new(alloc);
-    for run in THREE_RUNS {
-        let cluster = if run.cluster == 0 {
-            None
-        } else {
-            Some(run.cluster)
-        };
-        map.push_run(cluster, run.length)?;
-    }
+    map.push_run(Some(5), 3)?;
+    map.push_run(None, 2)?;
+    map.push_run(Some(9), 1)?;
     Ok(Meta {
         id: (1 << 32) + u64::from(head),
         flags: Flags {
