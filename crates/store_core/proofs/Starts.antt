@@ -99,16 +99,17 @@ module _ (metas : Metas) (end : ℕ) where
 
 -- the guards of the blobs whose heads are below this
 pub record GuardsBelow (metas : map.FinMap nat_cmp Meta) (guards : GuardsState) (heads end : ℕ) : Type 0 where
-  pub room : guards.room ≡ heads
+  pub room : heads ≤ guards.room
   pub few : map.len guards.generations ≤ end
   pub drawn : guards.drawn ≤ end
   pub none : (h : ℕ) → end ≤ h → map.get guards.generations h ≡ None
   pub generations : AreGenerations (those_below (map.get metas) end) (map.get guards.generations) guards.drawn
   pub none_frozen : (h : ℕ) → set.contains guards.frozen h ≡ false
 
-pub guards_nothing : (metas : map.FinMap nat_cmp Meta) (room : ℕ) → GuardsBelow metas (no_guards room) room 0
-guards_nothing metas room = record {
-  room = refl;
+pub guards_nothing : (metas : map.FinMap nat_cmp Meta) (heads room : ℕ) → heads ≤ room
+    → GuardsBelow metas (no_guards room) heads 0
+guards_nothing metas heads room le = record {
+  room = le;
   few = omega (arith, map.len-empty nat_cmp ℕ);
   drawn = omega arith;
   none = λ h ge. map.get-empty nat_cmp h;

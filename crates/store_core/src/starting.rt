@@ -135,7 +135,9 @@ pub(crate) fn guards_at_start(alloc: Global, metas: &Metas, md_len: u32) -> Resu
     requires { (head : ℕ) → md_len ≤ head → map.get metas.now head ≡ None }
     ensures { IfOk result (AreGuardsAtStart metas.now) }
 {
-    let mut guards = Guards::new(alloc, md_len)?;
+    // Room for one more than can ever be: where every page is a head, a new blob lacks a page, and not memory.
+    let room = md_len.saturating_add(1);
+    let mut guards = Guards::new(alloc, room)?;
     for head in 0..md_len {
         if metas.get(head).is_some() {
             guards.add(head);

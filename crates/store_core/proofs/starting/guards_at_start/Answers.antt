@@ -1,4 +1,4 @@
-use Rattle.std.proofs.Common.{◌≡◌, ◌+◌, false, Option, None, Some, refl, ap, subst, sym, ◌∙◌}
+use Rattle.std.proofs.Common.{◌≡◌, ◌+◌, false, Option, None, Some, refl, arith, ap, subst, sym, ◌∙◌}
 use Rattle.std.specs.Prelude.{is_some, option_copied}
 use Rattle.store_core.proofs.Starts.{GuardsBelow, guards_nothing, guards_same, guards_more}
 use Rattle.store_core.proofs.starting.guards_at_start.Goals as goal
@@ -7,7 +7,8 @@ use Rattle.std.specs.Borrow.{Bor}
 
 pub loop-head-init : goal.loop-head-init
 loop-head-init c = subst (λ g. GuardsBelow c.args.metas.now g c.args.md_len 0) (sym c.in_ok-guards.ensures)
-    (guards_nothing c.args.metas.now c.args.md_len)
+    (guards_nothing c.args.metas.now c.args.md_len c.saturating_add-room.result
+    (let one_more = c.saturating_add-room.ensures in let fits = c.ranges.md_len.fits in omega (arith, one_more, fits)))
 
 copied : {X : Type 0} (o : Option (Bor X)) → is_some (option_copied o) ≡ is_some o
 copied None = refl
