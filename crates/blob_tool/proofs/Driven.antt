@@ -100,7 +100,7 @@ pub over : (row : Row) (channel : ℕ) → IsWaiting row → (is_stage row chann
 over row channel waiting no_meta not_over = elim waiting.at [
   | inl idle ↦ absurd
       (by row.left waiting.all_served refl (λ s same. ap (λ x. is_stage (record row { stage = x }) channel) idle
-          ∙ same))
+      ∙ same))
   | inr ended ↦ ended
 ]
   where

@@ -127,7 +127,7 @@ heads_append (Thick true ∷ a) b ha hb = absurd ha
 heads_append (Uuid uuid ∷ a) b ha hb = heads_append a b ha hb
 heads_append (Text text ∷ a) b ha hb = heads_append a b ha hb
 
-joined_heads : (a b : Result (List Value) LineKind) → IfOk a AreServedValues → IfOk b AreServedValues 
+joined_heads : (a b : Result (List Value) LineKind) → IfOk a AreServedValues → IfOk b AreServedValues
     → IfOk (joined a b) AreServedValues
 joined_heads (Ok a) (Ok b) ha hb = heads_append a b ha hb
 joined_heads (Ok a) (Err k) ha hb = tt

@@ -40,7 +40,7 @@ module _ (first : Volumes) (p : StoreState) (well : RunsWell first p) where
   abbrev by_live : ℕ → Xattrs → Option Meta → Option Volume
   by_live h xs o =
       option_map (λ m. volume_of (fixed_of p.super).cluster_pages p.device.reads (resolved p.base)
-          p.super.md_len xs h m) o
+      p.super.md_len xs h m) o
 
   live_at : (h : ℕ) (o : Option Meta) → resolved p.base h ≡ o
       → option_map (λ (x : Volume). x.live) (by_live h (or_empty (p.live h)) o) ≡ p.live h
@@ -188,7 +188,7 @@ module _ (f : Fixed) (v : Volumes) where
 
 pub answered_by : (first : Volumes) (p : StoreState) (metas : map.FinMap nat_cmp Meta) (command : Command) (head : ℕ)
     (e : Effect) → RunsWell first p → resolved p.base ≡ map.get metas → asked_head command ≡ Some head
-        → IsInMemory command
+    → IsInMemory command
     → ComesTo metas (p.live head) command p.super e
     → Answered (fixed_of p.super) (shown p) p.live command e.reply e.live
 answered_by first p metas command head e well base named in_memory (inl x) =
@@ -245,7 +245,7 @@ answered_df first p command df well is =
 -- a command on attributes says nothing of what is free
 pub not_df : (f : Fixed) (v : Volumes) (command : Command) (reply : Reply) → IsOnAttributes command
     → Allowed f v command reply → (df : Df) → reply ≡ r.Df df → ⊥
-not_df f v (c.SetX volume key value) reply on allowed df is = 
+not_df f v (c.SetX volume key value) reply on allowed df is =
     (subst (Allowed f v (c.SetX volume key value)) is allowed).1
 not_df f v (c.DelX volume key) reply on allowed df is = (subst (Allowed f v (c.DelX volume key)) is allowed).1
 not_df f v (c.GetX volume key) reply on allowed df is = (subst (Allowed f v (c.GetX volume key)) is allowed).1

@@ -52,13 +52,13 @@ heads_made md_len m head new heads low are = record {
         ap (λ f. f k) (insert_given m head new) ∙ given_here (get m) head new k e in
         let set : is_in (slice_set heads head true) k ≡ true =
         ap (is_in (slice_set heads head true)) e ∙ get_or-set_same heads head true false (omega
-            (arith, low, are.count)) in
+        (arith, low, are.count)) in
         (λ _. subst IsSome (sym at) refl, λ _. set)
     | inr ne ↦
         let at : get (insert m head new) k ≡ get m k =
         ap (λ f. f k) (insert_given m head new) ∙ given_elsewhere (get m) head new k ne in
         let same : is_in (slice_set heads head true) k ≡ is_in heads k =
-            get_or-set_other heads head k true false ne in (
+        get_or-set_other heads head k true false ne in (
           λ set. subst IsSome (sym at) ((are.are k lt).0 (sym same ∙ set)),
           λ some. same ∙ (are.are k lt).1 (subst IsSome at some),
         )

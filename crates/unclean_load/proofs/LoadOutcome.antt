@@ -48,7 +48,7 @@ pub lawful : (s : Super) (metas : Metas) → AreLoadable s metas → slots_toget
 lawful s metas all few most = record {
   alone =
       λ h k i j cluster m n a b x y. one_slot metas cluster s.md_len
-          (λ head meta there. (all head meta there).stored.low)
+      (λ head meta there. (all head meta there).stored.low)
       (most cluster) h k i j m n a b x y;
   parents = λ h p m there is.
       let none : parent_of m ≡ None = rw (all h m there).alone.no_parent refl in absurd (cc (none, is));

@@ -132,7 +132,7 @@ all_inside s metas all head m there c some =
     let x = find_copy c m.map some in
     let y =
     inside_slot (fixed_clusters_of s) (clusters_of s) m x.0 c (all head m there).stored.faultless
-        (in_slot m x.0 c x.1) in
+    (in_slot m x.0 c x.1) in
     (y.behind, y.below)
 
 -- ---- the slots of all heads below a place

@@ -30,7 +30,7 @@ returns-in-Create g c =
     create_plan d c.plans.ensures p running c.requires.runs c.metas-metas.result.now c.sup-sup.result.now
     c.metas-metas.ensures c.sup-sup.ensures (c.plans.ensures.shows_all p running c.requires.runs)
     (λ name slots uuid head xattrs. c.plans.ensures.create p name slots uuid head xattrs running c.requires.runs)
-        c.next_head-new.result c.next_head-new.ensures
+    c.next_head-new.result c.next_head-new.ensures
     c.args.command.now c.in-Create.name c.in-Create.slots c.in-Create.thick c.in-Create.uuid c.in-Create.is
-        c.requires.served
+    c.requires.served
     c.plan_create.result c.plan_create.ensures.job c.plan_create.ensures.unrefused c.plan_create.ensures.refused

@@ -130,7 +130,7 @@ returns-in-Err-clause-logged g c = λ _.
     let low : c.args.channel < length p.rows = omega (arith, c.requires.channel, c.requires.order.sixteen) in
     refused g.D.PageDisk p c.args.channel low c.requires.posted c.requires.runs Memory
     (asked (state_of g.D.PageDisk p) c.requires.running c.requires.runs waits.command c.args.head c.args.new
-        asks).memory
+    asks).memory
     c.prepare.new.pages.bits c.in-Err.ensures.memory (view_of c.log-in-Err.new.running) c.log-in-Err.ensures.logged
 
 pub returns-in_default-clause-logged : goal.returns-in_default-clause-logged
@@ -141,5 +141,5 @@ returns-in_default-clause-logged g c = λ _.
     let low : c.args.channel < length p.rows = omega (arith, c.requires.channel, c.requires.order.sixteen) in
     refused g.D.PageDisk p c.args.channel low c.requires.posted c.requires.runs Memory
     (asked (state_of g.D.PageDisk p) c.requires.running c.requires.runs waits.command c.args.head c.args.new
-        asks).memory
+    asks).memory
     p.pages refl (view_of c.log.new.running) c.log.ensures.logged
