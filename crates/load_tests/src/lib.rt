@@ -3,5 +3,3 @@
 
 #[cfg(test)]
 mod loads;
-#[cfg(test)]
-mod spaces;
