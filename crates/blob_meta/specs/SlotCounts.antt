@@ -3,11 +3,9 @@ use Rattle.std.specs.Prelude.{◌≡◌, ℕ, ◌≤◌, ◌<◌, ◌^◌, nat_l
 use Rattle.std.specs.Option.{option_map_or}
 use Rattle.std.specs.Ordering.{nat_cmp}
 use Rattle.std.specs.FinMap as map
-use Rattle.super_block.specs.declared.page.Super.{Super}
 use Rattle.volume_model.specs.declared.command.Command.{Command}
 use Rattle.volume_model.specs.declared.command.Command.TheVariants as c
 use Rattle.blob_meta.specs.declared.meta.Meta.{Meta}
-use Rattle.blob_meta.specs.Find.{IsThere}
 use Rattle.blob_meta.specs.Parents.{parent_of}
 use Rattle.blob_meta.specs.Resolving.{slots_together}
 
@@ -43,8 +41,3 @@ abbrev pub AsksFewSlots : Command → Type 0
 AsksFewSlots (c.Create name slots thick uuid) = slots ≤ 2 ^ 20
 AsksFewSlots (c.Resize volume slots) = slots ≤ 2 ^ 20
 AsksFewSlots _ = ⊥
-
--- it names a volume that is there
-abbrev pub NamesThere : map.FinMap nat_cmp Meta → Super → Command → Type 0
-NamesThere metas sup (c.Resize volume slots) = IsThere metas sup volume
-NamesThere metas sup _ = ⊥

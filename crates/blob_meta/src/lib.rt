@@ -28,7 +28,7 @@ pub use meta::{Flags, Meta};
 pub use out_of_memory::Memory;
 pub use parent::parent_of;
 pub use reading::from_items;
-pub use refusal::{asked_head, is_super, refusal_of};
+pub use refusal::{asked_volume, is_super, refusal_of};
 pub use slot_count::{all_slots, has_longer_parent, is_too_large};
 pub use slot_refusal::{refusal_of_create, refusal_of_resize};
 pub use writing::{items_say, to_items};

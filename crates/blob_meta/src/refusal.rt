@@ -2,43 +2,32 @@
 
 ghost use Rattle.std.specs.Prelude.{◌≡◌, ◌+◌, ◌∷◌, [], Some, nat_lt, length, is_none, option_copied, IsSome, IfSome};
 ghost use Rattle.std.specs.Prelude.{IfNone};
-ghost use Rattle.volume_model.specs.Volumes.{is_given_head};
+ghost use Rattle.volume_model.specs.Volumes.{Fixed, Volumes, is_given_head};
 ghost use Rattle.volume_model.specs.Xattrs.{value_of};
-ghost use Rattle.volume_model.specs.Refusals.{is_reserved as reserved_said};
+ghost use Rattle.volume_model.specs.Refusals.{is_reserved as reserved_said, refusal};
 ghost use Rattle.volume_model.specs.declared.reply.Reply.TheVariants as r;
-ghost use Rattle.blob_meta.specs.Asked.{asked_head as head_said, blob_named, first_cause, HasValue, IsOnHead};
-ghost use Rattle.blob_meta.specs.Asked.{IsAttributeCause, IsLiveOf, IsFirstCause};
+ghost use Rattle.blob_meta.specs.Asked.{asked_volume as volume_said, first_cause, HasValue};
+ghost use Rattle.blob_meta.specs.Asked.{IsAttributeCause, IsLiveOf, IsFirstCause, IsOnAttributes};
+ghost use Rattle.blob_meta.specs.Asked.{MeansVolume, NamesThere};
 ghost use Rattle.blob_meta.specs.Parents.{head_of_id};
 
 use crate::head_map::Metas;
+use crate::looking_up::find;
 use super_block::Super;
 use volume_model::{Blobtext, Command, Reply, VolumeRef, XattrList};
 
-/// The head by which an attribute command names its volume.
-pub fn asked_head(command: &Command) -> u32
-    requires { IsOnHead command.now }
-    ensures { head_said command.now ≡ Some result }
+/// The volume that a command on attributes, or a resize, names.
+pub fn asked_volume(command: &Command) -> &VolumeRef
+    requires { IsSome (volume_said command.now) }
+    ensures { volume_said command.now ≡ Some result.now }
 {
     match command {
-        Command::SetX {
-            volume: VolumeRef::Head(head),
-            ..
-        }
-        | Command::DelX {
-            volume: VolumeRef::Head(head),
-            ..
-        }
-        | Command::GetX {
-            volume: VolumeRef::Head(head),
-            ..
-        }
-        | Command::Put {
-            volume: VolumeRef::Head(head),
-            ..
-        }
-        | Command::Sync {
-            volume: VolumeRef::Head(head),
-        } => *head,
+        Command::SetX { volume, .. }
+        | Command::DelX { volume, .. }
+        | Command::GetX { volume, .. }
+        | Command::Put { volume, .. }
+        | Command::Sync { volume }
+        | Command::Resize { volume, .. } => volume,
         _ => unreachable!(),
     }
 }
@@ -128,41 +117,57 @@ fn refusal_of_look(live: &XattrList, key: &Blobtext) -> Option<Reply>
     }
 }
 
-/// The first cause for which a command on the attributes of the blob at a head is refused; `None` exactly where nothing
-/// refuses it. `live` is the blob's live attributes, which those of `metas` need not be, and is `None` exactly where no
-/// such blob is there. `NoVolume` comes for that, `Reserved` for the super blob or the key `name` or `uuid`, `ReadOnly`
-/// for a blob that is read-only, `TooLong` for a key and a value of more than 4063 bytes together, and `NoValue` for a
-/// key that no live attribute has.
+/// Why a command on attributes is refused at a volume, of which this is known.
+fn refusal_at(reserved: bool, read_only: bool, live: &XattrList, command: &Command) -> Option<Reply>
+    requires { IsOnAttributes command.now }
+    ensures caused { IfSome result IsAttributeCause }
+    ensures value { IfNone result (HasValue (Some live.now) command.now) }
+    ensures first { (f : Fixed) (v : Volumes) → MeansVolume f v command.now reserved read_only live.now
+        → refusal f v command.now ≡ result }
+{
+    match command {
+        Command::SetX { key, value, .. } | Command::Put { key, value, .. } => {
+            let reserved = reserved || is_reserved(key.bytes());
+            refusal_of_set(reserved, read_only, key.bytes(), value.bytes())
+        }
+        Command::DelX { key, .. } => {
+            let reserved = reserved || is_reserved(key.bytes());
+            refusal_of_removal(reserved, read_only, live, key)
+        }
+        Command::GetX { key, .. } => refusal_of_look(live, key),
+        Command::Sync { .. } => refusal_of_sync(reserved, read_only),
+        _ => unreachable!(),
+    }
+}
+
+/// The first cause for which a command on attributes is refused; `None` exactly where nothing refuses it. `live` is the
+/// live attributes of the volume that it names, which those of `metas` need not be, and is `None` exactly where `find`
+/// gives none. `NoVolume` comes for that, `Reserved` for the super blob or the key `name` or `uuid`, `ReadOnly` for a
+/// blob that is read-only, `TooLong` for a key and a value of more than 4063 bytes together, and `NoValue` for a key
+/// that no live attribute has.
 pub fn refusal_of(
     metas: &Metas,
     sup: &Super,
     live: Option<&XattrList>,
     command: &Command,
 ) -> Option<Reply>
-    requires on_head { IsOnHead command.now }
-    requires live { IsLiveOf metas.now (option_copied live) command.now }
+    requires attributes { IsOnAttributes command.now }
+    requires live { IsLiveOf metas.now sup.now (option_copied live) command.now }
     ensures caused { IfSome result IsAttributeCause }
-    ensures there { IfNone result (IsSome (blob_named metas.now command.now)) }
+    ensures there { IfNone result (NamesThere metas.now sup.now command.now) }
     ensures value { IfNone result (HasValue (option_copied live.entry) command.now) }
-    ensures first { IsFirstCause metas.now (option_copied live.entry) command.now sup.now result }
+    ensures first { IsFirstCause metas.now sup.now (option_copied live.entry) command.now result }
 {
-    let head = asked_head(command);
-    let (Some(meta), Some(live)) = (metas.get(head), live) else {
+    let Some(head) = find(metas, sup, asked_volume(command)) else {
         return Some(Reply::NoVolume);
     };
-    let is_super = is_super(sup, head);
-    let read_only = meta.flags.is_read_only();
-    match command {
-        Command::SetX { key, value, .. } | Command::Put { key, value, .. } => {
-            let reserved = is_super || is_reserved(key.bytes());
-            refusal_of_set(reserved, read_only, key.bytes(), value.bytes())
-        }
-        Command::DelX { key, .. } => {
-            let reserved = is_super || is_reserved(key.bytes());
-            refusal_of_removal(reserved, read_only, live, key)
-        }
-        Command::GetX { key, .. } => refusal_of_look(live, key),
-        Command::Sync { .. } => refusal_of_sync(is_super, read_only),
-        _ => unreachable!(),
-    }
+    let (Some(meta), Some(live)) = (metas.get(head), live) else {
+        unreachable!()
+    };
+    refusal_at(
+        is_super(sup, head),
+        meta.flags.is_read_only(),
+        live,
+        command,
+    )
 }

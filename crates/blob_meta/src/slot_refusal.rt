@@ -3,10 +3,10 @@
 ghost use Rattle.std.specs.Prelude.{◌≡◌, ◌&&◌, ◌∷◌, [], false, nat_lt, length, IfSome, IfNone};
 ghost use Rattle.volume_model.specs.Machine.{IsCauseOfRefusal};
 ghost use Rattle.volume_model.specs.declared.reply.Reply.TheVariants as r;
-ghost use Rattle.blob_meta.specs.Asked.{first_cause};
+ghost use Rattle.blob_meta.specs.Asked.{first_cause, NamesThere};
 ghost use Rattle.blob_meta.specs.Parents.{is_read_only as read_only_said};
 ghost use Rattle.blob_meta.specs.ShownBy.{IsFirstRefusal};
-ghost use Rattle.blob_meta.specs.SlotCounts.{AsksFewSlots, HeadsFit, IsCreate, IsResize, NamesThere};
+ghost use Rattle.blob_meta.specs.SlotCounts.{AsksFewSlots, HeadsFit, IsCreate, IsResize};
 ghost use Rattle.blob_meta.specs.SlotCounts.{has_longer_parent as longer_said};
 
 use crate::head_map::Metas;

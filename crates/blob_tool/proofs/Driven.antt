@@ -36,9 +36,9 @@ pub record HasNext (row : Row) : Type 0 where
 
 -- a command on a blob that is named by its head is one for the metadata thread
 served_meta : (command : Command) → IsServed command → waits_for command ≡ told.Meta
-served_meta (c.Read volume page) is = absurd (cc is)
-served_meta (c.Write volume page word) is = absurd (cc is)
-served_meta c.Flush is = absurd (cc is)
+served_meta (c.Read volume page) is = absurd is
+served_meta (c.Write volume page word) is = absurd is
+served_meta c.Flush is = absurd is
 served_meta _ is = refl
 
 -- a waiting row whose command the metadata thread is to be asked has a first command

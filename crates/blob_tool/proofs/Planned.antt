@@ -1,6 +1,8 @@
 -- What is planned for a command is what the command asks for.
 use Rattle.std.proofs.Common.{◌≡◌, ℕ, Bool, true, false, List, ◌∷◌, Option, Some, None, [], Result, Ok, Err, refl}
 use Rattle.std.proofs.Common.{sym, subst, ◌∙◌, inl, inr}
+use Rattle.std.proofs.Common.{ap, arith}
+use Rattle.std.proofs.lemmas.Bool.{cases_lt}
 use Rattle.std.specs.Prelude.{IfOk, IfErr}
 use Rattle.std.specs.Ordering.{nat_cmp}
 use Rattle.std.specs.FinMap as map
@@ -12,7 +14,6 @@ use Rattle.volume_model.specs.Volumes.{Fixed, two_xattrs, Volumes}
 use Rattle.volume_model.specs.Refusals.{refusal}
 use Rattle.volume_model.specs.Steps.{MayLackMemory}
 use Rattle.volume_model.specs.declared.command.VolumeRef.{VolumeRef}
-use Rattle.volume_model.specs.declared.command.VolumeRef.TheVariants.{Head}
 use Rattle.volume_model.specs.declared.command.Command.{Command}
 use Rattle.volume_model.specs.declared.command.Command.TheVariants as c
 use Rattle.volume_model.specs.declared.reply.Reply.{Reply}
@@ -20,15 +21,17 @@ use Rattle.volume_model.specs.declared.reply.Reply.TheVariants as r
 use Rattle.super_block.specs.declared.page.Super.{Super}
 use Rattle.blob_meta.specs.declared.meta.Meta.{Meta}
 use Rattle.blob_meta.specs.declared.job.Job.{Job}
-use Rattle.blob_meta.specs.ShownBy.{IsFirstRefusal, ShowsMetas}
+use Rattle.blob_meta.specs.Find.{is_meant, IsLeast}
+use Rattle.blob_meta.specs.ShownBy.{IsFirstRefusal, IsHeadMeant, ShowsMetas}
 use Rattle.blob_meta.specs.Jobs.{create_job, new_meta}
-use Rattle.blob_meta.specs.Asked.{asked_head, IsAttributeCause, IsFirstCause}
+use Rattle.blob_meta.specs.Asked.{IsAttributeCause, IsFirstCause, IsLiveOf}
 use Rattle.lvol_store.specs.Plans.{PlansPut, PlansSync, RefusesPlan}
 use Rattle.lvol_store.specs.SlotPlans.{Creates, PlansCreate, RefusesFirst}
 use Rattle.store_model.specs.Shown.{fixed_of}
 use Rattle.store_model.specs.StoreState.{StoreState, shown}
 use Rattle.store_model.specs.Asking.{AsksFor, IsSyncing, syncs}
 use Rattle.store_model.specs.Cases.{IsRefusedBy}
+use Rattle.store_core.specs.Answering.{IsFound}
 use Rattle.store_core.specs.Begins.{AsksToWrite, IsJobOf, ReplacesOne}
 use Rattle.store_core.specs.LoadedWhole.{IsNextHead}
 use Rattle.store_core.specs.StoreInvariant.{IsRunning, StoreInvariant}
@@ -82,48 +85,73 @@ to_write p command head new asks =
       next = λ none. let e : None ≡ Some asks.old = sym none ∙ asks.there in absurd (cc e);
     }
 
+-- a test has one least head that passes
+same_least : (test : ℕ → Bool) (h k : ℕ) → IsLeast test h → IsLeast test k → h ≡ k
+same_least test h k a b = elim (cases_lt h k) [
+  | inl below ↦ let e : true ≡ false = sym a.passes ∙ b.none_below h below in absurd (cc e)
+  | inr from ↦ elim (cases_lt k h) [
+    | inl above ↦ let e : true ≡ false = sym b.passes ∙ a.none_below k above in absurd (cc e)
+    | inr to ↦ omega (arith, from, to)
+  ]
+]
+
 module _ {D : Type 0} (d : Ghosts D) (laws : PlanLaws d) (p : StoreView D) (running : IsRunning (state_of d p))
     (runs : p.stopped ≡ None) where
+  -- the blob of a plan is the one that is found
+  at_plan : {command : Command} {volume : VolumeRef} (head : Option ℕ) (live : Xattrs) (at : ℕ) (old : Meta)
+      → (found : IsFound p.metas p.super p.live command head (Some live)) → found.volume ≡ volume
+      → IsLeast (is_meant p.super.super_blob p.metas volume) at → map.get p.metas at ≡ Some old
+      → HasBlob p at old live × IsHeadMeant p.metas p.super volume (Some at)
+  at_plan None live at old found asked least there = let e = found.live_is in absurd (cc e)
+  at_plan {volume = volume} (Some h) live at old found asked least there =
+      let same : h ≡ at =
+      same_least (is_meant p.super.super_blob p.metas volume) h at
+      (subst (λ v. IsLeast (is_meant p.super.super_blob p.metas v) h) asked found.there) least in (
+        record { there = there; is_live = ap (λ k. map.get p.live k) (sym same) ∙ sym found.live_is },
+        subst (λ k. IsHeadMeant p.metas p.super volume (Some k)) same
+            (subst (λ v. IsHeadMeant p.metas p.super v (Some h)) asked found.meant),
+      )
+
   -- the job that is planned for a put is what the put asks for
-  pub put_job : (command : Command) (o : Option Xattrs) (head : ℕ) (job : Job) → asked_head command ≡ Some head
-      → map.get p.live head ≡ o → PlansPut p.metas o command job → IsFirstCause p.metas o command p.super None
-      → IsFor d p command job
-  put_job (c.Put (Head h) key value) (Some live) head job named is plan cause =
-      let e : head ≡ h = sym (cc named) in
-      let blob : HasBlob p h plan.old live =
-      record { there = plan.there; is_live = subst (λ (k : ℕ). map.get p.live k ≡ Some live) e is } in (
-        record { head = h; new = record plan.old { xattrs = with_value live key value }; is = plan.job_is },
+  put_job : (volume : VolumeRef) (key value : Text) (head : Option ℕ) (o : Option Xattrs) (job : Job)
+      → IsFound p.metas p.super p.live (c.Put volume key value) head o
+      → PlansPut p.metas p.super o (c.Put volume key value) job
+      → IsFirstCause p.metas p.super o (c.Put volume key value) None → IsFor d p (c.Put volume key value) job
+  put_job volume key value head (Some live) job found plan cause =
+      let new = record plan.old { xattrs = with_value live key value } in
+      let asked : found.volume ≡ volume = let e = found.asked in cc e in
+      let at = at_plan head live plan.head plan.old found asked plan.meant plan.there in (
+        record { head = plan.head; new = new; is = plan.job_is },
         record {
-          head = h;
-          new = record plan.old { xattrs = with_value live key value };
+          head = plan.head;
+          new = new;
           is = plan.job_is;
           asks =
-              to_write (state_of d p) (c.Put (Head h) key value) h _
-              (laws.put p h key value plan.old live running runs blob cause);
+              to_write (state_of d p) (c.Put volume key value) plan.head _
+              (laws.put p volume plan.head key value plan.old live running runs at.0 at.1 cause);
         },
       )
-  put_job _ (Some live) head job named is plan cause = absurd plan
-  put_job command None head job named is plan cause = absurd plan
+  put_job volume key value head None job found plan cause = absurd plan
 
   -- the job that is planned for a sync is what the sync asks for
-  pub sync_job : (command : Command) (o : Option Xattrs) (head : ℕ) (job : Job) → asked_head command ≡ Some head
-      → map.get p.live head ≡ o → PlansSync p.metas o command job → IsFirstCause p.metas o command p.super None
-      → IsFor d p command job
-  sync_job (c.Sync (Head h)) (Some live) head job named is plan cause =
-      let e : head ≡ h = sym (cc named) in
-      let blob : HasBlob p h plan.old live =
-      record { there = plan.there; is_live = subst (λ (k : ℕ). map.get p.live k ≡ Some live) e is } in (
-        record { head = h; new = record plan.old { xattrs = live }; is = plan.job_is },
+  sync_job : (volume : VolumeRef) (head : Option ℕ) (o : Option Xattrs) (job : Job)
+      → IsFound p.metas p.super p.live (c.Sync volume) head o → PlansSync p.metas p.super o (c.Sync volume) job
+      → IsFirstCause p.metas p.super o (c.Sync volume) None → IsFor d p (c.Sync volume) job
+  sync_job volume head (Some live) job found plan cause =
+      let new = record plan.old { xattrs = live } in
+      let asked : found.volume ≡ volume = let e = found.asked in cc e in
+      let at = at_plan head live plan.head plan.old found asked plan.meant plan.there in (
+        record { head = plan.head; new = new; is = plan.job_is },
         record {
-          head = h;
-          new = record plan.old { xattrs = live };
+          head = plan.head;
+          new = new;
           is = plan.job_is;
           asks =
-              to_write (state_of d p) (c.Sync (Head h)) h _ (laws.sync p h plan.old live running runs blob cause);
+              to_write (state_of d p) (c.Sync volume) plan.head _
+              (laws.sync p volume plan.head plan.old live running runs at.0 at.1 cause);
         },
       )
-  sync_job _ (Some live) head job named is plan cause = absurd plan
-  sync_job command None head job named is plan cause = absurd plan
+  sync_job volume head None job found plan cause = absurd plan
 
   lacks_memory : (command : Command) → IsSyncing command → IsRefusedBy (state_of d p) command r.Memory
   lacks_memory (c.Put volume key value) is = tt
@@ -141,13 +169,14 @@ module _ {D : Type 0} (d : Ghosts D) (laws : PlanLaws d) (p : StoreView D) (runn
   by_cause command _ cause is = absurd cause
 
   -- a command that the plan refuses is refused for its first cause, or for want of memory
-  pub refused : (command : Command) (head : ℕ) (reply : Reply) → IsSyncing command → asked_head command ≡ Some head
-      → RefusesPlan p.metas (map.get p.live head) command p.super reply → IsRefusedBy (state_of d p) command reply
-  refused command head reply syncing named (inl memory) =
+  refused : (command : Command) (head : Option ℕ) (o : Option Xattrs) (reply : Reply) → IsSyncing command
+      → IsFound p.metas p.super p.live command head o → RefusesPlan p.metas p.super o command reply
+      → IsRefusedBy (state_of d p) command reply
+  refused command head o reply syncing found (inl memory) =
       subst (λ (x : Reply). IsRefusedBy (state_of d p) command x) (sym memory) (lacks_memory command syncing)
-  refused command head reply syncing named (inr x) =
+  refused command head o reply syncing found (inr x) =
       by_cause command reply x.0
-      (x.1 (fixed_of p.super) (shown (state_of d p)) refl (laws.shows p command head running runs named))
+      (x.1 (fixed_of p.super) (shown (state_of d p)) (laws.shows p command head o running runs found))
 
   by_first : (command : Command) (reply : Reply) → IsCauseOfRefusal reply
       → refusal (fixed_of p.super) (shown (state_of d p)) command ≡ Some reply
@@ -176,113 +205,71 @@ module _ {D : Type 0} (d : Ghosts D) (laws : PlanLaws d) (p : StoreView D) (runn
   refused_first command reply shows may (inr x) =
       by_first command reply x.0 (x.1 (fixed_of p.super) (shown (state_of d p)) shows)
 
-  -- from what is given of the store
-  module _ (metas : map.FinMap nat_cmp Meta) (sup : Super) (o : Option Xattrs) (command : Command) (head : ℕ)
-      (m : metas ≡ p.metas) (s : sup ≡ p.super) (named : asked_head command ≡ Some head)
-      (is : o ≡ map.get p.live head) where
-    cause_now : (first : Option Reply) → IsFirstCause metas o command sup first
-        → IsFirstCause p.metas o command p.super first
-    cause_now first cause =
-        subst (λ (sup : Super). IsFirstCause p.metas o command sup first) s
-        (subst (λ (metas : map.FinMap nat_cmp Meta). IsFirstCause metas o command sup first) m cause)
+  -- what is planned for a put
+  put_at : (volume : VolumeRef) (key value : Text) (head : Option ℕ) (o : Option Xattrs)
+      → IsFound p.metas p.super p.live (c.Put volume key value) head o → (planned : Result Job Reply)
+      → IfOk planned (PlansPut p.metas p.super o (c.Put volume key value))
+      → IfOk planned (λ job. IsFirstCause p.metas p.super o (c.Put volume key value) None)
+      → IfErr planned (RefusesPlan p.metas p.super o (c.Put volume key value))
+      → IsPlanOf d p (c.Put volume key value) (Some planned)
+  put_at volume key value head o found (Ok job) plan cause refuses =
+      put_job volume key value head o job found plan cause
+  put_at volume key value head o found (Err reply) plan cause refuses =
+      refused (c.Put volume key value) head o reply tt found refuses
 
-    -- the same of a put, from what the store was asked for the plan
-    pub put_for : (job : Job) → PlansPut metas o command job → IsFirstCause metas o command sup None
-        → IsFor d p command job
-    put_for job plan cause =
-        put_job command o head job named (sym is)
-        (subst (λ (metas : map.FinMap nat_cmp Meta). PlansPut metas o command job) m plan) (cause_now None cause)
-
-    -- the same of a sync
-    pub sync_for : (job : Job) → PlansSync metas o command job → IsFirstCause metas o command sup None
-        → IsFor d p command job
-    sync_for job plan cause =
-        sync_job command o head job named (sym is)
-        (subst (λ (metas : map.FinMap nat_cmp Meta). PlansSync metas o command job) m plan) (cause_now None cause)
-
-    -- the same of a refusal
-    pub refused_for : (reply : Reply) → IsSyncing command → RefusesPlan metas o command sup reply
-        → IsRefusedBy (state_of d p) command reply
-    refused_for reply syncing (inl memory) = refused command head reply syncing named (inl memory)
-    refused_for reply syncing (inr x) =
-        refused command head reply syncing named
-        (inr (
-          x.0,
-          subst (λ (o : Option Xattrs). IsFirstCause p.metas o command p.super (Some reply)) is
-              (cause_now (Some reply) x.1),
-        ))
-
-  -- what is planned for a put on a blob that it names by its head
-  put_at : (metas : map.FinMap nat_cmp Meta) (sup : Super) (o : Option Xattrs) (h : ℕ) (key value : Text)
-      → metas ≡ p.metas → sup ≡ p.super → o ≡ map.get p.live h → (planned : Result Job Reply)
-      → IfOk planned (PlansPut metas o (c.Put (Head h) key value))
-      → IfOk planned (λ job. IsFirstCause metas o (c.Put (Head h) key value) sup None)
-      → IfErr planned (RefusesPlan metas o (c.Put (Head h) key value) sup)
-      → IsPlanOf d p (c.Put (Head h) key value) (Some planned)
-  put_at metas sup o h key value m s is (Ok job) plan cause refused =
-      put_for metas sup o (c.Put (Head h) key value) h m s refl is job plan cause
-  put_at metas sup o h key value m s is (Err reply) plan cause refused =
-      refused_for metas sup o (c.Put (Head h) key value) h m s refl is reply tt refused
-
-  -- what is planned for a sync of such a blob
-  sync_at : (metas : map.FinMap nat_cmp Meta) (sup : Super) (o : Option Xattrs) (h : ℕ) → metas ≡ p.metas
-      → sup ≡ p.super → o ≡ map.get p.live h → (planned : Result Job Reply)
-      → IfOk planned (PlansSync metas o (c.Sync (Head h)))
-      → IfOk planned (λ job. IsFirstCause metas o (c.Sync (Head h)) sup None)
-      → IfErr planned (RefusesPlan metas o (c.Sync (Head h)) sup) → IsPlanOf d p (c.Sync (Head h)) (Some planned)
-  sync_at metas sup o h m s is (Ok job) plan cause refused =
-      sync_for metas sup o (c.Sync (Head h)) h m s refl is job plan cause
-  sync_at metas sup o h m s is (Err reply) plan cause refused =
-      refused_for metas sup o (c.Sync (Head h)) h m s refl is reply tt refused
+  -- what is planned for a sync
+  sync_at : (volume : VolumeRef) (head : Option ℕ) (o : Option Xattrs)
+      → IsFound p.metas p.super p.live (c.Sync volume) head o → (planned : Result Job Reply)
+      → IfOk planned (PlansSync p.metas p.super o (c.Sync volume))
+      → IfOk planned (λ job. IsFirstCause p.metas p.super o (c.Sync volume) None)
+      → IfErr planned (RefusesPlan p.metas p.super o (c.Sync volume)) → IsPlanOf d p (c.Sync volume) (Some planned)
+  sync_at volume head o found (Ok job) plan cause refuses = sync_job volume head o job found plan cause
+  sync_at volume head o found (Err reply) plan cause refuses = refused (c.Sync volume) head o reply tt found refuses
 
   -- from what is given of the store
   module _ (metas : map.FinMap nat_cmp Meta) (sup : Super) (o : Option Xattrs) (m : metas ≡ p.metas)
       (s : sup ≡ p.super) where
-    put_by_head : (volume : VolumeRef) (key value : Text)
-        → ((head : ℕ) → asked_head (c.Put volume key value) ≡ Some head → o ≡ map.get p.live head)
-        → IsServed (c.Put volume key value) → (planned : Result Job Reply)
-        → IfOk planned (PlansPut metas o (c.Put volume key value))
-        → IfOk planned (λ job. IsFirstCause metas o (c.Put volume key value) sup None)
-        → IfErr planned (RefusesPlan metas o (c.Put volume key value) sup)
-        → IsPlanOf d p (c.Put volume key value) (Some planned)
-    put_by_head (Head h) key value is served = put_at metas sup o h key value m s (is h refl)
-    put_by_head _ key value is served = absurd (cc served)
+    of_store : (P : map.FinMap nat_cmp Meta → Super → Type 0) → P metas sup → P p.metas p.super
+    of_store P x =
+        subst (λ (sup : Super). P p.metas sup) s (subst (λ (metas : map.FinMap nat_cmp Meta). P metas sup) m x)
 
-    -- what is planned for a put
+    -- live attributes are given exactly where what is planned on is there
+    pub live_given : (command : Command) (head : Option ℕ) → IsFound p.metas p.super p.live command head o
+        → IsLiveOf metas sup o command
+    live_given command head found =
+        subst (λ (sup : Super). IsLiveOf metas sup o command) (sym s)
+        (subst (λ (metas : map.FinMap nat_cmp Meta). IsLiveOf metas p.super o command) (sym m)
+        (laws.live p command head o running runs found))
+
     pub put_plan : (command : Command) (volume : VolumeRef) (key value : Text) → command ≡ c.Put volume key value
-        → ((head : ℕ) → asked_head command ≡ Some head → o ≡ map.get p.live head) → IsServed command
-        → (planned : Result Job Reply) → IfOk planned (PlansPut metas o command)
-        → IfOk planned (λ job. IsFirstCause metas o command sup None) → IfErr planned (RefusesPlan metas o command sup)
-        → IsPlanOf d p command (Some planned)
-    put_plan command volume key value e =
+        → (head : Option ℕ) → IsFound p.metas p.super p.live command head o → (planned : Result Job Reply)
+        → IfOk planned (PlansPut metas sup o command) → IfOk planned (λ job. IsFirstCause metas sup o command None)
+        → IfErr planned (RefusesPlan metas sup o command) → IsPlanOf d p command (Some planned)
+    put_plan command volume key value e head found planned plan cause refuses =
         subst
-        (λ (command : Command). ((head : ℕ) → asked_head command ≡ Some head → o ≡ map.get p.live head)
-        → IsServed command → (planned : Result Job Reply) → IfOk planned (PlansPut metas o command)
-        → IfOk planned (λ job. IsFirstCause metas o command sup None)
-        → IfErr planned (RefusesPlan metas o command sup) → IsPlanOf d p command (Some planned)) (sym e)
-        (put_by_head volume key value)
+        (λ (command : Command). IsFound p.metas p.super p.live command head o
+        → IfOk planned (PlansPut p.metas p.super o command)
+        → IfOk planned (λ job. IsFirstCause p.metas p.super o command None)
+        → IfErr planned (RefusesPlan p.metas p.super o command) → IsPlanOf d p command (Some planned)) (sym e)
+        (λ found. put_at volume key value head o found planned) found
+        (of_store (λ metas sup. IfOk planned (PlansPut metas sup o command)) plan)
+        (of_store (λ metas sup. IfOk planned (λ job. IsFirstCause metas sup o command None)) cause)
+        (of_store (λ metas sup. IfErr planned (RefusesPlan metas sup o command)) refuses)
 
-    sync_by_head : (volume : VolumeRef)
-        → ((head : ℕ) → asked_head (c.Sync volume) ≡ Some head → o ≡ map.get p.live head)
-        → IsServed (c.Sync volume) → (planned : Result Job Reply) → IfOk planned (PlansSync metas o (c.Sync volume))
-        → IfOk planned (λ job. IsFirstCause metas o (c.Sync volume) sup None)
-        → IfErr planned (RefusesPlan metas o (c.Sync volume) sup) → IsPlanOf d p (c.Sync volume) (Some planned)
-    sync_by_head (Head h) is served = sync_at metas sup o h m s (is h refl)
-    sync_by_head _ is served = absurd (cc served)
-
-    -- what is planned for a sync
-    pub sync_plan : (command : Command) (volume : VolumeRef) → command ≡ c.Sync volume
-        → ((head : ℕ) → asked_head command ≡ Some head → o ≡ map.get p.live head) → IsServed command
-        → (planned : Result Job Reply) → IfOk planned (PlansSync metas o command)
-        → IfOk planned (λ job. IsFirstCause metas o command sup None) → IfErr planned (RefusesPlan metas o command sup)
-        → IsPlanOf d p command (Some planned)
-    sync_plan command volume e =
+    pub sync_plan : (command : Command) (volume : VolumeRef) → command ≡ c.Sync volume → (head : Option ℕ)
+        → IsFound p.metas p.super p.live command head o → (planned : Result Job Reply)
+        → IfOk planned (PlansSync metas sup o command) → IfOk planned (λ job. IsFirstCause metas sup o command None)
+        → IfErr planned (RefusesPlan metas sup o command) → IsPlanOf d p command (Some planned)
+    sync_plan command volume e head found planned plan cause refuses =
         subst
-        (λ (command : Command). ((head : ℕ) → asked_head command ≡ Some head → o ≡ map.get p.live head)
-        → IsServed command → (planned : Result Job Reply) → IfOk planned (PlansSync metas o command)
-        → IfOk planned (λ job. IsFirstCause metas o command sup None)
-        → IfErr planned (RefusesPlan metas o command sup) → IsPlanOf d p command (Some planned)) (sym e)
-        (sync_by_head volume)
+        (λ (command : Command). IsFound p.metas p.super p.live command head o
+        → IfOk planned (PlansSync p.metas p.super o command)
+        → IfOk planned (λ job. IsFirstCause p.metas p.super o command None)
+        → IfErr planned (RefusesPlan p.metas p.super o command) → IsPlanOf d p command (Some planned)) (sym e)
+        (λ found. sync_at volume head o found planned) found
+        (of_store (λ metas sup. IfOk planned (PlansSync metas sup o command)) plan)
+        (of_store (λ metas sup. IfOk planned (λ job. IsFirstCause metas sup o command None)) cause)
+        (of_store (λ metas sup. IfErr planned (RefusesPlan metas sup o command)) refuses)
 
   module _ (metas : map.FinMap nat_cmp Meta) (sup : Super) (m : metas ≡ p.metas) (s : sup ≡ p.super)
       (shows : ShowsMetas (fixed_of p.super) p.super p.metas (shown (state_of d p)))
@@ -318,7 +305,7 @@ module _ {D : Type 0} (d : Ghosts D) (laws : PlanLaws d) (p : StoreView D) (runn
           made_so name slots uuid head next job plan first
       create_thin head next name slots false uuid served (Err reply) plan first refused =
           refused_first (c.Create name slots false uuid) reply shows tt refused
-      create_thin head next name slots true uuid served planned plan first refused = absurd (cc served)
+      create_thin head next name slots true uuid served planned plan first refused = absurd served
 
       create_so : (head : ℕ) → IsNextHead p.super.md_len p.pages head → (command : Command) (name : Text) (slots : ℕ)
           (thick : Bool) (uuid : Option (List ℕ)) → command ≡ c.Create name slots thick uuid → IsServed command

@@ -1,8 +1,6 @@
 //! One posted command, from its message to its entry.
 
-ghost use Rattle.std.specs.Prelude.{◌≡◌, ℕ, None, Some, option_copied};
-ghost use Rattle.std.specs.FinMap as map;
-ghost use Rattle.blob_meta.specs.Asked.{asked_head as head_said, IsOnHead};
+ghost use Rattle.std.specs.Prelude.{◌≡◌, ℕ, None};
 ghost use Rattle.script_lang.specs.Served.{IsServed};
 ghost use Rattle.store_model.specs.Rows.{InJob};
 ghost use Rattle.store_core.specs.Requests.{asked_by, IsPostedBy};
@@ -10,12 +8,12 @@ ghost use Rattle.store_core.specs.StoreView.{rows_of};
 ghost use Rattle.store_core.specs.Steps.{decided, Asks, OnlyRow};
 ghost use Rattle.blob_tool.specs.Serving.{IsPlanOf, IsTaskOf};
 
-use blob_meta::{Job, asked_head};
+use blob_meta::Job;
 use lvol_store::{plan_create, plan_put, plan_sync};
 use page_disk::PageDisk;
 use std::alloc::Global;
 use store_core::{BeginTurn, MdRight, Plant, Request, plans};
-use volume_model::{Command, Msg, Reply, XattrList};
+use volume_model::{Command, Msg, Reply};
 
 /// What is to be done for a posted command.
 #[derive(Drop)]
@@ -37,15 +35,6 @@ fn command_of<'a>(request: Request<'a>) -> &'a Command
     }
 }
 
-/// The live attributes of the blob that a command on attributes names.
-fn live_of<'a, D: PageDisk>(plant: &'a Plant<D>, command: &Command) -> Option<&'a XattrList>
-    requires on_head { IsOnHead command.now }
-    ensures { (head : ℕ) → head_said command.now ≡ Some head
-        → option_copied result ≡ map.get plant.now.at.live head }
-{
-    plant.live(asked_head(command))
-}
-
 /// The job that is planned for a command, or why it is refused; `None` for a command that is answered in memory.
 fn planned<D: PageDisk>(
     alloc: Global,
@@ -61,11 +50,11 @@ fn planned<D: PageDisk>(
     let (metas, sup, new) = (plant.metas(), plant.sup(), plant.next_head());
     match command {
         Command::Put { .. } => {
-            let live = live_of(plant, command);
+            let live = plant.live_of(command);
             Some(plan_put(alloc, metas, sup, command, new, live))
         }
         Command::Sync { .. } => {
-            let live = live_of(plant, command);
+            let live = plant.live_of(command);
             Some(plan_sync(alloc, metas, sup, command, new, live))
         }
         Command::Create { .. } => Some(plan_create(alloc, metas, sup, command, new)),

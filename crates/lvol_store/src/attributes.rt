@@ -1,11 +1,12 @@
 //! Plans of the commands that bring attributes to the disk.
 
-ghost use Rattle.std.specs.Prelude.{◌≡◌, Some, None, IsSome, OnOk, IfOk, IfErr, option_copied};
-ghost use Rattle.std.specs.FinMap as map;
-ghost use Rattle.blob_meta.specs.Asked.{blob_named, IsOnHead, IsAttributeCause, IsLiveOf, IsFirstCause};
+ghost use Rattle.std.specs.Prelude.{◌≡◌, Some, None, OnOk, IfOk, IfErr, option_copied};
+ghost use Rattle.blob_meta.specs.Asked.{IsAttributeCause, IsFirstCause, IsLiveOf, IsOnAttributes, NamesThere};
+ghost use Rattle.blob_meta.specs.Find.{IsThere};
+ghost use Rattle.blob_meta.specs.Jobs.{job_of_one};
 ghost use Rattle.lvol_store.specs.Plans.{IsPut, IsSync, GivesXattrs, PlansPut, PlansSync, RefusesPlan};
 
-use blob_meta::{Job, Meta, Metas, refusal_of};
+use blob_meta::{Job, Meta, Metas, find, refusal_of};
 use out_of_memory::Memory;
 use std::alloc::Global;
 use super_block::Super;
@@ -18,13 +19,13 @@ fn pass(
     live: Option<&XattrList>,
     command: &Command,
 ) -> Result<(), Reply>
-    requires on_head { IsOnHead command.now }
-    requires live { IsLiveOf metas.now (option_copied live) command.now }
-    ensures there { OnOk result (IsSome (blob_named metas.now command.now)) }
-    ensures unrefused { OnOk result (IsFirstCause metas.now (option_copied live.entry) command.now sup.now None) }
+    requires attributes { IsOnAttributes command.now }
+    requires live { IsLiveOf metas.now sup.now (option_copied live) command.now }
+    ensures there { OnOk result (NamesThere metas.now sup.now command.now) }
+    ensures unrefused { OnOk result (IsFirstCause metas.now sup.now (option_copied live.entry) command.now None) }
     ensures refused { IfErr result
         (λ reply. IsAttributeCause reply
-        × IsFirstCause metas.now (option_copied live.entry) command.now sup.now (Some reply)) }
+        × IsFirstCause metas.now sup.now (option_copied live.entry) command.now (Some reply)) }
 {
     match refusal_of(metas, sup, live, command) {
         Some(reply) => Err(reply),
@@ -32,55 +33,59 @@ fn pass(
     }
 }
 
-/// The metadata with these attributes in place of its own.
-fn with_xattrs(alloc: Global, meta: &Meta, xattrs: XattrList) -> Result<Meta, Memory>
-    ensures { IfOk result (λ m. m ≡ record meta.now { xattrs = xattrs }) }
+/// The job that gives the blob at a head these attributes in place of its own.
+fn replace_xattrs(alloc: Global, head: u32, old: &Meta, xattrs: XattrList) -> Result<Job, Memory>
+    ensures { IfOk result (λ job. job ≡ job_of_one head (record old.now { xattrs = xattrs })) }
 {
-    Ok(Meta {
-        id: meta.id,
-        flags: meta.flags,
+    let new = Meta {
+        id: old.id,
+        flags: old.flags,
         xattrs,
-        internal: meta.internal.try_copy(alloc)?,
-        map: meta.map.try_copy(alloc)?,
-    })
+        internal: old.internal.try_copy(alloc)?,
+        map: old.map.try_copy(alloc)?,
+    };
+    Job::of_one(alloc, head, new)
 }
 
-/// The job that gives the blob at a head these attributes.
-fn give_xattrs(alloc: Global, metas: &Metas, head: u32, xattrs: XattrList) -> Result<Job, Memory>
-    requires { IsSome (map.get metas.now head) }
-    ensures { IfOk result (λ job. GivesXattrs metas.now head xattrs job) }
+/// The job that gives the volume that is meant these attributes.
+fn give_xattrs(
+    alloc: Global,
+    metas: &Metas,
+    sup: &Super,
+    volume: &VolumeRef,
+    xattrs: XattrList,
+) -> Result<Job, Memory>
+    requires { IsThere metas.now sup.now volume.now }
+    ensures { IfOk result (GivesXattrs metas.now sup.now volume.now xattrs) }
 {
+    let Some(head) = find(metas, sup, volume) else {
+        unreachable!()
+    };
     let Some(old) = metas.get(head) else {
         unreachable!()
     };
-    Job::of_one(alloc, head, with_xattrs(alloc, old, xattrs)?)
+    replace_xattrs(alloc, head, old, xattrs)
 }
 
 /// The job of a put that nothing refuses.
 fn put(
     alloc: Global,
     metas: &Metas,
+    sup: &Super,
     live: Option<&XattrList>,
     command: &Command,
 ) -> Result<Job, Memory>
     requires put { IsPut command.now }
-    requires on_head { IsOnHead command.now }
-    requires live { IsLiveOf metas.now (option_copied live) command.now }
-    requires there { IsSome (blob_named metas.now command.now) }
-    ensures { IfOk result (λ job. PlansPut metas.now (option_copied live.entry) command.now job) }
+    requires live { IsLiveOf metas.now sup.now (option_copied live) command.now }
+    requires there { NamesThere metas.now sup.now command.now }
+    ensures { IfOk result (PlansPut metas.now sup.now (option_copied live.entry) command.now) }
 {
     match (command, live) {
-        (
-            Command::Put {
-                volume: VolumeRef::Head(head),
-                key,
-                value,
-            },
-            Some(live),
-        ) => give_xattrs(
+        (Command::Put { volume, key, value }, Some(live)) => give_xattrs(
             alloc,
             metas,
-            *head,
+            sup,
+            volume,
             live.with_value(alloc, key.bytes(), value.bytes())?,
         ),
         _ => unreachable!(),
@@ -91,29 +96,26 @@ fn put(
 fn sync(
     alloc: Global,
     metas: &Metas,
+    sup: &Super,
     live: Option<&XattrList>,
     command: &Command,
 ) -> Result<Job, Memory>
     requires sync { IsSync command.now }
-    requires on_head { IsOnHead command.now }
-    requires live { IsLiveOf metas.now (option_copied live) command.now }
-    requires there { IsSome (blob_named metas.now command.now) }
-    ensures { IfOk result (λ job. PlansSync metas.now (option_copied live.entry) command.now job) }
+    requires live { IsLiveOf metas.now sup.now (option_copied live) command.now }
+    requires there { NamesThere metas.now sup.now command.now }
+    ensures { IfOk result (PlansSync metas.now sup.now (option_copied live.entry) command.now) }
 {
     match (command, live) {
-        (
-            Command::Sync {
-                volume: VolumeRef::Head(head),
-            },
-            Some(live),
-        ) => give_xattrs(alloc, metas, *head, live.try_copy(alloc)?),
+        (Command::Sync { volume }, Some(live)) => {
+            give_xattrs(alloc, metas, sup, volume, live.try_copy(alloc)?)
+        }
         _ => unreachable!(),
     }
 }
 
-/// Plans a put on the blob at a head: its metadata with the live attributes, one of them set. `live` is the blob's live
-/// attributes, and `None` exactly where `metas` has no such blob. No blob is made, so the head for a new one isn't
-/// used. `Err` is the first cause for which the put is refused, or `Memory`.
+/// Plans a put on the volume that is meant, by head or by name: its metadata with the live attributes, one of them set.
+/// `live` is the live attributes, and `None` exactly where `find` gives no head. No blob is made, so the head for a new
+/// one isn't used. `Err` is the first cause for which the put is refused, or `Memory`.
 pub fn plan_put(
     alloc: Global,
     metas: &Metas,
@@ -123,20 +125,19 @@ pub fn plan_put(
     live: Option<&XattrList>,
 ) -> Result<Job, Reply>
     requires put { IsPut command.now }
-    requires on_head { IsOnHead command.now }
-    requires live { IsLiveOf metas.now (option_copied live) command.now }
-    ensures job { IfOk result (λ job. PlansPut metas.now (option_copied live.entry) command.now job) }
+    requires live { IsLiveOf metas.now sup.now (option_copied live) command.now }
+    ensures job { IfOk result (PlansPut metas.now sup.now (option_copied live.entry) command.now) }
     ensures unrefused { IfOk result
-        (λ job. IsFirstCause metas.now (option_copied live.entry) command.now sup.now None) }
-    ensures refused { IfErr result (RefusesPlan metas.now (option_copied live.entry) command.now sup.now) }
+        (λ job. IsFirstCause metas.now sup.now (option_copied live.entry) command.now None) }
+    ensures refused { IfErr result (RefusesPlan metas.now sup.now (option_copied live.entry) command.now) }
 {
     pass(metas, sup, live, command)?;
-    put(alloc, metas, live, command).map_err(|_| Reply::Memory)
+    put(alloc, metas, sup, live, command).map_err(|_| Reply::Memory)
 }
 
-/// Plans a sync of the blob at a head: its metadata with the live attributes. `live` is the blob's live attributes, and
-/// `None` exactly where `metas` has no such blob. No blob is made, so the head for a new one isn't used. `Err` is the
-/// first cause for which the sync is refused, or `Memory`.
+/// Plans a sync of the volume that is meant, by head or by name: its metadata with the live attributes. `live` is these
+/// attributes, and `None` exactly where `find` gives no head. No blob is made, so the head for a new one isn't used.
+/// `Err` is the first cause for which the sync is refused, or `Memory`.
 pub fn plan_sync(
     alloc: Global,
     metas: &Metas,
@@ -146,13 +147,12 @@ pub fn plan_sync(
     live: Option<&XattrList>,
 ) -> Result<Job, Reply>
     requires sync { IsSync command.now }
-    requires on_head { IsOnHead command.now }
-    requires live { IsLiveOf metas.now (option_copied live) command.now }
-    ensures job { IfOk result (λ job. PlansSync metas.now (option_copied live.entry) command.now job) }
+    requires live { IsLiveOf metas.now sup.now (option_copied live) command.now }
+    ensures job { IfOk result (PlansSync metas.now sup.now (option_copied live.entry) command.now) }
     ensures unrefused { IfOk result
-        (λ job. IsFirstCause metas.now (option_copied live.entry) command.now sup.now None) }
-    ensures refused { IfErr result (RefusesPlan metas.now (option_copied live.entry) command.now sup.now) }
+        (λ job. IsFirstCause metas.now sup.now (option_copied live.entry) command.now None) }
+    ensures refused { IfErr result (RefusesPlan metas.now sup.now (option_copied live.entry) command.now) }
 {
     pass(metas, sup, live, command)?;
-    sync(alloc, metas, live, command).map_err(|_| Reply::Memory)
+    sync(alloc, metas, sup, live, command).map_err(|_| Reply::Memory)
 }

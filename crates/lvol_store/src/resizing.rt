@@ -3,7 +3,8 @@
 ghost use Rattle.std.specs.Prelude.{◌≡◌, ◌≤◌, ◌^◌, None, IfOk, IfErr};
 ghost use Rattle.blob_meta.specs.Jobs.{resize_job};
 ghost use Rattle.blob_meta.specs.ShownBy.{IsFirstRefusal};
-ghost use Rattle.blob_meta.specs.SlotCounts.{AsksFewSlots, IsResize, NamesThere};
+ghost use Rattle.blob_meta.specs.Asked.{NamesThere};
+ghost use Rattle.blob_meta.specs.SlotCounts.{AsksFewSlots, IsResize};
 ghost use Rattle.lvol_store.specs.SlotPlans.{PlansResize, RefusesFirst};
 
 use crate::slots::slots_from;

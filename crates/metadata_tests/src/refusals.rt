@@ -1,15 +1,15 @@
 //! Each cause of a refusal.
 
-ghost use Rattle.std.specs.Prelude.{◌≡◌, Some, IfOk};
-ghost use Rattle.blob_meta.specs.Asked.{asked_head};
+ghost use Rattle.std.specs.Prelude.{IfOk};
+ghost use Rattle.blob_meta.specs.Asked.{IsOnAttributes};
 
 use crate::fixtures::small;
-use blob_meta::{Flags, Meta, Metas, refusal_of};
+use blob_meta::{Flags, Meta, Metas, asked_volume, find, refusal_of};
 use descriptors::SlotMap;
 use std::alloc::Global;
 use std::test::Fail;
 use super_block::Super;
-use volume_model::{Blobtext, Command, Memory, Reply, VolumeRef, XattrList};
+use volume_model::{Blobtext, Command, Memory, Name, Reply, VolumeRef, XattrList};
 
 /// What is asked, with the length of the value.
 #[derive(Clone, Copy)]
@@ -25,10 +25,9 @@ fn value(alloc: Global, length: usize) -> Result<Blobtext, Memory> {
     Blobtext::new(alloc, &[0x61; 4096][..length.min(4096)])
 }
 
-fn command(alloc: Global, verb: Verb, head: u32, key: Blobtext) -> Result<Command, Memory>
-    ensures { IfOk result (λ c. asked_head c ≡ Some head) }
+fn command(alloc: Global, verb: Verb, volume: VolumeRef, key: Blobtext) -> Result<Command, Memory>
+    ensures { IfOk result IsOnAttributes }
 {
-    let volume = VolumeRef::Head(head);
     match verb {
         Verb::Set(length) => Ok(Command::SetX {
             volume,
@@ -46,18 +45,27 @@ fn command(alloc: Global, verb: Verb, head: u32, key: Blobtext) -> Result<Comman
     }
 }
 
-fn blob(alloc: Global, head: u32, data_ro: u64) -> Meta {
-    Meta {
+fn blob(alloc: Global, head: u32, name: &[u8], data_ro: u64) -> Result<Meta, Memory> {
+    Ok(Meta {
         id: (1 << 32) + u64::from(head),
         flags: Flags {
             invalid: 0,
             data_ro,
             md_ro: 0,
         },
-        xattrs: XattrList::new(alloc),
+        xattrs: XattrList::new(alloc).with_value(alloc, b"name", name)?,
         internal: XattrList::new(alloc),
         map: SlotMap::new(alloc),
-    }
+    })
+}
+
+/// The super blob is at 2, a blob that can be written at 5, a read-only one at 6, and none at 9.
+fn three_blobs(alloc: Global) -> Result<Metas, Memory> {
+    let mut metas = Metas::new(alloc);
+    metas.insert(2, blob(alloc, 2, b"store\0", 0)?)?;
+    metas.insert(5, blob(alloc, 5, b"open\0", 0)?)?;
+    metas.insert(6, blob(alloc, 6, b"fixed\0", 1)?)?;
+    Ok(metas)
 }
 
 /// What is answered where a blob's live attribute is `owner` alone.
@@ -66,13 +74,13 @@ fn asked(
     metas: &Metas,
     sup: &Super,
     verb: Verb,
-    head: u32,
+    volume: VolumeRef,
     key: &[u8],
 ) -> Result<Option<Reply>, Memory> {
     let owner = Blobtext::new(alloc, b"owner")?;
     let live = XattrList::new(alloc).with_value(alloc, owner.bytes(), owner.bytes())?;
-    let command = command(alloc, verb, head, Blobtext::new(alloc, key)?)?;
-    match metas.get(head) {
+    let command = command(alloc, verb, volume, Blobtext::new(alloc, key)?)?;
+    match find(metas, sup, asked_volume(&command)) {
         Some(_) => Ok(refusal_of(metas, sup, Some(&live), &command)),
         None => Ok(refusal_of(metas, sup, None, &command)),
     }
@@ -81,11 +89,7 @@ fn asked(
 #[test]
 fn the_first_cause_is_answered(rt: HostRuntime) -> Result<(), Fail> {
     let alloc = rt.alloc();
-    // The super blob is at 2, a blob that can be written at 5, a read-only one at 6, and none at 9.
-    let mut metas = Metas::new(alloc);
-    metas.insert(2, blob(alloc, 2, 0))?;
-    metas.insert(5, blob(alloc, 5, 0))?;
-    metas.insert(6, blob(alloc, 6, 1))?;
+    let metas = three_blobs(alloc)?;
     let sup = small((1 << 32) + 2)?;
     let cases: &[(Verb, u32, &[u8], &str)] = &[
         (Verb::Set(3), 9, b"name", "Some(NoVolume)"),
@@ -116,8 +120,28 @@ fn the_first_cause_is_answered(rt: HostRuntime) -> Result<(), Fail> {
         (Verb::Sync, 5, b"", "None"),
     ];
     for (verb, head, key, wanted) in cases {
-        let found = asked(alloc, &metas, &sup, *verb, *head, key)?;
+        let found = asked(alloc, &metas, &sup, *verb, VolumeRef::Head(*head), key)?;
         assert_eq!(rt; format!(in alloc; "{found:?}")?.as_str(), *wanted);
+    }
+    Ok(())
+}
+
+#[test]
+fn a_volume_is_named_by_its_name_too(rt: HostRuntime) -> Result<(), Fail> {
+    let alloc = rt.alloc();
+    let metas = three_blobs(alloc)?;
+    let sup = small((1 << 32) + 2)?;
+    let cases: [(Verb, Name, &str); 5] = [
+        (Verb::Put(3), Name::new(b"open"), "None"),
+        (Verb::Put(3), Name::new(b"fixed"), "Some(ReadOnly)"),
+        (Verb::Tell, Name::new(b"fixed"), "None"),
+        (Verb::Sync, Name::new(b"none"), "Some(NoVolume)"),
+        // The super blob is named by its head alone.
+        (Verb::Sync, Name::new(b"store"), "Some(NoVolume)"),
+    ];
+    for (verb, name, wanted) in cases {
+        let found = asked(alloc, &metas, &sup, verb, VolumeRef::Named(name), b"owner")?;
+        assert_eq!(rt; format!(in alloc; "{found:?}")?.as_str(), wanted);
     }
     Ok(())
 }

@@ -45,7 +45,7 @@ type Case = (
     &'static [u8],
 );
 
-const CASES: [Case; 8] = [
+const CASES: [Case; 10] = [
     // A thin volume takes a page and no cluster.
     (
         On::Empty,
@@ -87,6 +87,23 @@ const CASES: [Case; 8] = [
         b"0 0 value 38306532343334632d343636632d353961302d613336342d35643864303136303133333800\n\
             0 1 value 35663262346536362d306430632d346331652d396135352d33663061376332643962313000\n\
             0 2 value 31\n",
+    ),
+    // A volume is named by its name as by its head, in the run that makes it and in later ones.
+    (
+        On::Empty,
+        b"0 create v 1 thin\n0 put v k t:1\n0 setx v l t:2\n0 getx @0 l\n0 getx v k\n0 delx v k\n0 sync v\n\
+            0 getx w k\n",
+        b"0 0 ok @0\n0 1 ok\n0 2 ok\n0 3 value 32\n0 4 value 31\n0 5 ok\n0 6 ok\n0 7 no volume\n",
+        b"0 getx v l\n0 getx v k\n0 put v name t:w\n",
+        b"0 0 value 32\n0 1 no value\n0 2 reserved\n",
+    ),
+    // The super blob is named by its head alone.
+    (
+        On::Super,
+        b"0 getx v uuid\n0 create v 1 thin\n0 put v k t:1\n",
+        b"0 0 no volume\n0 1 ok @1\n0 2 ok\n",
+        b"0 getx @1 k\n",
+        b"0 0 value 31\n",
     ),
     // A new volume has the least page that is clear.
     (

@@ -1,12 +1,12 @@
 -- What the served grammar reads are commands that are served.
 use Rattle.std.proofs.Common.{◌≡◌, ℕ, Bool, true, false, cond, ◌&&◌, List, [], ◌∷◌, ◌++◌, length, Option, Some, None}
 use Rattle.std.proofs.Common.{Result, Ok, Err, refl, ap, arith}
-use Rattle.std.specs.Prelude.{IfOk, IfSome, slice_index, ◌==◌}
+use Rattle.std.specs.Prelude.{IfOk, IfSome}
 use Rattle.std.specs.List.{All, find}
 use Rattle.std.specs.Option.{option_map}
 use Rattle.std.proofs.lemmas.Bool.{false≢true}
 use Rattle.std.proofs.lemmas.List.Elements.{All-nil, All-cons, All-head, All-tail}
-use Rattle.volume_model.specs.declared.command.VolumeRef.TheVariants.{Head, Named}
+use Rattle.volume_model.specs.declared.command.VolumeRef.{VolumeRef}
 use Rattle.volume_model.specs.declared.command.Command.{Command}
 use Rattle.volume_model.specs.declared.command.Command.TheVariants as c
 use Rattle.script_lang.specs.Served.{IsServed}
@@ -20,19 +20,17 @@ use Rattle.script_lang.specs.declared.verb.Verb.{Verb}
 use Rattle.script_lang.specs.declared.verb.Verb.TheVariants as v
 use Rattle.script_lang.specs.Commands.{commands_of, command_of, alone, plain, command_on_volume, on_slots, on_name}
 use Rattle.script_lang.specs.Commands.{on_key, on_value, creation, command_on, command_of_name, is_page, pages_of}
-use Rattle.script_lang.specs.Forms.{says_word, says_values, joined, or_kind}
+use Rattle.script_lang.specs.Forms.{volume_in, says_word, says_values, joined, or_kind}
 use Rattle.script_lang.specs.Grammar.{serves}
 use Rattle.script_lang.specs.Lines.{says, says_verb, commands_said, words}
 use Rattle.script_lang.specs.Verbs.{verb_in, verbs, is_verb, forms_of, takes}
-use Rattle.script_lang.specs.Words.{head_in, name_in, number_in, count_in, is_thin, key_in, value_in}
+use Rattle.script_lang.specs.Words.{name_in, number_in, count_in, is_thin, key_in, value_in}
 use Rattle.uuid.specs.Text.{parsed}
 use Rattle.script_lang.proofs.Requests.{either, pages_first, says_has}
 
--- each volume among the values is named by its head, and none is to be thick
+-- no volume among the values is to be thick
 abbrev AreServedValues : List Value → Type 0
 AreServedValues [] = Unit {0}
-AreServedValues (Volume (Head head) ∷ values) = AreServedValues values
-AreServedValues (Volume (Named name) ∷ values) = ⊥
 AreServedValues (Thick true ∷ values) = ⊥
 AreServedValues (_ ∷ values) = AreServedValues values
 
@@ -48,52 +46,52 @@ plain_served v.List s = absurd (false≢true s)
 plain_served v.Df s = one_served_alone c.Df tt
 plain_served _ s = tt
 
-volume_served : (verb : Verb) (head : ℕ) → serves Served verb ≡ true
-    → IfOk (alone (command_on_volume verb (Head head))) AreServed
-volume_served v.Sync head s = one_served_alone _ refl
-volume_served v.Inflate head s = absurd (false≢true s)
-volume_served v.Decouple head s = absurd (false≢true s)
-volume_served v.Delete head s = absurd (false≢true s)
-volume_served v.ReadOnly head s = absurd (false≢true s)
-volume_served v.Info head s = absurd (false≢true s)
-volume_served _ head s = tt
+volume_served : (verb : Verb) (volume : VolumeRef) → serves Served verb ≡ true
+    → IfOk (alone (command_on_volume verb volume)) AreServed
+volume_served v.Sync volume s = one_served_alone _ tt
+volume_served v.Inflate volume s = absurd (false≢true s)
+volume_served v.Decouple volume s = absurd (false≢true s)
+volume_served v.Delete volume s = absurd (false≢true s)
+volume_served v.ReadOnly volume s = absurd (false≢true s)
+volume_served v.Info volume s = absurd (false≢true s)
+volume_served _ volume s = tt
 
-slots_served : (verb : Verb) (head slots : ℕ) → serves Served verb ≡ true
-    → IfOk (alone (on_slots verb (Head head) slots)) AreServed
-slots_served v.Resize head slots s = absurd (false≢true s)
-slots_served _ head slots s = tt
+slots_served : (verb : Verb) (volume : VolumeRef) (slots : ℕ) → serves Served verb ≡ true
+    → IfOk (alone (on_slots verb volume slots)) AreServed
+slots_served v.Resize volume slots s = absurd (false≢true s)
+slots_served _ volume slots s = tt
 
-name_served : (verb : Verb) (head : ℕ) (name : List ℕ) → serves Served verb ≡ true
-    → IfOk (alone (on_name verb (Head head) name)) AreServed
-name_served v.Snapshot head name s = absurd (false≢true s)
-name_served v.Clone head name s = absurd (false≢true s)
-name_served v.Rename head name s = absurd (false≢true s)
-name_served _ head name s = tt
+name_served : (verb : Verb) (volume : VolumeRef) (name : List ℕ) → serves Served verb ≡ true
+    → IfOk (alone (on_name verb volume name)) AreServed
+name_served v.Snapshot volume name s = absurd (false≢true s)
+name_served v.Clone volume name s = absurd (false≢true s)
+name_served v.Rename volume name s = absurd (false≢true s)
+name_served _ volume name s = tt
 
-key_served : (verb : Verb) (head : ℕ) (key : List ℕ) → IfOk (alone (on_key verb (Head head) key)) AreServed
-key_served v.DelX head key = one_served_alone _ refl
-key_served v.GetX head key = one_served_alone _ refl
-key_served _ head key = tt
+key_served : (verb : Verb) (volume : VolumeRef) (key : List ℕ) → IfOk (alone (on_key verb volume key)) AreServed
+key_served v.DelX volume key = one_served_alone _ tt
+key_served v.GetX volume key = one_served_alone _ tt
+key_served _ volume key = tt
 
-value_served : (verb : Verb) (head : ℕ) (key value : List ℕ)
-    → IfOk (alone (on_value verb (Head head) key value)) AreServed
-value_served v.SetX head key value = one_served_alone _ refl
-value_served v.Put head key value = one_served_alone _ refl
-value_served _ head key value = tt
+value_served : (verb : Verb) (volume : VolumeRef) (key value : List ℕ)
+    → IfOk (alone (on_value verb volume key value)) AreServed
+value_served v.SetX volume key value = one_served_alone _ tt
+value_served v.Put volume key value = one_served_alone _ tt
+value_served _ volume key value = tt
 
 creation_served : (verb : Verb) (name : List ℕ) (slots : ℕ) (uuid : Option (List ℕ))
     → IfOk (alone (creation verb name slots false uuid)) AreServed
 creation_served v.Create name slots uuid = one_served_alone (c.Create name slots false uuid) tt
 creation_served _ name slots uuid = tt
 
-on_served : (verb : Verb) (head : ℕ) (values : List Value) → serves Served verb ≡ true
-    → IfOk (alone (command_on verb (Head head) values)) AreServed
-on_served verb head [] s = volume_served verb head s
-on_served verb head (Number slots ∷ []) s = slots_served verb head slots s
-on_served verb head (Name name ∷ []) s = name_served verb head name s
-on_served verb head (Text key ∷ []) s = key_served verb head key
-on_served verb head (Text key ∷ Text value ∷ []) s = value_served verb head key value
-on_served verb head _ s = tt
+on_served : (verb : Verb) (volume : VolumeRef) (values : List Value) → serves Served verb ≡ true
+    → IfOk (alone (command_on verb volume values)) AreServed
+on_served verb volume [] s = volume_served verb volume s
+on_served verb volume (Number slots ∷ []) s = slots_served verb volume slots s
+on_served verb volume (Name name ∷ []) s = name_served verb volume name s
+on_served verb volume (Text key ∷ []) s = key_served verb volume key
+on_served verb volume (Text key ∷ Text value ∷ []) s = value_served verb volume key value
+on_served verb volume _ s = tt
 
 named_served : (verb : Verb) (name : List ℕ) (values : List Value) → AreServedValues values
     → IfOk (alone (command_of_name verb name values)) AreServed
@@ -105,8 +103,7 @@ named_served verb name _ are = tt
 one_served : (verb : Verb) (values : List Value) → serves Served verb ≡ true → AreServedValues values
     → IfOk (alone (command_of verb values)) AreServed
 one_served verb [] s heads = plain_served verb s
-one_served verb (Volume (Head head) ∷ values) s heads = on_served verb head values s
-one_served verb (Volume (Named name) ∷ values) s heads = absurd heads
+one_served verb (Volume volume ∷ values) s heads = on_served verb volume values s
 one_served verb (Name name ∷ values) s heads = named_served verb name values heads
 one_served verb _ s heads = tt
 
@@ -116,54 +113,47 @@ served_in v.Write values s heads = absurd (false≢true s)
 served_in v.Read values s heads = absurd (false≢true s)
 served_in verb values s heads = one_served verb values s heads
 
-heads_append : (a b : List Value) → AreServedValues a → AreServedValues b → AreServedValues (a ++ b)
-heads_append [] b ha hb = hb
-heads_append (Volume (Head head) ∷ a) b ha hb = heads_append a b ha hb
-heads_append (Volume (Named name) ∷ a) b ha hb = absurd ha
-heads_append (Name name ∷ a) b ha hb = heads_append a b ha hb
-heads_append (Number number ∷ a) b ha hb = heads_append a b ha hb
-heads_append (Thick false ∷ a) b ha hb = heads_append a b ha hb
-heads_append (Thick true ∷ a) b ha hb = absurd ha
-heads_append (Uuid uuid ∷ a) b ha hb = heads_append a b ha hb
-heads_append (Text text ∷ a) b ha hb = heads_append a b ha hb
+thin_append : (a b : List Value) → AreServedValues a → AreServedValues b → AreServedValues (a ++ b)
+thin_append [] b ha hb = hb
+thin_append (Volume volume ∷ a) b ha hb = thin_append a b ha hb
+thin_append (Name name ∷ a) b ha hb = thin_append a b ha hb
+thin_append (Number number ∷ a) b ha hb = thin_append a b ha hb
+thin_append (Thick false ∷ a) b ha hb = thin_append a b ha hb
+thin_append (Thick true ∷ a) b ha hb = absurd ha
+thin_append (Uuid uuid ∷ a) b ha hb = thin_append a b ha hb
+thin_append (Text text ∷ a) b ha hb = thin_append a b ha hb
 
-joined_heads : (a b : Result (List Value) LineKind) → IfOk a AreServedValues → IfOk b AreServedValues
+joined_thin : (a b : Result (List Value) LineKind) → IfOk a AreServedValues → IfOk b AreServedValues
     → IfOk (joined a b) AreServedValues
-joined_heads (Ok a) (Ok b) ha hb = heads_append a b ha hb
-joined_heads (Ok a) (Err k) ha hb = tt
-joined_heads (Err k) (Ok b) ha hb = tt
-joined_heads (Err k) (Err l) ha hb = tt
+joined_thin (Ok a) (Ok b) ha hb = thin_append a b ha hb
+joined_thin (Ok a) (Err k) ha hb = tt
+joined_thin (Err k) (Ok b) ha hb = tt
+joined_thin (Err k) (Err l) ha hb = tt
 
-no_volume : {X : Type 0} (form : Form) (C : X → Value) → ((x : X) → AreServedValues (C x ∷ [])) → (o : Option X)
+no_thick : {X : Type 0} (form : Form) (C : X → Value) → ((x : X) → AreServedValues (C x ∷ [])) → (o : Option X)
     → IfOk (or_kind form (option_map C o)) AreServedValues
-no_volume form C heads (Some x) = heads x
-no_volume form C heads None = tt
-
-a_head : (b : Bool) (o : Option ℕ)
-    → IfOk (or_kind form.Volume (option_map Volume (cond b (option_map Head o) None))) AreServedValues
-a_head true (Some head) = tt
-a_head true None = tt
-a_head false o = tt
+no_thick form C heads (Some x) = heads x
+no_thick form C heads None = tt
 
 a_thin : (b : Bool) → IfOk (or_kind form.Thickness (option_map Thick (cond b (Some false) None))) AreServedValues
 a_thin true = tt
 a_thin false = tt
 
-word_heads : (f : Form) (word : List ℕ) → IfOk (or_kind f (says_word Served f word)) AreServedValues
-word_heads form.Volume word = a_head (slice_index word 0 == 64) (head_in word)
-word_heads form.Name word = no_volume form.Name Name (λ x. tt) (name_in word)
-word_heads form.Number word = no_volume form.Number Number (λ x. tt) (number_in word)
-word_heads form.Count word = no_volume form.Count Number (λ x. tt) (count_in word)
-word_heads form.Thickness word = a_thin (is_thin word)
-word_heads form.Uuid word = no_volume form.Uuid Uuid (λ x. tt) (parsed word)
-word_heads form.Key word = no_volume form.Key Text (λ x. tt) (key_in word)
-word_heads form.Value word = no_volume form.Value Text (λ x. tt) (value_in word)
+word_thin : (f : Form) (word : List ℕ) → IfOk (or_kind f (says_word Served f word)) AreServedValues
+word_thin form.Volume word = no_thick form.Volume Volume (λ x. tt) (volume_in word)
+word_thin form.Name word = no_thick form.Name Name (λ x. tt) (name_in word)
+word_thin form.Number word = no_thick form.Number Number (λ x. tt) (number_in word)
+word_thin form.Count word = no_thick form.Count Number (λ x. tt) (count_in word)
+word_thin form.Thickness word = a_thin (is_thin word)
+word_thin form.Uuid word = no_thick form.Uuid Uuid (λ x. tt) (parsed word)
+word_thin form.Key word = no_thick form.Key Text (λ x. tt) (key_in word)
+word_thin form.Value word = no_thick form.Value Text (λ x. tt) (value_in word)
 
-values_heads : (forms : List Form) (words : List (List ℕ)) → IfOk (says_values Served forms words) AreServedValues
-values_heads [] words = tt
-values_heads (f ∷ forms) [] = tt
-values_heads (f ∷ forms) (word ∷ words) = joined_heads (or_kind f (says_word Served f word))
-    (says_values Served forms words) (word_heads f word) (values_heads forms words)
+values_thin : (forms : List Form) (words : List (List ℕ)) → IfOk (says_values Served forms words) AreServedValues
+values_thin [] words = tt
+values_thin (f ∷ forms) [] = tt
+values_thin (f ∷ forms) (word ∷ words) = joined_thin (or_kind f (says_word Served f word))
+    (says_values Served forms words) (word_thin f word) (values_thin forms words)
 
 first_passes : {X : Type 0} (p : X → Bool) (x : X) (b : Bool) → p x ≡ b → (o : Option X) → IfSome o (λ y. p y ≡ true)
     → IfSome (cond b (Some x) o) (λ y. p y ≡ true)
@@ -188,21 +178,21 @@ verb_served : (word : List ℕ) (words : List (List ℕ)) (o : Option Verb)
 verb_served word words None e = tt
 verb_served word words (Some verb) e =
     either (λ (r : Result (List Command) LineKind). IfOk r AreServed) (takes verb (length words)) _ _
-    (values_served verb (right _ _ e) (says_values Served (forms_of verb) words) (values_heads (forms_of verb) words))
+    (values_served verb (right _ _ e) (says_values Served (forms_of verb) words) (values_thin (forms_of verb) words))
     tt
 
-verb_heads : (word : List ℕ) (words : List (List ℕ)) → IfOk (says_verb Served (verb_in Served word) words) AreServed
+verb_thin : (word : List ℕ) (words : List (List ℕ)) → IfOk (says_verb Served (verb_in Served word) words) AreServed
 unfolding verb_in
-verb_heads word words = verb_served word words (find (is_verb Served word) verbs)
+verb_thin word words = verb_served word words (find (is_verb Served word) verbs)
     (found_passes (is_verb Served word) verbs)
 
 -- so are those of each line
 pub says_served : (line : List ℕ) → IfOk (says Served line) (λ request. All IsServed request.commands)
-says_served = says_has Served AreServed (All-nil IsServed) verb_heads
+says_served = says_has Served AreServed (All-nil IsServed) verb_thin
 
 not_page : (command : Command) → IsServed command → is_page command ≡ false
-not_page (c.Write volume page word) on = absurd (cc)
-not_page (c.Read volume page) on = absurd (cc)
+not_page (c.Write volume page word) on = absurd on
+not_page (c.Read volume page) on = absurd on
 not_page _ on = refl
 
 -- commands on heads read and write no page

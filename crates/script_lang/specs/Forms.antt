@@ -12,14 +12,13 @@ use Rattle.script_lang.specs.declared.form.Form.TheVariants as form
 use Rattle.script_lang.specs.declared.form.Value.{Value}
 use Rattle.script_lang.specs.declared.form.Value.TheVariants as value
 use Rattle.script_lang.specs.declared.grammar.Grammar.{Grammar}
-use Rattle.script_lang.specs.Grammar.{has_names, has_thick}
+use Rattle.script_lang.specs.Grammar.{has_thick}
 use Rattle.script_lang.specs.Words.{number_in, count_in, head_in, name_in, is_thin, thickness_in, key_in, value_in}
 
 -- a volume, by its head or by its name
-abbrev pub volume_in : Grammar → List ℕ → Option VolumeRef
-volume_in grammar word =
-    if slice_index word 0 == 64 then option_map Head (head_in word)
-    else (if has_names grammar then option_map Named (name_in word) else None)
+abbrev pub volume_in : List ℕ → Option VolumeRef
+volume_in word =
+    if slice_index word 0 == 64 then option_map Head (head_in word) else option_map Named (name_in word)
 
 -- whether a volume is thick; where none may be made so the word isn't read
 abbrev pub thickness_by : Grammar → List ℕ → Option Bool
@@ -27,7 +26,7 @@ thickness_by grammar word = if has_thick grammar then thickness_in word else (if
 
 -- what a word of this form says
 abbrev pub says_word : Grammar → Form → List ℕ → Option Value
-says_word grammar form.Volume word = option_map value.Volume (volume_in grammar word)
+says_word grammar form.Volume word = option_map value.Volume (volume_in word)
 says_word grammar form.Name word = option_map value.Name (name_in word)
 says_word grammar form.Number word = option_map value.Number (number_in word)
 says_word grammar form.Count word = option_map value.Number (count_in word)

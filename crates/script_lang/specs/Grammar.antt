@@ -25,8 +25,3 @@ channels_of g.Served = 1
 abbrev pub has_thick : Grammar → Bool
 has_thick g.Whole = true
 has_thick g.Served = false
-
--- whether a volume may be named by its name, and not by its head alone
-abbrev pub has_names : Grammar → Bool
-has_names g.Whole = true
-has_names g.Served = false

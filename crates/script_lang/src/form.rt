@@ -45,13 +45,12 @@ pub enum Value {
 }
 
 /// The volume that a word names.
-fn volume(grammar: Grammar, word: &[u8]) -> Option<VolumeRef>
-    ensures { result ≡ volume_in grammar word.now }
+fn volume(word: &[u8]) -> Option<VolumeRef>
+    ensures { result ≡ volume_in word.now }
 {
     match word {
         [b'@', ..] => head(word).map(VolumeRef::Head),
-        _ if grammar.has_names() => name(word).map(VolumeRef::Named),
-        _ => None,
+        _ => name(word).map(VolumeRef::Named),
     }
 }
 
@@ -84,7 +83,7 @@ impl Form {
         ensures { IfOk result (λ value. value ≡ says_word grammar self word.now) }
     {
         Ok(match self {
-            Form::Volume => volume(grammar, word).map(Value::Volume),
+            Form::Volume => volume(word).map(Value::Volume),
             Form::Name => name(word).map(Value::Name),
             Form::Number => number(word).map(Value::Number),
             Form::Count => count(word).map(Value::Number),

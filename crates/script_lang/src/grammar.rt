@@ -1,8 +1,7 @@
 //! What is read of the grammar.
 
 ghost use Rattle.std.specs.Prelude.{◌≡◌, ◌≤◌};
-ghost use Rattle.script_lang.specs.Grammar.{serves as serves_said, channels_of, has_names as names_said};
-ghost use Rattle.script_lang.specs.Grammar.{has_thick as thick_said};
+ghost use Rattle.script_lang.specs.Grammar.{serves as serves_said, channels_of, has_thick as thick_said};
 
 use crate::verb::Verb;
 
@@ -47,16 +46,6 @@ impl Grammar {
     /// Whether a volume may be made thick, and not thin alone.
     pub fn has_thick(self) -> bool
         ensures { result ≡ thick_said self }
-    {
-        match self {
-            Grammar::Whole => true,
-            Grammar::Served => false,
-        }
-    }
-
-    /// Whether a volume may be named by its name, and not by its head alone.
-    pub fn has_names(self) -> bool
-        ensures { result ≡ names_said self }
     {
         match self {
             Grammar::Whole => true,

@@ -1,49 +1,52 @@
 //! Plans of puts and syncs, each once, and each cause of a refusal.
 
-ghost use Rattle.std.specs.Prelude.{◌≡◌, Some, IfOk};
-ghost use Rattle.blob_meta.specs.Asked.{asked_head};
+ghost use Rattle.std.specs.Prelude.{IfOk};
 ghost use Rattle.lvol_store.specs.Plans.{IsPut, IsSync};
 
-use blob_meta::{Flags, Job, Meta, Metas};
+use blob_meta::{Flags, Job, Meta, Metas, asked_volume, find};
 use descriptors::SlotMap;
-use lvol_store::{plan_put, plan_sync};
+use lvol_store::{check_name, plan_put, plan_sync};
 use out_of_memory::Memory;
 use std::alloc::Global;
 use std::test::Fail;
 use super_block::{Layout, Super};
 use volume_model::{Blobtext, Command, Reply, VolumeRef, XattrList};
 
-fn blob(alloc: Global, head: u32, data_ro: u64) -> Meta {
-    Meta {
+fn blob(alloc: Global, head: u32, name: &[u8], data_ro: u64) -> Result<Meta, Memory> {
+    Ok(Meta {
         id: (1 << 32) + u64::from(head),
         flags: Flags {
             invalid: 0,
             data_ro,
             md_ro: 0,
         },
-        xattrs: XattrList::new(alloc),
+        xattrs: XattrList::new(alloc).with_value(alloc, b"name", name)?,
         internal: XattrList::new(alloc),
         map: SlotMap::new(alloc),
-    }
+    })
 }
 
-fn put(alloc: Global, head: u32, key: &[u8], value: &[u8]) -> Result<Command, Memory>
-    ensures put { IfOk result IsPut }
-    ensures head { IfOk result (λ c. asked_head c ≡ Some head) }
+fn put(alloc: Global, volume: VolumeRef, key: &[u8], value: &[u8]) -> Result<Command, Memory>
+    ensures { IfOk result IsPut }
 {
     Ok(Command::Put {
-        volume: VolumeRef::Head(head),
+        volume,
         key: Blobtext::new(alloc, key)?,
         value: Blobtext::new(alloc, value)?,
     })
 }
 
-fn sync(head: u32) -> Command
-    ensures sync { IsSync result }
-    ensures head { asked_head result ≡ Some head }
+fn sync(volume: VolumeRef) -> Command
+    ensures { IsSync result }
 {
-    Command::Sync {
-        volume: VolumeRef::Head(head),
+    Command::Sync { volume }
+}
+
+/// The volume of a name, or the one at a head where the name is empty.
+pub(crate) fn volume(head: u32, name: &[u8]) -> VolumeRef {
+    match check_name(name) {
+        Ok(name) => VolumeRef::Named(name),
+        Err(_) => VolumeRef::Head(head),
     }
 }
 
@@ -77,9 +80,9 @@ fn push_xattrs(text: &mut Vec<u8>, xattrs: &XattrList) -> Result<(), Fail> {
 /// The super blob at 2, a blob that can be written at 5, and a read-only one at 6.
 fn metas(alloc: Global) -> Result<Metas, Memory> {
     let mut metas = Metas::new(alloc);
-    metas.insert(2, blob(alloc, 2, 0))?;
-    metas.insert(5, blob(alloc, 5, 0))?;
-    metas.insert(6, blob(alloc, 6, 1))?;
+    metas.insert(2, blob(alloc, 2, b"store\0", 0)?)?;
+    metas.insert(5, blob(alloc, 5, b"open\0", 0)?)?;
+    metas.insert(6, blob(alloc, 6, b"fixed\0", 1)?)?;
     Ok(metas)
 }
 
@@ -94,13 +97,13 @@ fn planned_put(
     alloc: Global,
     metas: &Metas,
     sup: &Super,
-    head: u32,
+    volume: VolumeRef,
     key: &[u8],
     value: &[u8],
 ) -> Result<Result<Job, Reply>, Memory> {
     let live = live(alloc)?;
-    let command = put(alloc, head, key, value)?;
-    match metas.get(head) {
+    let command = put(alloc, volume, key, value)?;
+    match find(metas, sup, asked_volume(&command)) {
         Some(_) => Ok(plan_put(alloc, metas, sup, &command, 9, Some(&live))),
         None => Ok(plan_put(alloc, metas, sup, &command, 9, None)),
     }
@@ -110,11 +113,11 @@ fn planned_sync(
     alloc: Global,
     metas: &Metas,
     sup: &Super,
-    head: u32,
+    volume: VolumeRef,
 ) -> Result<Result<Job, Reply>, Memory> {
     let live = live(alloc)?;
-    let command = sync(head);
-    match metas.get(head) {
+    let command = sync(volume);
+    match find(metas, sup, asked_volume(&command)) {
         Some(_) => Ok(plan_sync(alloc, metas, sup, &command, 9, Some(&live))),
         None => Ok(plan_sync(alloc, metas, sup, &command, 9, None)),
     }
@@ -126,17 +129,18 @@ fn puts_are_planned_or_refused(rt: HostRuntime) -> Result<(), Fail> {
     let metas = metas(alloc)?;
     let sup = Layout::plan(64, 4, Some(16))?.new_super((1 << 32) + 2, [0; 16]);
     let long = [b'a'; 4059];
-    let cases: &[(u32, &[u8], &[u8], &[u8])] = &[
-        (5, b"color", b"red", b"5 owner=me color=red"),
-        (5, b"owner", b"you", b"5 owner=you"),
-        (9, b"color", b"red", b"NoVolume"),
-        (2, b"color", b"red", b"Reserved"),
-        (5, b"uuid", b"red", b"Reserved"),
-        (6, b"color", b"red", b"ReadOnly"),
-        (5, b"color", &long, b"TooLong"),
+    let cases: &[(u32, &[u8], &[u8], &[u8], &[u8])] = &[
+        (5, b"", b"color", b"red", b"5 owner=me color=red"),
+        (0, b"open", b"owner", b"you", b"5 owner=you"),
+        (9, b"", b"color", b"red", b"NoVolume"),
+        (0, b"store", b"color", b"red", b"NoVolume"),
+        (2, b"", b"color", b"red", b"Reserved"),
+        (5, b"", b"uuid", b"red", b"Reserved"),
+        (0, b"fixed", b"color", b"red", b"ReadOnly"),
+        (5, b"", b"color", &long, b"TooLong"),
     ];
-    for (head, key, value, wanted) in cases {
-        let plan = planned_put(alloc, &metas, &sup, *head, key, value)?;
+    for (head, name, key, value, wanted) in cases {
+        let plan = planned_put(alloc, &metas, &sup, volume(*head, name), key, value)?;
         assert_eq!(rt; told(alloc, &plan)?.as_slice(), *wanted);
     }
     Ok(())
@@ -147,14 +151,15 @@ fn syncs_are_planned_or_refused(rt: HostRuntime) -> Result<(), Fail> {
     let alloc = rt.alloc();
     let metas = metas(alloc)?;
     let sup = Layout::plan(64, 4, Some(16))?.new_super((1 << 32) + 2, [0; 16]);
-    let cases: &[(u32, &[u8])] = &[
-        (5, b"5 owner=me"),
-        (9, b"NoVolume"),
-        (2, b"Reserved"),
-        (6, b"ReadOnly"),
+    let cases: &[(u32, &[u8], &[u8])] = &[
+        (5, b"", b"5 owner=me"),
+        (0, b"open", b"5 owner=me"),
+        (0, b"none", b"NoVolume"),
+        (2, b"", b"Reserved"),
+        (6, b"", b"ReadOnly"),
     ];
-    for (head, wanted) in cases {
-        let plan = planned_sync(alloc, &metas, &sup, *head)?;
+    for (head, name, wanted) in cases {
+        let plan = planned_sync(alloc, &metas, &sup, volume(*head, name))?;
         assert_eq!(rt; told(alloc, &plan)?.as_slice(), *wanted);
     }
     Ok(())

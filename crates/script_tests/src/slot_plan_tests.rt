@@ -2,7 +2,7 @@
 
 ghost use Rattle.blob_meta.specs.SlotCounts.{IsCreate, IsResize};
 
-use crate::plan_tests::told;
+use crate::plan_tests::{told, volume};
 use blob_meta::{Flags, Job, Meta, Metas};
 use descriptors::SlotMap;
 use lvol_store::{check_name, parse_uuid, plan_create, plan_resize, store_uuid, uuid_for};
@@ -83,14 +83,6 @@ fn resize(volume: VolumeRef, slots: u64) -> Command
     ensures { IsResize result }
 {
     Command::Resize { volume, slots }
-}
-
-/// The volume of a name, or the one at a head where the name is empty.
-fn volume(head: u32, name: &[u8]) -> VolumeRef {
-    match check_name(name) {
-        Ok(name) => VolumeRef::Named(name),
-        Err(_) => VolumeRef::Head(head),
-    }
 }
 
 fn push_numbers(text: &mut Vec<u8>, alloc: Global, numbers: &[Option<u32>]) -> Result<(), Fail> {

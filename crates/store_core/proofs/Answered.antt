@@ -10,16 +10,15 @@ use Rattle.std.proofs.Math.Path.{fun_ext}
 use Rattle.volume_model.specs.Volumes.{Fixed, Volume, Volumes, head_of}
 use Rattle.volume_model.specs.Xattrs.{Xattrs, value_of, with_value, without}
 use Rattle.volume_model.specs.Refusals.{refusal}
-use Rattle.volume_model.specs.Steps.{Allowed, change, edited_at, volume_at}
-use Rattle.volume_model.specs.declared.command.VolumeRef.TheVariants.{Head}
+use Rattle.volume_model.specs.Steps.{Allowed, change, edited_at, named_head, volume_at}
+use Rattle.volume_model.specs.declared.command.VolumeRef.{VolumeRef}
 use Rattle.volume_model.specs.declared.command.Command.{Command}
 use Rattle.volume_model.specs.declared.command.Command.TheVariants as c
 use Rattle.volume_model.specs.declared.reply.Df.{Df}
 use Rattle.volume_model.specs.declared.reply.Reply.{Reply}
 use Rattle.volume_model.specs.declared.reply.Reply.TheVariants as r
 use Rattle.blob_meta.specs.declared.meta.Meta.{Meta}
-use Rattle.blob_meta.specs.Asked.{asked_head, IsAttributeCause, ShowsBlob}
-use Rattle.blob_meta.specs.Parents.{is_read_only}
+use Rattle.blob_meta.specs.Asked.{IsAttributeCause, ShowsLive}
 use Rattle.store_model.specs.Maps.{Map, with_entry}
 use Rattle.store_model.specs.Shown.{fixed_of, volume_of}
 use Rattle.store_model.specs.Cases.{IsQuiet}
@@ -32,7 +31,7 @@ use Rattle.store_model.proofs.Synced.{edited_here, edited_there}
 use Rattle.store_core.specs.declared.answering.Effect.{Effect}
 use Rattle.store_core.specs.declared.answering.NewLive.{NewLive}
 use Rattle.store_core.proofs.Maps.{insert_given}
-use Rattle.store_core.specs.Answering.{ComesTo, DoesVerb, IsOnAttributes}
+use Rattle.store_core.specs.Answering.{ComesTo, DoesVerb, IsAsked}
 
 -- ---- what a running store shows of a blob
 
@@ -50,24 +49,6 @@ module _ (first : Volumes) (p : StoreState) (well : RunsWell first p) where
   -- the live attributes are those of the volumes
   pub live_same : live_of (shown p) ≡ p.live
   live_same = fun_ext (λ h. live_at h (resolved p.base h) refl)
-
-  read_only_at : (h : ℕ) (o : Option Meta) → option_map (λ (x : Volume). x.read_only)
-      (by_live h (or_empty (p.live h)) o) ≡ option_map (λ (m : Meta). is_read_only m.flags) o
-  read_only_at h None = refl
-  read_only_at h (Some m) = refl
-
-  -- they show the blob that a command names
-  pub shows_blob : (metas : map.FinMap nat_cmp Meta) (command : Command) (head : ℕ) → resolved p.base ≡ map.get metas
-      → asked_head command ≡ Some head → ShowsBlob metas (p.live head) command (shown p)
-  shows_blob metas command head base named = record {
-    live_is = ap (λ o. option_map (λ (x : Volume). x.live) (option_and_then (shown p) o)) named
-        ∙ live_at head (resolved p.base head) refl;
-    read_only_is = ap (λ o. option_map (λ (x : Volume). x.read_only) (option_and_then (shown p) o)) named
-        ∙ read_only_at head (resolved p.base head)
-        ∙ ap (λ (m : Map Meta). option_map (λ (x : Meta). is_read_only x.flags) (m head)) base
-        ∙ ap (λ o. option_map (λ (m : Meta). is_read_only m.flags) (option_and_then (λ h. map.get metas h) o))
-        (sym named);
-  }
 
 -- ---- what an effect is
 
@@ -122,78 +103,62 @@ module _ (f : Fixed) (v : Volumes) where
     pub found : (x : Volume) × (v head ≡ Some x) × (x.live ≡ mine)
     found = at_head (v head) refl (ap (λ (m : Map Xattrs). m head) same ∙ is)
 
-    pub meant : head_of f v (Head head) ≡ Some head
-    meant = let there = found.1 in rw there refl
-
-    changed : (new : Xattrs → Xattrs) → with_entry live head (new mine)
-        ≡ live_of (edited_at f v (head_of f v (Head head)) (λ x. record x { live = new x.live }))
-    changed new = fun_ext (λ k. elim (cases_eq k head) [
+    -- of which one edits the live attributes
+    changed : (volume : VolumeRef) → head_of f v volume ≡ Some head → (new : Xattrs → Xattrs)
+        → with_entry live head (new mine)
+        ≡ live_of (edited_at f v (head_of f v volume) (λ x. record x { live = new x.live }))
+    changed volume meant new = fun_ext (λ k. elim (cases_eq k head) [
       | inl e ↦
           given_here live head (new mine) k e ∙ ap (λ (xs : Xattrs). Some (new xs)) (sym found.2)
           ∙ ap
           (λ o. option_map (λ (x : Volume). x.live) (option_map (λ (x : Volume). record x { live = new x.live }) o))
           (sym found.1)
           ∙ ap (λ o. option_map (λ (x : Volume). x.live) o) (sym
-          (edited_here f v (head_of f v (Head head)) (λ (x : Volume). record x { live = new x.live }) head meant))
-          ∙ ap (λ h. live_of (edited_at f v (head_of f v (Head head)) (λ x. record x { live = new x.live })) h) (sym e)
+          (edited_here f v (head_of f v volume) (λ (x : Volume). record x { live = new x.live }) head meant))
+          ∙ ap (λ h. live_of (edited_at f v (head_of f v volume) (λ x. record x { live = new x.live })) h) (sym e)
       | inr ne ↦
           given_elsewhere live head (new mine) k ne ∙ ap (λ (m : Map Xattrs). m k) (sym same)
-          ∙ ap (λ o. option_map (λ (x : Volume). x.live) o) (sym (edited_there f v (head_of f v (Head head))
+          ∙ ap (λ o. option_map (λ (x : Volume). x.live) o) (sym (edited_there f v (head_of f v volume)
           (λ (x : Volume). record x { live = new x.live }) head meant k ne))
     ])
 
-    done : (command : Command) (reply : Reply) (new : Option NewLive) → asked_head command ≡ Some head
-        → refusal f v command ≡ None → DoesVerb (Some mine) command reply new → Answered f v live command reply new
-    done (c.SetX (Head h) key value) reply new named none does =
-        let e : h ≡ head = cc named in
-        let whole : Answered f v live (c.SetX (Head h) key value) r.Ok
-        (Some (record { head = h; xattrs = with_value mine key value })) =
-        record {
-          allowed = (none, tt);
-          quiet = tt;
-          live_is = subst (λ k. with_entry live k (with_value mine key value)
-              ≡ live_of (edited_at f v (head_of f v (Head k)) (λ x. record x { live = with_value x.live key value })))
-              (sym e) (changed (λ xs. with_value xs key value));
-        } in
-        subst (λ (x : Reply). Answered f v live (c.SetX (Head h) key value) x new) (sym does.0)
-        (subst (λ (n : Option NewLive). Answered f v live (c.SetX (Head h) key value) r.Ok n) (sym does.1) whole)
-    done (c.DelX (Head h) key) reply new named none does =
-        let e : h ≡ head = cc named in
-        let whole : Answered f v live (c.DelX (Head h) key) r.Ok
-        (Some (record { head = h; xattrs = without mine key })) =
-        record {
-          allowed = (none, tt);
-          quiet = tt;
-          live_is = subst (λ k. with_entry live k (without mine key)
-              ≡ live_of (edited_at f v (head_of f v (Head k)) (λ x. record x { live = without x.live key }))) (sym e)
-              (changed (λ xs. without xs key));
-        } in
-        subst (λ (x : Reply). Answered f v live (c.DelX (Head h) key) x new) (sym does.0)
-        (subst (λ (n : Option NewLive). Answered f v live (c.DelX (Head h) key) r.Ok n) (sym does.1) whole)
-    done (c.GetX (Head h) key) reply new named none does =
-        let e : h ≡ head = cc named in
+    done : (command : Command) (reply : Reply) (new : Option NewLive) → named_head f v command ≡ Some head
+        → refusal f v command ≡ None → DoesVerb head mine command reply new → Answered f v live command reply new
+    done (c.SetX volume key value) reply new meant none does =
+        let whole : Answered f v live (c.SetX volume key value) r.Ok
+        (Some (record { head = head; xattrs = with_value mine key value })) =
+        record { allowed = (none, tt); quiet = tt; live_is = changed volume meant (λ xs. with_value xs key value) } in
+        subst (λ (x : Reply). Answered f v live (c.SetX volume key value) x new) (sym does.0)
+        (subst (λ (n : Option NewLive). Answered f v live (c.SetX volume key value) r.Ok n) (sym does.1) whole)
+    done (c.DelX volume key) reply new meant none does =
+        let whole : Answered f v live (c.DelX volume key) r.Ok
+        (Some (record { head = head; xattrs = without mine key })) =
+        record { allowed = (none, tt); quiet = tt; live_is = changed volume meant (λ xs. without xs key) } in
+        subst (λ (x : Reply). Answered f v live (c.DelX volume key) x new) (sym does.0)
+        (subst (λ (n : Option NewLive). Answered f v live (c.DelX volume key) r.Ok n) (sym does.1) whole)
+    done (c.GetX volume key) reply new meant none does =
         let value = does.1.0 in
-        let at : option_and_then (λ (x : Volume). value_of x.live key) (volume_at f v (Head h)) ≡ Some value =
-        ap (λ k. option_and_then (λ (x : Volume). value_of x.live key) (option_and_then v (head_of f v (Head k)))) e
-        ∙ ap (λ o. option_and_then (λ (x : Volume). value_of x.live key) (option_and_then v o)) meant
+        let at : option_and_then (λ (x : Volume). value_of x.live key) (volume_at f v volume) ≡ Some value =
+        ap (λ o. option_and_then (λ (x : Volume). value_of x.live key) (option_and_then v o)) meant
         ∙ ap (λ o. option_and_then (λ (x : Volume). value_of x.live key) o) found.1
         ∙ ap (λ (xs : Xattrs). value_of xs key) found.2 ∙ does.1.2 in
-        let whole : Answered f v live (c.GetX (Head h) key) (r.Value value) None =
+        let whole : Answered f v live (c.GetX volume key) (r.Value value) None =
         record { allowed = (none, at); quiet = tt; live_is = sym same } in
-        subst (λ (x : Reply). Answered f v live (c.GetX (Head h) key) x new) (sym does.1.1) (subst
-        (λ (n : Option NewLive). Answered f v live (c.GetX (Head h) key) (r.Value value) n) (sym does.0) whole)
-    done _ reply new named none does = absurd does
+        subst (λ (x : Reply). Answered f v live (c.GetX volume key) x new) (sym does.1.1) (subst
+        (λ (n : Option NewLive). Answered f v live (c.GetX volume key) (r.Value value) n) (sym does.0) whole)
+    done _ reply new meant none does = absurd does
 
 -- ---- an effect in the volumes that are shown
 
-pub answered_by : (first : Volumes) (p : StoreState) (metas : map.FinMap nat_cmp Meta) (command : Command) (head : ℕ)
-    (e : Effect) → RunsWell first p → resolved p.base ≡ map.get metas → asked_head command ≡ Some head
-    → IsInMemory command
-    → ComesTo metas (p.live head) command p.super e
+pub answered_by : (first : Volumes) (p : StoreState) (metas : map.FinMap nat_cmp Meta) (command : Command)
+    (head : Option ℕ) (xattrs : Option Xattrs) (e : Effect) → RunsWell first p → IsInMemory command
+    → named_head (fixed_of p.super) (shown p) command ≡ head → xattrs ≡ option_and_then p.live head
+    → ShowsLive metas p.super xattrs command (fixed_of p.super) (shown p)
+    → ComesTo metas p.super head xattrs command e
     → Answered (fixed_of p.super) (shown p) p.live command e.reply e.live
-answered_by first p metas command head e well base named in_memory (inl x) =
+answered_by first p metas command head xattrs e well in_memory named live_is shows (inl x) =
     let f = fixed_of p.super in
-    let is = x.first f (shown p) refl (shows_blob first p well metas command head base named) in
+    let is = x.first f (shown p) shows in
     let allowed = refused_allowed f (shown p) command e.reply x.cause is in
     record {
       allowed = allowed.0;
@@ -201,16 +166,12 @@ answered_by first p metas command head e well base named in_memory (inl x) =
       live_is = ap (live_after p.live) x.none ∙ sym (live_same first p well)
           ∙ ap live_of (sym (refused_same f (shown p) command e.reply in_memory x.cause));
     }
-answered_by first p metas command head e well base named in_memory (inr x) = by (p.live head) refl x.does
-  where
-    none : refusal (fixed_of p.super) (shown p) command ≡ None
-    none = x.none (fixed_of p.super) (shown p) refl (shows_blob first p well metas command head base named)
-
-    by : (o : Option Xattrs) → p.live head ≡ o → DoesVerb o command e.reply e.live
-        → Answered (fixed_of p.super) (shown p) p.live command e.reply e.live
-    by None is does = absurd does
-    by (Some mine) is does = done (fixed_of p.super) (shown p) p.live
-        (live_same first p well) head mine is command e.reply e.live named none does
+answered_by first p metas command head xattrs e well in_memory named live_is shows (inr x) =
+    let f = fixed_of p.super in
+    let here : p.live x.at ≡ Some x.mine =
+    ap (λ o. option_and_then p.live o) (sym x.head_is) ∙ sym live_is ∙ x.live_is in
+    done f (shown p) p.live (live_same first p well) x.at x.mine here command e.reply e.live (named ∙ x.head_is)
+    (x.none f (shown p) shows) x.does
 
 -- an answer that changes no volume
 unchanging : (first : Volumes) (p : StoreState) → RunsWell first p → (command : Command) (reply : Reply)
@@ -243,15 +204,15 @@ answered_df first p command df well is =
     (unchanging first p well c.Df (r.Df df) (refl, tt) tt refl)
 
 -- a command on attributes says nothing of what is free
-pub not_df : (f : Fixed) (v : Volumes) (command : Command) (reply : Reply) → IsOnAttributes command
+pub not_df : (f : Fixed) (v : Volumes) (command : Command) (reply : Reply) → IsAsked command
     → Allowed f v command reply → (df : Df) → reply ≡ r.Df df → ⊥
 not_df f v (c.SetX volume key value) reply on allowed df is =
     (subst (Allowed f v (c.SetX volume key value)) is allowed).1
 not_df f v (c.DelX volume key) reply on allowed df is = (subst (Allowed f v (c.DelX volume key)) is allowed).1
 not_df f v (c.GetX volume key) reply on allowed df is = (subst (Allowed f v (c.GetX volume key)) is allowed).1
-not_df f v (c.Info volume) reply on allowed df is = absurd (cc on.0)
-not_df f v c.List reply on allowed df is = absurd (cc on.0)
-not_df f v c.Df reply on allowed df is = absurd (cc on.0)
+not_df f v (c.Info volume) reply on allowed df is = absurd on.0
+not_df f v c.List reply on allowed df is = absurd on.0
+not_df f v c.Df reply on allowed df is = absurd on.0
 not_df f v _ reply on allowed df is = absurd on.1
 
 -- the map of live attributes, once the new ones are kept

@@ -10,7 +10,6 @@ use Rattle.volume_model.specs.Xattrs.{Text, Xattrs}
 use Rattle.volume_model.specs.Volumes.{Fixed, two_xattrs, Volumes}
 use Rattle.volume_model.specs.declared.command.Command.TheVariants as c
 use Rattle.volume_model.specs.declared.reply.Reply.TheVariants as r
-use Rattle.md_chain.specs.Chain.{is_among}
 use Rattle.blob_meta.specs.declared.meta.Meta.{Meta}
 use Rattle.blob_meta.specs.Jobs.{create_job, new_meta}
 use Rattle.blob_meta.specs.ShownBy.{IsFirstRefusal, ShowsMetas}

@@ -5,16 +5,17 @@ use Rattle.page_disk.specs.declared.disk.PageDisk.{Ghosts}
 use Rattle.volume_model.specs.Xattrs.{Text, Xattrs, with_value}
 use Rattle.volume_model.specs.Names.{IsName}
 use Rattle.volume_model.specs.Volumes.{Fixed, two_xattrs, Volumes}
-use Rattle.volume_model.specs.declared.command.VolumeRef.TheVariants.{Head}
+use Rattle.volume_model.specs.declared.command.VolumeRef.{VolumeRef}
 use Rattle.volume_model.specs.declared.command.Command.{Command}
 use Rattle.volume_model.specs.declared.command.Command.TheVariants as c
 use Rattle.blob_meta.specs.declared.meta.Meta.{Meta}
-use Rattle.blob_meta.specs.Asked.{asked_head, IsFirstCause, IsLiveOf, ShowsBlob}
+use Rattle.blob_meta.specs.Asked.{IsFirstCause, IsLiveOf, ShowsLive}
 use Rattle.blob_meta.specs.Jobs.{create_job}
-use Rattle.blob_meta.specs.ShownBy.{IsFirstRefusal, ShowsMetas}
+use Rattle.blob_meta.specs.ShownBy.{IsFirstRefusal, IsHeadMeant, ShowsMetas}
 use Rattle.store_model.specs.Shown.{fixed_of}
 use Rattle.store_model.specs.StoreState.{shown}
 use Rattle.store_model.specs.Asking.{AsksFor}
+use Rattle.store_core.specs.Answering.{IsFound}
 use Rattle.store_core.specs.Begins.{IsJobOf}
 use Rattle.store_core.specs.LoadedWhole.{IsNextHead}
 use Rattle.store_core.specs.StoreInvariant.{IsRunning}
@@ -27,24 +28,29 @@ pub record HasBlob {D : Type 0} (p : StoreView D) (head : ℕ) (old : Meta) (liv
 
 -- a store that runs on such a device
 pub record PlanLaws {D : Type 0} (d : Ghosts D) : Type 0 where
-  -- a blob has live attributes exactly where it has metadata,
-  pub live : (p : StoreView D) (command : Command) (head : ℕ) → IsRunning (state_of d p) → p.stopped ≡ None
-      → asked_head command ≡ Some head → IsLiveOf p.metas (map.get p.live head) command
-  -- and is shown with these
-  pub shows : (p : StoreView D) (command : Command) (head : ℕ) → IsRunning (state_of d p) → p.stopped ≡ None
-      → asked_head command ≡ Some head → ShowsBlob p.metas (map.get p.live head) command (shown (state_of d p))
+  -- What is found of the volume that a command names has live attributes exactly where the volume is there,
+  pub live : (p : StoreView D) (command : Command) (head : Option ℕ) (xattrs : Option Xattrs)
+      → IsRunning (state_of d p) → p.stopped ≡ None → IsFound p.metas p.super p.live command head xattrs
+      → IsLiveOf p.metas p.super xattrs command
+  -- and these are the ones that the store shows of it.
+  pub shows : (p : StoreView D) (command : Command) (head : Option ℕ) (xattrs : Option Xattrs)
+      → IsRunning (state_of d p) → p.stopped ≡ None → IsFound p.metas p.super p.live command head xattrs
+      → ShowsLive p.metas p.super xattrs command (fixed_of p.super) (shown (state_of d p))
   -- All volumes that it shows show its metadata.
   pub shows_all : (p : StoreView D) → IsRunning (state_of d p) → p.stopped ≡ None
       → ShowsMetas (fixed_of p.super) p.super p.metas (shown (state_of d p))
   -- a put that nothing refuses asks for the metadata with the live attributes, one of them set,
-  pub put : (p : StoreView D) (head : ℕ) (key value : Text) (old : Meta) (live : Xattrs)
+  pub put : (p : StoreView D) (volume : VolumeRef) (head : ℕ) (key value : Text) (old : Meta) (live : Xattrs)
       → IsRunning (state_of d p) → p.stopped ≡ None → HasBlob p head old live
-      → IsFirstCause p.metas (Some live) (c.Put (Head head) key value) p.super None
-      → AsksFor (state_of d p) (c.Put (Head head) key value) head (record old { xattrs = with_value live key value })
+      → IsHeadMeant p.metas p.super volume (Some head)
+      → IsFirstCause p.metas p.super (Some live) (c.Put volume key value) None
+      → AsksFor (state_of d p) (c.Put volume key value) head (record old { xattrs = with_value live key value })
   -- and a sync for that with the live ones
-  pub sync : (p : StoreView D) (head : ℕ) (old : Meta) (live : Xattrs) → IsRunning (state_of d p) → p.stopped ≡ None
-      → HasBlob p head old live → IsFirstCause p.metas (Some live) (c.Sync (Head head)) p.super None
-      → AsksFor (state_of d p) (c.Sync (Head head)) head (record old { xattrs = live })
+  pub sync : (p : StoreView D) (volume : VolumeRef) (head : ℕ) (old : Meta) (live : Xattrs)
+      → IsRunning (state_of d p) → p.stopped ≡ None → HasBlob p head old live
+      → IsHeadMeant p.metas p.super volume (Some head)
+      → IsFirstCause p.metas p.super (Some live) (c.Sync volume) None
+      → AsksFor (state_of d p) (c.Sync volume) head (record old { xattrs = live })
   -- A create of a thin volume that nothing refuses asks for a blob at the head that is next, with the attributes that
   -- a new volume has beside those that are shown.
   pub create : (p : StoreView D) (name : Text) (slots : ℕ) (uuid : Option (List ℕ)) (head : ℕ) (xattrs : Xattrs)

@@ -2,12 +2,13 @@
 
 ghost use Rattle.std.specs.Prelude.{◌≡◌, ◌<◌, Some, None, option_copied, IfOk, IfSome, IsSome};
 ghost use Rattle.std.specs.FinMap as map;
-ghost use Rattle.blob_meta.specs.Asked.{HasValue, IsOnHead, IsLiveOf};
+ghost use Rattle.std.specs.Option.{option_and_then};
+ghost use Rattle.blob_meta.specs.Asked.{HasValue, IsLiveOf, IsOnAttributes};
 ghost use Rattle.store_model.specs.Cases.{IsInMemory};
 ghost use Rattle.store_model.specs.Cases as kind;
 ghost use Rattle.volume_model.specs.declared.command.Command.TheVariants.{Df as DfCommand};
 ghost use Rattle.super_block.specs.Faults.{IsFaultless};
-ghost use Rattle.store_core.specs.Answering.{ComesTo, DoesVerb, IsAnswerable, IsOnAttributes};
+ghost use Rattle.store_core.specs.Answering.{ComesTo, DoesVerb, IsAnswerable, IsAsked};
 ghost use Rattle.store_core.specs.StoreInvariant.{IsRunning};
 ghost use Rattle.store_core.specs.TurnMade.{TurnMade};
 ghost use Rattle.store_core.specs.Running.{view_of, InOrder};
@@ -18,12 +19,12 @@ use crate::logging::log;
 use crate::refusing::halt;
 use crate::rows::first_of;
 use crate::running::Running;
-use blob_meta::{HeadMap, Metas, asked_head, refusal_of};
+use blob_meta::{HeadMap, Metas, asked_volume, find, refusal_of};
 use out_of_memory::Memory;
 use page_disk::PageDisk;
 use std::alloc::Global;
 use super_block::Super;
-use volume_model::{Command, Reply, TryCopy, VolumeRef, XattrList};
+use volume_model::{Command, Reply, TryCopy, XattrList};
 
 /// New live attributes of the blob at a head.
 #[derive(Drop)]
@@ -39,39 +40,39 @@ pub(crate) struct Effect {
     pub(crate) live: Option<NewLive>,
 }
 
-/// The effect of a command that nothing refuses.
-fn done(alloc: Global, live: &XattrList, command: &Command) -> Result<Effect, Memory>
-    requires on_head { IsOnHead command.now }
+/// The live attributes of the blob at a head, if a head is given and a blob is there.
+pub(crate) fn live_at(live: &HeadMap<XattrList>, head: Option<u32>) -> Option<&XattrList>
+    ensures { option_copied result ≡ option_and_then (λ h. map.get live.now h) head }
+{
+    match head {
+        Some(head) => live.get(head),
+        None => None,
+    }
+}
+
+/// The effect of a command that nothing refuses, on the volume at a head.
+fn done(alloc: Global, head: u32, live: &XattrList, command: &Command) -> Result<Effect, Memory>
+    requires attributes { IsOnAttributes command.now }
     requires in_memory { IsInMemory command.now }
     requires found { HasValue (Some live.now) command.now }
-    ensures { IfOk result (λ e. DoesVerb (Some live.now) command.now e.reply e.live) }
+    ensures { IfOk result (λ e. DoesVerb head live.now command.now e.reply e.live) }
 {
     match command {
-        Command::SetX {
-            volume: VolumeRef::Head(head),
-            key,
-            value,
-        } => Ok(Effect {
+        Command::SetX { key, value, .. } => Ok(Effect {
             reply: Reply::Ok,
             live: Some(NewLive {
-                head: *head,
+                head,
                 xattrs: live.with_value(alloc, key.bytes(), value.bytes())?,
             }),
         }),
-        Command::DelX {
-            volume: VolumeRef::Head(head),
-            key,
-        } => Ok(Effect {
+        Command::DelX { key, .. } => Ok(Effect {
             reply: Reply::Ok,
             live: Some(NewLive {
-                head: *head,
+                head,
                 xattrs: live.without(alloc, key.bytes())?,
             }),
         }),
-        Command::GetX {
-            volume: VolumeRef::Head(_),
-            key,
-        } => match live.value_of(key.bytes()) {
+        Command::GetX { key, .. } => match live.value_of(key.bytes()) {
             Some(value) => Ok(Effect {
                 reply: Reply::Value(value.try_copy(alloc)?),
                 live: None,
@@ -82,25 +83,28 @@ fn done(alloc: Global, live: &XattrList, command: &Command) -> Result<Effect, Me
     }
 }
 
-/// What a command on the attributes of a blob comes to, that is answered in memory.
+/// What a command on attributes comes to, that is answered in memory, where the volume that it names is found at `head`
+/// with these live attributes.
 pub(crate) fn effect_of(
     alloc: Global,
     metas: &Metas,
     sup: &Super,
+    head: Option<u32>,
     live: Option<&XattrList>,
     command: &Command,
 ) -> Result<Effect, Memory>
-    requires on_head { IsOnHead command.now }
+    requires attributes { IsOnAttributes command.now }
     requires in_memory { IsInMemory command.now }
-    requires live { IsLiveOf metas.now (option_copied live) command.now }
-    ensures { IfOk result (ComesTo metas.now (option_copied live.entry) command.now sup.now) }
+    requires live { IsLiveOf metas.now sup.now (option_copied live) command.now }
+    requires head { IsSome (option_copied live) → IsSome head }
+    ensures { IfOk result (ComesTo metas.now sup.now head (option_copied live.entry) command.now) }
 {
     if let Some(reply) = refusal_of(metas, sup, live, command) {
         return Ok(Effect { reply, live: None });
     }
-    match live {
-        Some(live) => done(alloc, live, command),
-        None => unreachable!(),
+    match (head, live) {
+        (Some(head), Some(live)) => done(alloc, head, live, command),
+        _ => unreachable!(),
     }
 }
 
@@ -118,13 +122,13 @@ fn keep_live(live: &mut HeadMap<XattrList>, new: Option<NewLive>)
     }
 }
 
-/// Answers the posted command of a channel on a blob's attributes: its reply is logged, and new live attributes are
+/// Answers the posted command of a channel on a volume's attributes: its reply is logged, and new live attributes are
 /// kept.
 fn answer_on_attributes<D: PageDisk>(running: &mut Running<D>, channel: u8)
     requires order { InOrder D.PageDisk running.old }
     requires channel { channel < 16 }
     requires posted { IsPostedAt (view_of running.old) channel }
-    requires on_attributes { Asks (view_of running.old) channel IsOnAttributes }
+    requires asked { Asks (view_of running.old) channel IsAsked }
     requires running { IsRunning (state_of D.PageDisk (view_of running.old)) }
     requires runs { running.old.stopped ≡ None }
     requires no_job { running.old.job ≡ None }
@@ -134,8 +138,16 @@ fn answer_on_attributes<D: PageDisk>(running: &mut Running<D>, channel: u8)
     ensures order { InOrder D.PageDisk running.new }
 {
     let command = first_of(&running.rows, channel);
-    let live = running.live.get(asked_head(command));
-    match effect_of(running.alloc, &running.metas, &running.sup, live, command) {
+    let head = find(&running.metas, &running.sup, asked_volume(command));
+    let live = live_at(&running.live, head);
+    match effect_of(
+        running.alloc,
+        &running.metas,
+        &running.sup,
+        head,
+        live,
+        command,
+    ) {
         Ok(Effect { reply, live }) => {
             keep_live(&mut running.live, live);
             log(running, channel, reply);

@@ -1,6 +1,24 @@
 use Rattle.std.specs.Option.{option_copied}
-use Rattle.blob_tool.proofs.Planned.{create_plan, is_running, put_plan, sync_plan}
+use Rattle.blob_tool.proofs.Planned.{create_plan, is_running, live_given, put_plan, sync_plan}
 use Rattle.blob_tool.proofs.serving.planned.Goals as goal
+
+pub plan_put-requires-clause-live : goal.plan_put-requires-clause-live
+plan_put-requires-clause-live g c =
+    let d = g.D.PageDisk in
+    let p = c.args.plant.now.at in
+    let running = is_running d c.args.plant.now c.keeps.ensures in
+    live_given d c.plans.ensures p running c.requires.runs c.metas-metas.result.now c.sup-sup.result.now
+    (option_copied c.live_of-live.result) c.metas-metas.ensures c.sup-sup.ensures c.args.command.now
+    c.live_of-live.ensures.0 c.live_of-live.ensures.1
+
+pub plan_sync-requires-clause-live : goal.plan_sync-requires-clause-live
+plan_sync-requires-clause-live g c =
+    let d = g.D.PageDisk in
+    let p = c.args.plant.now.at in
+    let running = is_running d c.args.plant.now c.keeps.ensures in
+    live_given d c.plans.ensures p running c.requires.runs c.metas-metas.result.now c.sup-sup.result.now
+    (option_copied c.live_of-live-in-Sync.result) c.metas-metas.ensures c.sup-sup.ensures c.args.command.now
+    c.live_of-live-in-Sync.ensures.0 c.live_of-live-in-Sync.ensures.1
 
 pub returns-in-Put : goal.returns-in-Put
 returns-in-Put g c =
@@ -9,7 +27,7 @@ returns-in-Put g c =
     let running = is_running d c.args.plant.now c.keeps.ensures in
     put_plan d c.plans.ensures p running c.requires.runs c.metas-metas.result.now c.sup-sup.result.now
     (option_copied c.live_of-live.result) c.metas-metas.ensures c.sup-sup.ensures c.args.command.now c.in-Put.volume
-    c.in-Put.key c.in-Put.value c.in-Put.is c.live_of-live.ensures c.requires.served c.plan_put.result
+    c.in-Put.key c.in-Put.value c.in-Put.is c.live_of-live.ensures.0 c.live_of-live.ensures.1 c.plan_put.result
     c.plan_put.ensures.job c.plan_put.ensures.unrefused c.plan_put.ensures.refused
 
 pub returns-in-Sync : goal.returns-in-Sync
@@ -19,7 +37,7 @@ returns-in-Sync g c =
     let running = is_running d c.args.plant.now c.keeps.ensures in
     sync_plan d c.plans.ensures p running c.requires.runs c.metas-metas.result.now c.sup-sup.result.now
     (option_copied c.live_of-live-in-Sync.result) c.metas-metas.ensures c.sup-sup.ensures c.args.command.now
-    c.in-Sync.volume c.in-Sync.is c.live_of-live-in-Sync.ensures c.requires.served c.plan_sync.result
+    c.in-Sync.volume c.in-Sync.is c.live_of-live-in-Sync.ensures.0 c.live_of-live-in-Sync.ensures.1 c.plan_sync.result
     c.plan_sync.ensures.job c.plan_sync.ensures.unrefused c.plan_sync.ensures.refused
 
 pub returns-in-Create : goal.returns-in-Create

@@ -2,8 +2,8 @@ use Rattle.std.proofs.Common.{◌∙◌, ap, inl, inr}
 use Rattle.store_core.specs.StoreView.{rows_of}
 use Rattle.store_core.proofs.answering.answer.Goals as goal
 
-pub answer_on_attributes-requires-clause-on_attributes : goal.answer_on_attributes-requires-clause-on_attributes
-answer_on_attributes-requires-clause-on_attributes g c command rest left =
+pub answer_on_attributes-requires-clause-asked : goal.answer_on_attributes-requires-clause-asked
+answer_on_attributes-requires-clause-asked g c command rest left =
     elim (c.requires.answerable command rest left) [
       | inl on ↦ on
       | inr df ↦

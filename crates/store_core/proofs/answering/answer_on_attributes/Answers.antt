@@ -1,22 +1,19 @@
-use Rattle.store_model.proofs.Shows.{alone_resolved}
-use Rattle.std.proofs.Common.{◌<◌, Option, List, length, refl, sym, ◌∙◌, ap, subst, arith}
-use Rattle.std.specs.FinMap as map
-use Rattle.std.specs.Option.{option_map}
-use Rattle.blob_meta.specs.Asked.{asked_head, IsLiveOf}
-use Rattle.volume_model.specs.Xattrs.{Xattrs}
+use Rattle.std.proofs.Common.{◌<◌, List, length, refl, sym, ◌∙◌, ap, subst, arith}
+use Rattle.std.specs.Option.{option_copied, option_map}
+use Rattle.blob_meta.specs.Asked.{asked_volume, IsOnAttributes}
 use Rattle.volume_model.specs.declared.command.Command.{Command}
 use Rattle.volume_model.specs.declared.reply.Reply.TheVariants.{Memory}
 use Rattle.store_model.specs.Rows.{Row}
 use Rattle.store_model.specs.Cases.{IsInMemory}
 use Rattle.store_model.specs.Shown.{fixed_of}
 use Rattle.store_model.specs.StoreState.{shown}
-use Rattle.store_core.specs.Answering.{ComesTo}
+use Rattle.store_core.specs.Answering.{ComesTo, IsFound}
 use Rattle.store_core.specs.Jobs.{job_seen}
 use Rattle.store_core.specs.Running.{view_of}
 use Rattle.store_core.specs.StoreView.{rows_of, state_of}
 use Rattle.store_core.proofs.AnswerMade.{answer_made}
 use Rattle.store_core.proofs.Answered.{answered_by, answered_memory, live_kept, not_df}
-use Rattle.store_core.proofs.Planning.{is_live_of}
+use Rattle.store_core.proofs.Found.{asks_volume, is_live_of, named_asked, shows_live}
 use Rattle.store_core.proofs.answering.answer_on_attributes.Goals as goal
 
 pub effect_of-requires-clause-in_memory : goal.effect_of-requires-clause-in_memory
@@ -25,17 +22,38 @@ effect_of-requires-clause-in_memory g c =
     let left = ap (λ (r : Row). r.left) waits.row in
     let seen = ap (λ (l : List Row). (rows_of l c.args.channel).left) c.deref.ensures.value ∙ left in
     subst IsInMemory (sym (c.first_of-command.ensures waits.command waits.rest seen))
-    (c.requires.on_attributes waits.command waits.rest left).1
+    (c.requires.asked waits.command waits.rest left).1
+
+pub effect_of-requires-clause-attributes : goal.effect_of-requires-clause-attributes
+effect_of-requires-clause-attributes g c =
+    let waits = c.requires.posted.waits in
+    let left = ap (λ (r : Row). r.left) waits.row in
+    let seen = ap (λ (l : List Row). (rows_of l c.args.channel).left) c.deref.ensures.value ∙ left in
+    subst IsOnAttributes (sym (c.first_of-command.ensures waits.command waits.rest seen))
+    (c.requires.asked waits.command waits.rest left).0
+
+pub asked_volume-requires : goal.asked_volume-requires
+asked_volume-requires g c =
+    let waits = c.requires.posted.waits in
+    let left = ap (λ (r : Row). r.left) waits.row in
+    let seen = ap (λ (l : List Row). (rows_of l c.args.channel).left) c.deref.ensures.value ∙ left in
+    asks_volume c.first_of-command.result.now
+    (subst IsOnAttributes (sym (c.first_of-command.ensures waits.command waits.rest seen))
+    (c.requires.asked waits.command waits.rest left).0)
 
 pub effect_of-requires-clause-live : goal.effect_of-requires-clause-live
 effect_of-requires-clause-live g c =
-    let running = c.requires.running in
-    let p = state_of g.D.PageDisk (view_of c.args.running.now) in
-    subst (λ (o : Option Xattrs). IsLiveOf c.args.running.now.metas o c.first_of-command.result.now)
-    (sym c.get-live.ensures)
-    (is_live_of running.first p (running.facts.well c.requires.runs) c.args.running.now.metas
-    (alone_resolved running.store p.base running.facts.loadable) refl c.first_of-command.result.now c.asked_head.result
-    c.asked_head.ensures)
+    let old = c.args.running.now in
+    is_live_of (state_of g.D.PageDisk (view_of old)) c.requires.running c.requires.runs old.metas refl old.live refl
+    c.first_of-command.result.now c.find-head.result (option_copied c.live_at-live.result)
+    (record {
+      volume = c.asked_volume.result.now;
+      asked = c.asked_volume.ensures;
+      there = c.find-head.ensures.some;
+      not_there = c.find-head.ensures.none;
+      meant = c.find-head.ensures.meant;
+      live_is = c.live_at-live.ensures;
+    })
 
 pub returns-in-Err-clause-case : goal.returns-in-Err-clause-case
 returns-in-Err-clause-case g c =
@@ -44,7 +62,7 @@ returns-in-Err-clause-case g c =
     let waits = c.requires.posted.waits in
     let left = ap (λ (r : Row). r.left) waits.row in
     let low : c.args.channel < length old.rows.items = omega (arith, c.requires.channel, c.requires.order.sixteen) in
-    let on = c.requires.on_attributes waits.command waits.rest left in
+    let on = c.requires.asked waits.command waits.rest left in
     let well = c.requires.running.facts.well c.requires.runs in
     let x = answered_memory c.requires.running.first (state_of d (view_of old)) waits.command well on.1 in
     answer_made d (view_of old) (view_of c.log-in-Err.new.running) c.args.channel low c.requires.posted c.requires.runs
@@ -60,17 +78,28 @@ returns-in-Ok-clause-case g c =
     let p = state_of d (view_of old) in
     let reply = c.in-Ok.field-0.reply in
     let low : c.args.channel < length old.rows.items = omega (arith, c.requires.channel, c.requires.order.sixteen) in
-    let on = c.requires.on_attributes waits.command waits.rest left in
+    let on = c.requires.asked waits.command waits.rest left in
     let well = c.requires.running.facts.well c.requires.runs in
     let seen = ap (λ (l : List Row). (rows_of l c.args.channel).left) c.deref.ensures.value ∙ left in
     let command_is = c.first_of-command.ensures waits.command waits.rest seen in
-    let comes : ComesTo old.metas (map.get old.live c.asked_head.result) waits.command old.sup c.in-Ok.field-0 =
-    subst (λ (k : Command). ComesTo old.metas (map.get old.live c.asked_head.result) k old.sup c.in-Ok.field-0)
-    command_is (subst (λ o. ComesTo old.metas o c.first_of-command.result.now old.sup c.in-Ok.field-0)
-    c.get-live.ensures c.in-Ok.ensures) in
-    let named = ap asked_head (sym command_is) ∙ c.asked_head.ensures in
-    let x = answered_by c.requires.running.first p old.metas waits.command c.asked_head.result c.in-Ok.field-0 well
-    (alone_resolved c.requires.running.store p.base c.requires.running.facts.loadable) named on.1 comes in
+    let o = option_copied c.live_at-live.result in
+    let head = c.find-head.result in
+    let comes : ComesTo old.metas old.sup head o waits.command c.in-Ok.field-0 =
+    subst (λ (k : Command). ComesTo old.metas old.sup head o k c.in-Ok.field-0) command_is c.in-Ok.ensures in
+    let found : IsFound old.metas old.sup old.live waits.command head o =
+    record {
+      volume = c.asked_volume.result.now;
+      asked = ap asked_volume (sym command_is) ∙ c.asked_volume.ensures;
+      there = c.find-head.ensures.some;
+      not_there = c.find-head.ensures.none;
+      meant = c.find-head.ensures.meant;
+      live_is = c.live_at-live.ensures;
+    } in
+    let shows = shows_live p c.requires.running c.requires.runs old.metas refl old.live refl waits.command head o found in
+    let meant = named_asked (fixed_of p.super) (shown p) waits.command found.volume found.asked
+    ∙ found.meant (fixed_of p.super) (shown p) shows.shows in
+    let x = answered_by c.requires.running.first p old.metas waits.command head o c.in-Ok.field-0 well on.1 meant
+    found.live_is shows comes in
     let kept = live_kept old.live c.keep_live.new.live c.in-Ok.field-0.live c.keep_live.ensures.none
     c.keep_live.ensures.some in
     answer_made d (view_of old) (view_of c.log.new.running) c.args.channel low c.requires.posted c.requires.runs
