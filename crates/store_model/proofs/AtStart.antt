@@ -27,12 +27,12 @@ told_reads d disk told = rw told refl
 -- an image that stands as those of a running store do comes back to the whole log
 pub stands_whole : {D : Type 0} (d : Ghosts D) → IsTrue d.tells
     → (s : Super) (first : Volumes) (script : ℕ → List Command) (p : StoreState) (disk : D)
-    → p.device ≡ device_of d disk → RunInvariant s first script p → p.stopped ≡ None
+    → p.device ≡ device_of d disk → p.tells ≡ d.tells → RunInvariant s first script p → p.stopped ≡ None
     → (image : Image) → Stands s first p.base p.chains p.log (d.now disk) image → Recovers s first p.log image
-stands_whole d told s first script p disk seen facts runs image x =
-    plant_recovers s first script p facts runs image
+stands_whole d told s first script p disk is tells facts runs image x =
+    plant_recovers s first script p facts (tells ∙ told) runs image
     (subst (λ (now : Image). Stands s first p.base p.chains p.log now image)
-    (sym (ap (λ (v : Device). v.reads) seen ∙ told_reads d disk told)) x)
+    (sym (ap (λ (v : Device). v.reads) is ∙ told_reads d disk told)) x)
 
 pub holds_loaded : (s : Super) (first : Volumes) (script : ℕ → List Command) (p : StoreState)
     → RunInvariant s first script p → (image : Image) → HoldsMetadata s p.base p.chains image → CanBeLoaded s image
@@ -51,12 +51,12 @@ holds_loaded s first script p facts image x = record {
 pub survives_start : {D : Type 0} (d : Ghosts D)
     → CrashLaws → IsTrue d.tells → (IsTrue d.tells → Telling d.now d.images d.since d.clock) → (s : Super) → IsPlaced s
     → (first : Volumes) (script : ℕ → List Command) (p : StoreState) (disk : D)
-    → p.device ≡ device_of d disk → p.log ≡ [] → p.marks ≡ d.clock disk ∷ []
+    → p.device ≡ device_of d disk → p.tells ≡ d.tells → p.log ≡ [] → p.marks ≡ d.clock disk ∷ []
     → p.stopped ≡ None → p.job ≡ None → RunInvariant s first script p → Only (d.now disk) (d.images disk)
     → HoldsMetadata s p.base p.chains (d.now disk) → Survives d s first p disk
-survives_start d laws told law s placed first script p disk seen log_is marks_is runs no_job facts one holds =
+survives_start d laws told law s placed first script p disk is tells log_is marks_is runs no_job facts one holds =
     let stands = stands_now s first p.base p.chains p.log (d.now disk) holds.store holds.says in
-    let recovers = stands_whole d told s first script p disk seen facts runs (d.now disk) stands in
+    let recovers = stands_whole d told s first script p disk is tells facts runs (d.now disk) stands in
     let back : ComesBack d s first p disk 0 (d.now disk) = (
       holds_loaded s first script p facts (d.now disk) holds,
       laws.growing.whole s first p.log 0 (d.now disk) (omega arith) recovers,

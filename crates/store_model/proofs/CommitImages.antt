@@ -19,7 +19,7 @@ use Rattle.store_model.specs.Phases.{Replacing, page_in}
 use Rattle.store_model.proofs.LeftToDo.{goes_on_as, no_place}
 
 module _ {D : Type 0} (d : Ghosts D) (x : Over d) (t : Commits d.tells x.p x.q) where
-  open x use {laws, told, s, placed, first, script, p, q, from, to, to_is, after}
+  open x use {laws, told, s, placed, first, script, p, q, from, to, to_is, to_tells, after}
 
   abbrev replacing : Replacing
   replacing = t.replacing
@@ -54,7 +54,7 @@ module _ {D : Type 0} (d : Ghosts D) (x : Over d) (t : Commits d.tells x.p x.q) 
   images does = record {
     way = head_way d x replacing t.commit t.running t.new t.new_is
         (holds_loaded s first script q after new holds_new) q.log
-        (stands_whole d told s first script q to to_is after runs_on new stands_new) (done runs_on refl);
+        (stands_whole d told s first script q to to_is to_tells after runs_on new stands_new) (done runs_on refl);
     stands = λ _ c held. subst (Stands s first q.base q.chains q.log (d.now to))
         (sym now_new ∙ sym ((does.durable refl told c).0 held)) stands_new;
     written = λ _ job is place among.

@@ -172,6 +172,7 @@ module _ (known : Known) where
 
     step : IsStep p.super p.base r p.live (c.Create name slots thick uuid) commit
     step = record {
+      metadata = tt;
       done = tt;
       allowed = allowed;
       may_fail = λ image. tt;

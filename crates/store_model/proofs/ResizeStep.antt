@@ -234,6 +234,7 @@ module _ (known : Known) where
 
     step : IsStep p.super p.base r p.live (c.Resize volume slots) commit
     step = record {
+      metadata = tt;
       done = tt;
       allowed = allowed;
       may_fail = λ image. tt;

@@ -5,7 +5,8 @@ use Rattle.std.proofs.lemmas.Bool.{cases_eq, false≢true}
 use Rattle.store_model.specs.StoreState.{StoreState, live_of, shown}
 use Rattle.store_model.specs.RunInvariant.{RunsWell}
 use Rattle.store_model.specs.Jobs.{IsStep, shown_of}
-use Rattle.store_model.specs.Asking.{AsksFor}
+use Rattle.store_model.specs.Asking.{AsksFor, IsSyncing}
+use Rattle.store_model.specs.Rows.{IsForMetadata}
 use Rattle.store_model.proofs.Known.{Known}
 use Rattle.store_model.proofs.Moved.{all_writable, live_writable}
 use Rattle.store_model.specs.Phases.{Replacing, replaced}
@@ -27,10 +28,16 @@ use Rattle.store_model.proofs.OneReplacement.{all_loadable, base_is, base_lawful
 use Rattle.store_model.proofs.Synced.{syncs_to, shown_synced}
 use Rattle.store_model.proofs.LiveSynced.{live_synced}
 use Rattle.volume_model.specs.declared.command.Command.{Command}
+use Rattle.volume_model.specs.declared.command.Command.TheVariants as c
 
 -- what the commit of such metadata makes
 abbrev pub sync_commit : Meta → Committing
 sync_commit new = record { reply = r_.Ok; live = Some new.xattrs; renews = [] }
+
+syncs_metadata : (command : Command) → IsSyncing command → IsForMetadata command
+syncs_metadata (c.Put volume key value) is = tt
+syncs_metadata (c.Sync volume) is = tt
+syncs_metadata _ is = absurd is
 
 module _ (known : Known) where
   open known use {first, p, facts}
@@ -96,6 +103,7 @@ module _ (known : Known) where
 
     step : IsStep p.super p.base r p.live command commit
     step = record {
+      metadata = syncs_metadata command asks.syncing;
       done = tt;
       allowed = λ image. (may image).done;
       may_fail = λ image. (may image).fail;

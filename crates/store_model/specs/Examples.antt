@@ -113,6 +113,7 @@ module _ (super : Super) where
     log = [];
     marks = 10 ∷ [];
     stopped = None;
+    tells = true;
     device = device;
   }
 

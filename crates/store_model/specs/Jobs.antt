@@ -27,7 +27,7 @@ use Rattle.store_model.specs.Regions.{region_of}
 use Rattle.store_model.specs.Scans.{MetaAt}
 use Rattle.store_model.specs.Shown.{fixed_of, shown_by}
 use Rattle.store_model.specs.Recovers.{IsChangeDone}
-use Rattle.store_model.specs.Rows.{InJob}
+use Rattle.store_model.specs.Rows.{InJob, IsForMetadata}
 use Rattle.store_model.specs.Loadable.{CanBeWritten, IsLoadable}
 use Rattle.store_model.specs.Inserting.{with_slot}
 use Rattle.store_model.specs.Places.{all_set, AreDistinct, AreLeastClear, IsMapped}
@@ -187,10 +187,11 @@ Keeps s base live (Replaces r commit ∷ rest) =
     × Keeps s (replaced base r) live rest
 Keeps s base live (_ ∷ rest) = Keeps s base live rest
 
--- On whatever device, the command may be done with this reply, and may fail; then the metadata shows its step, and has
+-- On whatever device, the command, one for the metadata thread, may be done with this reply, and may fail; then the metadata shows its step, and has
 -- the blobs whose generations are renewed, a new one among them.
 pub record IsStep (s : Super) (base : Metas) (replacing : Replacing) (live : Map Xattrs) (command : Command)
     (commit : Committing) : Type 0 where
+  pub metadata : IsForMetadata command
   pub done : IsChangeDone commit.reply
   pub allowed : (image : Image) → Allowed (fixed_of s) (shown_of s base live image) command commit.reply
   pub may_fail : (image : Image) → Allowed (fixed_of s) (shown_of s base live image) command r.Fault

@@ -17,6 +17,7 @@ use Rattle.store_model.specs.Phases.{has_commit}
 use Rattle.store_model.specs.Places.{AreDistinct, ClaimsDiffer, HasClaim, held_by, UsedPages, UsedClusters}
 use Rattle.store_model.specs.Guarding.{AreClaimsDrawn, AreGenerations, IsGuarded}
 use Rattle.store_model.specs.Jobs.{JobStands}
+use Rattle.store_model.specs.Seen.{seen}
 
 -- Each blob has a chain, which begins with its head; no place stands in two chains, or twice in one; each is of the
 -- region.
@@ -74,14 +75,14 @@ pub record RunsWell (first : Volumes) (p : StoreState) : Type 0 where
   pub job : (job : JobState) → p.job ≡ Some job → JobStands p job
   pub generations : AreGenerations p.base p.generations p.drawn
   pub claims_drawn : AreClaimsDrawn p.rows p.drawn
-  pub replayed : shown p ≡ replay (fixed_of p.super) first p.log
+  pub replayed : shown p ≡ replay (fixed_of p.super) first (seen p.tells p.log)
 
 pub record RunInvariant (s : Super) (first : Volumes) (script : ℕ → List Command) (p : StoreState) : Type 0 where
   pub super : p.super ≡ s
   pub loadable : AreLoadable s p.base
   pub few : slots_together s.md_len p.base ≤ 2 ^ 24
   pub lawful : IsLawful s.md_len (resolved p.base)
-  pub legal : IsLegal (fixed_of s) first p.log
+  pub legal : IsLegal (fixed_of s) first (seen p.tells p.log)
   pub well : p.stopped ≡ None → RunsWell first p
   pub way : (channel : ℕ) → OnItsWay p script channel
   pub shaped : IsShaped p

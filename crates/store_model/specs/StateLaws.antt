@@ -60,9 +60,10 @@ pub record StateLaws : Type 0 where
       (changes : Changes) (commit : Committing) → IsPlaced s → RunInvariant s first script p → p.stopped ≡ None
       → IsJobFor p command changes commit → changes.zero ≡ [] → (x : Replacement) (new : Meta)
       → changes.list ≡ x ∷ [] → x.new ≡ Some new → x.head < s.md_len → IsLoadable s x.head new
-  -- An image with this store, which says the metadata that the store has, recovers the whole log.
+  -- On a device that tells, an image with this store, which says the metadata that the store has, recovers the whole
+  -- log.
   pub recovers : (s : Super) (first : Volumes) (script : ℕ → List Command) (p : StoreState) (image : Image) → IsPlaced s
-      → RunInvariant s first script p → p.stopped ≡ None
+      → RunInvariant s first script p → p.tells ≡ true → p.stopped ≡ None
       → HasStore s image → Says (region_of s) p.base p.chains image → IsSameBehind s p.device.reads image
       → Recovers s first p.log image
 

@@ -79,6 +79,8 @@ pub record StoreState : Type 0 where
   pub marks : List ℕ
   -- the length of the log before the turn in which a write or a flush failed
   pub stopped : Option ℕ
+  -- whether the device tells what it holds; else zeros stand for what it reads
+  pub tells : Bool
   pub device : Device
 
 -- the volumes that are shown: those of the metadata once it is resolved

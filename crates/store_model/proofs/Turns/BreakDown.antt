@@ -31,7 +31,7 @@ module _ (known : Known) (j : JobState) (is : known.p.job ≡ Some j) (at : ℕ)
         let base : StoreState = record p { job = None } in
         let now : StoreState = logged base channel command rest (r.Stopped at) p.device in
         let kept : LogKept known now =
-        log_kept known (Decided Answered) base channel command rest (r.Stopped at) p.device refl refl refl
+        log_kept known (Decided Answered) base channel command rest (r.Stopped at) p.device refl refl refl refl
         (ap (λ (row : Row). row.left) row) (omega arith) tt in
         let low = facts.halted at stands in
         let done : RunInvariant s first script now =

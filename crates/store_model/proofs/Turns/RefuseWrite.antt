@@ -13,7 +13,7 @@ use Rattle.store_model.proofs.Refusals.{RefusalsChangeNothing}
 use Rattle.store_model.proofs.Over.{answer, Effect, stays, TurnLaw}
 use Rattle.store_model.proofs.Shapes.{idles, Idles, notes, untouched_images}
 use Rattle.store_model.proofs.Shaped.{idle_may}
-use Rattle.store_model.proofs.StateKept.{allowed_here, caused_so, is_allowed, is_refusal, logged_facts, not_in_job}
+use Rattle.store_model.proofs.StateKept.{refused_here, caused_so, is_allowed, is_refusal, logged_facts, not_in_job}
 use Rattle.store_model.proofs.StateKept.{refused_same}
 use Rattle.store_model.proofs.Turns.Refuse.{refused_quiet}
 
@@ -37,7 +37,7 @@ module _ (quiet : RefusalsChangeNothing) (known : Known) where
       (logged_facts known Idle idle_may t.channel (command p q t) t.rest t.reply
       (not_in_job known _ _ t.row (λ bad. cc bad)) (λ runs. ap (λ (r : Row). r.claim) t.row)
       (ap (λ (r : Row). r.left) t.row)
-      (allowed_here known (command p q t) t.reply t.runs allowed)
+      (refused_here known (command p q t) t.reply is t.runs allowed)
       (λ runs. refused_same known quiet (command p q t) t.reply is allowed))
 
 pub law : TurnLaw case.kind

@@ -12,6 +12,6 @@ returns c = record {
       job_writable (record { s = s; placed = placed; first = first; script = script; p = p; facts = facts })
       runs command
       changes commit asked zeros x new list is low;
-  recovers = λ s first script p image placed facts runs store says same.
-      behind_recovers s first script p facts runs placed image store says same;
+  recovers = λ s first script p image placed facts told runs store says same.
+      behind_recovers s first script p facts told runs placed image store says same;
 }
