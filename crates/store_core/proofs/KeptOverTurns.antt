@@ -37,7 +37,7 @@ module _ {D : Type 0} (d : Ghosts D) (laws : CrashLaws)
         placed = placed;
         named = loaded_alike p.super (state_of d p) loaded;
         survives = λ one. survives_start d laws one.0 law p.super placed (shown (state_of d p)) (opening_script p)
-            (state_of d p) p.disk refl opens.log opens.marks opens.stopped opens.job facts one.1 (holds one.0);
+            (state_of d p) p.disk refl refl opens.log opens.marks opens.stopped opens.job facts one.1 (holds one.0);
       }
 
   module _ (p : WithOpening D) (q : StoreView D) (kind : Kind) (kept : StoreInvariant d p)
@@ -61,6 +61,8 @@ module _ {D : Type 0} (d : Ghosts D) (laws : CrashLaws)
       to = q.disk;
       from_is = refl;
       to_is = refl;
+      from_tells = refl;
+      to_tells = refl;
       old = kept.survives one;
       facts = kept.facts;
       after = facts_after;

@@ -14,6 +14,7 @@ use Rattle.blob_meta.specs.declared.meta.Meta.{Meta}
 use Rattle.blob_meta.specs.Resolving.{resolved}
 use Rattle.blob_meta.specs.ShownBy.{ShowsAt, ShowsMetas}
 use Rattle.store_model.specs.Maps.{Map}
+use Rattle.store_model.specs.Seen.{seen}
 use Rattle.store_model.specs.Shown.{fixed_of, volume_of}
 use Rattle.store_model.specs.StateLaws.{IsLoadedWith}
 use Rattle.store_model.specs.StoreState.{StoreState, shown}
@@ -49,8 +50,8 @@ module _ (p : StoreState) (running : IsRunning p) (runs : p.stopped ≡ None) (m
 
   alike : AreNamedAlike (shown p)
   alike = subst AreNamedAlike (sym well.replayed)
-      (subst (λ (s : Super). AreNamedAlike (replay (fixed_of s) running.first p.log)) (sym running.facts.super)
-      (after_log (fixed_of running.store) running.first p.log running.named running.facts.legal))
+      (subst (λ (s : Super). AreNamedAlike (replay (fixed_of s) running.first (seen p.tells p.log))) (sym running.facts.super)
+      (after_log (fixed_of running.store) running.first (seen p.tells p.log) running.named running.facts.legal))
 
   one : (h : ℕ) (o : Option Meta) → resolved p.base h ≡ o → ShowsAt (fixed_of p.super) (option_map (as_volume p h) o) o
   one h None is = tt
