@@ -1,2 +1,3 @@
 pub mod Firsts
 pub mod Infos
+pub mod PageTexts

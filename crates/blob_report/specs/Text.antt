@@ -6,12 +6,8 @@ use Rattle.volume_model.specs.declared.reply.Info.{Info}
 use Rattle.volume_model.specs.declared.reply.Reply.{Reply}
 use Rattle.volume_model.specs.declared.reply.Reply.TheVariants as r
 use Rattle.volume_model.specs.declared.reply.Entry.{Entry}
+use Rattle.blob_report.specs.PageText.{page_text}
 use Rattle.blob_report.specs.Pieces.{hex_text, shown_bytes, head_text}
-
--- a reply that has a text so far: any but a page
-abbrev pub CanPrint : Reply → Type 0
-CanPrint (r.Content page) = ⊥
-CanPrint _ = Unit {0}
 
 -- two hexadecimal digits a byte, or `-` where there is none
 abbrev pub value_text : List ℕ → List ℕ
@@ -44,10 +40,11 @@ info_line info = codes "\n" ++ info_text info
 abbrev pub list_text : List Info → List ℕ
 list_text infos = codes "list " ++ decimal (length infos) ++ flat_map info_line infos
 
--- the text of a reply; none for a page
+-- the text of a reply
 abbrev pub reply_text : Reply → List ℕ
 reply_text r.Ok = codes "ok"
 reply_text (r.Made head) = codes "ok @" ++ decimal head
+reply_text (r.Content page) = page_text page.value
 reply_text (r.Value value) = value_text value
 reply_text (r.Info info) = info_text info
 reply_text (r.List infos) = list_text infos
@@ -70,7 +67,6 @@ reply_text r.ReadFault = codes "read fault"
 reply_text r.Fault = codes "fault"
 reply_text (r.Stopped at) = codes "stopped " ++ decimal at
 reply_text r.Memory = codes "no memory"
-reply_text _ = []
 
 -- the channel, the index and the reply, with single spaces, and LF
 abbrev pub entry_text : Entry → List ℕ

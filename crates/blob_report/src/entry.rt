@@ -1,9 +1,10 @@
 //! The printed line of a log's entry.
 
 ghost use Rattle.std.specs.Prelude.{◌≡◌, ◌++◌, length, take, OnOk, OnErr};
-ghost use Rattle.blob_report.specs.Text.{CanPrint, reply_text, df_text, value_text, entry_text};
+ghost use Rattle.blob_report.specs.Text.{reply_text, df_text, value_text, entry_text};
 
 use crate::pieces::Piece::{Hex, Number, Words};
+use crate::page::push_page;
 use crate::pieces::push_pieces;
 use crate::volume::{push_info, push_list};
 use out_of_memory::Memory;
@@ -40,13 +41,13 @@ fn push_df(df: Df, into: &mut Vec<u8>) -> Result<(), Memory>
 
 /// Appends the text of a reply. After `Memory` what was there still stands first.
 fn push_reply(reply: &Reply, into: &mut Vec<u8>) -> Result<(), Memory>
-    requires { CanPrint reply.now }
     ensures ok { OnOk result (into.new.items ≡ into.old.items ++ reply_text reply.now) }
     ensures kept { take (length into.old.items) into.new.items ≡ into.old.items }
 {
     match reply {
         Reply::Ok => push_pieces(&[Words(b"ok")], into),
         Reply::Made(head) => push_pieces(&[Words(b"ok @"), Number(*head)], into),
+        Reply::Content(page) => push_page(page, into),
         Reply::Value(value) => push_value(value.bytes(), into),
         Reply::Info(info) => push_info(info, into),
         Reply::List(infos) => push_list(infos.as_slice(), into),
@@ -69,13 +70,11 @@ fn push_reply(reply: &Reply, into: &mut Vec<u8>) -> Result<(), Memory>
         Reply::Fault => push_pieces(&[Words(b"fault")], into),
         Reply::Stopped(at) => push_pieces(&[Words(b"stopped "), Number(*at)], into),
         Reply::Memory => push_pieces(&[Words(b"no memory")], into),
-        Reply::Content(_) => unreachable!(),
     }
 }
 
 /// Appends the line of an entry. After `Memory` what was there still stands first.
 fn push_line(entry: &Entry, into: &mut Vec<u8>) -> Result<(), Memory>
-    requires { CanPrint entry.now.reply }
     ensures ok { OnOk result (into.new.items ≡ into.old.items ++ entry_text entry.now) }
     ensures kept { take (length into.old.items) into.new.items ≡ into.old.items }
 {
@@ -92,10 +91,8 @@ fn push_line(entry: &Entry, into: &mut Vec<u8>) -> Result<(), Memory>
     Ok(())
 }
 
-/// Appends the line of an entry: the channel, the index and the reply, with single spaces, and LF. A reply with a page
-/// has no text yet. After `Memory` nothing is appended.
+/// Appends the line of an entry: the channel, the index and the reply, with single spaces, and LF. After `Memory` nothing is appended.
 pub fn render_entry(entry: &Entry, into: &mut Vec<u8>) -> Result<(), Memory>
-    requires { CanPrint entry.now.reply }
     ensures ok { OnOk result (into.new.items ≡ into.old.items ++ entry_text entry.now) }
     ensures memory { OnErr result (into.new.items ≡ into.old.items) }
 {

@@ -2,6 +2,7 @@
 #![tactic(auto)]
 
 mod entry;
+mod page;
 mod pieces;
 mod space;
 mod volume;

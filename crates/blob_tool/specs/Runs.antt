@@ -12,6 +12,7 @@ use Rattle.volume_model.specs.declared.reply.Entry.{Entry}
 use Rattle.md_chain.specs.Reading.{OnlyRead}
 use Rattle.store_model.specs.Regions.{region_of}
 use Rattle.store_model.specs.Scans.{Says}
+use Rattle.store_model.specs.Seen.{seen}
 use Rattle.store_model.specs.Shown.{fixed_of}
 use Rattle.store_model.specs.Cases.{IsQuiet}
 use Rattle.store_model.specs.StoreState.{Opens, shown}
@@ -32,14 +33,15 @@ use Rattle.blob_tool.specs.Surviving.{RunSurvives}
 
 module _ {D : Type 0} (d : disk.Ghosts D) (script : List (List Command)) where
   -- A run leads from one state of the store to another, in which every channel has ended and no job runs. Its log is a
-  -- legal one of the script's commands, and the volumes shown at the end are its replay, unless the store stopped.
+  -- legal one of the script's commands, and the volumes shown at the end are its replay, unless the store stopped. Of
+  -- a device that doesn't tell what it holds both are said but for what pages hold (`seen`).
   pub record IsRun (first last : StoreView D) : Type 0 where
     pub opens : Opens (state_of d first)
     pub turns : (kinds : List Kind) × Run d.tells (state_of d first) kinds (state_of d last)
     pub over : (channel : ℕ) → rows_of last.rows channel ≡ ended_row
     pub no_job : last.job ≡ None
     pub interleaves : Interleaves last.log script
-    pub legal : IsLegal (fixed_of first.super) (shown (state_of d first)) last.log
+    pub legal : IsLegal (fixed_of first.super) (shown (state_of d first)) (seen d.tells last.log)
     -- a store that stopped has counted a failed write or flush, and its fault, if it has one, stands where it stopped;
     -- else it has counted none, and no entry is a fault or stopped
     pub counted : (at : ℕ) → last.stopped ≡ Some at → Rose (d.write_faults first.disk) (d.write_faults last.disk)
@@ -47,7 +49,8 @@ module _ {D : Type 0} (d : disk.Ghosts D) (script : List (List Command)) where
     pub fault_at : (k : ℕ) (e : Entry) → slice_get last.log k ≡ Some e → e.reply ≡ r.Fault → last.stopped ≡ Some k
     pub quiet : last.stopped ≡ None → All (λ e. IsQuiet e.reply) last.log
     pub replayed : last.stopped ≡ None
-        → shown (state_of d last) ≡ replay (fixed_of first.super) (shown (state_of d first)) last.log
+        → shown (state_of d last)
+        ≡ replay (fixed_of first.super) (shown (state_of d first)) (seen d.tells last.log)
     -- power may fail at any moment, of a device that had one image
     pub survives : HasOneImage d first.disk → RunSurvives d first.super (shown (state_of d first)) last
 

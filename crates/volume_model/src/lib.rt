@@ -7,6 +7,7 @@ pub mod laws;
 mod lists;
 mod machine;
 mod name;
+mod page_word;
 mod reply;
 mod script;
 mod text;

@@ -13,26 +13,6 @@ use out_of_memory::Memory;
 use std::alloc::Global;
 use std::boxed::Box;
 
-fn fill_page(word: u64) -> Page
-    ensures { result ≡ v.fill_page word }
-{
-    let bytes = word.to_le_bytes();
-    let mut page = [0; 4096];
-    for (at, byte) in page.iter_mut().enumerate() {
-        *byte = bytes[at % 8];
-    }
-    page
-}
-
-fn page_of(word: &PageWord) -> Page
-    ensures { result ≡ v.page_of word.now }
-{
-    match word {
-        PageWord::Fill(word) => fill_page(*word),
-        PageWord::Full(page) => **page,
-    }
-}
-
 #[tactic(auto, unfolding(crate::specs::Volumes::zero_page))]
 fn push_zeros(pages: &mut Vec<Page>, count: u64) -> Result<(), Memory>
     ensures { OnOk result (pages.new.items ≡ pages.old.items ++ replicate count v.zero_page) }
@@ -78,7 +58,7 @@ impl Volumes {
     {
         let head = self.may_write(volume, page)?;
         let mut x = self.take(head);
-        x.pages[page as usize] = page_of(word);
+        x.pages[page as usize] = word.page();
         self.put(head, x);
         Ok(Reply::Ok)
     }
