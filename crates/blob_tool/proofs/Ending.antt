@@ -1,7 +1,7 @@
 -- What a run came to, by what was printed of its log.
-use Rattle.std.proofs.Common.{◌≡◌, ℕ, ◌++◌, Option, Some, None, Result, Ok, Err, OnOk, IsTrue, List, refl, sym, subst}
+use Rattle.std.proofs.Common.{◌≡◌, ℕ, ◌++◌, length, Option, Some, None, Result, Ok, Err, OnOk, IsTrue, List, refl, sym, subst}
 use Rattle.std.proofs.Common.{◌∙◌, inl, inr}
-use Rattle.page_disk.specs.Disk.{Rose}
+use Rattle.page_disk.specs.Disk.{Only, Rose}
 use Rattle.page_disk.specs.declared.disk.PageDisk as disk
 use Rattle.streams.specs.declared.source.Source as source
 use Rattle.streams.specs.declared.sink.Sink as sink
@@ -11,7 +11,7 @@ use Rattle.volume_model.specs.declared.command.Command.{Command}
 use Rattle.md_chain.specs.Reading.{OnlyRead}
 use Rattle.store_core.specs.declared.loaded.Loaded.{Loaded}
 use Rattle.store_core.specs.Opening.{IsOpened}
-use Rattle.store_core.specs.StoreView.{StoreView}
+use Rattle.store_core.specs.StoreView.{StoreView, state_of}
 use Rattle.store_core.specs.Surviving.{HasOneImage}
 use Rattle.unclean_load.specs.declared.fault.LoadFault.{LoadFault}
 use Rattle.unclean_load.specs.declared.fault.LoadFault.TheVariants as loading
@@ -22,6 +22,9 @@ use Rattle.streams.specs.declared.printing.PrintFault.{PrintFault}
 use Rattle.streams.specs.declared.printing.PrintFault.TheVariants as printing
 use Rattle.blob_tool.specs.Statuses.{of_loading, of_run}
 use Rattle.blob_tool.specs.Runs.{Ended, EndedFrom, IsLoaded, Played}
+use Rattle.blob_tool.specs.Closing.{Closes}
+use Rattle.blob_tool.specs.Surviving.{IsLasting}
+use Rattle.store_model.specs.StoreState.{shown}
 use Rattle.blob_tool.specs.Outcome.{HasScript, NothingWritten, Outcome, RanTo, ReadsScript}
 
 -- a device that was only read has one image still
@@ -37,17 +40,26 @@ still_one d before after same one = (
 
 module _ {D : Type 0} (d : disk.Ghosts D) (script : List (List Command)) {K : Type 0} (k : sink.Ghosts K)
     (out out_now : K) (back : D) (first : StoreView D) where
-  -- how a run ended, by where it stopped and how much was printed
-  pub ends : (p : Played d script k out out_now back first) (stopped : Option ℕ)
+  -- how a run ended, by where it stopped or was closed and how much was printed
+  pub ends : (p : Played d script k out out_now back first) (stopped ended : Option ℕ)
       (printed : Result (Unit {0}) PrintFault) → p.last.stopped ≡ stopped
+      → Closes d p.last.disk back (length p.last.log) stopped ended
+      → ((IsTrue d.tells → Only (d.now back) (d.images back)) → p.last.stopped ≡ None → HasOneImage d first.disk
+      → IsLasting d first.super (shown (state_of d first)) p.last back)
       → (IsTrue k.tells → OnOk printed (k.written out_now ≡ k.written out ++ log_text p.last.log))
       → (printed ≡ Err printing.Sink → Rose (k.faults out) (k.faults out_now))
-      → Ended d script k out out_now back first (of_run stopped printed)
-  ends p stopped (Err printing.Memory) is whole rose = p
-  ends p None (Err printing.Sink) is whole rose = (p, is, rose refl)
-  ends p (Some at) (Err printing.Sink) is whole rose = (p, is, inr (rose refl))
-  ends p None (Ok done) is whole rose = (p, is, whole)
-  ends p (Some at) (Ok done) is whole rose = (p, is, inl whole)
+      → Ended d script k out out_now back first (of_run ended printed)
+  ends p stopped ended (Err printing.Memory) is closes lasts whole rose = p
+  ends p None None (Err printing.Sink) is closes lasts whole rose = (p, (is, lasts closes.lasting is), rose refl)
+  ends p None None (Ok done) is closes lasts whole rose = (p, (is, lasts closes.lasting is), whole)
+  ends p None (Some at) (Err printing.Sink) is closes lasts whole rose =
+      (p, inr (is, closes.0, closes.2), inr (rose refl))
+  ends p None (Some at) (Ok done) is closes lasts whole rose = (p, inr (is, closes.0, closes.2), inl whole)
+  ends p (Some at) None printed is closes lasts whole rose = absurd (cc closes.0)
+  ends p (Some at) (Some end) (Err printing.Sink) is closes lasts whole rose =
+      (p, inl (is ∙ sym closes.0, closes.1), inr (rose refl))
+  ends p (Some at) (Some end) (Ok done) is closes lasts whole rose =
+      (p, inl (is ∙ sym closes.0, closes.1), inl whole)
 
 module _ {S : Type 0} (s : source.Ghosts S) (script script_now : S) {D : Type 0} (d : disk.Ghosts D) {K : Type 0}
     (k : sink.Ghosts K) (out out_now : K) (before back : D) where

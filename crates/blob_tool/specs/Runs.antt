@@ -1,5 +1,5 @@
 -- A loaded store, and a run from it to its end.
-use Rattle.std.specs.Prelude.{◌≡◌, ◌⊎◌, ℕ, List, ◌++◌, slice_get, Some, None, IsTrue}
+use Rattle.std.specs.Prelude.{◌≡◌, ◌⊎◌, ℕ, List, length, ◌++◌, slice_get, Some, None, IsTrue}
 use Rattle.std.specs.List.{All}
 use Rattle.std.specs.FinMap as map
 use Rattle.page_disk.specs.Disk.{Rose}
@@ -21,7 +21,7 @@ use Rattle.store_core.specs.declared.loaded.Loaded.{Loaded}
 use Rattle.store_core.specs.Opening.{IsOpened}
 use Rattle.store_core.specs.StoreView.{StoreView, rows_of, state_of}
 use Rattle.store_core.specs.Surviving.{HasOneImage}
-use Rattle.store_core.specs.LoadedWhole.{IsWhole}
+use Rattle.store_core.specs.LoadedWhole.{IsWhole as IsLoadedWhole}
 use Rattle.unclean_load.specs.Accepted.{IsAccepted}
 use Rattle.blob_report.specs.Text.{log_text}
 use Rattle.streams.specs.declared.sink.Sink as sink
@@ -29,7 +29,8 @@ use Rattle.blob_tool.specs.declared.status.Status.{Status}
 use Rattle.blob_tool.specs.declared.status.Status.TheVariants as status
 use Rattle.blob_tool.specs.Driving.{ended_row}
 use Rattle.streams.specs.Printing.{IsPartOf}
-use Rattle.blob_tool.specs.Surviving.{RunSurvives}
+use Rattle.blob_tool.specs.Closing.{AddsNoImage}
+use Rattle.blob_tool.specs.Surviving.{IsLasting, RunSurvives}
 
 module _ {D : Type 0} (d : disk.Ghosts D) (script : List (List Command)) where
   -- A run leads from one state of the store to another, in which every channel has ended and no job runs. Its log is a
@@ -51,8 +52,6 @@ module _ {D : Type 0} (d : disk.Ghosts D) (script : List (List Command)) where
     pub replayed : last.stopped ≡ None
         → shown (state_of d last)
         ≡ replay (fixed_of first.super) (shown (state_of d first)) (seen d.tells last.log)
-    -- power may fail at any moment, of a device that had one image
-    pub survives : HasOneImage d first.disk → RunSurvives d first.super (shown (state_of d first)) last
 
   -- A store as the device says it, whole in itself: its masks are what its chains and maps claim. It is opened with the
   -- script.
@@ -61,29 +60,44 @@ module _ {D : Type 0} (d : disk.Ghosts D) (script : List (List Command)) where
     pub says : IsTrue d.tells
         → Says (region_of loaded.sup) (map.get loaded.metas) (map.get loaded.chains) (d.now before)
     pub accepted : IsTrue d.tells → IsAccepted (d.pages before) (d.now before)
-    pub whole : IsWhole loaded
+    pub whole : IsLoadedWhole loaded
     pub same : OnlyRead d before loaded.disk
     pub one_image : HasOneImage d before → HasOneImage d loaded.disk
     pub opened : IsOpened d loaded script first
 
   module _ {K : Type 0} (k : sink.Ghosts K) (out out_now : K) (back : D) where
-    -- a run from this state, on the device that is handed back, and of the text of its log as much as was printed
+    -- a run from this state, whose device was flushed at most behind it and is handed back, and of the text of its log as
+    -- much as was printed
     pub record Played (first : StoreView D) : Type 0 where
       pub last : StoreView D
       pub run : IsRun first last
-      pub device : back ≡ last.disk
+      pub device : AddsNoImage d last.disk back
+      -- power may fail at any moment, of a device that had one image
+      pub survives : HasOneImage d first.disk → RunSurvives d first.super (shown (state_of d first)) last back
       pub printed : IsTrue k.tells → IsPartOf (k.written out) (k.written out_now) (log_text last.log)
 
     -- the whole log's text was printed
     abbrev pub IsPrinted : {first : StoreView D} → Played first → Type 0
     IsPrinted p = IsTrue k.tells → k.written out_now ≡ k.written out ++ log_text p.last.log
 
-    -- what a run came to: it was printed whole, or the sink failed; it stopped; or memory ran out
+    -- the store didn't stop, and all that was written is lasting
+    abbrev pub IsWhole : {first : StoreView D} → Played first → Type 0
+    IsWhole {first} p = (p.last.stopped ≡ None)
+        × (HasOneImage d first.disk → IsLasting d first.super (shown (state_of d first)) p.last back)
+
+    -- The store stopped there, and the device was left alone from then on; or, behind all entries, the flush that closes
+    -- the run failed.
+    abbrev pub EndsAt : {first : StoreView D} → Played first → ℕ → Type 0
+    EndsAt p at = ((p.last.stopped ≡ Some at) × (back ≡ p.last.disk))
+        ⊎ ((p.last.stopped ≡ None) × (at ≡ length p.last.log)
+        × Rose (d.write_faults p.last.disk) (d.write_faults back))
+
+    -- what a run came to: it was printed whole, or the sink failed; the device failed; or memory ran out
     abbrev pub Ended : StoreView D → Status → Type 0
-    Ended first status.Good = (p : Played first) × (p.last.stopped ≡ None) × IsPrinted p
-    Ended first status.OutWrite = (p : Played first) × (p.last.stopped ≡ None) × Rose (k.faults out) (k.faults out_now)
+    Ended first status.Good = (p : Played first) × IsWhole p × IsPrinted p
+    Ended first status.OutWrite = (p : Played first) × IsWhole p × Rose (k.faults out) (k.faults out_now)
     Ended first (status.Device at) =
-        (p : Played first) × (p.last.stopped ≡ Some at) × (IsPrinted p ⊎ Rose (k.faults out) (k.faults out_now))
+        (p : Played first) × EndsAt p at × (IsPrinted p ⊎ Rose (k.faults out) (k.faults out_now))
     Ended first status.Memory = Played first
     Ended first _ = ⊥
 

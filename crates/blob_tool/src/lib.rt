@@ -1,6 +1,7 @@
 //! The command line tool over any source, sink and device.
 #![tactic(auto)]
 
+mod closing;
 mod driver;
 mod format_words;
 mod serving;

@@ -1,7 +1,5 @@
 -- What is printed of a text.
 use Rattle.std.specs.Prelude.{◌≡◌, ℕ, List, ◌++◌}
-use Rattle.volume_model.specs.declared.reply.Entry.{Entry}
-use Rattle.blob_report.specs.Text.{CanPrint}
 
 -- after the first text there stands a part of the second, from its beginning
 pub record IsPartOf (before after whole : List ℕ) : Type 0 where
@@ -9,7 +7,3 @@ pub record IsPartOf (before after whole : List ℕ) : Type 0 where
   pub rest : List ℕ
   pub whole_is : whole ≡ part ++ rest
   pub after_is : after ≡ before ++ part
-
--- the entry's reply has a text
-abbrev pub HasText : Entry → Type 0
-HasText entry = CanPrint entry.reply

@@ -1,11 +1,10 @@
 //! Printing a log, or another text.
 
 ghost use Rattle.std.specs.Prelude.{◌≡◌, ◌≤◌, ◌++◌, IsTrue, OnOk, Err};
-ghost use Rattle.std.specs.List.{All};
 ghost use Rattle.page_disk.specs.Disk.{Rose};
 ghost use Rattle.streams.specs.Streams.{Caused};
 ghost use Rattle.blob_report.specs.Text.{log_text};
-ghost use Rattle.streams.specs.Printing.{HasText, IsPartOf};
+ghost use Rattle.streams.specs.Printing.{IsPartOf};
 
 use crate::sink::{Sink, SinkFault};
 use blob_report::render_entry;
@@ -63,7 +62,6 @@ pub fn offer<K: Sink>(text: &[u8], sink: &mut K) -> Result<(), SinkFault>
 
 /// Prints the entries, one after the other. A fault of the sink ends the printing.
 pub fn print<K: Sink>(alloc: Global, entries: &[Entry], sink: &mut K) -> Result<(), PrintFault>
-    requires { All HasText entries.now }
     ensures whole { IsTrue K.tells → OnOk result (K.written sink.new ≡ K.written sink.old ++ log_text entries.now) }
     ensures part { IsTrue K.tells → IsPartOf (K.written sink.old) (K.written sink.new) (log_text entries.now) }
     ensures later { K.faults sink.old ≤ K.faults sink.new }
