@@ -5,7 +5,9 @@ use Rattle.std.specs.Prelude.{slice_set}
 use Rattle.std.proofs.lemmas.Bool.{both_ways, cases_Bool, cases_eq, cases_lt}
 use Rattle.std.proofs.lemmas.List.{get_or-set_same, get_or-set_other, length-set}
 use Rattle.bit_array.specs.Bits.{is_in}
-use Rattle.super_block.specs.Numbers.{clusters_of, fixed_clusters_of}
+use Rattle.super_block.specs.Numbers.{cluster_pages_of, clusters_of, fixed_clusters_of}
+use Rattle.store_model.specs.Copying.{HasCopied}
+use Rattle.store_model.proofs.Copies.{HaveNoMore, row_no_more, row_unclaimed}
 use Rattle.md_chain.specs.Chain.{is_among}
 use Rattle.store_model.specs.Maps.{Metas}
 use Rattle.store_model.specs.Rows.{OpenClaim, Row, Rows, with_row}
@@ -22,11 +24,14 @@ pub record AreHeld (p : StoreState) (rows : Rows) (bits : List Bool) : Type 0 wh
   pub used : UsedClusters p.super bits p.base (HasClaim rows p.job)
   pub differ : ClaimsDiffer rows p.job
   pub drawn : AreClaimsDrawn rows p.drawn
+  pub no_more : HaveNoMore (cluster_pages_of p.super) p.rows rows
 
 -- each row has the claim that it had
 pub held_still : (p : StoreState) (rows : Rows) → AreHeld p p.rows p.clusters
-    → ((c : ℕ) → (rows c).claim ≡ (p.rows c).claim) → AreHeld p rows p.clusters
-held_still p rows h same = record {
+    → ((c : ℕ) → (rows c).claim ≡ (p.rows c).claim) → HaveNoMore (cluster_pages_of p.super) p.rows rows
+    → AreHeld p rows p.clusters
+held_still p rows h same no_more = record {
+  no_more = no_more;
   used = used_still p.rows rows p.job p.job same refl p.super p.clusters p.base h.used;
   differ = differ_still p.rows rows p.job p.job same refl h.differ;
   drawn = claims_drawn_still p.rows rows p.drawn p.drawn same (omega arith) h.drawn;
@@ -48,6 +53,7 @@ module _ (p : StoreState) (channel : ℕ) (row : Row) (h : AreHeld p p.rows p.cl
 
   -- a cluster that was clear is claimed
   module _ (claim : OpenClaim) (is : row.claim ≡ Some claim) (none : (p.rows channel).claim ≡ None)
+      (fresh : (page : ℕ) → HasCopied (cluster_pages_of p.super) row.stage page → ⊥)
       (below : claim.cluster < length p.clusters) (clear : is_in p.clusters claim.cluster ≡ false)
       (low : claim.generation ≤ p.drawn) where
     abbrev bits : List Bool
@@ -96,6 +102,8 @@ module _ (p : StoreState) (channel : ℕ) (row : Row) (h : AreHeld p p.rows p.cl
 
     pub held_made : AreHeld p rows bits
     held_made = record {
+      no_more = row_no_more (cluster_pages_of p.super) p.rows channel row
+          (λ other page held has. absurd (fresh page has));
       used = record {
         count = length-set p.clusters claim.cluster true ∙ h.used.count;
         fixed = λ c few under. set_more c (h.used.fixed c few under);
@@ -199,6 +207,7 @@ module _ (p : StoreState) (channel : ℕ) (row : Row) (h : AreHeld p p.rows p.cl
 
     held_cleared : AreHeld p rows fewer
     held_cleared = record {
+      no_more = row_unclaimed (cluster_pages_of p.super) p.rows channel row none;
       used = record {
         count = length-set p.clusters claim.cluster false ∙ h.used.count;
         fixed = λ c few under. stays c (λ e. let x = (h.used.apart claim.cluster mine).0 in omega (arith, e, x, few))
@@ -241,4 +250,5 @@ module _ (p : StoreState) (channel : ℕ) (row : Row) (h : AreHeld p p.rows p.cl
     where
       by : (o : Option OpenClaim) → (p.rows channel).claim ≡ o → AreHeld p rows (without_claim p.clusters o)
       by None was = held_still p rows h (with_row_claims p.rows channel row was none)
+          (row_unclaimed (cluster_pages_of p.super) p.rows channel row none)
       by (Some claim) was = held_cleared claim was none

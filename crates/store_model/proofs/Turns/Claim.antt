@@ -1,5 +1,5 @@
 -- The turn claims.
-use Rattle.std.proofs.Common.{◌/◌, ◌∷◌, None, Some, true, ap, refl, subst, sym}
+use Rattle.std.proofs.Common.{◌/◌, ◌∷◌, None, Some, true, ap, arith, refl, subst, sym}
 use Rattle.std.specs.Prelude.{slice_set}
 use Rattle.super_block.specs.Numbers.{cluster_pages_of}
 use Rattle.volume_model.specs.declared.command.Command.TheVariants as c
@@ -38,7 +38,7 @@ module _ (known : Known) where
       (claim_facts known w.channel row (slice_set p.clusters t.cluster true) p.serial (ap (λ (r : Row). r.left) w.row)
       (not_in_job known _ _ w.row (λ bad. cc bad))
       (λ runs. held_made p w.channel row (held_here known (facts.well runs)) claim refl
-      (ap (λ (r : Row). r.claim) w.row) t.least.within t.least.clear
+      (ap (λ (r : Row). r.claim) w.row) (λ page has. omega (arith, has)) t.least.within t.least.clear
       ((facts.well runs).generations.low t.means.head t.generation t.drawn))
       (copying_may _ w.channel _ _ claim))
 
