@@ -30,6 +30,9 @@ use Rattle.store_model.specs.Shown.{fixed_of}
 use Rattle.store_model.specs.Phases.{Committing, replaced, Replacing}
 use Rattle.store_model.specs.StoreState.{live_of, shown, StoreState}
 use Rattle.store_model.specs.Asking.{IsCreateJob}
+use Rattle.store_model.proofs.ShowsGiven.{none_childless}
+use Rattle.store_model.proofs.EmptySlots.{Any, leaves_elsewhere, leaves_resolved}
+use Rattle.store_model.specs.Copying.{LeavesEmpty}
 use Rattle.store_model.specs.Jobs.{IsStep, shown_of}
 use Rattle.store_model.specs.Loadable.{AreLoadable, CanBeWritten, IsLoadable}
 use Rattle.store_model.specs.RunInvariant.{RunsWell}
@@ -43,7 +46,7 @@ use Rattle.store_model.proofs.ShowsNew.{live_here, shown_made, w_elsewhere}
 use Rattle.store_model.proofs.SlotSums.{all_shown, slots_given, slots_in}
 use Rattle.store_model.proofs.Writable.{AllWritable, none_holds}
 use Rattle.store_model.proofs.WithEntry.{given_here, given_elsewhere}
-use Rattle.store_model.proofs.Sets.{among_first}
+use Rattle.store_model.proofs.Sets.{among_first, not_first}
 
 -- a new blob without slots of zeros is thin, or has no slot
 thin_or_none : (thick : Bool) (slots : ℕ) → (if thick then range_with_len 0 slots else []) ≡ []
@@ -181,6 +184,12 @@ module _ (known : Known) where
       writable = writable;
       renews = (ap (λ (m : Metas). is_some (m head)) base_now ∙ ap is_some (given_here p.base head new head refl), tt);
       numbers = λ makes. subst (λ h. is_among h (head ∷ []) ≡ true) (sym head_is) (among_first head []);
+      leaves = λ h out.
+          leaves_resolved p.super p.base (replaced p.base r) Any h (base_loadable known)
+          (subst (AreLoadable p.super) (sym base_now) loadable)
+          (subst (λ (m : Metas). LeavesEmpty p.super p.base m Any h) (sym base_now)
+          (leaves_elsewhere p.super p.base head new (none_childless p.base head (base_lawful known).parents none) h
+          (not_first h head [] out).0));
     }
 
     pub ready : IsReady p (c.Create name slots thick uuid) commit new r

@@ -4,7 +4,7 @@ use Rattle.std.proofs.Common.{Option, Some, None, refl, sym, ap, ◌∙◌, subs
 use Rattle.std.specs.Prelude.{if◌then◌else◌, is_some, IsSome, nat_lt}
 use Rattle.std.specs.List.{AllByRecursion, range_with_len}
 use Rattle.std.specs.Option.{option_map, option_map_or}
-use Rattle.std.proofs.lemmas.Bool.{cases_Bool, cases_eq, false≢true, lt-ltb, ltb-false}
+use Rattle.std.proofs.lemmas.Bool.{cases_Bool, cases_eq, cases_lt, false≢true, lt-ltb, ltb-false}
 use Rattle.std.proofs.lemmas.Bool.Decides.{nat_tests}
 use Rattle.std.proofs.lemmas.List.FromFn.{length-range_with_len}
 use Rattle.std.proofs.Math.Path.{fun_ext}
@@ -28,6 +28,10 @@ use Rattle.store_model.specs.Shown.{fixed_of}
 use Rattle.store_model.specs.Phases.{Committing, replaced, Replacing}
 use Rattle.store_model.specs.StoreState.{live_of, shown, StoreState}
 use Rattle.store_model.specs.Asking.{IsResizeJob}
+use Rattle.md_chain.specs.Chain.{is_among}
+use Rattle.store_model.proofs.Sets.{among_first}
+use Rattle.store_model.proofs.EmptySlots.{Any, leaves_elsewhere, leaves_resized, leaves_resolved}
+use Rattle.store_model.specs.Copying.{LeavesEmpty}
 use Rattle.store_model.specs.Jobs.{IsStep, shown_of}
 use Rattle.store_model.specs.Loadable.{AreLoadable, CanBeWritten, IsLoadable}
 use Rattle.store_model.specs.RunInvariant.{RunsWell}
@@ -232,6 +236,18 @@ module _ (known : Known) where
         | inr ne ↦ live_writable now well.live h v (sym (others h ne) ∙ is)
       ]
 
+    -- its empty slots, if none is cut, and those of others show what they showed
+    left_empty : (h : ℕ) → is_among h renews ≡ false → LeavesEmpty p.super p.base all Any h
+    left_empty h out = elim (cases_eq h head) [
+      | inl e ↦ subst (LeavesEmpty p.super p.base all Any) (sym e)
+          (leaves_resized p.super p.base head old there childless slots (elim (cases_lt slots (length old.map)) [
+            | inl cut ↦ absurd (false≢true (sym (subst (λ n. is_among n renews ≡ false) e out)
+                ∙ ap (λ b. is_among head (if b then head ∷ [] else [])) (lt-ltb _ _ cut) ∙ among_first head []))
+            | inr le ↦ le
+          ]))
+      | inr ne ↦ leaves_elsewhere p.super p.base head new childless h ne
+    ]
+
     step : IsStep p.super p.base r p.live (c.Resize volume slots) commit
     step = record {
       metadata = tt;
@@ -243,6 +259,10 @@ module _ (known : Known) where
       writable = writable;
       renews = renews_there (nat_lt slots (length old.map));
       numbers = λ makes. absurd (false≢true (sym not_made ∙ makes));
+      leaves = λ h out.
+          leaves_resolved p.super p.base (replaced p.base r) Any h (base_loadable known)
+          (subst (AreLoadable p.super) (sym base_now) loadable)
+          (subst (λ (m : Metas). LeavesEmpty p.super p.base m Any h) (sym base_now) (left_empty h out));
     }
 
     pub ready : IsReady p (c.Resize volume slots) commit new r

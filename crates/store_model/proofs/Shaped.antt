@@ -3,7 +3,7 @@ use Rattle.std.proofs.Common.{Option, ◌≡◌, ◌≢◌, ℕ, List, [], ◌�
 use Rattle.std.proofs.Common.{false, true}
 use Rattle.std.proofs.lemmas.Bool.{cases_eq}
 use Rattle.volume_model.specs.declared.command.Command.{Command}
-use Rattle.store_model.specs.Rows.{OpenClaim, Row, Rows, Idle, Posted, InJob, Answered, Decided, Ended, with_row}
+use Rattle.store_model.specs.Rows.{Claiming, Copying, OpenClaim, Row, Rows, Idle, Posted, InJob, Answered, Decided, Ended, with_row}
 use Rattle.store_model.specs.StoreState.{JobState, StoreState, ForCommand, waiting}
 use Rattle.store_model.specs.RunInvariant.{IsServedRow, MayClaim, IsShaped}
 use Rattle.store_model.proofs.RowsKept.{row_here, row_other}
@@ -147,6 +147,24 @@ idle_may p channel left = record {
   in_job = λ is. absurd (cc is);
   ended = λ is. absurd (cc is);
   claims = λ claim is. absurd (cc is);
+}
+
+pub claiming_may : (p : StoreState) (channel : ℕ) (left : List Command)
+    → MayBe p channel (record { left = left; stage = Claiming; claim = None })
+claiming_may p channel left = record {
+  posted = λ serial is. absurd (cc is);
+  in_job = λ is. absurd (cc is);
+  ended = λ is. absurd (cc is);
+  claims = λ claim is. absurd (cc is);
+}
+
+pub copying_may : (p : StoreState) (channel : ℕ) (left : List Command) (pages : ℕ) (claim : OpenClaim)
+    → MayBe p channel (record { left = left; stage = Copying pages; claim = Some claim })
+copying_may p channel left pages claim = record {
+  posted = λ serial is. absurd (cc is);
+  in_job = λ is. absurd (cc is);
+  ended = λ is. absurd (cc is);
+  claims = λ claim is. tt;
 }
 
 pub decided_may : (p : StoreState) (channel : ℕ) (left : List Command)

@@ -62,7 +62,7 @@ module _ (s : Super) (metas : Metas) (parents : HasParents metas) (faultless : A
   cluster_behind : (fixed cluster k rest : ℕ) → fixed ≤ cluster → fixed * k ≤ cluster * k + rest
   cluster_behind fixed cluster k rest le = let m = mul-le-mul_right k le in omega (arith, m)
 
-  agree : AgreeOn k metas (λ _ _. false) image other
+  pub agree : AgreeOn k metas (λ _ _. false) image other
   agree head page cluster m there is _ =
       let inside = inside_slot _ _ m (page / k) cluster (faultless head m there) is in
       same _ (cluster_behind (fixed_clusters_of s) cluster k (page % k) inside.behind)

@@ -12,7 +12,7 @@ use Rattle.store_model.proofs.Moved.{all_writable, live_writable}
 use Rattle.store_model.specs.Phases.{Replacing, replaced}
 use Rattle.store_model.specs.Phases.{Committing}
 use Rattle.volume_model.specs.declared.reply.Reply.TheVariants as r_
-use Rattle.store_model.specs.Loadable.{IsLoadable, CanBeWritten}
+use Rattle.store_model.specs.Loadable.{AreLoadable, IsLoadable, CanBeWritten}
 use Rattle.page_disk.specs.Disk.{Image}
 use Rattle.blob_meta.specs.Resolving.{slots_together}
 use Rattle.blob_meta.specs.declared.meta.Meta.{Meta}
@@ -25,7 +25,9 @@ use Rattle.store_model.proofs.Replaced.{new_loadable, slots_same, synced_written
 use Rattle.volume_model.specs.Steps.{change}
 use Rattle.store_model.specs.Shown.{fixed_of}
 use Rattle.store_model.proofs.OneReplacement.{all_loadable, base_is, base_lawful, base_loadable, IsReady, ready_by}
-use Rattle.store_model.proofs.Synced.{syncs_to, shown_synced}
+use Rattle.store_model.proofs.Synced.{alike_synced, syncs_to, shown_synced}
+use Rattle.store_model.proofs.EmptySlots.{Any, leaves_alike, leaves_resolved}
+use Rattle.store_model.specs.Copying.{LeavesEmpty}
 use Rattle.store_model.proofs.LiveSynced.{live_synced}
 use Rattle.volume_model.specs.declared.command.Command.{Command}
 use Rattle.volume_model.specs.declared.command.Command.TheVariants as c
@@ -113,6 +115,12 @@ module _ (known : Known) where
       writable = writable_new;
       renews = tt;
       numbers = λ makes. absurd (false≢true (sym there ∙ makes));
+      leaves = λ h _.
+          leaves_resolved p.super p.base (replaced p.base r) Any h (base_loadable known)
+          (subst (AreLoadable p.super) (sym base_now) (all_loadable known head new one_loadable))
+          (subst (λ (m : Metas). LeavesEmpty p.super p.base m Any h) (sym base_now)
+          (leaves_alike p.super p.base (with_entry p.base head new)
+          (alike_synced p.base head asks.old new asks.after.synced asks.there asks.new_is) h));
     }
 
     pub sync_ready : IsReady p command commit new r

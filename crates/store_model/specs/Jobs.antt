@@ -30,6 +30,7 @@ use Rattle.store_model.specs.Recovers.{IsChangeDone}
 use Rattle.store_model.specs.Rows.{InJob, IsForMetadata}
 use Rattle.store_model.specs.Loadable.{CanBeWritten, IsLoadable}
 use Rattle.store_model.specs.Inserting.{with_slot}
+use Rattle.store_model.specs.Copying.{LeavesEmpty}
 use Rattle.store_model.specs.Places.{all_set, AreDistinct, AreLeastClear, IsMapped}
 use Rattle.store_model.specs.Phases.{Phase, Committing, with_live, Marks, Zeros, Writes, Replaces, Erases, Frees}
 use Rattle.store_model.specs.Phases.{Replacing, page_in, held_in, taken_by, taken_in, has_commit, replaced, rechained}
@@ -206,6 +207,9 @@ pub record IsStep (s : Super) (base : Metas) (replacing : Replacing) (live : Map
       → change (fixed_of s) (shown_of s base live image) command commit.reply head ≡ Some v → CanBeWritten v.live
   pub renews : AllByRecursion (λ head. IsSome (replaced base replacing head)) commit.renews
   pub numbers : replacing.makes ≡ true → is_among replacing.head commit.renews ≡ true
+  -- what is copied of a slot stays its content: an empty one of a blob whose generation stays shows what it showed
+  pub leaves : (head : ℕ) → is_among head commit.renews ≡ false
+      → LeavesEmpty s (resolved base) (resolved (replaced base replacing)) (λ image. Unit {0}) head
 
 -- The volumes are shown as they are up to the commit, and from it on as the command's step makes them.
 abbrev pub Does : Super → Metas → Map Xattrs → Command → List Phase → Type 0

@@ -1,12 +1,10 @@
 -- Turns that no call makes yet, by kinds: their cases alone.
-pub mod ClaimTurns
 pub mod CopyTurns
 pub mod InsertTurns
 pub mod FillTurns
 pub mod JobPhaseTurns
 use Rattle.std.specs.Prelude.{Bool}
 use Rattle.store_model.specs.StoreState.{StoreState}
-use Rattle.store_model.specs.Later.ClaimTurns.{Claims, FindsEmpty, FindsFilled, RefusesClaim}
 use Rattle.store_model.specs.Later.CopyTurns.{Copies, CopyFails, CopyNotRead, LosesCopy}
 use Rattle.store_model.specs.Later.InsertTurns.{BeginsInsert, InsertBreaksDown, InsertEnds, InsertFails, Inserts}
 use Rattle.store_model.specs.Later.InsertTurns.{LacksForInsert, LosesInsert, Sends}
@@ -15,17 +13,13 @@ use Rattle.store_model.specs.Later.JobPhaseTurns.{BeginsRepair, CommitsMore, Mar
 use Rattle.store_model.specs.Later.JobPhaseTurns.{ReplacesMore, Zeroes}
 
 pub data LaterKind : Type 0 where
-  finds_empty finds_filled claims refuses_claim copies loses_copy copy_not_read copy_fails sends begins_insert
+  copies loses_copy copy_not_read copy_fails sends begins_insert
       loses_insert lacks_for_insert inserts insert_ends insert_fails insert_breaks_down claims_fill lacks_for_fill
       halts_fill ends_fill marks_dirty zeroes replaces_more commits_more more_fails more_breaks_off
       begins_repair : LaterKind
 
 module _ (told : Bool) where
   abbrev pub LaterTurn : StoreState → LaterKind → StoreState → Type 0
-  LaterTurn p finds_empty q = FindsEmpty p q
-  LaterTurn p finds_filled q = FindsFilled p q
-  LaterTurn p claims q = Claims p q
-  LaterTurn p refuses_claim q = RefusesClaim p q
   LaterTurn p copies q = Copies told p q
   LaterTurn p loses_copy q = LosesCopy p q
   LaterTurn p copy_not_read q = CopyNotRead p q

@@ -17,6 +17,7 @@ use Rattle.store_model.specs.Phases.{has_commit}
 use Rattle.store_model.specs.Places.{AreDistinct, ClaimsDiffer, HasClaim, held_by, UsedPages, UsedClusters}
 use Rattle.store_model.specs.Guarding.{AreClaimsDrawn, AreGenerations, IsGuarded}
 use Rattle.store_model.specs.Jobs.{JobStands}
+use Rattle.store_model.specs.Copying.{AreCopied}
 use Rattle.store_model.specs.Seen.{seen}
 
 -- Each blob has a chain, which begins with its head; no place stands in two chains, or twice in one; each is of the
@@ -75,6 +76,7 @@ pub record RunsWell (first : Volumes) (p : StoreState) : Type 0 where
   pub job : (job : JobState) → p.job ≡ Some job → JobStands p job
   pub generations : AreGenerations p.base p.generations p.drawn
   pub claims_drawn : AreClaimsDrawn p.rows p.drawn
+  pub copied : AreCopied p
   pub replayed : shown p ≡ replay (fixed_of p.super) first (seen p.tells p.log)
 
 pub record RunInvariant (s : Super) (first : Volumes) (script : ℕ → List Command) (p : StoreState) : Type 0 where

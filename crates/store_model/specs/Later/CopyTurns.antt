@@ -7,6 +7,7 @@ use Rattle.volume_model.specs.declared.command.Command.{Command}
 use Rattle.volume_model.specs.declared.reply.Reply.{Reply}
 use Rattle.volume_model.specs.declared.reply.Reply.TheVariants as r
 use Rattle.blob_meta.specs.Resolving.{resolved}
+use Rattle.store_model.specs.Copying.{IsUpToDate, page_of_claim, shown_in_slot}
 use Rattle.store_model.specs.Device.{Device}
 use Rattle.store_model.specs.Shown.{content}
 use Rattle.store_model.specs.Rows.{Copying, Idle, OpenClaim, Ready, Stage, with_row}
@@ -20,10 +21,6 @@ pub record IsCopying (p : StoreState) (stage : Stage) : Type 0 where
   pub left : List Command
   pub claim : OpenClaim
   pub is : p.rows row ≡ record { left = left; stage = stage; claim = Some claim }
-
--- the blob of the claim is there, and was neither emptied nor copied since
-abbrev pub IsUpToDate : StoreState → OpenClaim → Type 0
-IsUpToDate p claim = p.generations claim.head ≡ Some claim.generation
 
 -- the row goes on at this stage, and gives its claim back, if it has one
 abbrev pub given_back : StoreState → ℕ → Stage → StoreState
@@ -47,16 +44,6 @@ pub data LogsFor (p : StoreState) (row : ℕ) (stage : Stage) (reply : Reply) (d
         → (p.rows channel).left ≡ command ∷ rest
         → q ≡ logged (record (given_back p row stage) { filling = None }) channel command rest reply device
         → LogsFor p row stage reply device q
-
--- a page of the device, by its place in the claimed cluster
-abbrev pub page_of_claim : StoreState → OpenClaim → ℕ → ℕ
-page_of_claim p claim page = claim.cluster * cluster_pages_of p.super + page
-
--- what the slot shows there
-abbrev pub shown_in_slot : StoreState → OpenClaim → ℕ → Page
-shown_in_slot p claim page =
-    content (cluster_pages_of p.super) p.device.reads (resolved p.base) (suc p.super.md_len) claim.head
-    (claim.slot * cluster_pages_of p.super + page)
 
 abbrev pub stage_left : ℕ → Stage
 stage_left zero = Ready

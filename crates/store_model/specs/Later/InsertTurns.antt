@@ -14,7 +14,8 @@ use Rattle.store_model.specs.Turning.{FailsToReplace, page_of_place, Runs, stopp
 use Rattle.store_model.specs.Cases.Flush.{IsFlushed}
 use Rattle.volume_model.specs.Volumes.{zero_page}
 use Rattle.volume_model.specs.declared.reply.Reply.TheVariants as r
-use Rattle.store_model.specs.Later.CopyTurns.{given_back, IsCopying, IsUpToDate, LogsFor}
+use Rattle.store_model.specs.Later.CopyTurns.{given_back, IsCopying, LogsFor}
+use Rattle.store_model.specs.Copying.{IsUpToDate}
 
 -- All pages are copied: a flush makes them lasting, and the insert is posted under the next serial.
 pub record Sends (p q : StoreState) : Type 0 where

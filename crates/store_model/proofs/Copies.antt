@@ -1,0 +1,236 @@
+-- What was copied of a slot stays its content.
+use Rattle.std.proofs.Common.{◌≡◌, ◌≢◌, ◌⊎◌, ℕ, suc, ◌+◌, ◌*◌, ◌/◌, ◌%◌, ◌<◌, ◌≤◌, ◌==◌, ◌&&◌, Bool, false, List, [], ◌∷◌}
+use Rattle.std.proofs.Common.{Option, Some, None, refl, sym, ap, ◌∙◌, subst, inl, inr, arith}
+use Rattle.std.proofs.lemmas.Bool.{both_ways, cases_Bool, cases_eq, eqb-true}
+use Rattle.std.proofs.lemmas.Nat.{div-mul-add}
+use Rattle.std.proofs.Math.Nat.{mod-lt, mul-le-mul_right}
+use Rattle.page_disk.specs.Disk.{Image}
+use Rattle.super_block.specs.declared.page.Super.{Super}
+use Rattle.super_block.specs.Numbers.{cluster_pages_of, fixed_clusters_of}
+use Rattle.volume_model.specs.Volumes.{Page}
+use Rattle.blob_meta.specs.declared.meta.Meta.{Meta}
+use Rattle.blob_meta.specs.Parents.{slot}
+use Rattle.blob_meta.specs.Resolving.{IsLawful, resolved}
+use Rattle.md_chain.specs.Chain.{is_among}
+use Rattle.store_model.specs.Agreeing.{AgreeOn, IsPageOf, IsSameButAt}
+use Rattle.store_model.specs.Copying.{AreCopied, HasCopied, IsWanted, LeavesEmpty, page_of_claim}
+use Rattle.store_model.specs.Guarding.{all_renewed, AreClaimsDrawn}
+use Rattle.store_model.specs.Maps.{Map, Metas, with_entry}
+use Rattle.store_model.specs.Places.{HasClaim, UsedClusters}
+use Rattle.store_model.specs.Rows.{Copying, InJob, OpenClaim, Posted, Ready, Row, Rows, Stage, with_row}
+use Rattle.store_model.specs.Shown.{content}
+use Rattle.store_model.specs.StoreState.{StoreState}
+use Rattle.store_model.proofs.Contents.{HasParents, same_content}
+use Rattle.store_model.proofs.PageWritten.{other_page, same_place}
+use Rattle.store_model.proofs.RowsKept.{row_here, row_other}
+use Rattle.store_model.proofs.Sets.{among_either}
+use Rattle.store_model.proofs.Shows.{agree, AreFaultless}
+use Rattle.store_model.proofs.WithEntry.{given_elsewhere, given_here}
+
+-- this page was copied for the row's claim
+pub record IsCopiedFor (pages : ℕ) (rows : Rows) (row : ℕ) (claim : OpenClaim) (page : ℕ) : Type 0 where
+  pub held : (rows row).claim ≡ Some claim
+  pub copied : HasCopied pages (rows row).stage page
+
+-- each page was copied for these rows that was for the others
+abbrev pub HaveNoMore : ℕ → Rows → Rows → Type 0
+HaveNoMore pages rows others = (row : ℕ) (claim : OpenClaim) (page : ℕ) → IsCopiedFor pages others row claim page
+    → IsCopiedFor pages rows row claim page
+
+-- rows of which one is another: for that one no page is copied which wasn't
+pub row_no_more : (pages : ℕ) (rows : Rows) (channel : ℕ) (row : Row)
+    → ((claim : OpenClaim) (page : ℕ) → row.claim ≡ Some claim → HasCopied pages row.stage page
+    → IsCopiedFor pages rows channel claim page) → HaveNoMore pages rows (with_row rows channel row)
+row_no_more pages rows channel row no_more c claim page x = elim (cases_eq c channel) [
+  | inl e ↦
+      let same = row_here rows channel row c e in
+      subst (λ n. IsCopiedFor pages rows n claim page) (sym e)
+      (no_more claim page (sym (ap (λ (r : Row). r.claim) same) ∙ x.held)
+      (subst (λ (r : Row). HasCopied pages r.stage page) same x.copied))
+  | inr ne ↦
+      let same = row_other rows channel row c ne in
+      record {
+        held = sym (ap (λ (r : Row). r.claim) same) ∙ x.held;
+        copied = subst (λ (r : Row). HasCopied pages r.stage page) same x.copied;
+      }
+]
+
+-- as of one that has no claim
+pub row_unclaimed : (pages : ℕ) (rows : Rows) (channel : ℕ) (row : Row) → row.claim ≡ None
+    → HaveNoMore pages rows (with_row rows channel row)
+row_unclaimed pages rows channel row none =
+    row_no_more pages rows channel row (λ claim page held. absurd (let bad = sym none ∙ held in cc bad))
+
+-- a page that was copied is one of the cluster's
+pub copied_below : (pages : ℕ) (stage : Stage) (page : ℕ) → HasCopied pages stage page → page < pages
+copied_below pages (Copying left) page has = omega (arith, has)
+copied_below pages Ready page has = has
+copied_below pages (Posted serial) page has = has
+copied_below pages InJob page has = has
+copied_below pages _ page has = absurd has
+
+-- ---- the metadata and the generations stay
+
+module _ (p q : StoreState) (copied : AreCopied p) (super : q.super ≡ p.super) (base : q.base ≡ p.base)
+    (generations : q.generations ≡ p.generations) (no_more : HaveNoMore (cluster_pages_of p.super) p.rows q.rows) where
+  abbrev k : ℕ
+  k = cluster_pages_of p.super
+
+  abbrev reads_in_slot : Image → OpenClaim → ℕ → Page
+  reads_in_slot image claim page =
+      content k image (resolved p.base) (suc p.super.md_len) claim.head (claim.slot * k + page)
+
+  -- each claimed page, and what the slots show, are as they were
+  pub copied_still : ((row : ℕ) (claim : OpenClaim) (page : ℕ) → (p.rows row).claim ≡ Some claim → page < k
+      → q.device.reads (page_of_claim p claim page) ≡ p.device.reads (page_of_claim p claim page))
+      → ((claim : OpenClaim) (page : ℕ) → IsWanted p claim → page < k
+      → reads_in_slot q.device.reads claim page ≡ reads_in_slot p.device.reads claim page) → AreCopied q
+  copied_still same shows row claim held wanted page has =
+      let x = no_more row claim page (record {
+        held = held;
+        copied = subst (λ (s : Super). HasCopied (cluster_pages_of s) (q.rows row).stage page) super has;
+      }) in
+      let was : IsWanted p claim = record {
+        current = ap (λ (g : Map ℕ). g claim.head) (sym generations) ∙ wanted.current;
+        meta = wanted.meta;
+        there = ap (λ (m : Metas). resolved m claim.head) (sym base) ∙ wanted.there;
+        empty = wanted.empty;
+      } in
+      let low = copied_below k (p.rows row).stage page x.copied in
+      ap (λ (s : Super). q.device.reads (claim.cluster * cluster_pages_of s + page)) super
+      ∙ same row claim page x.held low
+      ∙ copied row claim x.held was page x.copied
+      ∙ sym (ap (λ (s : Super). content (cluster_pages_of s) q.device.reads (resolved q.base) (suc s.md_len) claim.head
+      (claim.slot * cluster_pages_of s + page)) super
+      ∙ ap (λ (m : Metas). content k q.device.reads (resolved m) (suc p.super.md_len) claim.head
+      (claim.slot * k + page)) base
+      ∙ shows claim page was low)
+
+  -- what is read is
+  pub copied_same : q.device.reads ≡ p.device.reads → AreCopied q
+  copied_same reads = copied_still (λ row claim page held low. ap (λ (i : Image). i (page_of_claim p claim page)) reads)
+      (λ claim page wanted low. ap (λ (i : Image). reads_in_slot i claim page) reads)
+
+  -- no page of a cluster that some slot has is read otherwise, nor one of a claimed cluster
+  pub copied_agree : HasParents (resolved p.base)
+      → AgreeOn k (resolved p.base) (λ _ _. false) p.device.reads q.device.reads
+      → ((row : ℕ) (claim : OpenClaim) (page : ℕ) → (p.rows row).claim ≡ Some claim → page < k
+      → q.device.reads (page_of_claim p claim page) ≡ p.device.reads (page_of_claim p claim page)) → AreCopied q
+  copied_agree parents agree same = copied_still same (λ claim page wanted low.
+      same_content k (resolved p.base) parents (λ _ _. false) p.device.reads q.device.reads agree (suc p.super.md_len)
+      claim.head (claim.slot * k + page) refl)
+
+  -- nothing is read otherwise behind the fixed clusters
+  pub copied_behind : HasParents (resolved p.base) → AreFaultless p.super (resolved p.base)
+      → UsedClusters p.super p.clusters p.base (HasClaim p.rows p.job)
+      → ((page : ℕ) → fixed_clusters_of p.super * k ≤ page → q.device.reads page ≡ p.device.reads page) → AreCopied q
+  copied_behind parents faultless used same = copied_agree parents
+      (agree p.super (resolved p.base) parents faultless p.device.reads q.device.reads same)
+      (λ row claim page held low.
+      let far = (used.apart claim.cluster
+      (inl (record { channel = row; claim = claim; held = held; is = refl }))).0 in
+      let le = mul-le-mul_right k far in
+      same (page_of_claim p claim page) (omega (arith, le)))
+
+  -- a page of a volume is read otherwise
+  pub copied_written : 0 < k → IsLawful p.super.md_len (resolved p.base) → resolved p.base ≡ p.base
+      → UsedClusters p.super p.clusters p.base (HasClaim p.rows p.job)
+      → (head page place : ℕ) → IsPageOf p.super (resolved p.base) head page place
+      → IsSameButAt place p.device.reads q.device.reads → AreCopied q
+  copied_written some lawful plain used head page place at same = copied_still
+      (λ row claim n held low. same (page_of_claim p claim n) (λ e.
+      let one = same_place k claim.cluster at.cluster n (page % k) low (mod-lt page some) (e ∙ at.place_is) in
+      (used.apart claim.cluster (inl (record { channel = row; claim = claim; held = held; is = refl }))).1 (record {
+        head = head;
+        meta = at.meta;
+        there = ap (λ (m : Metas). m head) (sym plain) ∙ at.there;
+        place = page / k;
+        in_slot = at.in_slot ∙ ap (λ n. Some n) (sym one.row);
+      })))
+      (λ claim n wanted low. other_page p.super some (resolved p.base) lawful head page place at p.device.reads
+      q.device.reads (q.device.reads place) refl same (suc p.super.md_len) claim.head (claim.slot * k + n)
+      (apart claim n wanted low))
+    where
+      apart : (claim : OpenClaim) (n : ℕ) → IsWanted p claim → n < k
+          → ((claim.head == head) && (claim.slot * k + n == page)) ≡ false
+      apart claim n wanted low = elim (cases_Bool (claim.head == head)) [
+        | inr other ↦ rw other refl
+        | inl is ↦ elim (cases_Bool (claim.slot * k + n == page)) [
+          | inr other ↦ rw (is, other) refl
+          | inl here ↦
+              let h : claim.head ≡ head = eqb-true claim.head head is in
+              let e : page / k ≡ claim.slot =
+              ap (λ m. m / k) (sym (eqb-true (claim.slot * k + n) page here)) ∙ div-mul-add claim.slot k n low in
+              let m : wanted.meta ≡ at.meta = let both = sym wanted.there ∙ ap (resolved p.base) h ∙ at.there in cc both in
+              absurd (let bad = sym wanted.empty ∙ ap (λ (x : Meta). slot x claim.slot) m ∙ ap (slot at.meta) (sym e)
+              ∙ at.in_slot in cc bad)
+        ]
+      ]
+
+-- ---- a commit
+
+-- the generation of a blob that is renewed is a new number, and that of any other stays
+pub renewed : (generations : Map ℕ) (drawn : ℕ) (heads : List ℕ) (head number : ℕ)
+    → all_renewed generations drawn heads head ≡ Some number
+    → (drawn < number) ⊎ ((is_among head heads ≡ false) × (generations head ≡ Some number))
+renewed generations drawn [] head number is = inr (refl, is)
+renewed generations drawn (h ∷ heads) head number is =
+    elim (renewed (with_entry generations h (drawn + 1)) (drawn + 1) heads head number is) [
+      | inl later ↦ inl (omega (arith, later))
+      | inr x ↦ elim (cases_eq head h) [
+        | inl e ↦
+            let one : drawn + 1 ≡ number =
+            let both = sym (given_here generations h (drawn + 1) head e) ∙ x.1 in cc both in
+            inl (omega (arith, one))
+        | inr ne ↦ inr (
+          elim (cases_Bool (is_among head (h ∷ heads))) [
+            | inr out ↦ out
+            | inl among ↦ elim (among_either head h heads among) [
+              | inl e ↦ absurd (ne e)
+              | inr later ↦ absurd (both_ways (is_among head heads) x.0 later)
+            ]
+          ],
+          sym (given_elsewhere generations h (drawn + 1) head ne) ∙ x.1,
+        )
+      ]
+    ]
+
+-- With other metadata, by which each slot that is empty, of a blob that isn't renewed, was empty and shows what it
+-- showed.
+module _ (p q : StoreState) (copied : AreCopied p) (heads : List ℕ) (super : q.super ≡ p.super)
+    (reads : q.device.reads ≡ p.device.reads)
+    (generations : q.generations ≡ all_renewed p.generations p.drawn heads) (drawn : AreClaimsDrawn p.rows p.drawn)
+    (no_more : HaveNoMore (cluster_pages_of p.super) p.rows q.rows) where
+  pub copied_committed : 0 < cluster_pages_of p.super → (Held : Image → Type 0) → Held p.device.reads
+      → ((head : ℕ) → is_among head heads ≡ false
+      → LeavesEmpty p.super (resolved p.base) (resolved q.base) Held head) → AreCopied q
+  copied_committed some Held holds leaves row claim held wanted page has =
+      let k = cluster_pages_of p.super in
+      let x = no_more row claim page (record {
+        held = held;
+        copied = subst (λ (s : Super). HasCopied (cluster_pages_of s) (q.rows row).stage page) super has;
+      }) in
+      let low = copied_below k (p.rows row).stage page x.copied in
+      let stays : (is_among claim.head heads ≡ false) × (p.generations claim.head ≡ Some claim.generation) =
+      elim (renewed p.generations p.drawn heads claim.head claim.generation
+      (ap (λ (g : Map ℕ). g claim.head) (sym generations) ∙ wanted.current)) [
+        | inl later ↦ absurd (let le = drawn row claim x.held in omega (arith, le, later))
+        | inr is ↦ is
+      ] in
+      let at : (claim.slot * k + page) / k ≡ claim.slot = div-mul-add claim.slot k page low in
+      let was = leaves claim.head stays.0 (claim.slot * k + page) wanted.meta wanted.there
+      (ap (slot wanted.meta) at ∙ wanted.empty) in
+      let before : IsWanted p claim = record {
+        current = stays.1;
+        meta = was.old;
+        there = was.there;
+        empty = ap (slot was.old) (sym at) ∙ was.empty;
+      } in
+      ap (λ (s : Super). q.device.reads (claim.cluster * cluster_pages_of s + page)) super
+      ∙ ap (λ (i : Image). i (page_of_claim p claim page)) reads
+      ∙ copied row claim x.held before page x.copied
+      ∙ sym (ap (λ (s : Super). content (cluster_pages_of s) q.device.reads (resolved q.base) (suc s.md_len) claim.head
+      (claim.slot * cluster_pages_of s + page)) super
+      ∙ ap (λ (i : Image). content k i (resolved q.base) (suc p.super.md_len) claim.head
+      (claim.slot * k + page)) reads
+      ∙ was.same p.device.reads holds)

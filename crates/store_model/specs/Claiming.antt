@@ -1,0 +1,48 @@
+-- A write that finds its slot empty, up to its claim.
+use Rattle.std.specs.Prelude.{◌≡◌, ℕ, ◌/◌, List, ◌∷◌, Option, None, Some, false}
+use Rattle.super_block.specs.Numbers.{cluster_pages_of}
+use Rattle.volume_model.specs.Volumes.{head_of}
+use Rattle.volume_model.specs.Refusals.{refusal}
+use Rattle.volume_model.specs.declared.command.VolumeRef.{VolumeRef}
+use Rattle.volume_model.specs.declared.command.PageWord.{PageWord}
+use Rattle.volume_model.specs.declared.command.Command.{Command}
+use Rattle.volume_model.specs.declared.command.Command.TheVariants as c
+use Rattle.volume_model.specs.declared.reply.Reply.{Reply}
+use Rattle.blob_meta.specs.declared.meta.Meta.{Meta}
+use Rattle.blob_meta.specs.Parents.{slot}
+use Rattle.blob_meta.specs.Resolving.{resolved}
+use Rattle.store_model.specs.Shown.{fixed_of}
+use Rattle.store_model.specs.Rows.{OpenClaim, Stage, with_row}
+use Rattle.store_model.specs.StoreState.{shown, StoreState}
+
+-- a channel's write of a page at this stage, with this claim
+pub record IsWriting (p : StoreState) (stage : Stage) (claim : Option OpenClaim) : Type 0 where
+  pub channel : ℕ
+  pub volume : VolumeRef
+  pub page : ℕ
+  pub word : PageWord
+  pub rest : List Command
+  pub row : p.rows channel ≡ record { left = c.Write volume page word ∷ rest; stage = stage; claim = claim }
+
+-- what refuses the write now
+abbrev pub refused_by : (p : StoreState) → {stage : Stage} → {claim : Option OpenClaim} → IsWriting p stage claim
+    → Option Reply
+refused_by p w = refusal (fixed_of p.super) (shown p) (c.Write w.volume w.page w.word)
+
+-- The blob that the write means, which isn't frozen, with what stands in the page's slot.
+pub record MeansSlot (p : StoreState) {stage : Stage} {claim : Option OpenClaim} (w : IsWriting p stage claim)
+    (cluster : Option ℕ) : Type 0 where
+  pub head : ℕ
+  pub found : head_of (fixed_of p.super) (shown p) w.volume ≡ Some head
+  pub free : p.frozen head ≡ false
+  pub meta : Meta
+  pub there : resolved p.base head ≡ Some meta
+  pub is : slot meta (w.page / cluster_pages_of p.super) ≡ cluster
+
+-- the row at another stage, with another claim
+abbrev pub staged : (p : StoreState) → {stage : Stage} → {claim : Option OpenClaim} → IsWriting p stage claim → Stage
+    → Option OpenClaim → StoreState
+staged p w stage claim = record p {
+  rows = with_row p.rows w.channel
+      (record { left = c.Write w.volume w.page w.word ∷ w.rest; stage = stage; claim = claim });
+}
