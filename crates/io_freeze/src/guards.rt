@@ -61,6 +61,13 @@ impl Guards {
         (self.rows.len() as u64) < u64::from(self.room) && self.drawn < u64::MAX
     }
 
+    /// Whether a number is left for a new generation.
+    pub fn can_renew(&self) -> bool
+        ensures { result ≡ nat_lt self.now.drawn (2 ^ 64 - 1) }
+    {
+        self.drawn < u64::MAX
+    }
+
     /// Holds a head. It isn't frozen, and its generation is a number above every one drawn before.
     pub fn add(&mut self, head: u32)
         requires room { map.len self.old.generations < self.old.room }

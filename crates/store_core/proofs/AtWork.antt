@@ -129,18 +129,18 @@ module _ (p : StoreState) (r : IsRunning p) (runs : p.stopped ≡ None) where
         let held : held_by p.job ≡ taken_by replacing ++ taken_in (erasing old old []) =
         ap held_by is ∙ held_behind (drop written fresh) behind in
         subst (λ l. is_among x l ≡ true) (sym held)
-        (among_left x (taken_by replacing) (taken_in (erasing old old [])) (taken (is_some planned.rooms)))
+        (among_left x (taken_by replacing) (taken_in (erasing old old [])) (taken (is_some planned.effects.rooms)))
       where
         taken : (makes : Bool) → is_among x (if makes then planned.head ∷ fresh else fresh) ≡ true
         taken true = among_later x planned.head fresh among
         taken false = among
 
     -- the chain of a blob that is there
-    pub chain_there : is_some planned.rooms ≡ false → p.chains planned.head ≡ Some (planned.head ∷ old)
+    pub chain_there : is_some planned.effects.rooms ≡ false → p.chains planned.head ≡ Some (planned.head ∷ old)
     chain_there not = can.chain ∙ ap (λ b. if b then None else Some (planned.head ∷ old)) not
 
     -- and none, where the blob is new
-    pub none_there : is_some planned.rooms ≡ true → p.chains planned.head ≡ None
+    pub none_there : is_some planned.effects.rooms ≡ true → p.chains planned.head ≡ None
     none_there makes = can.chain ∙ ap (λ b. if b then None else Some (planned.head ∷ old)) makes
 
     distinct : AreDistinct (places_of planned.pages)
@@ -149,7 +149,7 @@ module _ (p : StoreState) (r : IsRunning p) (runs : p.stopped ≡ None) where
         subst AreDistinct (held_behind (drop written fresh) behind) stands.distinct in
         let taken : AreDistinct (taken_by replacing) =
         distinct_left (taken_by replacing) (taken_in (erasing old old [])) differ in
-        subst AreDistinct (sym can.places) (elim (cases_Bool (is_some planned.rooms)) [
+        subst AreDistinct (sym can.places) (elim (cases_Bool (is_some planned.effects.rooms)) [
           | inl makes ↦ subst (λ (b : Bool). AreDistinct (if b then planned.head ∷ fresh else fresh)) makes taken
           | inr not ↦ (
             elim (cases_Bool (is_among planned.head fresh)) [
@@ -196,7 +196,7 @@ module _ (p : StoreState) (r : IsRunning p) (runs : p.stopped ≡ None) where
         length_places (x ∷ xs) = ap suc (length_places xs)
 
     -- a blob that is there has its metadata
-    pub has_meta : is_some planned.rooms ≡ false → (m : Meta) × (p.base planned.head ≡ Some m)
+    pub has_meta : is_some planned.effects.rooms ≡ false → (m : Meta) × (p.base planned.head ≡ Some m)
     has_meta not = by (p.base planned.head) refl
       where
         by : (o : Option Meta) → p.base planned.head ≡ o → (m : Meta) × (p.base planned.head ≡ Some m)

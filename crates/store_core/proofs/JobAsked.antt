@@ -1,11 +1,13 @@
 -- What is known of a job that a command asks for, before it begins.
 use Rattle.std.proofs.Common.{◌≡◌, ℕ, ◌<◌, ◌^◌, Bool, true, false, List, [], ◌∷◌, length, get_or, drop}
 use Rattle.std.proofs.Common.{All, Option, Some, None, refl, sym, ◌∙◌, ap, subst, arith, inl, inr}
-use Rattle.std.specs.Prelude.{if◌then◌else◌, is_some, not}
+use Rattle.std.specs.Prelude.{◌||◌, if◌then◌else◌, is_some, nat_lt, not}
 use Rattle.std.specs.Ordering.{nat_cmp}
 use Rattle.std.specs.FinMap as map
 use Rattle.std.proofs.lemmas.Bool.{cases_Bool, both_ways, cases_eq}
 use Rattle.std.proofs.lemmas.List.Elements.{All-from_recursion}
+use Rattle.std.proofs.lemmas.List.{take_all}
+use Rattle.std.proofs.lemmas.Bool.Decides.{nat_tests}
 use Rattle.bit_array.specs.Bits.{is_in}
 use Rattle.super_block.specs.declared.page.Super.{Super}
 use Rattle.super_block.specs.Placed.{IsPlaced}
@@ -18,7 +20,8 @@ use Rattle.volume_model.specs.declared.reply.Reply.TheVariants as r
 use Rattle.blob_meta.specs.declared.meta.Meta.{Meta}
 use Rattle.blob_meta.specs.declared.job.Job.{Job}
 use Rattle.blob_meta.specs.declared.job.Replacement.{Replacement}
-use Rattle.blob_meta.specs.Jobs.{create_job, job_of_one, new_meta}
+use Rattle.blob_meta.specs.Jobs.{create_job, job_of_one, new_meta, resize_job, resized_meta}
+use Rattle.blob_meta.specs.Faults.{clusters_of}
 use Rattle.blob_meta.specs.Parents.{slot}
 use Rattle.blob_meta.specs.Says.{meta_of}
 use Rattle.blob_meta.proofs.Inverse.{says}
@@ -38,17 +41,19 @@ use Rattle.store_model.specs.Jobs.{places_of, IsPacked, MovesClusters, Needs}
 use Rattle.store_model.specs.Asking.{AsksFor, creates, IsJobFor, IsSyncing, resizes, syncs}
 use Rattle.store_model.specs.RunInvariant.{CanBeWritten, IsLoadable, RunsWell}
 use Rattle.store_model.proofs.JobReady.{job_writable}
+use Rattle.store_model.proofs.Cut.{cut, is_cut as is_taken, length_cut}
+use Rattle.store_model.proofs.OneReplacement.{base_lawful}
 use Rattle.store_model.proofs.Known.{Known}
 use Rattle.store_model.proofs.NewBlob.{empty_slot, two_written}
-use Rattle.store_model.proofs.Replaced.{mapped_still, mapped_was}
 use Rattle.store_model.proofs.Sets.{among_either, among_first, are_distinct, were_clear}
 use Rattle.store_model.proofs.WithEntry.{given_here, given_elsewhere}
 use Rattle.store_core.specs.Begins.{taken_for, AsksToWrite, IsPrepared, IsTaken}
+use Rattle.store_core.specs.Effects.{cut_clusters, is_cut, is_live_kept, live_behind, numbered_by}
 use Rattle.store_core.specs.StoreInvariant.{IsRunning}
-use Rattle.store_core.specs.declared.job.Rooms.{Rooms}
 use Rattle.store_core.specs.declared.preparing.Prepared.{Prepared}
 use Rattle.store_core.proofs.AtWork.{page_of, got}
 use Rattle.store_core.proofs.Cleared.{among_get}
+use Rattle.store_core.proofs.CutClusters.{cut_moves, cut_once, none_cut}
 use Rattle.store_core.proofs.JobPlaces.{once_each, places_from}
 
 pub all_fit : (xattrs : Xattrs) → CanBeWritten xattrs → All FitsPage xattrs
@@ -67,12 +72,12 @@ same_one head other new meta changes is list =
     let metas : Some new ≡ Some meta = ap (λ (x : Replacement). x.new) one in
     record { head_is = ap (λ (x : Replacement). x.head) one; new_is = cc metas }
 
--- what the commit makes of a blob that is there, or new
-abbrev pub commit_by : Bool → ℕ → Xattrs → Committing
-commit_by there head xattrs = record {
+-- what the commit makes of a blob that is there, of which slots are cut or not, or of a new one
+abbrev pub commit_by : Bool → ℕ → Bool → Option Xattrs → Committing
+commit_by there head cut live = record {
   reply = if there then r.Ok else r.Made head;
-  live = Some xattrs;
-  renews = if there then [] else head ∷ [];
+  live = live;
+  renews = numbered_by (not there || cut) head;
 }
 
 -- what is taken and planned is what a job begins with
@@ -118,17 +123,14 @@ moves_made s base head new none empty = record {
   filled = λ c bad. absurd (cc bad);
 }
 
--- one whose attributes are synced has its own
-moves_synced : (s : Super) (p : StoreState) (command : Command) (head : ℕ) (new : Meta) → AsksFor p command head new
-    → MovesClusters s p.base (with_entry p.base head new) [] []
-moves_synced s p command head new asks = record {
-  kept = λ c is. inl (mapped_still p.base head asks.old new asks.after.synced asks.there asks.new_is c is);
-  let_go = λ c bad. absurd (cc bad);
-  gained = λ c is. inl (mapped_was p.base head asks.old new asks.after.synced asks.there asks.new_is c is);
-  filled = λ c bad. absurd (cc bad);
-}
-
 -- ---- what is asked
+
+-- a map of all its slots
+whole_cut : (map : List (Option ℕ)) → cut map (length map) None ≡ map
+whole_cut map = is_taken map (length map) None (omega arith) ∙ take_all (length map) map (omega arith)
+
+ltb-irrefl : (n : ℕ) → nat_lt n n ≡ false
+ltb-irrefl n = grind (arith, nat_tests)
 
 module _ (p : StoreState) (running : IsRunning p) (runs : p.stopped ≡ None) (command : Command) (head : ℕ) (new : Meta)
     (asks : AsksToWrite p command head new) where
@@ -156,11 +158,13 @@ module _ (p : StoreState) (running : IsRunning p) (runs : p.stopped ≡ None) (c
       (running.facts.loadable head m there).stored.low
 
   -- what is known of it, whichever verb asks
-  pub record IsAsked (there : Bool) : Type 0 where
-    pub commit : asks.commit ≡ commit_by there head new.xattrs
+  pub record IsAsked (before : Option Meta) : Type 0 where
+    pub commit : asks.commit
+        ≡ commit_by (is_some before) head (is_cut before new) (live_behind (is_live_kept command) new)
     pub xattrs : CanBeWritten new.xattrs
     pub internal : CanBeWritten new.internal
-    pub moves : MovesClusters p.super p.base (with_entry p.base head new) [] []
+    pub once : AreDistinct (cut_clusters before new)
+    pub moves : MovesClusters p.super p.base (with_entry p.base head new) (cut_clusters before new) []
     pub memory : MayLackMemory (fixed_of p.super) (shown p) command
 
   may_lack : IsSyncing command → MayLackMemory (fixed_of p.super) (shown p) command
@@ -171,40 +175,102 @@ module _ (p : StoreState) (running : IsRunning p) (runs : p.stopped ≡ None) (c
       by (c.Sync volume) is = tt
       by _ is = absurd is
 
-  asked_by : IsJobFor p command (job_of_one head new) asks.commit → IsAsked (is_some (p.base head))
+  -- a verb that syncs makes its attributes read
+  live_synced : IsSyncing command → live_behind (is_live_kept command) new ≡ Some new.xattrs
+  live_synced is = by command is
+    where
+      by : (k : Command) → IsSyncing k → live_behind (is_live_kept k) new ≡ Some new.xattrs
+      by (c.Put volume key value) is = refl
+      by (c.Sync volume) is = refl
+      by _ is = absurd is
+
+  -- of a blob that is there, with its slots cut or others added
+  asked_there : (old : Meta) → p.base head ≡ Some old → (slots : ℕ) → new.map ≡ cut old.map slots None
+      → new.internal ≡ old.internal → MayLackMemory (fixed_of p.super) (shown p) command
+      → asks.commit ≡ record {
+        reply = r.Ok;
+        live = live_behind (is_live_kept command) new;
+        renews = if nat_lt slots (length old.map) then head ∷ [] else [];
+      } → IsAsked (Some old)
+  asked_there old there slots map_is internal memory commit =
+      let long : length new.map ≡ slots = ap (λ (l : List (Option ℕ)). length l) map_is
+      ∙ length_cut {X = Option ℕ} old.map slots None in
+      let was : IsLoadable p.super head old =
+      subst (λ (s : Super). IsLoadable s head old) (sym running.facts.super) (running.facts.loadable head old there) in
+      let lawful = base_lawful known in
+      record {
+        commit = commit ∙ ap (λ n. record {
+          reply = r.Ok;
+          live = live_behind (is_live_kept command) new;
+          renews = if nat_lt n (length old.map) then head ∷ [] else [];
+        }) (sym long);
+        xattrs = (loadable (there_low old there)).stored.xattrs;
+        internal = (loadable (there_low old there)).stored.internal;
+        once = subst (λ n. AreDistinct (clusters_of (drop n old.map))) (sym long)
+            (cut_once p.super p.base head old new slots there lawful was map_is);
+        moves = subst (λ n. MovesClusters p.super p.base (with_entry p.base head new) (clusters_of (drop n old.map)) [])
+            (sym long) (cut_moves p.super p.base head old new slots there lawful was map_is);
+        memory = memory;
+      }
+
+  asked_by : IsJobFor p command (job_of_one head new) asks.commit → IsAsked (p.base head)
   asked_by (syncs y) =
       let same = same_one head y.head new y.new (job_of_one y.head y.new) y.is refl in
       let mine : AsksFor p command head new = subst (λ h. AsksFor p command h new) (sym same.head_is)
       (subst (AsksFor p command y.head) (sym same.new_is) y.asks) in
-      let whole = loadable (there_low mine.old mine.there) in
-      subst IsAsked (sym (ap is_some mine.there)) (record {
-        commit = y.commit_is
-            ∙ ap (λ (m : Meta). record { reply = r.Ok; live = Some m.xattrs; renews = [] }) (sym same.new_is);
-        xattrs = whole.stored.xattrs;
-        internal = whole.stored.internal;
-        moves = moves_synced p.super p command head new mine;
-        memory = may_lack y.asks.syncing;
-      })
+      let kept : new.map ≡ cut mine.old.map (length mine.old.map) None =
+      ap (λ (m : Meta). m.map) mine.new_is ∙ sym (whole_cut mine.old.map) in
+      subst IsAsked (sym mine.there) (asked_there mine.old mine.there (length mine.old.map) kept
+      (ap (λ (m : Meta). m.internal) mine.new_is) (may_lack y.asks.syncing)
+      (y.commit_is
+      ∙ ap (λ (m : Meta). record { reply = r.Ok; live = Some m.xattrs; renews = [] }) (sym same.new_is)
+      ∙ ap (λ (b : Bool). record { reply = r.Ok; live = Some new.xattrs; renews = if b then head ∷ [] else [] })
+      (sym (ltb-irrefl (length mine.old.map)))
+      ∙ ap (λ (o : Option Xattrs). record {
+        reply = r.Ok;
+        live = o;
+        renews = if nat_lt (length mine.old.map) (length mine.old.map) then head ∷ [] else [];
+      }) (sym (live_synced y.asks.syncing))))
   asked_by (creates y) =
       let xattrs = two_xattrs (fixed_of p.super) (shown p) y.name y.uuid in
       let made = new_meta y.head xattrs y.thick y.slots in
       let same = same_one head y.head new made (create_job y.head xattrs y.thick y.slots) y.is refl in
       let none : p.base head ≡ None = ap p.base same.head_is ∙ y.none in
-      subst IsAsked (sym (ap is_some none)) (record {
+      subst IsAsked (sym none) (record {
         commit = y.commit_is
             ∙ ap (λ (h : ℕ). record { reply = r.Made h; live = Some xattrs; renews = h ∷ [] }) (sym same.head_is)
             ∙ ap (λ (m : Meta). record { reply = r.Made head; live = Some m.xattrs; renews = head ∷ [] })
-            (sym same.new_is);
+            (sym same.new_is)
+            ∙ ap (λ (k : Command). record {
+              reply = r.Made head;
+              live = live_behind (is_live_kept k) new;
+              renews = head ∷ [];
+            }) (sym y.command_is);
         xattrs = subst (λ (m : Meta). CanBeWritten m.xattrs) (sym same.new_is)
             (two_written (fixed_of p.super) (shown p) y.name y.uuid y.named);
         internal = subst (λ (m : Meta). CanBeWritten m.internal) (sym same.new_is) (record { names = tt; short = tt });
+        once = tt;
         moves = moves_made p.super p.base head new none
             (λ i. ap (λ (m : Meta). slot m i) same.new_is ∙ empty_slot y.slots i);
         memory = subst (MayLackMemory (fixed_of p.super) (shown p)) (sym y.command_is) tt;
       })
-  asked_by (resizes y) = absurd (let bad = sym (ap (λ (x : Committing). x.live) y.commit_is) ∙ asks.synced in cc bad)
+  asked_by (resizes y) =
+      let made = resized_meta y.old y.slots in
+      let same = same_one head y.head new made (resize_job y.head y.old y.slots) y.is refl in
+      let there : p.base head ≡ Some y.old = ap p.base same.head_is ∙ y.there in
+      subst IsAsked (sym there) (asked_there y.old there y.slots (ap (λ (m : Meta). m.map) same.new_is)
+      (ap (λ (m : Meta). m.internal) same.new_is)
+      (subst (MayLackMemory (fixed_of p.super) (shown p)) (sym y.command_is) tt)
+      (y.commit_is
+      ∙ ap (λ h. record { reply = r.Ok; live = None; renews = if nat_lt y.slots (length y.old.map) then h ∷ [] else [] })
+      (sym same.head_is)
+      ∙ ap (λ (k : Command). record {
+        reply = r.Ok;
+        live = live_behind (is_live_kept k) new;
+        renews = if nat_lt y.slots (length y.old.map) then head ∷ [] else [];
+      }) (sym y.command_is)))
 
-  pub asked : IsAsked (is_some (p.base head))
+  pub asked : IsAsked (p.base head)
   asked = asked_by asks.asked
 
   -- ---- its chain
@@ -290,10 +356,10 @@ module _ (p : StoreState) (running : IsRunning p) (runs : p.stopped ≡ None) (c
       pub all_low : All (λ x. x < p.super.md_len) (head ∷ fresh)
       all_low k d lt = below (get_or (head ∷ fresh) k d) (among_get (head ∷ fresh) k d lt)
 
-    module _ (chains : map.FinMap nat_cmp (List ℕ)) (rooms : Option Rooms) (after : List Bool) (x : Prepared)
-        (is : IsPrepared chains head new rooms p.pages after x) (made : is_some rooms ≡ makes) where
+    module _ (chains : map.FinMap nat_cmp (List ℕ)) (after : List Bool) (x : Prepared)
+        (is : IsPrepared chains head new makes p.pages after x) where
       t : IsTaken is.items head makes p.pages after x.laid
-      t = subst (λ (b : Bool). IsTaken is.items head b p.pages after x.laid) made is.taken
+      t = is.taken
 
       planned_places : places_of x.laid.pages ≡ head ∷ t.fresh
       planned_places = ap places_of t.laid_on.pages ∙ places_from head 0 head t.fresh (parts_of is.items) t.count

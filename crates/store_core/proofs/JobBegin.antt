@@ -1,7 +1,10 @@
 -- The begin of a job, and a command that is logged instead.
 use Rattle.std.proofs.Common.{◌≡◌, ℕ, ◌<◌, Bool, true, false, List, [], ◌∷◌, length, drop}
 use Rattle.std.proofs.Common.{Option, Some, None, refl, sym, ◌∙◌, ap, subst, append-nil}
-use Rattle.std.specs.Prelude.{if◌then◌else◌, is_some, not, slice_index_or, slice_set}
+use Rattle.store_model.specs.Jobs.{MovesClusters}
+use Rattle.store_model.specs.Maps.{with_entry}
+use Rattle.store_core.specs.Effects.{is_cut, is_live_kept, live_behind, numbered_by, AreEffects}
+use Rattle.std.specs.Prelude.{◌||◌, if◌then◌else◌, is_some, not, slice_index_or, slice_set}
 use Rattle.std.proofs.lemmas.List.{get_or_default}
 use Rattle.page_disk.specs.declared.disk.PageDisk.{Ghosts}
 use Rattle.volume_model.specs.Xattrs.{Xattrs}
@@ -15,7 +18,7 @@ use Rattle.store_model.specs.Places.{all_set}
 use Rattle.store_model.specs.Asking.{IsJobFor}
 use Rattle.store_model.specs.Cases.{Begins, IsPosted, IsRefusedAtBegin, Refuses}
 use Rattle.store_core.specs.Begins.{taken_for, AsksToWrite}
-use Rattle.store_core.specs.Jobs.{commit_of, numbered_by, replacing_of, reply_of, writing_job}
+use Rattle.store_core.specs.Jobs.{commit_of, replacing_of, reply_of, writing_job}
 use Rattle.store_core.specs.StoreInvariant.{IsRunning}
 use Rattle.store_core.specs.StoreView.{StoreView, device_of, rows_of, state_of}
 use Rattle.store_core.specs.Steps.{logged_at, IsPostedAt}
@@ -48,21 +51,22 @@ module _ {D : Type 0} (d : Ghosts D) (p : StoreView D) (channel : ℕ) (low : ch
       is ∙ get_or_default p.rows channel row (record { left = []; stage = Ended; claim = None }) low ∙ posted.waits.row
 
   pub begun : (running : IsRunning s) → p.job ≡ None → (planned : Planned) (old : List ℕ)
-      → AsksToWrite s command planned.head planned.new → planned.live ≡ planned.new.xattrs
-      → is_some (s.chains planned.head) ≡ not (is_some planned.rooms)
+      → AsksToWrite s command planned.head planned.new
+      → AreEffects (s.base planned.head) (is_live_kept command) planned.new planned.effects
+      → is_some (s.chains planned.head) ≡ not (is_some planned.effects.rooms)
       → (is_some (s.chains planned.head) ≡ true → s.chains planned.head ≡ Some (planned.head ∷ old))
       → (is_some (s.chains planned.head) ≡ false → old ≡ [])
       → (after : List Bool)
-      → IsReady s planned.head planned.new (is_some planned.rooms) after planned.pages (drop 1 planned.chain)
+      → IsReady s planned.head planned.new (is_some planned.effects.rooms) after planned.pages (drop 1 planned.chain)
       → (row : Row) → row ≡ in_job
       → Begins s (state_of d (record p {
         rows = slice_set p.rows channel row;
         pages = after;
         job = Some (writing_job channel planned old 0);
       }))
-  begun running no_job planned old asks live was chain unerased after is row row_now =
+  begun running no_job planned old asks effects was chain unerased after is row row_now =
       let known = asked s running runs command planned.head planned.new asks in
-      let makes = is_some planned.rooms in
+      let makes = is_some planned.effects.rooms in
       let there : is_some (s.base planned.head) ≡ not makes =
       there_is s running runs command planned.head planned.new asks ∙ was in
       record {
@@ -72,13 +76,13 @@ module _ {D : Type 0} (d : Ghosts D) (p : StoreView D) (channel : ℕ) (low : ch
         changes = job_of_one planned.head planned.new;
         commit = commit_of planned;
         asked = subst (IsJobFor s command (job_of_one planned.head planned.new))
-            (known.commit ∙ ap (λ (b : Bool). commit_by b planned.head planned.new.xattrs) there
-            ∙ commit_is makes planned.head planned.new.xattrs
-            ∙ ap (λ (xs : Xattrs). record {
-              reply = reply_of planned;
-              live = Some xs;
-              renews = numbered_by planned;
-            }) (sym live)) asks.asked;
+            (known.commit
+            ∙ ap (λ (b : Bool). commit_by b planned.head (is_cut (s.base planned.head) planned.new)
+            (live_behind (is_live_kept command) planned.new)) there
+            ∙ ap (λ (b : Bool). commit_by (not makes) planned.head b
+            (live_behind (is_live_kept command) planned.new)) (sym effects.renews)
+            ∙ ap (commit_by (not makes) planned.head planned.effects.renews) (sym effects.live)
+            ∙ commit_is makes planned.head planned.effects.renews planned.effects.live) asks.asked;
         no_zeros = refl;
         claimed = [];
         clusters = tt;
@@ -98,7 +102,8 @@ module _ {D : Type 0} (d : Ghosts D) (p : StoreView D) (channel : ℕ) (low : ch
                   places = is.places;
                   says = is.planned;
                 };
-            clusters = known.moves;
+            clusters = subst (λ l. MovesClusters s.super s.base (with_entry s.base planned.head planned.new) l [])
+                (sym effects.freed) known.moves;
           },
           tt,
         );
@@ -122,13 +127,14 @@ module _ {D : Type 0} (d : Ghosts D) (p : StoreView D) (channel : ℕ) (low : ch
             (sym (append-nil (taken_for makes planned.head (drop 1 planned.chain)))));
       }
     where
-      commit_is : (makes : Bool) (head : ℕ) (xattrs : Xattrs) → commit_by (not makes) head xattrs ≡ record {
+      commit_is : (makes : Bool) (head : ℕ) (cut : Bool) (live : Option Xattrs)
+          → commit_by (not makes) head cut live ≡ record {
         reply = if makes then r.Made head else r.Ok;
-        live = Some xattrs;
-        renews = if makes then head ∷ [] else [];
+        live = live;
+        renews = numbered_by (makes || cut) head;
       }
-      commit_is true head xattrs = refl
-      commit_is false head xattrs = refl
+      commit_is true head cut live = refl
+      commit_is false head cut live = refl
 
       chain_is : (makes : Bool) (head : ℕ) (old : List ℕ) (o : Option (List ℕ)) → is_some o ≡ not makes
           → (is_some o ≡ true → o ≡ Some (head ∷ old)) → o ≡ (if makes then None else Some (head ∷ old))

@@ -80,7 +80,6 @@ module _ (s : Super) (first : Volumes) (script : ℕ → List _) (p : StoreState
                     is = ap (λ xs. create_job head xs false slots) same;
                     commit_is = ap (λ xs. record { reply = r.Made head; live = Some xs; renews = head ∷ [] }) same;
                   });
-              synced = refl;
               next = λ none. fresh_head head next;
             };
       }

@@ -28,7 +28,7 @@ use Rattle.store_model.specs.Rows.{Row, InJob}
 use Rattle.store_core.specs.declared.begin.BeginTurn.{BeginTurn}
 use Rattle.store_core.specs.declared.begin.BeginTurn.TheVariants as begin
 use Rattle.store_model.specs.Phases.{Committing}
-use Rattle.store_core.specs.declared.job.Rooms.{Rooms}
+use Rattle.store_core.specs.declared.effects.Effects.{Effects}
 use Rattle.store_core.specs.declared.preparing.Laid.{Laid}
 use Rattle.store_core.specs.declared.preparing.Prepared.{Prepared}
 use Rattle.store_core.specs.declared.job.RunningJob.{RunningJob}
@@ -70,21 +70,19 @@ pub record IsTaken (items : List Item) (head : ℕ) (makes : Bool) (old new : Li
   pub least : AreLeastClear old (taken_for makes head fresh)
   pub taken : new ≡ all_set old (taken_for makes head fresh) true
 
--- what a job needs for new metadata at a head, with this room where the blob is new
-pub record IsPrepared (chains : map.FinMap nat_cmp (List ℕ)) (head : ℕ) (meta : Meta) (rooms : Option Rooms)
+-- what a job needs to write metadata at a head, where a blob is there or is made
+pub record IsPrepared (chains : map.FinMap nat_cmp (List ℕ)) (head : ℕ) (meta : Meta) (makes : Bool)
     (old new : List Bool) (x : Prepared) : Type 0 where
-  pub live : x.live ≡ meta.xattrs
-  pub rooms_are : x.rooms ≡ rooms
   pub behind : IsSome (map.get chains head) → map.get chains head ≡ Some (head ∷ x.old)
   pub none_behind : map.get chains head ≡ None → x.old ≡ []
   pub items : List Item
   pub are : IsItemsOf meta items
   pub plannable : ArePlannable items
-  pub taken : IsTaken items head (is_some rooms) old new x.laid
+  pub taken : IsTaken items head makes old new x.laid
 
 -- the job that begins with it
-abbrev pub first_job : Prepared → ℕ → ℕ → Meta → RunningJob
-first_job x channel head meta =
+abbrev pub first_job : Prepared → ℕ → ℕ → Meta → Effects → RunningJob
+first_job x channel head meta effects =
     record {
       channel = channel;
       work =
@@ -92,10 +90,9 @@ first_job x channel head meta =
           (record {
             head = head;
             new = meta;
-            live = x.live;
+            effects = effects;
             chain = x.laid.chain;
             pages = x.laid.pages;
-            rooms = x.rooms;
           }) 0;
       old = x.old;
     }
@@ -106,12 +103,11 @@ pub record ReplacesOne (job : Job) : Type 0 where
   pub new : Meta
   pub is : job ≡ job_of_one head new
 
--- What a command asks to be written at a head: new metadata, without slots of zeros. Its commit makes the attributes
--- read that are written. Where no blob is there the head is the page that is next.
+-- What a command asks to be written at a head: new metadata, without slots of zeros. Where no blob is there the head is
+-- the page that is next.
 pub record AsksToWrite (p : StoreState) (command : Command) (head : ℕ) (new : Meta) : Type 0 where
   pub commit : Committing
   pub asked : IsJobFor p command (job_of_one head new) commit
-  pub synced : commit.live ≡ Some new.xattrs
   pub next : p.base head ≡ None → IsFreshHead p.pages head
 
 -- the job that a command asks for

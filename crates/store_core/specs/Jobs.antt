@@ -17,6 +17,8 @@ use Rattle.md_chain.specs.contracts.plan.PlannedPage as planned_page
 use Rattle.store_model.specs.Phases.{Committing, Phase, Marks, Zeros, Writes, Replaces, Erases, Frees, Replacing}
 use Rattle.store_model.specs.Phases.{writing, erasing}
 use Rattle.store_model.specs.StoreState.{JobState, Service, ForCommand, ForInsert, ForRepair}
+use Rattle.store_model.specs.Places.{AreDistinct}
+use Rattle.store_core.specs.Effects.{is_numbered, numbered_by}
 use Rattle.store_core.specs.declared.job.Planned.{Planned}
 use Rattle.store_core.specs.declared.job.Rooms.{Rooms}
 use Rattle.store_core.specs.declared.job.RunningJob.{RunningJob}
@@ -33,29 +35,26 @@ pub record AreRoomsOf (metas : map.FinMap nat_cmp Meta) (chains : map.FinMap nat
   pub chains_fit : map.len chains < rooms.chains
   pub live_fit : map.len live < rooms.live
 
--- the replacement of a blob that is there, or one that makes a blob; it leaves clusters as they are
+-- the replacement of a blob that is there, or one that makes a blob
 abbrev pub replacing_of : Planned → List ℕ → Replacing
 replacing_of p old = record {
   head = p.head;
   new = Some p.new;
-  makes = is_some p.rooms;
+  makes = is_some p.effects.rooms;
   fresh = drop 1 p.chain;
   planned = p.pages;
   old = old;
-  freed = [];
+  freed = p.effects.freed;
 }
 
 -- what the command is answered with then
 abbrev pub reply_of : Planned → Reply
-reply_of p = if is_some p.rooms then r.Made p.head else r.Ok
+reply_of p = if is_some p.effects.rooms then r.Made p.head else r.Ok
 
--- the blob that gets a generation then: a new one
-abbrev pub numbered_by : Planned → List ℕ
-numbered_by p = if is_some p.rooms then p.head ∷ [] else []
-
--- its commit, with which the attributes are read as they are synced
+-- its commit
 abbrev pub commit_of : Planned → Committing
-commit_of p = record { reply = reply_of p; live = Some p.live; renews = numbered_by p }
+commit_of p =
+    record { reply = reply_of p; live = p.effects.live; renews = numbered_by (is_numbered p.effects) p.head }
 
 -- a job of which so many fresh pages are written
 abbrev pub writing_job : ℕ → Planned → List ℕ → ℕ → JobState
@@ -85,9 +84,10 @@ job_seen j = seen j.work
     seen (work.Writing planned written) = writing_job j.channel planned j.old written
     seen (work.Erasing erased) = erasing_job j.channel j.old erased
 
--- The chain that is to be written begins with its head.
-abbrev pub IsMatched : Planned → Type 0
-IsMatched p = p.chain ≡ p.head ∷ drop 1 p.chain
+-- The chain that is to be written begins with its head, and each cluster is freed once.
+pub record IsMatched (p : Planned) : Type 0 where
+  pub headed : p.chain ≡ p.head ∷ drop 1 p.chain
+  pub once : AreDistinct p.effects.freed
 
 abbrev pub IsHeaded : RunningJob → Type 0
 IsHeaded j = headed j.work

@@ -1,5 +1,6 @@
 pub mod LoadedWhole
 pub mod Stages
+pub mod Effects
 pub mod Jobs
 pub mod StoreView
 pub mod Running

@@ -1,7 +1,7 @@
 -- The fields of a running store as contracts see them, and how they are kept in order.
 use Rattle.std.specs.Prelude.{◌≡◌, ◌↔◌, ℕ, ◌+◌, ◌-◌, ◌^◌, ◌<◌, ◌≤◌, Bool, true, [], length, vec_capacity}
 use Rattle.std.specs.Prelude.{slice_index_or}
-use Rattle.std.specs.Prelude.{IfSome, IsSome, List, if◌then◌else◌, is_some, slice_set}
+use Rattle.std.specs.Prelude.{IfSome, IsSome, List, if◌then◌else◌, is_some, slice_set, false, None, Option, Some}
 use Rattle.std.specs.FinMap as map
 use Rattle.bit_array.specs.Bits.{is_in}
 use Rattle.store_model.specs.Maps.{Metas}
@@ -14,6 +14,9 @@ use Rattle.std.specs.Ordering.{nat_cmp}
 use Rattle.blob_meta.specs.declared.meta.Meta.{Meta}
 use Rattle.volume_model.specs.Xattrs.{Xattrs}
 use Rattle.io_freeze.specs.Guards.{GuardsState, renewed}
+use Rattle.store_model.specs.Places.{all_set}
+use Rattle.store_core.specs.Effects.{is_numbered}
+use Rattle.store_core.specs.declared.effects.Effects.{Effects}
 use Rattle.store_core.specs.declared.job.Planned.{Planned}
 use Rattle.store_core.specs.declared.job.Rooms.{Rooms}
 use Rattle.store_core.specs.declared.job.RunningJob.{RunningJob}
@@ -59,23 +62,35 @@ pub record HasRooms (metas : map.FinMap nat_cmp Meta) (chains : map.FinMap nat_c
   pub guards_fit : map.len guards.generations < guards.room
   pub numbers : guards.drawn < 2 ^ 64 - 1
 
+-- Room for what a commit does: for a new blob, and a number for a new generation of one that is there.
+pub record HasRoom (metas : map.FinMap nat_cmp Meta) (chains : map.FinMap nat_cmp (List ℕ))
+    (live : map.FinMap nat_cmp Xattrs) (guards : GuardsState) (e : Effects) : Type 0 where
+  pub blob : IfSome e.rooms (HasRooms metas chains live guards)
+  pub number : e.renews ≡ true → guards.drawn < 2 ^ 64 - 1
+
 -- the same, of what a job is to write
 abbrev pub IsRoomy : map.FinMap nat_cmp Meta → map.FinMap nat_cmp (List ℕ) → map.FinMap nat_cmp Xattrs → GuardsState
     → RunningJob → Type 0
 IsRoomy metas chains live guards j = by j.work
   where
     by : Work → Type 0
-    by (work.Writing planned written) = IfSome planned.rooms (HasRooms metas chains live guards)
+    by (work.Writing planned written) = HasRoom metas chains live guards planned.effects
     by (work.Erasing erased) = Unit {0}
+
+-- the attributes of one blob, if they are given, in place of those that it had
+abbrev pub live_given : map.FinMap nat_cmp Xattrs → ℕ → Option Xattrs → map.FinMap nat_cmp Xattrs
+live_given live head None = live
+live_given live head (Some xattrs) = map.insert live head xattrs
 
 -- the store once it has the blob that was planned
 abbrev pub adopted : {D : Type 0} → Running D → Planned → Running D
 adopted running p = record running {
   metas = map.insert running.metas p.head p.new;
   chains = map.insert running.chains p.head p.chain;
-  live = map.insert running.live p.head p.live;
-  guards = if is_some p.rooms then renewed running.guards p.head else running.guards;
-  heads = if is_some p.rooms then slice_set running.heads p.head true else running.heads;
+  live = live_given running.live p.head p.effects.live;
+  clusters = record { bits = all_set running.clusters.bits p.effects.freed false; claims = [] };
+  guards = if is_numbered p.effects then renewed running.guards p.head else running.guards;
+  heads = if is_some p.effects.rooms then slice_set running.heads p.head true else running.heads;
 }
 
 -- There are sixteen rows; the log and the marks have room for all that is left; the entries of each channel are

@@ -12,8 +12,10 @@ ghost use Rattle.store_core.specs.StoreView.{rows_of, state_of};
 ghost use Rattle.store_core.specs.Steps.{Asks, IsPostedAt, OnlyRow};
 
 use crate::logging::log;
-use crate::preparing::{prepare, rooms_for};
+use crate::effects::{effects_of, keeps_live};
+use crate::preparing::prepare;
 use crate::refusing::halt;
+use crate::rows::first_of;
 use crate::running::Running;
 use blob_meta::{Job, Meta, Replacement};
 use out_of_memory::Memory;
@@ -52,7 +54,8 @@ pub(crate) fn begin<D: PageDisk>(
         (row_begun result (rows_of running.old.rows.items channel)) }
     ensures order { InOrder D.PageDisk running.new }
 {
-    let Ok(rooms) = rooms_for(running, head) else {
+    let live_kept = keeps_live(first_of(running.rows.as_slice(), channel));
+    let Ok(effects) = effects_of(running, live_kept, head, &new) else {
         log(running, channel, Reply::Memory);
         return BeginTurn::Logged;
     };
@@ -62,10 +65,10 @@ pub(crate) fn begin<D: PageDisk>(
         &mut running.pages,
         head,
         &new,
-        rooms,
+        effects.rooms.is_some(),
     ) {
         Ok(Some(prepared)) => {
-            running.job = Some(prepared.job(channel, head, new));
+            running.job = Some(prepared.job(channel, head, new, effects));
             running.rows[channel as usize].serve();
             BeginTurn::Began
         }

@@ -4,18 +4,18 @@ ghost use Rattle.std.specs.Prelude.{◌≡◌, true, false, [], All};
 ghost use Rattle.bit_array.specs.Bits.{is_in};
 ghost use Rattle.store_model.specs.Places.{all_set, AreDistinct};
 
-use pools::PagePool;
+use pools::Pool;
 use volume_model::PlaceList;
 
 /// Makes these places clear, which were in use; no place is claimed.
-pub(crate) fn clear_places(pages: &mut PagePool, places: &PlaceList)
-    requires unclaimed { pages.old.claims ≡ [] }
+pub(crate) fn clear_places<K>(pool: &mut Pool<K>, places: &PlaceList)
+    requires unclaimed { pool.old.claims ≡ [] }
     requires distinct { AreDistinct places.now }
-    requires in_use { All (λ place. is_in pages.old.bits place ≡ true) places.now }
-    ensures bits { pages.new.bits ≡ all_set pages.old.bits places.now false }
-    ensures unclaimed { pages.new.claims ≡ [] }
+    requires in_use { All (λ place. is_in pool.old.bits place ≡ true) places.now }
+    ensures bits { pool.new.bits ≡ all_set pool.old.bits places.now false }
+    ensures unclaimed { pool.new.claims ≡ [] }
 {
     for place in places.as_slice() {
-        pages.free(*place);
+        pool.free(*place);
     }
 }

@@ -5,6 +5,7 @@ ghost use Rattle.std.specs.Option.{option_and_then, option_map};
 ghost use Rattle.store_core.specs.JobTurns.{waits_for_job};
 ghost use Rattle.store_core.specs.Jobs.{job_seen};
 
+use crate::effects::Effects;
 use blob_meta::{Chains, HeadMap, Meta, Metas, Room};
 use md_chain::Plan;
 use out_of_memory::Memory;
@@ -45,13 +46,11 @@ impl Rooms {
 pub(crate) struct Planned {
     pub(crate) head: u32,
     pub(crate) new: Meta,
-    /// The attributes of the new metadata once more, as they are read from the commit on.
-    pub(crate) live: XattrList,
+    /// What the commit does besides.
+    pub(crate) effects: Effects,
     /// The places of the chain, the head first, and their pages.
     pub(crate) chain: PlaceList,
     pub(crate) pages: Plan,
-    /// Room for the blob, where it is new.
-    pub(crate) rooms: Option<Rooms>,
 }
 
 impl Planned {
@@ -62,7 +61,7 @@ impl Planned {
     pub(crate) fn reply(&self) -> Reply
         ensures { result ≡ reply_of self.now }
     {
-        match &self.rooms {
+        match &self.effects.rooms {
             Some(_) => Reply::Made(self.head),
             None => Reply::Ok,
         }

@@ -1,6 +1,6 @@
 //! What a job takes before it begins: memory, pages, and what it will write.
 
-ghost use Rattle.std.specs.Prelude.{◌≡◌, ◌+◌, ◌<◌, ◌≤◌, ◌∷◌, [], true, Some, None, length, is_some, IfOk, IfErr};
+ghost use Rattle.std.specs.Prelude.{◌≡◌, ◌+◌, ◌<◌, ◌≤◌, ◌∷◌, [], true, false, Some, None, length, is_some, IfOk, IfErr};
 ghost use Rattle.std.specs.Prelude.{IfSome, IfNone};
 ghost use Rattle.std.specs.Prelude.{IsSome};
 ghost use Rattle.std.specs.FinMap as map;
@@ -10,11 +10,10 @@ ghost use Rattle.blob_meta.specs.Items.{IsItemsOf};
 ghost use Rattle.md_chain.specs.Packing.{parts_of, ArePlannable, AreFew, FitsPage};
 ghost use Rattle.store_core.specs.Begins.{behind_in, HasChain, IsFreshHead, IsLaid, IsPrepared, IsTaken};
 ghost use Rattle.store_core.specs.Begins.{LacksPages, needed};
-ghost use Rattle.store_core.specs.Running.{HasRooms};
 
 use crate::clearing::clear_places;
-use crate::job::{Planned, Rooms, RunningJob, Work};
-use crate::running::Running;
+use crate::effects::Effects;
+use crate::job::{Planned, RunningJob, Work};
 use crate::taking::take_pages;
 use blob_meta::{Chains, Meta, to_items};
 use descriptors::ItemList;
@@ -22,7 +21,7 @@ use md_chain::{Plan, chain_len, plan_chain};
 use out_of_memory::Memory;
 use pools::PagePool;
 use std::alloc::Global;
-use volume_model::{PlaceList, TryCopy, XattrList};
+use volume_model::PlaceList;
 
 /// Metadata with as many attributes and slots together isn't written: what counts the pages of a chain takes fewer.
 const MOST_PARTS: usize = (1 << 31) - 2;
@@ -34,16 +33,12 @@ pub(crate) struct Laid {
     pub(crate) pages: Plan,
 }
 
-/// What a job needs besides the metadata that it writes.
+/// What a job needs on the device for the metadata that it writes.
 #[derive(Drop)]
 pub(crate) struct Prepared {
-    /// The attributes of the metadata once more.
-    pub(crate) live: XattrList,
     pub(crate) laid: Laid,
     /// The places that stand behind the head.
     pub(crate) old: PlaceList,
-    /// Room for the blob, where it is new.
-    pub(crate) rooms: Option<Rooms>,
 }
 
 impl Prepared {
@@ -51,16 +46,15 @@ impl Prepared {
     ghost use Rattle.store_core.specs.Begins.{first_job};
 
     /// The job that writes the metadata, at its begin.
-    pub(crate) fn job(self, channel: u8, head: u32, new: Meta) -> RunningJob
-        ensures { result ≡ first_job self channel head new }
+    pub(crate) fn job(self, channel: u8, head: u32, new: Meta, effects: Effects) -> RunningJob
+        ensures { result ≡ first_job self channel head new effects }
     {
         let planned = Planned {
             head,
             new,
-            live: self.live,
+            effects,
             chain: self.laid.chain,
             pages: self.laid.pages,
-            rooms: self.rooms,
         };
         RunningJob {
             channel,
@@ -73,28 +67,6 @@ impl Prepared {
     }
 }
 
-/// Room for the blob at a head, where it is new. (Want of memory too if no generation is left for it.)
-pub(crate) fn rooms_for<D>(running: &Running<D>, head: u32) -> Result<Option<Rooms>, Memory>
-    ensures there { IfOk result (λ o. IfNone o (IsSome (map.get running.now.chains head))) }
-    ensures new { IfOk result (λ o. IfSome o (λ rooms. map.get running.now.chains head ≡ None)) }
-    ensures rooms { IfOk result
-        (λ o. IfSome o (HasRooms running.now.metas running.now.chains running.now.live running.now.guards)) }
-{
-    if running.chains.get(head).is_some() {
-        return Ok(None);
-    }
-    if !running.guards.can_add() {
-        return Err(Memory);
-    }
-    let rooms = Rooms::new(
-        running.alloc,
-        &running.metas,
-        &running.chains,
-        &running.live,
-    )?;
-    Ok(Some(rooms))
-}
-
 /// Makes what a job needs for new metadata at a head, and takes its pages, that of the head too where the blob is new;
 /// `None` where too few are clear. Pages are taken last: after `None` and after `Memory` the same ones are in use as
 /// before.
@@ -104,16 +76,16 @@ pub(crate) fn prepare(
     pages: &mut PagePool,
     head: u32,
     new: &Meta,
-    rooms: Option<Rooms>,
+    makes: bool,
 ) -> Result<Option<Prepared>, Memory>
-    requires there { rooms ≡ None → HasChain chains.now head }
-    requires none { IsSome rooms → map.get chains.now head ≡ None }
-    requires next { IsSome rooms → IsFreshHead pages.old.bits head }
+    requires there { makes ≡ false → HasChain chains.now head }
+    requires none { makes ≡ true → map.get chains.now head ≡ None }
+    requires next { makes ≡ true → IsFreshHead pages.old.bits head }
     requires unclaimed { pages.old.claims ≡ [] }
     requires xattrs { All FitsPage new.now.xattrs }
     requires internal { All FitsPage new.now.internal }
     ensures some { IfOk result (λ o. IfSome o
-        (IsPrepared chains.now head new.now rooms pages.old.bits pages.new.bits)) }
+        (IsPrepared chains.now head new.now makes pages.old.bits pages.new.bits)) }
     ensures none { IfOk result
         (λ o. IfNone o (LacksPages (is_some (map.get chains.now head)) new.now pages.old.bits
         × (pages.new.bits ≡ pages.old.bits))) }
@@ -121,20 +93,13 @@ pub(crate) fn prepare(
     ensures unclaimed { pages.new.claims ≡ [] }
 {
     let items = items_of(alloc, new)?;
-    let live = new.xattrs.try_copy(alloc)?;
     let old = places_behind(alloc, chains, head)?;
-    let makes = rooms.is_some();
     let needs = pages_needed(&items, makes);
     if pages.clear_count() < needs {
         return Ok(None);
     }
     let laid = take_chain(alloc, pages, &items, head, makes)?;
-    Ok(Some(Prepared {
-        live,
-        laid,
-        old,
-        rooms,
-    }))
+    Ok(Some(Prepared { laid, old }))
 }
 
 /// How many pages the chain of these items takes: those behind the head, and the head's where the blob is new.

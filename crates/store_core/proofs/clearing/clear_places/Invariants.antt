@@ -2,4 +2,4 @@ use Rattle.store_core.proofs.Cleared.{Clears}
 use Rattle.store_core.proofs.clearing.clear_places.Given as goal
 
 abbrev pub invariant-loop-place : goal.invariant-loop-place
-invariant-loop-place l = Clears l.fn.pages.bits l.places l.place-index l.pages
+invariant-loop-place g l = Clears l.fn.pool.bits l.places l.place-index l.pool

@@ -1,5 +1,5 @@
 use Rattle.std.proofs.Common.{◌≡◌, ◌∷◌, Option, Some, None, ℕ, ◌+◌, ◌≤◌, ◌<◌, [], List, length, get_or, drop, sym}
-use Rattle.std.proofs.Common.{◌∙◌, ap, subst}
+use Rattle.std.proofs.Common.{◌∙◌, ap, refl, subst}
 use Rattle.std.proofs.Common.{arith}
 use Rattle.page_disk.specs.Moments.{IsReplaced, CallsLeaveOnly}
 use Rattle.md_chain.specs.declared.plan.PlannedPage.{PlannedPage}
@@ -9,7 +9,7 @@ use Rattle.store_core.specs.Running.{view_of, InOrder}
 use Rattle.store_core.specs.StoreView.{device_of, rows_of, StoreView}
 use Rattle.store_core.proofs.JobTurned.{channel_low, on_err, on_ok, planned_some, row_some}
 use Rattle.store_core.proofs.JobCommitted.{chain_there, committed_done, committed_more, done_answer, failed_committing}
-use Rattle.store_core.proofs.JobCommitted.{head_below, live_there, meta_there, more_answer, unguarded}
+use Rattle.store_core.proofs.JobCommitted.{freed_in_use, guarded_there, head_below, live_there, meta_there, more_answer, unguarded}
 use Rattle.store_core.proofs.Maps.{heads_adopted}
 use Rattle.std.specs.Prelude.{is_some, IfSome}
 use Rattle.std.specs.Option.{option_map}
@@ -96,6 +96,15 @@ adopt-requires-clause-live g c = λ none.
     live_there g.D.PageDisk (view_of c.args.running.now) c.args.channel c.args.planned c.args.old c.requires.at_work
     (ap is_some none)
 
+pub adopt-requires-clause-held : goal.adopt-requires-clause-held
+adopt-requires-clause-held g c = λ none.
+    guarded_there g.D.PageDisk (view_of c.args.running.now) c.args.channel c.args.planned c.args.old c.requires.at_work
+    (ap is_some none)
+
+pub adopt-requires-clause-in_use : goal.adopt-requires-clause-in_use
+adopt-requires-clause-in_use g c =
+    freed_in_use g.D.PageDisk (view_of c.args.running.now) c.args.channel c.args.planned c.args.old c.requires.at_work
+
 pub adopt-requires-clause-unguarded : goal.adopt-requires-clause-unguarded
 adopt-requires-clause-unguarded g c = λ some.
     unguarded g.D.PageDisk (view_of c.args.running.now) c.args.channel c.args.planned c.args.old c.requires.at_work some
@@ -124,9 +133,9 @@ log-requires-clause-order g c =
       counts = order.counts;
       counted = order.counted;
       no_page = order.no_page;
-      no_cluster = order.no_cluster;
+      no_cluster = refl;
       headed = order.headed;
-      heads = heads_adopted (is_some c.args.planned.rooms) old.sup.md_len old.metas c.args.planned.head
+      heads = heads_adopted (is_some c.args.planned.effects.rooms) old.sup.md_len old.metas c.args.planned.head
           c.args.planned.new old.heads there below order.heads;
       roomy = none_roomy old.job _ c.requires.at_work.taken;
     })
@@ -152,7 +161,7 @@ returns-then-len-eq0-clause-case g c =
     c.args.planned c.args.old (length (drop 1 c.args.planned.chain)) c.requires.at_work))
     (subst (λ (l : List PlannedPage). CallsLeaveOnly g.D.PageDisk c.args.running.now.disk c.replace.new.disk
     (IsReplaced (g.D.PageDisk.images c.args.running.now.disk) (g.D.PageDisk.now c.args.running.now.disk)
-    c.page_at-page.result (first l).page)) c.as_slice.ensures c.replace.ensures.any_moment) c.requires.matched
+    c.page_at-page.result (first l).page)) c.as_slice.ensures c.replace.ensures.any_moment) c.requires.matched.headed
     (view_of c.adopt.new.running) (ap view_of c.adopt.ensures) (view_of c.log.new.running)
     (entered_so g.D.PageDisk (view_of c.adopt.new.running) (view_of c.log.new.running) c.args.channel
     c.reply-reply.result c.args.planned c.reply-reply.ensures c.log.ensures.logged)
@@ -171,7 +180,7 @@ returns-then-len-eq0-clause-answer g c =
     c.args.old (length (drop 1 c.args.planned.chain)) c.requires.at_work))
     (subst (λ (l : List PlannedPage). CallsLeaveOnly g.D.PageDisk c.args.running.now.disk c.replace.new.disk
     (IsReplaced (g.D.PageDisk.images c.args.running.now.disk) (g.D.PageDisk.now c.args.running.now.disk)
-    c.page_at-page.result (first l).page)) c.as_slice.ensures c.replace.ensures.any_moment) c.requires.matched
+    c.page_at-page.result (first l).page)) c.as_slice.ensures c.replace.ensures.any_moment) c.requires.matched.headed
     (view_of c.adopt.new.running) (ap view_of c.adopt.ensures) (view_of c.log.new.running)
     (entered_so g.D.PageDisk (view_of c.adopt.new.running) (view_of c.log.new.running) c.args.channel
     c.reply-reply.result c.args.planned c.reply-reply.ensures c.log.ensures.logged)
@@ -186,7 +195,7 @@ returns-clause-case g c =
     c.args.planned c.args.old (length (drop 1 c.args.planned.chain)) c.requires.at_work))
     (subst (λ (l : List PlannedPage). CallsLeaveOnly g.D.PageDisk c.args.running.now.disk c.replace.new.disk
     (IsReplaced (g.D.PageDisk.images c.args.running.now.disk) (g.D.PageDisk.now c.args.running.now.disk)
-    c.page_at-page.result (first l).page)) c.as_slice.ensures c.replace.ensures.any_moment) c.requires.matched
+    c.page_at-page.result (first l).page)) c.as_slice.ensures c.replace.ensures.any_moment) c.requires.matched.headed
     (view_of c.adopt.new.running) (ap view_of c.adopt.ensures) (view_of c.log.new.running)
     (entered_so g.D.PageDisk (view_of c.adopt.new.running) (view_of c.log.new.running) c.args.channel
     c.reply-reply.result c.args.planned c.reply-reply.ensures c.log.ensures.logged)
@@ -205,7 +214,7 @@ returns-clause-answer g c =
     c.args.planned c.args.old (length (drop 1 c.args.planned.chain)) c.requires.at_work))
     (subst (λ (l : List PlannedPage). CallsLeaveOnly g.D.PageDisk c.args.running.now.disk c.replace.new.disk
     (IsReplaced (g.D.PageDisk.images c.args.running.now.disk) (g.D.PageDisk.now c.args.running.now.disk)
-    c.page_at-page.result (first l).page)) c.as_slice.ensures c.replace.ensures.any_moment) c.requires.matched
+    c.page_at-page.result (first l).page)) c.as_slice.ensures c.replace.ensures.any_moment) c.requires.matched.headed
     (view_of c.adopt.new.running) (ap view_of c.adopt.ensures) (view_of c.log.new.running)
     (entered_so g.D.PageDisk (view_of c.adopt.new.running) (view_of c.log.new.running) c.args.channel
     c.reply-reply.result c.args.planned c.reply-reply.ensures c.log.ensures.logged)

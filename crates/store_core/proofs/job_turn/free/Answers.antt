@@ -57,4 +57,4 @@ returns-clause-case g c =
     c.page_at-page.result page 2 (device_of g.D.PageDisk c.write_last.new.disk)) zeros
     (on_ok c.write_last.result _ (sym c.is_err.ensures.value ∙ c.if-is_err.false) c.write_last.ensures.moves))
     (λ tells. on_ok c.write_last.result _ (sym c.is_err.ensures.value ∙ c.if-is_err.false)
-    (c.write_last.ensures.durable tells)) c.clear_places.new.pages.bits c.clear_places.ensures.bits
+    (c.write_last.ensures.durable tells)) c.clear_places.new.pool.bits c.clear_places.ensures.bits

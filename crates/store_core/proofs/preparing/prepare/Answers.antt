@@ -13,31 +13,30 @@ lacking : (makes : Bool) (clear parts : ℕ) → 0 < parts → clear < (if makes
 lacking true clear parts some low = omega (arith, some, low)
 lacking false clear parts some low = low
 
--- where room is taken no blob is there
-not_there : {R : Type 0} (rooms : Option R) (chain : Option (List ℕ)) → (rooms ≡ None → is_some chain ≡ true)
-    → (IsSome rooms → chain ≡ None) → is_some chain ≡ not (is_some rooms)
-not_there None chain there none = there refl
-not_there (Some x) chain there none = ap is_some (none refl)
+-- a blob that is made isn't there
+not_there : (makes : Bool) (chain : Option (List ℕ)) → (makes ≡ false → is_some chain ≡ true)
+    → (makes ≡ true → chain ≡ None) → is_some chain ≡ not makes
+not_there false chain there none = there refl
+not_there true chain there none = ap is_some (none refl)
 
 pub returns-then-clear_count-needs-clause-none : goal.returns-then-clear_count-needs-clause-none
 returns-then-clear_count-needs-clause-none c =
     let some = some_parts 4072 c.in_ok-items.items in
-    let rooms = c.args.rooms in
+    let makes = c.args.makes in
     let chain = map.get c.args.chains.now c.args.head in
-    let there : is_some chain ≡ not (is_some rooms) =
-    not_there rooms chain (λ none. ap is_some (c.requires.there none).1) c.requires.none in
+    let there : is_some chain ≡ not makes =
+    not_there makes chain (λ none. ap is_some (c.requires.there none).1) c.requires.none in
     let long = length (parts_of c.in_ok-items.items) in
-    let needs = c.pages_needed-needs.ensures
-    ∙ ap (λ (b : Bool). if b then long else long - 1) c.is_some-makes.ensures in
+    let needs = c.pages_needed-needs.ensures in
     let clear = c.clear_count.ensures in
     let fewer = c.if-clear_count-needs.true in
-    let low : clear_in c.args.pages.now.bits < (if is_some rooms then long else long - 1) =
+    let low : clear_in c.args.pages.now.bits < (if makes then long else long - 1) =
     omega (arith, clear, fewer, needs) in (
       record {
         count = long - 1;
         needs = record { items = c.in_ok-items.items; are = c.in_ok-items.ensures.are; chain = omega (arith, some) };
         lacking = subst (λ (b : Bool). clear_in c.args.pages.now.bits < (if b then long - 1 else long - 1 + 1))
-            (sym there) (lacking (is_some rooms) (clear_in c.args.pages.now.bits) long some low);
+            (sym there) (lacking makes (clear_in c.args.pages.now.bits) long some low);
       },
       refl,
     )
