@@ -8,30 +8,11 @@ ghost use Rattle.volume_model.specs.declared.command.Command.TheVariants as c;
 use crate::command::{PageWord, VolumeRef};
 use crate::machine::Volumes;
 use crate::machine::rows::Page;
+use crate::page::page_of;
 use crate::reply::Reply;
 use out_of_memory::Memory;
 use std::alloc::Global;
 use std::boxed::Box;
-
-fn fill_page(word: u64) -> Page
-    ensures { result ≡ v.fill_page word }
-{
-    let bytes = word.to_le_bytes();
-    let mut page = [0; 4096];
-    for (at, byte) in page.iter_mut().enumerate() {
-        *byte = bytes[at % 8];
-    }
-    page
-}
-
-fn page_of(word: &PageWord) -> Page
-    ensures { result ≡ v.page_of word.now }
-{
-    match word {
-        PageWord::Fill(word) => fill_page(*word),
-        PageWord::Full(page) => **page,
-    }
-}
 
 #[tactic(auto, unfolding(crate::specs::Volumes::zero_page))]
 fn push_zeros(pages: &mut Vec<Page>, count: u64) -> Result<(), Memory>
