@@ -8,3 +8,4 @@ pub mod SlotSums
 pub mod EntriesInOrder
 pub mod MapOfEntries
 pub mod NextHead
+pub mod PlacesRead

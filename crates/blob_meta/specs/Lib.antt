@@ -9,3 +9,4 @@ pub mod Jobs
 pub mod Asked
 pub mod ShownBy
 pub mod SlotCounts
+pub mod Pages

@@ -9,7 +9,7 @@ use crate::pieces::Piece::{Hex, Words};
 use crate::pieces::push_pieces;
 use crc32c::sum;
 use out_of_memory::Memory;
-use volume_model::PageWord;
+use volume_model::{PageWord, page_of};
 
 /// The little-endian word of a page's first eight bytes.
 fn first_word(page: &[u8; 4096]) -> u64
@@ -24,7 +24,7 @@ fn first_word(page: &[u8; 4096]) -> u64
 fn is_filled(page: &[u8; 4096], word: u64) -> bool
     ensures { result ≡ bytes_eq page.now (fill_page word) }
 {
-    *page == PageWord::Fill(word).page()
+    *page == page_of(&PageWord::Fill(word))
 }
 
 /// Appends the word that a page is filled with, if it is one word repeated, and else the checksum of its bytes. After

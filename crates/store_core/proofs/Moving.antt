@@ -1,5 +1,5 @@
 -- What device calls make of what is seen of the device.
-use Rattle.std.proofs.Common.{◌≡◌, ℕ, ◌+◌, ◌≤◌, Bool, true, false, List, Result, Ok, Err, refl, IsTrue}
+use Rattle.std.proofs.Common.{◌≡◌, ℕ, ◌+◌, ◌<◌, ◌≤◌, arith, Bool, true, false, List, Result, Ok, Err, refl, IsTrue}
 use Rattle.std.specs.Prelude.{OnOk, OnErr, if◌then◌else◌}
 use Rattle.page_disk.specs.Disk.{HasCause, Image, with_page}
 use Rattle.page_disk.specs.declared.disk.PageDisk.{Ghosts}
@@ -7,7 +7,13 @@ use Rattle.page_disk.specs.declared.disk.DiskFault.{DiskFault}
 use Rattle.volume_model.specs.Volumes.{zero_page}
 use Rattle.store_model.specs.Cases.{WritesOnePage, read_after}
 use Rattle.store_model.specs.Cases.{FailsToReplace}
+use Rattle.store_model.specs.Cases.Flush.{IsFlushed}
 use Rattle.store_core.specs.StoreView.{device_of}
+
+read_still : (tells : Bool) (old new : Image) → (IsTrue tells → new ≡ old)
+    → (if tells then new else (λ p. zero_page)) ≡ (if tells then old else (λ p. zero_page))
+read_still true old new is = is refl
+read_still false old new is = refl
 
 read_told : (tells : Bool) (old new : Image) (place : ℕ) (page : List ℕ)
     → (IsTrue tells → new ≡ with_page old place page)
@@ -46,3 +52,21 @@ module _ {D T : Type 0} (d : Ghosts D) (r : Result T DiskFault) (old new : D) (p
       by (Ok x) faults = tt
       by (Err e) faults =
           record { clock = later; read_faults = read_faults; write_faults = faults.cause refl; read_calls = reads }
+
+module _ {D T : Type 0} (d : Ghosts D) (r : Result T DiskFault) (old new : D) where
+  pub flushes : (IsTrue d.tells → d.now new ≡ d.now old) → OnOk r (d.clock old < d.clock new)
+      → d.read_faults new ≡ d.read_faults old → OnOk r (d.write_faults new ≡ d.write_faults old)
+      → d.reads new ≡ d.reads old → OnOk r (IsFlushed (device_of d old) (device_of d new))
+  flushes same rises read_faults no_fault reads = by r rises no_fault
+    where
+      by : (x : Result T DiskFault) → OnOk x (d.clock old < d.clock new)
+          → OnOk x (d.write_faults new ≡ d.write_faults old)
+          → OnOk x (IsFlushed (device_of d old) (device_of d new))
+      by (Ok x) rises no_fault = record {
+        reads = read_still d.tells (d.now old) (d.now new) same;
+        clock = omega (arith, rises);
+        read_faults = read_faults;
+        write_faults = no_fault;
+        read_calls = reads;
+      }
+      by (Err e) rises no_fault = tt

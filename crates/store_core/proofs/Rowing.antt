@@ -7,10 +7,10 @@ use Rattle.std.proofs.Math.Path.{fun_ext}
 use Rattle.page_disk.specs.declared.disk.PageDisk.{Ghosts}
 use Rattle.volume_model.specs.declared.command.Command.{Command}
 use Rattle.volume_model.specs.declared.reply.Reply.{Reply}
-use Rattle.store_model.specs.Rows.{Row, Rows, Answered, Decided, Ended, with_row, entry_of}
-use Rattle.store_model.specs.StoreState.{logged}
+use Rattle.store_model.specs.Rows.{Row, Rows, Answered, Decided, Ended, Stage, with_row, entry_of}
+use Rattle.store_model.specs.StoreState.{logged, logged_to}
 use Rattle.store_core.specs.StoreView.{StoreView, device_of, rows_of, state_of}
-use Rattle.store_core.specs.Steps.{decided, logged_at, OnlyRow}
+use Rattle.store_core.specs.Steps.{left_at, logged_at, logged_then, OnlyRow}
 
 -- a list with an item has a first one
 pub first_of : {A : Type 0} (l : List A) → 0 < length l → (x : A) × (rest : List A) × (l ≡ x ∷ rest)
@@ -37,20 +37,26 @@ module _ (rows : List Row) (channel : ℕ) (row : Row) (low : channel < length r
   rows_set = fun_ext row_at
 
 -- with an entry logged, the state is the one in which it is
-pub state_logged : {D : Type 0} (d : Ghosts D) (p : StoreView D) (channel : ℕ) (command : Command) (rest : List Command)
-    (reply : Reply) → channel < length p.rows
-    → state_of d (logged_at p channel command rest reply (d.clock p.disk))
-    ≡ logged (state_of d p) channel command rest reply (device_of d p.disk)
-state_logged d p channel command rest reply low =
+pub state_logged_then : (next : Stage) {D : Type 0} (d : Ghosts D) (p : StoreView D) (channel : ℕ) (command : Command)
+    (rest : List Command) (reply : Reply) → channel < length p.rows
+    → state_of d (logged_then next p channel command rest reply (d.clock p.disk))
+    ≡ logged_to next (state_of d p) channel command rest reply (device_of d p.disk)
+state_logged_then next d p channel command rest reply low =
     ap (λ (rows : Rows). record (state_of d p) {
       rows = rows;
       log = p.log ++ entry_of p.log channel command reply ∷ [];
       marks = p.marks ++ d.clock p.disk ∷ [];
     })
-    (rows_set p.rows channel (record { left = rest; stage = Decided Answered; claim = None }) low)
+    (rows_set p.rows channel (record { left = rest; stage = next; claim = None }) low)
+
+pub state_logged : {D : Type 0} (d : Ghosts D) (p : StoreView D) (channel : ℕ) (command : Command) (rest : List Command)
+    (reply : Reply) → channel < length p.rows
+    → state_of d (logged_at p channel command rest reply (d.clock p.disk))
+    ≡ logged (state_of d p) channel command rest reply (device_of d p.disk)
+state_logged = state_logged_then (Decided Answered)
 
 -- a row whose first command was taken out
-pub taken_row : (old new : Row) (command : Command) → old.left ≡ command ∷ new.left → new.stage ≡ Decided Answered
-    → new.claim ≡ None → new ≡ decided old
-taken_row old new command left stage claim =
+pub taken_row : (old new : Row) (command : Command) (next : Stage) → old.left ≡ command ∷ new.left → new.stage ≡ next
+    → new.claim ≡ None → new ≡ left_at next old
+taken_row old new command next left stage claim =
     λ i. record { left = ap (λ (l : List Command). drop 1 l) (sym left) i; stage = stage i; claim = claim i }

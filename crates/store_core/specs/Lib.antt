@@ -6,6 +6,7 @@ pub mod StoreView
 pub mod Running
 pub mod Steps
 pub mod TurnMade
+pub mod ChannelTurns
 pub mod Surviving
 pub mod StoreInvariant
 pub mod Answering

@@ -19,17 +19,33 @@ pub record OnlyRow (old new : List Row) (channel : ℕ) (given : Row) : Type 0 w
   pub row : rows_of new channel ≡ given
   pub others : (other : ℕ) → other ≢ channel → rows_of new other ≡ rows_of old other
 
--- a row once its first command is logged
-abbrev pub decided : Row → Row
-decided row = record { left = drop 1 row.left; stage = Decided Answered; claim = None }
+-- a row once its first command is logged, at this stage then
+abbrev pub left_at : Stage → Row → Row
+left_at next row = record { left = drop 1 row.left; stage = next; claim = None }
 
--- an entry is logged, with its mark
-abbrev pub logged_at : {D : Type 0} → StoreView D → ℕ → Command → List Command → Reply → ℕ → StoreView D
-logged_at p channel command rest reply mark = record p {
-  rows = slice_set p.rows channel (record { left = rest; stage = Decided Answered; claim = None });
+-- in a turn of the metadata thread: the channel is to be told
+abbrev pub decided : Row → Row
+decided = left_at (Decided Answered)
+
+-- in a turn of the channel's own: it goes on with its next command
+abbrev pub gone_on : Row → Row
+gone_on = left_at Idle
+
+-- an entry is logged, with its mark, and its row is at this stage then
+abbrev pub logged_then : Stage → {D : Type 0} → StoreView D → ℕ → Command → List Command → Reply → ℕ → StoreView D
+logged_then next p channel command rest reply mark = record p {
+  rows = slice_set p.rows channel (record { left = rest; stage = next; claim = None });
   log = p.log ++ entry_of p.log channel command reply ∷ [];
   marks = p.marks ++ mark ∷ [];
 }
+
+-- in a turn of the metadata thread
+abbrev pub logged_at : {D : Type 0} → StoreView D → ℕ → Command → List Command → Reply → ℕ → StoreView D
+logged_at = logged_then (Decided Answered)
+
+-- in a turn of the channel's own
+abbrev pub logged_on : {D : Type 0} → StoreView D → ℕ → Command → List Command → Reply → ℕ → StoreView D
+logged_on = logged_then Idle
 
 -- a channel whose first command is at this stage
 pub record Waits {D : Type 0} (p : StoreView D) (channel : ℕ) (stage : Stage) : Type 0 where

@@ -4,8 +4,8 @@ ghost use Rattle.std.specs.Prelude.{◌≡◌, ◌<◌, OnOk, OnErr, IsTrue};
 ghost use Rattle.page_disk.specs.Disk.{Only, Written};
 ghost use Rattle.page_disk.specs.Moments.{IsReplaced, CallsLeaveOnly};
 ghost use Rattle.page_disk.specs.declared.disk.WriteKind.TheVariants.{Plain};
-ghost use Rattle.store_model.specs.Cases.{WritesOnePage};
-ghost use Rattle.store_model.specs.Cases.{FailsToReplace};
+ghost use Rattle.store_model.specs.Cases.{FailsToReplace, WritesOnePage};
+ghost use Rattle.store_model.specs.Cases.Flush.{IsFlushed};
 ghost use Rattle.store_core.specs.StoreView.{device_of};
 
 use page_disk::{DiskFault, Page, PageDisk, replace_page, write_and_flush, write_page};
@@ -56,4 +56,16 @@ pub(crate) fn replace<D: PageDisk>(disk: &mut D, place: u64, page: &Page) -> Res
     ensures pages { D.pages disk.new ≡ D.pages disk.old }
 {
     replace_page(disk, place, page)
+}
+
+/// Flushes, in one device call.
+#[tactic(auto, using(crate::proofs::Moving::flushes, crate::proofs::Moving::fails))]
+pub(crate) fn flush_once<D: PageDisk>(disk: &mut D) -> Result<(), DiskFault>
+    ensures flushed { OnOk result (IsFlushed (device_of D.PageDisk disk.old) (device_of D.PageDisk disk.new)) }
+    ensures fails { OnErr result (FailsToReplace (device_of D.PageDisk disk.old) (device_of D.PageDisk disk.new)) }
+    ensures any_moment { CallsLeaveOnly D.PageDisk disk.old disk.new (D.images disk.old) }
+    ensures durable { IsTrue D.tells → OnOk result (Only (D.now disk.new) (D.images disk.new)) }
+    ensures pages { D.pages disk.new ≡ D.pages disk.old }
+{
+    disk.flush()
 }

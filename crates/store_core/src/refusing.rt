@@ -3,12 +3,13 @@
 ghost use Rattle.std.specs.Prelude.{◌≡◌, ◌<◌, None, IsSome};
 ghost use Rattle.store_model.specs.Cases.{IsRefusedBy};
 ghost use Rattle.store_model.specs.Cases as kind;
+ghost use Rattle.store_model.specs.Rows.{Idle};
 ghost use Rattle.store_core.specs.TurnMade.{TurnMade};
 ghost use Rattle.store_core.specs.Running.{view_of, InOrder};
 ghost use Rattle.store_core.specs.StoreView.{rows_of, state_of};
-ghost use Rattle.store_core.specs.Steps.{decided, Asks, IsPostedAt, OnlyRow};
+ghost use Rattle.store_core.specs.Steps.{decided, gone_on, Asks, IsPostedAt, OnlyRow, Waits};
 
-use crate::logging::log;
+use crate::logging::{log, log_here};
 use crate::running::Running;
 use page_disk::PageDisk;
 use volume_model::Reply;
@@ -42,6 +43,23 @@ pub(crate) fn halt<D: PageDisk>(running: &mut Running<D>, channel: u8)
 {
     match running.stopped {
         Some(at) => log(running, channel, Reply::Stopped(at)),
+        None => unreachable!(),
+    }
+}
+
+/// Logs the first command of a channel, of which nothing was done, on a stopped store.
+pub(crate) fn halt_here<D: PageDisk>(running: &mut Running<D>, channel: u8)
+    requires order { InOrder D.PageDisk running.old }
+    requires channel { channel < 16 }
+    requires waits { Waits (view_of running.old) channel Idle }
+    requires stopped { IsSome running.old.stopped }
+    ensures case { TurnMade D.PageDisk (view_of running.old) (view_of running.new) kind.halts }
+    ensures row { OnlyRow running.old.rows.items running.new.rows.items channel
+        (gone_on (rows_of running.old.rows.items channel)) }
+    ensures order { InOrder D.PageDisk running.new }
+{
+    match running.stopped {
+        Some(at) => log_here(running, channel, Reply::Stopped(at)),
         None => unreachable!(),
     }
 }

@@ -86,9 +86,9 @@ impl Model for Row {
 
 impl Row {
     ghost use Rattle.std.specs.Prelude.{◌≡◌, ◌∷◌, [], length, option_copied, slice_get, IfSome, IfNone};
-    ghost use Rattle.store_model.specs.Rows.{Answered, Idle, Posted, InJob, Decided, Ended};
+    ghost use Rattle.store_model.specs.Rows.{Idle, Posted, InJob, Ended};
     ghost use Rattle.store_core.specs.Requests.{posted_in};
-    ghost use Rattle.store_core.specs.Stages.{is_stage};
+    ghost use Rattle.store_core.specs.Stages.{is_stage, stage_seen};
 
     /// The row of a channel with these commands, of which none is posted.
     pub(crate) fn new(commands: Vec<Command>) -> Row
@@ -164,15 +164,15 @@ impl Row {
         self.stage = Stage::InJob;
     }
 
-    /// Takes out the first command, which is logged.
-    pub(crate) fn take(&mut self) -> Option<Command>
+    /// Takes out the first command, which is logged; the row is at this stage then.
+    pub(crate) fn take(&mut self, next: Stage) -> Option<Command>
         ensures some { IfSome result (λ command. self.old.left ≡ command ∷ self.new.left) }
         ensures unclaimed { IfSome result (λ _. self.new.claim ≡ None) }
-        ensures decided { IfSome result (λ _. self.new.stage ≡ Decided Answered) }
+        ensures stage { IfSome result (λ _. self.new.stage ≡ stage_seen next) }
         ensures none { IfNone result ((self.old.left ≡ []) × (self.new ≡ self.old)) }
     {
         let command = self.left.pop_front()?;
-        self.stage = Stage::Decided;
+        self.stage = next;
         Some(command)
     }
 

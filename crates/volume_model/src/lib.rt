@@ -7,7 +7,7 @@ pub mod laws;
 mod lists;
 mod machine;
 mod name;
-mod page_word;
+mod page;
 mod reply;
 mod script;
 mod text;
@@ -20,6 +20,7 @@ pub use lists::{ListOf, NumberList, Pair, PairList, PlaceList, RunList, SlotList
 pub use machine::Volumes;
 pub use name::Name;
 pub use out_of_memory::Memory;
+pub use page::page_of;
 pub use reply::{Df, Entry, EntryList, Info, InfoList, Msg, MsgList, Reply};
 pub use script::Script;
 pub use text::{Blobtext, Xattr, XattrList};

@@ -8,6 +8,7 @@ ghost use Rattle.volume_model.specs.declared.command.Command.TheVariants as c;
 use crate::command::{PageWord, VolumeRef};
 use crate::machine::Volumes;
 use crate::machine::rows::Page;
+use crate::page::page_of;
 use crate::reply::Reply;
 use out_of_memory::Memory;
 use std::alloc::Global;
@@ -58,7 +59,7 @@ impl Volumes {
     {
         let head = self.may_write(volume, page)?;
         let mut x = self.take(head);
-        x.pages[page as usize] = word.page();
+        x.pages[page as usize] = page_of(word);
         self.put(head, x);
         Ok(Reply::Ok)
     }

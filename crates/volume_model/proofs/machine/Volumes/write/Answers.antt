@@ -21,7 +21,7 @@ returns-clause-answer c =
         allowed = (go.passed, tt);
         after =
             edited _ _ _ c.args.volume.now c.in_ok-head.head (volume_in_row c.take-x.result) _ change
-            c.take-x.ensures.rest c.put.ensures go.meant c.take-x.ensures.value (rw c.page.ensures refl);
+            c.take-x.ensures.rest c.put.ensures go.meant c.take-x.ensures.value (rw c.page_of.ensures refl);
       };
       least = tt;
       answered = tt;

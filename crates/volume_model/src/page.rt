@@ -1,11 +1,10 @@
-//! The bytes of a page that is written.
+//! The bytes of a page.
 
 ghost use Rattle.std.specs.Prelude.{◌≡◌};
 ghost use Rattle.volume_model.specs.Volumes as v;
 
 use crate::command::PageWord;
 
-/// 512 copies of the eight little-endian bytes of a word.
 fn fill_page(word: u64) -> [u8; 4096]
     ensures { result ≡ v.fill_page word }
 {
@@ -17,14 +16,12 @@ fn fill_page(word: u64) -> [u8; 4096]
     page
 }
 
-impl PageWord {
-    /// The page itself, of 4096 bytes.
-    pub fn page(&self) -> [u8; 4096]
-        ensures { result ≡ v.page_of self.now }
-    {
-        match self {
-            PageWord::Fill(word) => fill_page(*word),
-            PageWord::Full(page) => **page,
-        }
+/// The bytes of a page that is written.
+pub fn page_of(word: &PageWord) -> [u8; 4096]
+    ensures { result ≡ v.page_of word.now }
+{
+    match word {
+        PageWord::Fill(word) => fill_page(*word),
+        PageWord::Full(page) => **page,
     }
 }

@@ -4,11 +4,12 @@ use Rattle.std.proofs.lemmas.List.{get_or_default, length-set}
 use Rattle.volume_model.specs.declared.command.Command.{Command}
 use Rattle.volume_model.specs.declared.reply.Entry.{Entry}
 use Rattle.store_model.specs.Rows.{Row, Ended, entries_of}
+use Rattle.store_core.specs.Stages.{stage_seen}
 use Rattle.store_core.specs.StoreView.{rows_of}
 use Rattle.store_core.specs.Steps.{OnlyRow}
 use Rattle.store_core.proofs.Counting.{few_of, left_less, counted_more}
 use Rattle.store_core.proofs.Rowing.{only_row, taken_row}
-use Rattle.store_core.proofs.logging.log.Goals as goal
+use Rattle.store_core.proofs.logging.log_then.Goals as goal
 
 pub overflow_add-running : goal.overflow_add-running
 overflow_add-running g c =
@@ -62,11 +63,11 @@ returns-clause-row g c =
     let channel = c.args.channel in
     let low : channel < length old = omega (arith, c.requires.channel, c.requires.order.sixteen) in
     subst (λ (row : Row). OnlyRow old (slice_set old channel c.take.new.self) channel row)
-    (taken_row (rows_of old channel) c.take.new.self c.in-Some.command
+    (taken_row (rows_of old channel) c.take.new.self c.in-Some.command (stage_seen c.args.next)
     (ap (λ (r : Row). r.left) (get_or_default old channel (record {
       left = [];
       stage = Ended;
       claim = None;
-    }) c.index_mut.result.now low ∙ sym c.index_mut.ensures.value) ∙ c.in-Some.ensures.some) c.in-Some.ensures.decided
+    }) c.index_mut.result.now low ∙ sym c.index_mut.ensures.value) ∙ c.in-Some.ensures.some) c.in-Some.ensures.stage
     c.in-Some.ensures.unclaimed)
     (only_row old channel c.take.new.self low)

@@ -2,7 +2,7 @@ use Rattle.std.proofs.Common.{◌≡◌, length, arith, ap, ◌∙◌}
 use Rattle.std.specs.List.{repeat}
 use Rattle.volume_model.specs.Volumes.{fill_page}
 use Rattle.volume_model.proofs.Pages.{all_repeat}
-use Rattle.volume_model.proofs.page_word.fill_page.Goals as goal
+use Rattle.volume_model.proofs.page.fill_page.Goals as goal
 
 pub returns : goal.returns
 unfolding fill_page

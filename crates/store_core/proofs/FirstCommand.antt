@@ -1,0 +1,74 @@
+-- What a channel's first command is, by what its row waits for.
+use Rattle.std.proofs.Common.{◌≡◌, ℕ, ◌<◌, List, [], ◌∷◌, length, Option, None, refl, sym, subst}
+use Rattle.page_disk.specs.declared.disk.PageDisk.{Ghosts}
+use Rattle.volume_model.specs.declared.command.Command.{Command}
+use Rattle.volume_model.specs.declared.command.Command.TheVariants as c
+use Rattle.store_model.specs.Rows.{Claiming, Copying, Decided, Ended, Idle, InJob, OpenClaim, Posted, Ready, Row, Stage}
+use Rattle.store_model.specs.RunInvariant.{IsShaped, MayClaim}
+use Rattle.store_model.proofs.Shaped.{no_claim}
+use Rattle.store_core.specs.declared.rows.RowStage.{RowStage}
+use Rattle.store_core.specs.declared.rows.RowStage.TheVariants as waits
+use Rattle.store_core.specs.ChannelTurns.{WaitsToFlush}
+use Rattle.store_core.specs.StoreView.{StoreView, rows_of, state_of}
+use Rattle.store_core.specs.Stages.{is_stage, waits_for}
+use Rattle.store_core.proofs.Posting.{low_of}
+
+-- what a row waits for whose first command is a channel's own
+abbrev IsOwn : RowStage → Type 0
+IsOwn waits.Read = Unit {0}
+IsOwn waits.Write = Unit {0}
+IsOwn waits.Flush = Unit {0}
+IsOwn _ = ⊥
+
+-- the first command of a row, which waits for this
+record HasOwn (left : List Command) (stage : Stage) (for : RowStage) : Type 0 where
+  command : Command
+  rest : List Command
+  first : left ≡ command ∷ rest
+  idle : stage ≡ Idle
+  waits_is : waits_for command ≡ for
+
+own_first : (left : List Command) (stage : Stage) (claim : Option OpenClaim) (channel : ℕ) (for : RowStage) → IsOwn for
+    → is_stage (record { left = left; stage = stage; claim = claim }) channel ≡ for → HasOwn left stage for
+own_first [] Idle claim channel for own is = absurd (subst IsOwn (sym is) own)
+own_first (command ∷ rest) Idle claim channel for own is =
+    record { command = command; rest = rest; first = refl; idle = refl; waits_is = is }
+own_first left Claiming claim channel for own is = absurd (subst IsOwn (sym is) own)
+own_first left (Copying count) claim channel for own is = absurd (subst IsOwn (sym is) own)
+own_first left Ready claim channel for own is = absurd (subst IsOwn (sym is) own)
+own_first left (Posted serial) claim channel for own is = absurd (subst IsOwn (sym is) own)
+own_first left InJob claim channel for own is = absurd (subst IsOwn (sym is) own)
+own_first left (Decided outcome) claim channel for own is = absurd (subst IsOwn (sym is) own)
+own_first left Ended claim channel for own is = absurd (subst IsOwn (sym is) own)
+
+-- a store in which no row holds a claim but where it may
+module _ {D : Type 0} (d : Ghosts D) (p : StoreView D) (shaped : IsShaped (state_of d p)) (channel : ℕ) where
+  abbrev row : Row
+  row = rows_of p.rows channel
+
+  module _ (for : RowStage) (own : IsOwn for) (is : is_stage row channel ≡ for) where
+    abbrev x : HasOwn row.left row.stage for
+    x = own_first row.left row.stage row.claim channel for own is
+
+    row_is : row ≡ record { left = x.command ∷ x.rest; stage = Idle; claim = None }
+    row_is =
+        let none : row.claim ≡ None = no_claim (state_of d p) shaped channel (λ may. subst MayClaim x.idle may) in
+        λ i. record { left = x.first i; stage = x.idle i; claim = none i }
+
+    low : length p.rows ≡ 16 → channel < 16
+    low sixteen = low_of p.rows channel Idle sixteen x.idle (λ e. cc e)
+
+  pub waits_flush : is_stage row channel ≡ waits.Flush → WaitsToFlush p channel
+  waits_flush is =
+      let y = x waits.Flush tt is in
+      by y.command y.rest y.waits_is (row_is waits.Flush tt is)
+    where
+      by : (command : Command) (rest : List Command) → waits_for command ≡ waits.Flush
+          → row ≡ record { left = command ∷ rest; stage = Idle; claim = None } → WaitsToFlush p channel
+      by c.Flush rest for r = record { rest = rest; row = r }
+      by (c.Read volume page) rest for r = cc for
+      by (c.Write volume page word) rest for r = cc for
+      by _ rest for r = cc for
+
+  pub low_flush : length p.rows ≡ 16 → is_stage row channel ≡ waits.Flush → channel < 16
+  low_flush sixteen is = low waits.Flush tt is sixteen

@@ -1,0 +1,28 @@
+use Rattle.std.proofs.Common.{◌≡◌, subst, sym}
+use Rattle.store_core.specs.Running.{view_of, with_opening}
+use Rattle.store_core.specs.StoreView.{WithOpening, rows_of}
+use Rattle.store_core.specs.Stages.{is_stage}
+use Rattle.store_core.specs.declared.rows.RowStage.TheVariants.{Flush}
+use Rattle.store_core.proofs.FirstCommand.{low_flush, waits_flush}
+use Rattle.store_core.proofs.plant.Plant.flush.Goals as goal
+
+pub flush_or_halt-requires-clause-channel : goal.flush_or_halt-requires-clause-channel
+flush_or_halt-requires-clause-channel g c =
+    low_flush g.D.PageDisk (view_of c.self.inside.running) c.self.invariant.0.facts.shaped c.args.channel
+    c.self.invariant.1.sixteen
+    (subst (λ (b : WithOpening g.row.D.Denot). is_stage (rows_of b.at.rows c.args.channel) c.args.channel ≡ Flush)
+    (sym c.self.view_is) c.requires.stage)
+
+pub flush_or_halt-requires-clause-waits : goal.flush_or_halt-requires-clause-waits
+flush_or_halt-requires-clause-waits g c =
+    waits_flush g.D.PageDisk (view_of c.self.inside.running) c.self.invariant.0.facts.shaped c.args.channel
+    (subst (λ (b : WithOpening g.row.D.Denot). is_stage (rows_of b.at.rows c.args.channel) c.args.channel ≡ Flush)
+    (sym c.self.view_is) c.requires.stage)
+
+pub invariant_of-self : goal.invariant_of-self
+invariant_of-self g c = (
+  c.goes_on.ensures (with_opening c.self.inside.running c.self.inside.opening.value c.self.inside.right.value.name)
+      (view_of c.flush_or_halt.new.running) c.flush_or_halt.ensures.case.kind c.self.invariant.0
+      c.flush_or_halt.ensures.case.made,
+  c.flush_or_halt.ensures.order,
+)
