@@ -1,5 +1,5 @@
 -- What is known of a channel from what its row waits for.
-use Rattle.std.proofs.Common.{◌⊎◌, ◌≡◌, ℕ, ◌<◌, List, [], ◌∷◌, length, Option, Some, None, refl, sym, ◌∙◌, ap, subst}
+use Rattle.std.proofs.Common.{◌⊎◌, ◌≡◌, ◌≢◌, ℕ, ◌<◌, List, [], ◌∷◌, length, Option, Some, None, refl, sym, ◌∙◌, ap, subst}
 use Rattle.std.proofs.Common.{inl, inr, arith}
 use Rattle.std.specs.Prelude.{IsSome}
 use Rattle.std.proofs.lemmas.Bool.{cases_lt}
@@ -14,6 +14,9 @@ use Rattle.store_model.specs.Cases as kind
 use Rattle.store_core.specs.declared.rows.RowStage.TheVariants.{Meta, Over}
 use Rattle.store_core.specs.declared.begin.BeginTurn.{BeginTurn}
 use Rattle.store_core.specs.declared.begin.BeginTurn.TheVariants as begin
+use Rattle.store_core.specs.declared.page_writing.WriteTurn.{WriteTurn}
+use Rattle.store_core.specs.declared.page_writing.WriteTurn.TheVariants as write
+use Rattle.store_core.specs.ChannelTurns.{IsOfWrite, TurnsAs}
 use Rattle.store_core.specs.Begins.{BeginsOrNot}
 use Rattle.store_core.specs.StoreInvariant.{IsRunning, StoreInvariant}
 use Rattle.store_core.specs.TurnMade.{TurnMade}
@@ -174,6 +177,24 @@ begun_or_not d p q turn goes_on runs stops = by p.at.stopped refl
     by : (o : Option ℕ) → p.at.stopped ≡ o → StoreInvariant d (record { at = q; opening = p.opening; right = p.right })
     by None is = made turn (runs is)
     by (Some at) is = goes_on kind.halts (stops (subst IsSome (sym is) refl)).1
+
+-- what is kept where a turn of one of these kinds is made, or nothing is done
+pub turned_or_not : {D : Type 0} (d : Ghosts D) (p : WithOpening D) (q : StoreView D) (which : kind.Kind → Type 0)
+    → StoreInvariant d p → ((k : kind.Kind)
+    → TurnMade d p.at q k → StoreInvariant d (record { at = q; opening = p.opening; right = p.right }))
+    → (q ≡ p.at) ⊎ TurnsAs d which p.at q
+    → StoreInvariant d (record { at = q; opening = p.opening; right = p.right })
+turned_or_not {D = D} d p q which kept goes_on (inl same) =
+    subst (λ (x : StoreView D). StoreInvariant d (record { at = x; opening = p.opening; right = p.right })) (sym same)
+    kept
+turned_or_not {D = D} d p q which kept goes_on (inr turns) = goes_on turns.kind turns.made
+
+-- a write of a page is one of its turns, or nothing is done
+pub by_write : {D : Type 0} (d : Ghosts D) (p q : StoreView D) (turn : WriteTurn) → (turn ≢ write.Logged → q ≡ p)
+    → (turn ≡ write.Logged → TurnsAs d IsOfWrite p q) → (q ≡ p) ⊎ TurnsAs d IsOfWrite p q
+by_write d p q write.Frozen same turns = inl (same (λ e. cc e))
+by_write d p q write.Empty same turns = inl (same (λ e. cc e))
+by_write d p q write.Logged same turns = inr (turns refl)
 
 -- a store that has no job or has stopped, and hasn't stopped, has no job
 pub job_over : {D : Type 0} (p : StoreView D) → (p.job ≡ None) ⊎ IsSome p.stopped → p.stopped ≡ None → p.job ≡ None

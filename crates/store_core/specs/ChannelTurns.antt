@@ -1,12 +1,24 @@
 -- The turns of a channel that touch the device: which cases they are, and what they start from.
-use Rattle.std.specs.Prelude.{None, Some, length, ◌≡◌, ℕ, List, ◌∷◌}
+use Rattle.std.specs.Prelude.{None, Some, true, false, length, ◌≡◌, ◌/◌, ℕ, List, ◌∷◌}
 use Rattle.page_disk.specs.declared.disk.PageDisk.{Ghosts}
+use Rattle.super_block.specs.Numbers.{cluster_pages_of}
+use Rattle.volume_model.specs.Refusals.{refusal}
+use Rattle.volume_model.specs.Steps.{named_head}
+use Rattle.volume_model.specs.Volumes.{head_of, page_of}
 use Rattle.volume_model.specs.declared.command.Command.{Command}
 use Rattle.volume_model.specs.declared.command.Command.TheVariants as c
+use Rattle.volume_model.specs.declared.command.PageWord.{PageWord}
+use Rattle.volume_model.specs.declared.command.VolumeRef.{VolumeRef}
+use Rattle.blob_meta.specs.declared.meta.Meta.{Meta}
+use Rattle.blob_meta.specs.Parents.{slot}
+use Rattle.blob_meta.specs.Resolving.{resolved}
 use Rattle.store_model.specs.Cases.{Kind}
 use Rattle.store_model.specs.Cases as kind
+use Rattle.store_model.specs.Cases.WritePage.{WritesAt}
 use Rattle.store_model.specs.Rows.{Idle}
-use Rattle.store_core.specs.StoreView.{StoreView, rows_of}
+use Rattle.store_model.specs.Shown.{fixed_of}
+use Rattle.store_model.specs.StoreState.{shown, StoreState}
+use Rattle.store_core.specs.StoreView.{rows_of, state_of, StoreView}
 use Rattle.store_core.specs.TurnMade.{TurnMade}
 
 -- A turn of one of these kinds is made.
@@ -30,3 +42,48 @@ pub record WaitsToFlush {D : Type 0} (p : StoreView D) (channel : ℕ) : Type 0 
 -- stopped behind the entries so far; a job stays
 abbrev pub stopped_here : {D : Type 0} → StoreView D → StoreView D
 stopped_here p = record p { stopped = Some (length p.log) }
+
+-- a write of a page is refused, done, or it fails; or the store had stopped
+abbrev pub IsOfWrite : Kind → Type 0
+IsOfWrite kind.refuses_write = Unit {0}
+IsOfWrite kind.writes_page = Unit {0}
+IsOfWrite kind.fails_to_write = Unit {0}
+IsOfWrite kind.halts = Unit {0}
+IsOfWrite _ = ⊥
+
+-- a channel whose first command is a write of a page, of which nothing was done
+pub record WaitsToWrite {D : Type 0} (p : StoreView D) (channel : ℕ) : Type 0 where
+  pub volume : VolumeRef
+  pub page : ℕ
+  pub word : PageWord
+  pub rest : List Command
+  pub row : rows_of p.rows channel
+      ≡ record { left = c.Write volume page word ∷ rest; stage = Idle; claim = None }
+
+-- A write of this channel's, which nothing refuses and whose slot has a cluster, puts this content to this place.
+pub record WritesNow {D : Type 0} (d : Ghosts D) (p : StoreView D) (channel place : ℕ)
+    (content : List ℕ) : Type 0 where
+  pub at : WritesAt (state_of d p)
+  pub channel_is : at.channel ≡ channel
+  pub place_is : at.place ≡ place
+  pub content_is : page_of at.word ≡ content
+
+-- the blob that a command names is frozen
+pub record IsFrozenFor (p : StoreState) (command : Command) : Type 0 where
+  pub head : ℕ
+  pub named : named_head (fixed_of p.super) (shown p) command ≡ Some head
+  pub frozen : p.frozen head ≡ true
+
+-- A write of a page that nothing refuses, of a blob that isn't frozen, finds its slot empty.
+pub record FindsNoCluster (p : StoreState) (command : Command) : Type 0 where
+  pub volume : VolumeRef
+  pub page : ℕ
+  pub word : PageWord
+  pub is : command ≡ c.Write volume page word
+  pub asked : refusal (fixed_of p.super) (shown p) (c.Write volume page word) ≡ None
+  pub head : ℕ
+  pub found : head_of (fixed_of p.super) (shown p) volume ≡ Some head
+  pub free : p.frozen head ≡ false
+  pub meta : Meta
+  pub there : resolved p.base head ≡ Some meta
+  pub empty : slot meta (page / cluster_pages_of p.super) ≡ None

@@ -94,10 +94,11 @@ adopted running p = record running {
 }
 
 -- There are sixteen rows; the log and the marks have room for all that is left; the entries of each channel are
--- counted; no place is claimed; the metadata region lies on the device; the heads are set; and what the job makes has
--- its room.
+-- counted; no place is claimed; the metadata region lies on the device, and so do all pages of the store; the heads
+-- are set; and what the job makes has its room.
 pub record InOrder {D : Type 0} (d : Ghosts D) (running : Running D) : Type 0 where
   pub inside : running.sup.md_start + running.sup.md_len ≤ d.pages running.disk
+  pub device : running.sup.device_pages ≤ d.pages running.disk
   pub sixteen : length running.rows.items ≡ 16
   pub entries : length running.entries.items + left_in running.rows.items ≤ vec_capacity running.entries
   pub marks : length running.marks.items + left_in running.rows.items ≤ vec_capacity running.marks

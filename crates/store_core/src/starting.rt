@@ -65,6 +65,7 @@ pub(crate) fn running_at_start<D: PageDisk>(
 ) -> Running<D>
     requires parts { (script : List (List ACommand)) × IsAtStart loaded.metas script (D.clock loaded.disk) parts }
     requires inside { loaded.sup.md_start + loaded.sup.md_len ≤ D.pages loaded.disk }
+    requires device { loaded.sup.device_pages ≤ D.pages loaded.disk }
     requires heads { AreHeads loaded.sup.md_len (map.get loaded.metas) loaded.masks.blobs }
     ensures at { view_of result ≡ opened_with D.PageDisk loaded parts.live parts.guards parts.rows.items }
     ensures order { InOrder D.PageDisk result }

@@ -126,6 +126,7 @@ log-requires-clause-order g c =
     (view_of c.args.running.now) c.args.channel c.args.planned c.args.old c.requires.at_work in
     subst (InOrder g.D.PageDisk) (sym c.adopt.ensures) (record {
       inside = subst (λ (n : ℕ). old.sup.md_start + old.sup.md_len ≤ n) (sym c.replace.ensures.pages) order.inside;
+      device = subst (λ (n : ℕ). old.sup.device_pages ≤ n) (sym c.replace.ensures.pages) order.device;
       sixteen = order.sixteen;
       entries = order.entries;
       marks = order.marks;

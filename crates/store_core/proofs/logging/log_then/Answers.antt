@@ -37,6 +37,7 @@ returns-clause-order g c =
     let mark_room = c.push_reserved-2.ensures.capacity in
     record {
       inside = order.inside;
+      device = order.device;
       sixteen = length-set old.rows.items c.args.channel c.take.new.self ∙ order.sixteen;
       entries = omega (arith, order.entries, less, longer, room);
       marks = omega (arith, order.marks, less, marked, mark_room);

@@ -1,0 +1,52 @@
+//! The turns of a channel that touch the device: what is kept of a running store over them.
+
+use crate::flushing::flush_or_halt;
+use crate::keeping::goes_on;
+use crate::page_writing::{WriteTurn, write_or_halt};
+use crate::plant::Plant;
+use page_disk::PageDisk;
+
+impl<D: PageDisk> Plant<D> {
+    ghost use Rattle.std.specs.Prelude.{◌≡◌, ◌≢◌};
+    ghost use Rattle.store_core.specs.declared.page_writing.WriteTurn.TheVariants as write;
+    ghost use Rattle.store_core.specs.declared.rows.RowStage.TheVariants.{Flush, Write};
+    ghost use Rattle.store_core.specs.ChannelTurns.{FindsNoCluster, IsFrozenFor, IsOfFlush, IsOfWrite, TurnsAs};
+    ghost use Rattle.store_core.specs.Stages.{is_stage};
+    ghost use Rattle.store_core.specs.Steps.{gone_on, Asks, OnlyRow};
+    ghost use Rattle.store_core.specs.StoreView.{rows_of, state_of};
+
+    /// Flushes, for the first command of a channel. It is logged with `Ok`, and all that was written is safe from a
+    /// crash; with `Fault` where the flush failed, and the store has stopped then; on a stopped store with `Stopped`.
+    pub fn flush(&mut self, channel: u8)
+        requires stage { is_stage (rows_of self.old.at.rows channel) channel ≡ Flush }
+        ensures case { TurnsAs D.PageDisk IsOfFlush self.old.at self.new.at }
+        ensures row { OnlyRow self.old.at.rows self.new.at.rows channel (gone_on (rows_of self.old.at.rows channel)) }
+        ensures opening { self.new.opening ≡ self.old.opening }
+        ensures right { self.new.right ≡ self.old.right }
+    {
+        goes_on::<D>();
+        flush_or_halt(&mut self.running, channel);
+    }
+
+    /// Writes a page, for the first command of a channel. `Frozen` comes exactly where its blob is frozen. `Empty` comes
+    /// exactly where nothing refuses it and the slot is empty: the store is as it was. Else it is logged: with `Ok`, and
+    /// a flush makes the page safe from a crash; with the first of `NoVolume`, `Reserved`, `OutOfRange` and `ReadOnly`
+    /// that holds; with `Fault` where the write failed, and the store has stopped then; on a stopped store with
+    /// `Stopped`.
+    pub fn write_page(&mut self, channel: u8) -> WriteTurn
+        requires stage { is_stage (rows_of self.old.at.rows channel) channel ≡ Write }
+        ensures frozen { result ≡ write.Frozen
+            → Asks self.old.at channel (IsFrozenFor (state_of D.PageDisk self.old.at)) }
+        ensures empty { result ≡ write.Empty
+            → Asks self.old.at channel (FindsNoCluster (state_of D.PageDisk self.old.at)) }
+        ensures waiting { result ≢ write.Logged → self.new ≡ self.old }
+        ensures logged { result ≡ write.Logged → TurnsAs D.PageDisk IsOfWrite self.old.at self.new.at }
+        ensures row { result ≡ write.Logged → OnlyRow self.old.at.rows self.new.at.rows channel
+            (gone_on (rows_of self.old.at.rows channel)) }
+        ensures opening { self.new.opening ≡ self.old.opening }
+        ensures right { self.new.right ≡ self.old.right }
+    {
+        goes_on::<D>();
+        write_or_halt(&mut self.running, channel)
+    }
+}
