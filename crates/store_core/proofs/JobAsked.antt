@@ -53,7 +53,7 @@ use Rattle.store_core.specs.StoreInvariant.{IsRunning}
 use Rattle.store_core.specs.declared.preparing.Prepared.{Prepared}
 use Rattle.store_core.proofs.AtWork.{page_of, got}
 use Rattle.store_core.proofs.Cleared.{among_get}
-use Rattle.store_core.proofs.CutClusters.{cut_moves, cut_once, none_cut}
+use Rattle.store_core.proofs.CutClusters.{cut_moves, cut_once}
 use Rattle.store_core.proofs.JobPlaces.{once_each, places_from}
 
 pub all_fit : (xattrs : Xattrs) → CanBeWritten xattrs → All FitsPage xattrs

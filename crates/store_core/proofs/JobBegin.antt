@@ -18,7 +18,7 @@ use Rattle.store_model.specs.Places.{all_set}
 use Rattle.store_model.specs.Asking.{IsJobFor}
 use Rattle.store_model.specs.Cases.{Begins, IsPosted, IsRefusedAtBegin, Refuses}
 use Rattle.store_core.specs.Begins.{taken_for, AsksToWrite}
-use Rattle.store_core.specs.Jobs.{commit_of, replacing_of, reply_of, writing_job}
+use Rattle.store_core.specs.Jobs.{commit_of, replacing_of, writing_job}
 use Rattle.store_core.specs.StoreInvariant.{IsRunning}
 use Rattle.store_core.specs.StoreView.{StoreView, device_of, rows_of, state_of}
 use Rattle.store_core.specs.Steps.{logged_at, IsPostedAt}
@@ -129,10 +129,10 @@ module _ {D : Type 0} (d : Ghosts D) (p : StoreView D) (channel : ℕ) (low : ch
     where
       commit_is : (makes : Bool) (head : ℕ) (cut : Bool) (live : Option Xattrs)
           → commit_by (not makes) head cut live ≡ record {
-        reply = if makes then r.Made head else r.Ok;
-        live = live;
-        renews = numbered_by (makes || cut) head;
-      }
+            reply = if makes then r.Made head else r.Ok;
+            live = live;
+            renews = numbered_by (makes || cut) head;
+          }
       commit_is true head cut live = refl
       commit_is false head cut live = refl
 

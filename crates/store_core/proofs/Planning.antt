@@ -1,6 +1,7 @@
 -- What a plan made of what a running store has in memory is in the volumes that the store shows.
 use Rattle.store_core.specs.StoreInvariant.{IsRunning}
-use Rattle.std.proofs.Common.{◌≡◌, ℕ, Some, None, refl, sym, ap, ◌∙◌}
+use Rattle.std.proofs.Common.{◌≡◌, ℕ, List, [], ◌∷◌, length, Some, None, refl, sym, ap, ◌∙◌}
+use Rattle.std.specs.Prelude.{if◌then◌else◌, nat_lt}
 use Rattle.std.specs.Option.{option_map, option_and_then}
 use Rattle.std.specs.Ordering.{nat_cmp}
 use Rattle.std.specs.FinMap as map
@@ -12,11 +13,15 @@ use Rattle.volume_model.specs.declared.command.VolumeRef.{VolumeRef}
 use Rattle.volume_model.specs.declared.command.Command.TheVariants as c
 use Rattle.blob_meta.specs.declared.meta.Meta.{Meta}
 use Rattle.blob_meta.specs.Asked.{IsFirstCause}
-use Rattle.blob_meta.specs.ShownBy.{IsHeadMeant, ShowsMetas}
+use Rattle.blob_meta.specs.ShownBy.{IsFirstRefusal, IsHeadMeant, ShowsMetas}
+use Rattle.blob_meta.specs.declared.job.Job.{Job}
+use Rattle.blob_meta.specs.Jobs.{job_of_one, resize_job, resized_meta}
+use Rattle.volume_model.specs.declared.reply.Reply.TheVariants as r
 use Rattle.store_model.specs.Maps.{Map}
 use Rattle.store_model.specs.Shown.{fixed_of}
 use Rattle.store_model.specs.StoreState.{StoreState, shown}
-use Rattle.store_model.specs.Asking.{AsksFor}
+use Rattle.store_model.specs.Asking.{resizes, AsksFor}
+use Rattle.store_core.specs.Begins.{IsJobOf}
 use Rattle.store_model.proofs.Synced.{edited_here}
 use Rattle.store_core.specs.Planning.{PlanLaws}
 use Rattle.store_core.specs.StoreView.{state_of}
@@ -82,6 +87,44 @@ module _ (p : StoreState) (running : IsRunning p) (runs : p.stopped ≡ None) (m
     new_is = ap (λ (xs : Xattrs). record old { xattrs = xs }) (sym here.2);
   }
 
+-- a resize of a blob that is there, without slots of zeros
+asks_resize : (p : StoreState) (metas : map.FinMap nat_cmp Meta) → ShowsMetas (fixed_of p.super) p.super metas (shown p)
+    → (volume : VolumeRef) (slots head : ℕ) (old : Meta) (job : Job) → p.base head ≡ Some old
+    → IsHeadMeant metas p.super volume (Some head) → IsFirstRefusal metas p.super (c.Resize volume slots) None
+    → job ≡ resize_job head old slots → job.zero ≡ [] → IsJobOf p (c.Resize volume slots) job
+asks_resize p metas shows volume slots head old job there meant unrefused is zeros =
+    let plain : job ≡ job_of_one head (resized_meta old slots) =
+    is ∙ ap (λ (z : List ℕ). record (job_of_one head (resized_meta old slots)) { zero = z })
+    (sym (ap (λ (j : Job). j.zero) is) ∙ zeros) in
+    record {
+      head = head;
+      new = resized_meta old slots;
+      is = plain;
+      asks =
+          record {
+            commit = record {
+              reply = r.Ok;
+              live = None;
+              renews = if nat_lt slots (length old.map) then head ∷ [] else [];
+            };
+            asked =
+                resizes
+                (record {
+                  volume = volume;
+                  slots = slots;
+                  command_is = refl;
+                  asked = unrefused (fixed_of p.super) (shown p) shows;
+                  head = head;
+                  found = meant (fixed_of p.super) (shown p) shows;
+                  old = old;
+                  there = there;
+                  is = sym plain ∙ is;
+                  commit_is = refl;
+                });
+            next = λ none. absurd (let bad = sym none ∙ there in cc bad);
+          };
+    }
+
 pub plan_laws : {D : Type 0} (d : Ghosts D) → PlanLaws d
 plan_laws d = record {
   live = λ p command head xattrs running runs found.
@@ -98,4 +141,7 @@ plan_laws d = record {
       asks_create running.store running.first running.script (state_of d p) running.facts (running.facts.well runs)
       p.metas (shows_metas (state_of d p) running runs p.metas refl) name slots uuid head xattrs is_name next unrefused
       named;
+  resize = λ p volume slots head old job running runs meant there unrefused is zeros.
+      asks_resize (state_of d p) p.metas (shows_metas (state_of d p) running runs p.metas refl) volume slots head old job
+      there meant unrefused is zeros;
 }

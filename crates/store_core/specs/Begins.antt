@@ -1,7 +1,7 @@
 -- What a job is made of before it begins.
-use Rattle.std.specs.Prelude.{◌≡◌, ◌⊎◌, ℕ, ◌+◌, ◌-◌, ◌<◌, ◌^◌, nat_eq, if◌then◌else◌, is_some, Bool, true, List, []}
+use Rattle.std.specs.Prelude.{◌≡◌, ◌⊎◌, ℕ, ◌+◌, ◌-◌, ◌<◌, ◌^◌, nat_eq, if◌then◌else◌, Bool, true, List, []}
 use Rattle.std.specs.Prelude.{◌∷◌}
-use Rattle.std.specs.Prelude.{drop, length, Option, None, Some, IsSome}
+use Rattle.std.specs.Prelude.{drop, length, None, Some, IsSome}
 use Rattle.bit_array.specs.Bits.{IsFull, IsLeastClear}
 use Rattle.std.specs.List.{All, IsDistinct}
 use Rattle.std.specs.Ordering.{nat_cmp}

@@ -1,5 +1,5 @@
 -- What a plan made of what a running store has in memory is in the volumes that the store shows.
-use Rattle.std.specs.Prelude.{◌≡◌, ℕ, false, List, Option, Some, None}
+use Rattle.std.specs.Prelude.{◌≡◌, ℕ, false, List, [], Option, Some, None}
 use Rattle.std.specs.FinMap as map
 use Rattle.page_disk.specs.declared.disk.PageDisk.{Ghosts}
 use Rattle.volume_model.specs.Xattrs.{Text, Xattrs, with_value}
@@ -9,8 +9,9 @@ use Rattle.volume_model.specs.declared.command.VolumeRef.{VolumeRef}
 use Rattle.volume_model.specs.declared.command.Command.{Command}
 use Rattle.volume_model.specs.declared.command.Command.TheVariants as c
 use Rattle.blob_meta.specs.declared.meta.Meta.{Meta}
+use Rattle.blob_meta.specs.declared.job.Job.{Job}
 use Rattle.blob_meta.specs.Asked.{IsFirstCause, IsLiveOf, ShowsLive}
-use Rattle.blob_meta.specs.Jobs.{create_job}
+use Rattle.blob_meta.specs.Jobs.{create_job, resize_job}
 use Rattle.blob_meta.specs.ShownBy.{IsFirstRefusal, IsHeadMeant, ShowsMetas}
 use Rattle.store_model.specs.Shown.{fixed_of}
 use Rattle.store_model.specs.StoreState.{shown}
@@ -58,3 +59,9 @@ pub record PlanLaws {D : Type 0} (d : Ghosts D) : Type 0 where
       → IsFirstRefusal p.metas p.super (c.Create name slots false uuid) None
       → ((f : Fixed) (v : Volumes) → ShowsMetas f p.super p.metas v → two_xattrs f v name uuid ≡ xattrs)
       → IsJobOf (state_of d p) (c.Create name slots false uuid) (create_job head xattrs false slots)
+  -- A resize that nothing refuses, and that adds no slot to a thick volume, asks for the slots of the blob that is meant
+  -- to be cut, or for empty ones behind them.
+  pub resize : (p : StoreView D) (volume : VolumeRef) (slots head : ℕ) (old : Meta) (job : Job)
+      → IsRunning (state_of d p) → p.stopped ≡ None → IsHeadMeant p.metas p.super volume (Some head)
+      → map.get p.metas head ≡ Some old → IsFirstRefusal p.metas p.super (c.Resize volume slots) None
+      → job ≡ resize_job head old slots → job.zero ≡ [] → IsJobOf (state_of d p) (c.Resize volume slots) job

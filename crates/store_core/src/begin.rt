@@ -11,8 +11,8 @@ ghost use Rattle.store_core.specs.Running.{view_of, InOrder};
 ghost use Rattle.store_core.specs.StoreView.{rows_of, state_of};
 ghost use Rattle.store_core.specs.Steps.{Asks, IsPostedAt, OnlyRow};
 
-use crate::logging::log;
 use crate::effects::{effects_of, keeps_live};
+use crate::logging::log;
 use crate::preparing::prepare;
 use crate::refusing::halt;
 use crate::rows::first_of;

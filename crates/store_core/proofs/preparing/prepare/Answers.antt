@@ -1,6 +1,6 @@
-use Rattle.std.proofs.Common.{◌≡◌, ◌<◌, ◌+◌, ◌-◌, ℕ, Bool, true, false, Option, None, Some, refl, arith, length}
-use Rattle.std.proofs.Common.{subst, sym, ap, List, ◌∙◌}
-use Rattle.std.specs.Prelude.{if◌then◌else◌, is_some, IsSome, not}
+use Rattle.std.proofs.Common.{◌≡◌, ◌<◌, ◌+◌, ◌-◌, ℕ, Bool, true, false, Option, None, refl, arith, length}
+use Rattle.std.proofs.Common.{subst, sym, ap, List}
+use Rattle.std.specs.Prelude.{if◌then◌else◌, is_some, not}
 use Rattle.std.specs.FinMap as map
 use Rattle.pools.specs.Pool.{clear_in}
 use Rattle.md_chain.specs.Packing.{parts_of}
