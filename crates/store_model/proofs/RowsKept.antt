@@ -20,12 +20,12 @@ module _ (rows : Rows) (channel : ℕ) (row : Row) where
   pub row_other : (c : ℕ) → c ≢ channel → with_row rows channel row c ≡ rows c
   row_other c ne = rw (ne_eqb c channel ne) refl
 
-entries_more : (channel : ℕ) (log : List Entry) (e : Entry) → e.channel ≡ channel
+pub entries_more : (channel : ℕ) (log : List Entry) (e : Entry) → e.channel ≡ channel
     → entries_of channel (log ++ e ∷ []) ≡ entries_of channel log ++ e ∷ []
 entries_more channel log e is =
     filter-append (λ (x : Entry). eqb x.channel channel) log (e ∷ []) ∙ rw (eq-eqb e.channel channel is) refl
 
-entries_same : (channel : ℕ) (log : List Entry) (e : Entry) → e.channel ≢ channel
+pub entries_same : (channel : ℕ) (log : List Entry) (e : Entry) → e.channel ≢ channel
     → entries_of channel (log ++ e ∷ []) ≡ entries_of channel log
 entries_same channel log e ne = filter-append (λ (x : Entry). eqb x.channel channel) log (e ∷ [])
     ∙ rw (ne_eqb e.channel channel ne) (append-nil (entries_of channel log))
