@@ -23,7 +23,6 @@ use Rattle.script_lang.specs.Lines.{says}
 use Rattle.script_lang.specs.Script.{lines, all_ok, pages_of_requests, within_pages, requests_in, with_command}
 use Rattle.script_lang.specs.Script.{with_request, script_of, reads_as, wrong_after, wrong_on, IsFirstBad}
 use Rattle.script_lang.proofs.Requests.{IsSized}
-use Rattle.script_lang.proofs.ServedHeads.{no_pages}
 use Rattle.script_lang.proofs.ScriptLimits.{all_oks, not_lt, stay_many, in_few_lines, none_asked, in_many_lines}
 use Rattle.script_lang.proofs.ScriptLimits.{no_script}
 
@@ -42,7 +41,6 @@ pub record IsReading (grammar : Grammar) (all left : List (List ℕ)) (script : 
   pub room : commands_in script ≤ pages + number
   pub paged : 0 < pages → commands_in script + 1 ≤ pages + number
   pub heads : grammar ≡ Served → All (All IsServed) script
-  pub unpaged : grammar ≡ Served → pages ≡ 0
 
 -- before the first line nothing is asked for
 pub begun : (grammar : Grammar) (all left : List (List ℕ)) (script : List (List Command)) → left ≡ all
@@ -60,7 +58,6 @@ begun grammar all left script e s = record {
   room = omega (arith, ap commands_in s);
   paged = λ more. absurd (omega arith);
   heads = λ served. subst (All (All IsServed)) (sym s) (All-replicate (All IsServed) 16 [] (All-nil IsServed));
-  unpaged = λ served. refl;
 }
 
 -- the list of a channel, if each list is of commands on heads
@@ -173,7 +170,6 @@ module _ (grammar : Grammar) (all left : List (List ℕ)) (line : List ℕ) (res
           paged = λ some. let more = numbers.1 some in omega (arith, count);
           heads = λ served. subst (All (All IsServed)) (sym pushed)
               (served_pushed request.channel request.commands script (r.heads served) (on served));
-          unpaged = λ served. omega (arith, r.unpaged served, no_pages request.commands (on served));
         }
 
     -- with this line the pages are too many
@@ -259,10 +255,13 @@ pub served_in : (grammar : Grammar) (all left : List (List ℕ)) (script : List 
     → All IsServed (slice_index_or script channel [])
 served_in grammar all left script r served = all_served script (r.heads served)
 
--- as served, there is a command a line at most
-pub served_few : (grammar : Grammar) (all left : List (List ℕ)) (script : List (List Command)) {number pages : ℕ}
-    → IsReading grammar all left script number pages → grammar ≡ Served → commands_in script ≤ 2 ^ 16
-served_few grammar all left script r served = omega (arith, r.room, r.unpaged served, r.fits)
+-- there are fewer commands than lines and pages together may be
+pub few_read : (grammar : Grammar) (all left : List (List ℕ)) (script : List (List Command)) {number pages : ℕ}
+    → IsReading grammar all left script number pages → commands_in script ≤ 131071
+few_read grammar all left script {number} {pages} r = elim (cases_lt 0 pages) [
+  | inl some ↦ let more = r.paged some in omega (arith, r.fits, r.within, more)
+  | inr none ↦ omega (arith, r.room, r.fits, none)
+]
 
 -- the same for a number of pages that is the same
 pub same_pages : (grammar : Grammar) (all left : List (List ℕ)) (script : List (List Command)) (number pages new : ℕ)

@@ -1,8 +1,8 @@
 -- What the served grammar reads are commands that are served.
 use Rattle.std.proofs.Common.{◌≡◌, ℕ, Bool, true, false, cond, ◌&&◌, List, [], ◌∷◌, ◌++◌, length, Option, Some, None}
-use Rattle.std.proofs.Common.{Result, Ok, Err, refl, ap, arith}
-use Rattle.std.specs.Prelude.{IfOk, IfSome}
-use Rattle.std.specs.List.{All, find}
+use Rattle.std.proofs.Common.{Result, Ok, Err, refl, ap}
+use Rattle.std.specs.Prelude.{IfOk, IfSome, nat_lt, ◌+◌, ◌^◌, map}
+use Rattle.std.specs.List.{All, find, range_with_len}
 use Rattle.std.specs.Option.{option_map}
 use Rattle.std.proofs.lemmas.Bool.{false≢true}
 use Rattle.std.proofs.lemmas.List.Elements.{All-nil, All-cons, All-head, All-tail}
@@ -19,14 +19,14 @@ use Rattle.script_lang.specs.declared.grammar.Grammar.TheVariants.{Served}
 use Rattle.script_lang.specs.declared.verb.Verb.{Verb}
 use Rattle.script_lang.specs.declared.verb.Verb.TheVariants as v
 use Rattle.script_lang.specs.Commands.{commands_of, command_of, alone, plain, command_on_volume, on_slots, on_name}
-use Rattle.script_lang.specs.Commands.{on_key, on_value, creation, command_on, command_of_name, is_page, pages_of}
+use Rattle.script_lang.specs.Commands.{on_key, on_value, creation, command_on, command_of_name, read_at, read_commands}
 use Rattle.script_lang.specs.Forms.{volume_in, says_word, says_values, joined, or_kind}
 use Rattle.script_lang.specs.Grammar.{serves}
 use Rattle.script_lang.specs.Lines.{says, says_verb, commands_said, words}
 use Rattle.script_lang.specs.Verbs.{verb_in, verbs, is_verb, forms_of, takes}
 use Rattle.script_lang.specs.Words.{name_in, number_in, count_in, is_thin, key_in, value_in}
 use Rattle.uuid.specs.Text.{parsed}
-use Rattle.script_lang.proofs.Requests.{either, pages_first, says_has}
+use Rattle.script_lang.proofs.Requests.{either, says_has}
 
 -- no volume among the values is to be thick
 abbrev AreServedValues : List Value → Type 0
@@ -41,7 +41,7 @@ one_served_alone : (command : Command) → IsServed command → AreServed (comma
 one_served_alone command on = All-cons IsServed command [] on (All-nil IsServed)
 
 plain_served : (verb : Verb) → serves Served verb ≡ true → IfOk (alone (plain verb)) AreServed
-plain_served v.Flush s = absurd (false≢true s)
+plain_served v.Flush s = one_served_alone c.Flush tt
 plain_served v.List s = absurd (false≢true s)
 plain_served v.Df s = one_served_alone c.Df tt
 plain_served _ s = tt
@@ -58,7 +58,7 @@ volume_served _ volume s = tt
 
 slots_served : (verb : Verb) (volume : VolumeRef) (slots : ℕ) → serves Served verb ≡ true
     → IfOk (alone (on_slots verb volume slots)) AreServed
-slots_served v.Resize volume slots s = absurd (false≢true s)
+slots_served v.Resize volume slots s = one_served_alone (c.Resize volume slots) tt
 slots_served _ volume slots s = tt
 
 name_served : (verb : Verb) (volume : VolumeRef) (name : List ℕ) → serves Served verb ≡ true
@@ -107,10 +107,22 @@ one_served verb (Volume volume ∷ values) s heads = on_served verb volume value
 one_served verb (Name name ∷ values) s heads = named_served verb name values heads
 one_served verb _ s heads = tt
 
+-- reads of so many pages, one after another
+all_read : (volume : VolumeRef) (page : ℕ) (offsets : List ℕ) → AreServed (map (read_at volume page) offsets)
+all_read volume page [] = All-nil IsServed
+all_read volume page (x ∷ xs) =
+    All-cons IsServed (read_at volume page x) (map (read_at volume page) xs) tt (all_read volume page xs)
+
+read_served : (values : List Value) → IfOk (read_commands values) AreServed
+read_served (Volume volume ∷ Number page ∷ Number count ∷ []) =
+    either (λ (r : Result (List Command) LineKind). IfOk r AreServed) (nat_lt (page + count) (2 ^ 64)) _ _
+    (all_read volume page (range_with_len 0 count)) tt
+read_served _ = tt
+
 served_in : (verb : Verb) (values : List Value) → serves Served verb ≡ true → AreServedValues values
     → IfOk (commands_of verb values) AreServed
 served_in v.Write values s heads = absurd (false≢true s)
-served_in v.Read values s heads = absurd (false≢true s)
+served_in v.Read values s heads = read_served values
 served_in verb values s heads = one_served verb values s heads
 
 thin_append : (a b : List Value) → AreServedValues a → AreServedValues b → AreServedValues (a ++ b)
@@ -189,16 +201,3 @@ verb_thin word words = verb_served word words (find (is_verb Served word) verbs)
 -- so are those of each line
 pub says_served : (line : List ℕ) → IfOk (says Served line) (λ request. All IsServed request.commands)
 says_served = says_has Served AreServed (All-nil IsServed) verb_thin
-
-not_page : (command : Command) → IsServed command → is_page command ≡ false
-not_page (c.Write volume page word) on = absurd on
-not_page (c.Read volume page) on = absurd on
-not_page _ on = refl
-
--- commands on heads read and write no page
-pub no_pages : (commands : List Command) → All IsServed commands → pages_of commands ≡ 0
-no_pages [] on = refl
-no_pages (command ∷ commands) on =
-    let none : cond {A = ℕ} (is_page command) 1 0 ≡ 0 = ap (λ b. cond {A = ℕ} b 1 0)
-    (not_page command (All-head IsServed command commands on)) in
-    omega (arith, none, pages_first command commands, no_pages commands (All-tail IsServed command commands on))

@@ -8,6 +8,9 @@ use Rattle.script_lang.specs.declared.verb.Verb.TheVariants as v
 abbrev pub serves : Grammar → Verb → Bool
 serves g.Whole verb = true
 serves g.Served v.Create = true
+serves g.Served v.Read = true
+serves g.Served v.Flush = true
+serves g.Served v.Resize = true
 serves g.Served v.SetX = true
 serves g.Served v.DelX = true
 serves g.Served v.GetX = true

@@ -22,6 +22,9 @@ impl Grammar {
             Grammar::Served => matches!(
                 verb,
                 Verb::Create
+                    | Verb::Read
+                    | Verb::Flush
+                    | Verb::Resize
                     | Verb::SetX
                     | Verb::DelX
                     | Verb::GetX

@@ -83,7 +83,7 @@ pub fn read_script(alloc: Global, grammar: Grammar, text: &[u8]) -> Result<Scrip
     ensures found { IfOk result (λ script. reads_as grammar text.now ≡ Some script) }
     ensures served { IfOk result
         (λ script. grammar ≡ Served → (channel : ℕ) → All IsServed (slice_index_or script channel [])) }
-    ensures few { IfOk result (λ script. grammar ≡ Served → commands_in script ≤ 2 ^ 16) }
+    ensures few { IfOk result (λ script. commands_in script ≤ 131071) }
     ensures within { IfOk result (λ script. length text.now ≤ 2 ^ 20) }
     ensures refused { IfErr result (RefusesText grammar text.now) }
     ensures why { IfErr result (Why grammar text.now) }
@@ -130,7 +130,7 @@ pub fn read_script(alloc: Global, grammar: Grammar, text: &[u8]) -> Result<Scrip
 pub fn parse(alloc: Global, text: &[u8]) -> Result<Script, ScriptFault>
     ensures found { IfOk result (λ script. reads text.now ≡ Some script) }
     ensures served { IfOk result (λ script. (channel : ℕ) → All IsServed (slice_index_or script channel [])) }
-    ensures few { IfOk result (λ script. commands_in script ≤ 2 ^ 16) }
+    ensures few { IfOk result (λ script. commands_in script ≤ 131071) }
     ensures within { IfOk result (λ script. length text.now ≤ 2 ^ 20) }
     ensures refused { IfErr result (RefusesText Served text.now) }
     ensures why { IfErr result (Why Served text.now) }

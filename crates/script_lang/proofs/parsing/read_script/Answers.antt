@@ -6,7 +6,7 @@ use Rattle.script_lang.specs.declared.line.LineRequest.{LineRequest}
 use Rattle.script_lang.specs.Commands.{pages_of}
 use Rattle.script_lang.specs.Lines.{says}
 use Rattle.script_lang.proofs.ByLines.{begun, one_more, all_read, bad_line, too_many_pages, too_many_lines, pushed_room}
-use Rattle.script_lang.proofs.ByLines.{served_in, served_few, same_pages}
+use Rattle.script_lang.proofs.ByLines.{served_in, few_read, same_pages}
 use Rattle.script_lang.proofs.Requests.{IsSized, says_sized, says_channel, if_said}
 use Rattle.script_lang.proofs.ServedHeads.{says_served}
 use Rattle.script_lang.proofs.parsing.read_script.Goals as goal
@@ -92,4 +92,4 @@ pub returns-clause-served : goal.returns-clause-served
 returns-clause-served c = served_in _ _ _ _ c.loop-line.invariant
 
 pub returns-clause-few : goal.returns-clause-few
-returns-clause-few c = served_few _ _ _ _ c.loop-line.invariant
+returns-clause-few c = few_read _ _ _ _ c.loop-line.invariant
