@@ -1,4 +1,4 @@
-//! Tests of the program's calls over a device in memory: the verbs on attributes, new volumes, new stores, and each
+//! Tests of the program's calls over a device in memory: the verbs on attributes, new volumes, pages, new stores, and each
 //! status.
 #![tactic(auto)]
 
@@ -6,6 +6,8 @@
 mod failures;
 #[cfg(test)]
 mod formats;
+#[cfg(test)]
+mod pages;
 #[cfg(test)]
 mod verbs;
 #[cfg(test)]
