@@ -1,12 +1,12 @@
 -- The commands of a channel are served, one after the other, and then those of the next channel.
 use Rattle.std.proofs.Common.{◌≡◌, ◌≢◌, ℕ, ◌<◌, ◌≤◌, List, [], ◌∷◌, length, None, refl, sym, ap, subst, ◌∙◌, inl, inr}
-use Rattle.std.proofs.Common.{arith}
+use Rattle.std.proofs.Common.{arith, drop, length-drop}
 use Rattle.std.specs.List.{AllByRecursion}
 use Rattle.page_disk.specs.declared.disk.PageDisk.{Ghosts}
 use Rattle.volume_model.specs.declared.command.Command.{Command}
 use Rattle.volume_model.specs.declared.command.Command.TheVariants as c
 use Rattle.script_lang.specs.Served.{IsServed}
-use Rattle.store_model.specs.Rows.{Answered, Decided, Decision, Idle, Posted, Row}
+use Rattle.store_model.specs.Rows.{Answered, Decided, Decision, Idle, IsForMetadata, Posted, Row}
 use Rattle.store_model.specs.Cases as kind
 use Rattle.store_core.specs.declared.rows.RowStage.{RowStage}
 use Rattle.store_core.specs.declared.rows.RowStage.TheVariants as told
@@ -15,7 +15,7 @@ use Rattle.store_core.specs.declared.plant.SettleTurn.TheVariants as settle
 use Rattle.store_core.specs.TurnMade.{TurnMade}
 use Rattle.store_core.specs.StoreView.{StoreView, rows_of}
 use Rattle.store_core.specs.Stages.{is_stage, waits_for}
-use Rattle.store_core.specs.Steps.{decided, OnlyRow}
+use Rattle.store_core.specs.Steps.{decided, gone_on, OnlyRow}
 use Rattle.blob_tool.specs.Driving.{ended_row, IsWaiting}
 
 -- ---- one channel
@@ -26,36 +26,46 @@ pub record Serves {D : Type 0} (first now : StoreView D) (channel : ℕ) : Type 
   pub waiting : IsWaiting (rows_of now.rows channel)
   pub no_job : now.job ≡ None
 
--- a row whose first command is to be posted
-pub record HasNext (row : Row) : Type 0 where
+-- a row that has a first command, and waits for this
+pub record HasNext (row : Row) (stage : RowStage) : Type 0 where
   pub command : Command
   pub rest : List Command
   pub left : row.left ≡ command ∷ rest
   pub served : IsServed command
-  pub all_served : AllByRecursion IsServed rest
+  pub waits : waits_for command ≡ stage
 
--- a command on a blob that is named by its head is one for the metadata thread
-served_meta : (command : Command) → IsServed command → waits_for command ≡ told.Meta
-served_meta (c.Read volume page) is = absurd is
-served_meta (c.Write volume page word) is = absurd is
-served_meta c.Flush is = absurd is
-served_meta _ is = refl
+-- what the metadata thread is asked is for it
+pub for_metadata : (command : Command) → waits_for command ≡ told.Meta → IsForMetadata command
+for_metadata (c.Read volume page) is = absurd (cc is)
+for_metadata (c.Write volume page word) is = absurd (cc is)
+for_metadata c.Flush is = absurd (cc is)
+for_metadata _ is = tt
 
--- a waiting row whose command the metadata thread is to be asked has a first command
-pub next_of : (row : Row) (channel : ℕ) → is_stage row channel ≡ told.Meta → IsWaiting row → HasNext row
-next_of row channel is waiting = elim waiting.at [
+-- a waiting row at a stage that isn't that of a channel without commands has a first command
+pub next_of : (row : Row) (channel : ℕ) (stage : RowStage) → is_stage row channel ≡ stage → IsWaiting row
+    → (stage ≡ told.Over → ⊥) → (stage ≡ told.Ended → ⊥) → HasNext row stage
+next_of row channel stage is waiting not_over not_ended = elim waiting.at [
   | inl idle ↦ by row.left waiting.all_served refl (ap (λ s. is_stage (record row { stage = s }) channel)
       (sym idle) ∙ is)
-  | inr ended ↦ absurd (let bad = sym (ap (λ (r : Row). is_stage r channel) ended) ∙ is in cc bad)
+  | inr ended ↦ absurd (not_ended (sym is ∙ ap (λ (r : Row). is_stage r channel) ended))
 ]
   where
     by : (left : List Command) → AllByRecursion IsServed left → row.left ≡ left
-        → is_stage (record row { stage = Idle }) channel ≡ told.Meta → HasNext row
-    by [] on e stage =
-        absurd (let bad = sym (ap (λ (l : List Command). is_stage (record row { left = l; stage = Idle }) channel) e)
-        ∙ stage in cc bad)
-    by (command ∷ rest) on e stage =
-        record { command = command; rest = rest; left = e; served = on.0; all_served = on.1 }
+        → is_stage (record row { stage = Idle }) channel ≡ stage → HasNext row stage
+    by [] on e at =
+        absurd (not_over (sym at ∙ ap (λ (l : List Command). is_stage (record row { left = l; stage = Idle }) channel) e))
+    by (command ∷ rest) on e at =
+        record {
+          command = command;
+          rest = rest;
+          left = e;
+          served = on.0;
+          waits = sym (ap (λ (l : List Command). is_stage (record row { left = l; stage = Idle }) channel) e) ∙ at;
+        }
+
+-- some command is left
+pub some_left : (row : Row) (stage : RowStage) → HasNext row stage → 0 < length row.left
+some_left row stage next = let e = ap (λ (l : List Command). length l) next.left in omega (arith, e)
 
 -- what a turn of settling comes to, where the command is logged
 pub settled : {D : Type 0} (d : Ghosts D) (p q : StoreView D) (channel : ℕ) (turn : SettleTurn)
@@ -67,51 +77,54 @@ pub settled : {D : Type 0} (d : Ghosts D) (p q : StoreView D) (channel : ℕ) (t
 settled d p q channel settle.Waiting is waits made row = absurd (waits refl Answered is)
 settled d p q channel settle.Logged is waits made row = (row refl, ap (λ s. s.job) (made refl).0.next)
 
-module _ {D : Type 0} (first p posted served q : StoreView D) (channel : ℕ) (serves : Serves first p channel)
-    (next : HasNext (rows_of p.rows channel)) (serial : ℕ)
-    (posts : OnlyRow p.rows posted.rows channel (record (rows_of p.rows channel) { stage = Posted serial }))
-    (logs : OnlyRow posted.rows served.rows channel (decided (rows_of posted.rows channel)))
-    (settles : OnlyRow served.rows q.rows channel (record (rows_of served.rows channel) { stage = Idle })) where
-  row_now : rows_of q.rows channel ≡ record { left = next.rest; stage = Idle; claim = None }
-  row_now =
-      settles.row ∙ ap (λ (r : Row). record r { stage = Idle }) (logs.row ∙ ap decided posts.row)
-      ∙ ap (λ (l : List Command). record
-      (decided (record { left = l; stage = Posted serial; claim = None })) { stage = Idle }) next.left
+-- a command that is posted, logged and settled leaves its row, which goes on with the next
+pub served_posted : {D : Type 0} (p posted served q : StoreView D) (channel serial : ℕ)
+    → OnlyRow p.rows posted.rows channel (record (rows_of p.rows channel) { stage = Posted serial })
+    → OnlyRow posted.rows served.rows channel (decided (rows_of posted.rows channel))
+    → OnlyRow served.rows q.rows channel (record (rows_of served.rows channel) { stage = Idle })
+    → OnlyRow p.rows q.rows channel (gone_on (rows_of p.rows channel))
+served_posted p posted served q channel serial posts logs settles = record {
+  row = settles.row ∙ ap (λ (r : Row). record r { stage = Idle }) (logs.row ∙ ap decided posts.row);
+  others = λ other ne. settles.others other ne ∙ logs.others other ne ∙ posts.others other ne;
+}
 
-  -- a command is posted, logged and settled, and the channel waits again
+-- a command leaves its row, which waits again
+still_waits : (row : Row) → IsWaiting row → 0 < length row.left → IsWaiting (gone_on row)
+still_waits row waiting some = by row.left waiting.all_served refl
+  where
+    by : (left : List Command) → AllByRecursion IsServed left → row.left ≡ left → IsWaiting (gone_on row)
+    by [] on e = let none = ap (λ (l : List Command). length l) e in absurd (omega (arith, none, some))
+    by (command ∷ rest) on e = record {
+      all_served = subst (λ (l : List Command). AllByRecursion IsServed (drop 1 l)) (sym e) on.1;
+      at = inl refl;
+      unclaimed = refl;
+    }
+
+module _ {D : Type 0} (first p q : StoreView D) (channel : ℕ) (serves : Serves first p channel)
+    (goes : OnlyRow p.rows q.rows channel (gone_on (rows_of p.rows channel)))
+    (some : 0 < length (rows_of p.rows channel).left) where
+  -- a command is served, and the channel waits again
   pub serves_on : q.job ≡ None → Serves first q channel
   serves_on none = record {
-    others =
-        λ other ne. settles.others other ne ∙ logs.others other ne ∙ posts.others other ne ∙ serves.others other ne;
-    waiting = subst IsWaiting (sym row_now) (record { all_served = next.all_served; at = inl refl; unclaimed = refl });
+    others = λ other ne. goes.others other ne ∙ serves.others other ne;
+    waiting = subst IsWaiting (sym goes.row) (still_waits (rows_of p.rows channel) serves.waiting some);
     no_job = none;
   }
 
   -- and it has one command less
   pub fewer : length (rows_of q.rows channel).left < length (rows_of p.rows channel).left
   fewer =
-      let new =
-      ap (λ (r : Row). length r.left) row_now in let old =
-      ap (λ (l : List Command). length l) next.left in omega (arith, new, old)
+      let now = ap (λ (r : Row). length r.left) goes.row in
+      let less = length-drop 1 (rows_of p.rows channel).left in omega (arith, now, less, some)
 
--- no command is left to post
-pub over : (row : Row) (channel : ℕ) → IsWaiting row → (is_stage row channel ≡ told.Meta → ⊥)
-    → (is_stage row channel ≡ told.Over → ⊥) → row ≡ ended_row
-over row channel waiting no_meta not_over = elim waiting.at [
-  | inl idle ↦ absurd
-      (by row.left waiting.all_served refl (λ s same. ap (λ x. is_stage (record row { stage = x }) channel) idle
-      ∙ same))
+-- a waiting channel without commands is to end, or has ended
+pub over : (row : Row) (channel : ℕ) → IsWaiting row → row.left ≡ [] → (is_stage row channel ≡ told.Over → ⊥)
+    → row ≡ ended_row
+over row channel waiting none not_over = elim waiting.at [
+  | inl idle ↦ absurd (not_over (ap (λ s. is_stage (record row { stage = s }) channel) idle
+      ∙ ap (λ (l : List Command). is_stage (record row { left = l; stage = Idle }) channel) none))
   | inr ended ↦ ended
 ]
-  where
-    by : (left : List Command) → AllByRecursion IsServed left → row.left ≡ left
-        → ((s : RowStage) → is_stage (record row { stage = Idle }) channel ≡ s → is_stage row channel ≡ s) → ⊥
-    by [] on e same =
-        not_over
-        (same told.Over (ap (λ (l : List Command). is_stage (record row { left = l; stage = Idle }) channel) e))
-    by (command ∷ rest) on e same =
-        no_meta (same told.Meta (ap (λ (l : List Command). is_stage (record row { left = l; stage = Idle }) channel) e
-        ∙ served_meta command on.0))
 
 -- ---- all channels
 

@@ -1,14 +1,44 @@
 //! The driver of a running store: it serves one channel after the other.
 
-ghost use Rattle.std.specs.Prelude.{◌≡◌, ◌≤◌, ℕ, None};
+ghost use Rattle.std.specs.Prelude.{◌≡◌, ◌<◌, ◌≤◌, ℕ, [], None, false, length, IsTrue};
 ghost use Rattle.store_core.specs.StoreView.{rows_of};
-ghost use Rattle.store_core.specs.Steps.{OnlyRow};
+ghost use Rattle.store_core.specs.Steps.{gone_on, OnlyRow};
 ghost use Rattle.blob_tool.specs.Driving.{ended_row, IsWaiting};
 
 use crate::serving::serve;
 use page_disk::PageDisk;
 use std::alloc::Global;
 use store_core::{MdRight, Plant, RowStage};
+
+/// Serves the next command of a channel, to its entry. `false` where no command is left.
+fn serve_next<D: PageDisk>(
+    alloc: Global,
+    plant: &mut Plant<D>,
+    right: &mut MdRight,
+    channel: u8,
+) -> bool
+    requires right { right.old ≡ plant.old.right }
+    requires waiting { IsWaiting (rows_of plant.old.at.rows channel) }
+    requires no_job { plant.old.at.job ≡ None }
+    ensures served { IsTrue result
+        → OnlyRow plant.old.at.rows plant.new.at.rows channel (gone_on (rows_of plant.old.at.rows channel)) }
+    ensures some { IsTrue result → 0 < length (rows_of plant.old.at.rows channel).left }
+    ensures none { result ≡ false → (plant.new ≡ plant.old) × ((rows_of plant.old.at.rows channel).left ≡ []) }
+    ensures no_job { plant.new.at.job ≡ None }
+    ensures opening { plant.new.opening ≡ plant.old.opening }
+    ensures right { (right.new ≡ right.old) × (plant.new.right ≡ plant.old.right) }
+{
+    match plant.stage(channel) {
+        RowStage::Meta => {
+            let msg = plant.post(channel);
+            serve(alloc, plant, right, msg);
+            plant.settle(channel);
+        }
+        RowStage::Flush => plant.flush(channel),
+        _ => return false,
+    }
+    true
+}
 
 /// Serves the commands of a channel, one after the other, and ends it.
 fn run_channel<D: PageDisk>(alloc: Global, plant: &mut Plant<D>, right: &mut MdRight, channel: u8)
@@ -20,11 +50,7 @@ fn run_channel<D: PageDisk>(alloc: Global, plant: &mut Plant<D>, right: &mut MdR
     ensures opening { plant.new.opening ≡ plant.old.opening }
     ensures right { (right.new ≡ right.old) × (plant.new.right ≡ plant.old.right) }
 {
-    while let RowStage::Meta = plant.stage(channel) {
-        let msg = plant.post(channel);
-        serve(alloc, plant, right, msg);
-        plant.settle(channel);
-    }
+    while serve_next(alloc, plant, right, channel) {}
     if let RowStage::Over = plant.stage(channel) {
         plant.end(channel);
     }

@@ -1,7 +1,7 @@
 //! One posted command, from its message to its entry.
 
 ghost use Rattle.std.specs.Prelude.{◌≡◌, ℕ, None};
-ghost use Rattle.script_lang.specs.Served.{IsServed};
+ghost use Rattle.blob_tool.specs.Driving.{IsServedByMetadata};
 ghost use Rattle.store_model.specs.Rows.{InJob};
 ghost use Rattle.store_core.specs.Requests.{asked_by, IsPostedBy};
 ghost use Rattle.store_core.specs.StoreView.{rows_of};
@@ -41,7 +41,7 @@ fn planned<D: PageDisk>(
     plant: &Plant<D>,
     command: &Command,
 ) -> Option<Result<Job, Reply>>
-    requires served { IsServed command.now }
+    requires served { IsServedByMetadata command.now }
     requires runs { plant.now.at.stopped ≡ None }
     ensures { IsPlanOf D.PageDisk plant.now.at command.now result }
 {
@@ -66,7 +66,7 @@ fn planned<D: PageDisk>(
 fn task_of<D: PageDisk>(alloc: Global, plant: &Plant<D>, right: &MdRight, msg: Msg) -> Task
     requires right { right.now ≡ plant.now.right }
     requires posted { IsPostedBy plant.now.at.rows msg }
-    requires served { Asks plant.now.at msg.channel IsServed }
+    requires served { Asks plant.now.at msg.channel IsServedByMetadata }
     ensures { IsTaskOf D.PageDisk plant.now.at msg.channel result }
 {
     if let Some(at) = plant.stopped() {
@@ -102,7 +102,7 @@ fn finish<D: PageDisk>(plant: &mut Plant<D>, right: &mut MdRight, channel: u8)
 pub(crate) fn serve<D: PageDisk>(alloc: Global, plant: &mut Plant<D>, right: &mut MdRight, msg: Msg)
     requires right { right.old ≡ plant.old.right }
     requires posted { IsPostedBy plant.old.at.rows msg }
-    requires served { Asks plant.old.at msg.channel IsServed }
+    requires served { Asks plant.old.at msg.channel IsServedByMetadata }
     requires no_job { plant.old.at.job ≡ None }
     ensures row { OnlyRow plant.old.at.rows plant.new.at.rows msg.channel
         (decided (rows_of plant.old.at.rows msg.channel)) }

@@ -141,6 +141,7 @@ returns-in-Ok-Some-clause-order g c =
     ∙ sym (ap (λ (r : Row). length r.left) c.serve.ensures)) in
     record {
       inside = c.requires.order.inside;
+      device = c.requires.order.device;
       sixteen = search (rules);
       entries = subst (λ n. length c.args.running.now.entries.items + n ≤ vec_capacity c.args.running.now.entries)
           (sym same) c.requires.order.entries;
