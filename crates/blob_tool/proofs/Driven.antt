@@ -13,8 +13,10 @@ use Rattle.store_core.specs.declared.rows.RowStage.TheVariants as told
 use Rattle.store_core.specs.declared.plant.SettleTurn.{SettleTurn}
 use Rattle.store_core.specs.declared.plant.SettleTurn.TheVariants as settle
 use Rattle.store_core.specs.TurnMade.{TurnMade}
-use Rattle.store_core.specs.StoreView.{StoreView, rows_of}
+use Rattle.store_core.specs.StoreView.{StoreView, rows_of, state_of}
 use Rattle.store_core.specs.Stages.{is_stage, waits_for}
+use Rattle.store_core.specs.ChannelTurns.{IsOfFlush, TurnsAs}
+use Rattle.store_model.specs.Cases.{Turn}
 use Rattle.store_core.specs.Steps.{decided, gone_on, OnlyRow}
 use Rattle.blob_tool.specs.Driving.{ended_row, IsWaiting}
 
@@ -66,6 +68,40 @@ next_of row channel stage is waiting not_over not_ended = elim waiting.at [
 -- some command is left
 pub some_left : (row : Row) (stage : RowStage) → HasNext row stage → 0 < length row.left
 some_left row stage next = let e = ap (λ (l : List Command). length l) next.left in omega (arith, e)
+
+-- a waiting row that is at none of these stages has no command left
+pub none_left : (row : Row) (channel : ℕ) (stage : RowStage) → is_stage row channel ≡ stage → IsWaiting row
+    → (stage ≡ told.Meta → ⊥) → (stage ≡ told.Read → ⊥) → (stage ≡ told.Flush → ⊥) → row.left ≡ []
+none_left row channel stage is waiting meta read flush = elim waiting.at [
+  | inl idle ↦ by row.left waiting.all_served refl (ap (λ s. is_stage (record row { stage = s }) channel)
+      (sym idle) ∙ is)
+  | inr ended ↦ ap (λ (r : Row). r.left) ended
+]
+  where
+    served_at : (command : Command) → IsServed command → waits_for command ≡ stage → ⊥
+    served_at (c.Read volume page) on e = read (sym e)
+    served_at (c.Write volume page word) on e = on
+    served_at c.Flush on e = flush (sym e)
+    served_at _ on e = meta (sym e)
+
+    by : (left : List Command) → AllByRecursion IsServed left → row.left ≡ left
+        → is_stage (record row { stage = Idle }) channel ≡ stage → row.left ≡ []
+    by [] on e at = e
+    by (command ∷ rest) on e at =
+        absurd (served_at command on.0
+        (sym (ap (λ (l : List Command). is_stage (record row { left = l; stage = Idle }) channel) e) ∙ at))
+
+-- ---- the turns of the channel's own
+
+-- a flush leaves a job as it is
+pub flush_job : {D : Type 0} (d : Ghosts D) (p q : StoreView D) → TurnsAs d IsOfFlush p q → q.job ≡ p.job
+flush_job d p q turn = by turn.kind turn.is turn.made.0
+  where
+    by : (k : kind.Kind) → IsOfFlush k → Turn d.tells (state_of d p) k (state_of d q) → q.job ≡ p.job
+    by kind.flushes is case = ap (λ s. s.job) case.next
+    by kind.flush_fails is case = ap (λ s. s.job) case.next
+    by kind.halts is case = ap (λ s. s.job) case.next
+    by _ is case = absurd is
 
 -- what a turn of settling comes to, where the command is logged
 pub settled : {D : Type 0} (d : Ghosts D) (p q : StoreView D) (channel : ℕ) (turn : SettleTurn)

@@ -1,6 +1,8 @@
 //! The driver of a running store: it serves one channel after the other.
 
 ghost use Rattle.std.specs.Prelude.{◌≡◌, ◌<◌, ◌≤◌, ℕ, [], None, false, length, IsTrue};
+ghost use Rattle.store_core.specs.declared.rows.RowStage.TheVariants.{Read};
+ghost use Rattle.store_core.specs.Stages.{is_stage};
 ghost use Rattle.store_core.specs.StoreView.{rows_of};
 ghost use Rattle.store_core.specs.Steps.{gone_on, OnlyRow};
 ghost use Rattle.blob_tool.specs.Driving.{ended_row, IsWaiting};
@@ -8,7 +10,25 @@ ghost use Rattle.blob_tool.specs.Driving.{ended_row, IsWaiting};
 use crate::serving::serve;
 use page_disk::PageDisk;
 use std::alloc::Global;
-use store_core::{MdRight, Plant, RowStage};
+use store_core::{MdRight, Plant, ReadTurn, RowStage};
+
+/// Reads the page that the next command of a channel asks for. No job runs, so no blob is frozen.
+fn read<D: PageDisk>(plant: &mut Plant<D>, channel: u8)
+    requires stage { is_stage (rows_of plant.old.at.rows channel) channel ≡ Read }
+    requires waiting { IsWaiting (rows_of plant.old.at.rows channel) }
+    requires no_job { plant.old.at.job ≡ None }
+    ensures row { OnlyRow plant.old.at.rows plant.new.at.rows channel
+        (gone_on (rows_of plant.old.at.rows channel)) }
+    ensures no_job { plant.new.at.job ≡ None }
+    ensures opening { plant.new.opening ≡ plant.old.opening }
+    ensures right { plant.new.right ≡ plant.old.right }
+{
+    plant.keeps();
+    match plant.read_page(channel) {
+        ReadTurn::Logged => {}
+        ReadTurn::Frozen => unreachable!(),
+    }
+}
 
 /// Serves the next command of a channel, to its entry. `false` where no command is left.
 fn serve_next<D: PageDisk>(
@@ -34,6 +54,7 @@ fn serve_next<D: PageDisk>(
             serve(alloc, plant, right, msg);
             plant.settle(channel);
         }
+        RowStage::Read => read(plant, channel),
         RowStage::Flush => plant.flush(channel),
         _ => return false,
     }

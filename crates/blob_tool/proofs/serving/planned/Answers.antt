@@ -50,5 +50,5 @@ returns-in-Create g c =
     (λ name slots uuid head xattrs. c.plans.ensures.create p name slots uuid head xattrs running c.requires.runs)
     c.next_head-new.result c.next_head-new.ensures
     c.args.command.now c.in-Create.name c.in-Create.slots c.in-Create.thick c.in-Create.uuid c.in-Create.is
-    c.requires.served.0
+    c.requires.served.served
     c.plan_create.result c.plan_create.ensures.job c.plan_create.ensures.unrefused c.plan_create.ensures.refused
