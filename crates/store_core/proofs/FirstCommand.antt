@@ -8,7 +8,7 @@ use Rattle.store_model.specs.RunInvariant.{IsShaped, MayClaim}
 use Rattle.store_model.proofs.Shaped.{no_claim}
 use Rattle.store_core.specs.declared.rows.RowStage.{RowStage}
 use Rattle.store_core.specs.declared.rows.RowStage.TheVariants as waits
-use Rattle.store_core.specs.ChannelTurns.{WaitsToFlush, WaitsToWrite}
+use Rattle.store_core.specs.ChannelTurns.{WaitsToFlush, WaitsToRead, WaitsToWrite}
 use Rattle.store_core.specs.StoreView.{StoreView, rows_of, state_of}
 use Rattle.store_core.specs.Stages.{is_stage, waits_for}
 use Rattle.store_core.proofs.Posting.{low_of}
@@ -88,3 +88,18 @@ module _ {D : Type 0} (d : Ghosts D) (p : StoreView D) (shaped : IsShaped (state
 
   pub low_write : length p.rows ≡ 16 → is_stage row channel ≡ waits.Write → channel < 16
   low_write sixteen is = low waits.Write tt is sixteen
+
+  pub waits_read : is_stage row channel ≡ waits.Read → WaitsToRead p channel
+  waits_read is =
+      let y = x waits.Read tt is in
+      by y.command y.rest y.waits_is (row_is waits.Read tt is)
+    where
+      by : (command : Command) (rest : List Command) → waits_for command ≡ waits.Read
+          → row ≡ record { left = command ∷ rest; stage = Idle; claim = None } → WaitsToRead p channel
+      by (c.Read volume page) rest for r = record { volume = volume; page = page; rest = rest; row = r }
+      by (c.Write volume page word) rest for r = cc for
+      by c.Flush rest for r = cc for
+      by _ rest for r = cc for
+
+  pub low_read : length p.rows ≡ 16 → is_stage row channel ≡ waits.Read → channel < 16
+  low_read sixteen is = low waits.Read tt is sixteen

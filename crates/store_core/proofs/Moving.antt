@@ -1,13 +1,17 @@
 -- What device calls make of what is seen of the device.
-use Rattle.std.proofs.Common.{◌≡◌, ℕ, ◌+◌, ◌<◌, ◌≤◌, arith, Bool, true, false, List, Result, Ok, Err, refl, IsTrue}
+use Rattle.std.proofs.Common.{◌≡◌, ◌≢◌, inl, inr, ℕ, ◌+◌, ◌<◌, ◌≤◌, arith, Bool, true, false, List, Result, Ok, Err, refl, IsTrue}
 use Rattle.std.specs.Prelude.{OnOk, OnErr, if◌then◌else◌}
-use Rattle.page_disk.specs.Disk.{HasCause, Image, with_page}
+use Rattle.page_disk.specs.Disk.{HasCause, Image, RoseByOne, with_page}
 use Rattle.page_disk.specs.declared.disk.PageDisk.{Ghosts}
 use Rattle.page_disk.specs.declared.disk.DiskFault.{DiskFault}
 use Rattle.volume_model.specs.Volumes.{zero_page}
 use Rattle.store_model.specs.Cases.{WritesOnePage, read_after}
 use Rattle.store_model.specs.Cases.{FailsToReplace}
 use Rattle.store_model.specs.Cases.Flush.{IsFlushed}
+use Rattle.store_model.specs.Cases.Read.{IsRead}
+use Rattle.store_core.specs.ChannelTurns.{IsReadSo}
+use Rattle.volume_model.specs.declared.reply.Reply.{Reply}
+use Rattle.volume_model.specs.declared.reply.Reply.TheVariants as r
 use Rattle.store_core.specs.StoreView.{device_of}
 
 read_still : (tells : Bool) (old new : Image) → (IsTrue tells → new ≡ old)
@@ -70,3 +74,42 @@ module _ {D T : Type 0} (d : Ghosts D) (r : Result T DiskFault) (old new : D) wh
         read_calls = reads;
       }
       by (Err e) rises no_fault = tt
+
+-- over a read, or none
+module _ {D T : Type 0} (d : Ghosts D) (r : Result T DiskFault) (old new : D) where
+  pub reads : (IsTrue d.tells → d.now new ≡ d.now old) → d.clock new ≡ d.clock old
+      → HasCause (d.read_faults old) (d.read_faults new) r → OnOk r (d.read_faults new ≡ d.read_faults old)
+      → d.write_faults new ≡ d.write_faults old → RoseByOne (d.reads old) (d.reads new)
+      → IsReadSo (device_of d old) (device_of d new) r
+  reads same clock faults no_fault write_faults calls = by r faults no_fault
+    where
+      by : (x : Result T DiskFault) → HasCause (d.read_faults old) (d.read_faults new) x
+          → OnOk x (d.read_faults new ≡ d.read_faults old) → IsReadSo (device_of d old) (device_of d new) x
+      by (Ok x) faults no_fault = λ reply other. record {
+        reads = read_still d.tells (d.now old) (d.now new) same;
+        clock = clock;
+        write_faults = write_faults;
+        read_calls = inr calls;
+        fault = λ e. absurd (other e);
+        no_fault = λ _. no_fault;
+      }
+      by (Err e) faults no_fault = record {
+        reads = read_still d.tells (d.now old) (d.now new) same;
+        clock = clock;
+        write_faults = write_faults;
+        read_calls = inr calls;
+        fault = λ _. faults.cause refl;
+        no_fault = λ other. absurd (other refl);
+      }
+
+-- no call is made
+pub not_read : {D : Type 0} (d : Ghosts D) (disk : D) (reply : Reply) → reply ≢ r.ReadFault
+    → IsRead (device_of d disk) (device_of d disk) reply
+not_read d disk reply other = record {
+  reads = refl;
+  clock = refl;
+  write_faults = refl;
+  read_calls = inl refl;
+  fault = λ e. absurd (other e);
+  no_fault = λ _. refl;
+}

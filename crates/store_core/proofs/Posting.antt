@@ -14,9 +14,11 @@ use Rattle.store_model.specs.Cases as kind
 use Rattle.store_core.specs.declared.rows.RowStage.TheVariants.{Meta, Over}
 use Rattle.store_core.specs.declared.begin.BeginTurn.{BeginTurn}
 use Rattle.store_core.specs.declared.begin.BeginTurn.TheVariants as begin
+use Rattle.store_core.specs.declared.page_reading.ReadTurn.{ReadTurn}
+use Rattle.store_core.specs.declared.page_reading.ReadTurn.TheVariants as read
 use Rattle.store_core.specs.declared.page_writing.WriteTurn.{WriteTurn}
 use Rattle.store_core.specs.declared.page_writing.WriteTurn.TheVariants as write
-use Rattle.store_core.specs.ChannelTurns.{IsOfWrite, TurnsAs}
+use Rattle.store_core.specs.ChannelTurns.{IsOfRead, IsOfWrite, TurnsAs}
 use Rattle.store_core.specs.Begins.{BeginsOrNot}
 use Rattle.store_core.specs.StoreInvariant.{IsRunning, StoreInvariant}
 use Rattle.store_core.specs.TurnMade.{TurnMade}
@@ -195,6 +197,12 @@ pub by_write : {D : Type 0} (d : Ghosts D) (p q : StoreView D) (turn : WriteTurn
 by_write d p q write.Frozen same turns = inl (same (λ e. cc e))
 by_write d p q write.Empty same turns = inl (same (λ e. cc e))
 by_write d p q write.Logged same turns = inr (turns refl)
+
+-- a read of a page is one of its turns, or nothing is done
+pub by_read : {D : Type 0} (d : Ghosts D) (p q : StoreView D) (turn : ReadTurn) → (turn ≡ read.Frozen → q ≡ p)
+    → (turn ≡ read.Logged → TurnsAs d IsOfRead p q) → (q ≡ p) ⊎ TurnsAs d IsOfRead p q
+by_read d p q read.Frozen same turns = inl (same refl)
+by_read d p q read.Logged same turns = inr (turns refl)
 
 -- a store that has no job or has stopped, and hasn't stopped, has no job
 pub job_over : {D : Type 0} (p : StoreView D) → (p.job ≡ None) ⊎ IsSome p.stopped → p.stopped ≡ None → p.job ≡ None

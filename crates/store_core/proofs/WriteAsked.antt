@@ -1,5 +1,5 @@
 -- What a channel's write of a page comes to, by what was found of its blob.
-use Rattle.std.proofs.Common.{◌≡◌, ℕ, ◌+◌, ◌*◌, ◌/◌, ◌%◌, ◌<◌, ◌∷◌, true, false, List, Option, Some, None, length}
+use Rattle.std.proofs.Common.{◌≡◌, ℕ, ◌+◌, ◌*◌, ◌/◌, ◌%◌, ◌<◌, ◌∷◌, false, List, Option, Some, None, length}
 use Rattle.std.proofs.Common.{refl, sym, ap, subst, ◌∙◌}
 use Rattle.std.specs.Prelude.{IfSome, IsSome}
 use Rattle.std.specs.Option.{option_and_then, option_map, option_map_or}
@@ -32,7 +32,7 @@ use Rattle.store_model.specs.Rows.{Idle, Row}
 use Rattle.store_model.specs.Shown.{fixed_of}
 use Rattle.store_model.specs.StoreState.{shown, StoreState}
 use Rattle.store_model.specs.Turning.{IsNotFrozen}
-use Rattle.store_core.specs.ChannelTurns.{FindsNoCluster, IsFrozenFor, IsOfWrite, TurnsAs, WaitsToWrite, WritesNow}
+use Rattle.store_core.specs.ChannelTurns.{FindsNoCluster, IsOfWrite, TurnsAs, WaitsToWrite, WritesNow}
 use Rattle.store_core.specs.StoreInvariant.{IsRunning}
 use Rattle.store_core.specs.StoreView.{rows_of, state_of, StoreView}
 use Rattle.store_core.specs.Steps.{logged_on}
@@ -125,18 +125,6 @@ module _ {D : Type 0} (d : Ghosts D) (p : StoreView D) (channel : ℕ) (running 
       let both : command ∷ rest ≡ c.Write w.volume w.page w.word ∷ w.rest =
       sym left ∙ ap (λ (x : Row). x.left) w.row in
       cc both
-
-  -- its blob is frozen
-  pub frozen_for : option_map_or (set.contains p.guards.frozen) head false ≡ true
-      → (command : Command) (rest : List Command) → (rows_of p.rows channel).left ≡ command ∷ rest
-      → IsFrozenFor s command
-  frozen_for frozen command rest left =
-      subst (IsFrozenFor s) (sym (asks command rest left)) (by head refl frozen)
-    where
-      by : (o : Option ℕ) → head ≡ o → option_map_or (set.contains p.guards.frozen) o false ≡ true
-          → IsFrozenFor s (c.Write w.volume w.page w.word)
-      by None is frozen = absurd (cc frozen)
-      by (Some h) is frozen = record { head = h; named = head_is ∙ is; frozen = frozen }
 
   module _ (thawed : option_map_or (set.contains p.guards.frozen) head false ≡ false) where
     free : IsNotFrozen s w.volume

@@ -1,10 +1,11 @@
 -- The turns of a channel that touch the device: which cases they are, and what they start from.
-use Rattle.std.specs.Prelude.{None, Some, true, false, length, ◌≡◌, ◌/◌, ℕ, List, ◌∷◌}
+use Rattle.std.specs.Prelude.{None, Some, true, false, length, ◌≡◌, ◌≢◌, Result, Ok, Err, ◌/◌, ℕ, List, ◌∷◌, Option, slice_get}
+use Rattle.std.specs.Option.{option_and_then, option_map_or}
 use Rattle.page_disk.specs.declared.disk.PageDisk.{Ghosts}
 use Rattle.super_block.specs.Numbers.{cluster_pages_of}
 use Rattle.volume_model.specs.Refusals.{refusal}
-use Rattle.volume_model.specs.Steps.{named_head}
-use Rattle.volume_model.specs.Volumes.{head_of, page_of}
+use Rattle.volume_model.specs.Steps.{named_head, volume_at}
+use Rattle.volume_model.specs.Volumes.{head_of, page_of, zero_page}
 use Rattle.volume_model.specs.declared.command.Command.{Command}
 use Rattle.volume_model.specs.declared.command.Command.TheVariants as c
 use Rattle.volume_model.specs.declared.command.PageWord.{PageWord}
@@ -14,11 +15,17 @@ use Rattle.blob_meta.specs.Parents.{slot}
 use Rattle.blob_meta.specs.Resolving.{resolved}
 use Rattle.store_model.specs.Cases.{Kind}
 use Rattle.store_model.specs.Cases as kind
+use Rattle.page_disk.specs.declared.disk.DiskFault.{DiskFault}
+use Rattle.volume_model.specs.declared.reply.Reply.{Reply}
+use Rattle.volume_model.specs.declared.reply.Reply.TheVariants as r
+use Rattle.store_model.specs.Cases.Read.{IsRead}
 use Rattle.store_model.specs.Cases.WritePage.{WritesAt}
+use Rattle.store_model.specs.Device.{Device}
 use Rattle.store_model.specs.Rows.{Idle}
 use Rattle.store_model.specs.Shown.{fixed_of}
 use Rattle.store_model.specs.StoreState.{shown, StoreState}
-use Rattle.store_core.specs.StoreView.{rows_of, state_of, StoreView}
+use Rattle.store_model.specs.Turning.{IsNotFrozen}
+use Rattle.store_core.specs.StoreView.{read_now, rows_of, state_of, StoreView}
 use Rattle.store_core.specs.TurnMade.{TurnMade}
 
 -- A turn of one of these kinds is made.
@@ -87,3 +94,32 @@ pub record FindsNoCluster (p : StoreState) (command : Command) : Type 0 where
   pub meta : Meta
   pub there : resolved p.base head ≡ Some meta
   pub empty : slot meta (page / cluster_pages_of p.super) ≡ None
+
+-- a read of a page is answered, refused or has failed; or the store had stopped
+abbrev pub IsOfRead : Kind → Type 0
+IsOfRead kind.reads = Unit {0}
+IsOfRead kind.halts = Unit {0}
+IsOfRead _ = ⊥
+
+-- a channel whose first command is a read of a page, of which nothing was done
+pub record WaitsToRead {D : Type 0} (p : StoreView D) (channel : ℕ) : Type 0 where
+  pub volume : VolumeRef
+  pub page : ℕ
+  pub rest : List Command
+  pub row : rows_of p.rows channel ≡ record { left = c.Read volume page ∷ rest; stage = Idle; claim = None }
+
+-- A read of this channel's, which nothing refuses, of a page that is shown as what the device reads at this place, or
+-- as zeros.
+pub record ReadsNow {D : Type 0} (d : Ghosts D) (p : StoreView D) (channel : ℕ) (place : Option ℕ) : Type 0 where
+  pub waits : WaitsToRead p channel
+  pub runs : p.stopped ≡ None
+  pub free : IsNotFrozen (state_of d p) waits.volume
+  pub asked : refusal (fixed_of p.super) (shown (state_of d p)) (c.Read waits.volume waits.page) ≡ None
+  pub content : option_and_then (λ x. slice_get x.pages waits.page)
+      (volume_at (fixed_of p.super) (shown (state_of d p)) waits.volume)
+      ≡ Some (option_map_or (read_now d p.disk) place zero_page)
+
+-- what is seen of the device over one read at most, whatever reply other than a fault follows where it was done
+abbrev pub IsReadSo : {T : Type 0} → Device → Device → Result T DiskFault → Type 0
+IsReadSo old new (Ok x) = (reply : Reply) → reply ≢ r.ReadFault → IsRead old new reply
+IsReadSo old new (Err e) = IsRead old new r.ReadFault

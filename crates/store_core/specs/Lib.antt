@@ -2,6 +2,7 @@ pub mod LoadedWhole
 pub mod Stages
 pub mod Effects
 pub mod Jobs
+pub mod Reserved
 pub mod StoreView
 pub mod Running
 pub mod Steps

@@ -1,12 +1,15 @@
 //! The device calls of a turn, with what they make of the state and what a crash may leave of them.
 
-ghost use Rattle.std.specs.Prelude.{◌≡◌, ◌<◌, OnOk, OnErr, IsTrue};
+ghost use Rattle.std.specs.Prelude.{◌≡◌, ◌<◌, OnOk, OnErr, IfSome, IsTrue};
 ghost use Rattle.page_disk.specs.Disk.{Only, Written};
 ghost use Rattle.page_disk.specs.Moments.{IsReplaced, CallsLeaveOnly};
 ghost use Rattle.page_disk.specs.declared.disk.WriteKind.TheVariants.{Plain};
 ghost use Rattle.store_model.specs.Cases.{FailsToReplace, WritesOnePage};
 ghost use Rattle.store_model.specs.Cases.Flush.{IsFlushed};
+ghost use Rattle.store_core.specs.ChannelTurns.{IsReadSo};
 ghost use Rattle.store_core.specs.StoreView.{device_of};
+ghost use Rattle.std.specs.Option.{option_map_or};
+ghost use Rattle.volume_model.specs.Volumes.{zero_page};
 
 use page_disk::{DiskFault, Page, PageDisk, replace_page, write_and_flush, write_page};
 
@@ -68,4 +71,24 @@ pub(crate) fn flush_once<D: PageDisk>(disk: &mut D) -> Result<(), DiskFault>
     ensures pages { D.pages disk.new ≡ D.pages disk.old }
 {
     disk.flush()
+}
+
+/// Reads a page, in one device call, where a place is given; the page is one of zeros before.
+#[tactic(auto, using(crate::proofs::Moving::reads))]
+pub(crate) fn read_at<D: PageDisk>(
+    disk: &mut D,
+    place: Option<u64>,
+    into: &mut Page,
+) -> Result<(), DiskFault>
+    requires inside { IfSome place (λ n. n < D.pages disk.old) }
+    requires zeros { into.old ≡ zero_page }
+    ensures content { IsTrue D.tells → OnOk result (into.new ≡ option_map_or (D.now disk.old) place zero_page) }
+    ensures seen { IsReadSo (device_of D.PageDisk disk.old) (device_of D.PageDisk disk.new) result }
+    ensures any_moment { CallsLeaveOnly D.PageDisk disk.old disk.new (D.images disk.old) }
+    ensures pages { D.pages disk.new ≡ D.pages disk.old }
+{
+    match place {
+        Some(place) => disk.read(place, into),
+        None => Ok(()),
+    }
 }

@@ -4,7 +4,11 @@ ghost use Rattle.std.specs.Prelude.{None, ◌≡◌, ◌<◌, ◌∷◌, List, l
 ghost use Rattle.volume_model.specs.declared.command.Command.{Command as ACommand};
 ghost use Rattle.store_core.specs.StoreView.{rows_of};
 
+use crate::reserved::{is_read, pages_for};
+use out_of_memory::Memory;
+use page_disk::Page;
 use std::alloc::Global;
+use std::boxed::Box;
 use std::collections::VecDeque;
 use std::marker::Model;
 use volume_model::{Command, Msg};
@@ -65,11 +69,20 @@ pub(crate) enum Stage {
     Ended,
 }
 
-/// What a channel has left of its commands, and how far the first of them has come. Contracts see both.
+/// What a channel has left of its commands, and how far the first of them has come. Contracts see both. For each
+/// command that reads a page it has one reserved.
 #[derive(Drop)]
 pub(crate) struct Row {
-    pub(crate) left: VecDeque<Command>,
-    pub(crate) stage: Stage,
+    left: VecDeque<Command>,
+    stage: Stage,
+    reserved: Vec<Box<Page>>,
+}
+
+/// A command that was taken out of its row, with a page for its answer where it reads one.
+#[derive(Drop)]
+pub(crate) struct Taken {
+    pub(crate) command: Command,
+    pub(crate) page: Option<Box<Page>>,
 }
 
 impl Model for Row {
@@ -82,22 +95,30 @@ impl Model for Row {
     ghost coded = { row_code };
 
     ghost view = { λ r. record { left = r.left.items; stage = stage_seen r.stage; claim = None } };
+
+    ghost use Rattle.std.specs.Prelude.{◌≤◌, length};
+    ghost use Rattle.store_core.specs.Reserved.{reads_in};
+
+    ghost invariant = { λ r. reads_in r.left.items ≤ length r.reserved.items };
 }
 
 impl Row {
-    ghost use Rattle.std.specs.Prelude.{◌≡◌, ◌∷◌, [], length, option_copied, slice_get, IfSome, IfNone};
+    ghost use Rattle.std.specs.Prelude.{◌≡◌, ◌∷◌, [], length, option_copied, slice_get, true, IfOk, IfSome, IfNone, IsSome};
+    ghost use Rattle.store_core.specs.Reserved.{is_read};
     ghost use Rattle.store_model.specs.Rows.{Idle, Posted, InJob, Ended};
     ghost use Rattle.store_core.specs.Requests.{posted_in};
     ghost use Rattle.store_core.specs.Stages.{is_stage, stage_seen};
 
     /// The row of a channel with these commands, of which none is posted.
-    pub(crate) fn new(commands: Vec<Command>) -> Row
-        ensures { result ≡ record { left = commands.items; stage = Idle; claim = None } }
+    pub(crate) fn new(alloc: Global, commands: Vec<Command>) -> Result<Row, Memory>
+        ensures { IfOk result (λ row. row ≡ record { left = commands.items; stage = Idle; claim = None }) }
     {
-        Row {
+        let reserved = pages_for(alloc, commands.as_slice())?;
+        Ok(Row {
             left: VecDeque::from_vec(commands),
             stage: Stage::Idle,
-        }
+            reserved,
+        })
     }
 
     /// The row of a number that is no channel of the script.
@@ -107,6 +128,7 @@ impl Row {
         Row {
             left: VecDeque::new(alloc),
             stage: Stage::Ended,
+            reserved: Vec::new(alloc),
         }
     }
 
@@ -165,15 +187,21 @@ impl Row {
     }
 
     /// Takes out the first command, which is logged; the row is at this stage then.
-    pub(crate) fn take(&mut self, next: Stage) -> Option<Command>
-        ensures some { IfSome result (λ command. self.old.left ≡ command ∷ self.new.left) }
+    pub(crate) fn take(&mut self, next: Stage) -> Option<Taken>
+        ensures some { IfSome result (λ taken. self.old.left ≡ taken.command ∷ self.new.left) }
+        ensures page { IfSome result (λ taken. is_read taken.command ≡ true → IsSome taken.page) }
         ensures unclaimed { IfSome result (λ _. self.new.claim ≡ None) }
         ensures stage { IfSome result (λ _. self.new.stage ≡ stage_seen next) }
         ensures none { IfNone result ((self.old.left ≡ []) × (self.new ≡ self.old)) }
     {
         let command = self.left.pop_front()?;
         self.stage = next;
-        Some(command)
+        let page = if is_read(&command) {
+            self.reserved.pop()
+        } else {
+            None
+        };
+        Some(Taken { command, page })
     }
 
     /// The channel has the word that its command is logged.

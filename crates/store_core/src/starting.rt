@@ -157,7 +157,7 @@ pub(crate) fn rows_at_start(alloc: Global, script: Script) -> Result<Vec<Row>, M
     for channel in 0..16 {
         let commands = script.take(alloc, channel);
         let row = if channel < channels {
-            Row::new(commands)
+            Row::new(alloc, commands)?
         } else {
             Row::ended(alloc)
         };

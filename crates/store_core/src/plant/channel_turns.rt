@@ -2,18 +2,39 @@
 
 use crate::flushing::flush_or_halt;
 use crate::keeping::goes_on;
+use crate::page_reading::{ReadTurn, read_or_halt};
 use crate::page_writing::{WriteTurn, write_or_halt};
 use crate::plant::Plant;
 use page_disk::PageDisk;
 
 impl<D: PageDisk> Plant<D> {
     ghost use Rattle.std.specs.Prelude.{◌≡◌, ◌≢◌};
+    ghost use Rattle.store_core.specs.declared.page_reading.ReadTurn.TheVariants as read;
     ghost use Rattle.store_core.specs.declared.page_writing.WriteTurn.TheVariants as write;
-    ghost use Rattle.store_core.specs.declared.rows.RowStage.TheVariants.{Flush, Write};
-    ghost use Rattle.store_core.specs.ChannelTurns.{FindsNoCluster, IsFrozenFor, IsOfFlush, IsOfWrite, TurnsAs};
+    ghost use Rattle.store_core.specs.declared.rows.RowStage.TheVariants.{Flush, Read, Write};
+    ghost use Rattle.store_core.specs.ChannelTurns.{FindsNoCluster, IsFrozenFor, IsOfFlush, IsOfRead, IsOfWrite, TurnsAs};
     ghost use Rattle.store_core.specs.Stages.{is_stage};
     ghost use Rattle.store_core.specs.Steps.{gone_on, Asks, OnlyRow};
     ghost use Rattle.store_core.specs.StoreView.{rows_of, state_of};
+
+    /// Reads a page, for the first command of a channel. `Frozen` comes exactly where its blob is frozen: the store is as
+    /// it was. Else it is logged: with `Content`, its slot's page or its parent's or zeros; with the first of `NoVolume`
+    /// and `OutOfRange` that holds; with `ReadFault` where the read failed; on a stopped store with `Stopped`. It makes
+    /// one read at most, and wants no memory.
+    pub fn read_page(&mut self, channel: u8) -> ReadTurn
+        requires stage { is_stage (rows_of self.old.at.rows channel) channel ≡ Read }
+        ensures frozen { result ≡ read.Frozen
+            → Asks self.old.at channel (IsFrozenFor (state_of D.PageDisk self.old.at)) }
+        ensures waiting { result ≡ read.Frozen → self.new ≡ self.old }
+        ensures logged { result ≡ read.Logged → TurnsAs D.PageDisk IsOfRead self.old.at self.new.at }
+        ensures row { result ≡ read.Logged → OnlyRow self.old.at.rows self.new.at.rows channel
+            (gone_on (rows_of self.old.at.rows channel)) }
+        ensures opening { self.new.opening ≡ self.old.opening }
+        ensures right { self.new.right ≡ self.old.right }
+    {
+        goes_on::<D>();
+        read_or_halt(&mut self.running, channel)
+    }
 
     /// Flushes, for the first command of a channel. It is logged with `Ok`, and all that was written is safe from a
     /// crash; with `Fault` where the flush failed, and the store has stopped then; on a stopped store with `Stopped`.

@@ -47,8 +47,8 @@ returns-clause-order g c =
           (counted_more old.logged old.entries.items (record {
             channel = c.args.channel;
             index = slice_index_or old.logged c.args.channel 0;
-            command = c.in-Some.command;
-            reply = c.args.reply;
+            command = c.in-Some.field-0.command;
+            reply = c.reply_of-reply.result;
           }) 16 (sym order.counts) c.requires.channel order.counted k lt);
       counts = length-set old.logged c.args.channel _ ∙ order.counts;
       no_page = order.no_page;
@@ -64,7 +64,7 @@ returns-clause-row g c =
     let channel = c.args.channel in
     let low : channel < length old = omega (arith, c.requires.channel, c.requires.order.sixteen) in
     subst (λ (row : Row). OnlyRow old (slice_set old channel c.take.new.self) channel row)
-    (taken_row (rows_of old channel) c.take.new.self c.in-Some.command (stage_seen c.args.next)
+    (taken_row (rows_of old channel) c.take.new.self c.in-Some.field-0.command (stage_seen c.args.next)
     (ap (λ (r : Row). r.left) (get_or_default old channel (record {
       left = [];
       stage = Ended;

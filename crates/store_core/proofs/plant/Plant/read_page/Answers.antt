@@ -1,0 +1,39 @@
+use Rattle.std.proofs.Common.{◌≡◌, subst, sym}
+use Rattle.store_core.specs.ChannelTurns.{IsFrozenFor, IsOfRead}
+use Rattle.store_core.specs.Running.{view_of, with_opening}
+use Rattle.store_core.specs.StoreView.{WithOpening, rows_of, state_of}
+use Rattle.store_core.specs.Stages.{is_stage}
+use Rattle.store_core.specs.Steps.{Asks}
+use Rattle.store_core.specs.declared.page_reading.ReadTurn.TheVariants as read
+use Rattle.store_core.specs.declared.rows.RowStage.TheVariants.{Read}
+use Rattle.store_core.proofs.FirstCommand.{low_read, waits_read}
+use Rattle.store_core.proofs.Posting.{by_read, turned_or_not}
+use Rattle.store_core.proofs.plant.Plant.read_page.Goals as goal
+
+pub read_or_halt-requires-clause-channel : goal.read_or_halt-requires-clause-channel
+read_or_halt-requires-clause-channel g c =
+    low_read g.D.PageDisk (view_of c.self.inside.running) c.self.invariant.0.facts.shaped c.args.channel
+    c.self.invariant.1.sixteen
+    (subst (λ (b : WithOpening g.row.D.Denot). is_stage (rows_of b.at.rows c.args.channel) c.args.channel ≡ Read)
+    (sym c.self.view_is) c.requires.stage)
+
+pub read_or_halt-requires-clause-waits : goal.read_or_halt-requires-clause-waits
+read_or_halt-requires-clause-waits g c =
+    waits_read g.D.PageDisk (view_of c.self.inside.running) c.self.invariant.0.facts.shaped c.args.channel
+    (subst (λ (b : WithOpening g.row.D.Denot). is_stage (rows_of b.at.rows c.args.channel) c.args.channel ≡ Read)
+    (sym c.self.view_is) c.requires.stage)
+
+pub invariant_of-self : goal.invariant_of-self
+invariant_of-self g c =
+    let p = with_opening c.self.inside.running c.self.inside.opening.value c.self.inside.right.value.name in
+    let q = view_of c.read_or_halt.new.running in (
+      turned_or_not g.D.PageDisk p q IsOfRead c.self.invariant.0
+          (λ k made. c.goes_on.ensures p q k c.self.invariant.0 made)
+          (by_read g.D.PageDisk p.at q c.read_or_halt.result c.read_or_halt.ensures.kept
+          c.read_or_halt.ensures.logged),
+      c.read_or_halt.ensures.order,
+    )
+
+pub returns-clause-frozen : goal.returns-clause-frozen
+returns-clause-frozen g c = subst (λ (b : WithOpening g.row.D.Denot). c.read_or_halt.result ≡ read.Frozen
+    → Asks b.at c.args.channel (IsFrozenFor (state_of g.D.PageDisk b.at))) c.self.view_is c.read_or_halt.ensures.frozen
