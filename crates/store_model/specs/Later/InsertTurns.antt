@@ -4,31 +4,25 @@ use Rattle.blob_meta.specs.declared.meta.Meta.{Meta}
 use Rattle.blob_meta.specs.Parents.{slot}
 use Rattle.store_model.specs.Maps.{with_entry}
 use Rattle.store_model.specs.Device.{Device}
-use Rattle.store_model.specs.Rows.{Answered, Decided, InJob, Lost, OpenClaim, Posted, Ready, Stage, with_row, Won}
+use Rattle.store_model.specs.Rows.{Answered, Decided, InJob, Lost, OpenClaim, Posted, Stage, with_row, Won}
 use Rattle.store_model.specs.Phases.{Frees as Frees_, page_in, Phase, phases_of, Replaces, Replacing, taken_by}
 use Rattle.store_model.specs.Places.{all_set}
 use Rattle.store_model.specs.Jobs.{IsLaid, LacksPages}
 use Rattle.store_model.specs.Inserting.{with_slot}
-use Rattle.store_model.specs.StoreState.{ForInsert, going_on, JobState, next_serial, StoreState}
+use Rattle.store_model.specs.StoreState.{ForInsert, going_on, JobState, StoreState}
 use Rattle.store_model.specs.Turning.{FailsToReplace, page_of_place, Runs, stopped_now, WritesOnePage}
-use Rattle.store_model.specs.Cases.Flush.{IsFlushed}
 use Rattle.volume_model.specs.Volumes.{zero_page}
+use Rattle.volume_model.specs.declared.reply.Reply.{Reply}
 use Rattle.volume_model.specs.declared.reply.Reply.TheVariants as r
-use Rattle.store_model.specs.Later.CopyTurns.{given_back, IsCopying, LogsFor}
+use Rattle.store_model.specs.Claiming.{given_back, IsCopying, LogsOwn}
+use Rattle.store_model.specs.Later.CopyTurns.{LogsFilled}
 use Rattle.store_model.specs.Copying.{IsUpToDate}
 
--- All pages are copied: a flush makes them lasting, and the insert is posted under the next serial.
-pub record Sends (p q : StoreState) : Type 0 where
-  pub copying : IsCopying p Ready
-  pub runs : p.stopped ≡ None
-  pub device : Device
-  pub flushed : IsFlushed p.device device
-  pub next : q ≡ record p {
-    rows = with_row p.rows copying.row
-        (record { left = copying.left; stage = Posted p.serial; claim = Some copying.claim });
-    serial = next_serial p.serial;
-    device = device;
-  }
+-- the command that a row works for is logged: a channel's own, or that of the fill
+pub data LogsFor (p : StoreState) (row : ℕ) (stage : Stage) (reply : Reply) (device : Device) (q : StoreState) : Type 0
+  where
+    own : LogsOwn p row stage reply device q → LogsFor p row stage reply device q
+    fill : LogsFilled p row stage reply device q → LogsFor p row stage reply device q
 
 -- the claim can be inserted: its blob's generation is the same, and the slot is there and empty
 pub record CanInsert (p : StoreState) (claim : OpenClaim) (meta : Meta) : Type 0 where
