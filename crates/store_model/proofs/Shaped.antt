@@ -3,7 +3,7 @@ use Rattle.std.proofs.Common.{◌⊎◌, Option, ◌≡◌, ◌≢◌, ℕ, List
 use Rattle.std.proofs.Common.{false, true}
 use Rattle.std.proofs.lemmas.Bool.{cases_eq}
 use Rattle.volume_model.specs.declared.command.Command.{Command}
-use Rattle.store_model.specs.Rows.{Claiming, Copying, fill_row, OpenClaim, Row, Rows, Stage, Idle, Posted, InJob, Answered, Decided, Ended, with_row}
+use Rattle.store_model.specs.Rows.{Claiming, Copying, fill_row, OpenClaim, Row, Rows, Stage, Idle, Posted, InJob, Answered, Decided, Decision, Ended, with_row}
 use Rattle.store_model.specs.StoreState.{JobState, StoreState, ForCommand, waiting}
 use Rattle.store_model.specs.RunInvariant.{IsServedRow, MayClaim, IsShaped}
 use Rattle.store_model.proofs.RowsKept.{row_here, row_other}
@@ -192,6 +192,16 @@ holding_may p channel left stage claim may posted serves = record {
 pub decided_may : (p : StoreState) (channel : ℕ) (left : List Command)
     → MayBe p channel (record { left = left; stage = Decided Answered; claim = None })
 decided_may p channel left = record {
+  posted = λ serial is. absurd (cc is);
+  in_job = λ is. absurd (cc is);
+  ended = λ is. absurd (cc is);
+  claims = λ claim is. absurd (cc is);
+}
+
+-- a row whose claim was lost, or won
+pub outcome_may : (outcome : Decision) (p : StoreState) (channel : ℕ) (left : List Command)
+    → MayBe p channel (record { left = left; stage = Decided outcome; claim = None })
+outcome_may outcome p channel left = record {
   posted = λ serial is. absurd (cc is);
   in_job = λ is. absurd (cc is);
   ended = λ is. absurd (cc is);

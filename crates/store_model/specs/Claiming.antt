@@ -1,5 +1,5 @@
 -- A write that finds its slot empty: its claim, the row that copies for it, and how a claim is given back.
-use Rattle.std.specs.Prelude.{◌≡◌, ℕ, ◌/◌, List, ◌∷◌, Option, None, Some, false}
+use Rattle.std.specs.Prelude.{◌≡◌, ℕ, ◌/◌, ◌<◌, length, List, ◌∷◌, Option, None, Some, false}
 use Rattle.super_block.specs.Numbers.{cluster_pages_of}
 use Rattle.volume_model.specs.Volumes.{head_of}
 use Rattle.volume_model.specs.Refusals.{refusal}
@@ -13,6 +13,7 @@ use Rattle.blob_meta.specs.Parents.{slot}
 use Rattle.blob_meta.specs.Resolving.{resolved}
 use Rattle.store_model.specs.Shown.{fixed_of}
 use Rattle.store_model.specs.Rows.{fill_row, OpenClaim, Stage, with_row}
+use Rattle.store_model.specs.Copying.{IsUpToDate}
 use Rattle.store_model.specs.Device.{Device}
 use Rattle.store_model.specs.Places.{without_claim}
 use Rattle.store_model.specs.StoreState.{logged_to, shown, StoreState}
@@ -82,3 +83,12 @@ pub record LogsOwn (p : StoreState) (row : ℕ) (stage : Stage) (reply : Reply) 
   pub rest : List Command
   pub left : (p.rows row).left ≡ c.Write volume page word ∷ rest
   pub next : q ≡ logged_to stage (given_back p row stage) row (c.Write volume page word) rest reply device
+
+-- ---- an insert
+
+-- the claim can be inserted: its blob's generation is the same, and the slot is there and empty
+pub record CanInsert (p : StoreState) (claim : OpenClaim) (meta : Meta) : Type 0 where
+  pub there : p.base claim.head ≡ Some meta
+  pub current : IsUpToDate p claim
+  pub within : claim.slot < length meta.map
+  pub empty : slot meta claim.slot ≡ None

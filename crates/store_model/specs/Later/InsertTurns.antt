@@ -14,7 +14,7 @@ use Rattle.store_model.specs.Turning.{FailsToReplace, page_of_place, Runs, stopp
 use Rattle.volume_model.specs.Volumes.{zero_page}
 use Rattle.volume_model.specs.declared.reply.Reply.{Reply}
 use Rattle.volume_model.specs.declared.reply.Reply.TheVariants as r
-use Rattle.store_model.specs.Claiming.{given_back, IsCopying, LogsOwn}
+use Rattle.store_model.specs.Claiming.{CanInsert, IsCopying, LogsOwn}
 use Rattle.store_model.specs.Later.CopyTurns.{LogsFilled}
 use Rattle.store_model.specs.Copying.{IsUpToDate}
 
@@ -23,13 +23,6 @@ pub data LogsFor (p : StoreState) (row : ℕ) (stage : Stage) (reply : Reply) (d
   where
     own : LogsOwn p row stage reply device q → LogsFor p row stage reply device q
     fill : LogsFilled p row stage reply device q → LogsFor p row stage reply device q
-
--- the claim can be inserted: its blob's generation is the same, and the slot is there and empty
-pub record CanInsert (p : StoreState) (claim : OpenClaim) (meta : Meta) : Type 0 where
-  pub there : p.base claim.head ≡ Some meta
-  pub current : IsUpToDate p claim
-  pub within : claim.slot < length meta.map
-  pub empty : slot meta claim.slot ≡ None
 
 -- The job of one replacement begins that puts the cluster into the slot.
 pub record BeginsInsert (p q : StoreState) : Type 0 where
@@ -55,18 +48,8 @@ pub record BeginsInsert (p q : StoreState) : Type 0 where
     pages = all_set p.pages (taken_by replacing) true;
   }
 
--- The blob is gone, the slot out of range or filled, or the generation another: the row is decided, and its cluster is
--- clear.
-pub record LosesInsert (p q : StoreState) : Type 0 where
-  pub serial : ℕ
-  pub posted : IsCopying p (Posted serial)
-  pub runs : p.stopped ≡ None
-  pub no_job : p.job ≡ None
-  pub cannot : (meta : Meta) → CanInsert p posted.claim meta → ⊥
-  pub next : q ≡ given_back p posted.row (Decided Lost)
-
--- Fewer pages are clear than the insert needs: its command is logged as that, and the claim given back.
-pub record LacksForInsert (p q : StoreState) : Type 0 where
+-- Fewer pages are clear than an insert of the fill's row needs: the command that it works for is logged as that.
+pub record FillLacks (p q : StoreState) : Type 0 where
   pub serial : ℕ
   pub posted : IsCopying p (Posted serial)
   pub runs : p.stopped ≡ None
@@ -74,7 +57,7 @@ pub record LacksForInsert (p q : StoreState) : Type 0 where
   pub meta : Meta
   pub can : CanInsert p posted.claim meta
   pub lacks : LacksPages true (with_slot meta posted.claim.slot posted.claim.cluster) p.pages
-  pub logs : LogsFor p posted.row (Decided Answered) r.NoPage p.device q
+  pub logs : LogsFilled p posted.row (Decided Answered) r.NoPage p.device q
 
 -- ---- the job of an insert
 
