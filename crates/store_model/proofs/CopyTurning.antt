@@ -35,6 +35,7 @@ use Rattle.store_model.specs.Shown.{content}
 use Rattle.store_model.specs.Surviving.{IsAllFlushed}
 use Rattle.store_model.proofs.Contents.{same_content}
 use Rattle.store_model.proofs.JobKept.{held_low}
+use Rattle.store_model.specs.Jobs.{gained_by}
 use Rattle.store_model.proofs.LeftToDo.{next_of}
 use Rattle.store_model.proofs.Shapes.{moved_to}
 use Rattle.store_model.proofs.StateKept.{device_by}
@@ -167,7 +168,7 @@ module _ {D : Type 0} (d : Ghosts D) (x : Over d) (row : ℕ) (claim : OpenClaim
         let was = sym job ∙ is in
         let well = facts.well runs in
         let stood = well.job j was in
-        let next = next_of p.super p.base p.chains j.claimed j.todo j.written place among stood.lays in
+        let next = next_of p.super p.base p.chains (gained_by p.rows j) j.todo j.written place among stood.lays in
         let under = held_low known_here well (held_by p.job) refl place
         (ap (λ o. is_among place (held_by o)) was ∙ next.is_held place (next.fresh place among)) in
         read (s.md_start + place)
