@@ -24,30 +24,6 @@ pub data LogsFor (p : StoreState) (row : ℕ) (stage : Stage) (reply : Reply) (d
     own : LogsOwn p row stage reply device q → LogsFor p row stage reply device q
     fill : LogsFilled p row stage reply device q → LogsFor p row stage reply device q
 
--- The job of one replacement begins that puts the cluster into the slot.
-pub record BeginsInsert (p q : StoreState) : Type 0 where
-  pub serial : ℕ
-  pub posted : IsCopying p (Posted serial)
-  pub runs : p.stopped ≡ None
-  pub no_job : p.job ≡ None
-  pub meta : Meta
-  pub can : CanInsert p posted.claim meta
-  pub replacing : Replacing
-  pub laid : IsLaid p.super p.base p.chains p.pages (posted.claim.cluster ∷ [])
-      (record { head = posted.claim.head; new = Some (with_slot meta posted.claim.slot posted.claim.cluster) })
-      replacing
-  pub next : q ≡ record p {
-    rows = with_row p.rows posted.row (record { left = posted.left; stage = InJob; claim = Some posted.claim });
-    job = Some (record {
-      serves = ForInsert posted.row;
-      freeze = None;
-      claimed = [];
-      written = [];
-      todo = phases_of replacing None [];
-    });
-    pages = all_set p.pages (taken_by replacing) true;
-  }
-
 -- Fewer pages are clear than an insert of the fill's row needs: the command that it works for is logged as that.
 pub record FillLacks (p q : StoreState) : Type 0 where
   pub serial : ℕ
