@@ -23,7 +23,7 @@ use Rattle.store_core.specs.Begins.{BeginsOrNot}
 use Rattle.store_core.specs.StoreInvariant.{IsRunning, StoreInvariant}
 use Rattle.store_core.specs.TurnMade.{TurnMade}
 use Rattle.store_core.specs.StoreView.{StoreView, WithOpening, rows_of, state_of}
-use Rattle.store_core.specs.Requests.{IsPostedBy}
+use Rattle.store_core.specs.Requests.{HavePosted, IsPostedBy}
 use Rattle.store_core.specs.Stages.{is_stage, waits_for}
 use Rattle.store_core.specs.Steps.{IsPostedAt, WaitsForMetadata}
 use Rattle.store_model.specs.RunInvariant.{IsShaped, MayClaim}
@@ -124,13 +124,20 @@ module _ {D : Type 0} (d : Ghosts D) (p : StoreView D) (shaped : IsShaped (state
       → (rows_of p.rows channel).claim ≡ None
   decided_unclaimed outcome is = no_claim (state_of d p) shaped channel (λ may. subst MayClaim is may)
 
+-- each row that is posted has a command
+pub have_posted : {D : Type 0} (d : Ghosts D) (p : WithOpening D) → StoreInvariant d p → length p.at.rows ≡ 16
+    → HavePosted p.at.rows
+have_posted d p kept sixteen channel serial is =
+    kept.facts.shaped.posted channel serial is (inr (λ e.
+    let low = low_of p.at.rows channel (Posted serial) sixteen is (λ bad. cc bad) in omega (arith, low, e)))
+
 -- a command that is posted, by what is kept
 pub posted_at : {D : Type 0} (d : Ghosts D) (p : WithOpening D) (msg : Msg) → StoreInvariant d p
     → IsPostedBy p.at.rows msg → IsPostedAt p.at msg.channel
 posted_at d p msg kept is = by (rows_of p.at.rows msg.channel).left refl
   where
     by : (left : List Command) → (rows_of p.at.rows msg.channel).left ≡ left → IsPostedAt p.at msg.channel
-    by [] none = absurd (kept.facts.shaped.posted msg.channel msg.serial is.stage none)
+    by [] none = absurd (kept.facts.shaped.posted msg.channel msg.serial is.stage (inl is.unclaimed) none)
     by (command ∷ rest) some = record {
       serial = msg.serial;
       waits = record {

@@ -6,36 +6,57 @@ use Rattle.std.proofs.lemmas.Bool.{both_ways, cases_Bool, cases_eq, cases_lt}
 use Rattle.std.proofs.lemmas.List.{get_or-set_same, get_or-set_other, length-set}
 use Rattle.bit_array.specs.Bits.{is_in}
 use Rattle.super_block.specs.Numbers.{cluster_pages_of, clusters_of, fixed_clusters_of}
-use Rattle.store_model.specs.Copying.{HasCopied}
-use Rattle.store_model.proofs.Copies.{HaveNoMore, row_no_more, row_unclaimed}
+use Rattle.store_model.specs.Copying.{AreCopied, HasCopied}
+use Rattle.store_model.proofs.Copies.{copied_same, HaveNoMore, row_no_more, row_unclaimed}
 use Rattle.md_chain.specs.Chain.{is_among}
 use Rattle.store_model.specs.Maps.{Metas}
 use Rattle.store_model.specs.Rows.{OpenClaim, Row, Rows, with_row}
 use Rattle.store_model.specs.Guarding.{AreClaimsDrawn}
 use Rattle.store_model.specs.Places.{claimed_by, ClaimsDiffer, HasClaim, IsMapped, UsedClusters, without_claim}
 use Rattle.store_model.specs.StoreState.{JobState, StoreState}
-use Rattle.store_model.proofs.Claims.{differ_still, used_still, with_row_claims}
+use Rattle.store_model.proofs.Claims.{differ_still, used_still, with_row_claims, with_row_same}
 use Rattle.store_model.proofs.Guarding.{claims_drawn_still}
 use Rattle.store_model.proofs.RowsKept.{row_here, row_other}
 use Rattle.store_model.proofs.Used.{within}
 
--- what the clusters in use have to do with open claims, with these rows and these clusters in use
+-- what is known of open claims, with these rows and these clusters in use
 pub record AreHeld (p : StoreState) (rows : Rows) (bits : List Bool) : Type 0 where
   pub used : UsedClusters p.super bits p.base (HasClaim rows p.job)
   pub differ : ClaimsDiffer rows p.job
   pub drawn : AreClaimsDrawn rows p.drawn
-  pub no_more : HaveNoMore (cluster_pages_of p.super) p.rows rows
+  pub copied : AreCopied (record p { rows = rows })
 
 -- each row has the claim that it had
-pub held_still : (p : StoreState) (rows : Rows) → AreHeld p p.rows p.clusters
-    → ((c : ℕ) → (rows c).claim ≡ (p.rows c).claim) → HaveNoMore (cluster_pages_of p.super) p.rows rows
-    → AreHeld p rows p.clusters
-held_still p rows h same no_more = record {
-  no_more = no_more;
+pub held_with : (p : StoreState) (rows : Rows) → AreHeld p p.rows p.clusters
+    → ((c : ℕ) → (rows c).claim ≡ (p.rows c).claim) → AreCopied (record p { rows = rows }) → AreHeld p rows p.clusters
+held_with p rows h same copied = record {
   used = used_still p.rows rows p.job p.job same refl p.super p.clusters p.base h.used;
   differ = differ_still p.rows rows p.job p.job same refl h.differ;
   drawn = claims_drawn_still p.rows rows p.drawn p.drawn same (omega arith) h.drawn;
+  copied = copied;
 }
+
+-- what no more is copied of
+no_more_copied : (p : StoreState) (rows : Rows) (bits : List Bool) → AreHeld p p.rows bits
+    → HaveNoMore (cluster_pages_of p.super) p.rows rows → AreCopied (record p { rows = rows })
+no_more_copied p rows bits h no_more =
+    copied_same p (record p { rows = rows }) h.copied refl refl refl no_more refl
+
+pub held_still : (p : StoreState) (rows : Rows) → AreHeld p p.rows p.clusters
+    → ((c : ℕ) → (rows c).claim ≡ (p.rows c).claim) → HaveNoMore (cluster_pages_of p.super) p.rows rows
+    → AreHeld p rows p.clusters
+held_still p rows h same no_more = held_with p rows h same (no_more_copied p rows p.clusters h no_more)
+
+-- a row goes on with its claim, of which no more is copied
+pub held_on : (p : StoreState) (channel : ℕ) (row : Row) → AreHeld p p.rows p.clusters
+    → (p.rows channel).claim ≡ row.claim
+    → ((page : ℕ) → HasCopied (cluster_pages_of p.super) row.stage page
+    → HasCopied (cluster_pages_of p.super) (p.rows channel).stage page)
+    → AreHeld p (with_row p.rows channel row) p.clusters
+held_on p channel row h same no_more =
+    held_still p (with_row p.rows channel row) h (with_row_same p.rows channel row (sym same))
+    (row_no_more (cluster_pages_of p.super) p.rows channel row
+    (λ claim page held has. record { held = same ∙ held; copied = no_more page has }))
 
 module _ (p : StoreState) (channel : ℕ) (row : Row) (h : AreHeld p p.rows p.clusters) where
   abbrev rows : Rows
@@ -102,8 +123,8 @@ module _ (p : StoreState) (channel : ℕ) (row : Row) (h : AreHeld p p.rows p.cl
 
     pub held_made : AreHeld p rows bits
     held_made = record {
-      no_more = row_no_more (cluster_pages_of p.super) p.rows channel row
-          (λ other page held has. absurd (fresh page has));
+      copied = no_more_copied p rows p.clusters h (row_no_more (cluster_pages_of p.super) p.rows channel row
+          (λ other page held has. absurd (fresh page has)));
       used = record {
         count = length-set p.clusters claim.cluster true ∙ h.used.count;
         fixed = λ c few under. set_more c (h.used.fixed c few under);
@@ -207,7 +228,7 @@ module _ (p : StoreState) (channel : ℕ) (row : Row) (h : AreHeld p p.rows p.cl
 
     held_cleared : AreHeld p rows fewer
     held_cleared = record {
-      no_more = row_unclaimed (cluster_pages_of p.super) p.rows channel row none;
+      copied = no_more_copied p rows p.clusters h (row_unclaimed (cluster_pages_of p.super) p.rows channel row none);
       used = record {
         count = length-set p.clusters claim.cluster false ∙ h.used.count;
         fixed = λ c few under. stays c (λ e. let x = (h.used.apart claim.cluster mine).0 in omega (arith, e, x, few))

@@ -18,6 +18,14 @@ with_row_claims rows channel row none given c = elim (cases_eq c channel) [
   | inr ne ↦ ap (λ (r : Row). r.claim) (row_other rows channel row c ne)
 ]
 
+-- a row is another with the same claim
+pub with_row_same : (rows : Rows) (channel : ℕ) (row : Row) → row.claim ≡ (rows channel).claim → (c : ℕ)
+    → (with_row rows channel row c).claim ≡ (rows c).claim
+with_row_same rows channel row same c = elim (cases_eq c channel) [
+  | inl e ↦ ap (λ (r : Row). r.claim) (row_here rows channel row c e) ∙ same ∙ ap (λ k. (rows k).claim) (sym e)
+  | inr ne ↦ ap (λ (r : Row). r.claim) (row_other rows channel row c ne)
+]
+
 -- rows with the same claims have claimed the same clusters
 pub claimed_still : (rows other : Rows) → ((c : ℕ) → (other c).claim ≡ (rows c).claim) → (cluster : ℕ)
     → IsClaimed rows cluster → IsClaimed other cluster

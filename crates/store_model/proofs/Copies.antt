@@ -1,5 +1,7 @@
 -- What was copied of a slot stays its content.
-use Rattle.std.proofs.Common.{◌≡◌, ◌≢◌, ◌⊎◌, ℕ, suc, ◌+◌, ◌*◌, ◌/◌, ◌%◌, ◌<◌, ◌≤◌, ◌==◌, ◌&&◌, Bool, false, List, [], ◌∷◌}
+use Rattle.std.specs.Prelude.{nat_lt, if◌then◌else◌}
+use Rattle.std.specs.Option.{option_map_or}
+use Rattle.std.proofs.Common.{length, true, zero, ◌≡◌, ◌≢◌, ◌⊎◌, ℕ, suc, ◌+◌, ◌*◌, ◌/◌, ◌%◌, ◌<◌, ◌≤◌, ◌==◌, ◌&&◌, Bool, false, List, [], ◌∷◌}
 use Rattle.std.proofs.Common.{Option, Some, None, refl, sym, ap, ◌∙◌, subst, inl, inr, arith}
 use Rattle.std.proofs.lemmas.Bool.{both_ways, cases_Bool, cases_eq, eqb-true}
 use Rattle.std.proofs.lemmas.Nat.{div-mul-add}
@@ -7,9 +9,9 @@ use Rattle.std.proofs.Math.Nat.{mod-lt, mul-le-mul_right}
 use Rattle.page_disk.specs.Disk.{Image}
 use Rattle.super_block.specs.declared.page.Super.{Super}
 use Rattle.super_block.specs.Numbers.{cluster_pages_of, fixed_clusters_of}
-use Rattle.volume_model.specs.Volumes.{Page}
+use Rattle.volume_model.specs.Volumes.{Page, zero_page}
 use Rattle.blob_meta.specs.declared.meta.Meta.{Meta}
-use Rattle.blob_meta.specs.Parents.{slot}
+use Rattle.blob_meta.specs.Parents.{parent_of, slot}
 use Rattle.blob_meta.specs.Resolving.{IsLawful, resolved}
 use Rattle.md_chain.specs.Chain.{is_among}
 use Rattle.store_model.specs.Agreeing.{AgreeOn, IsPageOf, IsSameButAt}
@@ -18,7 +20,7 @@ use Rattle.store_model.specs.Guarding.{all_renewed, AreClaimsDrawn}
 use Rattle.store_model.specs.Maps.{Map, Metas, with_entry}
 use Rattle.store_model.specs.Places.{HasClaim, UsedClusters}
 use Rattle.store_model.specs.Rows.{Copying, InJob, OpenClaim, Posted, Ready, Row, Rows, Stage, with_row}
-use Rattle.store_model.specs.Shown.{content}
+use Rattle.store_model.specs.Shown.{content, content_by}
 use Rattle.store_model.specs.StoreState.{StoreState}
 use Rattle.store_model.proofs.Contents.{HasParents, same_content}
 use Rattle.store_model.proofs.PageWritten.{other_page, same_place}
@@ -69,6 +71,41 @@ copied_below pages (Posted serial) page has = has
 copied_below pages InJob page has = has
 copied_below pages _ page has = absurd has
 
+-- where zeros stand for all pages zeros are shown
+module _ (k : ℕ) (image : Image) (metas : Metas) (blank : (n : ℕ) → image n ≡ zero_page) where
+  abbrev IsBlankAfter : ℕ → Type 0
+  IsBlankAfter times = (head page : ℕ) → content k image metas times head page ≡ zero_page
+
+  from_blob : (times p page : ℕ) → IsBlankAfter times → (o : Option Meta)
+      → option_map_or (λ (x : Meta). if nat_lt page (k * length x.map) then content k image metas times p page
+      else zero_page) o zero_page ≡ zero_page
+  from_blob times p page none None = refl
+  from_blob times p page none (Some m) = by (nat_lt page (k * length m.map))
+    where
+      by : (b : Bool) → (if b then content k image metas times p page else zero_page) ≡ zero_page
+      by true = none p page
+      by false = refl
+
+  from_parent : (times page : ℕ) → IsBlankAfter times → (o : Option ℕ)
+      → option_map_or (λ p. option_map_or (λ (x : Meta). if nat_lt page (k * length x.map)
+      then content k image metas times p page else zero_page) (metas p) zero_page) o zero_page ≡ zero_page
+  from_parent times page none None = refl
+  from_parent times page none (Some p) = from_blob times p page none (metas p)
+
+  in_slot : (times page : ℕ) → IsBlankAfter times → (m : Meta) (o : Option ℕ) → slot m (page / k) ≡ o
+      → content_by k image metas (λ p r. content k image metas times p r) page m ≡ zero_page
+  in_slot times page none m None is = rw is (from_parent times page none (parent_of m))
+  in_slot times page none m (Some cluster) is = rw is (blank (cluster * k + page % k))
+
+  of_blob : (times page : ℕ) → IsBlankAfter times → (o : Option Meta)
+      → option_map_or (content_by k image metas (λ p r. content k image metas times p r) page) o zero_page ≡ zero_page
+  of_blob times page none None = refl
+  of_blob times page none (Some m) = in_slot times page none m (slot m (page / k)) refl
+
+  pub content_blank : (times : ℕ) → IsBlankAfter times
+  content_blank zero head page = refl
+  content_blank (suc times) head page = of_blob times page (content_blank times) (metas head)
+
 -- ---- the metadata and the generations stay
 
 module _ (p q : StoreState) (copied : AreCopied p) (super : q.super ≡ p.super) (base : q.base ≡ p.base)
@@ -81,7 +118,7 @@ module _ (p q : StoreState) (copied : AreCopied p) (super : q.super ≡ p.super)
       content k image (resolved p.base) (suc p.super.md_len) claim.head (claim.slot * k + page)
 
   -- each claimed page, and what the slots show, are as they were
-  pub copied_still : ((row : ℕ) (claim : OpenClaim) (page : ℕ) → (p.rows row).claim ≡ Some claim → page < k
+  pub copied_still : ((row : ℕ) (claim : OpenClaim) (page : ℕ) → IsCopiedFor k p.rows row claim page → page < k
       → q.device.reads (page_of_claim p claim page) ≡ p.device.reads (page_of_claim p claim page))
       → ((claim : OpenClaim) (page : ℕ) → IsWanted p claim → page < k
       → reads_in_slot q.device.reads claim page ≡ reads_in_slot p.device.reads claim page) → AreCopied q
@@ -98,7 +135,7 @@ module _ (p q : StoreState) (copied : AreCopied p) (super : q.super ≡ p.super)
       } in
       let low = copied_below k (p.rows row).stage page x.copied in
       ap (λ (s : Super). q.device.reads (claim.cluster * cluster_pages_of s + page)) super
-      ∙ same row claim page x.held low
+      ∙ same row claim page x low
       ∙ copied row claim x.held was page x.copied
       ∙ sym (ap (λ (s : Super). content (cluster_pages_of s) q.device.reads (resolved q.base) (suc s.md_len) claim.head
       (claim.slot * cluster_pages_of s + page)) super
@@ -108,7 +145,7 @@ module _ (p q : StoreState) (copied : AreCopied p) (super : q.super ≡ p.super)
 
   -- what is read is
   pub copied_same : q.device.reads ≡ p.device.reads → AreCopied q
-  copied_same reads = copied_still (λ row claim page held low. ap (λ (i : Image). i (page_of_claim p claim page)) reads)
+  copied_same reads = copied_still (λ row claim page x low. ap (λ (i : Image). i (page_of_claim p claim page)) reads)
       (λ claim page wanted low. ap (λ (i : Image). reads_in_slot i claim page) reads)
 
   -- no page of a cluster that some slot has is read otherwise, nor one of a claimed cluster
@@ -116,7 +153,7 @@ module _ (p q : StoreState) (copied : AreCopied p) (super : q.super ≡ p.super)
       → AgreeOn k (resolved p.base) (λ _ _. false) p.device.reads q.device.reads
       → ((row : ℕ) (claim : OpenClaim) (page : ℕ) → (p.rows row).claim ≡ Some claim → page < k
       → q.device.reads (page_of_claim p claim page) ≡ p.device.reads (page_of_claim p claim page)) → AreCopied q
-  copied_agree parents agree same = copied_still same (λ claim page wanted low.
+  copied_agree parents agree same = copied_still (λ row claim page x low. same row claim page x.held low) (λ claim page wanted low.
       same_content k (resolved p.base) parents (λ _ _. false) p.device.reads q.device.reads agree (suc p.super.md_len)
       claim.head (claim.slot * k + page) refl)
 
@@ -138,9 +175,9 @@ module _ (p q : StoreState) (copied : AreCopied p) (super : q.super ≡ p.super)
       → (head page place : ℕ) → IsPageOf p.super (resolved p.base) head page place
       → IsSameButAt place p.device.reads q.device.reads → AreCopied q
   copied_written some lawful plain used head page place at same = copied_still
-      (λ row claim n held low. same (page_of_claim p claim n) (λ e.
+      (λ row claim n x low. same (page_of_claim p claim n) (λ e.
       let one = same_place k claim.cluster at.cluster n (page % k) low (mod-lt page some) (e ∙ at.place_is) in
-      (used.apart claim.cluster (inl (record { channel = row; claim = claim; held = held; is = refl }))).1 (record {
+      (used.apart claim.cluster (inl (record { channel = row; claim = claim; held = x.held; is = refl }))).1 (record {
         head = head;
         meta = at.meta;
         there = ap (λ (m : Metas). m head) (sym plain) ∙ at.there;

@@ -109,7 +109,7 @@ module _ (fixed clusters : ℕ) where
   ]
 
 -- no slot is empty that wasn't, where none is added
-all_full : (map : List (Option ℕ)) → position is_none map ≡ None → (i : ℕ) → i < length map
+pub all_full : (map : List (Option ℕ)) → position is_none map ≡ None → (i : ℕ) → i < length map
     → is_none (slice_index_or map i None) ≡ false
 all_full map none i lt = elim (cases_lt (position_or_len is_none map) (length map)) [
   | inl some ↦ absurd (let t : nat_lt (position_or_len is_none map) (length map) ≡ true = lt-ltb _ _ some in

@@ -6,6 +6,7 @@ use Rattle.std.proofs.lemmas.List.{append_cancel_left}
 use Rattle.volume_model.specs.Logs.{is_flushing, Numbered}
 use Rattle.volume_model.specs.declared.command.Command.{Command}
 use Rattle.volume_model.specs.declared.reply.Entry.{Entry}
+use Rattle.store_model.specs.Claiming.{fill, own, Works}
 use Rattle.store_model.specs.Rows.{entries_of}
 use Rattle.store_model.specs.StoreState.{StoreState}
 use Rattle.store_model.specs.RunInvariant.{OnItsWay}
@@ -105,3 +106,10 @@ module _ (p q : StoreState) (script : ℕ → List Command) (from : (channel : �
           → Numbered 0 (entries_of c p.log ++ e ∷ []) all
           → Numbered 0 (entries_of c p.log ++ e ∷ []) (made ++ e.command ∷ [])
       numbered_one c made all x y = numbered_from 0 (entries_of c p.log) made all x y
+
+-- where a row copies some page may have been written
+pub copies_open : (p q : StoreState) (row : ℕ) → Works p row → (q.rows row).left ≡ (p.rows row).left
+    → q.filling ≡ p.filling → IsAllFlushed q → ⊥
+copies_open p q row (own volume page word rest left) same filling x =
+    let bad = sym (ap begins_writing (same ∙ left)) ∙ x.rows row in cc bad
+copies_open p q row (fill channel here works) same filling x = let bad = sym works ∙ sym filling ∙ x.filling in cc bad

@@ -11,7 +11,8 @@ use Rattle.store_model.specs.StoreState.{JobState, going_on, planned_at, waiting
 use Rattle.store_model.specs.Maps.{Metas, Chains, Map}
 use Rattle.store_model.proofs.Sets.{among_either, among_later, among_first}
 use Rattle.std.proofs.lemmas.Bool.{cases_Bool, both_ways}
-use Rattle.store_model.specs.Jobs.{Lays, CanReplace, Does, shown_of}
+use Rattle.store_model.specs.Rows.{Rows}
+use Rattle.store_model.specs.Jobs.{gained_by, inserted_by, Lays, CanReplace, Does, shown_of}
 use Rattle.md_chain.specs.declared.plan.PlannedPage.{PlannedPage}
 use Rattle.volume_model.specs.Xattrs.{Xattrs}
 use Rattle.volume_model.specs.declared.command.Command.{Command}
@@ -213,10 +214,15 @@ held_after j written [] = refl
 held_after j written (x ∷ xs) = refl
 
 -- a job that ends has no claim
-pub claimed_after : (s : Super) (base : Metas) (chains : Chains) (j : JobState) (written : List ℕ) (rest : List Phase)
-    → Lays s base chains j.claimed written rest → claimed_by (going_on j written rest) ≡ j.claimed
-claimed_after s base chains j written [] lays = sym lays.1
-claimed_after s base chains j written (x ∷ xs) lays = refl
+pub claimed_after : (s : Super) (base : Metas) (chains : Chains) (rows : Rows) (j : JobState) (written : List ℕ)
+    (rest : List Phase)
+    → Lays s base chains (gained_by rows j) written rest → claimed_by (going_on j written rest) ≡ j.claimed
+claimed_after s base chains rows j written [] lays = sym (second_none (inserted_by rows j.serves) j.claimed lays.1)
+  where
+    second_none : (xs ys : List ℕ) → xs ++ ys ≡ [] → ys ≡ []
+    second_none [] ys none = none
+    second_none (x ∷ xs) ys none = absurd (cc none)
+claimed_after s base chains rows j written (x ∷ xs) lays = refl
 
 pub none_claimed_after : (j : JobState) (written : List ℕ) (rest : List Phase) → j.claimed ≡ []
     → claimed_by (going_on j written rest) ≡ []

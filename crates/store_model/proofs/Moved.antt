@@ -1,6 +1,6 @@
 -- What is known of a job and of used places, on a state with the same parts.
-use Rattle.std.proofs.Common.{◌≡◌, ℕ, Bool, List, Option, Some, None, refl, sym, ◌∙◌, ap, subst, inl, inr, true}
-use Rattle.std.specs.Option.{option_map}
+use Rattle.std.proofs.Common.{[], ◌∷◌, ◌++◌, ◌≡◌, ℕ, Bool, List, Option, Some, None, refl, sym, ◌∙◌, ap, subst, inl, inr, true}
+use Rattle.std.specs.Option.{option_map, option_map_or}
 use Rattle.std.proofs.Math.Path.{fun_ext}
 use Rattle.volume_model.specs.Volumes.{Volume, Volumes}
 use Rattle.volume_model.specs.Xattrs.{Xattrs}
@@ -13,16 +13,16 @@ use Rattle.blob_meta.specs.declared.meta.Meta.{Meta}
 use Rattle.blob_meta.specs.Resolving.{resolved}
 use Rattle.store_model.specs.Maps.{Map}
 use Rattle.store_model.specs.Shown.{fixed_of, volume_of}
-use Rattle.store_model.specs.Rows.{Rows, Row, InJob}
-use Rattle.store_model.specs.StoreState.{JobState, StoreState, shown, ForCommand}
+use Rattle.store_model.specs.Rows.{OpenClaim, Rows, Row, InJob}
+use Rattle.store_model.specs.StoreState.{JobState, StoreState, shown, ForCommand, ForInsert, ForRepair, Service}
 use Rattle.store_model.specs.Places.{IsClaimed, UsedClusters, IsMapped}
-use Rattle.store_model.specs.Jobs.{JobStands}
+use Rattle.store_model.specs.Jobs.{gained_by, inserted_by, JobStands, Puts}
 use Rattle.store_model.specs.Asking.{AsksFor}
 use Rattle.store_model.specs.Cases.{live_of}
 use Rattle.store_model.specs.RunInvariant.{CanBeWritten, RunsWell}
 use Rattle.store_model.proofs.Shows.{or_empty}
 use Rattle.store_model.proofs.Writable.{AllWritable, OnlyLive}
-use Rattle.store_model.specs.Phases.{has_commit}
+use Rattle.store_model.specs.Phases.{Erases, Frees, has_commit, Marks, Phase, Replaces, Writes, Zeros}
 
 module _ (p q : StoreState) (super : q.super ≡ p.super) (base : q.base ≡ p.base) (same : shown q ≡ shown p) where
   pub asks_same : (command : Command) (head : ℕ) (new : Meta) → AsksFor p command head new → AsksFor q command head new
@@ -40,24 +40,73 @@ module _ (p q : StoreState) (super : q.super ≡ p.super) (base : q.base ≡ p.b
     new_is = a.new_is;
   }
 
--- a job stands on a state with the same metadata, chains and attributes, where its command's row is the same
-pub stands_same : (p q : StoreState) → q.super ≡ p.super → q.base ≡ p.base → q.chains ≡ p.chains → q.live ≡ p.live
-    → (j : JobState)
-    → ((channel : ℕ) → j.serves ≡ ForCommand channel → has_commit j.todo ≡ true → q.rows channel ≡ p.rows channel)
-    → JobStands p j → JobStands q j
-stands_same p q super base chains live j rows x = record {
-  lays = rw (super, base, chains) x.lays;
-  distinct = x.distinct;
-  served = λ channel serves waits.
-      let y = x.served channel serves waits in
+-- what is left of an insert, on a state with the same row
+pub puts_same : (p q : StoreState) → q.base ≡ p.base → q.generations ≡ p.generations → (row : ℕ)
+    → q.rows row ≡ p.rows row → (todo : List Phase) → Puts p row todo → Puts q row todo
+puts_same p q base generations row same [] puts = tt
+puts_same p q base generations row same (Replaces r commit ∷ rest) puts =
+    let x = puts.0 in (
       record {
-        command = y.command;
-        rest = y.rest;
-        row = rows channel serves waits ∙ y.row;
-        does = rw (super, base, live) y.does;
-      };
-  keeps = λ none. rw (super, base, live) (x.keeps none);
-}
+        claim = x.claim;
+        held = ap (λ (o : Row). o.claim) same ∙ x.held;
+        wanted = record {
+          current = ap (λ (g : Map ℕ). g x.claim.head) generations ∙ x.wanted.current;
+          meta = x.wanted.meta;
+          there = ap (λ (m : Map Meta). resolved m x.claim.head) base ∙ x.wanted.there;
+          empty = x.wanted.empty;
+        };
+        within = x.within;
+        head = x.head;
+        there = x.there;
+        new = x.new;
+      },
+      puts.1,
+    )
+puts_same p q base generations row same (Marks ∷ rest) puts = puts_same p q base generations row same rest puts
+puts_same p q base generations row same (Zeros page ∷ rest) puts = puts_same p q base generations row same rest puts
+puts_same p q base generations row same (Writes place ∷ rest) puts = puts_same p q base generations row same rest puts
+puts_same p q base generations row same (Erases place ∷ rest) puts = puts_same p q base generations row same rest puts
+puts_same p q base generations row same (Frees place old ∷ rest) puts =
+    puts_same p q base generations row same rest puts
+
+-- the cluster that is inserted, by rows in the job that are as they were
+inserted_same : (rows others : Rows) (x : Service) → ((row : ℕ) → x ≡ ForInsert row → others row ≡ rows row)
+    → inserted_by others x ≡ inserted_by rows x
+inserted_same rows others (ForCommand channel) same = refl
+inserted_same rows others (ForInsert row) same =
+    ap (λ (r : Row). option_map_or (λ (c : OpenClaim). c.cluster ∷ []) r.claim []) (same row refl)
+inserted_same rows others ForRepair same = refl
+
+-- a job stands on a state with the same metadata, chains, attributes and generations, where the rows in the job are the
+-- same
+pub stands_same : (p q : StoreState) → q.super ≡ p.super → q.base ≡ p.base → q.chains ≡ p.chains → q.live ≡ p.live
+    → q.generations ≡ p.generations → (j : JobState)
+    → ((row : ℕ) → (p.rows row).stage ≡ InJob → q.rows row ≡ p.rows row) → JobStands p j → JobStands q j
+stands_same p q super base chains live generations j rows x =
+    let gained : gained_by q.rows j ≡ gained_by p.rows j = ap (λ l. l ++ j.claimed) (inserted_same p.rows q.rows j.serves
+    (λ row serves. rows row (x.inserts row serves).waits)) in
+    record {
+      lays = rw (super, base, chains, gained) x.lays;
+      distinct = x.distinct;
+      served = λ channel serves waits.
+          let y = x.served channel serves waits in
+          record {
+            command = y.command;
+            rest = y.rest;
+            row = rows channel (ap (λ (r : Row). r.stage) y.row) ∙ y.row;
+            does = rw (super, base, live) y.does;
+          };
+      keeps = λ none other. rw (super, base, live) (x.keeps none other);
+      inserts = λ row serves.
+          let y = x.inserts row serves in
+          let same = rows row y.waits in
+          record {
+            waits = ap (λ (r : Row). r.stage) same ∙ y.waits;
+            thaws = y.thaws;
+            unclaimed = y.unclaimed;
+            puts = puts_same p q base generations row same j.todo y.puts;
+          };
+    }
 
 -- the row of a command that waits for the commit is in the job
 pub row_in_job : (p : StoreState) (j : JobState) → JobStands p j → (channel : ℕ) → j.serves ≡ ForCommand channel

@@ -1,10 +1,11 @@
 -- The phases of one replacement, before any is made.
-use Rattle.std.proofs.Common.{◌≡◌, ℕ, ◌++◌, true, false, List, [], ◌∷◌, refl, sym, subst, ap, ◌∙◌, append_assoc}
+use Rattle.std.proofs.Common.{None, ◌≡◌, ℕ, ◌++◌, true, false, List, [], ◌∷◌, refl, sym, subst, ap, ◌∙◌, append_assoc}
 use Rattle.std.proofs.lemmas.List.{append-nil}
-use Rattle.store_model.specs.Phases.{Phase, has_commit, held_in, taken_in, erasing, writing, planned_in}
+use Rattle.store_model.specs.Phases.{next_replacing, Phase, has_commit, held_in, taken_in, erasing, writing, planned_in}
 use Rattle.super_block.specs.declared.page.Super.{Super}
 use Rattle.store_model.specs.Maps.{Metas, Chains, Map}
-use Rattle.store_model.specs.Jobs.{Lays, Keeps, Does}
+use Rattle.store_model.specs.StoreState.{StoreState}
+use Rattle.store_model.specs.Jobs.{Lays, Keeps, Does, Puts}
 use Rattle.volume_model.specs.Xattrs.{Xattrs}
 use Rattle.md_chain.specs.Chain.{is_among}
 use Rattle.volume_model.specs.declared.command.Command.{Command}
@@ -25,6 +26,11 @@ pub does_behind : (s : Super) (base : Metas) (live : Map Xattrs) (command : Comm
     → Does s base live command rest → Does s base live command (writing fresh rest)
 does_behind s base live command [] rest does = does
 does_behind s base live command (p ∷ ps) rest does = does_behind s base live command ps rest does
+
+pub puts_behind : (p : StoreState) (row : ℕ) (fresh : List ℕ) (rest : List Phase) → Puts p row rest
+    → Puts p row (writing fresh rest)
+puts_behind p row [] rest puts = puts
+puts_behind p row (x ∷ xs) rest puts = puts_behind p row xs rest puts
 
 pub lays_behind : (s : Super) (base : Metas) (chains : Chains) (claimed written fresh : List ℕ) (rest : List Phase)
     → Lays s base chains claimed (written ++ fresh) rest → Lays s base chains claimed written (writing fresh rest)
@@ -50,6 +56,11 @@ pub held_clearing : (old places : List ℕ) → (places ≡ [] → old ≡ []) �
 held_clearing old [] same = sym (same refl)
 held_clearing old (p ∷ []) same = append-nil old
 held_clearing old (p ∷ q ∷ ps) same = held_clearing old (q ∷ ps) (λ bad. absurd (cc bad))
+
+pub none_next : (old places : List ℕ) → next_replacing (erasing old places []) ≡ None
+none_next old [] = refl
+none_next old (p ∷ []) = refl
+none_next old (p ∷ q ∷ ps) = none_next old (q ∷ ps)
 
 pub keeps_clearing : (s : Super) (base : Metas) (live : Map Xattrs) (old places : List ℕ)
     → Keeps s base live (erasing old places [])

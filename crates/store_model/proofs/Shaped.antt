@@ -1,9 +1,9 @@
 -- How rows stand to the job, when one row changes.
-use Rattle.std.proofs.Common.{Option, ◌≡◌, ◌≢◌, ℕ, List, [], ◌∷◌, Some, None, refl, sym, ◌∙◌, ap, subst, inl, inr}
+use Rattle.std.proofs.Common.{◌⊎◌, Option, ◌≡◌, ◌≢◌, ℕ, List, [], ◌∷◌, Some, None, refl, sym, ◌∙◌, ap, subst, inl, inr}
 use Rattle.std.proofs.Common.{false, true}
 use Rattle.std.proofs.lemmas.Bool.{cases_eq}
 use Rattle.volume_model.specs.declared.command.Command.{Command}
-use Rattle.store_model.specs.Rows.{Claiming, Copying, OpenClaim, Row, Rows, Idle, Posted, InJob, Answered, Decided, Ended, with_row}
+use Rattle.store_model.specs.Rows.{Claiming, Copying, fill_row, OpenClaim, Row, Rows, Stage, Idle, Posted, InJob, Answered, Decided, Decision, Ended, with_row}
 use Rattle.store_model.specs.StoreState.{JobState, StoreState, ForCommand, waiting}
 use Rattle.store_model.specs.RunInvariant.{IsServedRow, MayClaim, IsShaped}
 use Rattle.store_model.proofs.RowsKept.{row_here, row_other}
@@ -53,7 +53,8 @@ waits_no_more j channel serves commit = rw (serves, commit) refl
 
 -- what a row may be
 pub record MayBe (p : StoreState) (channel : ℕ) (row : Row) : Type 0 where
-  pub posted : (serial : ℕ) → row.stage ≡ Posted serial → row.left ≢ []
+  pub posted : (serial : ℕ) → row.stage ≡ Posted serial → (row.claim ≡ None) ⊎ (channel ≢ fill_row)
+      → row.left ≢ []
   pub in_job : row.stage ≡ InJob → Serves p channel
   pub ended : row.stage ≡ Ended → row.left ≡ []
   pub claims : (claim : OpenClaim) → row.claim ≡ Some claim → MayClaim row.stage
@@ -74,11 +75,17 @@ module _ (p : StoreState) (shaped : IsShaped p) (q : StoreState) (channel : ℕ)
       → has_commit job.todo ≡ true → IsServedRow (q.rows c)) → IsShaped q
   shaped_with may served = record {
     served = served;
-    posted = λ c serial is. elim (cases_eq c channel) [
+    posted = λ c serial is none. elim (cases_eq c channel) [
       | inl e ↦ subst (λ (r : Row). r.left ≢ []) (sym (here c e))
-          (may.posted serial (sym (ap (λ (r : Row). r.stage) (here c e)) ∙ is))
+          (may.posted serial (sym (ap (λ (r : Row). r.stage) (here c e)) ∙ is) (elim none [
+            | inl unclaimed ↦ inl (sym (ap (λ (r : Row). r.claim) (here c e)) ∙ unclaimed)
+            | inr ne ↦ inr (λ f. ne (e ∙ f))
+          ]))
       | inr ne ↦ subst (λ (r : Row). r.left ≢ []) (sym (there c ne))
-          (shaped.posted c serial (sym (ap (λ (r : Row). r.stage) (there c ne)) ∙ is))
+          (shaped.posted c serial (sym (ap (λ (r : Row). r.stage) (there c ne)) ∙ is) (elim none [
+            | inl unclaimed ↦ inl (sym (ap (λ (r : Row). r.claim) (there c ne)) ∙ unclaimed)
+            | inr other ↦ inr other
+          ]))
     ];
     in_job = λ c is. elim (cases_eq c channel) [
       | inl e ↦ given_back c (subst (Serves q) (sym e) (may.in_job (sym (ap (λ (r : Row). r.stage) (here c e)) ∙ is)))
@@ -103,8 +110,11 @@ pub shaped_same : (p q : StoreState) → IsShaped p → q.rows ≡ p.rows → ((
     → IsServedRow (p.rows c)) → IsShaped q
 shaped_same p q shaped rows served serving = record {
   served = λ job c is serves waits. subst (λ (r : Rows). IsServedRow (r c)) (sym rows) (serving job c is serves waits);
-  posted = λ c serial is. subst (λ (r : Rows). (r c).left ≢ []) (sym rows)
-      (shaped.posted c serial (sym (ap (λ (r : Rows). (r c).stage) rows) ∙ is));
+  posted = λ c serial is none. subst (λ (r : Rows). (r c).left ≢ []) (sym rows)
+      (shaped.posted c serial (sym (ap (λ (r : Rows). (r c).stage) rows) ∙ is) (elim none [
+        | inl unclaimed ↦ inl (sym (ap (λ (r : Rows). (r c).claim) rows) ∙ unclaimed)
+        | inr other ↦ inr other
+      ]));
   in_job = λ c is. let x = served c (sym (ap (λ (r : Rows). (r c).stage) rows) ∙ is) in (x.job, x.is, x.waits);
   ended = λ c is. ap (λ (r : Rows). (r c).left) rows ∙ shaped.ended c (sym (ap (λ (r : Rows). (r c).stage) rows) ∙ is);
   claims = λ c claim is. subst (λ (r : Rows). MayClaim (r c).stage) (sym rows)
@@ -167,9 +177,31 @@ copying_may p channel left pages claim = record {
   claims = λ claim is. tt;
 }
 
+-- a row that holds a claim
+pub holding_may : (p : StoreState) (channel : ℕ) (left : List Command) (stage : Stage) (claim : OpenClaim)
+    → MayClaim stage → ((serial : ℕ) → stage ≡ Posted serial → channel ≢ fill_row → left ≢ [])
+    → (stage ≡ InJob → Serves p channel)
+    → MayBe p channel (record { left = left; stage = stage; claim = Some claim })
+holding_may p channel left stage claim may posted serves = record {
+  posted = λ serial is either. elim either [ inl none ↦ absurd (cc none) | inr ne ↦ posted serial is ne ];
+  in_job = serves;
+  ended = λ is. absurd (subst MayClaim is may);
+  claims = λ other is. may;
+}
+
 pub decided_may : (p : StoreState) (channel : ℕ) (left : List Command)
     → MayBe p channel (record { left = left; stage = Decided Answered; claim = None })
 decided_may p channel left = record {
+  posted = λ serial is. absurd (cc is);
+  in_job = λ is. absurd (cc is);
+  ended = λ is. absurd (cc is);
+  claims = λ claim is. absurd (cc is);
+}
+
+-- a row whose claim was lost, or won
+pub outcome_may : (outcome : Decision) (p : StoreState) (channel : ℕ) (left : List Command)
+    → MayBe p channel (record { left = left; stage = Decided outcome; claim = None })
+outcome_may outcome p channel left = record {
   posted = λ serial is. absurd (cc is);
   in_job = λ is. absurd (cc is);
   ended = λ is. absurd (cc is);
@@ -187,7 +219,7 @@ ended_may p channel = record {
 pub posted_may : (p : StoreState) (channel serial : ℕ) (command : Command) (rest : List Command)
     → MayBe p channel (record { left = command ∷ rest; stage = Posted serial; claim = None })
 posted_may p channel serial command rest = record {
-  posted = λ n is none. cc none;
+  posted = λ n is unclaimed none. cc none;
   in_job = λ is. absurd (cc is);
   ended = λ is. absurd (cc is);
   claims = λ claim is. absurd (cc is);

@@ -42,6 +42,32 @@ pub alone_resolved : (s : Super) (metas : Metas) → AreLoadable s metas → res
 alone_resolved s metas loadable =
     fun_ext (λ head. unmarked metas head (metas head) refl (λ m is. no_mark m (loadable head m is).alone))
 
+-- ---- two images that agree at each page of a cluster that some slot has
+
+module _ (s : Super) (metas : Metas) (parents : HasParents metas) (image other : Image)
+    (agrees : AgreeOn (cluster_pages_of s) metas (λ _ _. false) image other) where
+  abbrev k : ℕ
+  k = cluster_pages_of s
+
+  volume_same : (live : Xattrs) (head : ℕ) (m : Meta)
+      → volume_of k other metas s.md_len live head m ≡ volume_of k image metas s.md_len live head m
+  volume_same live head m =
+      let pages : content k other metas (suc s.md_len) head ≡ content k image metas (suc s.md_len) head =
+      fun_ext (λ page. same_content k metas parents (λ _ _. false) image other agrees (suc s.md_len) head page refl) in
+      ap (λ (f : ℕ → List ℕ). record (volume_of k image metas s.md_len live head m) {
+        pages = map f (range_with_len 0 (k * length m.map));
+      }) pages
+
+  at_same : (live : Map Xattrs) (head : ℕ) (o : Option Meta)
+      → option_map (λ m. volume_of k other metas s.md_len (or_empty (live head)) head m) o
+      ≡ option_map (λ m. volume_of k image metas s.md_len (or_empty (live head)) head m) o
+  at_same live head None = refl
+  at_same live head (Some m) = ap (λ v. Some v) (volume_same (or_empty (live head)) head m)
+
+  pub shown_agree : (live : Map Xattrs)
+      → shown_by (fixed_of s) other metas live ≡ shown_by (fixed_of s) image metas live
+  shown_agree live = fun_ext (λ head. at_same live head (metas head))
+
 -- ---- two images with the same pages behind the fixed clusters
 
 -- no map has a fault
@@ -56,34 +82,17 @@ resolved_faultless s metas loadable head m is =
 module _ (s : Super) (metas : Metas) (parents : HasParents metas) (faultless : AreFaultless s metas)
     (image other : Image)
     (same : (page : ℕ) → fixed_clusters_of s * cluster_pages_of s ≤ page → other page ≡ image page) where
-  abbrev k : ℕ
-  k = cluster_pages_of s
-
   cluster_behind : (fixed cluster k rest : ℕ) → fixed ≤ cluster → fixed * k ≤ cluster * k + rest
   cluster_behind fixed cluster k rest le = let m = mul-le-mul_right k le in omega (arith, m)
 
-  pub agree : AgreeOn k metas (λ _ _. false) image other
+  pub agree : AgreeOn (cluster_pages_of s) metas (λ _ _. false) image other
   agree head page cluster m there is _ =
+      let k = cluster_pages_of s in
       let inside = inside_slot _ _ m (page / k) cluster (faultless head m there) is in
       same _ (cluster_behind (fixed_clusters_of s) cluster k (page % k) inside.behind)
 
-  volume_same : (live : Xattrs) (head : ℕ) (m : Meta)
-      → volume_of k other metas s.md_len live head m ≡ volume_of k image metas s.md_len live head m
-  volume_same live head m =
-      let pages : content k other metas (suc s.md_len) head ≡ content k image metas (suc s.md_len) head =
-      fun_ext (λ page. same_content k metas parents (λ _ _. false) image other agree (suc s.md_len) head page refl) in
-      ap (λ (f : ℕ → List ℕ). record (volume_of k image metas s.md_len live head m) {
-        pages = map f (range_with_len 0 (k * length m.map));
-      }) pages
-
-  at_same : (live : Map Xattrs) (head : ℕ) (o : Option Meta)
-      → option_map (λ m. volume_of k other metas s.md_len (or_empty (live head)) head m) o
-      ≡ option_map (λ m. volume_of k image metas s.md_len (or_empty (live head)) head m) o
-  at_same live head None = refl
-  at_same live head (Some m) = ap (λ v. Some v) (volume_same (or_empty (live head)) head m)
-
   pub shown_same : (live : Map Xattrs) → shown_by (fixed_of s) other metas live ≡ shown_by (fixed_of s) image metas live
-  shown_same live = fun_ext (λ head. at_same live head (metas head))
+  shown_same live = shown_agree s metas parents image other agree live
 
 -- a write to a place of the metadata region leaves the pages behind the fixed clusters
 pub behind_region : (told : Bool) (s : Super) (image : Image) (place : ℕ) (page : List ℕ) → IsPlaced s

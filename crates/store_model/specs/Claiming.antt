@@ -1,5 +1,5 @@
--- A write that finds its slot empty, up to its claim.
-use Rattle.std.specs.Prelude.{◌≡◌, ℕ, ◌/◌, List, ◌∷◌, Option, None, Some, false}
+-- A write that finds its slot empty: its claim, the row that copies for it, and how a claim is given back.
+use Rattle.std.specs.Prelude.{◌≡◌, ℕ, ◌/◌, ◌<◌, length, List, ◌∷◌, Option, None, Some, false}
 use Rattle.super_block.specs.Numbers.{cluster_pages_of}
 use Rattle.volume_model.specs.Volumes.{head_of}
 use Rattle.volume_model.specs.Refusals.{refusal}
@@ -12,8 +12,11 @@ use Rattle.blob_meta.specs.declared.meta.Meta.{Meta}
 use Rattle.blob_meta.specs.Parents.{slot}
 use Rattle.blob_meta.specs.Resolving.{resolved}
 use Rattle.store_model.specs.Shown.{fixed_of}
-use Rattle.store_model.specs.Rows.{OpenClaim, Stage, with_row}
-use Rattle.store_model.specs.StoreState.{shown, StoreState}
+use Rattle.store_model.specs.Rows.{fill_row, OpenClaim, Stage, with_row}
+use Rattle.store_model.specs.Copying.{IsUpToDate}
+use Rattle.store_model.specs.Device.{Device}
+use Rattle.store_model.specs.Places.{without_claim}
+use Rattle.store_model.specs.StoreState.{logged_to, shown, StoreState}
 
 -- a channel's write of a page at this stage, with this claim
 pub record IsWriting (p : StoreState) (stage : Stage) (claim : Option OpenClaim) : Type 0 where
@@ -46,3 +49,46 @@ staged p w stage claim = record p {
   rows = with_row p.rows w.channel
       (record { left = c.Write w.volume w.page w.word ∷ w.rest; stage = stage; claim = claim });
 }
+
+-- ---- a claim
+
+-- For whom a row copies: for its own write, or, on the fill's row, for the command that the metadata thread fills slots
+-- for.
+pub data Works (p : StoreState) (row : ℕ) : Type 0 where
+  own : (volume : VolumeRef) (page : ℕ) (word : PageWord) (rest : List Command)
+      → (p.rows row).left ≡ c.Write volume page word ∷ rest → Works p row
+  fill : (channel : ℕ) → row ≡ fill_row → p.filling ≡ Some channel → Works p row
+
+-- a row at this stage, with the claim that it holds
+pub record IsCopying (p : StoreState) (stage : Stage) : Type 0 where
+  pub row : ℕ
+  pub left : List Command
+  pub claim : OpenClaim
+  pub is : p.rows row ≡ record { left = left; stage = stage; claim = Some claim }
+  pub works : Works p row
+
+-- the row goes on at this stage, and gives its claim back, if it has one
+abbrev pub given_back : StoreState → ℕ → Stage → StoreState
+given_back p row stage = record p {
+  rows = with_row p.rows row (record { left = (p.rows row).left; stage = stage; claim = None });
+  clusters = without_claim p.clusters (p.rows row).claim;
+}
+
+-- A channel's row goes on at this stage and gives its claim back, and its write is logged.
+pub record LogsOwn (p : StoreState) (row : ℕ) (stage : Stage) (reply : Reply) (device : Device)
+    (q : StoreState) : Type 0 where
+  pub volume : VolumeRef
+  pub page : ℕ
+  pub word : PageWord
+  pub rest : List Command
+  pub left : (p.rows row).left ≡ c.Write volume page word ∷ rest
+  pub next : q ≡ logged_to stage (given_back p row stage) row (c.Write volume page word) rest reply device
+
+-- ---- an insert
+
+-- the claim can be inserted: its blob's generation is the same, and the slot is there and empty
+pub record CanInsert (p : StoreState) (claim : OpenClaim) (meta : Meta) : Type 0 where
+  pub there : p.base claim.head ≡ Some meta
+  pub current : IsUpToDate p claim
+  pub within : claim.slot < length meta.map
+  pub empty : slot meta claim.slot ≡ None

@@ -16,7 +16,9 @@ use Rattle.store_model.specs.Maps.{Metas}
 use Rattle.store_model.specs.Rows.{Copying, Ended, Idle, InJob, OpenClaim, Rows}
 use Rattle.store_model.specs.Phases.{Committing, Erases, Frees, held_in, Phase, Replaces, Replacing, todo_of, Writes}
 use Rattle.store_model.specs.StoreState.{ForCommand, JobState, StoreState, turns_left, waiting}
-use Rattle.store_model.specs.Later.CopyTurns.{LosesCopy}
+use Rattle.store_model.specs.Cases.LoseCopy.{LosesCopy}
+use Rattle.store_model.specs.Claiming.{own}
+use Rattle.volume_model.specs.declared.command.PageWord.TheVariants.{Fill}
 
 -- metadata of no slot, with these marks
 abbrev meta_with : List Xattr → Meta
@@ -76,7 +78,7 @@ abbrev claim : OpenClaim
 claim = record { cluster = 9; head = 0; slot = 2; generation = 4 }
 
 abbrev writes : List Command
-writes = c.Flush ∷ []
+writes = c.Write (Head 0) 8 (Fill 7) ∷ c.Flush ∷ []
 
 abbrev rows : Rows
 rows channel =
@@ -124,7 +126,7 @@ module _ (super : Super) where
   } → LosesCopy state q
   loses q is = record {
     left = 1;
-    copying = record { row = 0; left = writes; claim = claim; is = refl };
+    copying = record { row = 0; left = writes; claim = claim; is = refl; works = own (Head 0) 8 (Fill 7) (c.Flush ∷ []) refl };
     runs = refl;
     late = λ same. cc same;
     next = is;

@@ -1,9 +1,9 @@
 -- How a job is laid on pages, and what is known of it while it runs.
-use Rattle.std.specs.Prelude.{◌≡◌, ◌⊎◌, ℕ, ◌+◌, ◌*◌, ◌^◌, ◌<◌, ◌≤◌, if◌then◌else◌, Bool, true, false, List, [], ◌∷◌}
+use Rattle.std.specs.Prelude.{◌≡◌, ◌≢◌, ◌⊎◌, ℕ, ◌+◌, ◌*◌, ◌^◌, ◌<◌, ◌≤◌, if◌then◌else◌, Bool, true, false, List, [], ◌∷◌}
 use Rattle.std.specs.Prelude.{◌++◌}
 use Rattle.std.specs.Prelude.{length, map, Option, Some, None, IsSome, is_some}
 use Rattle.std.specs.List.{AllByRecursion, flat_map, range_with_len}
-use Rattle.std.specs.Option.{option_map}
+use Rattle.std.specs.Option.{option_map, option_map_or}
 use Rattle.page_disk.specs.Disk.{Image}
 use Rattle.pools.specs.Pool.{clear_in}
 use Rattle.descriptors.specs.declared.item.Item.{Item}
@@ -27,15 +27,15 @@ use Rattle.store_model.specs.Regions.{region_of}
 use Rattle.store_model.specs.Scans.{MetaAt}
 use Rattle.store_model.specs.Shown.{fixed_of, shown_by}
 use Rattle.store_model.specs.Recovers.{IsChangeDone}
-use Rattle.store_model.specs.Rows.{InJob, IsForMetadata}
+use Rattle.store_model.specs.Rows.{InJob, IsForMetadata, OpenClaim, Rows}
 use Rattle.store_model.specs.Loadable.{CanBeWritten, IsLoadable}
 use Rattle.store_model.specs.Inserting.{with_slot}
-use Rattle.store_model.specs.Copying.{LeavesEmpty}
+use Rattle.store_model.specs.Copying.{IsWanted, LeavesEmpty}
 use Rattle.store_model.specs.Places.{all_set, AreDistinct, AreLeastClear, IsMapped}
 use Rattle.store_model.specs.Phases.{Phase, Committing, with_live, Marks, Zeros, Writes, Replaces, Erases, Frees}
 use Rattle.store_model.specs.Phases.{Replacing, page_in, held_in, taken_by, taken_in, has_commit, replaced, rechained}
-use Rattle.store_model.specs.Phases.{chain_before}
-use Rattle.store_model.specs.StoreState.{ForCommand, JobState, StoreState, live_of}
+use Rattle.store_model.specs.Phases.{chain_before, next_replacing}
+use Rattle.store_model.specs.StoreState.{ForCommand, ForInsert, JobState, live_of, Service, StoreState}
 
 -- ---- how changes are laid on pages
 
@@ -230,10 +230,43 @@ pub record IsServed (p : StoreState) (channel : ℕ) (todo : List Phase) : Type 
   pub row : p.rows channel ≡ record { left = command ∷ rest; stage = InJob; claim = None }
   pub does : Does p.super p.base p.live command todo
 
+-- the cluster that a row's claim holds, where a job inserts it
+abbrev pub inserted_by : Rows → Service → List ℕ
+inserted_by rows (ForInsert row) = option_map_or (λ x. x.cluster ∷ []) (rows row).claim []
+inserted_by rows _ = []
+
+-- the clusters that a job brings into maps: those that it has claimed, and that which it inserts
+abbrev pub gained_by : Rows → JobState → List ℕ
+gained_by rows j = inserted_by rows j.serves ++ j.claimed
+
+-- The replacement puts the cluster of the row's claim into its slot, which is empty still.
+pub record PutsClaim (p : StoreState) (row : ℕ) (r : Replacing) : Type 0 where
+  pub claim : OpenClaim
+  pub held : (p.rows row).claim ≡ Some claim
+  pub wanted : IsWanted p claim
+  pub within : claim.slot < length wanted.meta.map
+  pub head : r.head ≡ claim.head
+  pub there : r.makes ≡ false
+  pub new : r.new ≡ Some (with_slot wanted.meta claim.slot claim.cluster)
+
+-- what is left of an insert's job: the replacement, if it is still to come, and no other
+abbrev pub Puts : StoreState → ℕ → List Phase → Type 0
+Puts p row [] = Unit {0}
+Puts p row (Replaces r commit ∷ rest) = PutsClaim p row r × (next_replacing rest ≡ None)
+Puts p row (_ ∷ rest) = Puts p row rest
+
+-- The row waits for its insert, whose job freezes no blob and has claimed no cluster itself.
+pub record InsertStands (p : StoreState) (j : JobState) (row : ℕ) : Type 0 where
+  pub waits : (p.rows row).stage ≡ InJob
+  pub thaws : j.freeze ≡ None
+  pub unclaimed : j.claimed ≡ []
+  pub puts : Puts p row j.todo
+
 -- What is left of a running job can be done, on places that differ; its command waits for the commit, and behind that,
--- or where it serves none, the volumes are shown as they are.
+-- or where it serves none, the volumes are shown as they are. (So they are behind an insert by what its cluster holds.)
 pub record JobStands (p : StoreState) (j : JobState) : Type 0 where
-  pub lays : Lays p.super p.base p.chains j.claimed j.written j.todo
+  pub lays : Lays p.super p.base p.chains (gained_by p.rows j) j.written j.todo
   pub distinct : AreDistinct (held_in j.todo)
   pub served : (channel : ℕ) → j.serves ≡ ForCommand channel → has_commit j.todo ≡ true → IsServed p channel j.todo
-  pub keeps : has_commit j.todo ≡ false → Keeps p.super p.base p.live j.todo
+  pub keeps : has_commit j.todo ≡ false → ((row : ℕ) → j.serves ≢ ForInsert row) → Keeps p.super p.base p.live j.todo
+  pub inserts : (row : ℕ) → j.serves ≡ ForInsert row → InsertStands p j row

@@ -5,29 +5,23 @@ pub mod FillTurns
 pub mod JobPhaseTurns
 use Rattle.std.specs.Prelude.{Bool}
 use Rattle.store_model.specs.StoreState.{StoreState}
-use Rattle.store_model.specs.Later.CopyTurns.{Copies, CopyFails, CopyNotRead, LosesCopy}
-use Rattle.store_model.specs.Later.InsertTurns.{BeginsInsert, InsertBreaksDown, InsertEnds, InsertFails, Inserts}
-use Rattle.store_model.specs.Later.InsertTurns.{LacksForInsert, LosesInsert, Sends}
+use Rattle.store_model.specs.Later.CopyTurns.{FillCopyFails, FillNotRead}
+use Rattle.store_model.specs.Later.InsertTurns.{InsertBreaksDown, InsertEnds, InsertFails, Inserts}
+use Rattle.store_model.specs.Later.InsertTurns.{FillLacks}
 use Rattle.store_model.specs.Later.FillTurns.{ClaimsFill, EndsFill, HaltsFill, LacksForFill}
 use Rattle.store_model.specs.Later.JobPhaseTurns.{BeginsRepair, CommitsMore, MarksDirty, MoreBreaksOff, MoreFails}
 use Rattle.store_model.specs.Later.JobPhaseTurns.{ReplacesMore, Zeroes}
 
 pub data LaterKind : Type 0 where
-  copies loses_copy copy_not_read copy_fails sends begins_insert
-      loses_insert lacks_for_insert inserts insert_ends insert_fails insert_breaks_down claims_fill lacks_for_fill
+  fill_not_read fill_copy_fails fill_lacks inserts insert_ends insert_fails insert_breaks_down claims_fill lacks_for_fill
       halts_fill ends_fill marks_dirty zeroes replaces_more commits_more more_fails more_breaks_off
       begins_repair : LaterKind
 
 module _ (told : Bool) where
   abbrev pub LaterTurn : StoreState → LaterKind → StoreState → Type 0
-  LaterTurn p copies q = Copies told p q
-  LaterTurn p loses_copy q = LosesCopy p q
-  LaterTurn p copy_not_read q = CopyNotRead p q
-  LaterTurn p copy_fails q = CopyFails p q
-  LaterTurn p sends q = Sends p q
-  LaterTurn p begins_insert q = BeginsInsert p q
-  LaterTurn p loses_insert q = LosesInsert p q
-  LaterTurn p lacks_for_insert q = LacksForInsert p q
+  LaterTurn p fill_not_read q = FillNotRead p q
+  LaterTurn p fill_copy_fails q = FillCopyFails p q
+  LaterTurn p fill_lacks q = FillLacks p q
   LaterTurn p inserts q = Inserts told p q
   LaterTurn p insert_ends q = InsertEnds told p q
   LaterTurn p insert_fails q = InsertFails p q

@@ -38,6 +38,10 @@ pub record Row : Type 0 where
 abbrev pub Rows : Type 0
 Rows = ℕ → Row
 
+-- the number of the row on which the metadata thread fills slots
+abbrev pub fill_row : ℕ
+fill_row = 16
+
 -- the commands that the metadata thread serves; pages and flushes are a channel's own
 abbrev pub IsForMetadata : Command → Type 0
 IsForMetadata (c.Read volume page) = ⊥

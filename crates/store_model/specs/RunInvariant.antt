@@ -1,5 +1,5 @@
 -- What every state of a run has: plain data alone, whatever the device may leave after a crash.
-use Rattle.std.specs.Prelude.{◌≡◌, ◌≢◌, ℕ, ◌+◌, ◌^◌, ◌<◌, ◌≤◌, List, [], ◌∷◌, ◌++◌, length, Some, None, All, true}
+use Rattle.std.specs.Prelude.{◌≡◌, ◌≢◌, ◌⊎◌, ℕ, ◌+◌, ◌^◌, ◌<◌, ◌≤◌, List, [], ◌∷◌, ◌++◌, length, Some, None, All, true}
 use Rattle.volume_model.specs.Volumes.{Volumes}
 use Rattle.volume_model.specs.Xattrs.{Xattrs}
 use Rattle.volume_model.specs.Logs.{replay, IsLegal, Numbered}
@@ -11,7 +11,7 @@ use Rattle.md_chain.specs.Chain.{is_among}
 pub use Rattle.store_model.specs.Loadable.{CanBeWritten, IsLoadable, AreLoadable}
 use Rattle.store_model.specs.Maps.{Metas, Chains}
 use Rattle.store_model.specs.Shown.{fixed_of}
-use Rattle.store_model.specs.Rows.{Copying, entries_of, InJob, OpenClaim, Posted, Ended, Ready, Row, Stage}
+use Rattle.store_model.specs.Rows.{Copying, entries_of, fill_row, InJob, OpenClaim, Posted, Ended, Ready, Row, Stage}
 use Rattle.store_model.specs.StoreState.{ForCommand, JobState, StoreState, shown, waiting}
 use Rattle.store_model.specs.Phases.{has_commit}
 use Rattle.store_model.specs.Places.{AreDistinct, ClaimsDiffer, HasClaim, held_by, UsedPages, UsedClusters}
@@ -53,8 +53,9 @@ pub record IsServedRow (row : Row) : Type 0 where
 
 -- how rows stand to the job
 pub record IsShaped (p : StoreState) : Type 0 where
-  -- what is posted or in the job is a command, and an ended channel has none left
-  pub posted : (channel serial : ℕ) → (p.rows channel).stage ≡ Posted serial → (p.rows channel).left ≢ []
+  -- what is posted or in the job is a command, but for the claims of the fill's row, and an ended channel has none left
+  pub posted : (channel serial : ℕ) → (p.rows channel).stage ≡ Posted serial
+      → ((p.rows channel).claim ≡ None) ⊎ (channel ≢ fill_row) → (p.rows channel).left ≢ []
   pub in_job : (channel : ℕ) → (p.rows channel).stage ≡ InJob
       → (job : JobState) × (p.job ≡ Some job) × (waiting job.serves job.todo ≡ Some channel)
   -- and a job serves a command until its commit

@@ -12,11 +12,11 @@ use Rattle.blob_meta.specs.declared.meta.Meta.{Meta}
 use Rattle.blob_meta.specs.Parents.{parent_of, slot}
 use Rattle.blob_meta.specs.Resolving.{resolved}
 use Rattle.store_model.specs.Shown.{fixed_of}
-use Rattle.store_model.specs.Rows.{Copying, Idle, with_row}
+use Rattle.store_model.specs.Rows.{fill_row, Copying, Idle, with_row}
 use Rattle.store_model.specs.StoreState.{logged, shown, StoreState}
 use Rattle.store_model.specs.Turning.{IsPosted}
 use Rattle.store_model.specs.Cases.Halt.{MayLog, stage_after}
-use Rattle.store_model.specs.Later.CopyTurns.{fill_row, given_back}
+use Rattle.store_model.specs.Claiming.{given_back}
 
 -- the volume whose slots the command fills
 abbrev pub filled_by : Command → Option VolumeRef

@@ -4,75 +4,28 @@ use Rattle.blob_meta.specs.declared.meta.Meta.{Meta}
 use Rattle.blob_meta.specs.Parents.{slot}
 use Rattle.store_model.specs.Maps.{with_entry}
 use Rattle.store_model.specs.Device.{Device}
-use Rattle.store_model.specs.Rows.{Answered, Decided, InJob, Lost, OpenClaim, Posted, Ready, Stage, with_row, Won}
+use Rattle.store_model.specs.Rows.{Answered, Decided, InJob, Lost, OpenClaim, Posted, Stage, with_row, Won}
 use Rattle.store_model.specs.Phases.{Frees as Frees_, page_in, Phase, phases_of, Replaces, Replacing, taken_by}
 use Rattle.store_model.specs.Places.{all_set}
 use Rattle.store_model.specs.Jobs.{IsLaid, LacksPages}
 use Rattle.store_model.specs.Inserting.{with_slot}
-use Rattle.store_model.specs.StoreState.{ForInsert, going_on, JobState, next_serial, StoreState}
+use Rattle.store_model.specs.StoreState.{ForInsert, going_on, JobState, StoreState}
 use Rattle.store_model.specs.Turning.{FailsToReplace, page_of_place, Runs, stopped_now, WritesOnePage}
-use Rattle.store_model.specs.Cases.Flush.{IsFlushed}
 use Rattle.volume_model.specs.Volumes.{zero_page}
+use Rattle.volume_model.specs.declared.reply.Reply.{Reply}
 use Rattle.volume_model.specs.declared.reply.Reply.TheVariants as r
-use Rattle.store_model.specs.Later.CopyTurns.{given_back, IsCopying, LogsFor}
+use Rattle.store_model.specs.Claiming.{CanInsert, IsCopying, LogsOwn}
+use Rattle.store_model.specs.Later.CopyTurns.{LogsFilled}
 use Rattle.store_model.specs.Copying.{IsUpToDate}
 
--- All pages are copied: a flush makes them lasting, and the insert is posted under the next serial.
-pub record Sends (p q : StoreState) : Type 0 where
-  pub copying : IsCopying p Ready
-  pub runs : p.stopped ≡ None
-  pub device : Device
-  pub flushed : IsFlushed p.device device
-  pub next : q ≡ record p {
-    rows = with_row p.rows copying.row
-        (record { left = copying.left; stage = Posted p.serial; claim = Some copying.claim });
-    serial = next_serial p.serial;
-    device = device;
-  }
+-- the command that a row works for is logged: a channel's own, or that of the fill
+pub data LogsFor (p : StoreState) (row : ℕ) (stage : Stage) (reply : Reply) (device : Device) (q : StoreState) : Type 0
+  where
+    own : LogsOwn p row stage reply device q → LogsFor p row stage reply device q
+    fill : LogsFilled p row stage reply device q → LogsFor p row stage reply device q
 
--- the claim can be inserted: its blob's generation is the same, and the slot is there and empty
-pub record CanInsert (p : StoreState) (claim : OpenClaim) (meta : Meta) : Type 0 where
-  pub there : p.base claim.head ≡ Some meta
-  pub current : IsUpToDate p claim
-  pub within : claim.slot < length meta.map
-  pub empty : slot meta claim.slot ≡ None
-
--- The job of one replacement begins that puts the cluster into the slot.
-pub record BeginsInsert (p q : StoreState) : Type 0 where
-  pub serial : ℕ
-  pub posted : IsCopying p (Posted serial)
-  pub runs : p.stopped ≡ None
-  pub no_job : p.job ≡ None
-  pub meta : Meta
-  pub can : CanInsert p posted.claim meta
-  pub replacing : Replacing
-  pub laid : IsLaid p.super p.base p.chains p.pages (posted.claim.cluster ∷ [])
-      (record { head = posted.claim.head; new = Some (with_slot meta posted.claim.slot posted.claim.cluster) })
-      replacing
-  pub next : q ≡ record p {
-    rows = with_row p.rows posted.row (record { left = posted.left; stage = InJob; claim = Some posted.claim });
-    job = Some (record {
-      serves = ForInsert posted.row;
-      freeze = None;
-      claimed = [];
-      written = [];
-      todo = phases_of replacing None [];
-    });
-    pages = all_set p.pages (taken_by replacing) true;
-  }
-
--- The blob is gone, the slot out of range or filled, or the generation another: the row is decided, and its cluster is
--- clear.
-pub record LosesInsert (p q : StoreState) : Type 0 where
-  pub serial : ℕ
-  pub posted : IsCopying p (Posted serial)
-  pub runs : p.stopped ≡ None
-  pub no_job : p.job ≡ None
-  pub cannot : (meta : Meta) → CanInsert p posted.claim meta → ⊥
-  pub next : q ≡ given_back p posted.row (Decided Lost)
-
--- Fewer pages are clear than the insert needs: its command is logged as that, and the claim given back.
-pub record LacksForInsert (p q : StoreState) : Type 0 where
+-- Fewer pages are clear than an insert of the fill's row needs: the command that it works for is logged as that.
+pub record FillLacks (p q : StoreState) : Type 0 where
   pub serial : ℕ
   pub posted : IsCopying p (Posted serial)
   pub runs : p.stopped ≡ None
@@ -80,7 +33,7 @@ pub record LacksForInsert (p q : StoreState) : Type 0 where
   pub meta : Meta
   pub can : CanInsert p posted.claim meta
   pub lacks : LacksPages true (with_slot meta posted.claim.slot posted.claim.cluster) p.pages
-  pub logs : LogsFor p posted.row (Decided Answered) r.NoPage p.device q
+  pub logs : LogsFilled p posted.row (Decided Answered) r.NoPage p.device q
 
 -- ---- the job of an insert
 

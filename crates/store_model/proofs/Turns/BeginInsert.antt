@@ -1,0 +1,280 @@
+-- The turn begins_insert.
+use Rattle.std.proofs.Common.{◌≡◌, ◌≢◌, ℕ, ◌<◌, ◌≤◌, ◌^◌, ◌++◌, List, [], ◌∷◌, Option, Some, None, true, false, refl, sym, ap, ◌∙◌}
+use Rattle.std.proofs.Common.{subst, inl, inr, arith, length}
+use Rattle.std.specs.Option.{option_map_or}
+use Rattle.std.proofs.lemmas.Bool.{cases_Bool, cases_eq}
+use Rattle.std.proofs.lemmas.List.{append-nil}
+use Rattle.super_block.specs.declared.page.Super.{Super}
+use Rattle.super_block.specs.Numbers.{cluster_pages_of}
+use Rattle.blob_meta.specs.declared.meta.Meta.{Meta}
+use Rattle.blob_meta.specs.Resolving.{IsLawful, resolved, slots_together}
+use Rattle.store_model.specs.Copying.{HasCopied, IsWanted}
+use Rattle.store_model.specs.Inserting.{with_slot}
+use Rattle.store_model.specs.Jobs.{CanReplace, gained_by, InsertStands, IsPlannedFor, JobStands, Lays, PutsClaim}
+use Rattle.store_model.specs.Loadable.{AreLoadable, IsLoadable}
+use Rattle.store_model.specs.Maps.{Metas, with_entry}
+use Rattle.store_model.specs.Phases.{erasing, held_in, page_in, Phase, rechained, replaced, Replaces, Replacing, taken_by}
+use Rattle.store_model.specs.Phases.{writing}
+use Rattle.store_model.specs.Places.{all_set, AreDistinct, claimed_by, HasClaim, held_by, UsedPages}
+use Rattle.store_model.specs.Regions.{region_of}
+use Rattle.store_model.specs.Rows.{InJob, OpenClaim, Row, Stage, with_row}
+use Rattle.store_model.specs.Scans.{MetaAt}
+use Rattle.store_model.specs.StoreState.{ForInsert, JobState, StoreState}
+use Rattle.store_model.specs.Cases.BeginInsert as case
+use Rattle.store_model.specs.Cases.BeginInsert.{BeginsInsert}
+use Rattle.store_model.specs.RunInvariant.{RunInvariant, RunsWell}
+use Rattle.store_model.proofs.Claims.{differ_still, used_still, with_row_same}
+use Rattle.store_model.proofs.Copies.{copied_same, row_no_more}
+use Rattle.store_model.proofs.Guarding.{claims_drawn_still, guarded_begun}
+use Rattle.store_model.proofs.Heads.{replaced_is}
+use Rattle.store_model.proofs.Inside.{IsInside}
+use Rattle.store_model.proofs.InsertedBlob.{inserted_loadable, lawful_inserted, slots_inserted}
+use Rattle.store_model.proofs.Known.{Known}
+use Rattle.store_model.proofs.LeftToDo.{chain_new}
+use Rattle.store_model.proofs.OneReplacement.{all_loadable, base_lawful, base_loadable, base_resolved}
+use Rattle.store_model.proofs.Over.{Effect, nothing, stays, TurnLaw}
+use Rattle.store_model.proofs.Phases.{held_behind, held_clearing, lays_behind, lays_clearing, none_next, none_taken}
+use Rattle.store_model.proofs.Phases.{puts_behind}
+use Rattle.store_model.proofs.RowsKept.{row_here, row_other, way_kept}
+use Rattle.store_model.proofs.Sets.{are_distinct}
+use Rattle.store_model.proofs.Shaped.{holding_may, none_without, Serves, shaped_with}
+use Rattle.store_model.proofs.Shapes.{Idles, silent, untouched_images}
+use Rattle.store_model.proofs.Shows.{alone_resolved}
+use Rattle.store_model.proofs.Used.{used_begun, within}
+
+module _ (known : Known) where
+  open known use {s, placed, first, script, p, facts}
+
+  module _ (q : StoreState) (t : BeginsInsert p q) where
+    open t.posted use {row, left, claim}
+
+    well : RunsWell first p
+    well = facts.well t.runs
+
+    abbrev r : Replacing
+    r = t.replacing
+
+    abbrev new : Meta
+    new = with_slot t.meta claim.slot claim.cluster
+
+    held_it : (p.rows row).claim ≡ Some claim
+    held_it = ap (λ (x : Row). x.claim) t.posted.is
+
+    claimed : HasClaim p.rows p.job claim.cluster
+    claimed = inl (record { channel = row; claim = claim; held = held_it; is = refl })
+
+    -- ---- the metadata
+
+    inside : IsInside (region_of p.super).fixed (region_of p.super).clusters claim.cluster
+    inside =
+        let low = within p.clusters claim.cluster (well.clusters.claimed_too claim.cluster claimed) in
+        record {
+          behind = (well.clusters.apart claim.cluster claimed).0;
+          below = omega (arith, low, well.clusters.count);
+        }
+
+    old_loadable : IsLoadable p.super claim.head t.meta
+    old_loadable = base_loadable known claim.head t.meta t.can.there
+
+    one_loadable : IsLoadable p.super claim.head new
+    one_loadable = inserted_loadable t.meta claim.slot claim.cluster t.can.within t.can.empty p.super claim.head inside
+        old_loadable
+
+    abbrev all : Metas
+    all = with_entry p.base claim.head new
+
+    base_now : replaced p.base r ≡ all
+    base_now = replaced_is p.base r new t.laid.new ∙ ap (λ h. with_entry p.base h new) t.laid.head
+
+    all_are : AreLoadable p.super all
+    all_are = all_loadable known claim.head new one_loadable
+
+    lawful : IsLawful p.super.md_len all
+    lawful = lawful_inserted t.meta claim.slot claim.cluster t.can.within t.can.empty p.base claim.head t.can.there
+        p.super.md_len old_loadable.stored.low (well.clusters.apart claim.cluster claimed).1 (base_lawful known)
+
+    few : slots_together p.super.md_len all ≤ 2 ^ 24
+    few =
+        let same = slots_inserted t.meta claim.slot claim.cluster t.can.within t.can.empty p.base claim.head
+        t.can.there p.super.md_len old_loadable.stored.low in
+        let was = (base_lawful known).few in
+        omega (arith, same, was)
+
+    -- ---- the replacement
+
+    planned : IsPlannedFor p.super p.pages new r
+    planned = t.laid.planned
+
+    there : r.makes ≡ false
+    there = elim (cases_Bool r.makes) [
+      | inl makes ↦
+          let chain = well.chains.chain claim.head t.meta t.can.there in
+          absurd (let bad = sym chain.1 ∙ ap p.chains (sym t.laid.head) ∙ t.laid.chain ∙ chain_new r makes in cc bad)
+      | inr not ↦ not
+    ]
+
+    can : CanReplace p.super p.base p.chains (claim.cluster ∷ []) r.fresh r
+    can = record {
+      all = refl;
+      places = planned.places;
+      says = λ m is. let e : new ≡ m = let both = sym t.laid.new ∙ is in cc both in
+          subst (λ (n : Meta). MetaAt (page_in r.planned) (region_of p.super) r.head n (r.head ∷ r.fresh)) e
+          planned.says;
+      loadable = λ m is. let e : new ≡ m = let both = sym t.laid.new ∙ is in cc both in
+          subst (λ (n : Meta). IsLoadable p.super r.head n) e
+          (subst (λ h. IsLoadable p.super h new) (sym t.laid.head) one_loadable);
+      gone = λ none. absurd (let bad = sym t.laid.new ∙ none in cc bad);
+      chain = t.laid.chain;
+      unerased = t.laid.unerased;
+      few = subst (λ (m : Metas). slots_together p.super.md_len m ≤ 2 ^ 24) (sym base_now) few;
+      lawful = subst (λ (m : Metas). IsLawful p.super.md_len (resolved m)) (sym base_now)
+          (subst (IsLawful p.super.md_len) (sym (alone_resolved p.super all all_are)) lawful);
+      clusters = t.laid.clusters;
+    }
+
+    -- ---- the job
+
+    abbrev rest : List Phase
+    rest = erasing r.old r.old []
+
+    abbrev todo : List Phase
+    todo = writing r.fresh (Replaces r None ∷ rest)
+
+    abbrev job : JobState
+    job = record { serves = ForInsert row; freeze = None; claimed = []; written = []; todo = todo }
+
+    abbrev next : Row
+    next = record { left = left; stage = InJob; claim = Some claim }
+
+    abbrev now : StoreState
+    now = record p {
+      rows = with_row p.rows row next;
+      job = Some job;
+      pages = all_set p.pages (taken_by r) true;
+    }
+
+    held : held_in todo ≡ taken_by r
+    held = held_behind r.fresh (Replaces r None ∷ rest) ∙ ap (λ l. taken_by r ++ l) (none_taken r.old r.old)
+        ∙ append-nil (taken_by r)
+
+    here : now.rows row ≡ next
+    here = row_here p.rows row next row refl
+
+    gained : gained_by now.rows job ≡ claim.cluster ∷ []
+    gained = ap (λ (x : Row). option_map_or (λ (c : OpenClaim). c.cluster ∷ []) x.claim [] ++ []) here
+
+    puts : PutsClaim now row r
+    puts = record {
+      claim = claim;
+      held = ap (λ (x : Row). x.claim) here;
+      wanted = record {
+        current = t.can.current;
+        meta = t.meta;
+        there = ap (λ (m : Metas). m claim.head) (base_resolved known) ∙ t.can.there;
+        empty = t.can.empty;
+      };
+      within = t.can.within;
+      head = t.laid.head;
+      there = there;
+      new = t.laid.new;
+    }
+
+    stands : JobStands now job
+    stands = record {
+      lays = subst (λ l. Lays p.super p.base p.chains l [] todo) (sym gained)
+          (lays_behind p.super p.base p.chains (claim.cluster ∷ []) [] r.fresh (Replaces r None ∷ rest) (
+            can,
+            held_clearing r.old r.old (λ e. e) ∙ sym (append-nil r.old)
+                ∙ ap (λ l. r.old ++ l) (sym (none_taken r.old r.old)),
+            lays_clearing p.super (replaced p.base r) (rechained p.chains r) r.old r.old (λ x among. among),
+          ));
+      distinct = subst AreDistinct (sym held) (are_distinct p.pages (taken_by r) planned.least);
+      served = λ c bad. absurd (cc bad);
+      keeps = λ none other. absurd (other row refl);
+      inserts = λ c serves.
+          let e : row ≡ c = cc serves in
+          subst (InsertStands now job) e (record {
+            waits = ap (λ (x : Row). x.stage) here;
+            thaws = refl;
+            unclaimed = refl;
+            puts = puts_behind now row r.fresh (Replaces r None ∷ rest) (puts, none_next r.old r.old);
+          });
+    }
+
+    -- ---- it keeps what every state has
+
+    pub keeps : RunInvariant s first script q
+    keeps =
+        let serves_it : Serves now row = record { job = job; is = refl; waits = refl } in
+        let used : UsedPages p.super.md_len p.pages p.chains [] =
+        subst (UsedPages p.super.md_len p.pages p.chains) (ap held_by t.no_job) well.pages in
+        let claims_same = with_row_same p.rows row next (sym held_it) in
+        let claimed_same : claimed_by now.job ≡ claimed_by p.job = sym (ap claimed_by t.no_job) in
+        let done : RunInvariant s first script now =
+        record {
+          super = facts.super;
+          loadable = facts.loadable;
+          few = facts.few;
+          lawful = facts.lawful;
+          legal = facts.legal;
+          well = λ runs. record {
+            chains = well.chains;
+            live = well.live;
+            no_live = well.no_live;
+            pages = subst (UsedPages p.super.md_len now.pages p.chains) (sym held)
+                (used_begun p.super.md_len p.pages p.chains (taken_by r) used planned.least);
+            clusters = used_still p.rows now.rows p.job now.job claims_same claimed_same p.super p.clusters p.base
+                well.clusters;
+            claims = differ_still p.rows now.rows p.job now.job claims_same claimed_same well.claims;
+            generations = well.generations;
+            claims_drawn =
+                claims_drawn_still p.rows now.rows p.drawn p.drawn claims_same (omega arith) well.claims_drawn;
+            copied = copied_same p now well.copied refl refl refl
+                (row_no_more (cluster_pages_of p.super) p.rows row next (λ other page holds has. record {
+                  held = held_it ∙ holds;
+                  copied = subst (λ (x : Stage). HasCopied (cluster_pages_of p.super) x page)
+                      (sym (ap (λ (x : Row). x.stage) t.posted.is)) has;
+                })) refl;
+            job = λ j is. let same : job ≡ j = cc is in subst (JobStands now) same stands;
+            replayed = well.replayed;
+          };
+          way = way_kept script p facts.way now refl (λ c. elim (cases_eq c row) [
+            | inl e ↦ ap (λ (x : Row). x.left) (row_here p.rows row next c e)
+                ∙ sym (ap (λ (x : Row). x.left) t.posted.is) ∙ ap (λ k. (p.rows k).left) (sym e)
+            | inr ne ↦ ap (λ (x : Row). x.left) (row_other p.rows row next c ne)
+          ]);
+          shaped = shaped_with p facts.shaped now row next refl
+              (λ c ne in_job. absurd (none_without p facts.shaped t.no_job c in_job))
+              (holding_may now row left InJob claim tt (λ serial bad. absurd (cc bad)) (λ _. serves_it))
+              (λ j c is serves _.
+              let same : job ≡ j = cc is in
+              absurd (let bad = ap (λ (i : JobState). i.serves) same ∙ serves in cc bad));
+          guarded = guarded_begun p now facts.guarded t.no_job job refl t.runs refl;
+          counted = facts.counted;
+          past = facts.past;
+          halted = λ at is. absurd (let bad = sym t.runs ∙ is in cc bad);
+          unfinished = λ j is.
+              let same : job ≡ j = cc is in
+              subst (λ (i : JobState). i.todo ≢ []) same (some_phase r.fresh);
+        } in
+        subst (RunInvariant s first script) (sym t.next) done
+      where
+        some_phase : (fresh : List ℕ) → writing fresh (Replaces r None ∷ rest) ≢ []
+        some_phase [] e = cc e
+        some_phase (x ∷ xs) e = cc e
+
+pub law : TurnLaw case.kind
+law = record {
+  keeps = λ _ told known q t. keeps known q t;
+  effect = λ told p q t. subst (Effect p) (sym t.next) (record { goes = stays refl refl; logs = nothing refl refl });
+  images = λ d x t does. untouched_images d x does (subst (Idles x.p) (sym t.next) (record {
+    base = refl;
+    chains = refl;
+    stopped = refl;
+    job = inr (λ job is. ap (λ (o : Option JobState). option_map_or (λ j. j.written) o []) (sym is));
+    no_job = λ _ none. absurd (cc none);
+    filling = refl;
+    log = λ _. silent refl;
+  }));
+  job = λ of. absurd of;
+}
