@@ -1,6 +1,6 @@
 -- The commands of a channel are served, one after the other, and then those of the next channel.
 use Rattle.std.proofs.Common.{◌≡◌, ◌≢◌, ℕ, ◌<◌, ◌≤◌, List, [], ◌∷◌, length, None, refl, sym, ap, subst, ◌∙◌, inl, inr}
-use Rattle.std.proofs.Common.{arith, drop, length-drop}
+use Rattle.std.proofs.Common.{arith, drop, length-drop, Bool, Option}
 use Rattle.std.specs.List.{AllByRecursion}
 use Rattle.page_disk.specs.declared.disk.PageDisk.{Ghosts}
 use Rattle.volume_model.specs.declared.command.Command.{Command}
@@ -13,12 +13,16 @@ use Rattle.store_core.specs.declared.rows.RowStage.TheVariants as told
 use Rattle.store_core.specs.declared.plant.SettleTurn.{SettleTurn}
 use Rattle.store_core.specs.declared.plant.SettleTurn.TheVariants as settle
 use Rattle.store_core.specs.TurnMade.{TurnMade}
-use Rattle.store_core.specs.StoreView.{StoreView, rows_of, state_of}
+use Rattle.store_core.specs.StoreView.{StoreView, WithOpening, rows_of, state_of}
 use Rattle.store_core.specs.Stages.{is_stage, waits_for}
-use Rattle.store_core.specs.ChannelTurns.{IsOfFlush, TurnsAs}
+use Rattle.store_core.specs.ChannelTurns.{IsFrozenFor, IsOfFlush, IsOfRead, TurnsAs}
+use Rattle.store_core.specs.StoreInvariant.{StoreInvariant}
 use Rattle.store_model.specs.Cases.{Turn}
 use Rattle.store_core.specs.Steps.{decided, gone_on, OnlyRow}
-use Rattle.blob_tool.specs.Driving.{ended_row, IsWaiting}
+use Rattle.volume_model.specs.Xattrs.{Text}
+use Rattle.volume_model.specs.declared.command.VolumeRef.{VolumeRef}
+use Rattle.store_core.specs.Answering.{IsAnswerable}
+use Rattle.blob_tool.specs.Driving.{ended_row, IsServedByMetadata, IsWaiting}
 
 -- ---- one channel
 
@@ -42,6 +46,22 @@ for_metadata (c.Read volume page) is = absurd (cc is)
 for_metadata (c.Write volume page word) is = absurd (cc is)
 for_metadata c.Flush is = absurd (cc is)
 for_metadata _ is = tt
+
+-- what is served by the metadata thread without a job is answered in memory
+pub answerable : (command : Command) → IsServedByMetadata command
+    → ((name : Text) (slots : ℕ) (thick : Bool) (uuid : Option (List ℕ)) → command ≡ c.Create name slots thick uuid → ⊥)
+    → ((volume : VolumeRef) (key value : Text) → command ≡ c.Put volume key value → ⊥)
+    → ((volume : VolumeRef) → command ≡ c.Sync volume → ⊥) → IsAnswerable command
+answerable (c.SetX volume key value) is create put sync = inl (tt, tt)
+answerable (c.DelX volume key) is create put sync = inl (tt, tt)
+answerable (c.GetX volume key) is create put sync = inl (tt, tt)
+answerable c.Df is create put sync = inr refl
+answerable (c.Create name slots thick uuid) is create put sync = absurd (create name slots thick uuid refl)
+answerable (c.Put volume key value) is create put sync = absurd (put volume key value refl)
+answerable (c.Sync volume) is create put sync = absurd (sync volume refl)
+answerable (c.Read volume page) is create put sync = absurd is.metadata
+answerable c.Flush is create put sync = absurd is.metadata
+answerable _ is create put sync = absurd is.served
 
 -- a waiting row at a stage that isn't that of a channel without commands has a first command
 pub next_of : (row : Row) (channel : ℕ) (stage : RowStage) → is_stage row channel ≡ stage → IsWaiting row
@@ -102,6 +122,22 @@ flush_job d p q turn = by turn.kind turn.is turn.made.0
     by kind.flush_fails is case = ap (λ s. s.job) case.next
     by kind.halts is case = ap (λ s. s.job) case.next
     by _ is case = absurd is
+
+-- a read too
+pub read_job : {D : Type 0} (d : Ghosts D) (p q : StoreView D) → TurnsAs d IsOfRead p q → q.job ≡ p.job
+read_job d p q turn = by turn.kind turn.is turn.made.0
+  where
+    by : (k : kind.Kind) → IsOfRead k → Turn d.tells (state_of d p) k (state_of d q) → q.job ≡ p.job
+    by kind.reads is case = ap (λ s. s.job) case.next
+    by kind.halts is case = ap (λ s. s.job) case.next
+    by _ is case = absurd is
+
+-- where no job runs no blob is frozen
+pub none_frozen : {D : Type 0} (d : Ghosts D) (b : WithOpening D) → StoreInvariant d b → b.at.job ≡ None
+    → (command : Command) → IsFrozenFor (state_of d b.at) command → ⊥
+none_frozen d b kept no_job command frozen =
+    let runs = kept.facts.guarded.frozen frozen.head frozen.frozen in
+    let bad = sym no_job ∙ runs.1 in cc bad
 
 -- what a turn of settling comes to, where the command is logged
 pub settled : {D : Type 0} (d : Ghosts D) (p q : StoreView D) (channel : ℕ) (turn : SettleTurn)

@@ -58,7 +58,7 @@ volume_served _ volume s = tt
 
 slots_served : (verb : Verb) (volume : VolumeRef) (slots : ℕ) → serves Served verb ≡ true
     → IfOk (alone (on_slots verb volume slots)) AreServed
-slots_served v.Resize volume slots s = one_served_alone (c.Resize volume slots) tt
+slots_served v.Resize volume slots s = absurd (false≢true s)
 slots_served _ volume slots s = tt
 
 name_served : (verb : Verb) (volume : VolumeRef) (name : List ℕ) → serves Served verb ≡ true

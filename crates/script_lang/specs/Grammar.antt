@@ -10,7 +10,6 @@ serves g.Whole verb = true
 serves g.Served v.Create = true
 serves g.Served v.Read = true
 serves g.Served v.Flush = true
-serves g.Served v.Resize = true
 serves g.Served v.SetX = true
 serves g.Served v.DelX = true
 serves g.Served v.GetX = true

@@ -24,7 +24,6 @@ impl Grammar {
                 Verb::Create
                     | Verb::Read
                     | Verb::Flush
-                    | Verb::Resize
                     | Verb::SetX
                     | Verb::DelX
                     | Verb::GetX

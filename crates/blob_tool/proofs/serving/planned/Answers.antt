@@ -1,4 +1,5 @@
 use Rattle.std.specs.Option.{option_copied}
+use Rattle.blob_tool.proofs.Driven.{answerable}
 use Rattle.blob_tool.proofs.Planned.{create_plan, is_running, live_given, put_plan, sync_plan}
 use Rattle.blob_tool.proofs.serving.planned.Goals as goal
 
@@ -52,3 +53,7 @@ returns-in-Create g c =
     c.args.command.now c.in-Create.name c.in-Create.slots c.in-Create.thick c.in-Create.uuid c.in-Create.is
     c.requires.served.served
     c.plan_create.result c.plan_create.ensures.job c.plan_create.ensures.unrefused c.plan_create.ensures.refused
+
+pub returns-in_default : goal.returns-in_default
+returns-in_default g c =
+    answerable c.args.command.now c.requires.served c.in_default.not-Create c.in_default.not-Put c.in_default.not-Sync
