@@ -14,7 +14,7 @@ use Rattle.store_model.specs.Turning.{FailsToReplace, page_of_place, Runs, stopp
 use Rattle.volume_model.specs.Volumes.{zero_page}
 use Rattle.volume_model.specs.declared.reply.Reply.{Reply}
 use Rattle.volume_model.specs.declared.reply.Reply.TheVariants as r
-use Rattle.store_model.specs.Claiming.{CanInsert, IsCopying, LogsOwn}
+use Rattle.store_model.specs.Claiming.{CanInsert, IsCopying, IsInserting, LogsOwn}
 use Rattle.store_model.specs.Later.CopyTurns.{LogsFilled}
 use Rattle.store_model.specs.Copying.{IsUpToDate}
 
@@ -34,56 +34,6 @@ pub record FillLacks (p q : StoreState) : Type 0 where
   pub can : CanInsert p posted.claim meta
   pub lacks : LacksPages true (with_slot meta posted.claim.slot posted.claim.cluster) p.pages
   pub logs : LogsFilled p posted.row (Decided Answered) r.NoPage p.device q
-
--- ---- the job of an insert
-
--- The row whose insert the job does.
-pub record IsInserting (p : StoreState) (job : JobState) : Type 0 where
-  pub row : ℕ
-  pub serves : job.serves ≡ ForInsert row
-  pub waits : (p.rows row).stage ≡ InJob
-
--- the row's stage with these phases left of the job: it waits for the last of them, with which it is decided as won
-abbrev pub stage_behind : List Phase → Stage
-stage_behind [] = Decided Won
-stage_behind (x ∷ xs) = InJob
-
--- The head's page is replaced: the cluster stands in the slot, the row's claim has ended, and nothing is logged. Where
--- no old page is left to erase, the job is done.
-pub record Inserts (told : Bool) (p q : StoreState) : Type 0 where
-  pub replacing : Replacing
-  pub running : Runs p (Replaces replacing None)
-  pub inserting : IsInserting p running.job
-  pub new : Meta
-  pub new_is : replacing.new ≡ Some new
-  pub device : Device
-  pub moves : WritesOnePage told p.device (page_of_place p replacing.head)
-      (page_in replacing.planned replacing.head) 3 device
-  pub next : q ≡ record p {
-    base = with_entry p.base replacing.head new;
-    chains = with_entry p.chains replacing.head (replacing.head ∷ replacing.fresh);
-    rows = with_row p.rows inserting.row
-        (record { left = (p.rows inserting.row).left; stage = stage_behind running.rest; claim = None });
-    job = going_on running.job [] running.rest;
-    device = device;
-  }
-
--- With the last turn of its job the row is decided as won.
-pub record InsertEnds (told : Bool) (p q : StoreState) : Type 0 where
-  pub place : ℕ
-  pub old : List ℕ
-  pub running : Runs p (Frees_ place old)
-  pub last : running.rest ≡ []
-  pub inserting : IsInserting p running.job
-  pub device : Device
-  pub moves : WritesOnePage told p.device (page_of_place p place) zero_page 2 device
-  pub next : q ≡ record p {
-    rows = with_row p.rows inserting.row
-        (record { left = (p.rows inserting.row).left; stage = Decided Won; claim = None });
-    job = None;
-    pages = all_set p.pages old false;
-    device = device;
-  }
 
 -- ---- failures
 
