@@ -37,7 +37,7 @@ EndsWrite _ = ⊥
 
 -- such a reply may come, and changes nothing
 module _ (f : Fixed) (tells : Bool) (v : Volumes) (volume : VolumeRef) (page : ℕ) (word : PageWord) where
-  ends_so : (reply : Reply) → EndsWrite reply → Allowed f v (c.Write volume page word) (seen_reply tells reply)
+  pub ends_so : (reply : Reply) → EndsWrite reply → Allowed f v (c.Write volume page word) (seen_reply tells reply)
   ends_so r.NoPage ends = (tt, tt)
   ends_so r.ReadFault ends = (tt, tt)
   ends_so r.Fault ends = tt
