@@ -1,5 +1,5 @@
 -- What images say where a turn failed that would have put a cluster into its slot: the old metadata, or the new.
-use Rattle.std.proofs.Common.{◌≡◌, ℕ, ◌+◌, List, [], ◌∷◌, Some, None, refl, sym, ap, subst, ◌∙◌, arith}
+use Rattle.std.proofs.Common.{◌≡◌, ◌+◌, [], ◌∷◌, Some, None, refl, sym, ap, ◌∙◌, arith}
 use Rattle.page_disk.specs.Disk.{Image, with_page}
 use Rattle.page_disk.specs.Moments.{IsReplaced}
 use Rattle.page_disk.specs.declared.disk.PageDisk.{Ghosts}

@@ -3,7 +3,6 @@ use Rattle.std.proofs.Common.{◌≡◌, ℕ, List, [], None, refl, subst, sym, 
 use Rattle.std.specs.Prelude.{true}
 use Rattle.page_disk.specs.Disk.{Image}
 use Rattle.page_disk.specs.declared.disk.PageDisk.{Ghosts}
-use Rattle.volume_model.specs.declared.reply.Entry.{Entry}
 use Rattle.store_model.specs.Agreeing.{Stands}
 use Rattle.store_model.specs.Maps.{Chains, Metas, with_entry}
 use Rattle.store_model.specs.Phases.{page_in, Replacing}

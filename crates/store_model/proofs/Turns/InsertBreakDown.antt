@@ -1,5 +1,5 @@
 -- The turn insert_breaks_down.
-use Rattle.std.proofs.Common.{◌≡◌, ℕ, Option, Some, None, ap, arith, inr, refl, subst, sym, ◌∙◌}
+use Rattle.std.proofs.Common.{ℕ, Option, None, arith, inr, refl, subst, sym, ◌∙◌}
 use Rattle.volume_model.specs.declared.command.Command.TheVariants as c
 use Rattle.volume_model.specs.declared.reply.Reply.TheVariants as r
 use Rattle.store_model.specs.Claiming.{LogsOwn}

@@ -1,6 +1,6 @@
 -- The turn insert_ends.
 use Rattle.std.proofs.Common.{◌≡◌, ◌≤◌, ◌++◌, ℕ, Bool, List, [], ◌∷◌, Option, Some, None, false, refl, subst, sym, ap, ◌∙◌, arith}
-use Rattle.std.proofs.Common.{inl, inr, All}
+use Rattle.std.proofs.Common.{inl, inr}
 use Rattle.std.specs.Prelude.{true}
 use Rattle.std.specs.Option.{option_map_or}
 use Rattle.std.proofs.lemmas.Bool.{cases_eq}
@@ -24,7 +24,7 @@ use Rattle.store_model.proofs.Claims.{differ_still, used_still, with_row_same}
 use Rattle.store_model.proofs.Copies.{copied_same, row_unclaimed}
 use Rattle.store_model.proofs.Going.{left_of}
 use Rattle.store_model.proofs.Guarding.{claims_drawn_still, none_frozen_by, none_guarded}
-use Rattle.store_model.proofs.JobKept.{copied_put, held_is, held_low, lays_here, no_other, written_same}
+use Rattle.store_model.proofs.JobKept.{copied_put, held_is, held_low, no_other, written_same}
 use Rattle.store_model.proofs.Known.{Known}
 use Rattle.store_model.proofs.LeftToDo.{among_left}
 use Rattle.store_model.proofs.Over.{Effect, moves, nothing, TurnLaw}

@@ -1,6 +1,5 @@
 -- The turn insert_fails.
-use Rattle.std.proofs.Common.{◌∷◌, ◌≡◌, ℕ, ◌≤◌, length, Some, None, false, refl, subst, sym, ap, ◌∙◌, arith}
-use Rattle.page_disk.specs.Disk.{Image}
+use Rattle.std.proofs.Common.{◌∷◌, ◌≡◌, length, Some, None, false, refl, subst, sym, ap, ◌∙◌, arith}
 use Rattle.page_disk.specs.declared.disk.PageDisk.{Ghosts}
 use Rattle.md_chain.specs.Chain.{is_among}
 use Rattle.volume_model.specs.declared.command.Command.TheVariants as c
