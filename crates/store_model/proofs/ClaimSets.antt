@@ -9,11 +9,10 @@ use Rattle.super_block.specs.Numbers.{cluster_pages_of, clusters_of, fixed_clust
 use Rattle.store_model.specs.Copying.{AreCopied, HasCopied}
 use Rattle.store_model.proofs.Copies.{copied_same, HaveNoMore, row_no_more, row_unclaimed}
 use Rattle.md_chain.specs.Chain.{is_among}
-use Rattle.store_model.specs.Maps.{Metas}
 use Rattle.store_model.specs.Rows.{OpenClaim, Row, Rows, with_row}
 use Rattle.store_model.specs.Guarding.{AreClaimsDrawn}
 use Rattle.store_model.specs.Places.{claimed_by, ClaimsDiffer, HasClaim, IsMapped, UsedClusters, without_claim}
-use Rattle.store_model.specs.StoreState.{JobState, StoreState}
+use Rattle.store_model.specs.StoreState.{StoreState}
 use Rattle.store_model.proofs.Claims.{differ_still, used_still, with_row_claims, with_row_same}
 use Rattle.store_model.proofs.Guarding.{claims_drawn_still}
 use Rattle.store_model.proofs.RowsKept.{row_here, row_other}

@@ -1,5 +1,5 @@
 -- What the images of a commit say: the old metadata or the new, and behind it the new.
-use Rattle.std.proofs.Common.{◌≡◌, ℕ, List, [], None, refl, subst, sym, ap, ◌∙◌}
+use Rattle.std.proofs.Common.{Some, ◌≡◌, ℕ, List, [], None, refl, subst, sym, ap, ◌∙◌}
 use Rattle.std.specs.Prelude.{true}
 use Rattle.page_disk.specs.Disk.{Image}
 use Rattle.page_disk.specs.declared.disk.PageDisk.{Ghosts}
@@ -28,7 +28,7 @@ module _ {D : Type 0} (d : Ghosts D) (x : Over d) (t : Commits d.tells x.p x.q) 
   page = page_in replacing.planned replacing.head
 
   abbrev new : Image
-  new = image d x replacing t.commit t.running t.new t.new_is
+  new = image d x replacing (Some t.commit) t.running t.new t.new_is
 
   runs_on : q.stopped ≡ None
   runs_on = ap (λ (v : StoreState). v.stopped) t.next ∙ t.running.runs
@@ -43,7 +43,7 @@ module _ {D : Type 0} (d : Ghosts D) (x : Over d) (t : Commits d.tells x.p x.q) 
       subst (λ (m : Metas). HoldsMetadata s m q.chains new) (sym (ap (λ (v : StoreState). v.base) t.next))
       (subst (λ (h : Chains). HoldsMetadata s (with_entry p.base replacing.head t.new) h new)
       (sym (ap (λ (v : StoreState). v.chains) t.next))
-      (new_holds d x replacing t.commit t.running t.new t.new_is))
+      (new_holds d x replacing (Some t.commit) t.running t.new t.new_is))
 
   stands_new : Stands s first q.base q.chains q.log (d.now to) new
   stands_new = subst (λ (n : Image). Stands s first q.base q.chains q.log n new) (sym now_new)
@@ -52,7 +52,7 @@ module _ {D : Type 0} (d : Ghosts D) (x : Over d) (t : Commits d.tells x.p x.q) 
   pub images : DoesTouch d from to (replaces (page_of_place p replacing.head) page true)
       → ImageLaw d x (left_by (replaces (page_of_place p replacing.head) page true) (d.images from) (d.now from))
   images does = record {
-    way = head_way d x replacing t.commit t.running t.new t.new_is
+    way = head_way d x replacing (Some t.commit) t.running t.new t.new_is
         (holds_loaded s first script q after new holds_new) q.log
         (stands_whole d told s first script q to to_is to_tells after runs_on new stands_new) (done runs_on refl);
     stands = λ _ c held. subst (Stands s first q.base q.chains q.log (d.now to))

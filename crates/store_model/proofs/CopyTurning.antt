@@ -1,27 +1,23 @@
 -- A page of a claimed cluster is written: nothing that is shown depends on it, nor what images say.
-use Rattle.std.proofs.Common.{◌≡◌, ◌≢◌, ℕ, suc, ◌+◌, ◌*◌, ◌/◌, ◌%◌, ◌<◌, ◌≤◌, true, false, List, Some, None, refl, sym, ap, ◌∙◌}
+use Rattle.std.proofs.Common.{◌≡◌, ℕ, suc, ◌+◌, ◌*◌, ◌/◌, ◌%◌, ◌<◌, ◌≤◌, false, List, Some, None, refl, sym, ap, ◌∙◌}
 use Rattle.std.proofs.Common.{subst, inl, inr, arith}
 use Rattle.std.proofs.Math.Nat.{mod-lt, mul-le-mul_right}
-use Rattle.page_disk.specs.Disk.{Image, Images, Only, Written}
+use Rattle.page_disk.specs.Disk.{Image, Images, Written}
 use Rattle.page_disk.specs.declared.disk.PageDisk.{Ghosts}
 use Rattle.page_disk.specs.declared.disk.WriteKind.TheVariants.{Plain}
 use Rattle.super_block.specs.declared.page.Super.{Super}
 use Rattle.super_block.specs.Numbers.{cluster_pages_of, fixed_clusters_of}
-use Rattle.super_block.specs.Placed.{IsPlaced}
-use Rattle.blob_meta.specs.declared.meta.Meta.{Meta}
 use Rattle.blob_meta.specs.Resolving.{IsLawful, resolved}
 use Rattle.md_chain.specs.Chain.{is_among}
 use Rattle.store_model.specs.Agreeing.{AgreeOn, IsNoPage, IsSameButAt, Stands}
 use Rattle.store_model.specs.Copying.{AreCopied, HasCopied, page_of_claim}
 use Rattle.store_model.specs.Device.{Device}
 use Rattle.store_model.specs.Maps.{Metas}
-use Rattle.store_model.specs.Places.{HasClaim, IsMapped}
-use Rattle.store_model.specs.Regions.{look_of, region_of}
-use Rattle.store_model.specs.Rows.{OpenClaim, Row}
-use Rattle.store_model.specs.StoreState.{JobState, planned_at, shown, StoreState}
+use Rattle.store_model.specs.Places.{HasClaim}
+use Rattle.store_model.specs.Rows.{OpenClaim}
+use Rattle.store_model.specs.StoreState.{shown}
 use Rattle.store_model.specs.RunInvariant.{RunInvariant, RunsWell}
 use Rattle.store_model.proofs.Copies.{copied_still}
-use Rattle.store_model.proofs.Going.{told_reads}
 use Rattle.store_model.proofs.Holding.{put_elsewhere}
 use Rattle.store_model.proofs.Known.{Known}
 use Rattle.store_model.proofs.OneReplacement.{base_resolved, some_pages}
@@ -38,7 +34,7 @@ use Rattle.store_model.proofs.JobKept.{held_low}
 use Rattle.store_model.specs.Jobs.{gained_by}
 use Rattle.store_model.proofs.LeftToDo.{next_of}
 use Rattle.store_model.proofs.Shapes.{moved_to}
-use Rattle.store_model.proofs.StateKept.{device_by}
+use Rattle.store_model.proofs.DeviceKept.{device_by}
 
 -- ---- what is shown
 

@@ -1,5 +1,5 @@
 -- Empty slots with other metadata: of which blobs each that is empty then was empty, and shows what it showed.
-use Rattle.std.proofs.Common.{◌≡◌, ◌≢◌, ℕ, suc, ◌/◌, ◌<◌, ◌≤◌, Option, Some, None, List, length, refl, sym, ap, ◌∙◌, subst, inl}
+use Rattle.std.proofs.Common.{◌≡◌, ◌≢◌, ℕ, suc, ◌/◌, ◌≤◌, Option, Some, None, List, length, refl, sym, ap, ◌∙◌, subst, inl}
 use Rattle.std.proofs.Common.{inr, arith}
 use Rattle.std.specs.Option.{option_and_then, option_map_or}
 use Rattle.std.specs.Prelude.{slice_get}
@@ -13,7 +13,7 @@ use Rattle.blob_meta.specs.Jobs.{resized_meta}
 use Rattle.blob_meta.specs.Parents.{parent_of, slot}
 use Rattle.blob_meta.specs.Resolving.{resolved}
 use Rattle.store_model.specs.Maps.{Metas, with_entry}
-use Rattle.store_model.specs.Copying.{LeavesEmpty, WasEmpty}
+use Rattle.store_model.specs.Copying.{LeavesEmpty}
 use Rattle.store_model.specs.Loadable.{AreLoadable}
 use Rattle.store_model.specs.Shown.{content, content_by}
 use Rattle.store_model.proofs.Cut.{slot_kept, slot_past}

@@ -1,6 +1,6 @@
 -- Where nothing may have been written since the last flush, as the log grows.
-use Rattle.std.proofs.Common.{◌≡◌, ◌≢◌, ◌||◌, if◌then◌else◌, ℕ, ◌+◌, Bool, true, false, List, [], ◌∷◌, ◌++◌, refl, sym, ap, ◌∙◌}
-use Rattle.std.proofs.Common.{append_assoc, None, subst, inl, inr}
+use Rattle.std.proofs.Common.{◌≡◌, ◌||◌, if◌then◌else◌, ℕ, ◌+◌, Bool, true, false, List, [], ◌∷◌, ◌++◌, refl, sym, ap, ◌∙◌}
+use Rattle.std.proofs.Common.{append_assoc, subst, inl, inr}
 use Rattle.std.proofs.lemmas.Bool.{cases_eq}
 use Rattle.std.proofs.lemmas.List.{append_cancel_left}
 use Rattle.volume_model.specs.Logs.{is_flushing, Numbered}
@@ -11,7 +11,6 @@ use Rattle.store_model.specs.Rows.{entries_of}
 use Rattle.store_model.specs.StoreState.{StoreState}
 use Rattle.store_model.specs.RunInvariant.{OnItsWay}
 use Rattle.store_model.specs.Surviving.{begins_writing, has_written, IsAllFlushed, writes_pages}
-use Rattle.store_model.proofs.Numbering.{numbered-push}
 use Rattle.store_model.proofs.RowsKept.{entries_more, entries_same}
 
 -- ---- the log

@@ -1,6 +1,5 @@
 -- A row gives its claim back, and its write is logged.
-use Rattle.std.proofs.Common.{◌≡◌, ℕ, ◌≤◌, Bool, List, length, length-append, None, Some, refl, sym, ap, ◌∙◌, subst, arith}
-use Rattle.std.specs.Prelude.{All}
+use Rattle.std.proofs.Common.{◌≡◌, ℕ, ◌≤◌, Bool, List, length, None, refl, sym, ap, ◌∙◌, subst, arith}
 use Rattle.std.proofs.lemmas.List.Elements.{All-weaker}
 use Rattle.volume_model.specs.Volumes.{Fixed, Volumes}
 use Rattle.volume_model.specs.Steps.{Allowed, change}
@@ -37,7 +36,7 @@ EndsWrite _ = ⊥
 
 -- such a reply may come, and changes nothing
 module _ (f : Fixed) (tells : Bool) (v : Volumes) (volume : VolumeRef) (page : ℕ) (word : PageWord) where
-  ends_so : (reply : Reply) → EndsWrite reply → Allowed f v (c.Write volume page word) (seen_reply tells reply)
+  pub ends_so : (reply : Reply) → EndsWrite reply → Allowed f v (c.Write volume page word) (seen_reply tells reply)
   ends_so r.NoPage ends = (tt, tt)
   ends_so r.ReadFault ends = (tt, tt)
   ends_so r.Fault ends = tt

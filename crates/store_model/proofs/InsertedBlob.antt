@@ -1,5 +1,5 @@
 -- The metadata of a blob with a cluster in a slot that was empty: a load takes it, and with it all metadata is lawful.
-use Rattle.std.proofs.Common.{◌≡◌, ◌≢◌, ◌⊎◌, ℕ, zero, suc, ◌<◌, ◌≤◌, ◌^◌, Bool, true, false, List, [], ◌∷◌, Option, Some, None, refl}
+use Rattle.std.proofs.Common.{◌≡◌, ◌≢◌, ◌⊎◌, ℕ, zero, suc, ◌<◌, ◌^◌, Bool, true, false, List, [], ◌∷◌, Option, Some, None, refl}
 use Rattle.std.proofs.Common.{sym, ap, ◌∙◌, subst, inl, inr, length, arith}
 use Rattle.descriptors.specs.Runs.{at_most}
 use Rattle.std.specs.Prelude.{◌+◌, ◌-◌, nat_le, find, if◌then◌else◌, is_none, slice_get, slice_index_or, slice_set}

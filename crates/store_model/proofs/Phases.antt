@@ -1,6 +1,7 @@
 -- The phases of one replacement, before any is made.
 use Rattle.std.proofs.Common.{None, ◌≡◌, ℕ, ◌++◌, true, false, List, [], ◌∷◌, refl, sym, subst, ap, ◌∙◌, append_assoc}
 use Rattle.std.proofs.lemmas.List.{append-nil}
+use Rattle.store_model.specs.Phases.{Erases, Frees, Marks, Replaces, Writes, Zeros}
 use Rattle.store_model.specs.Phases.{next_replacing, Phase, has_commit, held_in, taken_in, erasing, writing, planned_in}
 use Rattle.super_block.specs.declared.page.Super.{Super}
 use Rattle.store_model.specs.Maps.{Metas, Chains, Map}
@@ -99,3 +100,15 @@ pub planned_behind : (fresh : List ℕ) (rest : List Phase) (place : ℕ)
     → planned_in (writing fresh rest) place ≡ planned_in rest place
 planned_behind [] rest place = refl
 planned_behind (p ∷ ps) rest place = planned_behind ps rest place
+
+-- ---- behind an insert
+
+-- behind its replacement nothing is to be put
+pub puts_none : (p : StoreState) (row : ℕ) (todo : List Phase) → next_replacing todo ≡ None → Puts p row todo
+puts_none p row [] none = tt
+puts_none p row (Replaces r commit ∷ rest) none = absurd (cc none)
+puts_none p row (Marks ∷ rest) none = puts_none p row rest none
+puts_none p row (Zeros page ∷ rest) none = puts_none p row rest none
+puts_none p row (Writes place ∷ rest) none = puts_none p row rest none
+puts_none p row (Erases place ∷ rest) none = puts_none p row rest none
+puts_none p row (Frees place old ∷ rest) none = puts_none p row rest none

@@ -1,12 +1,13 @@
 -- What is shown where one blob that is nobody's parent has other metadata, or is new: all other volumes as they were.
 use Rattle.std.proofs.Common.{◌≡◌, ◌≢◌, ℕ, false, Option, Some, None, refl, sym, ap, ◌∙◌, subst, inl, inr}
-use Rattle.std.specs.Option.{option_map}
+use Rattle.std.specs.Option.{option_and_then, option_map}
 use Rattle.std.proofs.lemmas.Bool.{cases_eq, false≢true}
 use Rattle.std.proofs.Math.Path.{fun_ext}
 use Rattle.volume_model.specs.Volumes.{Fixed, Volume, Volumes}
 use Rattle.volume_model.specs.Xattrs.{Xattrs}
 use Rattle.blob_meta.specs.declared.meta.Meta.{Meta}
-use Rattle.blob_meta.specs.Parents.{is_read_only}
+use Rattle.super_block.specs.declared.page.Super.{Super}
+use Rattle.blob_meta.specs.Parents.{is_read_only, named_in, parent_of}
 use Rattle.store_model.specs.Maps.{Metas, with_entry}
 use Rattle.store_model.specs.Shown.{fixed_of, shown_by, volume_of}
 use Rattle.store_model.specs.StoreState.{live_of, shown, StoreState}
@@ -29,6 +30,12 @@ writable_childless metas head m parents there writable h p n is of e =
     let up = parents h p n is of in
     let same : up.0 ≡ m = let both = sym up.1 ∙ ap metas e ∙ there in cc both in
     false≢true (sym writable ∙ ap (λ (x : Meta). is_read_only x.flags) (sym same) ∙ up.2)
+
+-- where each blob stands alone none is a parent
+pub alone_childless : (s : Super) (base : Metas) (head : ℕ) → AreLoadable s base → IsChildless base head
+alone_childless s base head loadable h up m there of e =
+    let none : parent_of m ≡ None = ap (option_and_then named_in) (loadable h m there).alone.no_parent in
+    let bad = sym none ∙ of in cc bad
 
 module _ (p : StoreState) (loadable : AreLoadable p.super p.base) where
   abbrev f : Fixed

@@ -1,5 +1,5 @@
 -- A write that finds its slot empty: its claim, the row that copies for it, and how a claim is given back.
-use Rattle.std.specs.Prelude.{◌≡◌, ℕ, ◌/◌, ◌<◌, length, List, ◌∷◌, Option, None, Some, false}
+use Rattle.std.specs.Prelude.{◌≡◌, ℕ, ◌/◌, ◌<◌, length, List, [], ◌∷◌, Option, None, Some, false}
 use Rattle.super_block.specs.Numbers.{cluster_pages_of}
 use Rattle.volume_model.specs.Volumes.{head_of}
 use Rattle.volume_model.specs.Refusals.{refusal}
@@ -12,11 +12,12 @@ use Rattle.blob_meta.specs.declared.meta.Meta.{Meta}
 use Rattle.blob_meta.specs.Parents.{slot}
 use Rattle.blob_meta.specs.Resolving.{resolved}
 use Rattle.store_model.specs.Shown.{fixed_of}
-use Rattle.store_model.specs.Rows.{fill_row, OpenClaim, Stage, with_row}
+use Rattle.store_model.specs.Phases.{Phase}
+use Rattle.store_model.specs.Rows.{Decided, fill_row, InJob, OpenClaim, Stage, with_row, Won}
 use Rattle.store_model.specs.Copying.{IsUpToDate}
 use Rattle.store_model.specs.Device.{Device}
 use Rattle.store_model.specs.Places.{without_claim}
-use Rattle.store_model.specs.StoreState.{logged_to, shown, StoreState}
+use Rattle.store_model.specs.StoreState.{ForInsert, JobState, logged_to, shown, StoreState}
 
 -- a channel's write of a page at this stage, with this claim
 pub record IsWriting (p : StoreState) (stage : Stage) (claim : Option OpenClaim) : Type 0 where
@@ -92,3 +93,14 @@ pub record CanInsert (p : StoreState) (claim : OpenClaim) (meta : Meta) : Type 0
   pub current : IsUpToDate p claim
   pub within : claim.slot < length meta.map
   pub empty : slot meta claim.slot ≡ None
+
+-- The row whose insert the job does.
+pub record IsInserting (p : StoreState) (job : JobState) : Type 0 where
+  pub row : ℕ
+  pub serves : job.serves ≡ ForInsert row
+  pub waits : (p.rows row).stage ≡ InJob
+
+-- the row's stage with these phases left of the job: it waits for the last of them, with which it is decided as won
+abbrev pub stage_behind : List Phase → Stage
+stage_behind [] = Decided Won
+stage_behind (x ∷ xs) = InJob

@@ -263,7 +263,7 @@ pub record InsertStands (p : StoreState) (j : JobState) (row : ℕ) : Type 0 whe
   pub puts : Puts p row j.todo
 
 -- What is left of a running job can be done, on places that differ; its command waits for the commit, and behind that,
--- or where it serves none, the volumes are shown as they are. (So they are behind an insert by what its cluster holds.)
+-- or where it serves none, the volumes are shown as they are. Behind an insert they are so by what its cluster holds.
 pub record JobStands (p : StoreState) (j : JobState) : Type 0 where
   pub lays : Lays p.super p.base p.chains (gained_by p.rows j) j.written j.todo
   pub distinct : AreDistinct (held_in j.todo)

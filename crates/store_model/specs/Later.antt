@@ -6,14 +6,13 @@ pub mod JobPhaseTurns
 use Rattle.std.specs.Prelude.{Bool}
 use Rattle.store_model.specs.StoreState.{StoreState}
 use Rattle.store_model.specs.Later.CopyTurns.{FillCopyFails, FillNotRead}
-use Rattle.store_model.specs.Later.InsertTurns.{InsertBreaksDown, InsertEnds, InsertFails, Inserts}
-use Rattle.store_model.specs.Later.InsertTurns.{FillLacks}
+use Rattle.store_model.specs.Later.InsertTurns.{FillInsertBreaksDown, FillInsertFails, FillLacks}
 use Rattle.store_model.specs.Later.FillTurns.{ClaimsFill, EndsFill, HaltsFill, LacksForFill}
 use Rattle.store_model.specs.Later.JobPhaseTurns.{BeginsRepair, CommitsMore, MarksDirty, MoreBreaksOff, MoreFails}
 use Rattle.store_model.specs.Later.JobPhaseTurns.{ReplacesMore, Zeroes}
 
 pub data LaterKind : Type 0 where
-  fill_not_read fill_copy_fails fill_lacks inserts insert_ends insert_fails insert_breaks_down claims_fill lacks_for_fill
+  fill_not_read fill_copy_fails fill_lacks fill_insert_fails fill_insert_breaks_down claims_fill lacks_for_fill
       halts_fill ends_fill marks_dirty zeroes replaces_more commits_more more_fails more_breaks_off
       begins_repair : LaterKind
 
@@ -22,10 +21,8 @@ module _ (told : Bool) where
   LaterTurn p fill_not_read q = FillNotRead p q
   LaterTurn p fill_copy_fails q = FillCopyFails p q
   LaterTurn p fill_lacks q = FillLacks p q
-  LaterTurn p inserts q = Inserts told p q
-  LaterTurn p insert_ends q = InsertEnds told p q
-  LaterTurn p insert_fails q = InsertFails p q
-  LaterTurn p insert_breaks_down q = InsertBreaksDown p q
+  LaterTurn p fill_insert_fails q = FillInsertFails p q
+  LaterTurn p fill_insert_breaks_down q = FillInsertBreaksDown p q
   LaterTurn p claims_fill q = ClaimsFill p q
   LaterTurn p lacks_for_fill q = LacksForFill p q
   LaterTurn p halts_fill q = HaltsFill p q

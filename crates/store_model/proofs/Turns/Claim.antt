@@ -1,5 +1,5 @@
 -- The turn claims.
-use Rattle.std.proofs.Common.{◌/◌, ◌∷◌, None, Some, true, ap, arith, refl, subst, sym}
+use Rattle.std.proofs.Common.{◌/◌, ◌∷◌, Some, true, ap, arith, refl, subst, sym}
 use Rattle.std.specs.Prelude.{slice_set}
 use Rattle.super_block.specs.Numbers.{cluster_pages_of}
 use Rattle.volume_model.specs.declared.command.Command.TheVariants as c

@@ -1,5 +1,5 @@
 -- The turn copies.
-use Rattle.std.proofs.Common.{◌≡◌, ℕ, zero, suc, ◌+◌, ◌*◌, ◌<◌, Bool, true, false, List, Some, None, ap, arith, inl, inr, refl}
+use Rattle.std.proofs.Common.{◌≡◌, ℕ, zero, suc, ◌+◌, ◌*◌, ◌<◌, Bool, true, false, Some, ap, arith, inl, inr, refl}
 use Rattle.std.proofs.Common.{subst, sym, ◌∙◌}
 use Rattle.std.proofs.lemmas.Bool.{cases_eq}
 use Rattle.page_disk.specs.Disk.{Image}
@@ -7,9 +7,9 @@ use Rattle.page_disk.specs.declared.disk.PageDisk.{Ghosts}
 use Rattle.super_block.specs.Numbers.{cluster_pages_of}
 use Rattle.blob_meta.specs.Resolving.{resolved}
 use Rattle.store_model.specs.Agreeing.{IsSameButAt}
-use Rattle.store_model.specs.Copying.{AreCopied, HasCopied, IsWanted, page_of_claim, shown_in_slot}
+use Rattle.store_model.specs.Copying.{AreCopied, HasCopied, page_of_claim, shown_in_slot}
 use Rattle.store_model.specs.Device.{Device}
-use Rattle.store_model.specs.Rows.{Copying, InJob, OpenClaim, Posted, Ready, Row, Rows, Stage, with_row}
+use Rattle.store_model.specs.Rows.{Copying, InJob, OpenClaim, Posted, Row, Stage, with_row}
 use Rattle.store_model.specs.StoreState.{StoreState}
 use Rattle.store_model.specs.Touches.{DoesTouch, left_by, puts}
 use Rattle.store_model.specs.Turning.{read_after}
@@ -26,7 +26,7 @@ use Rattle.store_model.proofs.Holding.{put_elsewhere, put_here}
 use Rattle.store_model.proofs.Known.{Known}
 use Rattle.store_model.proofs.Over.{Effect, ImageLaw, moves, nothing, Over, TurnLaw}
 use Rattle.store_model.proofs.RowsKept.{row_here, row_other}
-use Rattle.store_model.proofs.Shaped.{holding_may, MayBe}
+use Rattle.store_model.proofs.Shaped.{holding_may}
 use Rattle.store_model.proofs.StateKept.{claim_facts, held_here, not_in_job}
 
 -- ---- what is read

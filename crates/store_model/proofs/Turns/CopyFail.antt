@@ -1,13 +1,11 @@
 -- The turn copy_fails.
-use Rattle.std.proofs.Common.{◌≡◌, ℕ, ◌+◌, suc, ◌<◌, length, Some, ap, arith, refl, subst, sym, ◌∙◌}
+use Rattle.std.proofs.Common.{◌≡◌, length, Some, ap, arith, refl, subst, sym, ◌∙◌}
 use Rattle.page_disk.specs.declared.disk.PageDisk.{Ghosts}
-use Rattle.super_block.specs.Numbers.{cluster_pages_of}
-use Rattle.volume_model.specs.declared.command.Command.{Command}
 use Rattle.volume_model.specs.declared.command.Command.TheVariants as c
 use Rattle.volume_model.specs.declared.reply.Reply.TheVariants as r
 use Rattle.store_model.specs.Rows.{entry_of, Idle, InJob, Row, Stage}
 use Rattle.store_model.specs.StoreState.{StoreState}
-use Rattle.store_model.specs.Touches.{DoesTouch, left_by}
+use Rattle.store_model.specs.Touches.{left_by}
 use Rattle.store_model.specs.Turning.{stopped_now}
 use Rattle.store_model.specs.Cases.CopyFail as case
 use Rattle.store_model.specs.Cases.CopyFail.{CopyFails, copy, flush, tried_copy, TriedCopy}

@@ -1,9 +1,8 @@
 -- The turn copy_not_read.
-use Rattle.std.proofs.Common.{◌≡◌, false, ap, arith, refl, subst, sym, ◌∙◌}
+use Rattle.std.proofs.Common.{false, ap, arith, refl, subst, sym, ◌∙◌}
 use Rattle.volume_model.specs.declared.command.Command.{Command}
 use Rattle.volume_model.specs.declared.command.Command.TheVariants as c
 use Rattle.volume_model.specs.declared.reply.Reply.TheVariants as r
-use Rattle.store_model.specs.Claiming.{LogsOwn}
 use Rattle.store_model.specs.Rows.{entry_of, Idle}
 use Rattle.store_model.specs.StoreState.{StoreState}
 use Rattle.store_model.specs.Touches.{no_new}
@@ -16,7 +15,8 @@ use Rattle.store_model.proofs.Known.{Known}
 use Rattle.store_model.proofs.Over.{answer, Effect, moves, TurnLaw}
 use Rattle.store_model.proofs.Shapes.{idles, Idles, notes, now_same, unwritten_images}
 use Rattle.store_model.proofs.Shaped.{idle_may}
-use Rattle.store_model.proofs.StateKept.{device_facts, not_in_job}
+use Rattle.store_model.proofs.DeviceKept.{device_facts}
+use Rattle.store_model.proofs.StateKept.{not_in_job}
 
 -- ---- it keeps what every state has
 

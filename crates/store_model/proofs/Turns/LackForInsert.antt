@@ -1,5 +1,5 @@
 -- The turn lacks_for_insert.
-use Rattle.std.proofs.Common.{◌≡◌, refl, subst, sym}
+use Rattle.std.proofs.Common.{refl, subst, sym}
 use Rattle.volume_model.specs.declared.command.Command.{Command}
 use Rattle.volume_model.specs.declared.command.Command.TheVariants as c
 use Rattle.volume_model.specs.declared.reply.Reply.TheVariants as r

@@ -1,10 +1,9 @@
 -- The turn refuses_claim.
-use Rattle.std.proofs.Common.{◌≡◌, None, inl, inr, ap, refl, subst, sym}
+use Rattle.std.proofs.Common.{inl, inr, ap, refl, subst, sym}
 use Rattle.volume_model.specs.Steps.{Allowed, IsRefusal}
 use Rattle.volume_model.specs.declared.command.Command.{Command}
 use Rattle.volume_model.specs.declared.command.Command.TheVariants as c
 use Rattle.volume_model.specs.declared.reply.Reply.{Reply}
-use Rattle.volume_model.specs.declared.reply.Reply.TheVariants as r
 use Rattle.store_model.specs.Shown.{fixed_of}
 use Rattle.store_model.specs.Rows.{entry_of, Idle, Row}
 use Rattle.store_model.specs.StoreState.{shown, StoreState}

@@ -1,5 +1,5 @@
 -- The turn sends.
-use Rattle.std.proofs.Common.{◌≡◌, ◌≢◌, [], ap, arith, None, Some, refl, subst, sym, ◌∙◌}
+use Rattle.std.proofs.Common.{◌≢◌, [], ap, arith, Some, refl, subst, sym, ◌∙◌}
 use Rattle.super_block.specs.Numbers.{cluster_pages_of}
 use Rattle.store_model.specs.Copying.{HasCopied}
 use Rattle.store_model.specs.Rows.{fill_row, Posted, Row, Stage}
@@ -13,7 +13,8 @@ use Rattle.store_model.proofs.Known.{Known}
 use Rattle.store_model.proofs.Over.{Effect, moves, nothing, TurnLaw}
 use Rattle.store_model.proofs.Shapes.{flushed_images, now_same}
 use Rattle.store_model.proofs.Shaped.{holding_may}
-use Rattle.store_model.proofs.StateKept.{claim_facts, device_facts, held_here, not_in_job}
+use Rattle.store_model.proofs.DeviceKept.{device_facts}
+use Rattle.store_model.proofs.StateKept.{claim_facts, held_here, not_in_job}
 
 -- ---- it keeps what every state has
 

@@ -1,0 +1,285 @@
+-- The turn commits keeps what every state has.
+use Rattle.std.proofs.Common.{◌^◌, ◌≤◌, ◌≡◌, ℕ, List, [], ◌∷◌, Some, None, refl, subst, sym, ap, ◌∙◌, ◌+◌, arith, inl}
+use Rattle.std.proofs.Common.{inr, ◌<◌}
+use Rattle.std.proofs.Common.{Bool, Option, ◌++◌, false, ◌≢◌, ◌⊎◌, is_some, IsSome, length}
+use Rattle.std.specs.Prelude.{true}
+use Rattle.std.specs.Option.{option_map}
+use Rattle.super_block.specs.declared.page.Super.{Super}
+use Rattle.volume_model.specs.Volumes.{Volumes, Volume}
+use Rattle.volume_model.specs.Logs.{replay}
+use Rattle.volume_model.specs.Steps.{change, Allowed}
+use Rattle.volume_model.specs.Xattrs.{Xattrs}
+use Rattle.blob_meta.specs.declared.meta.Meta.{Meta}
+use Rattle.store_model.specs.Maps.{Metas, Chains, with_entry}
+use Rattle.store_model.specs.Rows.{Answered, Decided, Row}
+use Rattle.store_model.specs.StoreState.{JobState, StoreState, shown, logged, going_on}
+use Rattle.store_model.specs.Turning.{live_of, read_after}
+use Rattle.store_model.specs.Cases.Commit.{Commits}
+use Rattle.store_model.specs.Shown.{fixed_of, volume_of}
+use Rattle.store_model.specs.Jobs.{gained_by, inserted_by, JobStands, CanReplace, Does, Lays, shown_of, Keeps, MovesClusters}
+use Rattle.store_model.specs.RunInvariant.{RunInvariant, CanBeWritten, IsLoadable, RunsWell}
+use Rattle.store_model.specs.Places.{held_by, UsedPages, AreDistinct, all_set, claimed_by, UsedClusters, HasClaim}
+use Rattle.store_model.proofs.Known.{Known}
+use Rattle.store_model.proofs.Progress.{NoneWaits, none_after}
+use Rattle.store_model.proofs.Heads.{rechained_is, replaced_is}
+use Rattle.store_model.proofs.Shaped.{shaped_with, decided_may, waits_for_commit}
+use Rattle.store_model.proofs.Writable.{AllWritable}
+use Rattle.store_model.proofs.Shows.{or_empty, shown_written}
+use Rattle.store_model.proofs.Sets.{among_either, AllBelow}
+use Rattle.store_model.proofs.UsedCommitted.{used_committed, chains_committed, old_distinct}
+use Rattle.store_model.proofs.Replaced.{loadable_given}
+use Rattle.store_model.proofs.StateKept.{allowed_here, log_kept, replay_plain, LogKept}
+use Rattle.store_model.proofs.Seen.{change_seen, metadata_seen}
+use Rattle.store_model.specs.Seen.{seen}
+use Rattle.store_model.proofs.JobKept.{copied_put, held_low, no_other, held_is, served_does}
+use Rattle.store_model.proofs.Copies.{copied_committed, row_unclaimed}
+use Rattle.store_model.specs.Copying.{AreCopied, LeavesEmpty}
+use Rattle.store_model.proofs.OneReplacement.{some_pages}
+use Rattle.super_block.specs.Numbers.{cluster_pages_of}
+use Rattle.store_model.proofs.Claims.{with_row_claims}
+use Rattle.blob_meta.specs.Resolving.{IsLawful, resolved, slots_together}
+use Rattle.store_model.specs.Phases.{Replacing, has_commit, page_in, rechained, taken_in, Replaces, held_in, replaced}
+use Rattle.store_model.specs.Phases.{taken_by}
+use Rattle.store_model.proofs.LeftToDo.{goes_on_as, held_after, among_left, distinct_left, none_claimed_after}
+use Rattle.store_model.proofs.LeftToDo.{among_taken, chain_there}
+use Rattle.md_chain.specs.Chain.{is_among}
+use Rattle.std.proofs.lemmas.Bool.{cases_Bool}
+use Rattle.store_model.proofs.ClustersMoved.{clusters_moved, differ_committed}
+use Rattle.store_model.proofs.Guarding.{claims_drawn_still, generations_renewed, guarded_behind}
+use Rattle.store_model.specs.Guarding.{AreGenerations, frozen_behind, all_renewed}
+use Rattle.std.specs.List.{AllByRecursion}
+
+module _ (known : Known) where
+  open known use {s, placed, first, script, p, facts}
+
+  module _ (told : Bool) (q : StoreState) (t : Commits told p q) where
+    open t.served use {channel, serves, command, rest, row}
+
+    abbrev j : JobState
+    j = t.running.job
+
+    abbrev r : Replacing
+    r = t.replacing
+
+    abbrev w : Volumes
+    w = change (fixed_of p.super) (shown p) command t.commit.reply
+
+    abbrev next_job : Option JobState
+    next_job = going_on (record j { claimed = [] }) [] t.running.rest
+
+    abbrev base : StoreState
+    base = record p {
+      base = with_entry p.base r.head t.new;
+      chains = with_entry p.chains r.head (r.head ∷ r.fresh);
+      live = live_of w;
+      clusters = all_set p.clusters r.freed false;
+      job = next_job;
+      frozen = frozen_behind p.frozen j t.running.rest;
+      generations = all_renewed p.generations p.drawn t.commit.renews;
+      drawn = p.drawn + length t.commit.renews;
+    }
+
+    abbrev now : StoreState
+    now = logged base channel command rest t.commit.reply t.device
+
+    well : RunsWell first p
+    well = facts.well t.running.runs
+
+    stood : JobStands p j
+    stood = well.job j t.running.is
+
+    lays : Lays p.super p.base p.chains (gained_by p.rows j) j.written (Replaces r (Some t.commit) ∷ t.running.rest)
+    lays = subst (Lays p.super p.base p.chains (gained_by p.rows j) j.written) t.running.next stood.lays
+
+    can : CanReplace p.super p.base p.chains (gained_by p.rows j) j.written r
+    can = lays.0
+
+    commits_here : has_commit j.todo ≡ true
+    commits_here = ap has_commit t.running.next
+
+    does : Does p.super p.base p.live command (Replaces r (Some t.commit) ∷ t.running.rest)
+    does = subst (Does p.super p.base p.live command) t.running.next
+        (served_does known j t.running.is t.running.runs t.served commits_here)
+
+    base_is : replaced p.base r ≡ with_entry p.base r.head t.new
+    base_is = replaced_is p.base r t.new t.new_is
+
+    chains_are : rechained p.chains r ≡ with_entry p.chains r.head (r.head ∷ r.fresh)
+    chains_are = rechained_is p.chains r t.new t.new_is
+
+    loadable_new : IsLoadable s r.head t.new
+    loadable_new = subst (λ (y : Super). IsLoadable y r.head t.new) facts.super (can.loadable t.new t.new_is)
+
+    abbrev taken : List ℕ
+    taken = taken_by r
+
+    abbrev later : List ℕ
+    later = taken_in t.running.rest
+
+    held : held_by p.job ≡ taken ++ later
+    held = held_is known j t.running.is (Replaces r (Some t.commit)) t.running.rest t.running.next
+
+    differ : AreDistinct (taken ++ later)
+    differ = subst AreDistinct (ap held_in t.running.next) stood.distinct
+
+    used : UsedPages p.super.md_len p.pages p.chains (taken ++ later)
+    used = subst (UsedPages p.super.md_len p.pages p.chains) held well.pages
+
+    low : AllBelow p.super.md_len (r.head ∷ r.fresh)
+    low x among = elim (among_either x r.head r.fresh among) [
+      | inl e ↦ subst (λ n. n < p.super.md_len) (sym e) (can.loadable t.new t.new_is).stored.low
+      | inr f ↦ subst (λ (y : Super). x < y.md_len) (sym facts.super)
+          (held_low known well (taken ++ later) held x (among_left x taken later (among_taken r x f)))
+    ]
+
+    row_claims : (c : ℕ) → (now.rows c).claim ≡ (p.rows c).claim
+    row_claims = with_row_claims p.rows channel (record { left = rest; stage = Decided Answered; claim = None })
+        (ap (λ (x : Row). x.claim) row) refl
+
+    none_claimed : claimed_by next_job ≡ []
+    none_claimed = none_claimed_after (record j { claimed = [] }) [] t.running.rest refl
+
+    -- ---- generations
+
+    -- a blob that was there has a generation, and a new one is renewed
+    has_number : (is_some (p.base r.head) ≡ true) ⊎ (is_among r.head t.commit.renews ≡ true)
+    has_number = elim (cases_Bool r.makes) [
+      | inl makes ↦ inr (does.0.numbers makes)
+      | inr not ↦ inl (by not (p.base r.head) refl)
+    ]
+      where
+        by : r.makes ≡ false → (o : Option Meta) → p.base r.head ≡ o → is_some o ≡ true
+        by not None none =
+            absurd (let bad = sym (well.chains.none r.head none) ∙ can.chain ∙ chain_there r not in cc bad)
+        by not (Some m) is = refl
+
+    generations_new : AreGenerations now.base now.generations now.drawn
+    generations_new =
+        generations_renewed p.base r.head t.new p.generations p.drawn t.commit.renews well.generations has_number
+        (subst (λ (m : Metas). AllByRecursion (λ head. IsSome (m head)) t.commit.renews) base_is does.0.renews)
+
+    -- ---- what is shown
+
+    shows : shown now ≡ w
+    shows =
+        let at : t.device.reads ≡ read_after told p.device.reads (s.md_start + r.head) (page_in r.planned r.head) =
+        t.moves.reads ∙ ap (λ (y : Super).
+        read_after told p.device.reads (y.md_start + r.head) (page_in r.planned r.head)) facts.super in
+        let same : shown_of p.super p.base p.live t.device.reads ≡ shown p = shown_written told s p t.device r.head
+        (page_in r.planned r.head) facts.super facts.loadable facts.lawful placed loadable_new.stored.low at in
+        let step = does.0.shows t.device.reads in
+        let on_w : shown_of p.super (replaced p.base r) (live_of w) t.device.reads ≡ w =
+        subst (λ (v : Volumes). shown_of p.super
+        (replaced p.base r) (live_of (change (fixed_of p.super) v command t.commit.reply)) t.device.reads
+        ≡ change (fixed_of p.super) v command t.commit.reply) same step in
+        ap (λ (m : Metas). shown_of p.super m (live_of w) t.device.reads) (sym base_is) ∙ on_w
+
+    -- what was copied of empty slots is their content still
+    copied_new : AreCopied now
+    copied_new =
+        let mid : StoreState = record p { device = t.device } in
+        let read : AreCopied mid = copied_put known told mid r.head (page_in r.planned r.head) refl refl refl refl well
+        loadable_new.stored.low t.moves.reads in
+        copied_committed mid now read t.commit.renews refl refl refl well.claims_drawn
+        (row_unclaimed (cluster_pages_of p.super) p.rows channel _ refl) (some_pages known) (λ image. Unit {0}) tt
+        (λ h out. subst (λ (m : Metas). LeavesEmpty p.super (resolved p.base) (resolved m) (λ image. Unit {0}) h) base_is
+        (does.0.leaves h out))
+
+    writable : AllWritable w
+    writable h v is = does.0.writable p.device.reads h v is
+
+    live_new : (h : ℕ) (m : Meta) → resolved now.base h ≡ Some m
+        → (xattrs : Xattrs) × (live_of w h ≡ Some xattrs) × CanBeWritten xattrs
+    live_new h m is =
+        let v : Volume = volume_of (fixed_of p.super).cluster_pages t.device.reads (resolved now.base) p.super.md_len
+        (or_empty (now.live h)) h m in
+        let shown_it : shown now h ≡ Some v = rw is refl in
+        let here : w h ≡ Some v = sym (ap (λ (u : Volumes). u h) shows) ∙ shown_it in
+        (v.live, ap (λ o. option_map (λ (x : Volume). x.live) o) here, writable h v here)
+
+    no_live_new : (h : ℕ) → resolved now.base h ≡ None → live_of w h ≡ None
+    no_live_new h none =
+        let gone : shown now h ≡ None = rw none refl in
+        let here : w h ≡ None = sym (ap (λ (u : Volumes). u h) shows) ∙ gone in
+        ap (λ o. option_map (λ (x : Volume). x.live) o) here
+
+    -- ---- the job behind its commit
+
+    stands_next : (k : JobState) → next_job ≡ Some k → JobStands now k
+    stands_next k is =
+        let g = goes_on_as (record j { claimed = [] }) [] t.running.rest k is in
+        let stands : JobStands now (record j { claimed = []; written = []; todo = t.running.rest }) =
+        record {
+          lays = subst (λ l. Lays p.super now.base now.chains l [] t.running.rest)
+              (sym (ap (λ x. inserted_by now.rows x ++ []) serves))
+              (subst (λ (m : Metas). Lays p.super m (with_entry p.chains r.head (r.head ∷ r.fresh)) [] [] t.running.rest)
+              base_is
+              (subst (λ (h : Chains). Lays p.super (replaced p.base r) h [] [] t.running.rest) chains_are lays.2));
+          distinct = subst AreDistinct (sym lays.1)
+              (old_distinct p.super p.base p.chains well.chains p.pages r later can.chain can.unerased used differ);
+          served = λ c serves waits. absurd (let bad = sym does.1 ∙ waits in cc bad);
+          inserts = λ row bad. absurd (let e = sym serves ∙ bad in cc e);
+          keeps =
+              λ none other. subst (λ (m : Metas). Keeps p.super m (live_of w) t.running.rest) base_is (does.2 p.device.reads);
+        } in
+        subst (JobStands now) (sym g.is) stands
+
+    pub none_waits : NoneWaits next_job
+    none_waits = none_after (record j { claimed = [] }) [] t.running.rest (rw (serves, does.1) refl)
+
+    pub keeps : RunInvariant s first script q
+    keeps =
+        let kept : LogKept known now =
+        log_kept known (Decided Answered) base channel command rest t.commit.reply t.device refl refl refl refl
+        (ap (λ (x : Row). x.left) row) (let c = t.moves.clock in omega (arith, c))
+        (subst (Allowed (fixed_of s) (replay (fixed_of s) first (seen p.tells p.log)) command)
+        (sym (change_seen p.tells t.commit.reply t.done))
+        (allowed_here known command t.commit.reply t.running.runs (does.0.allowed p.device.reads))) in
+        let done_so : RunInvariant s first script now =
+        record {
+          super = facts.super;
+          loadable = loadable_given s p.base r.head t.new facts.loadable loadable_new;
+          few = subst (λ (m : Metas). slots_together s.md_len m ≤ 2 ^ 24) base_is
+              (subst (λ (y : Super). slots_together y.md_len (replaced p.base r) ≤ 2 ^ 24) facts.super can.few);
+          lawful = subst (λ (m : Metas). IsLawful s.md_len (resolved m)) base_is
+              (subst (λ (y : Super). IsLawful y.md_len (resolved (replaced p.base r))) facts.super can.lawful);
+          legal = kept.legal;
+          well = λ on. record {
+            chains =
+                chains_committed p.super p.base p.chains well.chains p.pages r later can.chain can.unerased used t.new
+                (distinct_left taken later differ) low;
+            live = live_new;
+            no_live = no_live_new;
+            pages = subst (UsedPages p.super.md_len p.pages now.chains)
+                (sym (held_after (record j { claimed = [] }) [] t.running.rest ∙ lays.1))
+                (used_committed p.super p.base p.chains well.chains p.pages r later can.chain can.unerased used differ);
+            clusters = subst (λ (m : Metas). UsedClusters p.super now.clusters m (HasClaim now.rows next_job)) base_is
+                (clusters_moved p.super p.clusters p.base (replaced p.base r) r.freed p.rows now.rows p.job
+                next_job row_claims none_claimed (subst (MovesClusters p.super p.base (replaced p.base r) r.freed)
+                (ap (λ x. inserted_by p.rows x ++ j.claimed) serves ∙ ap claimed_by (sym t.running.is)) can.clusters) well.claims well.clusters);
+            claims = differ_committed p.rows now.rows p.job next_job row_claims none_claimed well.claims;
+            generations = generations_new;
+            copied = copied_new;
+            claims_drawn =
+                claims_drawn_still p.rows now.rows p.drawn now.drawn row_claims (omega arith) well.claims_drawn;
+            job = stands_next;
+            replayed = shows ∙ sym (replay_plain known channel command t.commit.reply t.running.runs
+                (metadata_seen p.tells command does.0.metadata) (change_seen p.tells t.commit.reply t.done));
+          };
+          way = kept.way;
+          shaped = shaped_with p facts.shaped now channel _ refl
+              (no_other known j t.running.is channel (waits_for_commit j channel serves commits_here) now)
+              (decided_may now channel rest)
+              (λ k c is serves waits.
+              let g = goes_on_as (record j { claimed = [] }) [] t.running.rest k is in
+              absurd (let bad = sym does.1 ∙ ap (λ (i : JobState). has_commit i.todo) (sym g.is) ∙ waits in cc bad));
+          guarded = guarded_behind p now facts.guarded j
+              (record j { claimed = [] }) t.running.is refl t.running.runs t.running.rest refl refl;
+          counted = kept.counted;
+          past = kept.past;
+          halted = λ n halts. absurd (let bad = sym t.running.runs ∙ halts in cc bad);
+          unfinished = λ k is.
+              let g = goes_on_as (record j { claimed = [] }) [] t.running.rest k is in
+              subst (λ (i : JobState). i.todo ≢ []) (sym g.is) g.some;
+        } in
+        subst (RunInvariant s first script) (sym t.next) done_so

@@ -1,0 +1,76 @@
+-- The device goes on: what every state has is kept where what is read shows the same.
+use Rattle.std.proofs.Common.{◌≡◌, ◌≤◌, None, refl, sym, ap, ◌∙◌, subst, arith}
+use Rattle.std.proofs.lemmas.List.Elements.{All-weaker}
+use Rattle.volume_model.specs.Volumes.{Volumes}
+use Rattle.volume_model.specs.Steps.{Allowed}
+use Rattle.volume_model.specs.declared.command.Command.{Command}
+use Rattle.volume_model.specs.declared.reply.Reply.{Reply}
+use Rattle.store_model.specs.Copying.{AreCopied}
+use Rattle.store_model.specs.Device.{Device}
+use Rattle.store_model.specs.Shown.{fixed_of}
+use Rattle.store_model.specs.StoreState.{shown, StoreState}
+use Rattle.store_model.specs.RunInvariant.{RunInvariant}
+use Rattle.store_model.proofs.Copies.{copied_same}
+use Rattle.store_model.proofs.Guarding.{guarded_same}
+use Rattle.store_model.proofs.Known.{Known}
+use Rattle.store_model.proofs.Moved.{stands_same}
+use Rattle.store_model.proofs.RowsKept.{way_kept}
+use Rattle.store_model.proofs.Shaped.{serves, serves_same, shaped_same}
+
+module _ (known : Known) where
+  open known use {s, placed, first, script, p, facts}
+
+  -- what is allowed is so still, once the device has gone on
+  pub shown_device : (d : Device) → d.reads ≡ p.device.reads
+      → (command : Command) (reply : Reply) → Allowed (fixed_of p.super) (shown p) command reply
+      → Allowed (fixed_of p.super) (shown (record p { device = d })) command reply
+  shown_device d reads command reply allowed =
+      let same : shown (record p { device = d }) ≡ shown p =
+      ap (λ i. shown (record p { device = record d { reads = i } })) reads in
+      subst (λ (v : Volumes). Allowed (fixed_of p.super) v command reply) (sym same) allowed
+
+  -- the device goes on, and what is read shows the same volumes, and what was copied
+  pub device_by : (d : Device) → shown (record p { device = d }) ≡ shown p
+      → (p.stopped ≡ None → AreCopied (record p { device = d })) → p.device.clock ≤ d.clock
+      → RunInvariant s first script (record p { device = d })
+  device_by d same copied later =
+      let now : StoreState = record p { device = d } in
+      record {
+        super = facts.super;
+        loadable = facts.loadable;
+        few = facts.few;
+        lawful = facts.lawful;
+        legal = facts.legal;
+        well = λ runs.
+            let well = facts.well runs in
+            record {
+              chains = well.chains;
+              live = well.live;
+              no_live = well.no_live;
+              pages = well.pages;
+              clusters = well.clusters;
+              claims = well.claims;
+              generations = well.generations;
+              claims_drawn = well.claims_drawn;
+              copied = copied runs;
+              job = λ j is. stands_same p now refl refl refl refl refl j (λ c in_job. refl) (well.job j is);
+              replayed = same ∙ well.replayed;
+            };
+        way = way_kept script p facts.way now refl (λ c. refl);
+        shaped = shaped_same p now facts.shaped refl
+            (λ c in_job. serves_same p now refl c (serves p facts.shaped c in_job)) facts.shaped.served;
+        guarded = guarded_same p now refl refl refl facts.guarded;
+        counted = facts.counted;
+        past = All-weaker (λ t. t ≤ p.device.clock) (λ t. t ≤ d.clock)
+            (λ t le. omega (arith, le, later)) p.marks facts.past;
+        halted = facts.halted;
+        unfinished = facts.unfinished;
+      }
+
+  -- it reads what it read
+  pub device_facts : (d : Device) → d.reads ≡ p.device.reads → p.device.clock ≤ d.clock
+      → RunInvariant s first script (record p { device = d })
+  device_facts d reads later =
+      device_by d (ap (λ i. shown (record p { device = record d { reads = i } })) reads)
+      (λ runs. copied_same p (record p { device = d }) (facts.well runs).copied refl refl refl (λ row claim page x. x)
+      reads) later

@@ -1,0 +1,37 @@
+-- The turn insert_fails.
+use Rattle.std.specs.Prelude.{◌≡◌, Some, None, false}
+use Rattle.volume_model.specs.declared.reply.Reply.TheVariants as r
+use Rattle.blob_meta.specs.declared.meta.Meta.{Meta}
+use Rattle.md_chain.specs.declared.plan.PlannedPage.{PlannedPage}
+use Rattle.store_model.specs.Claiming.{IsInserting, LogsOwn}
+use Rattle.store_model.specs.Device.{Device}
+use Rattle.store_model.specs.Phases.{page_in, Phase, Replaces, Replacing}
+use Rattle.store_model.specs.Rows.{Answered, Decided}
+use Rattle.store_model.specs.StoreState.{JobState, StoreState}
+use Rattle.store_model.specs.Touches.{puts, replaces, Touch, TurnKind}
+use Rattle.store_model.specs.Turning.{FailsToReplace, page_of_place, put_by, Runs, stopped_now}
+
+-- what was being written: a page at a place that the job holds, or the head
+pub data TriedInsert (j : JobState) (phase : Phase) : Type 0 where
+  page : (put : PlannedPage) → put_by j phase ≡ Some put → TriedInsert j phase
+  head : (replacing : Replacing) (new : Meta) → phase ≡ Replaces replacing None → replacing.new ≡ Some new
+      → TriedInsert j phase
+
+-- A write or a flush of the job failed: the store stops, the write that waits for the insert is logged as failed, its
+-- claim is given back, if the cluster isn't in its slot yet, no job runs any more, and no blob is frozen.
+pub record InsertFails (p q : StoreState) : Type 0 where
+  pub phase : Phase
+  pub running : Runs p phase
+  pub inserting : IsInserting p running.job
+  pub tried : TriedInsert running.job phase
+  pub device : Device
+  pub fails : FailsToReplace p.device device
+  pub logs : LogsOwn (record (stopped_now p) { job = None }) inserting.row (Decided Answered) r.Fault device q
+
+abbrev pub tried_insert : StoreState → {j : JobState} → {phase : Phase} → TriedInsert j phase → Touch
+tried_insert p (page put is) = puts (page_of_place p put.place) put.page false
+tried_insert p (head replacing new is new_is) =
+    replaces (page_of_place p replacing.head) (page_in replacing.planned replacing.head) false
+
+abbrev pub kind : TurnKind
+kind = record { Case = λ told p q. InsertFails p q; touch = λ told p q t. tried_insert p t.tried; OfJob = ⊥ }
