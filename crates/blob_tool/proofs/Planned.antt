@@ -81,7 +81,6 @@ to_write p command head new asks =
     record {
       commit = record { reply = r.Ok; live = Some new.xattrs; renews = [] };
       asked = syncs (record { head = head; new = new; is = refl; asks = asks; commit_is = refl });
-      synced = refl;
       next = λ none. let e : None ≡ Some asks.old = sym none ∙ asks.there in absurd (cc e);
     }
 
