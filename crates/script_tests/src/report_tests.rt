@@ -1,7 +1,5 @@
 //! Printed lines.
 
-ghost use Rattle.blob_report.specs.Text.{CanPrint};
-
 use blob_report::{render_entry, space_line};
 use std::alloc::Global;
 use std::test::Fail;
@@ -22,9 +20,7 @@ fn info(alloc: Global, name: &[u8], parent: Option<u32>, thin: bool) -> Result<I
 }
 
 /// The line of an entry with this reply.
-fn line(alloc: Global, channel: u8, index: u32, reply: Reply) -> Result<Vec<u8>, Memory>
-    requires { CanPrint reply }
-{
+fn line(alloc: Global, channel: u8, index: u32, reply: Reply) -> Result<Vec<u8>, Memory> {
     let mut line = Vec::new(alloc);
     let entry = Entry {
         channel,
