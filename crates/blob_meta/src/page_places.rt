@@ -16,8 +16,8 @@ pub(crate) fn pages_of(meta: &Meta, cluster_pages: u32) -> u64
     u64::from(cluster_pages) * u64::from(meta.map.len())
 }
 
-/// The page of the device where the cluster in a page's slot has it; `None` exactly where the slot is empty, or past the
-/// blob's end.
+/// The page of the device where the cluster in a page's slot has it; `None` exactly where the slot is empty, or past
+/// the blob's end.
 pub fn own_place(meta: &Meta, cluster_pages: u32, page: u64) -> Option<u64>
     requires { 0 < cluster_pages }
     ensures { result ≡ p.own_place cluster_pages meta.now page }
@@ -46,8 +46,8 @@ fn parent_with(metas: &Metas, meta: &Meta, cluster_pages: u32, page: u64) -> Opt
 }
 
 /// The page of the device where a page of the blob at a head is read: that of its own cluster, or, where its slot is
-/// empty, that of its parent's page, and so on. `None` comes where it reads as zeros. Parents are followed so many times
-/// at most, the blob itself counted.
+/// empty, that of its parent's page, and so on. `None` comes where it reads as zeros. Parents are followed so many
+/// times at most, the blob itself counted.
 pub fn place_read(
     metas: &Metas,
     cluster_pages: u32,

@@ -3,8 +3,8 @@
 ghost use Rattle.std.specs.Prelude.{◌≡◌, ◌++◌, length, take, OnOk, OnErr};
 ghost use Rattle.blob_report.specs.Text.{reply_text, df_text, value_text, entry_text};
 
-use crate::pieces::Piece::{Hex, Number, Words};
 use crate::page::push_page;
+use crate::pieces::Piece::{Hex, Number, Words};
 use crate::pieces::push_pieces;
 use crate::volume::{push_info, push_list};
 use out_of_memory::Memory;
@@ -91,7 +91,8 @@ fn push_line(entry: &Entry, into: &mut Vec<u8>) -> Result<(), Memory>
     Ok(())
 }
 
-/// Appends the line of an entry: the channel, the index and the reply, with single spaces, and LF. After `Memory` nothing is appended.
+/// Appends the line of an entry: the channel, the index and the reply, with single spaces, and LF. After `Memory`
+/// nothing is appended.
 pub fn render_entry(entry: &Entry, into: &mut Vec<u8>) -> Result<(), Memory>
     ensures ok { OnOk result (into.new.items ≡ into.old.items ++ entry_text entry.now) }
     ensures memory { OnErr result (into.new.items ≡ into.old.items) }

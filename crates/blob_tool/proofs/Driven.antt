@@ -75,7 +75,8 @@ next_of row channel stage is waiting not_over not_ended = elim waiting.at [
     by : (left : List Command) → AllByRecursion IsServed left → row.left ≡ left
         → is_stage (record row { stage = Idle }) channel ≡ stage → HasNext row stage
     by [] on e at =
-        absurd (not_over (sym at ∙ ap (λ (l : List Command). is_stage (record row { left = l; stage = Idle }) channel) e))
+        absurd (not_over (sym at ∙ ap (λ (l : List Command). is_stage (record row { left = l; stage = Idle }) channel)
+        e))
     by (command ∷ rest) on e at =
         record {
           command = command;

@@ -1,5 +1,22 @@
 -- What a run came to, by what was printed of its log.
-use Rattle.std.proofs.Common.{◌≡◌, ℕ, ◌++◌, length, Option, Some, None, Result, Ok, Err, OnOk, IsTrue, List, refl, sym, subst}
+use Rattle.std.proofs.Common.{
+  ◌≡◌,
+  ℕ,
+  ◌++◌,
+  length,
+  Option,
+  Some,
+  None,
+  Result,
+  Ok,
+  Err,
+  OnOk,
+  IsTrue,
+  List,
+  refl,
+  sym,
+  subst,
+}
 use Rattle.std.proofs.Common.{◌∙◌, inl, inr}
 use Rattle.page_disk.specs.Disk.{Only, Rose}
 use Rattle.page_disk.specs.declared.disk.PageDisk as disk

@@ -66,8 +66,8 @@ module _ {D : Type 0} (d : disk.Ghosts D) (script : List (List Command)) where
     pub opened : IsOpened d loaded script first
 
   module _ {K : Type 0} (k : sink.Ghosts K) (out out_now : K) (back : D) where
-    -- a run from this state, whose device was flushed at most behind it and is handed back, and of the text of its log as
-    -- much as was printed
+    -- a run from this state, whose device was flushed at most behind it and is handed back, and of the text of its log
+    -- as much as was printed
     pub record Played (first : StoreView D) : Type 0 where
       pub last : StoreView D
       pub run : IsRun first last
@@ -85,8 +85,8 @@ module _ {D : Type 0} (d : disk.Ghosts D) (script : List (List Command)) where
     IsWhole {first} p = (p.last.stopped ≡ None)
         × (HasOneImage d first.disk → IsLasting d first.super (shown (state_of d first)) p.last back)
 
-    -- The store stopped there, and the device was left alone from then on; or, behind all entries, the flush that closes
-    -- the run failed.
+    -- The store stopped there, and the device was left alone from then on; or, behind all entries, the flush that
+    -- closes the run failed.
     abbrev pub EndsAt : {first : StoreView D} → Played first → ℕ → Type 0
     EndsAt p at = ((p.last.stopped ≡ Some at) × (back ≡ p.last.disk))
         ⊎ ((p.last.stopped ≡ None) × (at ≡ length p.last.log)

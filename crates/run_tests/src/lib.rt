@@ -1,5 +1,5 @@
-//! Tests of the program's calls over a device in memory: the verbs on attributes, new volumes, pages, new stores, and each
-//! status.
+//! Tests of the program's calls over a device in memory: the verbs on attributes, new volumes, pages, new stores, and
+//! each status.
 #![tactic(auto)]
 
 #[cfg(test)]

@@ -38,10 +38,12 @@ fn disk(alloc: Global) -> Result<MemDisk, Fail> {
     Ok(disk)
 }
 
-const READS: &[u8] = b"0 read v 0 1\n0 read v 16 3\n0 flush\n0 read @0 27 1\n0 read v 28 1\n0 read w 0 1\n\
+const READS: &[u8] =
+    b"0 read v 0 1\n0 read v 16 3\n0 flush\n0 read @0 27 1\n0 read v 28 1\n0 read w 0 1\n\
     0 read @1 0 1\n";
 
-const ANSWERS: &[u8] = b"0 0 page fill 0000000000000000\n0 1 page fill 0000000000000007\n0 2 page crc 9c71fe32\n\
+const ANSWERS: &[u8] =
+    b"0 0 page fill 0000000000000000\n0 1 page fill 0000000000000007\n0 2 page crc 9c71fe32\n\
     0 3 page fill 0000000000000000\n0 4 ok\n0 5 page fill 0000000000000000\n0 6 out of range\n0 7 no volume\n\
     0 8 no volume\n";
 

@@ -143,7 +143,8 @@ module _ (s : Super) (base : Metas) (head : ℕ) (old new : Meta) (slots : ℕ) 
       let_go = λ c among.
           let x = in_slot (drop slots old.map) c among in
           let at : slot old (slots + x.i) ≡ Some c = sym (slot_dropped old.map slots x.i) ∙ x.at in (
-            (inside_slot (region_of s).fixed (region_of s).clusters old (slots + x.i) c stored.stored.faultless at).behind,
+            (inside_slot (region_of s).fixed (region_of s).clusters old (slots + x.i) c stored.stored.faultless
+                at).behind,
             record { head = head; meta = old; there = there; place = slots + x.i; in_slot = at },
             λ y. elim (cases_eq y.head head) [
               | inl e ↦

@@ -262,7 +262,11 @@ module _ (p : StoreState) (running : IsRunning p) (runs : p.stopped ≡ None) (c
       (ap (λ (m : Meta). m.internal) same.new_is)
       (subst (MayLackMemory (fixed_of p.super) (shown p)) (sym y.command_is) tt)
       (y.commit_is
-      ∙ ap (λ h. record { reply = r.Ok; live = None; renews = if nat_lt y.slots (length y.old.map) then h ∷ [] else [] })
+      ∙ ap (λ h. record {
+        reply = r.Ok;
+        live = None;
+        renews = if nat_lt y.slots (length y.old.map) then h ∷ [] else [];
+      })
       (sym same.head_is)
       ∙ ap (λ (k : Command). record {
         reply = r.Ok;

@@ -1,5 +1,24 @@
 -- What device calls make of what is seen of the device.
-use Rattle.std.proofs.Common.{◌≡◌, ◌≢◌, inl, inr, ℕ, ◌+◌, ◌<◌, ◌≤◌, arith, Bool, true, false, List, Result, Ok, Err, refl, IsTrue}
+use Rattle.std.proofs.Common.{
+  ◌≡◌,
+  ◌≢◌,
+  inl,
+  inr,
+  ℕ,
+  ◌+◌,
+  ◌<◌,
+  ◌≤◌,
+  arith,
+  Bool,
+  true,
+  false,
+  List,
+  Result,
+  Ok,
+  Err,
+  refl,
+  IsTrue,
+}
 use Rattle.std.specs.Prelude.{OnOk, OnErr, if◌then◌else◌}
 use Rattle.page_disk.specs.Disk.{HasCause, Image, RoseByOne, with_page}
 use Rattle.page_disk.specs.declared.disk.PageDisk.{Ghosts}

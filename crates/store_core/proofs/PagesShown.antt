@@ -51,7 +51,8 @@ module _ (k : ℕ) (image : Image) (metas : Metas) where
 
   has : (times page q : ℕ) → IsReadAfter times page → (b : Bool)
       → (if b then content k image metas times q page else zero_page)
-      ≡ option_map_or image (option_and_then (λ q. place_read k metas times q page) (if b then Some q else None)) zero_page
+      ≡ option_map_or image (option_and_then (λ q. place_read k metas times q page) (if b then Some q else None))
+      zero_page
   has times page q so_far true = so_far q
   has times page q so_far false = refl
 

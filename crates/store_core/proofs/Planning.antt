@@ -142,6 +142,7 @@ plan_laws d = record {
       p.metas (shows_metas (state_of d p) running runs p.metas refl) name slots uuid head xattrs is_name next unrefused
       named;
   resize = λ p volume slots head old job running runs meant there unrefused is zeros.
-      asks_resize (state_of d p) p.metas (shows_metas (state_of d p) running runs p.metas refl) volume slots head old job
+      asks_resize (state_of d p) p.metas (shows_metas (state_of d p) running runs p.metas refl) volume slots head old
+      job
       there meant unrefused is zeros;
 }

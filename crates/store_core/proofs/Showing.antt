@@ -50,7 +50,8 @@ module _ (p : StoreState) (running : IsRunning p) (runs : p.stopped ≡ None) (m
 
   alike : AreNamedAlike (shown p)
   alike = subst AreNamedAlike (sym well.replayed)
-      (subst (λ (s : Super). AreNamedAlike (replay (fixed_of s) running.first (seen p.tells p.log))) (sym running.facts.super)
+      (subst (λ (s : Super). AreNamedAlike (replay (fixed_of s) running.first (seen p.tells p.log)))
+      (sym running.facts.super)
       (after_log (fixed_of running.store) running.first (seen p.tells p.log) running.named running.facts.legal))
 
   one : (h : ℕ) (o : Option Meta) → resolved p.base h ≡ o → ShowsAt (fixed_of p.super) (option_map (as_volume p h) o) o

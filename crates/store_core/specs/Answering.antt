@@ -27,7 +27,8 @@ abbrev pub IsAnswerable : Command → Type 0
 IsAnswerable command = IsAsked command ⊎ (command ≡ c.Df)
 
 -- What is found of the volume that a command names: its head, where it is there, and its live attributes.
-pub record IsFound (metas : map.FinMap nat_cmp Meta) (sup : Super) (live : map.FinMap nat_cmp Xattrs) (command : Command)
+pub record IsFound (metas : map.FinMap nat_cmp Meta) (sup : Super) (live : map.FinMap nat_cmp Xattrs)
+    (command : Command)
     (head : Option ℕ) (xattrs : Option Xattrs) : Type 0 where
   pub volume : VolumeRef
   pub asked : asked_volume command ≡ Some volume

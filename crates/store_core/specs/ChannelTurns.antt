@@ -1,5 +1,22 @@
 -- The turns of a channel that touch the device: which cases they are, and what they start from.
-use Rattle.std.specs.Prelude.{None, Some, true, false, length, ◌≡◌, ◌≢◌, Result, Ok, Err, ◌/◌, ℕ, List, ◌∷◌, Option, slice_get}
+use Rattle.std.specs.Prelude.{
+  None,
+  Some,
+  true,
+  false,
+  length,
+  ◌≡◌,
+  ◌≢◌,
+  Result,
+  Ok,
+  Err,
+  ◌/◌,
+  ℕ,
+  List,
+  ◌∷◌,
+  Option,
+  slice_get,
+}
 use Rattle.std.specs.Option.{option_and_then, option_map_or}
 use Rattle.page_disk.specs.declared.disk.PageDisk.{Ghosts}
 use Rattle.super_block.specs.Numbers.{cluster_pages_of}

@@ -1,5 +1,20 @@
 -- What the commit of new metadata does besides giving it to its blob.
-use Rattle.std.specs.Prelude.{◌≡◌, ℕ, ◌||◌, nat_lt, if◌then◌else◌, is_some, Bool, false, true, List, [], ◌∷◌, drop, length}
+use Rattle.std.specs.Prelude.{
+  ◌≡◌,
+  ℕ,
+  ◌||◌,
+  nat_lt,
+  if◌then◌else◌,
+  is_some,
+  Bool,
+  false,
+  true,
+  List,
+  [],
+  ◌∷◌,
+  drop,
+  length,
+}
 use Rattle.std.specs.Prelude.{Option, None, Some}
 use Rattle.volume_model.specs.Xattrs.{Xattrs}
 use Rattle.volume_model.specs.declared.command.Command.{Command}

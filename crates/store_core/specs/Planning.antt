@@ -59,8 +59,8 @@ pub record PlanLaws {D : Type 0} (d : Ghosts D) : Type 0 where
       → IsFirstRefusal p.metas p.super (c.Create name slots false uuid) None
       → ((f : Fixed) (v : Volumes) → ShowsMetas f p.super p.metas v → two_xattrs f v name uuid ≡ xattrs)
       → IsJobOf (state_of d p) (c.Create name slots false uuid) (create_job head xattrs false slots)
-  -- A resize that nothing refuses, and that adds no slot to a thick volume, asks for the slots of the blob that is meant
-  -- to be cut, or for empty ones behind them.
+  -- A resize that nothing refuses, and that adds no slot to a thick volume, asks for the slots of the blob that is
+  -- meant to be cut, or for empty ones behind them.
   pub resize : (p : StoreView D) (volume : VolumeRef) (slots head : ℕ) (old : Meta) (job : Job)
       → IsRunning (state_of d p) → p.stopped ≡ None → IsHeadMeant p.metas p.super volume (Some head)
       → map.get p.metas head ≡ Some old → IsFirstRefusal p.metas p.super (c.Resize volume slots) None

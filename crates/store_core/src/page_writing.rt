@@ -8,7 +8,14 @@ ghost use Rattle.super_block.specs.Faults.{IsFaultless};
 ghost use Rattle.super_block.specs.Numbers.{cluster_pages_of};
 ghost use Rattle.blob_meta.specs.Pages as pages;
 ghost use Rattle.store_core.specs.declared.page_writing.WriteTurn.TheVariants.{Empty, Frozen, Logged};
-ghost use Rattle.store_core.specs.ChannelTurns.{FindsNoCluster, IsFrozenFor, IsOfWrite, TurnsAs, WaitsToWrite, WritesNow};
+ghost use Rattle.store_core.specs.ChannelTurns.{
+  FindsNoCluster,
+  IsFrozenFor,
+  IsOfWrite,
+  TurnsAs,
+  WaitsToWrite,
+  WritesNow,
+};
 ghost use Rattle.store_core.specs.StoreInvariant.{IsRunning};
 ghost use Rattle.store_core.specs.Running.{view_of, InOrder};
 ghost use Rattle.store_core.specs.StoreView.{rows_of, state_of};

@@ -103,7 +103,19 @@ impl Model for Row {
 }
 
 impl Row {
-    ghost use Rattle.std.specs.Prelude.{◌≡◌, ◌∷◌, [], length, option_copied, slice_get, true, IfOk, IfSome, IfNone, IsSome};
+    ghost use Rattle.std.specs.Prelude.{
+      ◌≡◌,
+      ◌∷◌,
+      [],
+      length,
+      option_copied,
+      slice_get,
+      true,
+      IfOk,
+      IfSome,
+      IfNone,
+      IsSome,
+    };
     ghost use Rattle.store_core.specs.Reserved.{is_read};
     ghost use Rattle.store_model.specs.Rows.{Idle, Posted, InJob, Ended};
     ghost use Rattle.store_core.specs.Requests.{posted_in};

@@ -16,7 +16,17 @@ use Rattle.store_model.specs.StoreState.{JobState, StoreState, shown, logged, go
 use Rattle.store_model.specs.Turning.{live_of, read_after}
 use Rattle.store_model.specs.Cases.Commit.{Commits}
 use Rattle.store_model.specs.Shown.{fixed_of, volume_of}
-use Rattle.store_model.specs.Jobs.{gained_by, inserted_by, JobStands, CanReplace, Does, Lays, shown_of, Keeps, MovesClusters}
+use Rattle.store_model.specs.Jobs.{
+  gained_by,
+  inserted_by,
+  JobStands,
+  CanReplace,
+  Does,
+  Lays,
+  shown_of,
+  Keeps,
+  MovesClusters,
+}
 use Rattle.store_model.specs.RunInvariant.{RunInvariant, CanBeWritten, IsLoadable, RunsWell}
 use Rattle.store_model.specs.Places.{held_by, UsedPages, AreDistinct, all_set, claimed_by, UsedClusters, HasClaim}
 use Rattle.store_model.proofs.Known.{Known}
@@ -182,7 +192,8 @@ module _ (known : Known) where
         loadable_new.stored.low t.moves.reads in
         copied_committed mid now read t.commit.renews refl refl refl well.claims_drawn
         (row_unclaimed (cluster_pages_of p.super) p.rows channel _ refl) (some_pages known) (λ image. Unit {0}) tt
-        (λ h out. subst (λ (m : Metas). LeavesEmpty p.super (resolved p.base) (resolved m) (λ image. Unit {0}) h) base_is
+        (λ h out. subst (λ (m : Metas). LeavesEmpty p.super (resolved p.base) (resolved m) (λ image. Unit {0}) h)
+        base_is
         (does.0.leaves h out))
 
     writable : AllWritable w
@@ -212,7 +223,8 @@ module _ (known : Known) where
         record {
           lays = subst (λ l. Lays p.super now.base now.chains l [] t.running.rest)
               (sym (ap (λ x. inserted_by now.rows x ++ []) serves))
-              (subst (λ (m : Metas). Lays p.super m (with_entry p.chains r.head (r.head ∷ r.fresh)) [] [] t.running.rest)
+              (subst (λ (m : Metas). Lays p.super m (with_entry p.chains r.head (r.head ∷ r.fresh)) [] []
+              t.running.rest)
               base_is
               (subst (λ (h : Chains). Lays p.super (replaced p.base r) h [] [] t.running.rest) chains_are lays.2));
           distinct = subst AreDistinct (sym lays.1)
@@ -220,7 +232,8 @@ module _ (known : Known) where
           served = λ c serves waits. absurd (let bad = sym does.1 ∙ waits in cc bad);
           inserts = λ row bad. absurd (let e = sym serves ∙ bad in cc e);
           keeps =
-              λ none other. subst (λ (m : Metas). Keeps p.super m (live_of w) t.running.rest) base_is (does.2 p.device.reads);
+              λ none other. subst (λ (m : Metas). Keeps p.super m (live_of w) t.running.rest) base_is
+              (does.2 p.device.reads);
         } in
         subst (JobStands now) (sym g.is) stands
 
@@ -256,7 +269,8 @@ module _ (known : Known) where
             clusters = subst (λ (m : Metas). UsedClusters p.super now.clusters m (HasClaim now.rows next_job)) base_is
                 (clusters_moved p.super p.clusters p.base (replaced p.base r) r.freed p.rows now.rows p.job
                 next_job row_claims none_claimed (subst (MovesClusters p.super p.base (replaced p.base r) r.freed)
-                (ap (λ x. inserted_by p.rows x ++ j.claimed) serves ∙ ap claimed_by (sym t.running.is)) can.clusters) well.claims well.clusters);
+                (ap (λ x. inserted_by p.rows x ++ j.claimed) serves ∙ ap claimed_by (sym t.running.is)) can.clusters)
+                well.claims well.clusters);
             claims = differ_committed p.rows now.rows p.job next_job row_claims none_claimed well.claims;
             generations = generations_new;
             copied = copied_new;

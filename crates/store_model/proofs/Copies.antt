@@ -1,7 +1,28 @@
 -- What was copied of a slot stays its content.
 use Rattle.std.specs.Prelude.{nat_lt, if◌then◌else◌}
 use Rattle.std.specs.Option.{option_map_or}
-use Rattle.std.proofs.Common.{length, true, zero, ◌≡◌, ◌⊎◌, ℕ, suc, ◌+◌, ◌*◌, ◌/◌, ◌%◌, ◌<◌, ◌≤◌, ◌==◌, ◌&&◌, Bool, false, List, [], ◌∷◌}
+use Rattle.std.proofs.Common.{
+  length,
+  true,
+  zero,
+  ◌≡◌,
+  ◌⊎◌,
+  ℕ,
+  suc,
+  ◌+◌,
+  ◌*◌,
+  ◌/◌,
+  ◌%◌,
+  ◌<◌,
+  ◌≤◌,
+  ◌==◌,
+  ◌&&◌,
+  Bool,
+  false,
+  List,
+  [],
+  ◌∷◌,
+}
 use Rattle.std.proofs.Common.{Option, Some, None, refl, sym, ap, ◌∙◌, subst, inl, inr, arith}
 use Rattle.std.proofs.lemmas.Bool.{both_ways, cases_Bool, cases_eq, eqb-true}
 use Rattle.std.proofs.lemmas.Nat.{div-mul-add}
@@ -153,7 +174,8 @@ module _ (p q : StoreState) (copied : AreCopied p) (super : q.super ≡ p.super)
       → AgreeOn k (resolved p.base) (λ _ _. false) p.device.reads q.device.reads
       → ((row : ℕ) (claim : OpenClaim) (page : ℕ) → (p.rows row).claim ≡ Some claim → page < k
       → q.device.reads (page_of_claim p claim page) ≡ p.device.reads (page_of_claim p claim page)) → AreCopied q
-  copied_agree parents agree same = copied_still (λ row claim page x low. same row claim page x.held low) (λ claim page wanted low.
+  copied_agree parents agree same = copied_still (λ row claim page x low. same row claim page x.held low)
+      (λ claim page wanted low.
       same_content k (resolved p.base) parents (λ _ _. false) p.device.reads q.device.reads agree (suc p.super.md_len)
       claim.head (claim.slot * k + page) refl)
 
@@ -198,7 +220,8 @@ module _ (p q : StoreState) (copied : AreCopied p) (super : q.super ≡ p.super)
               let h : claim.head ≡ head = eqb-true claim.head head is in
               let e : page / k ≡ claim.slot =
               ap (λ m. m / k) (sym (eqb-true (claim.slot * k + n) page here)) ∙ div-mul-add claim.slot k n low in
-              let m : wanted.meta ≡ at.meta = let both = sym wanted.there ∙ ap (resolved p.base) h ∙ at.there in cc both in
+              let m : wanted.meta ≡ at.meta = let both = sym wanted.there ∙ ap (resolved p.base) h ∙ at.there in cc
+              both in
               absurd (let bad = sym wanted.empty ∙ ap (λ (x : Meta). slot x claim.slot) m ∙ ap (slot at.meta) (sym e)
               ∙ at.in_slot in cc bad)
         ]

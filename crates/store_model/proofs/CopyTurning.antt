@@ -75,7 +75,8 @@ module _ (known : Known) (runs : known.p.stopped ≡ None) (row : ℕ) (claim : 
       })
 
   pub claimed_no_page : IsNoPage (cluster_pages_of s) (resolved p.base) place
-  claimed_no_page = subst (λ (x : Super). IsNoPage (cluster_pages_of x) (resolved p.base) place) facts.super claimed_apart
+  claimed_no_page = subst (λ (x : Super). IsNoPage (cluster_pages_of x) (resolved p.base) place) facts.super
+      claimed_apart
 
   module _ (d : Device) (same : IsSameButAt place p.device.reads d.reads) where
     agrees : AgreeOn k (resolved p.base) (λ _ _. false) p.device.reads d.reads

@@ -1,5 +1,23 @@
 -- Empty slots with other metadata: of which blobs each that is empty then was empty, and shows what it showed.
-use Rattle.std.proofs.Common.{◌≡◌, ◌≢◌, ℕ, suc, ◌/◌, ◌≤◌, Option, Some, None, List, length, refl, sym, ap, ◌∙◌, subst, inl}
+use Rattle.std.proofs.Common.{
+  ◌≡◌,
+  ◌≢◌,
+  ℕ,
+  suc,
+  ◌/◌,
+  ◌≤◌,
+  Option,
+  Some,
+  None,
+  List,
+  length,
+  refl,
+  sym,
+  ap,
+  ◌∙◌,
+  subst,
+  inl,
+}
 use Rattle.std.proofs.Common.{inr, arith}
 use Rattle.std.specs.Option.{option_and_then, option_map_or}
 use Rattle.std.specs.Prelude.{slice_get}
@@ -94,7 +112,8 @@ module _ (s : Super) (metas : Metas) (head : ℕ) (old : Meta) (there : metas he
       (given_here metas head next head refl)
       ∙ inside
       ∙ sym (ap
-      (λ o. option_map_or (content_by k image metas (λ p r. content k image metas s.md_len p r) page) o zero_page) there)
+      (λ o. option_map_or (content_by k image metas (λ p r. content k image metas s.md_len p r) page) o zero_page)
+      there)
     where
       inside : content_by k image nexts (λ p r. content k image nexts s.md_len p r) page next
           ≡ content_by k image metas (λ p r. content k image metas s.md_len p r) page old

@@ -26,7 +26,14 @@ use Rattle.store_model.proofs.InsertedClusters.{differ_inserted, drawn_inserted,
 use Rattle.store_model.proofs.JobKept.{held_is, held_low, no_other}
 use Rattle.store_model.proofs.InsertShown as before
 use Rattle.store_model.proofs.Known.{Known}
-use Rattle.store_model.proofs.LeftToDo.{among_left, among_taken, distinct_left, goes_on_as, held_after, none_claimed_after}
+use Rattle.store_model.proofs.LeftToDo.{
+  among_left,
+  among_taken,
+  distinct_left,
+  goes_on_as,
+  held_after,
+  none_claimed_after,
+}
 use Rattle.store_model.proofs.OneReplacement.{base_resolved}
 use Rattle.store_model.proofs.Phases.{puts_none}
 use Rattle.store_model.proofs.RowsKept.{row_here, row_other, way_kept}
@@ -221,7 +228,8 @@ module _ (known : Known) where
         let then_was : (c : ℕ) → IsMapped now.base c → IsMapped p.base c ⊎ (c ≡ claim.cluster) =
         λ c m. mapped_then old claim.slot claim.cluster put.within put.wanted.empty p.base claim.head
         there c (subst (λ (b : Metas). IsMapped b c) base_all m) in
-        let still : (c : ℕ) → IsMapped p.base c → IsMapped now.base c = λ c m. subst (λ (b : Metas). IsMapped b c) (sym base_all)
+        let still : (c : ℕ) → IsMapped p.base c → IsMapped now.base c = λ c m. subst (λ (b : Metas). IsMapped b c)
+        (sym base_all)
         (mapped_still old claim.slot claim.cluster put.within put.wanted.empty p.base claim.head there c m) in
         let filled : IsMapped now.base claim.cluster = subst (λ (b : Metas). IsMapped b claim.cluster) (sym base_all)
         (inserted_mapped old claim.slot claim.cluster put.within put.wanted.empty p.base claim.head there) in

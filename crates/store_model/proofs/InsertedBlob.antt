@@ -1,5 +1,24 @@
 -- The metadata of a blob with a cluster in a slot that was empty: a load takes it, and with it all metadata is lawful.
-use Rattle.std.proofs.Common.{◌≡◌, ◌≢◌, ◌⊎◌, ℕ, zero, suc, ◌<◌, ◌^◌, Bool, true, false, List, [], ◌∷◌, Option, Some, None, refl}
+use Rattle.std.proofs.Common.{
+  ◌≡◌,
+  ◌≢◌,
+  ◌⊎◌,
+  ℕ,
+  zero,
+  suc,
+  ◌<◌,
+  ◌^◌,
+  Bool,
+  true,
+  false,
+  List,
+  [],
+  ◌∷◌,
+  Option,
+  Some,
+  None,
+  refl,
+}
 use Rattle.std.proofs.Common.{sym, ap, ◌∙◌, subst, inl, inr, length, arith}
 use Rattle.descriptors.specs.Runs.{at_most}
 use Rattle.std.specs.Prelude.{◌+◌, ◌-◌, nat_le, find, if◌then◌else◌, is_none, slice_get, slice_index_or, slice_set}
@@ -12,7 +31,15 @@ use Rattle.super_block.specs.declared.page.Super.{Super}
 use Rattle.blob_meta.specs.declared.meta.Meta.{Meta}
 use Rattle.blob_meta.specs.declared.fault.MetaFault.{MetaFault}
 use Rattle.blob_meta.specs.declared.fault.MetaFault.TheVariants as faults
-use Rattle.blob_meta.specs.Faults.{bad_mark, cluster_outside, clusters_of, first_some, hole_in_thick, is_outside, is_thin}
+use Rattle.blob_meta.specs.Faults.{
+  bad_mark,
+  cluster_outside,
+  clusters_of,
+  first_some,
+  hole_in_thick,
+  is_outside,
+  is_thin,
+}
 use Rattle.blob_meta.specs.Faults.{map_fault, meta_fault, too_large, unknown_flag}
 use Rattle.blob_meta.specs.Parents.{is_read_only, parent_of, slot}
 use Rattle.blob_meta.specs.Resolving.{IsLawful, slots_together}

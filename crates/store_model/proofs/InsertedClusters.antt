@@ -1,5 +1,23 @@
 -- The clusters in use once the cluster of a row's claim stands in its slot, and the claim has ended.
-use Rattle.std.proofs.Common.{◌≡◌, ◌≢◌, ◌⊎◌, ℕ, [], Option, Some, None, true, false, refl, sym, ap, ◌∙◌, inl, inr, subst}
+use Rattle.std.proofs.Common.{
+  ◌≡◌,
+  ◌≢◌,
+  ◌⊎◌,
+  ℕ,
+  [],
+  Option,
+  Some,
+  None,
+  true,
+  false,
+  refl,
+  sym,
+  ap,
+  ◌∙◌,
+  inl,
+  inr,
+  subst,
+}
 use Rattle.bit_array.specs.Bits.{is_in}
 use Rattle.md_chain.specs.Chain.{is_among}
 use Rattle.store_model.specs.Maps.{Metas}

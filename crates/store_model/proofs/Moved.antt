@@ -1,5 +1,24 @@
 -- What is known of a job and of used places, on a state with the same parts.
-use Rattle.std.proofs.Common.{[], ◌∷◌, ◌++◌, ◌≡◌, ℕ, Bool, List, Option, Some, None, refl, sym, ◌∙◌, ap, subst, inl, inr, true}
+use Rattle.std.proofs.Common.{
+  [],
+  ◌∷◌,
+  ◌++◌,
+  ◌≡◌,
+  ℕ,
+  Bool,
+  List,
+  Option,
+  Some,
+  None,
+  refl,
+  sym,
+  ◌∙◌,
+  ap,
+  subst,
+  inl,
+  inr,
+  true,
+}
 use Rattle.std.specs.Option.{option_map, option_map_or}
 use Rattle.std.proofs.Math.Path.{fun_ext}
 use Rattle.volume_model.specs.Volumes.{Volume, Volumes}
@@ -83,7 +102,8 @@ pub stands_same : (p q : StoreState) → q.super ≡ p.super → q.base ≡ p.ba
     → q.generations ≡ p.generations → (j : JobState)
     → ((row : ℕ) → (p.rows row).stage ≡ InJob → q.rows row ≡ p.rows row) → JobStands p j → JobStands q j
 stands_same p q super base chains live generations j rows x =
-    let gained : gained_by q.rows j ≡ gained_by p.rows j = ap (λ l. l ++ j.claimed) (inserted_same p.rows q.rows j.serves
+    let gained : gained_by q.rows j ≡ gained_by p.rows j = ap (λ l. l ++ j.claimed)
+    (inserted_same p.rows q.rows j.serves
     (λ row serves. rows row (x.inserts row serves).waits)) in
     record {
       lays = rw (super, base, chains, gained) x.lays;

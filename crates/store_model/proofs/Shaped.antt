@@ -3,7 +3,23 @@ use Rattle.std.proofs.Common.{◌⊎◌, Option, ◌≡◌, ◌≢◌, ℕ, List
 use Rattle.std.proofs.Common.{false, true}
 use Rattle.std.proofs.lemmas.Bool.{cases_eq}
 use Rattle.volume_model.specs.declared.command.Command.{Command}
-use Rattle.store_model.specs.Rows.{Claiming, Copying, fill_row, OpenClaim, Row, Rows, Stage, Idle, Posted, InJob, Answered, Decided, Decision, Ended, with_row}
+use Rattle.store_model.specs.Rows.{
+  Claiming,
+  Copying,
+  fill_row,
+  OpenClaim,
+  Row,
+  Rows,
+  Stage,
+  Idle,
+  Posted,
+  InJob,
+  Answered,
+  Decided,
+  Decision,
+  Ended,
+  with_row,
+}
 use Rattle.store_model.specs.StoreState.{JobState, StoreState, ForCommand, waiting}
 use Rattle.store_model.specs.RunInvariant.{IsServedRow, MayClaim, IsShaped}
 use Rattle.store_model.proofs.RowsKept.{row_here, row_other}

@@ -14,8 +14,8 @@ use Rattle.store_model.specs.StoreState.{StoreState}
 
 -- ---- empty slots
 
--- A slot of a blob is empty in this metadata, and shows at this page what it shows with later metadata, by what an image
--- holds.
+-- A slot of a blob is empty in this metadata, and shows at this page what it shows with later metadata, by what an
+-- image holds.
 pub record WasEmpty (s : Super) (metas later : Metas) (Held : Image → Type 0) (head page : ℕ) : Type 0 where
   pub old : Meta
   pub there : metas head ≡ Some old

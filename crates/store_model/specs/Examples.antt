@@ -129,7 +129,14 @@ module _ (super : Super) where
   } → LosesCopy state q
   loses q is = record {
     left = 1;
-    copying = record { row = 0; left = writes; claim = claim; is = refl; works = own (Head 0) 8 (Fill 7) (c.Flush ∷ []) refl };
+    copying = record {
+      row = 0;
+      left = writes;
+      claim = claim;
+      is = refl;
+      works = own (Head 0) 8 (Fill 7) (c.Flush ∷ [])
+          refl;
+    };
     runs = refl;
     late = λ same. cc same;
     next = is;

@@ -1,5 +1,22 @@
 -- How a job is laid on pages, and what is known of it while it runs.
-use Rattle.std.specs.Prelude.{◌≡◌, ◌≢◌, ◌⊎◌, ℕ, ◌+◌, ◌*◌, ◌^◌, ◌<◌, ◌≤◌, if◌then◌else◌, Bool, true, false, List, [], ◌∷◌}
+use Rattle.std.specs.Prelude.{
+  ◌≡◌,
+  ◌≢◌,
+  ◌⊎◌,
+  ℕ,
+  ◌+◌,
+  ◌*◌,
+  ◌^◌,
+  ◌<◌,
+  ◌≤◌,
+  if◌then◌else◌,
+  Bool,
+  true,
+  false,
+  List,
+  [],
+  ◌∷◌,
+}
 use Rattle.std.specs.Prelude.{◌++◌}
 use Rattle.std.specs.Prelude.{length, map, Option, Some, None, IsSome, is_some}
 use Rattle.std.specs.List.{AllByRecursion, flat_map, range_with_len}
@@ -188,8 +205,8 @@ Keeps s base live (Replaces r commit ∷ rest) =
     × Keeps s (replaced base r) live rest
 Keeps s base live (_ ∷ rest) = Keeps s base live rest
 
--- On whatever device, the command, one for the metadata thread, may be done with this reply, and may fail; then the metadata shows its step, and has
--- the blobs whose generations are renewed, a new one among them.
+-- On whatever device, the command, one for the metadata thread, may be done with this reply, and may fail; then the
+-- metadata shows its step, and has the blobs whose generations are renewed, a new one among them.
 pub record IsStep (s : Super) (base : Metas) (replacing : Replacing) (live : Map Xattrs) (command : Command)
     (commit : Committing) : Type 0 where
   pub metadata : IsForMetadata command

@@ -12,15 +12,22 @@ impl<D: PageDisk> Plant<D> {
     ghost use Rattle.store_core.specs.declared.page_reading.ReadTurn.TheVariants as read;
     ghost use Rattle.store_core.specs.declared.page_writing.WriteTurn.TheVariants as write;
     ghost use Rattle.store_core.specs.declared.rows.RowStage.TheVariants.{Flush, Read, Write};
-    ghost use Rattle.store_core.specs.ChannelTurns.{FindsNoCluster, IsFrozenFor, IsOfFlush, IsOfRead, IsOfWrite, TurnsAs};
+    ghost use Rattle.store_core.specs.ChannelTurns.{
+      FindsNoCluster,
+      IsFrozenFor,
+      IsOfFlush,
+      IsOfRead,
+      IsOfWrite,
+      TurnsAs,
+    };
     ghost use Rattle.store_core.specs.Stages.{is_stage};
     ghost use Rattle.store_core.specs.Steps.{gone_on, Asks, OnlyRow};
     ghost use Rattle.store_core.specs.StoreView.{rows_of, state_of};
 
-    /// Reads a page, for the first command of a channel. `Frozen` comes exactly where its blob is frozen: the store is as
-    /// it was. Else it is logged: with `Content`, its slot's page or its parent's or zeros; with the first of `NoVolume`
-    /// and `OutOfRange` that holds; with `ReadFault` where the read failed; on a stopped store with `Stopped`. It makes
-    /// one read at most, and wants no memory.
+    /// Reads a page, for the first command of a channel. `Frozen` comes exactly where its blob is frozen: the store is
+    /// as it was. Else it is logged: with `Content`, its slot's page or its parent's or zeros; with the first of
+    /// `NoVolume` and `OutOfRange` that holds; with `ReadFault` where the read failed; on a stopped store with
+    /// `Stopped`. It makes one read at most, and wants no memory.
     pub fn read_page(&mut self, channel: u8) -> ReadTurn
         requires stage { is_stage (rows_of self.old.at.rows channel) channel ≡ Read }
         ensures frozen { result ≡ read.Frozen
@@ -49,11 +56,11 @@ impl<D: PageDisk> Plant<D> {
         flush_or_halt(&mut self.running, channel);
     }
 
-    /// Writes a page, for the first command of a channel. `Frozen` comes exactly where its blob is frozen. `Empty` comes
-    /// exactly where nothing refuses it and the slot is empty: the store is as it was. Else it is logged: with `Ok`, and
-    /// a flush makes the page safe from a crash; with the first of `NoVolume`, `Reserved`, `OutOfRange` and `ReadOnly`
-    /// that holds; with `Fault` where the write failed, and the store has stopped then; on a stopped store with
-    /// `Stopped`.
+    /// Writes a page, for the first command of a channel. `Frozen` comes exactly where its blob is frozen. `Empty`
+    /// comes exactly where nothing refuses it and the slot is empty: the store is as it was. Else it is logged: with
+    /// `Ok`, and a flush makes the page safe from a crash; with the first of `NoVolume`, `Reserved`, `OutOfRange` and
+    /// `ReadOnly` that holds; with `Fault` where the write failed, and the store has stopped then; on a stopped store
+    /// with `Stopped`.
     pub fn write_page(&mut self, channel: u8) -> WriteTurn
         requires stage { is_stage (rows_of self.old.at.rows channel) channel ≡ Write }
         ensures frozen { result ≡ write.Frozen

@@ -1,5 +1,24 @@
 -- The turn begins_insert.
-use Rattle.std.proofs.Common.{◌≡◌, ◌≢◌, ℕ, ◌≤◌, ◌^◌, ◌++◌, List, [], ◌∷◌, Option, Some, None, true, false, refl, sym, ap, ◌∙◌}
+use Rattle.std.proofs.Common.{
+  ◌≡◌,
+  ◌≢◌,
+  ℕ,
+  ◌≤◌,
+  ◌^◌,
+  ◌++◌,
+  List,
+  [],
+  ◌∷◌,
+  Option,
+  Some,
+  None,
+  true,
+  false,
+  refl,
+  sym,
+  ap,
+  ◌∙◌,
+}
 use Rattle.std.proofs.Common.{subst, inl, inr, arith}
 use Rattle.std.specs.Option.{option_map_or}
 use Rattle.std.proofs.lemmas.Bool.{cases_Bool, cases_eq}
@@ -12,7 +31,17 @@ use Rattle.store_model.specs.Inserting.{with_slot}
 use Rattle.store_model.specs.Jobs.{CanReplace, gained_by, InsertStands, IsPlannedFor, JobStands, Lays, PutsClaim}
 use Rattle.store_model.specs.Loadable.{AreLoadable, IsLoadable}
 use Rattle.store_model.specs.Maps.{Metas, with_entry}
-use Rattle.store_model.specs.Phases.{erasing, held_in, page_in, Phase, rechained, replaced, Replaces, Replacing, taken_by}
+use Rattle.store_model.specs.Phases.{
+  erasing,
+  held_in,
+  page_in,
+  Phase,
+  rechained,
+  replaced,
+  Replaces,
+  Replacing,
+  taken_by,
+}
 use Rattle.store_model.specs.Phases.{writing}
 use Rattle.store_model.specs.Places.{all_set, AreDistinct, claimed_by, HasClaim, held_by, UsedPages}
 use Rattle.store_model.specs.Regions.{region_of}

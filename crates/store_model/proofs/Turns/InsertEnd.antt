@@ -1,5 +1,24 @@
 -- The turn insert_ends.
-use Rattle.std.proofs.Common.{◌≡◌, ◌≤◌, ◌++◌, ℕ, Bool, List, [], ◌∷◌, Option, Some, None, false, refl, subst, sym, ap, ◌∙◌, arith}
+use Rattle.std.proofs.Common.{
+  ◌≡◌,
+  ◌≤◌,
+  ◌++◌,
+  ℕ,
+  Bool,
+  List,
+  [],
+  ◌∷◌,
+  Option,
+  Some,
+  None,
+  false,
+  refl,
+  subst,
+  sym,
+  ap,
+  ◌∙◌,
+  arith,
+}
 use Rattle.std.proofs.Common.{inl, inr}
 use Rattle.std.specs.Prelude.{true}
 use Rattle.std.specs.Option.{option_map_or}
@@ -59,7 +78,8 @@ module _ (known : Known) where
     inserts = stood.inserts row serves
 
     lays : Lays p.super p.base p.chains (gained_by p.rows j) j.written (phase.Frees t.place t.old ∷ [])
-    lays = subst (λ l. Lays p.super p.base p.chains (gained_by p.rows j) j.written (phase.Frees t.place t.old ∷ l)) t.last
+    lays = subst (λ l. Lays p.super p.base p.chains (gained_by p.rows j) j.written (phase.Frees t.place t.old ∷ l))
+        t.last
         (subst (Lays p.super p.base p.chains (gained_by p.rows j) j.written) t.running.next stood.lays)
 
     -- its claim has ended with the replacement
@@ -102,7 +122,8 @@ module _ (known : Known) where
         let clock = t.moves.clock in
         let low = held_low known well (held_by p.job) refl t.place is_held in
         let same : shown mid ≡ shown p = written_same known told mid t.place zero_page refl low t.moves.reads in
-        let read : AreCopied mid = copied_put known told mid t.place zero_page refl refl refl refl well low t.moves.reads in
+        let read : AreCopied mid = copied_put known told mid t.place zero_page refl refl refl refl well low
+        t.moves.reads in
         let differ : AreDistinct (t.old ++ []) = subst (λ l. AreDistinct (t.old ++ taken_in l)) t.last
         (subst AreDistinct (ap held_in t.running.next) stood.distinct) in
         let freed : UsedPages p.super.md_len now.pages p.chains [] =

@@ -19,7 +19,8 @@ module _ (known : Known) where
 
   keeps : (q : StoreState) → LosesInsert p q → RunInvariant s first script q
   keeps q t = subst (RunInvariant s first script) (sym t.next)
-      (given_back_facts known t.posted.row (Decided Lost) (outcome_may Lost) (not_in_job known _ _ t.posted.is (λ bad. cc bad)))
+      (given_back_facts known t.posted.row (Decided Lost) (outcome_may Lost)
+      (not_in_job known _ _ t.posted.is (λ bad. cc bad)))
 
 pub law : TurnLaw case.kind
 law = record {

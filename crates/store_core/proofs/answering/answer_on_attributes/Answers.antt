@@ -95,7 +95,8 @@ returns-in-Ok-clause-case g c =
       meant = c.find-head.ensures.meant;
       live_is = c.live_at-live.ensures;
     } in
-    let shows = shows_live p c.requires.running c.requires.runs old.metas refl old.live refl waits.command head o found in
+    let shows = shows_live p c.requires.running c.requires.runs old.metas refl old.live refl waits.command head o found
+    in
     let meant = named_asked (fixed_of p.super) (shown p) waits.command found.volume found.asked
     ∙ found.meant (fixed_of p.super) (shown p) shows.shows in
     let x = answered_by c.requires.running.first p old.metas waits.command head o c.in-Ok.field-0 well on.1 meant

@@ -6,5 +6,6 @@ use Rattle.store_core.proofs.effects.clusters_in.Goals as goal
 
 pub returns : goal.returns
 returns c = c.from_vec.ensures
-    ∙ subst (λ r. IfOk r (λ w. w.items ≡ clusters_of c.args.slots.now)) c.in_ok-clusters.was (items_from_collect c.collect.result c.collect.ensures.ran (YieldsList-from_filter_map _ _ (YieldsList-from_slice c.args.slots.now cc)
-    c.filter_map.ensures.closure (λ x r q k. search (rules, tests))))
+    ∙ subst (λ r. IfOk r (λ w. w.items ≡ clusters_of c.args.slots.now)) c.in_ok-clusters.was
+    (items_from_collect c.collect.result c.collect.ensures.ran (YieldsList-from_filter_map _ _
+    (YieldsList-from_slice c.args.slots.now cc) c.filter_map.ensures.closure (λ x r q k. search (rules, tests))))

@@ -9,7 +9,15 @@ use Rattle.store_core.specs.Running.{view_of, InOrder}
 use Rattle.store_core.specs.StoreView.{device_of, rows_of, StoreView}
 use Rattle.store_core.proofs.JobTurned.{channel_low, on_err, on_ok, planned_some, row_some}
 use Rattle.store_core.proofs.JobCommitted.{chain_there, committed_done, committed_more, done_answer, failed_committing}
-use Rattle.store_core.proofs.JobCommitted.{freed_in_use, guarded_there, head_below, live_there, meta_there, more_answer, unguarded}
+use Rattle.store_core.proofs.JobCommitted.{
+  freed_in_use,
+  guarded_there,
+  head_below,
+  live_there,
+  meta_there,
+  more_answer,
+  unguarded,
+}
 use Rattle.store_core.proofs.Maps.{heads_adopted}
 use Rattle.std.specs.Prelude.{is_some, IfSome}
 use Rattle.std.specs.Option.{option_map}

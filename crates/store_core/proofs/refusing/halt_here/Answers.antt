@@ -27,5 +27,6 @@ returns-clause-case g c =
         next = entered_then Idle d old (view_of c.log_here.new.running) c.args.channel waits.command waits.rest
             (Stopped c.in-Some.at) low is;
       },
-      disk_same_then Idle d old (view_of c.log_here.new.running) c.args.channel waits.command waits.rest (Stopped c.in-Some.at) low is,
+      disk_same_then Idle d old (view_of c.log_here.new.running) c.args.channel waits.command waits.rest
+          (Stopped c.in-Some.at) low is,
     )

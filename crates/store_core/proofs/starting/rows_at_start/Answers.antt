@@ -12,7 +12,8 @@ loop-channel-init c = subst (λ rows. RowsBelow c.args.script c.args.script c.ch
 row_is : (c : goal.Joined-drop-2)
     → c.if-channel-channels.row ≡ row_at_start c.args.script c.channels-channels.result c.loop-channel.channel
 row_is c = elim c.if-channel-channels.branch [
-  | then-channel-channels+in_ok-row w ↦ w.row-is ∙ w.in_ok-row.ensures ∙ row_with c.args.script c.channels-channels.result
+  | then-channel-channels+in_ok-row w ↦ w.row-is ∙ w.in_ok-row.ensures ∙ row_with c.args.script
+      c.channels-channels.result
       c.loop-channel.channel c.take-commands.result.items (lt-ltb _ _ w.if-channel-channels.true)
       (c.take-commands.ensures.taken ∙ c.loop-channel.invariant.rest c.loop-channel.channel (omega arith))
   | else-channel-channels w ↦ w.row-is ∙ w.ended-row.ensures ∙ row_past c.args.script c.channels-channels.result

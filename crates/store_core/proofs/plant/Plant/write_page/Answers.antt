@@ -40,4 +40,5 @@ returns-clause-frozen g c = subst (λ (b : WithOpening g.row.D.Denot). c.write_o
 
 pub returns-clause-empty : goal.returns-clause-empty
 returns-clause-empty g c = subst (λ (b : WithOpening g.row.D.Denot). c.write_or_halt.result ≡ write.Empty
-    → Asks b.at c.args.channel (FindsNoCluster (state_of g.D.PageDisk b.at))) c.self.view_is c.write_or_halt.ensures.empty
+    → Asks b.at c.args.channel (FindsNoCluster (state_of g.D.PageDisk b.at))) c.self.view_is
+    c.write_or_halt.ensures.empty
