@@ -34,6 +34,7 @@ pub fn read_turn<D: PageDisk>(plant: &mut Plant<D>, channel: u8) -> Stage
     ensures logged { result ≡ Logged → TurnsAs D.PageDisk IsOfRead plant.old.at plant.new.at }
     ensures row { result ≡ Logged → OnlyRow plant.old.at.rows plant.new.at.rows channel
         (gone_on (rows_of plant.old.at.rows channel)) }
+    ensures job { plant.new.at.job ≡ plant.old.at.job }
     ensures opening { plant.new.opening ≡ plant.old.opening }
     ensures right { plant.new.right ≡ plant.old.right }
 {

@@ -36,6 +36,7 @@ impl<D: PageDisk> Plant<D> {
         ensures logged { result ≡ read.Logged → TurnsAs D.PageDisk IsOfRead self.old.at self.new.at }
         ensures row { result ≡ read.Logged → OnlyRow self.old.at.rows self.new.at.rows channel
             (gone_on (rows_of self.old.at.rows channel)) }
+        ensures job { self.new.at.job ≡ self.old.at.job }
         ensures opening { self.new.opening ≡ self.old.opening }
         ensures right { self.new.right ≡ self.old.right }
     {
@@ -49,6 +50,7 @@ impl<D: PageDisk> Plant<D> {
         requires stage { is_stage (rows_of self.old.at.rows channel) channel ≡ Flush }
         ensures case { TurnsAs D.PageDisk IsOfFlush self.old.at self.new.at }
         ensures row { OnlyRow self.old.at.rows self.new.at.rows channel (gone_on (rows_of self.old.at.rows channel)) }
+        ensures job { self.new.at.job ≡ self.old.at.job }
         ensures opening { self.new.opening ≡ self.old.opening }
         ensures right { self.new.right ≡ self.old.right }
     {
@@ -71,6 +73,7 @@ impl<D: PageDisk> Plant<D> {
         ensures logged { result ≡ write.Logged → TurnsAs D.PageDisk IsOfWrite self.old.at self.new.at }
         ensures row { result ≡ write.Logged → OnlyRow self.old.at.rows self.new.at.rows channel
             (gone_on (rows_of self.old.at.rows channel)) }
+        ensures job { self.new.at.job ≡ self.old.at.job }
         ensures opening { self.new.opening ≡ self.old.opening }
         ensures right { self.new.right ≡ self.old.right }
     {

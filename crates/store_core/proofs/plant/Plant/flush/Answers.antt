@@ -1,8 +1,9 @@
-use Rattle.std.proofs.Common.{◌≡◌, subst, sym}
+use Rattle.std.proofs.Common.{◌≡◌, ◌∙◌, ap, subst, sym}
 use Rattle.store_core.specs.Running.{view_of, with_opening}
 use Rattle.store_core.specs.StoreView.{WithOpening, rows_of}
 use Rattle.store_core.specs.Stages.{is_stage}
 use Rattle.store_core.specs.declared.rows.RowStage.TheVariants.{Flush}
+use Rattle.store_core.proofs.JobStays.{over_flush}
 use Rattle.store_core.proofs.FirstCommand.{low_flush, waits_flush}
 use Rattle.store_core.proofs.plant.Plant.flush.Goals as goal
 
@@ -26,3 +27,9 @@ invariant_of-self g c = (
       c.flush_or_halt.ensures.case.made,
   c.flush_or_halt.ensures.order,
 )
+
+pub returns-clause-job : goal.returns-clause-job
+returns-clause-job g c =
+    over_flush g.D.PageDisk (view_of c.self.inside.running) (view_of c.flush_or_halt.new.running)
+    c.flush_or_halt.ensures.case
+    ∙ ap (λ (b : WithOpening g.row.D.Denot). b.at.job) c.self.view_is

@@ -1,4 +1,4 @@
-use Rattle.std.proofs.Common.{◌≡◌, subst, sym}
+use Rattle.std.proofs.Common.{◌≡◌, ◌∙◌, ap, subst, sym}
 use Rattle.store_core.specs.ChannelTurns.{IsFrozenFor, IsOfRead}
 use Rattle.store_core.specs.Running.{view_of, with_opening}
 use Rattle.store_core.specs.StoreView.{WithOpening, rows_of, state_of}
@@ -7,6 +7,7 @@ use Rattle.store_core.specs.Steps.{Asks}
 use Rattle.store_core.specs.declared.page_reading.ReadTurn.TheVariants as read
 use Rattle.store_core.specs.declared.rows.RowStage.TheVariants.{Read}
 use Rattle.store_core.proofs.FirstCommand.{low_read, waits_read}
+use Rattle.store_core.proofs.JobStays.{over_read}
 use Rattle.store_core.proofs.Posting.{by_read, turned_or_not}
 use Rattle.store_core.proofs.plant.Plant.read_page.Goals as goal
 
@@ -37,3 +38,11 @@ invariant_of-self g c =
 pub returns-clause-frozen : goal.returns-clause-frozen
 returns-clause-frozen g c = subst (λ (b : WithOpening g.row.D.Denot). c.read_or_halt.result ≡ read.Frozen
     → Asks b.at c.args.channel (IsFrozenFor (state_of g.D.PageDisk b.at))) c.self.view_is c.read_or_halt.ensures.frozen
+
+pub returns-clause-job : goal.returns-clause-job
+returns-clause-job g c =
+    let p = view_of c.self.inside.running in
+    let q = view_of c.read_or_halt.new.running in
+    over_read g.D.PageDisk p q
+    (by_read g.D.PageDisk p q c.read_or_halt.result c.read_or_halt.ensures.kept c.read_or_halt.ensures.logged)
+    ∙ ap (λ (b : WithOpening g.row.D.Denot). b.at.job) c.self.view_is

@@ -1,4 +1,4 @@
-use Rattle.std.proofs.Common.{◌≡◌, subst, sym}
+use Rattle.std.proofs.Common.{◌≡◌, ◌∙◌, ap, subst, sym}
 use Rattle.store_core.specs.ChannelTurns.{FindsNoCluster, IsFrozenFor, IsOfWrite}
 use Rattle.store_core.specs.Running.{view_of, with_opening}
 use Rattle.store_core.specs.StoreView.{WithOpening, rows_of, state_of}
@@ -7,6 +7,7 @@ use Rattle.store_core.specs.Steps.{Asks}
 use Rattle.store_core.specs.declared.page_writing.WriteTurn.TheVariants as write
 use Rattle.store_core.specs.declared.rows.RowStage.TheVariants.{Write}
 use Rattle.store_core.proofs.FirstCommand.{low_write, waits_write}
+use Rattle.store_core.proofs.JobStays.{over_write}
 use Rattle.store_core.proofs.Posting.{by_write, turned_or_not}
 use Rattle.store_core.proofs.plant.Plant.write_page.Goals as goal
 
@@ -42,3 +43,11 @@ pub returns-clause-empty : goal.returns-clause-empty
 returns-clause-empty g c = subst (λ (b : WithOpening g.row.D.Denot). c.write_or_halt.result ≡ write.Empty
     → Asks b.at c.args.channel (FindsNoCluster (state_of g.D.PageDisk b.at))) c.self.view_is
     c.write_or_halt.ensures.empty
+
+pub returns-clause-job : goal.returns-clause-job
+returns-clause-job g c =
+    let p = view_of c.self.inside.running in
+    let q = view_of c.write_or_halt.new.running in
+    over_write g.D.PageDisk p q
+    (by_write g.D.PageDisk p q c.write_or_halt.result c.write_or_halt.ensures.kept c.write_or_halt.ensures.logged)
+    ∙ ap (λ (b : WithOpening g.row.D.Denot). b.at.job) c.self.view_is

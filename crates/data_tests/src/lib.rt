@@ -1,0 +1,5 @@
+//! Tests of `data_path`.
+#![tactic(auto)]
+
+#[cfg(test)]
+mod parts;
