@@ -8,7 +8,7 @@ use Rattle.md_chain.specs.Chain.{is_among}
 use Rattle.md_chain.specs.declared.plan.PlannedPage.{PlannedPage}
 use Rattle.store_model.specs.StoreState.{JobState, StoreState, planned_at, waiting, ForCommand}
 use Rattle.store_model.specs.Places.{held_by, AreDistinct}
-use Rattle.store_model.specs.Jobs.{places_of, IsServed, JobStands, CanReplace, IsStep, Lays}
+use Rattle.store_model.specs.Jobs.{places_of, IsServed, JobStands, CanReplace, IsStep, Lays, ReadsZeros}
 use Rattle.store_model.specs.RunInvariant.{RunsWell}
 use Rattle.store_model.proofs.Sets.{among_first, among_later}
 use Rattle.store_model.proofs.Used.{within}
@@ -108,21 +108,24 @@ module _ (p : StoreState) (r : IsRunning p) (runs : p.stopped ≡ None) where
     pub stands : JobStands p j
     stands = well.job j is
 
-    lays : Lays p.super p.base p.chains [] fresh behind
-    lays = subst (λ w. Lays p.super p.base p.chains [] w behind) (take_drop written fresh)
-        (lays_reached p.super p.base p.chains [] (take written fresh) (drop written fresh) behind stands.lays)
+    lays : Lays p.super p.base p.chains planned.effects.claimed fresh behind
+    lays = subst (λ w. Lays p.super p.base p.chains planned.effects.claimed w behind) (take_drop written fresh)
+        (lays_reached p.super p.base p.chains planned.effects.claimed (take written fresh) (drop written fresh) behind
+        stands.lays)
 
-    pub can : CanReplace p.super p.base p.chains [] fresh replacing
+    pub can : CanReplace p.super p.base p.chains planned.effects.claimed fresh replacing
     can = lays.0
 
     pub waits : has_commit j.todo ≡ true
     waits = commit_behind (drop written fresh) behind
 
-    pub served : IsServed p channel j.todo
+    pub served : IsServed p channel planned.effects.claimed j.todo
     served = stands.served channel refl waits
 
-    pub step : IsStep p.super p.base replacing p.live served.command (commit_of planned)
-    step = (does_reached p.super p.base p.live served.command (drop written fresh) behind served.does).0
+    pub step : IsStep (ReadsZeros p.super planned.effects.claimed) p.super p.base replacing p.live served.command
+        (commit_of planned)
+    step = (does_reached (ReadsZeros p.super planned.effects.claimed) p.super p.base p.live served.command
+        (drop written fresh) behind served.does).0
 
     held_fresh : (x : ℕ) → is_among x fresh ≡ true → is_among x (held_by p.job) ≡ true
     held_fresh x among =

@@ -55,6 +55,7 @@ for_commands (Some j) job is =
     let same : job_seen j ≡ job = cc is in (j.channel, ap (λ (k : JobState). k.serves) (sym same) ∙ by j.work refl)
   where
     by : (w : Work) → j.work ≡ w → (job_seen j).serves ≡ ForCommand j.channel
+    by (work.Zeroing planned zeroed) e = rw e refl
     by (work.Writing planned written) e = rw e refl
     by (work.Erasing erased) e = rw e refl
 

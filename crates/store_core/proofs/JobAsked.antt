@@ -149,7 +149,7 @@ module _ (p : StoreState) (running : IsRunning p) (runs : p.stopped ≡ None) (c
 
   pub loadable : head < p.super.md_len → IsLoadable p.super head new
   loadable low = subst (λ s. IsLoadable s head new) (sym running.facts.super)
-      (job_writable known runs command (job_of_one head new) asks.commit asks.asked refl
+      (job_writable known runs command (job_of_one head new) asks.commit asks.asked [] tt refl
       (record { head = head; new = Some new }) new refl refl
       (subst (λ (s : Super). head < s.md_len) running.facts.super low))
 

@@ -83,7 +83,6 @@ module _ {D : Type 0} (d : Ghosts D) (p : StoreView D) (channel : ℕ) (low : ch
             (live_behind (is_live_kept command) planned.new)) (sym effects.renews)
             ∙ ap (commit_by (not makes) planned.head planned.effects.renews) (sym effects.live)
             ∙ commit_is makes planned.head planned.effects.renews planned.effects.live) asks.asked;
-        no_zeros = refl;
         claimed = [];
         clusters = tt;
         one_each = refl;
@@ -118,10 +117,15 @@ module _ {D : Type 0} (d : Ghosts D) (p : StoreView D) (channel : ℕ) (low : ch
               pages = after;
               job = Some (writing_job channel planned old 0);
             }) (rows_set p.rows channel in_job low)
+            ∙ ap (λ l. record s {
+              rows = with_row s.rows channel in_job;
+              pages = after;
+              job = Some (record (writing_job channel planned old 0) { claimed = l });
+            }) effects.claimed
             ∙ ap (λ (bits : List Bool). record s {
               rows = with_row s.rows channel in_job;
               pages = bits;
-              job = Some (writing_job channel planned old 0);
+              job = Some (record (writing_job channel planned old 0) { claimed = [] });
             })
             (is.taken ∙ ap (λ l. all_set p.pages l true)
             (sym (append-nil (taken_for makes planned.head (drop 1 planned.chain)))));

@@ -13,6 +13,7 @@ freezes_none : (j : RunningJob) → (job_seen j).freeze ≡ None
 freezes_none j = by j.work refl
   where
     by : (w : Work) → j.work ≡ w → (job_seen j).freeze ≡ None
+    by (work.Zeroing planned zeroed) e = rw e refl
     by (work.Writing planned written) e = rw e refl
     by (work.Erasing erased) e = rw e refl
 

@@ -47,6 +47,8 @@ pub record AreEffects (old : Option Meta) (live_kept : Bool) (new : Meta) (e : E
   pub live : e.live ≡ live_behind live_kept new
   pub renews : e.renews ≡ is_cut old new
   pub freed : e.freed ≡ cut_clusters old new
+  -- none is claimed so far
+  pub claimed : e.claimed ≡ []
 
 -- whether the blob gets a generation: it is new, or slots of it are cut
 abbrev pub is_numbered : Effects → Bool

@@ -1,6 +1,6 @@
 -- What contracts see of the running job.
 use Rattle.std.specs.Prelude.{◌≡◌, ◌⊎◌, ℕ, ◌==◌, ◌<◌, if◌then◌else◌, is_some, Bool, List, [], ◌∷◌, Option, None, Some}
-use Rattle.std.specs.Prelude.{drop, take, refl}
+use Rattle.std.specs.Prelude.{drop, take, refl, ◌++◌}
 use Rattle.std.specs.Ordering.{nat_cmp}
 use Rattle.std.specs.FinMap as map
 use Rattle.std.specs.Coded.{Coded, code_by, coded×, coded⊎, coded_ℕ, coded_bool, coded_list, coded_option}
@@ -24,6 +24,8 @@ use Rattle.store_core.specs.declared.job.Rooms.{Rooms}
 use Rattle.store_core.specs.declared.job.RunningJob.{RunningJob}
 use Rattle.store_core.specs.declared.job.Work.{Work}
 use Rattle.store_core.specs.declared.job.Work.TheVariants as work
+use Rattle.store_core.specs.declared.job.Zeroed.{Zeroed}
+use Rattle.store_core.specs.Zeroing.{zeros_from, IsLeft}
 use Rattle.std.proofs.Common.{ap, inl, inr}
 
 -- ---- what is planned, as the model has it
@@ -61,11 +63,21 @@ abbrev pub writing_job : ℕ → Planned → List ℕ → ℕ → JobState
 writing_job channel p old written = record {
   serves = ForCommand channel;
   freeze = None;
-  claimed = [];
+  claimed = p.effects.claimed;
   written = take written (drop 1 p.chain);
   todo =
       writing (drop written (drop 1 p.chain)) (Replaces (replacing_of p old) (Some (commit_of p)) ∷ erasing old old []);
 }
+
+-- a job of which so much of its claimed clusters is overwritten with zeros
+abbrev pub zeroing_job : ℕ → Planned → List ℕ → Zeroed → JobState
+zeroing_job channel p old z = record (writing_job channel p old 0) {
+  todo = zeros_from p.effects.claimed z ++ (writing_job channel p old 0).todo;
+}
+
+-- the job behind a page of zeros
+abbrev pub behind_zero : JobState → JobState
+behind_zero j = record j { todo = drop 1 j.todo }
 
 -- a job behind its commit, of which so many old pages are overwritten
 abbrev pub erasing_job : ℕ → List ℕ → ℕ → JobState
@@ -81,6 +93,7 @@ abbrev pub job_seen : RunningJob → JobState
 job_seen j = seen j.work
   where
     seen : Work → JobState
+    seen (work.Zeroing planned zeroed) = zeroing_job j.channel planned j.old zeroed
     seen (work.Writing planned written) = writing_job j.channel planned j.old written
     seen (work.Erasing erased) = erasing_job j.channel j.old erased
 
@@ -93,6 +106,7 @@ abbrev pub IsHeaded : RunningJob → Type 0
 IsHeaded j = headed j.work
   where
     headed : Work → Type 0
+    headed (work.Zeroing planned zeroed) = IsMatched planned × IsLeft planned.effects.claimed zeroed
     headed (work.Writing planned written) = IsMatched planned
     headed (work.Erasing erased) = Unit {0}
 

@@ -1,6 +1,7 @@
 pub mod LoadedWhole
 pub mod Stages
 pub mod Effects
+pub mod Zeroing
 pub mod Jobs
 pub mod Reserved
 pub mod StoreView

@@ -74,6 +74,7 @@ abbrev pub IsRoomy : map.FinMap nat_cmp Meta → map.FinMap nat_cmp (List ℕ) �
 IsRoomy metas chains live guards j = by j.work
   where
     by : Work → Type 0
+    by (work.Zeroing planned zeroed) = HasRoom metas chains live guards planned.effects
     by (work.Writing planned written) = HasRoom metas chains live guards planned.effects
     by (work.Erasing erased) = Unit {0}
 

@@ -40,6 +40,7 @@ pub(crate) fn adopt<D>(running: &mut Running<D>, planned: Planned)
         live,
         renews,
         freed,
+        claimed: _,
         rooms,
     } = effects;
     clear_places(&mut running.clusters, &freed);

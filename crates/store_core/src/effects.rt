@@ -22,6 +22,8 @@ pub(crate) struct Effects {
     pub(crate) renews: bool,
     /// The clusters of these slots, each once, which no map has any more.
     pub(crate) freed: PlaceList,
+    /// The clusters that the job has claimed for slots that are to read as zeros.
+    pub(crate) claimed: PlaceList,
     /// Room for the blob, where it is new.
     pub(crate) rooms: Option<Rooms>,
 }
@@ -61,6 +63,7 @@ pub(crate) fn effects_of<D>(
         live,
         renews,
         freed,
+        claimed: PlaceList::new(running.alloc),
         rooms,
     })
 }

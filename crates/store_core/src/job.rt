@@ -68,9 +68,34 @@ impl Planned {
     }
 }
 
+/// How far a job has overwritten the clusters that it has claimed: so many of them, and of the next one so many pages.
+#[derive(Clone, Copy)]
+pub(crate) struct Zeroed {
+    /// How many pages each cluster has.
+    pub(crate) cluster_pages: u32,
+    pub(crate) clusters: usize,
+    pub(crate) pages: u32,
+}
+
+impl Zeroed {
+    ghost use Rattle.std.specs.Prelude.{◌≡◌, ◌<◌, length};
+    ghost use Rattle.store_core.specs.Zeroing.{next_zeroed};
+
+    /// The page of the device that is overwritten next.
+    pub(crate) fn next_page(self, claimed: &PlaceList) -> u64
+        requires { self.clusters < length claimed.now }
+        ensures { result ≡ next_zeroed claimed.now self }
+    {
+        let cluster = claimed.as_slice()[self.clusters];
+        u64::from(cluster) * u64::from(self.cluster_pages) + u64::from(self.pages)
+    }
+}
+
 /// How far a job has come.
 #[derive(Drop)]
 pub(crate) enum Work {
+    /// So much of the claimed clusters is overwritten with zeros; no page of the metadata is written.
+    Zeroing { planned: Planned, zeroed: Zeroed },
     /// So many of the pages behind the head are written.
     Writing { planned: Planned, written: usize },
     /// So many of the old pages are overwritten.
@@ -85,6 +110,72 @@ pub(crate) struct RunningJob {
     pub(crate) old: PlaceList,
 }
 
+impl RunningJob {
+    ghost use Rattle.std.specs.Prelude.{◌≡◌, ◌<◌, ℕ, length, List};
+    ghost use Rattle.std.specs.FinMap as map;
+    ghost use Rattle.std.specs.Ordering.{nat_cmp};
+    ghost use Rattle.io_freeze.specs.Guards.{GuardsState};
+    ghost use Rattle.volume_model.specs.Xattrs.{Xattrs};
+    ghost use Rattle.blob_meta.specs.declared.meta.Meta.{Meta as AMeta};
+    ghost use Rattle.store_core.specs.Jobs.{behind_zero, job_seen, zeroing_job, IsHeaded, IsMatched};
+    ghost use Rattle.store_core.specs.Running.{HasRoom, IsRoomy};
+
+    /// The job behind a page of zeros: the next page of its clusters, or else its metadata, is to be written.
+    pub(crate) fn behind_zeros(
+        channel: u8,
+        planned: Planned,
+        zeroed: Zeroed,
+        old: PlaceList,
+    ) -> RunningJob
+        requires matched { IsMatched planned }
+        requires clusters { zeroed.clusters < length planned.effects.claimed }
+        requires pages { zeroed.pages < zeroed.cluster_pages }
+        ensures seen { job_seen result ≡ behind_zero (zeroing_job channel planned old zeroed) }
+        ensures headed { IsHeaded result }
+        ensures roomy { (metas : map.FinMap nat_cmp AMeta) (chains : map.FinMap nat_cmp (List ℕ))
+            (live : map.FinMap nat_cmp Xattrs) (guards : GuardsState)
+            → HasRoom metas chains live guards planned.effects → IsRoomy metas chains live guards result }
+    {
+        let Zeroed {
+            cluster_pages,
+            clusters,
+            pages,
+        } = zeroed;
+        let next_page = pages + 1;
+        if next_page < cluster_pages {
+            let next = Zeroed {
+                cluster_pages,
+                clusters,
+                pages: next_page,
+            };
+            let work = Work::Zeroing {
+                planned,
+                zeroed: next,
+            };
+            return RunningJob { channel, work, old };
+        }
+        let next_cluster = clusters + 1;
+        let count = planned.effects.claimed.len();
+        if next_cluster < count {
+            let next = Zeroed {
+                cluster_pages,
+                clusters: next_cluster,
+                pages: 0,
+            };
+            let work = Work::Zeroing {
+                planned,
+                zeroed: next,
+            };
+            return RunningJob { channel, work, old };
+        }
+        let work = Work::Writing {
+            planned,
+            written: 0,
+        };
+        RunningJob { channel, work, old }
+    }
+}
+
 /// The channel whose command waits for the commit of a job.
 pub(crate) fn waiting_for(job: &Option<RunningJob>) -> Option<u8>
     ensures { result ≡ option_and_then waits_for_job (option_map job_seen job.now) }
@@ -93,6 +184,7 @@ pub(crate) fn waiting_for(job: &Option<RunningJob>) -> Option<u8>
         return None;
     };
     match &running.work {
+        Work::Zeroing { .. } => Some(running.channel),
         Work::Writing { .. } => Some(running.channel),
         Work::Erasing { .. } => None,
     }

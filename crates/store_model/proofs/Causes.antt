@@ -1,5 +1,6 @@
 -- Why a command is refused, and that a refusal is allowed.
-use Rattle.std.proofs.Common.{◌≡◌, ◌∙◌, ℕ, Some, None, ap, subst, sym}
+use Rattle.std.proofs.Common.{◌≡◌, ◌∙◌, ◌<◌, ℕ, length, Some, None, ap, arith, subst, sym}
+use Rattle.pools.specs.Pool.{clear_in}
 use Rattle.volume_model.specs.Volumes.{Fixed, Volumes}
 use Rattle.volume_model.specs.Refusals.{refusal}
 use Rattle.volume_model.specs.Steps.{IsRefusal, Allowed}
@@ -56,6 +57,21 @@ may_lack p command changes commit (resizes x) =
     (ap (refusal (fixed_of p.super) (shown p)) (sym x.command_is) ∙ x.asked, tt) in
     subst (λ (k : Command). Allowed (fixed_of p.super) (shown p) k r.NoPage) (sym x.command_is) lack
 
+-- and one that asks for slots of zeros may find too few clusters
+may_be_full : (p : StoreState) (command : Command) (changes : Changes) (commit : Committing)
+    → IsJobFor p command changes commit → clear_in p.clusters < length changes.zero
+    → Allowed (fixed_of p.super) (shown p) command r.Full
+may_be_full p command changes commit (syncs x) fewer =
+    absurd (let none = ap (λ (y : Changes). length y.zero) x.is in omega (arith, fewer, none))
+may_be_full p command changes commit (creates x) fewer =
+    let full : Allowed (fixed_of p.super) (shown p) (c.Create x.name x.slots x.thick x.uuid) r.Full =
+    (ap (refusal (fixed_of p.super) (shown p)) (sym x.command_is) ∙ x.asked, tt) in
+    subst (λ (k : Command). Allowed (fixed_of p.super) (shown p) k r.Full) (sym x.command_is) full
+may_be_full p command changes commit (resizes x) fewer =
+    let full : Allowed (fixed_of p.super) (shown p) (c.Resize x.volume x.slots) r.Full =
+    (ap (refusal (fixed_of p.super) (shown p)) (sym x.command_is) ∙ x.asked, tt) in
+    subst (λ (k : Command). Allowed (fixed_of p.super) (shown p) k r.Full) (sym x.command_is) full
+
 pub is_allowed : (p : StoreState) (command : Command) (reply : Reply) → IsRefusedAtBegin p command reply
     → Allowed (fixed_of p.super) (shown p) command reply
 is_allowed p command r.Ok why = absurd why.0
@@ -65,7 +81,7 @@ is_allowed p command (r.Value value) why = absurd why.0
 is_allowed p command (r.Info info) why = absurd why.0
 is_allowed p command (r.List infos) why = absurd why.0
 is_allowed p command (r.Df df) why = absurd why.0
-is_allowed p command r.Full why = absurd why.0
+is_allowed p command r.Full why = may_be_full p command why.changes why.commit why.asked why.fewer
 is_allowed p command r.NoPage why = may_lack p command why.changes why.commit why.asked
 is_allowed p command r.ReadFault why = absurd why.0
 is_allowed p command r.Fault why = absurd why.0
@@ -89,10 +105,12 @@ pub caused_so : (p : StoreState) (command : Command) (reply : Reply) → IsCause
     → refusal (fixed_of p.super) (shown p) command ≡ Some reply → IsRefusedAtBegin p command reply
 caused_so p command r.Memory caused cause = absurd caused
 caused_so p command r.NoPage caused cause = absurd caused
+caused_so p command r.Full caused cause = absurd caused
 caused_so p command _ caused cause = (caused, cause)
 
 -- why a command is refused by who plans it is why it is refused at its begin
 pub at_begin_too : (p : StoreState) (command : Command) (reply : Reply) → IsRefusedBy p command reply
     → IsRefusedAtBegin p command reply
 at_begin_too p command r.NoPage why = absurd why.0
+at_begin_too p command r.Full why = absurd why.0
 at_begin_too p command _ why = why

@@ -41,7 +41,11 @@ use Rattle.store_model.proofs.Replaced.{loadable_given}
 use Rattle.store_model.proofs.StateKept.{allowed_here, log_kept, replay_plain, LogKept}
 use Rattle.store_model.proofs.Seen.{change_seen, metadata_seen}
 use Rattle.store_model.specs.Seen.{seen}
-use Rattle.store_model.proofs.JobKept.{copied_put, held_low, no_other, held_is, served_does}
+use Rattle.store_model.specs.Jobs.{Anything, ReadsZeros, zeros_in}
+use Rattle.store_model.proofs.Phases.{keeps_weaker}
+use Rattle.store_model.proofs.LeftToDo.{no_place}
+use Rattle.std.specs.Prelude.{◌/◌}
+use Rattle.store_model.proofs.JobKept.{claimed_unread, copied_put, held_low, no_other, held_is, served_does}
 use Rattle.store_model.proofs.Copies.{copied_committed, row_unclaimed}
 use Rattle.store_model.specs.Copying.{AreCopied, LeavesEmpty}
 use Rattle.store_model.proofs.OneReplacement.{some_pages}
@@ -107,8 +111,9 @@ module _ (known : Known) where
     commits_here : has_commit j.todo ≡ true
     commits_here = ap has_commit t.running.next
 
-    does : Does p.super p.base p.live command (Replaces r (Some t.commit) ∷ t.running.rest)
-    does = subst (Does p.super p.base p.live command) t.running.next
+    does : Does (ReadsZeros p.super j.claimed) p.super p.base p.live command
+        (Replaces r (Some t.commit) ∷ t.running.rest)
+    does = subst (Does (ReadsZeros p.super j.claimed) p.super p.base p.live command) t.running.next
         (served_does known j t.running.is t.running.runs t.served commits_here)
 
     base_is : replaced p.base r ≡ with_entry p.base r.head t.new
@@ -170,6 +175,13 @@ module _ (known : Known) where
 
     -- ---- what is shown
 
+    -- each page of the claimed clusters was overwritten, and is read as zeros still
+    zeros_read : ReadsZeros p.super j.claimed t.device.reads
+    zeros_read page among =
+        claimed_unread known well told r.head (page_in r.planned r.head) t.device loadable_new.stored.low t.moves.reads
+        page (subst (λ l. is_among (page / cluster_pages_of p.super) l ≡ true) (sym (ap claimed_by t.running.is)) among)
+        ∙ stood.zeroed page among (ap (λ todo. is_among page (zeros_in todo)) t.running.next)
+
     shows : shown now ≡ w
     shows =
         let at : t.device.reads ≡ read_after told p.device.reads (s.md_start + r.head) (page_in r.planned r.head) =
@@ -177,7 +189,7 @@ module _ (known : Known) where
         read_after told p.device.reads (y.md_start + r.head) (page_in r.planned r.head)) facts.super in
         let same : shown_of p.super p.base p.live t.device.reads ≡ shown p = shown_written told s p t.device r.head
         (page_in r.planned r.head) facts.super facts.loadable facts.lawful placed loadable_new.stored.low at in
-        let step = does.0.shows t.device.reads in
+        let step = does.0.shows t.device.reads zeros_read in
         let on_w : shown_of p.super (replaced p.base r) (live_of w) t.device.reads ≡ w =
         subst (λ (v : Volumes). shown_of p.super
         (replaced p.base r) (live_of (change (fixed_of p.super) v command t.commit.reply)) t.device.reads
@@ -232,8 +244,10 @@ module _ (known : Known) where
           served = λ c serves waits. absurd (let bad = sym does.1 ∙ waits in cc bad);
           inserts = λ row bad. absurd (let e = sym serves ∙ bad in cc e);
           keeps =
-              λ none other. subst (λ (m : Metas). Keeps p.super m (live_of w) t.running.rest) base_is
-              (does.2 p.device.reads);
+              λ none other. subst (λ (m : Metas). Keeps (ReadsZeros p.super []) p.super m (live_of w) t.running.rest)
+              base_is (keeps_weaker Anything (ReadsZeros p.super []) (λ image holds. tt) p.super (replaced p.base r)
+              (live_of w) t.running.rest (does.2 p.device.reads));
+          zeroed = λ page among out. absurd (no_place [] (page / cluster_pages_of p.super) among refl);
         } in
         subst (JobStands now) (sym g.is) stands
 

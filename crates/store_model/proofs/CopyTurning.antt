@@ -2,6 +2,10 @@
 use Rattle.std.proofs.Common.{◌≡◌, ℕ, suc, ◌+◌, ◌*◌, ◌/◌, ◌%◌, ◌<◌, ◌≤◌, false, List, Some, None, refl, sym, ap, ◌∙◌}
 use Rattle.std.proofs.Common.{subst, inl, inr, arith}
 use Rattle.std.proofs.Math.Nat.{mod-lt, mul-le-mul_right}
+use Rattle.std.proofs.lemmas.Nat.{div-mul-add}
+use Rattle.std.specs.Prelude.{true}
+use Rattle.std.proofs.lemmas.Bool.{both_ways}
+use Rattle.store_model.specs.Places.{claimed_by}
 use Rattle.page_disk.specs.Disk.{Image, Images, Written}
 use Rattle.page_disk.specs.declared.disk.PageDisk.{Ghosts}
 use Rattle.page_disk.specs.declared.disk.WriteKind.TheVariants.{Plain}
@@ -108,7 +112,10 @@ module _ (known : Known) (runs : known.p.stopped ≡ None) (row : ℕ) (claim : 
           (λ theirs n wanted under. slots_still theirs.head (theirs.slot * k + n))
 
       pub claimed_facts : p.device.clock ≤ d.clock → RunInvariant s first script (record p { device = d })
-      claimed_facts later = device_by known d shown_still (λ _. copied_too) later
+      claimed_facts later = device_by known d shown_still (λ _. copied_too) (λ n among. same n (λ e.
+          let at : n / k ≡ claim.cluster = ap (λ m. m / k) e ∙ div-mul-add claim.cluster k page low in
+          both_ways (is_among claim.cluster (claimed_by p.job)) (well.claims.job row claim held)
+          (subst (λ m. is_among m (claimed_by p.job) ≡ true) at among))) later
 
 -- ---- what images say
 

@@ -1,5 +1,5 @@
 -- What a create asks for: a blob that a load takes, and what each image shows with it.
-use Rattle.std.proofs.Common.{◌≡◌, ◌⊎◌, ℕ, suc, zero, ◌+◌, ◌<◌, ◌≤◌, ◌^◌, Bool, true, false, List, [], ◌∷◌, length}
+use Rattle.std.proofs.Common.{◌≡◌, ℕ, ◌+◌, ◌<◌, ◌≤◌, ◌^◌, Bool, true, false, List, [], ◌∷◌, length}
 use Rattle.std.proofs.Common.{Option}
 use Rattle.std.proofs.Common.{Some, None, refl, sym, ap, ◌∙◌, subst, inl, inr, arith}
 use Rattle.std.specs.Prelude.{if◌then◌else◌, is_some}
@@ -24,7 +24,7 @@ use Rattle.volume_model.proofs.BlankSteps.{same_change}
 use Rattle.blob_meta.specs.declared.meta.Meta.{Meta}
 use Rattle.blob_meta.specs.declared.job.Job.{Job as Changes}
 use Rattle.blob_meta.specs.Jobs.{new_meta}
-use Rattle.blob_meta.specs.Resolving.{resolved, slots_together}
+use Rattle.blob_meta.specs.Resolving.{resolved, slots_together, IsLawful}
 use Rattle.store_model.specs.Maps.{Metas, with_entry}
 use Rattle.store_model.specs.Shown.{fixed_of}
 use Rattle.store_model.specs.Phases.{Committing, replaced, Replacing}
@@ -33,27 +33,32 @@ use Rattle.store_model.specs.Asking.{IsCreateJob}
 use Rattle.store_model.proofs.ShowsGiven.{none_childless}
 use Rattle.store_model.proofs.EmptySlots.{Any, leaves_elsewhere, leaves_resolved}
 use Rattle.store_model.specs.Copying.{LeavesEmpty}
-use Rattle.store_model.specs.Jobs.{IsStep, shown_of}
+use Rattle.store_model.specs.Jobs.{IsStep, ReadsZeros, shown_of, with_clusters}
 use Rattle.store_model.specs.Loadable.{AreLoadable, CanBeWritten, IsLoadable}
 use Rattle.store_model.specs.RunInvariant.{RunsWell}
 use Rattle.store_model.proofs.Known.{Known}
 use Rattle.store_model.proofs.Meanwhile.{blank_reading, reading}
 use Rattle.store_model.proofs.Moved.{live_shown, live_writable}
-use Rattle.store_model.proofs.NewBlob.{new_loadable, new_takes_none, two_written}
+use Rattle.store_model.proofs.NewBlob.{empty_slot, new_takes_none, two_written}
+use Rattle.store_model.proofs.ClaimedZeros.{claimed_inside, zeroed_fresh, zeroed_is, zeros_read}
+use Rattle.store_model.proofs.InARow.{among_range, range_among, range_differs}
+use Rattle.store_model.proofs.ZeroSlots.{filled_slot, AreEmpty}
+use Rattle.store_model.proofs.ZeroedBlob.{all_filled, lawful_zeroed, new_but, zeroed_loadable, IsZeroed}
+use Rattle.blob_meta.specs.declared.fault.MetaFault.TheVariants.{HoleInThick}
+use Rattle.blob_meta.specs.Faults.{hole_in_thick}
+use Rattle.blob_meta.specs.Parents.{slot}
+use Rattle.store_model.specs.Places.{AreDistinct, AreLeastClear, IsMapped}
 use Rattle.store_model.proofs.OneReplacement.{all_loadable, base_is, base_lawful, base_loadable, base_resolved, IsReady}
-use Rattle.store_model.proofs.OneReplacement.{ready_by, some_pages}
+use Rattle.store_model.proofs.OneReplacement.{lawful_still, ready_by, some_pages}
 use Rattle.store_model.proofs.ShowsNew.{live_here, shown_made, w_elsewhere}
 use Rattle.store_model.proofs.SlotSums.{all_shown, slots_given, slots_in}
 use Rattle.store_model.proofs.Writable.{AllWritable, none_holds}
 use Rattle.store_model.proofs.WithEntry.{given_here, given_elsewhere}
 use Rattle.store_model.proofs.Sets.{among_first, not_first}
 
--- a new blob without slots of zeros is thin, or has no slot
-thin_or_none : (thick : Bool) (slots : ℕ) → (if thick then range_with_len 0 slots else []) ≡ []
-    → (thick ≡ false) ⊎ (slots ≡ 0)
-thin_or_none false slots none = inl refl
-thin_or_none true zero none = inr refl
-thin_or_none true (suc n) none = absurd (cc none)
+-- the slots of a new blob that get clusters of zeros
+abbrev pub new_zeros : Bool → ℕ → List ℕ
+new_zeros thick slots = if thick then range_with_len 0 slots else []
 
 -- a create that isn't too large
 record Fits (f : Fixed) (v : Volumes) (slots : ℕ) : Type 0 where
@@ -81,16 +86,21 @@ module _ (known : Known) where
   open known use {first, p, facts}
 
   module _ (runs : p.stopped ≡ None) (name : Text) (slots : ℕ) (thick : Bool) (uuid : Option (List ℕ))
-      (thin : (thick ≡ false) ⊎ (slots ≡ 0)) (xattrs : Xattrs) (can : CanBeWritten xattrs)
+      (claimed : List ℕ) (least : AreLeastClear p.clusters claimed)
+      (one_each : length claimed ≡ length (new_zeros thick slots)) (xattrs : Xattrs) (can : CanBeWritten xattrs)
       (are : two_xattrs (fixed_of p.super) (shown p) name uuid ≡ xattrs)
       (asked : refusal (fixed_of p.super) (shown p) (c.Create name slots thick uuid) ≡ None) (head : ℕ)
       (none : p.base head ≡ None) (low : head < p.super.md_len) (r : Replacing) (head_is : r.head ≡ head)
-      (new_is : r.new ≡ Some (new_meta head xattrs thick slots)) where
+      (new_is : r.new ≡ Some (with_clusters (new_meta head xattrs thick slots) (new_zeros thick slots) claimed)) where
     well : RunsWell first p
     well = facts.well runs
 
+    -- the new metadata, without clusters and with them
+    abbrev bare : Meta
+    bare = new_meta head xattrs thick slots
+
     abbrev new : Meta
-    new = new_meta head xattrs thick slots
+    new = with_clusters bare (new_zeros thick slots) claimed
 
     abbrev all : Metas
     all = with_entry p.base head new
@@ -98,24 +108,70 @@ module _ (known : Known) where
     abbrev commit : Committing
     commit = record { reply = r_.Made head; live = Some xattrs; renews = head ∷ [] }
 
+    zeros_differ : (b : Bool) → AreDistinct (new_zeros b slots)
+    zeros_differ true = range_differs 0 slots
+    zeros_differ false = tt
+
+    zeros_low : (b : Bool) (i : ℕ) → is_among i (new_zeros b slots) ≡ true → i < slots
+    zeros_low true i among = let lt = (among_range 0 slots i among).1 in omega (arith, lt)
+    zeros_low false i among = absurd (cc among)
+
+    all_empty : AreEmpty bare (new_zeros thick slots)
+    all_empty i among = (
+      subst (λ n. i < n) (sym (length-replicate {A = Option ℕ} slots None)) (zeros_low thick i among),
+      empty_slot slots i,
+    )
+
+    no_cluster : (i c : ℕ) → slot bare i ≡ Some c → IsMapped p.base c
+    no_cluster i c at = absurd (let bad = sym (empty_slot slots i) ∙ at in cc bad)
+
+    zeroed : IsZeroed bare new claimed
+    zeroed = zeroed_is known runs claimed least head bare (new_zeros thick slots) (zeros_differ thick) all_empty
+        no_cluster
+
     few : Fits (fixed_of p.super) (shown p) slots
     few = fits (fixed_of p.super) (shown p) name slots thick uuid asked
 
     one_loadable : IsLoadable p.super head new
-    one_loadable = new_loadable p.super head xattrs thick slots low can few.alone thin
+    one_loadable = zeroed_loadable p.super head bare new claimed zeroed
+        (new_but p.super head xattrs thick slots low can few.alone) (claimed_inside known runs claimed least)
+        (no_hole thick refl)
+      where
+        no_hole : (b : Bool) → b ≡ thick → hole_in_thick (new_meta head xattrs b slots).flags new.map ≡ None
+        no_hole false is = refl
+        no_hole true is = ap (λ o. option_map HoleInThick o) (all_filled new.map (λ i lt.
+            let filled : (b : Bool) → true ≡ b → is_among i (new_zeros b slots) ≡ true =
+            λ b e. subst (λ b. is_among i (new_zeros b slots) ≡ true) e
+            (range_among 0 slots i (omega arith)
+            (omega (arith, lt, zeroed.long, length-replicate {A = Option ℕ} slots None))) in
+            filled_slot bare (new_zeros thick slots) claimed (zeros_differ thick) all_empty one_each i
+            (filled thick is)))
 
     loadable : AreLoadable p.super all
     loadable = all_loadable known head new one_loadable
 
-    all_few : slots_together p.super.md_len all ≤ 2 ^ 24
-    all_few =
-        let counted : slots_together p.super.md_len all + 0 ≡ slots_together p.super.md_len p.base + length new.map =
-        ap (λ o. slots_together p.super.md_len all + slots_in o) (sym none)
-        ∙ slots_given p.super.md_len p.base head new low in
+    few_with : (m : Meta) → length m.map ≡ slots → slots_together p.super.md_len (with_entry p.base head m) ≤ 2 ^ 24
+    few_with m long =
+        let counted : slots_together p.super.md_len (with_entry p.base head m) + 0
+        ≡ slots_together p.super.md_len p.base + length m.map =
+        ap (λ o. slots_together p.super.md_len (with_entry p.base head m) + slots_in o) (sym none)
+        ∙ slots_given p.super.md_len p.base head m low in
         let shows : all_slots (fixed_of p.super) (shown p) ≡ slots_together p.super.md_len p.base =
         all_shown (fixed_of p.super) p.device.reads (resolved p.base)
         (some_pages known) p.live ∙ ap (slots_together p.super.md_len) (base_resolved known) in
-        omega (arith, counted, shows, few.together, length-replicate {A = Option ℕ} slots None)
+        omega (arith, counted, shows, few.together, long)
+
+    bare_few : slots_together p.super.md_len (with_entry p.base head bare) ≤ 2 ^ 24
+    bare_few = few_with bare (length-replicate {A = Option ℕ} slots None)
+
+    all_few : slots_together p.super.md_len all ≤ 2 ^ 24
+    all_few = few_with new (zeroed.long ∙ length-replicate {A = Option ℕ} slots None)
+
+    all_lawful : IsLawful p.super.md_len all
+    all_lawful = lawful_zeroed p.super.md_len p.base head bare new claimed zeroed
+        (zeroed_fresh known runs claimed least head bare (new_zeros thick slots) (zeros_differ thick) all_empty
+        no_cluster)
+        (lawful_still known head bare (new_takes_none p.base head xattrs thick slots none) bare_few) all_few
 
     base_now : replaced p.base r ≡ all
     base_now = base_is known head new one_loadable r head_is new_is
@@ -142,18 +198,18 @@ module _ (known : Known) where
         (low, free),
       )
 
-      shows_new : shown_of p.super (replaced p.base r) (live_of w) image ≡ w
-      shows_new = ap (λ (m : Metas). shown_of p.super m (live_of w) image) base_now
+      shows_new : ReadsZeros p.super claimed image → shown_of p.super (replaced p.base r) (live_of w) image ≡ w
+      shows_new holds = ap (λ (m : Metas). shown_of p.super m (live_of w) image) base_now
           ∙ shown_made there (base_loadable known) (base_lawful known) head none name slots thick uuid xattrs
-          same_two loadable
+          same_two new loadable claimed zeroed (zeros_read known claimed image holds)
 
       live_at : live_of w head ≡ Some xattrs
       live_at = live_here there (base_loadable known) (base_lawful known) head none name slots thick uuid xattrs
-          same_two loadable
+          same_two new loadable
 
       others : (h : ℕ) → (h ≡ head → ⊥) → w h ≡ shown there h
       others = w_elsewhere there (base_loadable known) (base_lawful known) head none name slots thick uuid xattrs
-          same_two loadable
+          same_two new loadable
 
       lives : live_of w ≡ with_entry p.live r.head xattrs
       lives = fun_ext (λ h. elim (cases_eq h head) [
@@ -173,7 +229,7 @@ module _ (known : Known) where
         | inr ne ↦ live_writable there well.live h v (sym (others h ne) ∙ is)
       ]
 
-    step : IsStep p.super p.base r p.live (c.Create name slots thick uuid) commit
+    step : IsStep (ReadsZeros p.super claimed) p.super p.base r p.live (c.Create name slots thick uuid) commit
     step = record {
       metadata = tt;
       done = tt;
@@ -192,26 +248,29 @@ module _ (known : Known) where
           (not_first h head [] out).0));
     }
 
-    pub ready : IsReady p (c.Create name slots thick uuid) commit new r
-    ready = ready_by known head new one_loadable r head_is new_is (c.Create name slots thick uuid) commit
-        (new_takes_none p.base head xattrs thick slots none) all_few step
+    pub ready : IsReady p claimed (c.Create name slots thick uuid) commit new r
+    ready = ready_by known head new one_loadable r head_is new_is claimed (c.Create name slots thick uuid) commit
+        all_lawful all_few step
 
-  -- what a create without slots of zeros asks for is ready, once its head is a place of the region
+  -- what a create asks for is ready, with the clusters that are claimed for it, once its head is a place of the region
   pub create_ready : p.stopped ≡ None → (command : Command) (changes : Changes) (commit : Committing)
-      → (asks : IsCreateJob p command changes commit) → changes.zero ≡ [] → asks.head < p.super.md_len → (r : Replacing)
+      → (asks : IsCreateJob p command changes commit) → (claimed : List ℕ) → AreLeastClear p.clusters claimed
+      → length claimed ≡ length (new_zeros asks.thick asks.slots) → asks.head < p.super.md_len → (r : Replacing)
       → r.head ≡ asks.head
-      → r.new ≡ Some (new_meta asks.head (two_xattrs (fixed_of p.super) (shown p) asks.name asks.uuid) asks.thick
-      asks.slots)
-      → IsReady p command commit (new_meta asks.head
-      (two_xattrs (fixed_of p.super) (shown p) asks.name asks.uuid) asks.thick asks.slots) r
-  create_ready runs command changes commit asks zeros low r head_is new_is =
+      → r.new ≡ Some (with_clusters (new_meta asks.head (two_xattrs (fixed_of p.super) (shown p) asks.name asks.uuid)
+      asks.thick asks.slots) (new_zeros asks.thick asks.slots) claimed)
+      → IsReady p claimed command commit (with_clusters (new_meta asks.head
+      (two_xattrs (fixed_of p.super) (shown p) asks.name asks.uuid) asks.thick asks.slots)
+      (new_zeros asks.thick asks.slots) claimed) r
+  create_ready runs command changes commit asks claimed least one_each low r head_is new_is =
       let xattrs = two_xattrs (fixed_of p.super) (shown p) asks.name asks.uuid in
-      let new = new_meta asks.head xattrs asks.thick asks.slots in
+      let new = with_clusters (new_meta asks.head xattrs asks.thick asks.slots) (new_zeros asks.thick asks.slots)
+      claimed in
       let one = ready runs asks.name asks.slots asks.thick asks.uuid
-      (thin_or_none asks.thick asks.slots (sym (ap (λ (x : Changes). x.zero) asks.is) ∙ zeros)) xattrs
+      claimed least one_each xattrs
       (two_written (fixed_of p.super) (shown p) asks.name asks.uuid asks.named) refl
       (ap (refusal (fixed_of p.super) (shown p)) (sym asks.command_is) ∙ asks.asked) asks.head asks.none low r
       head_is new_is in
-      subst (λ (x : Command). IsReady p x commit new r) (sym asks.command_is)
-      (subst (λ (x : Committing). IsReady p (c.Create asks.name asks.slots asks.thick asks.uuid) x new r)
+      subst (λ (x : Command). IsReady p claimed x commit new r) (sym asks.command_is)
+      (subst (λ (x : Committing). IsReady p claimed (c.Create asks.name asks.slots asks.thick asks.uuid) x new r)
       (sym asks.commit_is) one)

@@ -108,7 +108,7 @@ module _ (fixed clusters : ℕ) where
         ∙ inside_take map slots none
   ]
 
--- no slot is empty that wasn't, where none is added
+-- no slot of a map without a hole is empty
 pub all_full : (map : List (Option ℕ)) → position is_none map ≡ None → (i : ℕ) → i < length map
     → is_none (slice_index_or map i None) ≡ false
 all_full map none i lt = elim (cases_lt (position_or_len is_none map) (length map)) [

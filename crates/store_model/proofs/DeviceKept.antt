@@ -1,4 +1,9 @@
 -- The device goes on: what every state has is kept where what is read shows the same.
+use Rattle.page_disk.specs.Disk.{Image}
+use Rattle.std.specs.Prelude.{ℕ, ◌/◌, true}
+use Rattle.md_chain.specs.Chain.{is_among}
+use Rattle.super_block.specs.Numbers.{cluster_pages_of}
+use Rattle.store_model.specs.Places.{claimed_by}
 use Rattle.std.proofs.Common.{◌≡◌, ◌≤◌, None, refl, sym, ap, ◌∙◌, subst, arith}
 use Rattle.std.proofs.lemmas.List.Elements.{All-weaker}
 use Rattle.volume_model.specs.Volumes.{Volumes}
@@ -31,9 +36,11 @@ module _ (known : Known) where
 
   -- the device goes on, and what is read shows the same volumes, and what was copied
   pub device_by : (d : Device) → shown (record p { device = d }) ≡ shown p
-      → (p.stopped ≡ None → AreCopied (record p { device = d })) → p.device.clock ≤ d.clock
+      → (p.stopped ≡ None → AreCopied (record p { device = d }))
+      → ((page : ℕ) → is_among (page / cluster_pages_of p.super) (claimed_by p.job) ≡ true
+      → d.reads page ≡ p.device.reads page) → p.device.clock ≤ d.clock
       → RunInvariant s first script (record p { device = d })
-  device_by d same copied later =
+  device_by d same copied zeroed later =
       let now : StoreState = record p { device = d } in
       record {
         super = facts.super;
@@ -53,7 +60,9 @@ module _ (known : Known) where
               generations = well.generations;
               claims_drawn = well.claims_drawn;
               copied = copied runs;
-              job = λ j is. stands_same p now refl refl refl refl refl j (λ c in_job. refl) (well.job j is);
+              job = λ j is. stands_same p now refl refl refl refl refl j (λ c in_job. refl)
+                  (λ page among. zeroed page (ap (λ o. is_among (page / cluster_pages_of p.super) (claimed_by o)) is
+                  ∙ among)) (well.job j is);
               replayed = same ∙ well.replayed;
             };
         way = way_kept script p facts.way now refl (λ c. refl);
@@ -73,4 +82,4 @@ module _ (known : Known) where
   device_facts d reads later =
       device_by d (ap (λ i. shown (record p { device = record d { reads = i } })) reads)
       (λ runs. copied_same p (record p { device = d }) (facts.well runs).copied refl refl refl (λ row claim page x. x)
-      reads) later
+      reads) (λ page among. ap (λ (i : Image). i page) reads) later

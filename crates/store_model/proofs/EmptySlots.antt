@@ -87,23 +87,23 @@ leaves_elsewhere s metas head new childless h ne page m is empty = record {
       page h ne;
 }
 
--- of that one, where slots are added to it
+-- where slots are added an empty one was empty
+pub resized_empty : (old : Meta) (slots : ℕ) → length old.map ≤ slots → (i : ℕ) → slot (resized_meta old slots) i ≡ None
+    → slot old i ≡ None
+resized_empty old slots grows i none = elim (cases_lt i slots) [
+  | inl lt ↦ sym (slot_kept old.map slots i lt) ∙ none
+  | inr ge ↦ slot_past old.map i (omega (arith, ge, grows))
+]
+
+-- of that one, where it has its parent still and no slot is emptied
 module _ (s : Super) (metas : Metas) (head : ℕ) (old : Meta) (there : metas head ≡ Some old)
-    (childless : IsChildless metas head) (slots : ℕ) (grows : length old.map ≤ slots) where
+    (childless : IsChildless metas head) (next : Meta) (parent : parent_of next ≡ parent_of old)
+    (was_empty : (i : ℕ) → slot next i ≡ None → slot old i ≡ None) where
   abbrev k : ℕ
   k = cluster_pages_of s
 
-  abbrev next : Meta
-  next = resized_meta old slots
-
   abbrev nexts : Metas
   nexts = with_entry metas head next
-
-  was_empty : (i : ℕ) → slot next i ≡ None → slot old i ≡ None
-  was_empty i none = elim (cases_lt i slots) [
-    | inl lt ↦ sym (slot_kept old.map slots i lt) ∙ none
-    | inr ge ↦ slot_past old.map i (omega (arith, ge, grows))
-  ]
 
   shows_same : (image : Image) (page : ℕ) → slot next (page / k) ≡ None → slot old (page / k) ≡ None
       → content k image nexts (suc s.md_len) head page ≡ content k image metas (suc s.md_len) head page
@@ -117,14 +117,14 @@ module _ (s : Super) (metas : Metas) (head : ℕ) (old : Meta) (there : metas he
     where
       inside : content_by k image nexts (λ p r. content k image nexts s.md_len p r) page next
           ≡ content_by k image metas (λ p r. content k image metas s.md_len p r) page old
-      inside = rw (none, before)
+      inside = rw (none, before, parent)
           (through k metas nexts head (λ q other. given_elsewhere metas head next q other) childless image image
           (λ _ _ _ _ _ _ _. refl) s.md_len head page old
           (same_elsewhere k metas nexts head (λ q other. given_elsewhere metas head next q other) childless image image
           (λ _ _ _ _ _ _ _. refl) s.md_len page) there (parent_of old) refl)
 
-  pub leaves_resized : LeavesEmpty s metas nexts Any head
-  leaves_resized page m is empty =
+  pub leaves_given : LeavesEmpty s metas nexts Any head
+  leaves_given page m is empty =
       let one : next ≡ m = let both = sym (given_here metas head next head refl) ∙ is in cc both in
       let none : slot next (page / k) ≡ None = ap (λ (x : Meta). slot x (page / k)) one ∙ empty in
       let before = was_empty (page / k) none in

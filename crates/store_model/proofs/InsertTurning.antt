@@ -26,7 +26,10 @@ use Rattle.store_model.proofs.InsertedClusters.{differ_inserted, drawn_inserted,
 use Rattle.store_model.proofs.JobKept.{held_is, held_low, no_other}
 use Rattle.store_model.proofs.InsertShown as before
 use Rattle.store_model.proofs.Known.{Known}
+use Rattle.std.specs.Prelude.{◌/◌}
+use Rattle.super_block.specs.Numbers.{cluster_pages_of}
 use Rattle.store_model.proofs.LeftToDo.{
+  no_place,
   among_left,
   among_taken,
   distinct_left,
@@ -184,6 +187,8 @@ module _ (known : Known) where
               (old_distinct p.super p.base p.chains well.chains p.pages r later can.chain can.unerased used differ);
           served = λ c bad waits. absurd (let both = sym serves ∙ bad in cc both);
           keeps = λ none other. absurd (other row serves);
+          zeroed = λ page among out. absurd (no_place j.claimed (page / cluster_pages_of p.super) among
+              inserts.unclaimed);
           inserts = λ c is_for.
               let e : row ≡ c = let both = sym serves ∙ is_for in cc both in
               subst (InsertStands now (record j { written = []; todo = rest })) e (record {

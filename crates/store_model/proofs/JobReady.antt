@@ -1,5 +1,24 @@
 -- A job that a command asks for is ready once it is laid on pages, whatever the verb.
-use Rattle.std.proofs.Common.{◌≡◌, ◌∙◌, ℕ, ◌<◌, Bool, true, false, List, [], ◌∷◌, None, Some, refl, sym, ap, subst, inl}
+use Rattle.std.proofs.Common.{
+  ◌≡◌,
+  ◌∙◌,
+  ℕ,
+  ◌<◌,
+  Bool,
+  true,
+  false,
+  List,
+  [],
+  ◌∷◌,
+  length,
+  None,
+  Some,
+  refl,
+  sym,
+  ap,
+  subst,
+  inl,
+}
 use Rattle.std.proofs.Common.{inr, arith}
 use Rattle.std.specs.Prelude.{if◌then◌else◌, is_some, ◌+◌}
 use Rattle.std.proofs.lemmas.Bool.{cases_Bool}
@@ -17,14 +36,15 @@ use Rattle.store_model.specs.Places.{AreLeastClear}
 use Rattle.store_model.specs.StoreState.{shown, StoreState}
 use Rattle.store_model.specs.Asking.{creates, IsJobFor, resizes, syncs}
 use Rattle.store_model.specs.Maps.{Metas}
-use Rattle.store_model.specs.Jobs.{IsLaid, LacksPages, LacksPagesFor}
+use Rattle.store_model.specs.Jobs.{with_clusters, IsLaid, LacksPages, LacksPagesFor}
+use Rattle.blob_meta.specs.Faults.{is_thin}
 use Rattle.store_model.specs.Loadable.{IsLoadable}
 use Rattle.store_model.specs.RunInvariant.{RunsWell}
-use Rattle.store_model.proofs.CreateStep.{create_ready}
+use Rattle.store_model.proofs.CreateStep.{create_ready, new_zeros}
 use Rattle.store_model.proofs.Known.{Known}
 use Rattle.store_model.proofs.LeftToDo.{chain_new, chain_there}
 use Rattle.store_model.proofs.OneReplacement.{IsReady}
-use Rattle.store_model.proofs.ResizeStep.{resize_ready}
+use Rattle.store_model.proofs.ResizeStep.{added_zeros, resize_ready}
 use Rattle.store_model.proofs.SyncStep.{sync_ready}
 
 -- ---- the one replacement
@@ -49,24 +69,34 @@ module _ (p : StoreState) (command : Command) (changes : Changes) (commit : Comm
       new_meta x.head (two_xattrs (fixed_of p.super) (shown p) x.name x.uuid) x.thick x.slots
   new_of (resizes x) = resized_meta x.old x.slots
 
-  -- changes without slots of zeros are no more than that
-  pub one_change : (asked : IsJobFor p command changes commit) → changes.zero ≡ []
-      → changes ≡ job_of_one (head_of asked) (new_of asked)
-  one_change (syncs x) zeros = x.is
-  one_change (creates x) zeros =
-      x.is ∙ ap (λ (z : List ℕ). record (job_of_one x.head (new_of (creates x))) { zero = z })
-      (sym (ap (λ (y : Changes). y.zero) x.is) ∙ zeros)
-  one_change (resizes x) zeros =
-      x.is ∙ ap (λ (z : List ℕ). record (job_of_one x.head (new_of (resizes x))) { zero = z })
-      (sym (ap (λ (y : Changes). y.zero) x.is) ∙ zeros)
+  -- the slots that get clusters of zeros
+  abbrev pub zeros_of : IsJobFor p command changes commit → List ℕ
+  zeros_of (syncs x) = []
+  zeros_of (creates x) = new_zeros x.thick x.slots
+  zeros_of (resizes x) = added_zeros (is_thin x.old.flags) (length x.old.map) x.slots
+
+  -- the metadata with these clusters in them
+  abbrev pub with_claimed : IsJobFor p command changes commit → List ℕ → Meta
+  with_claimed asked claimed = with_clusters (new_of asked) (zeros_of asked) claimed
+
+  -- all changes are one replacement, with such slots
+  pub one_change : (asked : IsJobFor p command changes commit)
+      → changes ≡ record (job_of_one (head_of asked) (new_of asked)) { zero = zeros_of asked }
+  one_change (syncs x) = x.is
+  one_change (creates x) = x.is
+  one_change (resizes x) = x.is
+
+none_long : (l : List ℕ) → length l ≡ 0 → l ≡ []
+none_long [] e = refl
+none_long (x ∷ xs) e = absurd (cc e)
 
 -- ---- laid on pages
 
 module _ (known : Known) where
   open known use {s, placed, first, script, p, facts}
 
-  module _ (runs : p.stopped ≡ None) (r : Replacing) (x : Replacement)
-      (laid : IsLaid p.super p.base p.chains p.pages [] x r) where
+  module _ (runs : p.stopped ≡ None) (claimed : List ℕ) (r : Replacing) (x : Replacement)
+      (laid : IsLaid p.super p.base p.chains p.pages claimed x r) where
     well : RunsWell first p
     well = facts.well runs
 
@@ -95,49 +125,57 @@ module _ (known : Known) where
         omega (arith, below, well.pages.count)
 
   pub job_ready : p.stopped ≡ None → (command : Command) (changes : Changes) (commit : Committing)
-      → (asked : IsJobFor p command changes commit) → changes.zero ≡ [] → (r : Replacing)
-      → IsLaid p.super p.base p.chains p.pages []
-      (record { head = head_of p command changes commit asked; new = Some (new_of p command changes commit asked) }) r
-      → IsReady p command commit (new_of p command changes commit asked) r
-  job_ready runs command changes commit (syncs y) zeros r laid =
-      subst (λ (c : Committing). IsReady p command c y.new r) (sym y.commit_is)
+      → (asked : IsJobFor p command changes commit) → (claimed : List ℕ) → AreLeastClear p.clusters claimed
+      → length claimed ≡ length (zeros_of p command changes commit asked) → (r : Replacing)
+      → IsLaid p.super p.base p.chains p.pages claimed (record {
+        head = head_of p command changes commit asked;
+        new = Some (with_claimed p command changes commit asked claimed);
+      }) r
+      → IsReady p claimed command commit (with_claimed p command changes commit asked claimed) r
+  job_ready runs command changes commit (syncs y) claimed least one_each r laid =
+      subst (λ l. IsReady p l command commit y.new r) (sym (none_long claimed one_each))
+      (subst (λ (c : Committing). IsReady p [] command c y.new r) (sym y.commit_is)
       (sync_ready known runs command y.head y.new y.asks r laid.head laid.new
-      (there_not_made runs r _ laid y.asks.old (ap p.base laid.head ∙ y.asks.there)))
-  job_ready runs command changes commit (creates y) zeros r laid =
-      create_ready known runs command changes commit y zeros
+      (there_not_made runs claimed r _ laid y.asks.old (ap p.base laid.head ∙ y.asks.there))))
+  job_ready runs command changes commit (creates y) claimed least one_each r laid =
+      create_ready known runs command changes commit y claimed least one_each
       (subst (λ h. h < p.super.md_len) laid.head
-      (made_low runs r _ laid (none_made runs r _ laid (ap p.base laid.head ∙ y.none)) laid.planned.least)) r laid.head
-      laid.new
-  job_ready runs command changes commit (resizes y) zeros r laid =
-      resize_ready known runs command changes commit y zeros r laid.head laid.new
-      (there_not_made runs r _ laid y.old (ap p.base laid.head ∙ y.there))
+      (made_low runs claimed r _ laid (none_made runs claimed r _ laid (ap p.base laid.head ∙ y.none))
+      laid.planned.least)) r laid.head laid.new
+  job_ready runs command changes commit (resizes y) claimed least one_each r laid =
+      resize_ready known runs command changes commit y claimed least one_each r laid.head laid.new
+      (there_not_made runs claimed r _ laid y.old (ap p.base laid.head ∙ y.there))
 
   -- the metadata that it asks for can be written, before it is laid on pages
   pub job_writable : p.stopped ≡ None → (command : Command) (changes : Changes) (commit : Committing)
-      → IsJobFor p command changes commit → changes.zero ≡ [] → (x : Replacement) (new : Meta)
-      → changes.list ≡ x ∷ [] → x.new ≡ Some new → x.head < s.md_len → IsLoadable s x.head new
-  job_writable runs command changes commit asked zeros x new list is low =
-      let one : x ≡ record {
-        head = head_of p command changes commit asked;
-        new = Some (new_of p command changes commit asked);
-      } =
-      let both = sym list ∙ ap (λ (y : Changes). y.list) (one_change p command changes commit asked zeros) in cc both
+      → IsJobFor p command changes commit → (claimed : List ℕ) → AreLeastClear p.clusters claimed
+      → length claimed ≡ length changes.zero → (x : Replacement) (new : Meta)
+      → changes.list ≡ x ∷ [] → x.new ≡ Some new → x.head < s.md_len
+      → IsLoadable s x.head (with_clusters new changes.zero claimed)
+  job_writable runs command changes commit asked claimed least one_each x new list is low =
+      let head = head_of p command changes commit asked in
+      let bare = new_of p command changes commit asked in
+      let zeros_are : changes.zero ≡ zeros_of p command changes commit asked =
+      ap (λ (y : Changes). y.zero) (one_change p command changes commit asked) in
+      let one : x ≡ record { head = head; new = Some bare } =
+      let both = sym list ∙ ap (λ (y : Changes). y.list) (one_change p command changes commit asked) in cc both
       in
-      let head_is : x.head ≡ head_of p command changes commit asked = ap (λ (y : Replacement). y.head) one in
-      let new_is : new_of p command changes commit asked ≡ new =
-      let both = sym (ap (λ (y : Replacement). y.new) one) ∙ is in cc both in
-      let written : IsLoadable p.super (head_of p command changes commit asked)
-      (new_of p command changes commit asked) =
-      by asked
+      let head_is : x.head ≡ head = ap (λ (y : Replacement). y.head) one in
+      let new_is : bare ≡ new = let both = sym (ap (λ (y : Replacement). y.new) one) ∙ is in cc both in
+      let written : IsLoadable p.super head (with_claimed p command changes commit asked claimed) =
+      by asked (one_each ∙ ap (λ (l : List ℕ). length l) zeros_are)
       (subst (λ h. h < p.super.md_len) head_is (subst (λ (y : Super). x.head < y.md_len) (sym facts.super) low))
       in
-      subst (IsLoadable s x.head) new_is (subst (λ h. IsLoadable s h (new_of p command changes commit asked))
-      (sym head_is) (subst (λ (y : Super). IsLoadable y (head_of p command changes commit asked)
-      (new_of p command changes commit asked)) facts.super written))
+      subst (λ l. IsLoadable s x.head (with_clusters new l claimed)) (sym zeros_are)
+      (subst (λ (m : Meta). IsLoadable s x.head (with_clusters m (zeros_of p command changes commit asked) claimed))
+      new_is
+      (subst (λ h. IsLoadable s h (with_claimed p command changes commit asked claimed)) (sym head_is)
+      (subst (λ (y : Super). IsLoadable y head (with_claimed p command changes commit asked claimed)) facts.super
+      written)))
     where
       -- on no pages
-      bare : ℕ → Meta → Bool → Replacing
-      bare head m makes = record {
+      bare_at : ℕ → Meta → Bool → Replacing
+      bare_at head m makes = record {
         head = head;
         new = Some m;
         makes = makes;
@@ -147,11 +185,14 @@ module _ (known : Known) where
         freed = [];
       }
 
-      by : (asked : IsJobFor p command changes commit) → head_of p command changes commit asked < p.super.md_len
-          → IsLoadable p.super (head_of p command changes commit asked) (new_of p command changes commit asked)
-      by (syncs y) low =
-          (sync_ready known runs command y.head y.new y.asks (bare y.head y.new false) refl refl refl).loadable
-      by (creates y) low = (create_ready known runs command changes commit y zeros low
-          (bare y.head (new_of p command changes commit (creates y)) true) refl refl).loadable
-      by (resizes y) low = (resize_ready known runs command changes commit y zeros
-          (bare y.head (new_of p command changes commit (resizes y)) false) refl refl refl).loadable
+      by : (asked : IsJobFor p command changes commit)
+          → length claimed ≡ length (zeros_of p command changes commit asked)
+          → head_of p command changes commit asked < p.super.md_len
+          → IsLoadable p.super (head_of p command changes commit asked)
+          (with_claimed p command changes commit asked claimed)
+      by (syncs y) long low =
+          (sync_ready known runs command y.head y.new y.asks (bare_at y.head y.new false) refl refl refl).loadable
+      by (creates y) long low = (create_ready known runs command changes commit y claimed least long low
+          (bare_at y.head (with_claimed p command changes commit (creates y) claimed) true) refl refl).loadable
+      by (resizes y) long low = (resize_ready known runs command changes commit y claimed least long
+          (bare_at y.head (with_claimed p command changes commit (resizes y) claimed) false) refl refl refl).loadable

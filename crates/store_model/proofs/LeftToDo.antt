@@ -24,7 +24,8 @@ use Rattle.volume_model.specs.Steps.{Allowed}
 use Rattle.store_model.proofs.JobPages.{fresh_no_head, zeros_no_head}
 use Rattle.store_model.specs.Shown.{fixed_of}
 use Rattle.store_model.specs.Regions.{region_of}
-use Rattle.volume_model.specs.Volumes.{zero_page, Volumes}
+use Rattle.volume_model.specs.Volumes.{zero_page, Fixed, Volumes}
+use Rattle.volume_model.specs.declared.command.Command.TheVariants as c
 use Rattle.volume_model.specs.declared.reply.Reply.TheVariants as r
 use Rattle.store_model.specs.StoreState.{ForCommand, ForInsert, ForRepair, Service}
 
@@ -119,7 +120,7 @@ module _ (s : Super) (base : Metas) (chains : Chains) (claimed : List ℕ) where
       → HasNext written (next_replacing todo) (planned_in todo) (held_in todo)
   next_of [] written place among lays = absurd (no_place written place among lays.0)
   next_of (Marks ∷ rest) written place among lays = next_of rest written place among lays
-  next_of (Zeros page ∷ rest) written place among lays = next_of rest written place among lays
+  next_of (Zeros page ∷ rest) written place among lays = next_of rest written place among lays.1
   next_of (Writes more ∷ rest) written place among lays =
       let later = next_of rest (written ++ more ∷ []) place (among_left place written (more ∷ []) among) lays in
       record {
@@ -240,17 +241,41 @@ same_wait j phase rest next same = ap (waiting j.serves) next ∙ by j.serves
     by (ForInsert c) = refl
     by ForRepair = refl
 
+-- whether a command may fail doesn't depend on the volumes
+whatever : (f : Fixed) (v w : Volumes) (command : Command) → Allowed f v command r.Fault → Allowed f w command r.Fault
+whatever f v w (c.Create name slots thick uuid) may = may
+whatever f v w (c.Write volume page word) may = may
+whatever f v w (c.Read volume page) may = may
+whatever f v w c.Flush may = may
+whatever f v w (c.SetX volume key value) may = may
+whatever f v w (c.DelX volume key) may = may
+whatever f v w (c.GetX volume key) may = may
+whatever f v w (c.Put volume key value) may = may
+whatever f v w (c.Sync volume) may = may
+whatever f v w (c.Resize volume slots) may = may
+whatever f v w (c.Snapshot volume name) may = may
+whatever f v w (c.Clone volume name) may = may
+whatever f v w (c.Inflate volume) may = may
+whatever f v w (c.Decouple volume) may = may
+whatever f v w (c.Delete volume) may = may
+whatever f v w (c.Rename volume name) may = may
+whatever f v w (c.ReadOnly volume) may = may
+whatever f v w (c.Info volume) may = may
+whatever f v w c.List may = may
+whatever f v w c.Df may = may
+
 -- a command that waits for its commit may fail
-pub may_fail : (s : Super) (base : Metas) (live : Map Xattrs) (command : Command) (todo : List Phase)
-    → Does s base live command todo
+pub may_fail : (Holds : Image → Type 0) (s : Super) (base : Metas) (live : Map Xattrs) (command : Command)
+    (todo : List Phase) → Does Holds s base live command todo
     → (image : Image) → Allowed (fixed_of s) (shown_of s base live image) command r.Fault
-may_fail s base live command [] does image = absurd does
-may_fail s base live command (Marks ∷ rest) does image = may_fail s base live command rest does image
-may_fail s base live command (Zeros page ∷ rest) does image = may_fail s base live command rest does image
-may_fail s base live command (Writes place ∷ rest) does image = may_fail s base live command rest does image
-may_fail s base live command (Replaces x (Some commit) ∷ rest) does image = does.0.may_fail image
-may_fail s base live command (Replaces x None ∷ rest) does image =
-    subst (λ (v : Volumes). Allowed (fixed_of s) v command r.Fault) (does.0 image)
-    (may_fail s (replaced base x) live command rest does.1 image)
-may_fail s base live command (Erases place ∷ rest) does image = may_fail s base live command rest does image
-may_fail s base live command (Frees place old ∷ rest) does image = may_fail s base live command rest does image
+may_fail Holds s base live command [] does image = absurd does
+may_fail Holds s base live command (Marks ∷ rest) does image = may_fail Holds s base live command rest does image
+may_fail Holds s base live command (Zeros page ∷ rest) does image = may_fail Holds s base live command rest does image
+may_fail Holds s base live command (Writes place ∷ rest) does image = may_fail Holds s base live command rest does image
+may_fail Holds s base live command (Replaces x (Some commit) ∷ rest) does image = does.0.may_fail image
+may_fail Holds s base live command (Replaces x None ∷ rest) does image =
+    whatever (fixed_of s) (shown_of s (replaced base x) live image) (shown_of s base live image) command
+    (may_fail Holds s (replaced base x) live command rest does.1 image)
+may_fail Holds s base live command (Erases place ∷ rest) does image = may_fail Holds s base live command rest does image
+may_fail Holds s base live command (Frees place old ∷ rest) does image = may_fail Holds s base live command rest does
+    image

@@ -3,6 +3,7 @@ use Rattle.std.proofs.Common.{
   [],
   ◌∷◌,
   ◌++◌,
+  ◌/◌,
   ◌≡◌,
   ℕ,
   Bool,
@@ -35,7 +36,10 @@ use Rattle.store_model.specs.Shown.{fixed_of, volume_of}
 use Rattle.store_model.specs.Rows.{OpenClaim, Rows, Row, InJob}
 use Rattle.store_model.specs.StoreState.{JobState, StoreState, shown, ForCommand, ForInsert, ForRepair, Service}
 use Rattle.store_model.specs.Places.{IsClaimed, UsedClusters, IsMapped}
-use Rattle.store_model.specs.Jobs.{gained_by, inserted_by, JobStands, Puts}
+use Rattle.page_disk.specs.Disk.{Image}
+use Rattle.super_block.specs.Numbers.{cluster_pages_of}
+use Rattle.md_chain.specs.Chain.{is_among}
+use Rattle.store_model.specs.Jobs.{AreZeroed, gained_by, inserted_by, JobStands, Puts, zeros_in}
 use Rattle.store_model.specs.Asking.{AsksFor}
 use Rattle.store_model.specs.Cases.{live_of}
 use Rattle.store_model.specs.RunInvariant.{CanBeWritten, RunsWell}
@@ -58,6 +62,12 @@ module _ (p q : StoreState) (super : q.super ≡ p.super) (base : q.base ≡ p.b
         ∙ ap (λ (v : Volumes). change (fixed_of p.super) v command r.Ok head) same ∙ a.step;
     new_is = a.new_is;
   }
+
+-- what is read of claimed clusters is read still
+pub zeroed_still : (s : Super) (claimed zeros : List ℕ) (image other : Image)
+    → ((page : ℕ) → is_among (page / cluster_pages_of s) claimed ≡ true → other page ≡ image page)
+    → AreZeroed s claimed zeros image → AreZeroed s claimed zeros other
+zeroed_still s claimed zeros image other same x page among out = same page among ∙ x page among out
 
 -- what is left of an insert, on a state with the same row
 pub puts_same : (p q : StoreState) → q.base ≡ p.base → q.generations ≡ p.generations → (row : ℕ)
@@ -82,11 +92,17 @@ puts_same p q base generations row same (Replaces r commit ∷ rest) puts =
       puts.1,
     )
 puts_same p q base generations row same (Marks ∷ rest) puts = puts_same p q base generations row same rest puts
-puts_same p q base generations row same (Zeros page ∷ rest) puts = puts_same p q base generations row same rest puts
+puts_same p q base generations row same (Zeros page ∷ rest) puts = puts
 puts_same p q base generations row same (Writes place ∷ rest) puts = puts_same p q base generations row same rest puts
 puts_same p q base generations row same (Erases place ∷ rest) puts = puts_same p q base generations row same rest puts
 puts_same p q base generations row same (Frees place old ∷ rest) puts =
     puts_same p q base generations row same rest puts
+
+-- no cluster is inserted by any other job
+pub inserted_none : (rows : Rows) (x : Service) → ((row : ℕ) → x ≡ ForInsert row → ⊥) → inserted_by rows x ≡ []
+inserted_none rows (ForCommand channel) other = refl
+inserted_none rows (ForInsert row) other = absurd (other row refl)
+inserted_none rows ForRepair other = refl
 
 -- the cluster that is inserted, by rows in the job that are as they were
 inserted_same : (rows others : Rows) (x : Service) → ((row : ℕ) → x ≡ ForInsert row → others row ≡ rows row)
@@ -100,8 +116,10 @@ inserted_same rows others ForRepair same = refl
 -- same
 pub stands_same : (p q : StoreState) → q.super ≡ p.super → q.base ≡ p.base → q.chains ≡ p.chains → q.live ≡ p.live
     → q.generations ≡ p.generations → (j : JobState)
-    → ((row : ℕ) → (p.rows row).stage ≡ InJob → q.rows row ≡ p.rows row) → JobStands p j → JobStands q j
-stands_same p q super base chains live generations j rows x =
+    → ((row : ℕ) → (p.rows row).stage ≡ InJob → q.rows row ≡ p.rows row)
+    → ((page : ℕ) → is_among (page / cluster_pages_of p.super) j.claimed ≡ true
+    → q.device.reads page ≡ p.device.reads page) → JobStands p j → JobStands q j
+stands_same p q super base chains live generations j rows reads x =
     let gained : gained_by q.rows j ≡ gained_by p.rows j = ap (λ l. l ++ j.claimed)
     (inserted_same p.rows q.rows j.serves
     (λ row serves. rows row (x.inserts row serves).waits)) in
@@ -117,6 +135,7 @@ stands_same p q super base chains live generations j rows x =
             does = rw (super, base, live) y.does;
           };
       keeps = λ none other. rw (super, base, live) (x.keeps none other);
+      zeroed = rw super (zeroed_still p.super j.claimed (zeros_in j.todo) p.device.reads q.device.reads reads x.zeroed);
       inserts = λ row serves.
           let y = x.inserts row serves in
           let same = rows row y.waits in

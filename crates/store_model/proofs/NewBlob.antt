@@ -64,11 +64,13 @@ new_passes fixed clusters slots few =
 new_flags : Bool → Flags
 new_flags thick = record { invalid = if thick then 0 else 1; data_ro = 0; md_ro = 0 }
 
-known_flags : (thick : Bool) → unknown_flag (new_meta 0 [] thick 0).flags ≡ None
+-- its flags are known ones
+pub known_flags : (thick : Bool) → unknown_flag (new_meta 0 [] thick 0).flags ≡ None
 known_flags true = refl
 known_flags false = refl
 
-clear_flags : (thick : Bool) → without_bit_1 (if thick then 0 else 1) ≡ (if thick then 0 else 1)
+-- and have no other bit
+pub clear_flags : (thick : Bool) → without_bit_1 (if thick then 0 else 1) ≡ (if thick then 0 else 1)
 clear_flags true = refl
 clear_flags false = refl
 

@@ -1,5 +1,5 @@
 -- A job of one replacement, before it begins.
-use Rattle.std.proofs.Common.{◌≡◌, ℕ, ◌<◌, ◌≤◌, ◌^◌, Some, sym, ap, ◌∙◌, subst}
+use Rattle.std.proofs.Common.{List, ◌≡◌, ℕ, ◌<◌, ◌≤◌, ◌^◌, Some, sym, ap, ◌∙◌, subst}
 use Rattle.super_block.specs.declared.page.Super.{Super}
 use Rattle.volume_model.specs.declared.command.Command.{Command}
 use Rattle.blob_meta.specs.declared.meta.Meta.{Meta}
@@ -7,7 +7,7 @@ use Rattle.blob_meta.specs.Resolving.{IsLawful, resolved, slots_together}
 use Rattle.store_model.specs.Maps.{Metas, with_entry}
 use Rattle.store_model.specs.Shown.{fixed_of}
 use Rattle.store_model.specs.Phases.{Committing, replaced, Replacing}
-use Rattle.store_model.specs.Jobs.{IsStep}
+use Rattle.store_model.specs.Jobs.{IsStep, ReadsZeros}
 use Rattle.store_model.specs.Loadable.{AreLoadable, IsLoadable}
 use Rattle.store_model.specs.StoreState.{StoreState}
 use Rattle.store_model.proofs.Heads.{replaced_is}
@@ -17,13 +17,13 @@ use Rattle.store_model.proofs.Replaced.{loadable_given}
 use Rattle.store_model.proofs.Shows.{alone_resolved}
 
 -- What is known of the replacement, whatever the verb: a load takes the new metadata, all metadata is lawful with it,
--- and its commit is the command's step.
-pub record IsReady (p : StoreState) (command : Command) (commit : Committing) (new : Meta)
+-- and its commit is the command's step, where the clusters that it has claimed read as zeros.
+pub record IsReady (p : StoreState) (claimed : List ℕ) (command : Command) (commit : Committing) (new : Meta)
     (r : Replacing) : Type 0 where
   pub loadable : IsLoadable p.super r.head new
   pub few : slots_together p.super.md_len (replaced p.base r) ≤ 2 ^ 24
   pub lawful : IsLawful p.super.md_len (resolved (replaced p.base r))
-  pub step : IsStep p.super p.base r p.live command commit
+  pub step : IsStep (ReadsZeros p.super claimed) p.super p.base r p.live command commit
 
 module _ (known : Known) where
   open known use {s, placed, p, facts}
@@ -43,6 +43,12 @@ module _ (known : Known) where
   pub some_pages : 0 < (fixed_of p.super).cluster_pages
   some_pages = subst (λ (y : Super). 0 < (fixed_of y).cluster_pages) (sym facts.super) placed.some_pages
 
+  -- with no cluster and no parent that a blob hadn't
+  pub lawful_still : (head : ℕ) (new : Meta) → TakesNone p.base head new
+      → slots_together p.super.md_len (with_entry p.base head new) ≤ 2 ^ 24
+      → IsLawful p.super.md_len (with_entry p.base head new)
+  lawful_still head new takes few = lawful_given p.super.md_len p.base head new takes base_lawful few
+
   -- ---- with the new metadata of one blob
 
   module _ (head : ℕ) (new : Meta) (one : IsLoadable p.super head new) where
@@ -53,15 +59,16 @@ module _ (known : Known) where
       pub base_is : replaced p.base r ≡ with_entry p.base head new
       base_is = replaced_is p.base r new new_is ∙ ap (λ h. with_entry p.base h new) head_is
 
-      -- with no cluster and no parent that it hadn't
-      pub ready_by : (command : Command) (commit : Committing) → TakesNone p.base head new
+      pub ready_by : (claimed : List ℕ) (command : Command) (commit : Committing)
+          → IsLawful p.super.md_len (with_entry p.base head new)
           → slots_together p.super.md_len (with_entry p.base head new) ≤ 2 ^ 24
-          → IsStep p.super p.base r p.live command commit → IsReady p command commit new r
-      ready_by command commit takes few step = record {
+          → IsStep (ReadsZeros p.super claimed) p.super p.base r p.live command commit
+          → IsReady p claimed command commit new r
+      ready_by claimed command commit lawful few step = record {
         loadable = subst (λ h. IsLoadable p.super h new) (sym head_is) one;
         few = subst (λ (m : Metas). slots_together p.super.md_len m ≤ 2 ^ 24) (sym base_is) few;
         lawful = subst (λ (m : Metas). IsLawful p.super.md_len (resolved m)) (sym base_is)
             (subst (IsLawful p.super.md_len) (sym (alone_resolved p.super (with_entry p.base head new) all_loadable))
-            (lawful_given p.super.md_len p.base head new takes base_lawful few));
+            lawful);
         step = step;
       }

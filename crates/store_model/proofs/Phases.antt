@@ -3,10 +3,12 @@ use Rattle.std.proofs.Common.{None, ◌≡◌, ℕ, ◌++◌, true, false, List,
 use Rattle.std.proofs.lemmas.List.{append-nil}
 use Rattle.store_model.specs.Phases.{Erases, Frees, Marks, Replaces, Writes, Zeros}
 use Rattle.store_model.specs.Phases.{next_replacing, Phase, has_commit, held_in, taken_in, erasing, writing, planned_in}
+use Rattle.store_model.specs.Phases.{replaced}
 use Rattle.super_block.specs.declared.page.Super.{Super}
 use Rattle.store_model.specs.Maps.{Metas, Chains, Map}
 use Rattle.store_model.specs.StoreState.{StoreState}
-use Rattle.store_model.specs.Jobs.{Lays, Keeps, Does, Puts}
+use Rattle.store_model.specs.Jobs.{AreOldPages, zeros_in, Lays, Keeps, Does, Puts}
+use Rattle.page_disk.specs.Disk.{Image}
 use Rattle.volume_model.specs.Xattrs.{Xattrs}
 use Rattle.md_chain.specs.Chain.{is_among}
 use Rattle.volume_model.specs.declared.command.Command.{Command}
@@ -22,11 +24,12 @@ pub held_behind : (fresh : List ℕ) (rest : List Phase) → held_in (writing fr
 held_behind [] rest = refl
 held_behind (p ∷ ps) rest = held_behind ps rest
 
-pub does_behind : (s : Super) (base : Metas) (live : Map Xattrs) (command : Command) (fresh : List ℕ)
+pub does_behind : (Holds : Image → Type 0) (s : Super) (base : Metas) (live : Map Xattrs) (command : Command)
+    (fresh : List ℕ)
     (rest : List Phase)
-    → Does s base live command rest → Does s base live command (writing fresh rest)
-does_behind s base live command [] rest does = does
-does_behind s base live command (p ∷ ps) rest does = does_behind s base live command ps rest does
+    → Does Holds s base live command rest → Does Holds s base live command (writing fresh rest)
+does_behind Holds s base live command [] rest does = does
+does_behind Holds s base live command (p ∷ ps) rest does = does_behind Holds s base live command ps rest does
 
 pub puts_behind : (p : StoreState) (row : ℕ) (fresh : List ℕ) (rest : List Phase) → Puts p row rest
     → Puts p row (writing fresh rest)
@@ -58,16 +61,16 @@ held_clearing old [] same = sym (same refl)
 held_clearing old (p ∷ []) same = append-nil old
 held_clearing old (p ∷ q ∷ ps) same = held_clearing old (q ∷ ps) (λ bad. absurd (cc bad))
 
-pub none_next : (old places : List ℕ) → next_replacing (erasing old places []) ≡ None
-none_next old [] = refl
-none_next old (p ∷ []) = refl
-none_next old (p ∷ q ∷ ps) = none_next old (q ∷ ps)
+pub old_pages : (old places : List ℕ) → AreOldPages (erasing old places [])
+old_pages old [] = tt
+old_pages old (p ∷ []) = tt
+old_pages old (p ∷ q ∷ ps) = old_pages old (q ∷ ps)
 
-pub keeps_clearing : (s : Super) (base : Metas) (live : Map Xattrs) (old places : List ℕ)
-    → Keeps s base live (erasing old places [])
-keeps_clearing s base live old [] = tt
-keeps_clearing s base live old (p ∷ []) = tt
-keeps_clearing s base live old (p ∷ q ∷ ps) = keeps_clearing s base live old (q ∷ ps)
+pub keeps_clearing : (Holds : Image → Type 0) (s : Super) (base : Metas) (live : Map Xattrs) (old places : List ℕ)
+    → Keeps Holds s base live (erasing old places [])
+keeps_clearing Holds s base live old [] = tt
+keeps_clearing Holds s base live old (p ∷ []) = tt
+keeps_clearing Holds s base live old (p ∷ q ∷ ps) = keeps_clearing Holds s base live old (q ∷ ps)
 
 pub lays_clearing : (s : Super) (base : Metas) (chains : Chains) (old places : List ℕ)
     → ((x : ℕ) → is_among x places ≡ true → is_among x old ≡ true)
@@ -80,6 +83,28 @@ lays_clearing s base chains old (p ∷ q ∷ ps) all = (
   lays_clearing s base chains old (q ∷ ps) (λ x among. all x (among_later x p (q ∷ ps) among)),
 )
 
+-- none is a page of zeros
+pub no_zeros : (old places : List ℕ) → zeros_in (erasing old places []) ≡ []
+no_zeros old [] = refl
+no_zeros old (p ∷ []) = refl
+no_zeros old (p ∷ q ∷ ps) = no_zeros old (q ∷ ps)
+
+pub zeros_behind : (fresh : List ℕ) (rest : List Phase) → zeros_in (writing fresh rest) ≡ zeros_in rest
+zeros_behind [] rest = refl
+zeros_behind (p ∷ ps) rest = zeros_behind ps rest
+
+-- what is known of fewer devices is shown on these too
+pub keeps_weaker : (P Q : Image → Type 0) → ((image : Image) → Q image → P image) → (s : Super) (base : Metas)
+    (live : Map Xattrs) (todo : List Phase) → Keeps P s base live todo → Keeps Q s base live todo
+keeps_weaker P Q so s base live [] keeps = tt
+keeps_weaker P Q so s base live (Marks ∷ rest) keeps = keeps_weaker P Q so s base live rest keeps
+keeps_weaker P Q so s base live (Zeros page ∷ rest) keeps = keeps_weaker P Q so s base live rest keeps
+keeps_weaker P Q so s base live (Writes place ∷ rest) keeps = keeps_weaker P Q so s base live rest keeps
+keeps_weaker P Q so s base live (Replaces r commit ∷ rest) keeps =
+    (λ image holds. keeps.0 image (so image holds), keeps_weaker P Q so s (replaced base r) live rest keeps.1)
+keeps_weaker P Q so s base live (Erases place ∷ rest) keeps = keeps_weaker P Q so s base live rest keeps
+keeps_weaker P Q so s base live (Frees place old ∷ rest) keeps = keeps_weaker P Q so s base live rest keeps
+
 -- ---- what is known behind the pages
 
 pub lays_reached : (s : Super) (base : Metas) (chains : Chains) (claimed written fresh : List ℕ) (rest : List Phase)
@@ -90,11 +115,12 @@ lays_reached s base chains claimed written (p ∷ ps) rest lays =
     subst (λ w. Lays s base chains claimed w rest) (append_assoc written (p ∷ []) ps)
     (lays_reached s base chains claimed (written ++ p ∷ []) ps rest lays)
 
-pub does_reached : (s : Super) (base : Metas) (live : Map Xattrs) (command : Command) (fresh : List ℕ)
+pub does_reached : (Holds : Image → Type 0) (s : Super) (base : Metas) (live : Map Xattrs) (command : Command)
+    (fresh : List ℕ)
     (rest : List Phase)
-    → Does s base live command (writing fresh rest) → Does s base live command rest
-does_reached s base live command [] rest does = does
-does_reached s base live command (p ∷ ps) rest does = does_reached s base live command ps rest does
+    → Does Holds s base live command (writing fresh rest) → Does Holds s base live command rest
+does_reached Holds s base live command [] rest does = does
+does_reached Holds s base live command (p ∷ ps) rest does = does_reached Holds s base live command ps rest does
 
 pub planned_behind : (fresh : List ℕ) (rest : List Phase) (place : ℕ)
     → planned_in (writing fresh rest) place ≡ planned_in rest place
@@ -104,11 +130,11 @@ planned_behind (p ∷ ps) rest place = planned_behind ps rest place
 -- ---- behind an insert
 
 -- behind its replacement nothing is to be put
-pub puts_none : (p : StoreState) (row : ℕ) (todo : List Phase) → next_replacing todo ≡ None → Puts p row todo
-puts_none p row [] none = tt
-puts_none p row (Replaces r commit ∷ rest) none = absurd (cc none)
-puts_none p row (Marks ∷ rest) none = puts_none p row rest none
-puts_none p row (Zeros page ∷ rest) none = puts_none p row rest none
-puts_none p row (Writes place ∷ rest) none = puts_none p row rest none
-puts_none p row (Erases place ∷ rest) none = puts_none p row rest none
-puts_none p row (Frees place old ∷ rest) none = puts_none p row rest none
+pub puts_none : (p : StoreState) (row : ℕ) (todo : List Phase) → AreOldPages todo → Puts p row todo
+puts_none p row [] old = tt
+puts_none p row (Erases place ∷ rest) old = puts_none p row rest old
+puts_none p row (Frees place places ∷ rest) old = puts_none p row rest old
+puts_none p row (Replaces r commit ∷ rest) old = absurd old
+puts_none p row (Marks ∷ rest) old = absurd old
+puts_none p row (Zeros page ∷ rest) old = absurd old
+puts_none p row (Writes place ∷ rest) old = absurd old

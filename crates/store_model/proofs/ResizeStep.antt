@@ -1,12 +1,12 @@
 -- What a resize asks for: metadata that a load takes, and what each image shows with it.
-use Rattle.std.proofs.Common.{◌≡◌, ◌≢◌, ◌⊎◌, ℕ, ◌+◌, ◌-◌, ◌<◌, ◌≤◌, ◌^◌, ◌&&◌, Bool, true, false, List, [], ◌∷◌, length}
+use Rattle.std.proofs.Common.{◌≡◌, ◌≢◌, ℕ, ◌+◌, ◌-◌, ◌<◌, ◌≤◌, ◌^◌, ◌&&◌, Bool, true, false, List, [], ◌∷◌, length}
 use Rattle.std.proofs.Common.{Option, Some, None, refl, sym, ap, ◌∙◌, subst, inl, inr, arith}
-use Rattle.std.specs.Prelude.{if◌then◌else◌, is_some, IsSome, nat_lt}
+use Rattle.std.specs.List.{position}
+use Rattle.std.specs.Prelude.{is_none, if◌then◌else◌, is_some, IsSome, nat_lt}
 use Rattle.std.specs.List.{AllByRecursion, range_with_len}
 use Rattle.std.specs.Option.{option_map, option_map_or}
-use Rattle.std.proofs.lemmas.Bool.{cases_Bool, cases_eq, cases_lt, false≢true, lt-ltb, ltb-false}
+use Rattle.std.proofs.lemmas.Bool.{cases_eq, cases_lt, false≢true, lt-ltb, ltb-false}
 use Rattle.std.proofs.lemmas.Bool.Decides.{nat_tests}
-use Rattle.std.proofs.lemmas.List.FromFn.{length-range_with_len}
 use Rattle.std.proofs.Math.Path.{fun_ext}
 use Rattle.page_disk.specs.Disk.{Image}
 use Rattle.volume_model.specs.Volumes.{all_slots, Fixed, head_of, is_super, resized, slots_at, slots_of, Volume}
@@ -22,27 +22,43 @@ use Rattle.blob_meta.specs.declared.meta.Meta.{Meta}
 use Rattle.blob_meta.specs.declared.job.Job.{Job as Changes}
 use Rattle.blob_meta.specs.Faults.{is_thin}
 use Rattle.blob_meta.specs.Jobs.{resized_meta}
-use Rattle.blob_meta.specs.Resolving.{resolved, slots_together}
+use Rattle.blob_meta.specs.Resolving.{resolved, slots_together, IsLawful}
 use Rattle.store_model.specs.Maps.{Metas, with_entry}
 use Rattle.store_model.specs.Shown.{fixed_of}
 use Rattle.store_model.specs.Phases.{Committing, replaced, Replacing}
 use Rattle.store_model.specs.StoreState.{live_of, shown, StoreState}
 use Rattle.store_model.specs.Asking.{IsResizeJob}
-use Rattle.md_chain.specs.Chain.{is_among}
 use Rattle.store_model.proofs.Sets.{among_first}
-use Rattle.store_model.proofs.EmptySlots.{Any, leaves_elsewhere, leaves_resized, leaves_resolved}
+use Rattle.store_model.proofs.EmptySlots.{Any, leaves_elsewhere, leaves_given, leaves_resolved, resized_empty}
 use Rattle.store_model.specs.Copying.{LeavesEmpty}
-use Rattle.store_model.specs.Jobs.{IsStep, shown_of}
+use Rattle.store_model.specs.Jobs.{IsStep, ReadsZeros, shown_of, with_clusters}
 use Rattle.store_model.specs.Loadable.{AreLoadable, CanBeWritten, IsLoadable}
 use Rattle.store_model.specs.RunInvariant.{RunsWell}
-use Rattle.store_model.proofs.Cut.{length_cut}
+use Rattle.store_model.proofs.Cut.{length_cut, slot_kept, slot_past, slot_was}
+use Rattle.store_model.proofs.ClaimedZeros.{claimed_inside, zeroed_fresh, zeroed_is, zeros_read}
+use Rattle.store_model.proofs.InARow.{among_range, range_among, range_differs}
+use Rattle.store_model.proofs.ZeroSlots.{filled_slot, AreEmpty}
+use Rattle.store_model.proofs.ZeroedBlob.{
+  all_filled,
+  lawful_zeroed,
+  slot_filled,
+  volume_zeroed,
+  zeroed_loadable,
+  IsZeroed,
+}
+use Rattle.blob_meta.specs.declared.fault.MetaFault.TheVariants.{HoleInThick}
+use Rattle.blob_meta.specs.Faults.{hole_in_thick}
+use Rattle.blob_meta.specs.Parents.{named_in, parent_of, slot}
+use Rattle.md_chain.specs.Chain.{is_among}
+use Rattle.std.specs.Option.{option_and_then}
+use Rattle.store_model.specs.Places.{AreDistinct, AreLeastClear, IsMapped}
 use Rattle.store_model.proofs.Elsewhere.{IsChildless}
 use Rattle.store_model.proofs.Known.{Known}
 use Rattle.store_model.proofs.Meanwhile.{blank_reading, reading}
 use Rattle.store_model.proofs.Moved.{live_shown, live_writable}
 use Rattle.store_model.proofs.OneReplacement.{all_loadable, base_is, base_lawful, base_loadable, base_resolved, IsReady}
-use Rattle.store_model.proofs.OneReplacement.{ready_by, some_pages}
-use Rattle.store_model.proofs.ResizedBlob.{resized_loadable, resized_takes_none}
+use Rattle.store_model.proofs.OneReplacement.{lawful_still, ready_by, some_pages}
+use Rattle.store_model.proofs.ResizedBlob.{resized_but, resized_takes_none, thick_full}
 use Rattle.store_model.proofs.Shows.{or_empty}
 use Rattle.store_model.proofs.ShowsGiven.{by, shown_given, shown_is, writable_childless}
 use Rattle.store_model.proofs.ShowsResized.{IsNoLonger, volume_resized}
@@ -51,19 +67,25 @@ use Rattle.store_model.proofs.Synced.{edited_here, edited_there}
 use Rattle.store_model.proofs.Writable.{AllWritable, none_holds}
 use Rattle.store_model.proofs.WithEntry.{given_here}
 
--- no slot of zeros: the blob is thin, or no slot is added
-thin_or_cut : (m : Meta) (slots : ℕ)
-    → (if is_thin m.flags then [] else range_with_len (length m.map) (slots - length m.map)) ≡ []
-    → (is_thin m.flags ≡ true) ⊎ (slots ≤ length m.map)
-thin_or_cut m slots none = elim (cases_Bool (is_thin m.flags)) [
-  | inl thin ↦ inl thin
-  | inr thick ↦
-      let all : range_with_len (length m.map) (slots - length m.map) ≡ [] = subst (λ b.
-      (if b then [] else range_with_len (length m.map) (slots - length m.map)) ≡ []) thick none in
-      let count = sym (length-range_with_len (length m.map) (slots - length m.map))
-      ∙ ap (λ (l : List ℕ). length l) all in
-      inr (omega (arith, count))
-]
+-- the slots that get clusters of zeros: those that are added to a blob that isn't thin
+abbrev pub added_zeros : Bool → ℕ → ℕ → List ℕ
+added_zeros thin len slots = if thin then [] else range_with_len len (slots - len)
+
+zeros_differ : (thin : Bool) (len slots : ℕ) → AreDistinct (added_zeros thin len slots)
+zeros_differ true len slots = tt
+zeros_differ false len slots = range_differs len (slots - len)
+
+zeros_lie : (thin : Bool) (len slots i : ℕ) → is_among i (added_zeros thin len slots) ≡ true → (len ≤ i) × (i < slots)
+zeros_lie true len slots i among = absurd (cc among)
+zeros_lie false len slots i among =
+    let x = among_range len (slots - len) i among in
+    let le = x.0 in
+    let lt = x.1 in
+    (le, omega (arith, le, lt))
+
+no_some : (o : Option ℕ) → o ≡ None → IsSome o → ⊥
+no_some None none some = cc some
+no_some (Some x) none some = cc none
 
 -- ---- a resize that nothing refuses
 
@@ -88,16 +110,26 @@ module _ (known : Known) where
   module _ (runs : p.stopped ≡ None) (volume : VolumeRef) (slots : ℕ)
       (asked : refusal (fixed_of p.super) (shown p) (c.Resize volume slots) ≡ None) (head : ℕ)
       (found : head_of (fixed_of p.super) (shown p) volume ≡ Some head) (old : Meta) (there : p.base head ≡ Some old)
-      (thin : (is_thin old.flags ≡ true) ⊎ (slots ≤ length old.map)) (r : Replacing) (head_is : r.head ≡ head)
-      (new_is : r.new ≡ Some (resized_meta old slots)) (not_made : r.makes ≡ false) where
+      (claimed : List ℕ) (least : AreLeastClear p.clusters claimed)
+      (one_each : length claimed ≡ length (added_zeros (is_thin old.flags) (length old.map) slots)) (r : Replacing)
+      (head_is : r.head ≡ head)
+      (new_is : r.new ≡ Some (with_clusters (resized_meta old slots)
+      (added_zeros (is_thin old.flags) (length old.map) slots) claimed)) (not_made : r.makes ≡ false) where
     well : RunsWell first p
     well = facts.well runs
 
     abbrev f : Fixed
     f = fixed_of p.super
 
+    abbrev zeros : List ℕ
+    zeros = added_zeros (is_thin old.flags) (length old.map) slots
+
+    -- the new metadata, without claimed clusters and with them
+    abbrev bare : Meta
+    bare = resized_meta old slots
+
     abbrev new : Meta
-    new = resized_meta old slots
+    new = with_clusters bare zeros claimed
 
     abbrev all : Metas
     all = with_entry p.base head new
@@ -149,22 +181,87 @@ module _ (known : Known) where
 
     -- ---- the metadata
 
+    all_empty : AreEmpty bare zeros
+    all_empty i among =
+        let x = zeros_lie (is_thin old.flags) (length old.map) slots i among in (
+          subst (λ n. i < n) (sym (length_cut {X = Option ℕ} old.map slots None)) x.1,
+          slot_kept old.map slots i x.1 ∙ slot_past old.map i x.0,
+        )
+
+    had : (i c : ℕ) → slot bare i ≡ Some c → IsMapped p.base c
+    had i c at =
+        record { head = head; meta = old; there = there; place = i; in_slot = slot_was old.map slots i c at }
+
+    zeroed : IsZeroed bare new claimed
+    zeroed = zeroed_is known runs claimed least head bare zeros
+        (zeros_differ (is_thin old.flags) (length old.map) slots) all_empty had
+
     one_loadable : IsLoadable p.super head new
-    one_loadable = resized_loadable old slots thin p.super head
-        (let large = can.large in grind (arith, nat_tests, large)) (base_loadable known head old there)
+    one_loadable = zeroed_loadable p.super head bare new claimed zeroed
+        (resized_but old slots p.super head (let large = can.large in grind (arith, nat_tests, large))
+        (base_loadable known head old there)) (claimed_inside known runs claimed least)
+        (no_hole (is_thin old.flags) refl)
+      where
+        kept : (o : Option ℕ) → is_thin old.flags ≡ false → (i : ℕ) → i < length new.map → slot new i ≡ o → IsSome o
+        kept (Some c) thick i lt at = refl
+        kept None thick i lt at = absurd (elim (cases_lt i (length old.map)) [
+          | inl below ↦
+              let was : IsSome (slot old i) =
+              slot_filled old.map (thick_full old p.super head (base_loadable known head old there) thick) i below in
+              let in_bare : slot bare i ≡ slot old i =
+              slot_kept old.map slots i (omega (arith, lt, zeroed.long, length_cut {X = Option ℕ} old.map slots None))
+              in
+              elim (zeroed.each i) [
+                | inl same ↦
+                    let bad : IsSome (slot new i) = subst (λ (o : Option ℕ). IsSome o) (sym (same ∙ in_bare)) was in
+                    no_some (slot new i) at bad
+                | inr x ↦ let bad = sym at ∙ x.at in cc bad
+              ]
+          | inr behind ↦
+              let among : is_among i zeros ≡ true = subst (λ b. is_among i (added_zeros b (length old.map) slots) ≡
+              true)
+              (sym thick)
+              (range_among (length old.map) (slots - length old.map) i behind
+              (omega (arith, behind, lt, zeroed.long, length_cut {X = Option ℕ} old.map slots None))) in
+              let some = filled_slot bare zeros claimed (zeros_differ (is_thin old.flags) (length old.map) slots)
+              all_empty one_each i among in
+              no_some (slot new i) at some
+        ])
+
+        no_hole : (b : Bool) → is_thin old.flags ≡ b → hole_in_thick old.flags new.map ≡ None
+        no_hole true is = subst (λ b. (if b then None else option_map HoleInThick (position is_none new.map)) ≡ None)
+            (sym is) refl
+        no_hole false is = subst (λ b. (if b then None else option_map HoleInThick (position is_none new.map)) ≡ None)
+            (sym is)
+            (ap (λ o. option_map HoleInThick o) (all_filled new.map (λ i lt. kept (slot new i) is i lt refl)))
 
     loadable : AreLoadable p.super all
     loadable = all_loadable known head new one_loadable
 
-    all_few : slots_together p.super.md_len all ≤ 2 ^ 24
-    all_few =
+    few_with : (m : Meta) → length m.map ≡ slots → slots_together p.super.md_len (with_entry p.base head m) ≤ 2 ^ 24
+    few_with m long =
         let large = can.large in
         let together : (all_slots f (shown p) - slots_of f x) + slots ≤ 2 ^ 24 = grind (arith, nat_tests, large) in
-        let counted : slots_together p.super.md_len all + length old.map
-        ≡ slots_together p.super.md_len p.base + length new.map =
-        ap (λ o. slots_together p.super.md_len all + slots_in o) (sym there)
-        ∙ slots_given p.super.md_len p.base head new (base_loadable known head old there).stored.low in
-        omega (arith, together, counted, all_are, slots_are, length_cut {X = Option ℕ} old.map slots None)
+        let counted : slots_together p.super.md_len (with_entry p.base head m) + length old.map
+        ≡ slots_together p.super.md_len p.base + length m.map =
+        ap (λ o. slots_together p.super.md_len (with_entry p.base head m) + slots_in o) (sym there)
+        ∙ slots_given p.super.md_len p.base head m (base_loadable known head old there).stored.low in
+        omega (arith, together, counted, all_are, slots_are, long)
+
+    bare_few : slots_together p.super.md_len (with_entry p.base head bare) ≤ 2 ^ 24
+    bare_few = few_with bare (length_cut {X = Option ℕ} old.map slots None)
+
+    all_few : slots_together p.super.md_len all ≤ 2 ^ 24
+    all_few = few_with new (zeroed.long ∙ length_cut {X = Option ℕ} old.map slots None)
+
+    all_lawful : IsLawful p.super.md_len all
+    all_lawful = lawful_zeroed p.super.md_len p.base head bare new claimed zeroed
+        (zeroed_fresh known runs claimed least head bare zeros
+        (zeros_differ (is_thin old.flags) (length old.map) slots) all_empty had)
+        (lawful_still known head bare (resized_takes_none p.base head old slots there) bare_few) all_few
+
+    no_parent : parent_of bare ≡ None
+    no_parent = ap (λ o. option_and_then named_in o) (base_loadable known head old there).alone.no_parent
 
     base_now : replaced p.base r ≡ all
     base_now = base_is known head new one_loadable r head_is new_is
@@ -215,13 +312,16 @@ module _ (known : Known) where
             ∙ live_shown now well.live well.no_live h
       ]
 
-      shows_new : shown_of p.super (replaced p.base r) (live_of w) image ≡ w
-      shows_new =
+      shows_new : ReadsZeros p.super claimed image → shown_of p.super (replaced p.base r) (live_of w) image ≡ w
+      shows_new holds =
           ap (λ (m : Metas). shown_of p.super m (live_of w) image) base_now
           ∙ shown_given now (base_loadable known) head new childless loadable w others
           (ap (λ o. Some (by now (base_loadable known) all (or_empty o) head new)) (live_same head)
           ∙ ap (λ (v : Volume). Some v)
-          (volume_resized f.cluster_pages (some_pages known) p.base head old there childless image
+          (volume_zeroed f.cluster_pages image f.md_len bare new claimed zeroed no_parent
+          (zeros_read known claimed image holds) (with_entry p.base head bare) all head
+          (given_here p.base head bare head refl) (given_here p.base head new head refl) (or_empty (p.live head))
+          ∙ volume_resized f.cluster_pages (some_pages known) p.base head old there childless image
           f.md_len slots f refl no_longer (or_empty (p.live head)))
           ∙ sym is_now)
 
@@ -240,15 +340,19 @@ module _ (known : Known) where
     left_empty : (h : ℕ) → is_among h renews ≡ false → LeavesEmpty p.super p.base all Any h
     left_empty h out = elim (cases_eq h head) [
       | inl e ↦ subst (LeavesEmpty p.super p.base all Any) (sym e)
-          (leaves_resized p.super p.base head old there childless slots (elim (cases_lt slots (length old.map)) [
+          (leaves_given p.super p.base head old there childless new (ap (λ (m : Meta). parent_of m) zeroed.rest)
+          (λ i none. resized_empty old slots (elim (cases_lt slots (length old.map)) [
             | inl cut ↦ absurd (false≢true (sym (subst (λ n. is_among n renews ≡ false) e out)
                 ∙ ap (λ b. is_among head (if b then head ∷ [] else [])) (lt-ltb _ _ cut) ∙ among_first head []))
             | inr le ↦ le
-          ]))
+          ]) i (elim (zeroed.each i) [
+            | inl same ↦ sym same ∙ none
+            | inr filled ↦ absurd (let bad = sym none ∙ filled.at in cc bad)
+          ])))
       | inr ne ↦ leaves_elsewhere p.super p.base head new childless h ne
     ]
 
-    step : IsStep p.super p.base r p.live (c.Resize volume slots) commit
+    step : IsStep (ReadsZeros p.super claimed) p.super p.base r p.live (c.Resize volume slots) commit
     step = record {
       metadata = tt;
       done = tt;
@@ -265,21 +369,26 @@ module _ (known : Known) where
           (subst (λ (m : Metas). LeavesEmpty p.super p.base m Any h) (sym base_now) (left_empty h out));
     }
 
-    pub ready : IsReady p (c.Resize volume slots) commit new r
-    ready = ready_by known head new one_loadable r head_is new_is (c.Resize volume slots) commit
-        (resized_takes_none p.base head old slots there) all_few step
+    pub ready : IsReady p claimed (c.Resize volume slots) commit new r
+    ready = ready_by known head new one_loadable r head_is new_is claimed (c.Resize volume slots) commit all_lawful
+        all_few
+        step
 
-  -- what a resize without slots of zeros asks for is ready
+  -- what a resize asks for is ready, with the clusters that are claimed for it
   pub resize_ready : p.stopped ≡ None → (command : Command) (changes : Changes) (commit : Committing)
-      → (asks : IsResizeJob p command changes commit) → changes.zero ≡ [] → (r : Replacing) → r.head ≡ asks.head
-      → r.new ≡ Some (resized_meta asks.old asks.slots) → r.makes ≡ false
-      → IsReady p command commit (resized_meta asks.old asks.slots) r
-  resize_ready runs command changes commit asks zeros r head_is new_is not_made =
-      let new = resized_meta asks.old asks.slots in
+      → (asks : IsResizeJob p command changes commit) → (claimed : List ℕ) → AreLeastClear p.clusters claimed
+      → length claimed ≡ length (added_zeros (is_thin asks.old.flags) (length asks.old.map) asks.slots)
+      → (r : Replacing) → r.head ≡ asks.head
+      → r.new ≡ Some (with_clusters (resized_meta asks.old asks.slots)
+      (added_zeros (is_thin asks.old.flags) (length asks.old.map) asks.slots) claimed) → r.makes ≡ false
+      → IsReady p claimed command commit (with_clusters (resized_meta asks.old asks.slots)
+      (added_zeros (is_thin asks.old.flags) (length asks.old.map) asks.slots) claimed) r
+  resize_ready runs command changes commit asks claimed least one_each r head_is new_is not_made =
+      let new = with_clusters (resized_meta asks.old asks.slots)
+      (added_zeros (is_thin asks.old.flags) (length asks.old.map) asks.slots) claimed in
       let one = ready runs asks.volume asks.slots
       (ap (refusal (fixed_of p.super) (shown p)) (sym asks.command_is) ∙ asks.asked) asks.head
       (ap (named_head (fixed_of p.super) (shown p)) (sym asks.command_is) ∙ asks.found) asks.old asks.there
-      (thin_or_cut asks.old asks.slots (sym (ap (λ (x : Changes). x.zero) asks.is) ∙ zeros)) r head_is new_is
-      not_made in
-      subst (λ (x : Command). IsReady p x commit new r) (sym asks.command_is)
-      (subst (λ (x : Committing). IsReady p (c.Resize asks.volume asks.slots) x new r) (sym asks.commit_is) one)
+      claimed least one_each r head_is new_is not_made in
+      subst (λ (x : Command). IsReady p claimed x commit new r) (sym asks.command_is)
+      (subst (λ (x : Committing). IsReady p claimed (c.Resize asks.volume asks.slots) x new r) (sym asks.commit_is) one)

@@ -1,9 +1,8 @@
 -- A log as it is seen of a device, whether it tells or not: it grows with the log, and what has no page is seen as it
 -- is.
-use Rattle.std.proofs.Common.{◌≡◌, ◌∙◌, ap, refl, sym, subst, Bool, true, false, List, [], ◌∷◌, ◌++◌, map, None, Some}
+use Rattle.std.proofs.Common.{◌≡◌, ◌∙◌, ap, refl, sym, subst, Bool, true, false, List, [], ◌∷◌, ◌++◌}
 use Rattle.volume_model.specs.Volumes.{Fixed, Volumes, fill_page, zero_page}
 use Rattle.volume_model.specs.Logs.{IsLegal, replay}
-use Rattle.volume_model.specs.Refusals.{refusal}
 use Rattle.volume_model.specs.Steps.{Allowed, IsRefusal, change}
 use Rattle.volume_model.specs.declared.command.Command.{Command}
 use Rattle.volume_model.specs.declared.command.Command.TheVariants as c

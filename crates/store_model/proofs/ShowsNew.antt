@@ -1,5 +1,24 @@
 -- What is shown with a new blob: one volume more, of zeros.
-use Rattle.std.proofs.Common.{◌≡◌, ◌≢◌, ℕ, suc, ◌*◌, ◌/◌, Bool, true, false, not, List, length, map, Option, Some, None}
+use Rattle.std.proofs.Common.{
+  ◌≡◌,
+  ◌≢◌,
+  ℕ,
+  suc,
+  ◌+◌,
+  ◌*◌,
+  ◌/◌,
+  ◌%◌,
+  Bool,
+  true,
+  false,
+  not,
+  List,
+  length,
+  map,
+  Option,
+  Some,
+  None,
+}
 use Rattle.std.proofs.Common.{refl, sym, ap, ◌∙◌, mul_comm}
 use Rattle.std.specs.Prelude.{replicate}
 use Rattle.std.specs.List.{range_with_len}
@@ -25,6 +44,8 @@ use Rattle.store_model.proofs.NewBlob.{empty_slot}
 use Rattle.store_model.proofs.Ranges.{all_one}
 use Rattle.store_model.proofs.Shows.{or_empty}
 use Rattle.store_model.proofs.ShowsGiven.{by, none_childless, shown_given}
+use Rattle.md_chain.specs.Chain.{is_among}
+use Rattle.store_model.proofs.ZeroedBlob.{volume_zeroed, IsZeroed}
 use Rattle.store_model.proofs.WithEntry.{given_here}
 
 -- ---- its volume
@@ -82,16 +103,19 @@ module _ (f : Fixed) (v : Volumes) (image : Image) (others : Metas) (head : ℕ)
 
 module _ (p : StoreState) (loadable : AreLoadable p.super p.base) (lawful : IsLawful p.super.md_len p.base) (head : ℕ)
     (none : p.base head ≡ None) (name : Text) (slots : ℕ) (thick : Bool) (uuid : Option (List ℕ)) (xattrs : Xattrs)
-    (are : two_xattrs (fixed_of p.super) (shown p) name uuid ≡ xattrs)
-    (new_loadable : AreLoadable p.super (with_entry p.base head (new_meta head xattrs thick slots))) where
+    (are : two_xattrs (fixed_of p.super) (shown p) name uuid ≡ xattrs) (later : Meta)
+    (new_loadable : AreLoadable p.super (with_entry p.base head later)) where
   abbrev f : Fixed
   f = fixed_of p.super
 
   abbrev made : Meta
   made = new_meta head xattrs thick slots
 
+  abbrev bare : Metas
+  bare = with_entry p.base head made
+
   abbrev all : Metas
-  all = with_entry p.base head made
+  all = with_entry p.base head later
 
   abbrev pub w : Volumes
   w = change f (shown p) (c.Create name slots thick uuid) (r.Made head)
@@ -105,11 +129,18 @@ module _ (p : StoreState) (loadable : AreLoadable p.super p.base) (lawful : IsLa
   pub live_here : live_of w head ≡ Some xattrs
   live_here = ap (λ o. option_map (λ (x : Volume). x.live) o) w_here ∙ ap (λ (xs : Xattrs). Some xs) are
 
-  -- once the head is written, what is shown is the step's
-  pub shown_made : shown_of p.super all (live_of w) p.device.reads ≡ w
-  shown_made = shown_given p loadable head made (none_childless p.base head lawful.parents none) new_loadable w
+  -- once the head is written, what is shown is the step's: the clusters in its slots read as zeros
+  pub shown_made : (claimed : List ℕ) → IsZeroed made later claimed
+      → ((page cluster : ℕ) → is_among cluster claimed ≡ true
+      → p.device.reads (cluster * f.cluster_pages + page % f.cluster_pages) ≡ zero_page)
+      → shown_of p.super all (live_of w) p.device.reads ≡ w
+  shown_made claimed zeroed zeros = shown_given p loadable head later
+      (none_childless p.base head lawful.parents none) new_loadable w
       w_elsewhere
-      (ap (λ o. Some (by p loadable all (or_empty o) head made)) live_here
-      ∙ ap (λ (x : Volume). Some x) (volume_new f (shown p) p.device.reads all head name slots thick uuid xattrs are
+      (ap (λ o. Some (by p loadable all (or_empty o) head later)) live_here
+      ∙ ap (λ (x : Volume). Some x) (volume_zeroed f.cluster_pages p.device.reads f.md_len made later claimed zeroed
+      refl
+      zeros bare all head (given_here p.base head made head refl) (given_here p.base head later head refl) xattrs
+      ∙ volume_new f (shown p) p.device.reads bare head name slots thick uuid xattrs are
       (given_here p.base head made head refl))
       ∙ sym w_here)

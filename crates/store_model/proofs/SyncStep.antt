@@ -4,7 +4,7 @@ use Rattle.std.proofs.Common.{ℕ, false}
 use Rattle.std.proofs.lemmas.Bool.{cases_eq, false≢true}
 use Rattle.store_model.specs.StoreState.{StoreState, live_of, shown}
 use Rattle.store_model.specs.RunInvariant.{RunsWell}
-use Rattle.store_model.specs.Jobs.{IsStep, shown_of}
+use Rattle.store_model.specs.Jobs.{IsStep, ReadsZeros, shown_of}
 use Rattle.store_model.specs.Asking.{AsksFor, IsSyncing}
 use Rattle.store_model.specs.Rows.{IsForMetadata}
 use Rattle.store_model.proofs.Known.{Known}
@@ -24,7 +24,15 @@ use Rattle.store_model.proofs.Meanwhile.{asks_reading, reading}
 use Rattle.store_model.proofs.Replaced.{new_loadable, slots_same, synced_written, takes_none}
 use Rattle.volume_model.specs.Steps.{change}
 use Rattle.store_model.specs.Shown.{fixed_of}
-use Rattle.store_model.proofs.OneReplacement.{all_loadable, base_is, base_lawful, base_loadable, IsReady, ready_by}
+use Rattle.store_model.proofs.OneReplacement.{
+  lawful_still,
+  all_loadable,
+  base_is,
+  base_lawful,
+  base_loadable,
+  IsReady,
+  ready_by,
+}
 use Rattle.store_model.proofs.Synced.{alike_synced, syncs_to, shown_synced}
 use Rattle.store_model.proofs.EmptySlots.{Any, leaves_alike, leaves_resolved}
 use Rattle.store_model.specs.Copying.{LeavesEmpty}
@@ -103,13 +111,13 @@ module _ (known : Known) where
             live_writable here well.live h v (sym (to.others h ne) ∙ is)
       ]
 
-    step : IsStep p.super p.base r p.live command commit
+    step : IsStep (ReadsZeros p.super []) p.super p.base r p.live command commit
     step = record {
       metadata = syncs_metadata command asks.syncing;
       done = tt;
       allowed = λ image. (may image).done;
       may_fail = λ image. (may image).fail;
-      shows = shows_new;
+      shows = λ image holds. shows_new image;
       lives = λ image. sym (live_synced (here image) well.live well.no_live command head new
           (asks_here image) new.xattrs refl) ∙ ap (λ h. with_entry p.live h new.xattrs) (sym head_is);
       writable = writable_new;
@@ -123,6 +131,7 @@ module _ (known : Known) where
           (alike_synced p.base head asks.old new asks.after.synced asks.there asks.new_is) h));
     }
 
-    pub sync_ready : IsReady p command commit new r
-    sync_ready = ready_by known head new one_loadable r head_is new_is command commit
-        (takes_none p.base head asks.old new asks.after.synced asks.there asks.new_is) few step
+    pub sync_ready : IsReady p [] command commit new r
+    sync_ready = ready_by known head new one_loadable r head_is new_is [] command commit
+        (lawful_still known head new (takes_none p.base head asks.old new asks.after.synced asks.there asks.new_is) few)
+        few step

@@ -6,6 +6,7 @@ use Rattle.std.specs.Prelude.{
   ℕ,
   ◌+◌,
   ◌*◌,
+  ◌/◌,
   ◌^◌,
   ◌<◌,
   ◌≤◌,
@@ -51,7 +52,7 @@ use Rattle.store_model.specs.Copying.{IsWanted, LeavesEmpty}
 use Rattle.store_model.specs.Places.{all_set, AreDistinct, AreLeastClear, IsMapped}
 use Rattle.store_model.specs.Phases.{Phase, Committing, with_live, Marks, Zeros, Writes, Replaces, Erases, Frees}
 use Rattle.store_model.specs.Phases.{Replacing, page_in, held_in, taken_by, taken_in, has_commit, replaced, rechained}
-use Rattle.store_model.specs.Phases.{chain_before, next_replacing}
+use Rattle.store_model.specs.Phases.{chain_before}
 use Rattle.store_model.specs.StoreState.{ForCommand, ForInsert, JobState, live_of, Service, StoreState}
 
 -- ---- how changes are laid on pages
@@ -155,11 +156,32 @@ pub record AreForZeros (bits : List Bool) (slots claimed : List ℕ) : Type 0 wh
   pub least : AreLeastClear bits claimed
   pub count : (length claimed ≡ length slots) ⊎ ((claimed ≡ []) × (clear_in bits < length slots))
 
--- each page of these clusters is overwritten with zeros
+-- the pages of these clusters
+abbrev pub pages_in : Super → List ℕ → List ℕ
+pages_in s clusters =
+    flat_map (λ cluster. range_with_len (cluster * cluster_pages_of s) (cluster_pages_of s)) clusters
+
+-- each of them is overwritten with zeros
 abbrev pub zeroing : Super → List ℕ → List Phase
-zeroing s clusters =
-    flat_map (λ cluster. map (λ page. Zeros (cluster * cluster_pages_of s + page))
-    (range_with_len 0 (cluster_pages_of s))) clusters
+zeroing s clusters = map Zeros (pages_in s clusters)
+
+-- an image reads zeros at each page of these clusters
+abbrev pub ReadsZeros : Super → List ℕ → Image → Type 0
+ReadsZeros s clusters image =
+    (page : ℕ) → is_among (page / cluster_pages_of s) clusters ≡ true → image page ≡ zero_page
+
+-- the pages that are still to be overwritten with zeros, before the next replacement
+abbrev pub zeros_in : List Phase → List ℕ
+zeros_in [] = []
+zeros_in (Zeros page ∷ rest) = page ∷ zeros_in rest
+zeros_in (Replaces r commit ∷ rest) = []
+zeros_in (_ ∷ rest) = zeros_in rest
+
+-- an image reads zeros in these clusters, but for pages that are still to be overwritten
+abbrev pub AreZeroed : Super → List ℕ → List ℕ → Image → Type 0
+AreZeroed s clusters zeros image =
+    (page : ℕ) → is_among (page / cluster_pages_of s) clusters ≡ true → is_among page zeros ≡ false
+    → image page ≡ zero_page
 
 -- ---- what is left of a job
 
@@ -179,11 +201,13 @@ pub record CanReplace (s : Super) (base : Metas) (chains : Chains) (claimed writ
   pub clusters : MovesClusters s base (replaced base r) r.freed claimed
 
 -- What is left can be done, phase by phase, over this metadata and these chains, where these fresh pages are written. A
--- place that is erased is held, and what a replacement leaves is cleared before the next one is made.
+-- page that is overwritten with zeros is one of a claimed cluster; a place that is erased is held, and what a
+-- replacement leaves is cleared before the next one is made.
 abbrev pub Lays : Super → Metas → Chains → List ℕ → List ℕ → List Phase → Type 0
 Lays s base chains claimed written [] = (written ≡ []) × (claimed ≡ [])
 Lays s base chains claimed written (Marks ∷ rest) = Lays s base chains claimed written rest
-Lays s base chains claimed written (Zeros page ∷ rest) = Lays s base chains claimed written rest
+Lays s base chains claimed written (Zeros page ∷ rest) =
+    (is_among (page / cluster_pages_of s) claimed ≡ true) × Lays s base chains claimed written rest
 Lays s base chains claimed written (Writes place ∷ rest) = Lays s base chains claimed (written ++ place ∷ []) rest
 Lays s base chains claimed written (Replaces r commit ∷ rest) =
     CanReplace s base chains claimed written r × (held_in rest ≡ r.old ++ taken_in rest)
@@ -197,23 +221,29 @@ Lays s base chains claimed written (Frees place old ∷ rest) =
 abbrev pub shown_of : Super → Metas → Map Xattrs → Image → Volumes
 shown_of s base live image = shown_by (fixed_of s) image (resolved base) live
 
--- The volumes are shown as they are while these phases are made, whatever a device holds.
-abbrev pub Keeps : Super → Metas → Map Xattrs → List Phase → Type 0
-Keeps s base live [] = Unit {0}
-Keeps s base live (Replaces r commit ∷ rest) =
-    ((image : Image) → shown_of s (replaced base r) live image ≡ shown_of s base live image)
-    × Keeps s (replaced base r) live rest
-Keeps s base live (_ ∷ rest) = Keeps s base live rest
+-- The volumes are shown as they are while these phases are made, whatever a device holds of which this is known.
+abbrev pub Keeps : (Image → Type 0) → Super → Metas → Map Xattrs → List Phase → Type 0
+Keeps Holds s base live [] = Unit {0}
+Keeps Holds s base live (Replaces r commit ∷ rest) =
+    ((image : Image) → Holds image → shown_of s (replaced base r) live image ≡ shown_of s base live image)
+    × Keeps Holds s (replaced base r) live rest
+Keeps Holds s base live (_ ∷ rest) = Keeps Holds s base live rest
 
--- On whatever device, the command, one for the metadata thread, may be done with this reply, and may fail; then the
--- metadata shows its step, and has the blobs whose generations are renewed, a new one among them.
-pub record IsStep (s : Super) (base : Metas) (replacing : Replacing) (live : Map Xattrs) (command : Command)
+-- nothing is known of what a device holds
+abbrev pub Anything : Image → Type 0
+Anything image = Unit {0}
+
+-- On whatever device, the command, one for the metadata thread, may be done with this reply, and may fail; then, on a
+-- device of which this is known, the metadata shows its step, and has the blobs whose generations are renewed, a new
+-- one among them.
+pub record IsStep (Holds : Image → Type 0) (s : Super) (base : Metas) (replacing : Replacing) (live : Map Xattrs)
+    (command : Command)
     (commit : Committing) : Type 0 where
   pub metadata : IsForMetadata command
   pub done : IsChangeDone commit.reply
   pub allowed : (image : Image) → Allowed (fixed_of s) (shown_of s base live image) command commit.reply
   pub may_fail : (image : Image) → Allowed (fixed_of s) (shown_of s base live image) command r.Fault
-  pub shows : (image : Image)
+  pub shows : (image : Image) → Holds image
       → shown_of s (replaced base replacing)
       (live_of (change (fixed_of s) (shown_of s base live image) command commit.reply)) image
       ≡ change (fixed_of s) (shown_of s base live image) command commit.reply
@@ -228,24 +258,25 @@ pub record IsStep (s : Super) (base : Metas) (replacing : Replacing) (live : Map
   pub leaves : (head : ℕ) → is_among head commit.renews ≡ false
       → LeavesEmpty s (resolved base) (resolved (replaced base replacing)) (λ image. Unit {0}) head
 
--- The volumes are shown as they are up to the commit, and from it on as the command's step makes them.
-abbrev pub Does : Super → Metas → Map Xattrs → Command → List Phase → Type 0
-Does s base live command [] = ⊥
-Does s base live command (Replaces r (Some commit) ∷ rest) =
-    IsStep s base r live command commit × (has_commit rest ≡ false)
-    × ((image : Image) → Keeps s (replaced base r)
+-- The volumes are shown as they are up to the commit, and from it on as the command's step makes them, whatever a
+-- device holds of which this is known at the commit. Behind it nothing needs to be.
+abbrev pub Does : (Image → Type 0) → Super → Metas → Map Xattrs → Command → List Phase → Type 0
+Does Holds s base live command [] = ⊥
+Does Holds s base live command (Replaces r (Some commit) ∷ rest) =
+    IsStep Holds s base r live command commit × (has_commit rest ≡ false)
+    × ((image : Image) → Keeps Anything s (replaced base r)
     (live_of (change (fixed_of s) (shown_of s base live image) command commit.reply)) rest)
-Does s base live command (Replaces r None ∷ rest) =
-    ((image : Image) → shown_of s (replaced base r) live image ≡ shown_of s base live image)
-    × Does s (replaced base r) live command rest
-Does s base live command (_ ∷ rest) = Does s base live command rest
+Does Holds s base live command (Replaces r None ∷ rest) =
+    ((image : Image) → Holds image → shown_of s (replaced base r) live image ≡ shown_of s base live image)
+    × Does Holds s (replaced base r) live command rest
+Does Holds s base live command (_ ∷ rest) = Does Holds s base live command rest
 
--- The command of a channel waits for these phases.
-pub record IsServed (p : StoreState) (channel : ℕ) (todo : List Phase) : Type 0 where
+-- The command of a channel waits for these phases, of a job that has claimed these clusters.
+pub record IsServed (p : StoreState) (channel : ℕ) (claimed : List ℕ) (todo : List Phase) : Type 0 where
   pub command : Command
   pub rest : List Command
   pub row : p.rows channel ≡ record { left = command ∷ rest; stage = InJob; claim = None }
-  pub does : Does p.super p.base p.live command todo
+  pub does : Does (ReadsZeros p.super claimed) p.super p.base p.live command todo
 
 -- the cluster that a row's claim holds, where a job inserts it
 abbrev pub inserted_by : Rows → Service → List ℕ
@@ -266,10 +297,18 @@ pub record PutsClaim (p : StoreState) (row : ℕ) (r : Replacing) : Type 0 where
   pub there : r.makes ≡ false
   pub new : r.new ≡ Some (with_slot wanted.meta claim.slot claim.cluster)
 
--- what is left of an insert's job: the replacement, if it is still to come, and no other
+-- nothing but old pages is left
+abbrev pub AreOldPages : List Phase → Type 0
+AreOldPages [] = Unit {0}
+AreOldPages (Erases place ∷ rest) = AreOldPages rest
+AreOldPages (Frees place old ∷ rest) = AreOldPages rest
+AreOldPages _ = ⊥
+
+-- what is left of an insert's job: the replacement, if it is still to come, and behind it old pages alone
 abbrev pub Puts : StoreState → ℕ → List Phase → Type 0
 Puts p row [] = Unit {0}
-Puts p row (Replaces r commit ∷ rest) = PutsClaim p row r × (next_replacing rest ≡ None)
+Puts p row (Zeros page ∷ rest) = ⊥
+Puts p row (Replaces r commit ∷ rest) = PutsClaim p row r × AreOldPages rest
 Puts p row (_ ∷ rest) = Puts p row rest
 
 -- The row waits for its insert, whose job freezes no blob and has claimed no cluster itself.
@@ -281,9 +320,13 @@ pub record InsertStands (p : StoreState) (j : JobState) (row : ℕ) : Type 0 whe
 
 -- What is left of a running job can be done, on places that differ; its command waits for the commit, and behind that,
 -- or where it serves none, the volumes are shown as they are. Behind an insert they are so by what its cluster holds.
+-- The clusters that it has claimed read as zeros, but for the pages that are still to be overwritten.
 pub record JobStands (p : StoreState) (j : JobState) : Type 0 where
   pub lays : Lays p.super p.base p.chains (gained_by p.rows j) j.written j.todo
   pub distinct : AreDistinct (held_in j.todo)
-  pub served : (channel : ℕ) → j.serves ≡ ForCommand channel → has_commit j.todo ≡ true → IsServed p channel j.todo
-  pub keeps : has_commit j.todo ≡ false → ((row : ℕ) → j.serves ≢ ForInsert row) → Keeps p.super p.base p.live j.todo
+  pub served : (channel : ℕ) → j.serves ≡ ForCommand channel → has_commit j.todo ≡ true
+      → IsServed p channel j.claimed j.todo
+  pub keeps : has_commit j.todo ≡ false → ((row : ℕ) → j.serves ≢ ForInsert row)
+      → Keeps (ReadsZeros p.super j.claimed) p.super p.base p.live j.todo
+  pub zeroed : AreZeroed p.super j.claimed (zeros_in j.todo) p.device.reads
   pub inserts : (row : ℕ) → j.serves ≡ ForInsert row → InsertStands p j row

@@ -9,11 +9,11 @@ use Rattle.store_model.specs.Later.CopyTurns.{FillCopyFails, FillNotRead}
 use Rattle.store_model.specs.Later.InsertTurns.{FillInsertBreaksDown, FillInsertFails, FillLacks}
 use Rattle.store_model.specs.Later.FillTurns.{ClaimsFill, EndsFill, HaltsFill, LacksForFill}
 use Rattle.store_model.specs.Later.JobPhaseTurns.{BeginsRepair, CommitsMore, MarksDirty, MoreBreaksOff, MoreFails}
-use Rattle.store_model.specs.Later.JobPhaseTurns.{ReplacesMore, Zeroes}
+use Rattle.store_model.specs.Later.JobPhaseTurns.{ReplacesMore}
 
 pub data LaterKind : Type 0 where
   fill_not_read fill_copy_fails fill_lacks fill_insert_fails fill_insert_breaks_down claims_fill lacks_for_fill
-      halts_fill ends_fill marks_dirty zeroes replaces_more commits_more more_fails more_breaks_off
+      halts_fill ends_fill marks_dirty replaces_more commits_more more_fails more_breaks_off
       begins_repair : LaterKind
 
 module _ (told : Bool) where
@@ -28,7 +28,6 @@ module _ (told : Bool) where
   LaterTurn p halts_fill q = HaltsFill p q
   LaterTurn p ends_fill q = EndsFill p q
   LaterTurn p marks_dirty q = MarksDirty told p q
-  LaterTurn p zeroes q = Zeroes told p q
   LaterTurn p replaces_more q = ReplacesMore told p q
   LaterTurn p commits_more q = CommitsMore told p q
   LaterTurn p more_fails q = MoreFails p q

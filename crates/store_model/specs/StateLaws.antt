@@ -1,5 +1,23 @@
 -- The laws of the turns of a running store, and of what an image recovers of it.
-use Rattle.std.specs.Prelude.{◌≡◌, ◌≢◌, ℕ, true, false, ◌*◌, ◌^◌, ◌<◌, ◌≤◌, ◌++◌, ◌∷◌, [], Bool, List, All, slice_get}
+use Rattle.std.specs.Prelude.{
+  ◌≡◌,
+  ◌≢◌,
+  ℕ,
+  true,
+  false,
+  ◌*◌,
+  ◌^◌,
+  ◌<◌,
+  ◌≤◌,
+  ◌++◌,
+  ◌∷◌,
+  [],
+  Bool,
+  List,
+  length,
+  All,
+  slice_get,
+}
 use Rattle.std.specs.Prelude.{Some, None}
 use Rattle.page_disk.specs.Disk.{Image, Rose}
 use Rattle.super_block.specs.declared.page.Super.{Super}
@@ -22,7 +40,8 @@ use Rattle.store_model.specs.Scans.{is_head, MetaAt, Says, Scanned}
 use Rattle.store_model.specs.Cases.{IsQuiet}
 use Rattle.store_model.specs.StoreState.{Opens, StoreState, shown}
 use Rattle.store_model.specs.Guarding.{AreGenerations}
-use Rattle.store_model.specs.Places.{Unclaimed, UsedClusters, UsedPages}
+use Rattle.store_model.specs.Jobs.{with_clusters}
+use Rattle.store_model.specs.Places.{AreLeastClear, Unclaimed, UsedClusters, UsedPages}
 use Rattle.store_model.specs.Asking.{IsJobFor}
 use Rattle.store_model.specs.Cases.{Kind, Run, Turn}
 use Rattle.store_model.specs.RunInvariant.{AreLoadable, RunInvariant, HaveChains, IsLoadable}
@@ -55,11 +74,13 @@ pub record StateLaws : Type 0 where
       → IsPlaced s → RunInvariant s first script p → Turn told p kind q → RunInvariant s first script q
   pub go_on : (told : Bool) (p q r : StoreState) (kinds : List Kind) (kind : Kind) → Run told p kinds q
       → Turn told q kind r → Run told p (kinds ++ kind ∷ []) r
-  -- the metadata that a job without slots of zeros is to write can be written, at a head of the region
+  -- the metadata that a job is to write can be written, at a head of the region, with the least clear clusters in the
+  -- slots that are to read as zeros
   pub writable : (s : Super) (first : Volumes) (script : ℕ → List Command) (p : StoreState) (command : Command)
       (changes : Changes) (commit : Committing) → IsPlaced s → RunInvariant s first script p → p.stopped ≡ None
-      → IsJobFor p command changes commit → changes.zero ≡ [] → (x : Replacement) (new : Meta)
-      → changes.list ≡ x ∷ [] → x.new ≡ Some new → x.head < s.md_len → IsLoadable s x.head new
+      → IsJobFor p command changes commit → (claimed : List ℕ) → AreLeastClear p.clusters claimed
+      → length claimed ≡ length changes.zero → (x : Replacement) (new : Meta) → changes.list ≡ x ∷ []
+      → x.new ≡ Some new → x.head < s.md_len → IsLoadable s x.head (with_clusters new changes.zero claimed)
   -- On a device that tells, an image with this store, which says the metadata that the store has, recovers the whole
   -- log.
   pub recovers : (s : Super) (first : Volumes) (script : ℕ → List Command) (p : StoreState) (image : Image) → IsPlaced s

@@ -58,10 +58,11 @@ use Rattle.store_model.proofs.Heads.{replaced_is}
 use Rattle.store_model.proofs.Inside.{IsInside}
 use Rattle.store_model.proofs.InsertedBlob.{inserted_loadable, lawful_inserted, slots_inserted}
 use Rattle.store_model.proofs.Known.{Known}
-use Rattle.store_model.proofs.LeftToDo.{chain_new}
+use Rattle.std.specs.Prelude.{◌/◌}
+use Rattle.store_model.proofs.LeftToDo.{no_place, chain_new}
 use Rattle.store_model.proofs.OneReplacement.{all_loadable, base_lawful, base_loadable, base_resolved}
 use Rattle.store_model.proofs.Over.{Effect, nothing, stays, TurnLaw}
-use Rattle.store_model.proofs.Phases.{held_behind, held_clearing, lays_behind, lays_clearing, none_next, none_taken}
+use Rattle.store_model.proofs.Phases.{held_behind, held_clearing, lays_behind, lays_clearing, old_pages, none_taken}
 use Rattle.store_model.proofs.Phases.{puts_behind}
 use Rattle.store_model.proofs.RowsKept.{row_here, row_other, way_kept}
 use Rattle.store_model.proofs.Sets.{are_distinct}
@@ -219,13 +220,14 @@ module _ (known : Known) where
       distinct = subst AreDistinct (sym held) (are_distinct p.pages (taken_by r) planned.least);
       served = λ c bad. absurd (cc bad);
       keeps = λ none other. absurd (other row refl);
+      zeroed = λ page among out. absurd (no_place [] (page / cluster_pages_of p.super) among refl);
       inserts = λ c serves.
           let e : row ≡ c = cc serves in
           subst (InsertStands now job) e (record {
             waits = ap (λ (x : Row). x.stage) here;
             thaws = refl;
             unclaimed = refl;
-            puts = puts_behind now row r.fresh (Replaces r None ∷ rest) (puts, none_next r.old r.old);
+            puts = puts_behind now row r.fresh (Replaces r None ∷ rest) (puts, old_pages r.old r.old);
           });
     }
 

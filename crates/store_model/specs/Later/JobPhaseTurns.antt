@@ -3,7 +3,6 @@ use Rattle.std.specs.Prelude.{◌≡◌, ◌≢◌, ℕ, ◌+◌, ◌<◌, if◌
 use Rattle.std.specs.Prelude.{Some, Bool, true, false}
 use Rattle.super_block.specs.declared.page.Super.{Super}
 use Rattle.super_block.specs.Page.{super_bytes}
-use Rattle.volume_model.specs.Volumes.{zero_page}
 use Rattle.volume_model.specs.Steps.{change}
 use Rattle.volume_model.specs.declared.reply.Reply.TheVariants as r
 use Rattle.blob_meta.specs.declared.meta.Meta.{Meta}
@@ -15,7 +14,7 @@ use Rattle.store_model.specs.Recovers.{IsChangeDone}
 use Rattle.store_model.specs.Shown.{fixed_of}
 use Rattle.store_model.specs.Guarding.{all_renewed, frozen_behind}
 use Rattle.store_model.specs.Phases.{Committing, has_commit, Marks, page_in, Phase, phases_of, rechained, replaced}
-use Rattle.store_model.specs.Phases.{Replaces, Replacing, taken_by, Zeros}
+use Rattle.store_model.specs.Phases.{Replaces, Replacing, taken_by}
 use Rattle.store_model.specs.Places.{all_set}
 use Rattle.store_model.specs.Jobs.{IsLaid}
 use Rattle.store_model.specs.StoreState.{ForInsert, ForRepair, going_on, live_of, logged, shown, StoreState, waiting}
@@ -38,14 +37,6 @@ pub record MarksDirty (told : Bool) (p q : StoreState) : Type 0 where
   pub device : Device
   pub moves : WritesOnePage told p.device 0 page 3 device
   pub next : q ≡ record p { super = dirty p.super; job = going_on running.job [] running.rest; device = device }
-
--- A page of a claimed cluster is overwritten with zeros: one device call.
-pub record Zeroes (told : Bool) (p q : StoreState) : Type 0 where
-  pub page : ℕ
-  pub running : Runs p (Zeros page)
-  pub device : Device
-  pub moves : WritesOnePage told p.device page zero_page 1 device
-  pub next : q ≡ record p { job = going_on running.job [] running.rest; device = device }
 
 -- ---- replacements
 
@@ -115,7 +106,6 @@ pub record CommitsMore (told : Bool) (p q : StoreState) : Type 0 where
 -- blob that is made or stays
 abbrev pub WritesMore : Phase → Type 0
 WritesMore Marks = Unit {0}
-WritesMore (Zeros page) = Unit {0}
 WritesMore (Replaces r None) = Unit {0}
 WritesMore (Replaces r (Some commit)) = r.new ≡ None
 WritesMore _ = ⊥

@@ -1,7 +1,9 @@
 use Rattle.std.proofs.Common.{◌≡◌, ℕ, Option, Some, None, drop, sym, ◌∙◌, ap, ◌∷◌, []}
 use Rattle.std.specs.Prelude.{if◌then◌else◌}
 use Rattle.std.specs.Option.{option_and_then, option_map}
-use Rattle.store_model.specs.Phases.{Replaces, erasing}
+use Rattle.store_model.specs.Phases.{Replaces, erasing, writing}
+use Rattle.store_model.proofs.Zeroing.{commit_zeros}
+use Rattle.store_core.specs.Zeroing.{pages_from}
 use Rattle.store_model.proofs.Phases.{commit_behind, no_commit}
 use Rattle.store_core.specs.JobTurns.{waits_for_job}
 use Rattle.store_core.specs.Jobs.{commit_of, job_seen, replacing_of}
@@ -16,6 +18,18 @@ waits j work = waits_for_job (job_seen (record { channel = j.channel; work = wor
 waits_as : (o : Option RunningJob) (j : RunningJob) (work : Work) → o ≡ Some j → j.work ≡ work
     → option_and_then waits_for_job (option_map job_seen o) ≡ waits j work
 waits_as o j work is at = ap (λ x. option_and_then waits_for_job (option_map job_seen x)) is ∙ ap (waits j) at
+
+pub returns-in-Zeroing : goal.returns-in-Zeroing
+returns-in-Zeroing c =
+    let j = c.in-Some.running in
+    let planned = c.in-Zeroing.planned in
+    let z = c.in-Zeroing.zeroed in
+    let commit = Replaces (replacing_of planned j.old) (Some (commit_of planned)) ∷ erasing j.old j.old [] in
+    sym (waits_as c.args.job.now j _ c.in-Some.is c.in-Zeroing.is
+    ∙ ap (λ b. if b then Some j.channel else None)
+    (commit_zeros (pages_from z.cluster_pages (drop z.clusters planned.effects.claimed) z.pages)
+    (writing (drop 0 (drop 1 planned.chain)) commit)
+    ∙ commit_behind (drop 0 (drop 1 planned.chain)) commit))
 
 pub returns-in-Writing : goal.returns-in-Writing
 returns-in-Writing c =

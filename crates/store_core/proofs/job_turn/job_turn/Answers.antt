@@ -1,10 +1,10 @@
 use Rattle.std.proofs.Common.{zero, [], ◌∷◌, ◌≡◌, Option, Some, length, drop, refl, sym, ◌∙◌, ap, subst, arith, ℕ, ◌≤◌}
-use Rattle.std.proofs.Common.{List, ◌∷◌, take, suc}
+use Rattle.std.proofs.Common.{List, ◌∷◌, take, suc, IfSome}
 use Rattle.std.specs.Option.{option_map}
 use Rattle.store_model.specs.StoreState.{JobState}
 use Rattle.store_core.specs.declared.job.RunningJob.{RunningJob}
 use Rattle.store_core.specs.declared.job.Work.{Work}
-use Rattle.store_core.specs.Jobs.{commit_of, job_seen, replacing_of, writing_job}
+use Rattle.store_core.specs.Jobs.{commit_of, job_seen, replacing_of, writing_job, IsHeaded}
 use Rattle.store_core.specs.JobTurns.{TurnsJob}
 use Rattle.store_core.specs.StoreInvariant.{IsRunning}
 use Rattle.store_core.specs.Running.{view_of}
@@ -19,6 +19,13 @@ seen_work : (o taken : Option RunningJob) (j : RunningJob) (w : Work) → taken 
     → option_map job_seen o ≡ Some (job_seen (record { channel = j.channel; work = w; old = j.old }))
 seen_work o taken j w value is work = ap (λ x. option_map job_seen x) (sym value ∙ is)
     ∙ ap (λ v. Some (job_seen (record { channel = j.channel; work = v; old = j.old }))) work
+
+-- what is known of it
+headed_work : (o taken : Option RunningJob) (j : RunningJob) (w : Work) → taken ≡ o → taken ≡ Some j → j.work ≡ w
+    → IfSome o IsHeaded → IsHeaded (record { channel = j.channel; work = w; old = j.old })
+headed_work o taken j w value is work all =
+    subst (λ v. IsHeaded (record { channel = j.channel; work = v; old = j.old })) work
+    (subst (λ x. IfSome x IsHeaded) (sym value ∙ is) all)
 
 -- all fresh pages are written
 all_written : (channel : ℕ) (planned : Planned) (old : List ℕ) (written : ℕ) → length (drop 1 planned.chain) ≤ written
@@ -48,6 +55,18 @@ all_written channel planned old written le =
     dropped [] (suc n) le = refl
     dropped (x ∷ xs) zero le = absurd (omega (arith, le))
     dropped (x ∷ xs) (suc n) le = dropped xs n (omega (arith, le))
+
+pub zero-requires-clause-matched : goal.zero-requires-clause-matched
+zero-requires-clause-matched g c = (headed_work c.args.running.now.job c.take.result c.in-Some.field-0 _
+    c.take.ensures.value c.in-Some.is c.in-Zeroing.is c.requires.order.headed).0
+
+pub zero-requires-clause-clusters : goal.zero-requires-clause-clusters
+zero-requires-clause-clusters g c = (headed_work c.args.running.now.job c.take.result c.in-Some.field-0 _
+    c.take.ensures.value c.in-Some.is c.in-Zeroing.is c.requires.order.headed).1.clusters
+
+pub zero-requires-clause-pages : goal.zero-requires-clause-pages
+zero-requires-clause-pages g c = (headed_work c.args.running.now.job c.take.result c.in-Some.field-0 _
+    c.take.ensures.value c.in-Some.is c.in-Zeroing.is c.requires.order.headed).1.pages
 
 pub overflow_sub-fresh : goal.overflow_sub-fresh
 overflow_sub-fresh g c =

@@ -1,0 +1,308 @@
+-- A blob with claimed clusters in slots that were empty: a load takes it, all metadata is lawful with it, and it shows
+-- what it showed where the clusters read as zeros.
+use Rattle.std.proofs.Common.{
+  ◌≡◌,
+  ◌⊎◌,
+  ℕ,
+  zero,
+  suc,
+  ◌+◌,
+  ◌*◌,
+  ◌/◌,
+  ◌%◌,
+  ◌<◌,
+  ◌≤◌,
+  ◌^◌,
+  Bool,
+  true,
+  false,
+  List,
+  [],
+  ◌∷◌,
+}
+use Rattle.std.proofs.Common.{length, map, Option, Some, None, refl, sym, ap, ◌∙◌, subst, inl, inr, arith}
+use Rattle.std.specs.Prelude.{find, is_none, slice_index_or, IsSome}
+use Rattle.std.specs.List.{position, range_with_len}
+use Rattle.std.proofs.lemmas.List.Quantifiers.{position-Some}
+use Rattle.std.specs.Option.{option_map_or}
+use Rattle.std.proofs.lemmas.Bool.{cases_eq}
+use Rattle.std.proofs.Math.Path.{fun_ext}
+use Rattle.page_disk.specs.Disk.{Image}
+use Rattle.volume_model.specs.Volumes.{Page, zero_page}
+use Rattle.volume_model.specs.Xattrs.{Xattrs}
+use Rattle.blob_meta.specs.declared.meta.Meta.{Meta}
+use Rattle.super_block.specs.declared.page.Super.{Super}
+use Rattle.blob_meta.specs.Faults.{bad_mark, clusters_of, hole_in_thick, is_outside, map_fault, unknown_flag}
+use Rattle.blob_meta.specs.Says.{without_bit_1}
+use Rattle.md_chain.specs.Chain.{blob_id}
+use Rattle.store_model.specs.Regions.{region_of}
+use Rattle.store_model.specs.Loadable.{CanBeWritten, IsLoadable, StandsAlone}
+use Rattle.store_model.proofs.NewBlob.{all_pass, clear_flags, empty_slot, few_pass, known_flags}
+use Rattle.blob_meta.specs.Jobs.{new_meta}
+use Rattle.std.proofs.lemmas.List.{length-replicate}
+use Rattle.blob_meta.specs.Parents.{is_read_only, parent_of, slot}
+use Rattle.blob_meta.specs.Resolving.{IsLawful, slots_together}
+use Rattle.md_chain.specs.Chain.{is_among}
+use Rattle.store_model.specs.Maps.{Metas, with_entry}
+use Rattle.store_model.specs.Places.{IsMapped}
+use Rattle.store_model.specs.Shown.{content, content_by, volume_of}
+use Rattle.store_model.proofs.Cut.{all_full, slot_in}
+use Rattle.store_model.proofs.WithEntry.{given_here, given_elsewhere}
+use Rattle.store_model.proofs.ZeroSlots.{IsZeroedAt}
+
+-- What is known of it: but for the map it is the same, each slot is as it was or has a claimed cluster, and no cluster
+-- is in two of them.
+pub record IsZeroed (m later : Meta) (claimed : List ℕ) : Type 0 where
+  pub rest : later ≡ record m { map = later.map }
+  pub long : length later.map ≡ length m.map
+  pub each : (i : ℕ) → (slot later i ≡ slot m i) ⊎ IsZeroedAt m later claimed i
+  pub once : (i j c : ℕ) → is_among c claimed ≡ true → slot later i ≡ Some c → slot later j ≡ Some c → i ≡ j
+
+-- ---- what it shows
+
+module _ (k : ℕ) (image : Image) (md_len : ℕ) (m later : Meta) (claimed : List ℕ) (is : IsZeroed m later claimed)
+    (alone : parent_of m ≡ None)
+    (zeros : (page cluster : ℕ) → is_among cluster claimed ≡ true → image (cluster * k + page % k) ≡ zero_page)
+    (metas others : Metas) (head : ℕ) (there : metas head ≡ Some m) (now : others head ≡ Some later) where
+  -- a page of a blob without a parent
+  by_slot : (all : Metas) (n : Meta) → parent_of n ≡ None → (q : ℕ) (o : Option ℕ) → slot n (q / k) ≡ o
+      → content_by k image all (λ p r. content k image all md_len p r) q n
+      ≡ option_map_or (λ cluster. image (cluster * k + q % k)) o zero_page
+  by_slot all n no_parent q None e = rw (e, no_parent) refl
+  by_slot all n no_parent q (Some cluster) e = rw e refl
+
+  later_alone : parent_of later ≡ None
+  later_alone = ap (λ (n : Meta). parent_of n) is.rest ∙ alone
+
+  shows_at : (all : Metas) (n : Meta) → all head ≡ Some n → parent_of n ≡ None → (q : ℕ)
+      → content k image all (suc md_len) head q
+      ≡ option_map_or (λ cluster. image (cluster * k + q % k)) (slot n (q / k)) zero_page
+  shows_at all n at no_parent q =
+      ap (λ o. option_map_or (content_by k image all (λ p r. content k image all md_len p r) q) o zero_page) at
+      ∙ by_slot all n no_parent q (slot n (q / k)) refl
+
+  same_page : (q : ℕ) → content k image others (suc md_len) head q ≡ content k image metas (suc md_len) head q
+  same_page q =
+      shows_at others later now later_alone q
+      ∙ elim (is.each (q / k)) [
+        | inl same ↦ ap (λ o. option_map_or (λ cluster. image (cluster * k + q % k)) o zero_page) same
+        | inr x ↦ ap (λ o. option_map_or (λ cluster. image (cluster * k + q % k)) o zero_page) x.at
+            ∙ zeros q x.cluster x.among
+            ∙ sym (ap (λ o. option_map_or (λ cluster. image (cluster * k + q % k)) o zero_page) x.empty)
+      ]
+      ∙ sym (shows_at metas m there alone q)
+
+  pub volume_zeroed : (live : Xattrs)
+      → volume_of k image others md_len live head later ≡ volume_of k image metas md_len live head m
+  volume_zeroed live =
+      ap (λ (n : Meta). record (volume_of k image others md_len live head n) {
+        pages = map (content k image others (suc md_len) head) (range_with_len 0 (k * length later.map));
+      }) is.rest
+      ∙ ap (λ (pages : List Page). record (volume_of k image metas md_len live head m) { pages = pages })
+      (ap (λ n. map (content k image others (suc md_len) head) (range_with_len 0 (k * n))) is.long
+      ∙ ap (λ (g : ℕ → Page). map g (range_with_len 0 (k * length m.map))) (fun_ext same_page))
+
+-- ---- with it all metadata is lawful
+
+module _ (md_len : ℕ) (metas : Metas) (head : ℕ) (m later : Meta) (claimed : List ℕ) (is : IsZeroed m later claimed)
+    (fresh : (c : ℕ) → is_among c claimed ≡ true → ¬ IsMapped (with_entry metas head m) c) where
+  abbrev before : Metas
+  before = with_entry metas head m
+
+  abbrev after : Metas
+  after = with_entry metas head later
+
+  -- a blob as it was before
+  record Had (h : ℕ) (n : Meta) : Type 0 where
+    old : Meta
+    was : before h ≡ Some old
+    rest : n ≡ record old { map = n.map }
+    each : (i c : ℕ) → slot n i ≡ Some c → (slot old i ≡ Some c) ⊎ ((is_among c claimed ≡ true) × (h ≡ head))
+
+  had : (h : ℕ) (n : Meta) → after h ≡ Some n → Had h n
+  had h n now = elim (cases_eq h head) [
+    | inl e ↦
+        let one : later ≡ n = let both = sym (given_here metas head later h e) ∙ now in cc both in
+        record {
+          old = m;
+          was = given_here metas head m h e;
+          rest = subst (λ (y : Meta). y ≡ record m { map = y.map }) one is.rest;
+          each = λ i c at.
+              let mine : slot later i ≡ Some c = subst (λ (y : Meta). slot y i ≡ Some c) (sym one) at in
+              elim (is.each i) [
+                | inl same ↦ inl (sym same ∙ mine)
+                | inr x ↦
+                    let e2 : x.cluster ≡ c = let both = sym x.at ∙ mine in cc both in
+                    inr (subst (λ y. is_among y claimed ≡ true) e2 x.among, e)
+              ];
+        }
+    | inr ne ↦ record {
+      old = n;
+      was = given_elsewhere metas head m h ne ∙ sym (given_elsewhere metas head later h ne) ∙ now;
+      rest = refl;
+      each = λ i c at. inl at;
+    }
+  ]
+
+  not_mapped : (h i c : ℕ) (n : Meta) → before h ≡ Some n → slot n i ≡ Some c → is_among c claimed ≡ true → ⊥
+  not_mapped h i c n there at among =
+      fresh c among (record { head = h; meta = n; there = there; place = i; in_slot = at })
+
+  at_head : (h i c : ℕ) (n : Meta) → after h ≡ Some n → h ≡ head → slot n i ≡ Some c → slot later i ≡ Some c
+  at_head h i c n now e at =
+      let one : later ≡ n = let both = sym (given_here metas head later h e) ∙ now in cc both in
+      subst (λ (y : Meta). slot y i ≡ Some c) (sym one) at
+
+  still_read_only : (p : ℕ) (n : Meta) → before p ≡ Some n → is_read_only n.flags ≡ true
+      → (parent : Meta) × (after p ≡ Some parent) × (is_read_only parent.flags ≡ true)
+  still_read_only p n there on = elim (cases_eq p head) [
+    | inl e ↦
+        let one : m ≡ n = let both = sym (given_here metas head m p e) ∙ there in cc both in (
+          later,
+          given_here metas head later p e,
+          ap (λ (y : Meta). is_read_only y.flags) is.rest ∙ ap (λ (y : Meta). is_read_only y.flags) one ∙ on,
+        )
+    | inr ne ↦ (
+      n,
+      given_elsewhere metas head later p ne ∙ sym (given_elsewhere metas head m p ne) ∙ there,
+      on,
+    )
+  ]
+
+  pub lawful_zeroed : IsLawful md_len before → slots_together md_len after ≤ 2 ^ 24 → IsLawful md_len after
+  lawful_zeroed law few = record {
+    alone = λ h k i j c x y hx ky xi yj.
+        let a = had h x hx in
+        let b = had k y ky in
+        elim (a.each i c xi) [
+          | inl old ↦ elim (b.each j c yj) [
+            | inl other ↦ law.alone h k i j c a.old b.old a.was b.was old other
+            | inr claimed_there ↦ absurd (not_mapped h i c a.old a.was old claimed_there.0)
+          ]
+          | inr here ↦ elim (b.each j c yj) [
+            | inl other ↦ absurd (not_mapped k j c b.old b.was other here.0)
+            | inr there ↦ (
+              here.1 ∙ sym there.1,
+              is.once i j c here.0 (at_head h i c x hx here.1 xi) (at_head k j c y ky there.1 yj),
+            )
+          ]
+        ];
+    parents = λ h p x hx of.
+        let a = had h x hx in
+        let up = law.parents h p a.old a.was (sym (ap (λ (y : Meta). parent_of y) a.rest) ∙ of) in
+        still_read_only p up.0 up.1 up.2;
+    rank = law.rank;
+    falls = λ h p x hx of.
+        let a = had h x hx in law.falls h p a.old a.was (sym (ap (λ (y : Meta). parent_of y) a.rest) ∙ of);
+    few = few;
+  }
+
+-- ---- its map
+
+-- no cluster of a map lies outside
+pub all_inside : (fixed clusters : ℕ) (map : List (Option ℕ))
+    → ((i c : ℕ) → slot_in map i ≡ Some c → is_outside fixed clusters c ≡ false)
+    → find (is_outside fixed clusters) (clusters_of map) ≡ None
+all_inside fixed clusters [] inside = refl
+all_inside fixed clusters (None ∷ map) inside = all_inside fixed clusters map (λ i. inside (suc i))
+all_inside fixed clusters (Some c ∷ map) inside =
+    rw (inside 0 c refl) (all_inside fixed clusters map (λ i. inside (suc i)))
+
+slot_get : (map : List (Option ℕ)) (i : ℕ) → slot_in map i ≡ slice_index_or map i None
+slot_get [] i = refl
+slot_get (x ∷ map) zero = refl
+slot_get (x ∷ map) (suc i) = slot_get map i
+
+-- a map whose slots are all filled has no hole
+pub all_filled : (map : List (Option ℕ)) → ((i : ℕ) → i < length map → IsSome (slot_in map i))
+    → position is_none map ≡ None
+all_filled map filled = by (position is_none map) refl
+  where
+    some_not : (o : Option ℕ) → IsSome o → is_none o ≡ true → ⊥
+    some_not None some none = cc some
+    some_not (Some x) some none = cc none
+
+    by : (o : Option ℕ) → position is_none map ≡ o → position is_none map ≡ None
+    by None is = is
+    by (Some i) is =
+        let some = position-Some is_none map i None is in
+        absurd (some_not (slot_in map i) (filled i some.0) (ap is_none (slot_get map i) ∙ some.1))
+
+-- and the other way round
+pub slot_filled : (map : List (Option ℕ)) → position is_none map ≡ None → (i : ℕ) → i < length map
+    → IsSome (slot_in map i)
+slot_filled map none i lt = some_of (slot_in map i) (ap is_none (slot_get map i) ∙ all_full map none i lt)
+  where
+    some_of : (o : Option ℕ) → is_none o ≡ false → IsSome o
+    some_of None is = absurd (cc is)
+    some_of (Some x) is = refl
+
+-- ---- a load takes it
+
+-- all that a load asks but that no slot of a thick blob is empty
+pub record IsLoadableBut (s : Super) (head : ℕ) (m : Meta) : Type 0 where
+  pub low : head < s.md_len
+  pub id : m.id ≡ blob_id head
+  pub clear : without_bit_1 m.flags.invalid ≡ m.flags.invalid
+  pub xattrs : CanBeWritten m.xattrs
+  pub internal : CanBeWritten m.internal
+  pub flags : unknown_flag m.flags ≡ None
+  pub few : length m.map ≤ 2 ^ 20
+  pub inside : (i c : ℕ) → slot m i ≡ Some c → is_outside (region_of s).fixed (region_of s).clusters c ≡ false
+  pub marks : bad_mark m.internal ≡ None
+  pub alone : StandsAlone m
+
+pub zeroed_loadable : (s : Super) (head : ℕ) (m later : Meta) (claimed : List ℕ) → IsZeroed m later claimed
+    → IsLoadableBut s head m
+    → ((c : ℕ) → is_among c claimed ≡ true → is_outside (region_of s).fixed (region_of s).clusters c ≡ false)
+    → hole_in_thick m.flags later.map ≡ None → IsLoadable s head later
+zeroed_loadable s head m later claimed is but inside full =
+    subst (IsLoadable s head) (sym is.rest) (record {
+      stored = record {
+        low = but.low;
+        id = but.id;
+        clear = but.clear;
+        xattrs = but.xattrs;
+        internal = but.internal;
+        faultless = all_pass _ _ _ _ but.flags map_passes full but.marks;
+      };
+      alone = record {
+        no_parent = but.alone.no_parent;
+        not_made = but.alone.not_made;
+        not_removed = but.alone.not_removed;
+      };
+    })
+  where
+    slot_inside : (i c : ℕ) → slot_in later.map i ≡ Some c
+        → is_outside (region_of s).fixed (region_of s).clusters c ≡ false
+    slot_inside i c at = elim (is.each i) [
+      | inl same ↦ but.inside i c (sym same ∙ at)
+      | inr x ↦
+          let e : x.cluster ≡ c = let both = sym x.at ∙ at in cc both in
+          inside c (subst (λ n. is_among n claimed ≡ true) e x.among)
+    ]
+
+    map_passes : map_fault (region_of s).fixed (region_of s).clusters later.map ≡ None
+    map_passes =
+        rw (
+          few_pass (length m.map) later.map is.long but.few,
+          all_inside (region_of s).fixed (region_of s).clusters
+              later.map slot_inside,
+        )
+        refl
+
+-- a new blob's, before its slots get clusters
+pub new_but : (s : Super) (head : ℕ) (xattrs : Xattrs) (thick : Bool) (slots : ℕ) → head < s.md_len
+    → CanBeWritten xattrs → slots ≤ 2 ^ 20 → IsLoadableBut s head (new_meta head xattrs thick slots)
+new_but s head xattrs thick slots low can few = record {
+  low = low;
+  id = refl;
+  clear = clear_flags thick;
+  xattrs = can;
+  internal = record { names = tt; short = tt };
+  flags = known_flags thick;
+  few = omega (arith, few, length-replicate {A = Option ℕ} slots None);
+  inside = λ i c at. absurd (let bad = sym (empty_slot slots i) ∙ at in cc bad);
+  marks = refl;
+  alone = record { no_parent = refl; not_made = refl; not_removed = refl };
+}
