@@ -51,7 +51,7 @@ CRATES = {
     "blobtool": (1, 6, 0), "blob_tool": (1, 6, 1),
     "script_lang": (1, 1, 2), "store_format": (5, 5, 2), "streams": (6, 6, 2),
     "lvol_store": (3, 3, 3), "blob_report": (6, 6, 3),
-    "unclean_load": (2, 2, 4), "store_core": (4, 4, 5), "io_freeze": (3, 3, 6), "store_model": (4, 4, 6),
+    "unclean_load": (2, 2, 4), "data_path": (5, 5, 4), "store_core": (4, 4, 5), "io_freeze": (3, 3, 6), "store_model": (4, 4, 6),
     "md_chain": (2, 2, 7), "pools": (4, 4, 7), "blob_meta": (1, 1, 8), "md_page": (3, 3, 8),
     "descriptors": (1, 1, 9), "super_block": (3, 3, 9),
     "volume_model": (1, 1, 10), "page_fields": (3, 3, 10), "bit_array": (4, 4, 10),
@@ -66,7 +66,7 @@ STEPS = [
     "2  the source is read to its end, and the text becomes each channel's commands",
     "3  the store of the image is loaded: super block, heads, chains; the device is only read",
     "4  the driver posts a command; a put, a sync or a create is planned from what the store shows",
-    "5  the store makes its turns: post, answer or refuse, or begin_job and job_turn; then settle",
+    "5  the store makes its turns: read or flush; or post, answer or refuse, or begin_job and job_turn; then settle",
     "6  a turn of a job writes and flushes; its entry is logged, with the clock as its mark",
     "7  the log is printed, an entry a line",
 ]

@@ -46,14 +46,14 @@ fn expect_left(alloc: Global, disk: MemDisk, is_new: bool) -> Result<(), Fail> {
 }
 
 /// Loading reads the super block, five metadata pages and a chain of three pages. The put makes two writes of fresh
-/// pages, a flush, the head's write and a flush, and then two writes of old pages and a flush. Whenever it is cut off,
-/// two pages are clear for the next put, and once that is done the others hold zeros.
+/// pages, a flush, the head's write and a flush, and then two writes of old pages and a flush; the run ends with a
+/// flush. Whenever it is cut off, two pages are clear for the next put, and once that is done the others hold zeros.
 #[test]
 fn a_put_cut_off_leaves_its_pages_clear(rt: HostRuntime) -> Result<(), Fail> {
     let alloc = rt.alloc();
-    for calls in 9..18 {
+    for calls in 9..19 {
         let Ran { status, out, disk } = cut_put(alloc, calls)?;
-        assert_eq!(rt; matches!(status, Status::Good), calls == 17);
+        assert_eq!(rt; matches!(status, Status::Good), calls == 18);
         let answer: &[u8] = if calls < 14 {
             b"0 0 fault\n"
         } else {
