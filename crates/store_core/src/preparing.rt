@@ -14,7 +14,7 @@ ghost use Rattle.store_core.specs.Begins.{LacksPages, needed};
 use crate::clearing::clear_places;
 use crate::effects::Effects;
 use crate::job::{Planned, RunningJob, Work};
-use crate::taking::take_pages;
+use crate::taking::take_places;
 use blob_meta::{Chains, Meta, to_items};
 use descriptors::ItemList;
 use md_chain::{Plan, chain_len, plan_chain};
@@ -159,7 +159,7 @@ fn take_chain(
     ensures memory { IfErr result (λ _. pages.new.bits ≡ pages.old.bits) }
     ensures unclaimed { pages.new.claims ≡ [] }
 {
-    let taken = take_pages(alloc, pages, pages_needed(items, makes))?;
+    let taken = take_places(alloc, pages, pages_needed(items, makes))?;
     let fresh = behind_head(&taken, makes);
     match lay(alloc, items, head, fresh) {
         Ok(laid) => Ok(laid),

@@ -136,6 +136,24 @@ filled_slot m (p ∷ ps) (c ∷ cs) distinct empty long i among = elim (among_ei
       (omega (arith, long)) i later
 ]
 
+-- a slot with this cluster
+pub record IsInMap (m : Meta) (cluster : ℕ) : Type 0 where
+  pub place : ℕ
+  pub at : slot m place ≡ Some cluster
+
+-- and each cluster is in one
+pub each_claimed : (m : Meta) (slots claimed : List ℕ) → AreDistinct slots → AreEmpty m slots
+    → length claimed ≡ length slots → (c : ℕ) → is_among c claimed ≡ true
+    → IsInMap (with_clusters m slots claimed) c
+each_claimed m [] [] distinct empty long c among = absurd (cc among)
+each_claimed m [] (x ∷ cs) distinct empty long c among = absurd (omega (arith, long))
+each_claimed m (p ∷ ps) [] distinct empty long c among = absurd (cc among)
+each_claimed m (p ∷ ps) (x ∷ cs) distinct empty long c among = elim (among_either c x cs among) [
+  | inl e ↦ record { place = p; at = there_still m p x ps cs distinct empty ∙ ap Some (sym e) }
+  | inr later ↦ each_claimed (with_slot m p x) ps cs distinct.1 (empty_behind m p ps x distinct.0 empty)
+      (omega (arith, long)) c later
+]
+
 -- ---- the rest of it stays
 
 pub zeroed_long : (m : Meta) (slots claimed : List ℕ)
