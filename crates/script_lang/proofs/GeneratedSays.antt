@@ -58,18 +58,18 @@ not_skipped channel more lt =
 data AreSaid : List Form → List (List ℕ) → List Value → Type 0 where
   no_words : (forms : List Form) → AreSaid forms [] []
   more_words : (f : Form) (forms : List Form) (word : List ℕ) (more : List (List ℕ)) (x : Value) (values : List Value)
-      → IsWord word → says_word Whole f word ≡ Some x → AreSaid forms more values
+      → IsWord word → says_word f word ≡ Some x → AreSaid forms more values
       → AreSaid (f ∷ forms) (word ∷ more) (x ∷ values)
 
-nothing_said : (forms : List Form) → says_values Whole forms [] ≡ Ok []
+nothing_said : (forms : List Form) → says_values forms [] ≡ Ok []
 nothing_said [] = refl
 nothing_said (f ∷ forms) = refl
 
 values_said : (forms : List Form) (words : List (List ℕ)) (values : List Value) → AreSaid forms words values
-    → says_values Whole forms words ≡ Ok values
+    → says_values forms words ≡ Ok values
 values_said _ _ _ (no_words forms) = nothing_said forms
 values_said _ _ _ (more_words f forms word more x values w e later) =
-    ap (λ o. joined (or_kind f o) (says_values Whole forms more)) e
+    ap (λ o. joined (or_kind f o) (says_values forms more)) e
     ∙ ap (joined (Ok (x ∷ []))) (values_said forms more values later)
 
 words_said : (forms : List Form) (words : List (List ℕ)) (values : List Value) → AreSaid forms words values
@@ -101,11 +101,11 @@ says_line channel name verb more values commands lt word is_verb few said made =
           (Err kind.Form))) (not_skipped channel (32 ∷ spaced name more) lt)
           ∙ ap (λ b. cond b (says_words Whole (words line)) (Err kind.Form)) good
           ∙ ap (says_words Whole) (words_are (decimal channel) (name ∷ more) first rest)
-          ∙ ap (λ o. in_channel o (says_verb Whole (verb_in Whole name) more))
+          ∙ ap (λ o. in_channel o (says_verb (verb_in Whole name) more))
           (is_number 16 channel (decimal channel) (omega arith) (omega arith) refl)
-          ∙ ap (λ o. in_channel (Some channel) (says_verb Whole o more)) is_verb
+          ∙ ap (λ o. in_channel (Some channel) (says_verb o more)) is_verb
           ∙ ap (λ b. in_channel (Some channel)
-          (cond b (commands_said verb (says_values Whole (forms_of verb) more)) (Err kind.Form))) few
+          (cond b (commands_said verb (says_values (forms_of verb) more)) (Err kind.Form))) few
           ∙ ap (λ r. in_channel (Some channel) (commands_said verb r)) (values_said (forms_of verb) more values said)
           ∙ ap (in_channel (Some channel)) made,
       printable,
@@ -119,14 +119,14 @@ name_said volume lt =
     ap (λ b. cond b (Some (volume_name volume)) None) named
 
 volume_said : (volume : ℕ) → volume < 4
-    → says_word Whole form.Volume (volume_name volume) ≡ Some (value.Volume (Named (volume_name volume)))
+    → says_word form.Volume (volume_name volume) ≡ Some (value.Volume (Named (volume_name volume)))
 volume_said volume lt = ap (λ o. option_map value.Volume (option_map Named o)) (name_said volume lt)
 
 number_said : (n : ℕ) (word : List ℕ) → n < 2 ^ 64 → decimal n ≡ word
-    → says_word Whole form.Number word ≡ Some (value.Number n)
+    → says_word form.Number word ≡ Some (value.Number n)
 number_said n word small e = ap (option_map value.Number) (is_number (2 ^ 64) n word (omega arith) small e)
 
-count_said : says_word Whole form.Count (codes "1") ≡ Some (value.Number 1)
+count_said : says_word form.Count (codes "1") ≡ Some (value.Number 1)
 count_said = ap (λ o. option_map value.Number (option_and_then count_of o))
     (is_number (2 ^ 64) 1 (codes "1") (omega arith) (omega arith) (decimal_digit 1 (omega arith)))
 

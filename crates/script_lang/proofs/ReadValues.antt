@@ -7,7 +7,6 @@ use Rattle.script_lang.specs.declared.fault.LineKind.{LineKind}
 use Rattle.script_lang.specs.declared.fault.LineKind.TheVariants as kind
 use Rattle.script_lang.specs.declared.form.Form.{Form}
 use Rattle.script_lang.specs.declared.form.Value.{Value}
-use Rattle.script_lang.specs.declared.grammar.Grammar.{Grammar}
 use Rattle.script_lang.specs.Forms.{says_word, says_values, joined, or_kind, kind_of_form, worse, fault_after, so_far}
 
 worse_assoc : (a b c : LineKind) → worse (worse a b) c ≡ worse a (worse b c)
@@ -29,14 +28,14 @@ joined_none : (a : Result (List Value) LineKind) → joined a (Ok []) ≡ a
 joined_none (Ok a) = ap Ok (append-nil a)
 joined_none (Err k) = refl
 
-no_words : (grammar : Grammar) (forms : List Form) → says_values grammar forms [] ≡ Ok []
-no_words grammar [] = refl
-no_words grammar (form ∷ forms) = refl
+no_words : (forms : List Form) → says_values forms [] ≡ Ok []
+no_words [] = refl
+no_words (form ∷ forms) = refl
 
 -- what the first words said, so many forms being read, with what the others say
-pub record IsReading (grammar : Grammar) (forms : List Form) (words : List (List ℕ)) (index : ℕ)
+pub record IsReading (forms : List Form) (words : List (List ℕ)) (index : ℕ)
     (left : List (List ℕ)) (values : List Value) (fault : Option LineKind) : Type 0 where
-  pub whole : joined (so_far values fault) (says_values grammar (drop index forms) left) ≡ says_values grammar forms
+  pub whole : joined (so_far values fault) (says_values (drop index forms) left) ≡ says_values forms
       words
   pub few : length values ≤ index
 
@@ -44,9 +43,9 @@ none_said : (r : Result (List Value) LineKind) → joined (so_far [] None) r ≡
 none_said (Ok values) = refl
 none_said (Err kind) = refl
 
-pub begun : (grammar : Grammar) (forms : List Form) (words : List (List ℕ))
-    → IsReading grammar forms words 0 words [] None
-begun grammar forms words = record { whole = none_said (says_values grammar forms words); few = omega arith }
+pub begun : (forms : List Form) (words : List (List ℕ))
+    → IsReading forms words 0 words [] None
+begun forms words = record { whole = none_said (says_values forms words); few = omega arith }
 
 said_good : (values : List Value) (fault : Option LineKind) (value : Value)
     → joined (so_far values fault) (Ok (value ∷ [])) ≡ so_far (values ++ value ∷ []) fault
@@ -62,71 +61,71 @@ next_form : (forms : List Form) (index : ℕ) (d : Form) → index < length form
     → drop index forms ≡ get_or forms index d ∷ drop (index + 1) forms
 next_form forms index d lt = rw add-one (drop-cons forms index d lt)
 
-module _ (grammar : Grammar) (forms : List Form) (words : List (List ℕ)) (index : ℕ) (left : List (List ℕ))
-    (values : List Value) (fault : Option LineKind) (r : IsReading grammar forms words index left values fault)
+module _ (forms : List Form) (words : List (List ℕ)) (index : ℕ) (left : List (List ℕ))
+    (values : List Value) (fault : Option LineKind) (r : IsReading forms words index left values fault)
     (d : Form) (lt : index < length forms) where
   -- no word is left for this form
   pub none_left : (ended : List (List ℕ)) → left ≡ [] → ended ≡ []
-      → IsReading grammar forms words (index + 1) ended values fault
+      → IsReading forms words (index + 1) ended values fault
   none_left ended e still = record {
     whole =
-        ap (λ w. joined (so_far values fault) (says_values grammar (drop (index + 1) forms) w)) still
-        ∙ ap (joined (so_far values fault)) (no_words grammar (drop (index + 1) forms)
-        ∙ sym (no_words grammar (drop index forms)))
-        ∙ ap (λ w. joined (so_far values fault) (says_values grammar (drop index forms) w)) (sym e)
+        ap (λ w. joined (so_far values fault) (says_values (drop (index + 1) forms) w)) still
+        ∙ ap (joined (so_far values fault)) (no_words (drop (index + 1) forms)
+        ∙ sym (no_words (drop index forms)))
+        ∙ ap (λ w. joined (so_far values fault) (says_values (drop index forms) w)) (sym e)
         ∙ r.whole;
     few = omega (arith, r.few);
   }
 
   module _ (word : List ℕ) (rest : List (List ℕ)) (e : left ≡ word ∷ rest) where
     split : joined (joined (so_far values fault)
-        (or_kind (get_or forms index d) (says_word grammar (get_or forms index d) word)))
-        (says_values grammar (drop (index + 1) forms) rest) ≡ says_values grammar forms words
+        (or_kind (get_or forms index d) (says_word (get_or forms index d) word)))
+        (says_values (drop (index + 1) forms) rest) ≡ says_values forms words
     split =
         joined_assoc (so_far values fault)
-        (or_kind (get_or forms index d) (says_word grammar (get_or forms index d) word))
-        (says_values grammar (drop (index + 1) forms) rest)
-        ∙ ap (λ fs. joined (so_far values fault) (says_values grammar fs (word ∷ rest)))
+        (or_kind (get_or forms index d) (says_word (get_or forms index d) word))
+        (says_values (drop (index + 1) forms) rest)
+        ∙ ap (λ fs. joined (so_far values fault) (says_values fs (word ∷ rest)))
         (sym (next_form forms index d lt))
-        ∙ ap (λ w. joined (so_far values fault) (says_values grammar (drop index forms) w)) (sym e)
+        ∙ ap (λ w. joined (so_far values fault) (says_values (drop index forms) w)) (sym e)
         ∙ r.whole
 
-    pub one_value : (value : Value) → says_word grammar (get_or forms index d) word ≡ Some value
-        → IsReading grammar forms words (index + 1) rest (values ++ value ∷ []) fault
+    pub one_value : (value : Value) → says_word (get_or forms index d) word ≡ Some value
+        → IsReading forms words (index + 1) rest (values ++ value ∷ []) fault
     one_value value said = record {
-      whole = ap (λ a. joined a (says_values grammar (drop (index + 1) forms) rest))
+      whole = ap (λ a. joined a (says_values (drop (index + 1) forms) rest))
           (sym (ap (λ o. joined (so_far values fault) (or_kind (get_or forms index d) o)) said
           ∙ said_good values fault value)) ∙ split;
       few = omega (arith, r.few, length-append values (value ∷ []));
     }
 
-    pub one_fault : says_word grammar (get_or forms index d) word ≡ None
-        → IsReading grammar forms words (index + 1) rest values
+    pub one_fault : says_word (get_or forms index d) word ≡ None
+        → IsReading forms words (index + 1) rest values
         (Some (fault_after fault (kind_of_form (get_or forms index d))))
     one_fault said = record {
-      whole = ap (λ a. joined a (says_values grammar (drop (index + 1) forms) rest))
+      whole = ap (λ a. joined a (says_values (drop (index + 1) forms) rest))
           (sym (ap (λ o. joined (so_far values fault) (or_kind (get_or forms index d) o)) said
           ∙ said_bad values fault (kind_of_form (get_or forms index d)))) ∙ split;
       few = omega (arith, r.few);
     }
 
-pub all_read : (grammar : Grammar) (forms : List Form) (words left : List (List ℕ)) (index : ℕ) (values : List Value)
+pub all_read : (forms : List Form) (words left : List (List ℕ)) (index : ℕ) (values : List Value)
     (fault : Option LineKind)
-    → IsReading grammar forms words index left values fault → length forms ≤ index
-    → says_values grammar forms words ≡ so_far values fault
-all_read grammar forms words left index values fault r end =
+    → IsReading forms words index left values fault → length forms ≤ index
+    → says_values forms words ≡ so_far values fault
+all_read forms words left index values fault r end =
     sym r.whole
-    ∙ ap (λ fs. joined (so_far values fault) (says_values grammar fs left)) (none_after forms index end)
+    ∙ ap (λ fs. joined (so_far values fault) (says_values fs left)) (none_after forms index end)
     ∙ joined_none (so_far values fault)
   where
     none_after : (forms : List Form) (index : ℕ) → length forms ≤ index → drop index forms ≡ []
     none_after forms index end = grind (arith, common_steps)
 
 -- the same for values and a fault that are the same
-pub as_now : (grammar : Grammar) (forms : List Form) (words left : List (List ℕ)) (index : ℕ)
+pub as_now : (forms : List Form) (words left : List (List ℕ)) (index : ℕ)
     (values new_values : List Value) (fault new_fault : Option LineKind)
-    → IsReading grammar forms words index left values fault → new_values ≡ values → new_fault ≡ fault
-    → IsReading grammar forms words index left new_values new_fault
-as_now grammar forms words left index values new_values fault new_fault r v f =
-    subst (λ (x : Option LineKind). IsReading grammar forms words index left new_values x) (sym f)
-    (subst (λ (x : List Value). IsReading grammar forms words index left x fault) (sym v) r)
+    → IsReading forms words index left values fault → new_values ≡ values → new_fault ≡ fault
+    → IsReading forms words index left new_values new_fault
+as_now forms words left index values new_values fault new_fault r v f =
+    subst (λ (x : Option LineKind). IsReading forms words index left new_values x) (sym f)
+    (subst (λ (x : List Value). IsReading forms words index left x fault) (sym v) r)

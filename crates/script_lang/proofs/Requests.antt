@@ -31,7 +31,7 @@ either P false x y px py = py
 
 -- what holds of the commands of each verb's words holds of the commands of each line
 module _ (grammar : Grammar) (Q : List Command → Type 0) (none : Q [])
-    (of_verb : (word : List ℕ) (words : List (List ℕ)) → IfOk (says_verb grammar (verb_in grammar word) words) Q) where
+    (of_verb : (word : List ℕ) (words : List (List ℕ)) → IfOk (says_verb (verb_in grammar word) words) Q) where
   in_channel_has : (c : Option ℕ) (r : Result (List Command) LineKind) → IfOk r Q
       → IfOk (in_channel c r) (λ request. Q request.commands)
   in_channel_has (Some c) (Ok commands) q = q
@@ -43,7 +43,7 @@ module _ (grammar : Grammar) (Q : List Command → Type 0) (none : Q [])
   words_have [] = tt
   words_have (channel ∷ []) = tt
   words_have (channel ∷ verb ∷ more) = in_channel_has (channel_in grammar channel)
-      (says_verb grammar (verb_in grammar verb) more) (of_verb verb more)
+      (says_verb (verb_in grammar verb) more) (of_verb verb more)
 
   pub says_has : (line : List ℕ) → IfOk (says grammar line) (λ request. Q request.commands)
   says_has line =
@@ -96,17 +96,17 @@ module _ (Q : List Command → Type 0) where
   said_have verb q (Ok values) = q values
   said_have verb q (Err kind) = tt
 
-verb_sized : (grammar : Grammar) (verb : Option Verb) (words : List (List ℕ))
-    → IfOk (says_verb grammar verb words) IsSized
-verb_sized grammar None words = tt
-verb_sized grammar (Some verb) words =
+verb_sized : (verb : Option Verb) (words : List (List ℕ))
+    → IfOk (says_verb verb words) IsSized
+verb_sized None words = tt
+verb_sized (Some verb) words =
     either (λ (r : Result (List Command) LineKind). IfOk r IsSized) (takes verb (length words)) _ _
-    (said_have IsSized verb (commands_sized verb) (says_values grammar (forms_of verb) words)) tt
+    (said_have IsSized verb (commands_sized verb) (says_values (forms_of verb) words)) tt
 
 -- so are the commands of each line
 pub says_sized : (grammar : Grammar) (line : List ℕ) → IfOk (says grammar line) (λ request. IsSized request.commands)
 says_sized grammar = says_has grammar IsSized (inl (omega arith))
-    (λ word words. verb_sized grammar (verb_in grammar word) words)
+    (λ word words. verb_sized (verb_in grammar word) words)
 
 below_limit : (v limit : ℕ) (t : Bool) → nat_lt v limit ≡ t → limit ≤ 16 → IfSome (cond t (Some v) None) (λ n. n < 16)
 below_limit v limit true e few = let lt : v < limit = ltb-true v limit e in omega arith
@@ -132,7 +132,7 @@ words_below : (grammar : Grammar) (words : List (List ℕ))
 words_below grammar [] = tt
 words_below grammar (channel ∷ []) = tt
 words_below grammar (channel ∷ verb ∷ more) =
-    in_channel_below (channel_in grammar channel) (says_verb grammar (verb_in grammar verb) more)
+    in_channel_below (channel_in grammar channel) (says_verb (verb_in grammar verb) more)
     (is_channel (bytes_eq (decimal (digits_value 10 channel)) channel) (digits_value 10 channel) (channels_of grammar)
     (few_channels grammar))
 

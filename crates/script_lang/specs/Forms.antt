@@ -11,29 +11,23 @@ use Rattle.script_lang.specs.declared.form.Form.{Form}
 use Rattle.script_lang.specs.declared.form.Form.TheVariants as form
 use Rattle.script_lang.specs.declared.form.Value.{Value}
 use Rattle.script_lang.specs.declared.form.Value.TheVariants as value
-use Rattle.script_lang.specs.declared.grammar.Grammar.{Grammar}
-use Rattle.script_lang.specs.Grammar.{has_thick}
-use Rattle.script_lang.specs.Words.{number_in, count_in, head_in, name_in, is_thin, thickness_in, key_in, value_in}
+use Rattle.script_lang.specs.Words.{number_in, count_in, head_in, name_in, thickness_in, key_in, value_in}
 
 -- a volume, by its head or by its name
 abbrev pub volume_in : List ℕ → Option VolumeRef
 volume_in word =
     if slice_index word 0 == 64 then option_map Head (head_in word) else option_map Named (name_in word)
 
--- whether a volume is thick; where none may be made so the word isn't read
-abbrev pub thickness_by : Grammar → List ℕ → Option Bool
-thickness_by grammar word = if has_thick grammar then thickness_in word else (if is_thin word then Some false else None)
-
 -- what a word of this form says
-abbrev pub says_word : Grammar → Form → List ℕ → Option Value
-says_word grammar form.Volume word = option_map value.Volume (volume_in word)
-says_word grammar form.Name word = option_map value.Name (name_in word)
-says_word grammar form.Number word = option_map value.Number (number_in word)
-says_word grammar form.Count word = option_map value.Number (count_in word)
-says_word grammar form.Thickness word = option_map value.Thick (thickness_by grammar word)
-says_word grammar form.Uuid word = option_map value.Uuid (parsed word)
-says_word grammar form.Key word = option_map value.Text (key_in word)
-says_word grammar form.Value word = option_map value.Text (value_in word)
+abbrev pub says_word : Form → List ℕ → Option Value
+says_word form.Volume word = option_map value.Volume (volume_in word)
+says_word form.Name word = option_map value.Name (name_in word)
+says_word form.Number word = option_map value.Number (number_in word)
+says_word form.Count word = option_map value.Number (count_in word)
+says_word form.Thickness word = option_map value.Thick (thickness_in word)
+says_word form.Uuid word = option_map value.Uuid (parsed word)
+says_word form.Key word = option_map value.Text (key_in word)
+says_word form.Value word = option_map value.Text (value_in word)
 
 -- what is wrong with a word that isn't of this form
 abbrev pub kind_of_form : Form → LineKind
@@ -72,11 +66,11 @@ joined (Err kind) (Ok more) = Err kind
 joined (Err kind) (Err later) = Err (worse kind later)
 
 -- each word by its form, as far as there are words
-abbrev pub says_values : Grammar → List Form → List (List ℕ) → Result (List Value) LineKind
-says_values grammar [] words = Ok []
-says_values grammar (form ∷ forms) [] = Ok []
-says_values grammar (form ∷ forms) (word ∷ words) =
-    joined (or_kind form (says_word grammar form word)) (says_values grammar forms words)
+abbrev pub says_values : List Form → List (List ℕ) → Result (List Value) LineKind
+says_values [] words = Ok []
+says_values (form ∷ forms) [] = Ok []
+says_values (form ∷ forms) (word ∷ words) =
+    joined (or_kind form (says_word form word)) (says_values forms words)
 
 -- a value before others; none where it is missing
 abbrev pub onto : Option Value → List Value → List Value

@@ -15,6 +15,7 @@ serves g.Served v.DelX = true
 serves g.Served v.GetX = true
 serves g.Served v.Put = true
 serves g.Served v.Sync = true
+serves g.Served v.Resize = true
 serves g.Served v.Df = true
 serves g.Served verb = false
 
@@ -22,8 +23,3 @@ serves g.Served verb = false
 abbrev pub channels_of : Grammar → ℕ
 channels_of g.Whole = 16
 channels_of g.Served = 1
-
--- whether a volume may be made thick, and not thin alone
-abbrev pub has_thick : Grammar → Bool
-has_thick g.Whole = true
-has_thick g.Served = false

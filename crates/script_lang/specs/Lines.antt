@@ -40,10 +40,10 @@ commands_said verb (Ok values) = commands_of verb values
 commands_said verb (Err kind) = Err kind
 
 -- what a verb's words say; their number counts before them
-abbrev pub says_verb : Grammar → Option Verb → List (List ℕ) → Result (List Command) LineKind
-says_verb grammar None words = Err kind.Verb
-says_verb grammar (Some verb) words =
-    if takes verb (length words) then commands_said verb (says_values grammar (forms_of verb) words) else Err kind.Form
+abbrev pub says_verb : Option Verb → List (List ℕ) → Result (List Command) LineKind
+says_verb None words = Err kind.Verb
+says_verb (Some verb) words =
+    if takes verb (length words) then commands_said verb (says_values (forms_of verb) words) else Err kind.Form
 
 -- commands in a channel; a bad channel stands before what is wrong with later words
 abbrev pub in_channel : Option ℕ → Result (List Command) LineKind → Result LineRequest LineKind
@@ -58,7 +58,7 @@ channel_in grammar word = number_below (channels_of grammar) word
 -- a channel, a verb and the words of this verb
 abbrev pub says_words : Grammar → List (List ℕ) → Result LineRequest LineKind
 says_words grammar (channel ∷ verb ∷ words) =
-    in_channel (channel_in grammar channel) (says_verb grammar (verb_in grammar verb) words)
+    in_channel (channel_in grammar channel) (says_verb (verb_in grammar verb) words)
 says_words grammar _ = Err kind.Form
 
 abbrev pub no_request : LineRequest

@@ -2,11 +2,10 @@
 
 ghost use Rattle.std.specs.Prelude.{◌≡◌, IfOk};
 ghost use Rattle.std.specs.Option.{option_copied, option_map};
-ghost use Rattle.script_lang.specs.Forms.{volume_in, says_word, kind_of_form, thickness_by as thickness_said};
+ghost use Rattle.script_lang.specs.Forms.{volume_in, says_word, kind_of_form};
 
 use crate::fault::LineKind;
-use crate::grammar::Grammar;
-use crate::words::{count, head, is_thin, key, name, number, thickness, value};
+use crate::words::{count, head, key, name, number, thickness, value};
 use lvol_store::uuid_in;
 use out_of_memory::Memory;
 use std::alloc::Global;
@@ -54,19 +53,6 @@ fn volume(word: &[u8]) -> Option<VolumeRef>
     }
 }
 
-/// Whether a volume is to be thick.
-fn thickness_by(grammar: Grammar, word: &[u8]) -> Option<bool>
-    ensures { result ≡ thickness_said grammar word.now }
-{
-    if grammar.has_thick() {
-        thickness(word)
-    } else if is_thin(word) {
-        Some(false)
-    } else {
-        None
-    }
-}
-
 /// A text, if there is one.
 fn text(alloc: Global, bytes: Option<&[u8]>) -> Result<Option<Value>, Memory>
     ensures { IfOk result (λ text. text ≡ option_map Value.Text (option_copied bytes.entry)) }
@@ -79,15 +65,15 @@ fn text(alloc: Global, bytes: Option<&[u8]>) -> Result<Option<Value>, Memory>
 
 impl Form {
     /// What a word of this form says; `None` where it is none.
-    pub fn read(self, alloc: Global, grammar: Grammar, word: &[u8]) -> Result<Option<Value>, Memory>
-        ensures { IfOk result (λ value. value ≡ says_word grammar self word.now) }
+    pub fn read(self, alloc: Global, word: &[u8]) -> Result<Option<Value>, Memory>
+        ensures { IfOk result (λ value. value ≡ says_word self word.now) }
     {
         Ok(match self {
             Form::Volume => volume(word).map(Value::Volume),
             Form::Name => name(word).map(Value::Name),
             Form::Number => number(word).map(Value::Number),
             Form::Count => count(word).map(Value::Number),
-            Form::Thickness => thickness_by(grammar, word).map(Value::Thick),
+            Form::Thickness => thickness(word).map(Value::Thick),
             Form::Uuid => uuid_in(word).map(Value::Uuid),
             Form::Key => text(alloc, key(word))?,
             Form::Value => value(alloc, word)?.map(Value::Text),

@@ -1,7 +1,7 @@
 //! What is read of the grammar.
 
 ghost use Rattle.std.specs.Prelude.{◌≡◌, ◌≤◌};
-ghost use Rattle.script_lang.specs.Grammar.{serves as serves_said, channels_of, has_thick as thick_said};
+ghost use Rattle.script_lang.specs.Grammar.{serves as serves_said, channels_of};
 
 use crate::verb::Verb;
 
@@ -29,6 +29,7 @@ impl Grammar {
                     | Verb::GetX
                     | Verb::Put
                     | Verb::Sync
+                    | Verb::Resize
                     | Verb::Df
             ),
         }
@@ -42,16 +43,6 @@ impl Grammar {
         match self {
             Grammar::Whole => 16,
             Grammar::Served => 1,
-        }
-    }
-
-    /// Whether a volume may be made thick, and not thin alone.
-    pub fn has_thick(self) -> bool
-        ensures { result ≡ thick_said self }
-    {
-        match self {
-            Grammar::Whole => true,
-            Grammar::Served => false,
         }
     }
 }

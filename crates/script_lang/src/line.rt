@@ -73,7 +73,7 @@ fn commands_in(
     word: &[u8],
     words: TextParts<'_>,
 ) -> Result<ListOf<Command>, LineFault>
-    ensures { AnswersAsSaid (says_verb grammar (verb_in grammar word.now)
+    ensures { AnswersAsSaid (says_verb (verb_in grammar word.now)
         (parts words.entry.separator (option_copied words.entry.rest))) result }
 {
     let Some(verb) = Verb::of(grammar, word) else {
@@ -82,7 +82,7 @@ fn commands_in(
     if !verb.takes(words.count()) {
         return Err(LineFault::Bad(LineKind::Form));
     }
-    let values = read_values(alloc, grammar, verb.forms(), words)?;
+    let values = read_values(alloc, verb.forms(), words)?;
     commands(alloc, verb, values)
 }
 

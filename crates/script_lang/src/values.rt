@@ -8,7 +8,6 @@ ghost use Rattle.script_lang.specs.Parts.{parts};
 
 use crate::fault::{LineFault, LineKind};
 use crate::form::{Form, Value};
-use crate::grammar::Grammar;
 use crate::parts::TextParts;
 use std::alloc::Global;
 use volume_model::ListOf;
@@ -36,19 +35,18 @@ fn with_fault(first: Option<LineKind>, later: LineKind) -> LineKind
 /// What words say by their forms, as far as there are words; or what is wrong with the first that says nothing.
 pub fn read_values(
     alloc: Global,
-    grammar: Grammar,
     forms: &[Form],
     mut words: TextParts<'_>,
 ) -> Result<ListOf<Value>, LineFault>
     ensures said { AnswersAsSaid
-        (says_values grammar forms.now (parts words.entry.separator (option_copied words.entry.rest))) result }
+        (says_values forms.now (parts words.entry.separator (option_copied words.entry.rest))) result }
     ensures few { IfOk result (λ values. length values ≤ length forms.now) }
 {
     let mut values = ListOf::new(alloc);
     let mut fault = None;
     for form in forms {
         if let Some(word) = words.next_part() {
-            match form.read(alloc, grammar, word)? {
+            match form.read(alloc, word)? {
                 Some(value) => values.push(value)?,
                 None => fault = Some(with_fault(fault, form.kind())),
             }

@@ -76,7 +76,7 @@ pub fn name(word: &[u8]) -> Option<Name>
 }
 
 /// Whether `thin` is said.
-pub fn is_thin(word: &[u8]) -> bool
+fn is_thin(word: &[u8]) -> bool
     ensures { result ≡ thin_said word.now }
 {
     word == b"thin".as_slice()
