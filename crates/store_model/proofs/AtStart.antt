@@ -67,6 +67,5 @@ survives_start d laws told law s placed first script p disk is tells log_is mark
           (λ _ c held. subst (ComesBack d s first p disk 0) (sym ((one c).0 held)) back));
       stands = λ _ c held. subst (Stands s first p.base p.chains p.log (d.now disk)) (sym ((one c).0 held)) stands;
       written = λ _ job is. absurd (let e = sym no_job ∙ is in cc e);
-      settled = λ _ _ _. one;
       stopped = λ at is. absurd (let e = sym runs ∙ is in cc e);
     }

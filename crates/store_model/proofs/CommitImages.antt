@@ -61,5 +61,4 @@ module _ {D : Type 0} (d : Ghosts D) (x : Over d) (t : Commits d.tells x.p x.q) 
         let g = goes_on_as (record t.running.job { claimed = [] }) [] t.running.rest job
         (sym (ap (λ (v : StoreState). v.job) t.next) ∙ is) in
         absurd (no_place job.written place among (ap (λ (i : JobState). i.written) g.is));
-    settled = λ _ _ _. does.durable refl told;
   }

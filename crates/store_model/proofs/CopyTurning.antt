@@ -32,7 +32,6 @@ use Rattle.store_model.proofs.StandsKept.{far_metadata, stands_claimed}
 use Rattle.volume_model.specs.declared.reply.Entry.{Entry}
 use Rattle.store_model.specs.Places.{held_by}
 use Rattle.store_model.specs.Shown.{content}
-use Rattle.store_model.specs.Surviving.{IsAllFlushed}
 use Rattle.store_model.proofs.Contents.{same_content}
 use Rattle.store_model.proofs.JobKept.{held_low}
 use Rattle.store_model.specs.Jobs.{gained_by}
@@ -156,14 +155,13 @@ module _ {D : Type 0} (d : Ghosts D) (x : Over d) (row : ℕ) (claim : OpenClaim
     way = claimed_way;
     stands = λ on. absurd (let bad = sym on ∙ stops in cc bad);
     written = λ on. absurd (let bad = sym on ∙ stops in cc bad);
-    settled = λ on. absurd (let bad = sym on ∙ stops in cc bad);
   }
 
   -- it is done; it isn't lasting yet
   pub claimed_images : q.base ≡ p.base → q.chains ≡ p.chains → q.log ≡ p.log → q.job ≡ p.job
       → IsSameButAt at (d.now from) (d.now to) → ((c : Image) → d.images to c → At c)
-      → (IsAllFlushed q → ⊥) → ImageLaw d x At
-  claimed_images base chains log job read left open_still = record {
+      → ImageLaw d x At
+  claimed_images base chains log job read left = record {
     way = claimed_way;
     stands = λ on c left_it.
         subst (λ (l : List Entry). Stands s first q.base q.chains l (d.now to) c) (sym log)
@@ -178,5 +176,4 @@ module _ {D : Type 0} (d : Ghosts D) (x : Over d) (row : ℕ) (claim : OpenClaim
         read (s.md_start + place)
         (far_metadata s placed at (claimed_behind known_here runs row claim held page low) place under)
         ∙ old.written runs j was place among;
-    settled = λ on none shut. absurd (open_still shut);
   }

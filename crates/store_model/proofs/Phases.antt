@@ -1,8 +1,8 @@
 -- The phases of one replacement, before any is made.
-use Rattle.std.proofs.Common.{None, ◌≡◌, ℕ, ◌++◌, true, false, List, [], ◌∷◌, refl, sym, subst, ap, ◌∙◌, append_assoc}
+use Rattle.std.proofs.Common.{◌≡◌, ℕ, ◌++◌, true, false, List, [], ◌∷◌, refl, sym, subst, ap, ◌∙◌, append_assoc}
 use Rattle.std.proofs.lemmas.List.{append-nil}
 use Rattle.store_model.specs.Phases.{Erases, Frees, Marks, Replaces, Writes, Zeros}
-use Rattle.store_model.specs.Phases.{next_replacing, Phase, has_commit, held_in, taken_in, erasing, writing, planned_in}
+use Rattle.store_model.specs.Phases.{Phase, has_commit, held_in, taken_in, erasing, writing, planned_in}
 use Rattle.store_model.specs.Phases.{replaced}
 use Rattle.super_block.specs.declared.page.Super.{Super}
 use Rattle.store_model.specs.Maps.{Metas, Chains, Map}

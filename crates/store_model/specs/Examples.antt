@@ -19,8 +19,6 @@ use Rattle.store_model.specs.StoreState.{ForCommand, JobState, StoreState, turns
 use Rattle.store_model.specs.Cases.LoseCopy.{LosesCopy}
 use Rattle.store_model.specs.Claiming.{own}
 use Rattle.store_model.specs.Copying.{IsWanted}
-use Rattle.store_model.specs.Surviving.{has_written}
-use Rattle.volume_model.specs.declared.reply.Entry.{Entry}
 use Rattle.volume_model.specs.declared.command.PageWord.TheVariants.{Fill}
 
 -- metadata of no slot, with these marks
@@ -145,18 +143,3 @@ module _ (super : Super) where
   -- nor is it wanted, so that nothing is asked of its copies
   pub not_wanted : IsWanted state claim → ⊥
   not_wanted wanted = cc wanted.current
-
--- ---- what was written since the last flush
-
--- a refused write may have copied pages before; behind a flush all is flushed
-abbrev refused : Entry
-refused = record { channel = 0; index = 0; command = c.Write (Head 0) 8 (Fill 7); reply = r.NoVolume }
-
-abbrev flushed : Entry
-flushed = record { channel = 0; index = 1; command = c.Flush; reply = r.Ok }
-
-pub may_have_copied : has_written false (refused ∷ []) ≡ true
-may_have_copied = refl
-
-pub all_flushed : has_written false (refused ∷ flushed ∷ []) ≡ false
-all_flushed = refl

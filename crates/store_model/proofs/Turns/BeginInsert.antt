@@ -302,8 +302,6 @@ law = record {
     chains = refl;
     stopped = refl;
     job = inr (λ job is. ap (λ (o : Option JobState). option_map_or (λ j. j.written) o []) (sym is));
-    no_job = λ _ none. absurd (cc none);
-    filling = refl;
     log = λ _. silent refl;
   }));
   job = λ of. absurd of;

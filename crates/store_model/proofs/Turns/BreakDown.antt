@@ -126,8 +126,6 @@ idles_of p q t = elim t.ends [
     chains = refl;
     stopped = refl;
     job = inr (λ job bad. absurd (cc bad));
-    no_job = λ runs none. absurd (let bad = sym runs ∙ t.stands in cc bad);
-    filling = refl;
     log = λ runs. absurd (let bad = sym runs ∙ t.stands in cc bad);
   })
   | inr x ↦ subst (Idles p) (sym x.next) (record {
@@ -135,8 +133,6 @@ idles_of p q t = elim t.ends [
     chains = refl;
     stopped = refl;
     job = inr (λ job bad. absurd (cc bad));
-    no_job = λ runs none. absurd (let bad = sym runs ∙ t.stands in cc bad);
-    filling = refl;
     log = λ runs. absurd (let bad = sym runs ∙ t.stands in cc bad);
   })
 ]

@@ -20,7 +20,6 @@ use Rattle.store_model.proofs.ClaimSets.{held_with}
 use Rattle.store_model.proofs.Claims.{with_row_same}
 use Rattle.store_model.proofs.Copies.{content_blank}
 use Rattle.store_model.proofs.CopyTurning.{claimed_facts, claimed_images, slots_still}
-use Rattle.store_model.proofs.Flushed.{copies_open}
 use Rattle.store_model.proofs.Going.{left_of, told_reads}
 use Rattle.store_model.proofs.Holding.{put_elsewhere, put_here}
 use Rattle.store_model.proofs.Known.{Known}
@@ -168,12 +167,6 @@ module _ {D : Type 0} (d : Ghosts D) (x : Over d) (t : Copies d.tells x.p x.q) w
       ∙ reads_elsewhere d.tells p q t n ne
       ∙ ap (λ (i : Image). i n) (ap (λ (v : Device). v.reads) from_is ∙ told_reads d from told)
 
-  left_is : (q.rows t.copying.row).left ≡ (p.rows t.copying.row).left
-  left_is =
-      ap (λ (v : StoreState). (v.rows t.copying.row).left) t.next
-      ∙ ap (λ (r : Row). r.left) (row_here p.rows t.copying.row _ t.copying.row refl)
-      ∙ sym (ap (λ (r : Row). r.left) t.copying.is)
-
   images : DoesTouch d from to (puts (place d.tells p q t) t.content false)
       → ImageLaw d x (left_by (puts (place d.tells p q t) t.content false) (d.images from) (d.now from))
   images does =
@@ -182,7 +175,6 @@ module _ {D : Type 0} (d : Ghosts D) (x : Over d) (t : Copies d.tells x.p x.q) w
       (ap (λ (v : StoreState). v.chains) t.next) (ap (λ (v : StoreState). v.log) t.next)
       (ap (λ (v : StoreState). v.job) t.next) read_now_same
       (left_of d x (puts (place d.tells p q t) t.content false) does)
-      (copies_open p q t.copying.row t.copying.works left_is (ap (λ (v : StoreState). v.filling) t.next))
 
 pub law : TurnLaw case.kind
 law = record {

@@ -54,7 +54,7 @@ law = record {
   images = λ d x t does.
       unwritten_images d x (now_same d x (ap (λ (v : StoreState). v.device.reads) t.logs.next ∙ t.failed.reads))
       (left_of d x (no_new false) does)
-      (subst (Idles x.p) (sym t.logs.next) (idles x.p _ refl refl refl refl refl
+      (subst (Idles x.p) (sym t.logs.next) (idles x.p _ refl refl refl refl
       (λ _. notes (entry_of x.p.log t.copying.row (command x.p x.q t) r.ReadFault) refl refl)));
   job = λ of. absurd of;
 }

@@ -30,6 +30,6 @@ law = record {
   keeps = λ _ told known q t. keeps known q t;
   effect = λ told p q t. subst (Effect p) (sym t.next) (record { goes = stays refl refl; logs = nothing refl refl });
   images = λ d x t does. untouched_images d x does
-      (subst (Idles x.p) (sym t.next) (idles x.p _ refl refl refl refl refl (λ _. silent refl)));
+      (subst (Idles x.p) (sym t.next) (idles x.p _ refl refl refl refl (λ _. silent refl)));
   job = λ of. absurd of;
 }

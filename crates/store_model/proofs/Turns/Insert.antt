@@ -66,7 +66,6 @@ module _ {D : Type 0} (d : Ghosts D) (x : Over d) (t : Inserts d.tells x.p x.q) 
         let g = goes_on_as t.running.job [] t.running.rest job
         (sym (ap (λ (v : StoreState). v.job) t.next) ∙ is) in
         absurd (no_place job.written place among (ap (λ (i : JobState). i.written) g.is));
-    settled = λ _ _ _. does.durable refl told;
   }
 
 pub law : TurnLaw case.kind

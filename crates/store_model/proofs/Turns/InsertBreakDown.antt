@@ -38,8 +38,6 @@ law = record {
     chains = refl;
     stopped = refl;
     job = inr (λ job bad. absurd (cc bad));
-    no_job = λ runs none. absurd (let bad = sym runs ∙ t.stands in cc bad);
-    filling = refl;
     log = λ runs. absurd (let bad = sym runs ∙ t.stands in cc bad);
   }));
   job = λ of. absurd of;

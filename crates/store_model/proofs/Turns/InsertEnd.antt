@@ -188,7 +188,6 @@ law = record {
       (ap (λ (v : StoreState). v.base) t.next)
       (ap (λ (v : StoreState). v.chains) t.next) (ap (λ (v : StoreState). v.log) t.next) 2 done
       (left_of d x (puts (page_of_place x.p t.place) zero_page true) does)
-      (λ job is. absurd (let bad = sym none ∙ is in cc bad))
-      (λ _. does.durable refl x.told);
+      (λ job is. absurd (let bad = sym none ∙ is in cc bad));
   job = λ of. absurd of;
 }

@@ -69,7 +69,6 @@ module _ {D : Type 0} (d : Ghosts D) (x : Over d) (t : InsertFails x.p x.q) wher
             (record { row = inserting.row; serves = inserting.serves; waits = inserting.waits }) new new_is;
         stands = λ on. absurd (let bad = sym on ∙ stops in cc bad);
         written = λ on. absurd (let bad = sym on ∙ stops in cc bad);
-        settled = λ on. absurd (let bad = sym on ∙ stops in cc bad);
       }
 
 pub law : TurnLaw case.kind

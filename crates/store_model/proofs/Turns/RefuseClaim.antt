@@ -67,7 +67,7 @@ law = record {
         logs = answer (entry_of p.log t.write.channel (command p q t) t.reply) refl refl (refusing p q t).quiet t.runs;
       });
   images = λ d x t does. untouched_images d x does
-      (subst (Idles x.p) (sym t.next) (idles x.p _ refl refl refl refl refl
+      (subst (Idles x.p) (sym t.next) (idles x.p _ refl refl refl refl
       (λ _. notes (entry_of x.p.log t.write.channel (command x.p x.q t) t.reply) refl refl)));
   job = λ of. absurd of;
 }

@@ -50,7 +50,7 @@ law = record {
             (refused_quiet p (command p q t) t.reply (why p q t)) t.runs;
       });
   images = λ d x t does. untouched_images d x does
-      (subst (Idles x.p) (sym t.next) (idles x.p _ refl refl refl refl refl
+      (subst (Idles x.p) (sym t.next) (idles x.p _ refl refl refl refl
       (λ _. notes (entry_of x.p.log t.channel (command x.p x.q t) t.reply) refl refl)));
   job = λ of. absurd of;
 }

@@ -196,7 +196,6 @@ module _ {D : Type 0} (d : Ghosts D) (x : Over d) (t : Zeroes d.tells x.p x.q) w
         ∙ old.written t.running.runs t.running.job t.running.is place among_j
         ∙ ap (λ l. planned_in l place) t.running.next
         ∙ ap (λ (i : JobState). planned_in i.todo place) same;
-    settled = λ on none shut. absurd (let bad = sym none ∙ job_now in cc bad);
   }
 
 pub law : TurnLaw case.kind
