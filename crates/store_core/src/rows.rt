@@ -5,7 +5,7 @@ ghost use Rattle.volume_model.specs.declared.command.Command.{Command as AComman
 ghost use Rattle.store_core.specs.StoreView.{rows_of};
 
 use crate::reserved::{is_read, pages_for};
-use crate::stages::{OpenClaim, Stage};
+use crate::stages::{Decision, OpenClaim, Stage};
 use out_of_memory::Memory;
 use page_disk::Page;
 use std::alloc::Global;
@@ -87,9 +87,9 @@ impl Model for Row {
     ghost coded = { row_code };
 
     ghost view = { λ r. record {
-        left = r.left.items;
-        stage = stage_seen r.stage;
-        claim = option_map claim_seen r.claim;
+      left = r.left.items;
+      stage = stage_seen r.stage;
+      claim = option_map claim_seen r.claim;
     } };
 
     ghost use Rattle.std.specs.Prelude.{◌≤◌, length};
@@ -263,6 +263,23 @@ impl Row {
     {
         self.stage = next;
         self.claim.take()
+    }
+}
+
+impl Row {
+    ghost use Rattle.std.specs.Prelude.{◌≡◌};
+    ghost use Rattle.std.specs.Option.{option_map};
+    ghost use Rattle.store_core.specs.ClaimTurns.{decided_in};
+    ghost use Rattle.store_core.specs.Stages.{decision_seen};
+
+    /// What is decided of the row, if something is.
+    pub(crate) fn decision(&self) -> Option<Decision>
+        ensures { option_map decision_seen result ≡ decided_in self.now.stage }
+    {
+        match self.stage {
+            Stage::Decided(outcome) => Some(outcome),
+            _ => None,
+        }
     }
 }
 
