@@ -10,8 +10,8 @@ use Rattle.store_model.specs.Rows.{Answered, Decided, Decision, Idle, IsForMetad
 use Rattle.store_model.specs.Cases as kind
 use Rattle.store_core.specs.declared.rows.RowStage.{RowStage}
 use Rattle.store_core.specs.declared.rows.RowStage.TheVariants as told
-use Rattle.store_core.specs.declared.plant.SettleTurn.{SettleTurn}
-use Rattle.store_core.specs.declared.plant.SettleTurn.TheVariants as settle
+use Rattle.store_core.specs.declared.settling.SettleTurn.{SettleTurn}
+use Rattle.store_core.specs.declared.settling.SettleTurn.TheVariants as settle
 use Rattle.store_core.specs.TurnMade.{TurnMade}
 use Rattle.store_core.specs.StoreView.{StoreView, WithOpening, rows_of, state_of}
 use Rattle.store_core.specs.Stages.{is_stage, waits_for}
@@ -144,11 +144,16 @@ none_frozen d b kept no_job command frozen =
 pub settled : {D : Type 0} (d : Ghosts D) (p q : StoreView D) (channel : ℕ) (turn : SettleTurn)
     → (rows_of p.rows channel).stage ≡ Decided Answered
     → (turn ≡ settle.Waiting → (outcome : Decision) → (rows_of p.rows channel).stage ≢ Decided outcome)
-    → (turn ≡ settle.Logged → TurnMade d p q kind.settles)
-    → (turn ≡ settle.Logged → OnlyRow p.rows q.rows channel (record (rows_of p.rows channel) { stage = Idle }))
+    → (turn ≢ settle.Waiting → TurnMade d p q kind.settles)
+    → (turn ≢ settle.Waiting → OnlyRow p.rows q.rows channel (record (rows_of p.rows channel) { stage = Idle }))
     → OnlyRow p.rows q.rows channel (record (rows_of p.rows channel) { stage = Idle }) × (q.job ≡ p.job)
 settled d p q channel settle.Waiting is waits made row = absurd (waits refl Answered is)
-settled d p q channel settle.Logged is waits made row = (row refl, ap (λ s. s.job) (made refl).0.next)
+settled d p q channel settle.Won is waits made row =
+    (row (λ e. cc e), ap (λ s. s.job) (made (λ e. cc e)).0.next)
+settled d p q channel settle.Lost is waits made row =
+    (row (λ e. cc e), ap (λ s. s.job) (made (λ e. cc e)).0.next)
+settled d p q channel settle.Logged is waits made row =
+    (row (λ e. cc e), ap (λ s. s.job) (made (λ e. cc e)).0.next)
 
 -- a command that is posted, logged and settled leaves its row, which goes on with the next
 pub served_posted : {D : Type 0} (p posted served q : StoreView D) (channel serial : ℕ)

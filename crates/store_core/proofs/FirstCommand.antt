@@ -3,15 +3,20 @@ use Rattle.std.proofs.Common.{◌≡◌, ℕ, ◌<◌, List, [], ◌∷◌, leng
 use Rattle.page_disk.specs.declared.disk.PageDisk.{Ghosts}
 use Rattle.volume_model.specs.declared.command.Command.{Command}
 use Rattle.volume_model.specs.declared.command.Command.TheVariants as c
-use Rattle.store_model.specs.Rows.{Claiming, Copying, Decided, Ended, Idle, InJob, OpenClaim, Posted, Ready, Row, Stage}
+use Rattle.super_block.specs.Numbers.{cluster_pages_of}
+use Rattle.store_model.specs.Rows.{Claiming, Copying, Decided, Decision, Ended, Idle, InJob, OpenClaim, Posted, Ready}
+use Rattle.store_model.specs.Rows.{Row, Stage}
 use Rattle.store_model.specs.RunInvariant.{IsShaped, MayClaim}
 use Rattle.store_model.proofs.Shaped.{no_claim}
 use Rattle.store_core.specs.declared.rows.RowStage.{RowStage}
 use Rattle.store_core.specs.declared.rows.RowStage.TheVariants as waits
 use Rattle.store_core.specs.ChannelTurns.{WaitsToFlush, WaitsToRead, WaitsToWrite}
-use Rattle.store_core.specs.StoreView.{StoreView, rows_of, state_of}
+use Rattle.store_core.specs.ClaimTurns.{HoldsClaim}
+use Rattle.store_core.specs.StoreInvariant.{StoreInvariant}
+use Rattle.store_core.specs.StoreView.{StoreView, WithOpening, rows_of, state_of}
 use Rattle.store_core.specs.Stages.{is_stage, waits_for}
 use Rattle.store_core.proofs.Posting.{low_of}
+use Rattle.store_core.proofs.Staged.{HasClaimed, IsStagedAt, staged}
 
 -- what a row waits for whose first command is a channel's own
 abbrev IsOwn : RowStage → Type 0
@@ -40,6 +45,31 @@ own_first left (Posted serial) claim channel for own is = absurd (subst IsOwn (s
 own_first left InJob claim channel for own is = absurd (subst IsOwn (sym is) own)
 own_first left (Decided outcome) claim channel for own is = absurd (subst IsOwn (sym is) own)
 own_first left Ended claim channel for own is = absurd (subst IsOwn (sym is) own)
+
+-- what a row's stage is where it waits for a step of a write whose slot is empty
+abbrev IsAtStep : RowStage → Stage → Type 0
+IsAtStep waits.Claim stage = stage ≡ Claiming
+IsAtStep (waits.Copy left) stage = stage ≡ Copying left
+IsAtStep waits.Ready stage = stage ≡ Ready
+IsAtStep _ stage = Unit {0}
+
+none_first : (command : Command) (stage : Stage) → IsAtStep (waits_for command) stage
+none_first (c.Read volume page) stage = tt
+none_first (c.Write volume page word) stage = tt
+none_first c.Flush stage = tt
+none_first _ stage = tt
+
+at_step : (left : List Command) (stage : Stage) (claim : Option OpenClaim) (channel : ℕ)
+    → IsAtStep (is_stage (record { left = left; stage = stage; claim = claim }) channel) stage
+at_step [] Idle claim channel = tt
+at_step (command ∷ rest) Idle claim channel = none_first command Idle
+at_step left Claiming claim channel = refl
+at_step left (Copying count) claim channel = refl
+at_step left Ready claim channel = refl
+at_step left (Posted serial) claim channel = tt
+at_step left InJob claim channel = tt
+at_step left (Decided outcome) claim channel = tt
+at_step left Ended claim channel = tt
 
 -- a store in which no row holds a claim but where it may
 module _ {D : Type 0} (d : Ghosts D) (p : StoreView D) (shaped : IsShaped (state_of d p)) (channel : ℕ) where
@@ -73,13 +103,13 @@ module _ {D : Type 0} (d : Ghosts D) (p : StoreView D) (shaped : IsShaped (state
   pub low_flush : length p.rows ≡ 16 → is_stage row channel ≡ waits.Flush → channel < 16
   low_flush sixteen is = low waits.Flush tt is sixteen
 
-  pub waits_write : is_stage row channel ≡ waits.Write → WaitsToWrite p channel
+  pub waits_write : is_stage row channel ≡ waits.Write → WaitsToWrite p channel Idle
   waits_write is =
       let y = x waits.Write tt is in
       by y.command y.rest y.waits_is (row_is waits.Write tt is)
     where
       by : (command : Command) (rest : List Command) → waits_for command ≡ waits.Write
-          → row ≡ record { left = command ∷ rest; stage = Idle; claim = None } → WaitsToWrite p channel
+          → row ≡ record { left = command ∷ rest; stage = Idle; claim = None } → WaitsToWrite p channel Idle
       by (c.Write volume page word) rest for r =
           record { volume = volume; page = page; word = word; rest = rest; row = r }
       by (c.Read volume page) rest for r = cc for
@@ -103,3 +133,60 @@ module _ {D : Type 0} (d : Ghosts D) (p : StoreView D) (shaped : IsShaped (state
 
   pub low_read : length p.rows ≡ 16 → is_stage row channel ≡ waits.Read → channel < 16
   low_read sixteen is = low waits.Read tt is sixteen
+
+-- a store that turns led to
+module _ {D : Type 0} (d : Ghosts D) (p : WithOpening D) (kept : StoreInvariant d p) (channel : ℕ) where
+  abbrev r : Row
+  r = rows_of p.at.rows channel
+
+  at_stage : (for : RowStage) → is_stage r channel ≡ for → IsAtStep for r.stage
+  at_stage for is = subst (λ w. IsAtStep w r.stage) is (at_step r.left r.stage r.claim channel)
+
+  low_at : (stage : Stage) → r.stage ≡ stage → (Ended ≡ stage → ⊥) → length p.at.rows ≡ 16 → channel < 16
+  low_at stage is other sixteen = low_of p.at.rows channel stage sixteen is other
+
+  has : (stage : Stage) → r.stage ≡ stage
+      → IsStagedAt (cluster_pages_of p.at.super) r.left r.claim stage
+  has stage is =
+      subst (IsStagedAt (cluster_pages_of p.at.super) r.left r.claim) is (staged d p kept channel)
+
+  pub waits_claim : is_stage r channel ≡ waits.Claim → WaitsToWrite p.at channel Claiming
+  waits_claim is =
+      let at = at_stage waits.Claim is in
+      let x = has Claiming at in
+      let none : r.claim ≡ None =
+      no_claim (state_of d p.at) kept.facts.shaped channel (λ may. subst MayClaim at may) in
+      record {
+        volume = x.volume;
+        page = x.page;
+        word = x.word;
+        rest = x.rest;
+        row = λ i. record { left = x.is i; stage = at i; claim = none i };
+      }
+
+  pub low_claim : length p.at.rows ≡ 16 → is_stage r channel ≡ waits.Claim → channel < 16
+  low_claim sixteen is = low_at Claiming (at_stage waits.Claim is) (λ e. cc e) sixteen
+
+  holds : (stage : Stage) → r.stage ≡ stage → HasClaimed r.left r.claim → HoldsClaim p.at channel stage
+  holds stage at x = record {
+    volume = x.write.volume;
+    page = x.write.page;
+    word = x.write.word;
+    rest = x.write.rest;
+    claim = x.held;
+    row = λ i. record { left = x.write.is i; stage = at i; claim = x.is i };
+  }
+
+  pub holds_ready : is_stage r channel ≡ waits.Ready → HoldsClaim p.at channel Ready
+  holds_ready is = let at = at_stage waits.Ready is in holds Ready at (has Ready at)
+
+  pub low_ready : length p.at.rows ≡ 16 → is_stage r channel ≡ waits.Ready → channel < 16
+  low_ready sixteen is = low_at Ready (at_stage waits.Ready is) (λ e. cc e) sixteen
+
+  -- what is decided of it
+  pub decided_so : (outcome : Decision) → r.stage ≡ Decided outcome → length p.at.rows ≡ 16
+      → (channel < 16) × (r.claim ≡ None)
+  decided_so outcome is sixteen = (
+    low_at (Decided outcome) is (λ e. cc e) sixteen,
+    no_claim (state_of d p.at) kept.facts.shaped channel (λ may. subst MayClaim is may),
+  )

@@ -1,14 +1,25 @@
--- The turns of a channel that touch the device leave the running job as it is.
-use Rattle.std.proofs.Common.{◌≡◌, ◌⊎◌, inl, inr, Bool, ap}
+-- The turns of a channel leave the running job as it is.
+use Rattle.std.proofs.Common.{◌≡◌, ◌≢◌, ◌⊎◌, inl, inr, Bool, ap, refl}
 use Rattle.page_disk.specs.declared.disk.PageDisk.{Ghosts}
+use Rattle.volume_model.specs.declared.reply.Msg.{Msg}
 use Rattle.store_model.specs.Cases.{Kind, Turn}
 use Rattle.store_model.specs.Cases as kind
 use Rattle.store_model.specs.StoreState.{StoreState}
+use Rattle.store_core.specs.declared.claiming.ClaimTurn.{ClaimTurn}
+use Rattle.store_core.specs.declared.claiming.ClaimTurn.TheVariants as claim
+use Rattle.store_core.specs.declared.page_writing.WriteTurn.{WriteTurn}
+use Rattle.store_core.specs.declared.page_writing.WriteTurn.TheVariants as write
+use Rattle.store_core.specs.declared.sending.SendTurn.{SendTurn}
+use Rattle.store_core.specs.declared.sending.SendTurn.TheVariants as send
+use Rattle.store_core.specs.declared.settling.SettleTurn.{SettleTurn}
+use Rattle.store_core.specs.declared.settling.SettleTurn.TheVariants as settle
 use Rattle.store_core.specs.ChannelTurns.{IsOfFlush, IsOfRead, IsOfWrite, TurnsAs}
+use Rattle.store_core.specs.ClaimTurns.{IsOfClaim, IsOfSend}
 use Rattle.store_core.specs.StoreView.{state_of, StoreView}
+use Rattle.store_core.specs.TurnMade.{TurnMade}
 
--- the turns of a channel that touch the device
-abbrev IsOfChannel : Kind → Type 0
+-- the turns of a channel
+abbrev pub IsOfChannel : Kind → Type 0
 IsOfChannel kind.halts = Unit {0}
 IsOfChannel kind.flushes = Unit {0}
 IsOfChannel kind.flush_fails = Unit {0}
@@ -16,6 +27,13 @@ IsOfChannel kind.reads = Unit {0}
 IsOfChannel kind.refuses_write = Unit {0}
 IsOfChannel kind.writes_page = Unit {0}
 IsOfChannel kind.fails_to_write = Unit {0}
+IsOfChannel kind.finds_empty = Unit {0}
+IsOfChannel kind.finds_filled = Unit {0}
+IsOfChannel kind.claims = Unit {0}
+IsOfChannel kind.refuses_claim = Unit {0}
+IsOfChannel kind.copy_fails = Unit {0}
+IsOfChannel kind.sends = Unit {0}
+IsOfChannel kind.settles = Unit {0}
 IsOfChannel _ = ⊥
 
 of_flush : (k : Kind) → IsOfFlush k → IsOfChannel k
@@ -36,6 +54,16 @@ of_write kind.writes_page is = tt
 of_write kind.fails_to_write is = tt
 of_write _ is = absurd is
 
+of_claim : (k : Kind) → IsOfClaim k → IsOfChannel k
+of_claim kind.halts is = tt
+of_claim kind.refuses_claim is = tt
+of_claim _ is = absurd is
+
+of_send : (k : Kind) → IsOfSend k → IsOfChannel k
+of_send kind.halts is = tt
+of_send kind.copy_fails is = tt
+of_send _ is = absurd is
+
 job_stays : (told : Bool) (p q : StoreState) (k : Kind) → IsOfChannel k → Turn told p k q → q.job ≡ p.job
 job_stays told p q kind.halts is t = ap (λ (s : StoreState). s.job) t.next
 job_stays told p q kind.flushes is t = ap (λ (s : StoreState). s.job) t.next
@@ -44,6 +72,13 @@ job_stays told p q kind.reads is t = ap (λ (s : StoreState). s.job) t.next
 job_stays told p q kind.refuses_write is t = ap (λ (s : StoreState). s.job) t.next
 job_stays told p q kind.writes_page is t = ap (λ (s : StoreState). s.job) t.next
 job_stays told p q kind.fails_to_write is t = ap (λ (s : StoreState). s.job) t.next
+job_stays told p q kind.finds_empty is t = ap (λ (s : StoreState). s.job) t.next
+job_stays told p q kind.finds_filled is t = ap (λ (s : StoreState). s.job) t.next
+job_stays told p q kind.claims is t = ap (λ (s : StoreState). s.job) t.next
+job_stays told p q kind.refuses_claim is t = ap (λ (s : StoreState). s.job) t.next
+job_stays told p q kind.copy_fails is t = ap (λ (s : StoreState). s.job) t.logs.next
+job_stays told p q kind.sends is t = ap (λ (s : StoreState). s.job) t.next
+job_stays told p q kind.settles is t = ap (λ (s : StoreState). s.job) t.next
 job_stays told p q _ is t = absurd is
 
 module _ {D : Type 0} (d : Ghosts D) (p q : StoreView D) where
@@ -57,6 +92,44 @@ module _ {D : Type 0} (d : Ghosts D) (p q : StoreView D) where
   over_read (inl same) = ap (λ (a : StoreView D). a.job) same
   over_read (inr x) = stays IsOfRead of_read x
 
-  pub over_write : (q ≡ p) ⊎ TurnsAs d IsOfWrite p q → q.job ≡ p.job
-  over_write (inl same) = ap (λ (a : StoreView D). a.job) same
-  over_write (inr x) = stays IsOfWrite of_write x
+  -- one of its turns, or nothing is done
+  pub over_channel : (q ≡ p) ⊎ TurnsAs d IsOfChannel p q → q.job ≡ p.job
+  over_channel (inl same) = ap (λ (a : StoreView D). a.job) same
+  over_channel (inr x) = stays IsOfChannel (λ k is. is) x
+
+  wider : (which : Kind → Type 0) → ((k : Kind) → which k → IsOfChannel k) → TurnsAs d which p q
+      → TurnsAs d IsOfChannel p q
+  wider which of x = record { kind = x.kind; is = of x.kind x.is; made = x.made }
+
+  pub by_write : (turn : WriteTurn) → (turn ≡ write.Frozen → q ≡ p)
+      → (turn ≡ write.Empty → TurnMade d p q kind.finds_empty) → (turn ≡ write.Logged → TurnsAs d IsOfWrite p q)
+      → (q ≡ p) ⊎ TurnsAs d IsOfChannel p q
+  by_write write.Frozen same empty logged = inl (same refl)
+  by_write write.Empty same empty logged = inr (record { kind = kind.finds_empty; is = tt; made = empty refl })
+  by_write write.Logged same empty logged = inr (wider IsOfWrite of_write (logged refl))
+
+  pub by_claim : (turn : ClaimTurn) → (turn ≡ claim.Frozen → q ≡ p)
+      → (turn ≡ claim.Filled → TurnMade d p q kind.finds_filled)
+      → (turn ≡ claim.Claimed → TurnMade d p q kind.claims) → (turn ≡ claim.Logged → TurnsAs d IsOfClaim p q)
+      → (q ≡ p) ⊎ TurnsAs d IsOfChannel p q
+  by_claim claim.Frozen same filled claimed logged = inl (same refl)
+  by_claim claim.Filled same filled claimed logged =
+      inr (record { kind = kind.finds_filled; is = tt; made = filled refl })
+  by_claim claim.Claimed same filled claimed logged =
+      inr (record { kind = kind.claims; is = tt; made = claimed refl })
+  by_claim claim.Logged same filled claimed logged = inr (wider IsOfClaim of_claim (logged refl))
+
+  pub by_send : (turn : SendTurn) → ((msg : Msg) → turn ≡ send.Post msg → TurnMade d p q kind.sends)
+      → (turn ≡ send.Logged → TurnsAs d IsOfSend p q) → (q ≡ p) ⊎ TurnsAs d IsOfChannel p q
+  by_send (send.Post msg) sent logged = inr (record { kind = kind.sends; is = tt; made = sent msg refl })
+  by_send send.Logged sent logged = inr (wider IsOfSend of_send (logged refl))
+
+  pub by_settle : (turn : SettleTurn) → (turn ≡ settle.Waiting → q ≡ p)
+      → (turn ≢ settle.Waiting → TurnMade d p q kind.settles) → (q ≡ p) ⊎ TurnsAs d IsOfChannel p q
+  by_settle settle.Waiting same settles = inl (same refl)
+  by_settle settle.Won same settles =
+      inr (record { kind = kind.settles; is = tt; made = settles (λ e. cc e) })
+  by_settle settle.Lost same settles =
+      inr (record { kind = kind.settles; is = tt; made = settles (λ e. cc e) })
+  by_settle settle.Logged same settles =
+      inr (record { kind = kind.settles; is = tt; made = settles (λ e. cc e) })

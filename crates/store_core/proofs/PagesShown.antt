@@ -1,9 +1,10 @@
 -- The pages of volumes as a running store shows them, and where they lie.
-use Rattle.std.proofs.Common.{◌≡◌, ℕ, ◌+◌, ◌*◌, ◌%◌, ◌/◌, ◌<◌, ◌≤◌, suc, Bool, true, false, Option, Some, None, [], ◌∷◌}
+use Rattle.std.proofs.Common.{◌≡◌, ℕ, ◌+◌, ◌-◌, ◌*◌, ◌%◌, ◌/◌, ◌^◌, ◌<◌, ◌≤◌, suc, Bool, true, false, Option, Some, None}
+use Rattle.std.proofs.Common.{List, [], ◌∷◌}
 use Rattle.std.proofs.Common.{add-one, inl, inr, zero, length, refl, sym, ap, subst, ◌∙◌, arith}
 use Rattle.std.specs.Prelude.{if◌then◌else◌, nat_le, nat_lt, slice_get}
 use Rattle.std.specs.Option.{option_and_then, option_map, option_map_or}
-use Rattle.std.proofs.lemmas.Bool.{cases_lt, le-leb}
+use Rattle.std.proofs.lemmas.Bool.{cases_lt, le-leb, leb-true}
 use Rattle.page_disk.specs.Disk.{Image}
 use Rattle.std.specs.Ordering.{nat_cmp}
 use Rattle.std.specs.FinMap as map
@@ -20,6 +21,10 @@ use Rattle.volume_model.specs.declared.command.VolumeRef.{VolumeRef}
 use Rattle.volume_model.specs.declared.reply.Reply.TheVariants as r
 use Rattle.blob_meta.specs.declared.meta.Meta.{Meta}
 use Rattle.blob_meta.specs.Asked.{first_cause}
+use Rattle.blob_meta.specs.declared.fault.MetaFault.TheVariants as faults
+use Rattle.blob_meta.specs.Faults.{bad_mark, cluster_outside, first_some, hole_in_thick, map_fault, too_large}
+use Rattle.blob_meta.specs.Faults.{unknown_flag}
+use Rattle.descriptors.specs.Runs.{at_most}
 use Rattle.blob_meta.specs.Pages.{parent_with, place_by, place_read, ShowsPages}
 use Rattle.blob_meta.specs.Parents.{is_read_only, parent_of, slot}
 use Rattle.blob_meta.specs.Resolving.{resolved}
@@ -29,6 +34,8 @@ use Rattle.store_model.specs.Shown.{content, content_by, fixed_of, volume_of}
 use Rattle.store_model.specs.StoreState.{shown, StoreState}
 use Rattle.store_model.proofs.Shows.{alone_resolved, or_empty}
 use Rattle.store_model.proofs.SlotSums.{slots_shown}
+use Rattle.store_model.proofs.Inside.{none_second}
+use Rattle.store_model.specs.Regions.{region_of}
 use Rattle.store_model.proofs.Used.{within}
 use Rattle.store_core.specs.StoreInvariant.{IsRunning}
 use Rattle.store_core.proofs.AtWork.{got}
@@ -99,6 +106,22 @@ third_false false true x none = absurd (cc none)
 third_false false false true none = absurd (cc none)
 third_false false false false none = refl
 
+-- nor does the second
+second_false : (a : Bool) (long page : ℕ) (x : Bool)
+    → first_cause ((a, r.Reserved) ∷ (nat_le long page, r.OutOfRange) ∷ (x, r.ReadOnly) ∷ []) ≡ None → page < long
+second_false true long page x none = absurd (cc none)
+second_false false long page x none = elim (cases_lt page long) [
+  | inl lt ↦ lt
+  | inr ge ↦ absurd (let bad : Some r.OutOfRange ≡ None =
+      sym (ap (λ (b : Bool). first_cause ((b, r.OutOfRange) ∷ (x, r.ReadOnly) ∷ [])) (le-leb long page ge)) ∙ none in
+      cc bad)
+]
+
+-- a map that isn't too large
+none_first : {X : Type 0} (x : Option X) (rest : List (Option X)) → first_some (x ∷ rest) ≡ None → x ≡ None
+none_first None rest none = refl
+none_first (Some x) rest none = absurd (cc none)
+
 module _ (p : StoreState) (running : IsRunning p) (runs : p.stopped ≡ None) (metas : map.FinMap nat_cmp Meta)
     (base : p.base ≡ map.get metas) where
   abbrev k : ℕ
@@ -146,6 +169,34 @@ module _ (p : StoreState) (running : IsRunning p) (runs : p.stopped ≡ None) (m
       third_false (is_super (fixed_of p.super) h) (nat_le (length (as_volume h m).pages) page) (is_read_only m.flags)
       (sym (ap first_cause (at_volume (fixed_of p.super) (shown p) volume _ h (as_volume h m) meant
       (volume_shown h m there))) ∙ none)
+
+  -- and has the page
+  pub page_within : (volume : VolumeRef) (page : ℕ) (word : PageWord) (h : ℕ) (m : Meta)
+      → head_of (fixed_of p.super) (shown p) volume ≡ Some h → map.get metas h ≡ Some m
+      → refusal (fixed_of p.super) (shown p) (c.Write volume page word) ≡ None → page < k * length m.map
+  page_within volume page word h m meant there none =
+      subst (λ n. page < n) (pages_long h m)
+      (second_false (is_super (fixed_of p.super) h) (length (as_volume h m).pages) page (is_read_only m.flags)
+      (sym (ap first_cause (at_volume (fixed_of p.super) (shown p) volume _ h (as_volume h m) meant
+      (volume_shown h m there))) ∙ none))
+
+  -- a blob has at most 2^20 slots
+  pub few_slots : (h : ℕ) (m : Meta) → map.get metas h ≡ Some m → length m.map ≤ 2 ^ 20
+  few_slots h m there =
+      let region = region_of running.store in
+      let fine = (running.facts.loadable h m (ap (λ (b : Metas). b h) base ∙ there)).stored.faultless in
+      let in_map : map_fault region.fixed region.clusters m.map ≡ None =
+      none_second (unknown_flag m.flags) (map_fault region.fixed region.clusters m.map)
+      (hole_in_thick m.flags m.map ∷ bad_mark m.internal ∷ []) fine in
+      by (nat_le (length m.map) (2 ^ 20)) refl
+      (none_first (too_large m.map) (cluster_outside region.fixed region.clusters m.map ∷ []) in_map)
+    where
+      by : (b : Bool) → nat_le (length m.map) (2 ^ 20) ≡ b → too_large m.map ≡ None → length m.map ≤ 2 ^ 20
+      by true is none = leb-true (length m.map) (2 ^ 20) is
+      by false is none = absurd (let bad : Some (faults.TooLarge (at_most (2 ^ 64 - 1) (length m.map))) ≡ None =
+          sym (ap (λ (b : Bool). if b then None else Some (faults.TooLarge (at_most (2 ^ 64 - 1) (length m.map)))) is)
+          ∙ none in
+          cc bad)
 
   -- a cluster of a map is one of the store, and its pages lie on the device
   pub page_low : (h : ℕ) (m : Meta) (i cluster page : ℕ) → map.get metas h ≡ Some m → slot m i ≡ Some cluster

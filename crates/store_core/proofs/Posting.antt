@@ -2,7 +2,6 @@
 use Rattle.std.proofs.Common.{
   ◌⊎◌,
   ◌≡◌,
-  ◌≢◌,
   ℕ,
   ◌<◌,
   List,
@@ -26,7 +25,7 @@ use Rattle.page_disk.specs.declared.disk.PageDisk.{Ghosts}
 use Rattle.volume_model.specs.declared.command.Command.{Command}
 use Rattle.volume_model.specs.declared.command.Command.TheVariants as c
 use Rattle.volume_model.specs.declared.reply.Msg.{Msg}
-use Rattle.store_model.specs.Rows.{Claiming, Copying, Decided, Decision, Ended, Idle, InJob, IsForMetadata, OpenClaim}
+use Rattle.store_model.specs.Rows.{Claiming, Copying, Decided, Ended, Idle, InJob, IsForMetadata, OpenClaim}
 use Rattle.store_model.specs.Rows.{Posted, Ready, Row, Stage}
 use Rattle.store_model.specs.Cases as kind
 use Rattle.store_core.specs.declared.rows.RowStage.TheVariants.{Meta, Over}
@@ -34,9 +33,7 @@ use Rattle.store_core.specs.declared.begin.BeginTurn.{BeginTurn}
 use Rattle.store_core.specs.declared.begin.BeginTurn.TheVariants as begin
 use Rattle.store_core.specs.declared.page_reading.ReadTurn.{ReadTurn}
 use Rattle.store_core.specs.declared.page_reading.ReadTurn.TheVariants as read
-use Rattle.store_core.specs.declared.page_writing.WriteTurn.{WriteTurn}
-use Rattle.store_core.specs.declared.page_writing.WriteTurn.TheVariants as write
-use Rattle.store_core.specs.ChannelTurns.{IsOfRead, IsOfWrite, TurnsAs}
+use Rattle.store_core.specs.ChannelTurns.{IsOfRead, TurnsAs}
 use Rattle.store_core.specs.Begins.{BeginsOrNot}
 use Rattle.store_core.specs.StoreInvariant.{IsRunning, StoreInvariant}
 use Rattle.store_core.specs.TurnMade.{TurnMade}
@@ -137,11 +134,6 @@ module _ {D : Type 0} (d : Ghosts D) (p : StoreView D) (shaped : IsShaped (state
   pub low_over : length p.rows ≡ 16 → is_stage (rows_of p.rows channel) channel ≡ Over → channel < 16
   low_over sixteen is = low_of p.rows channel Idle sixteen (ap (λ (r : Row). r.stage) (over_row is)) (λ e. cc e)
 
-  -- a row of which something is decided holds no claim
-  pub decided_unclaimed : (outcome : Decision) → (rows_of p.rows channel).stage ≡ Decided outcome
-      → (rows_of p.rows channel).claim ≡ None
-  decided_unclaimed outcome is = no_claim (state_of d p) shaped channel (λ may. subst MayClaim is may)
-
 -- each row that is posted has a command
 pub have_posted : {D : Type 0} (d : Ghosts D) (p : WithOpening D) → StoreInvariant d p → length p.at.rows ≡ 16
     → HavePosted p.at.rows
@@ -215,13 +207,6 @@ turned_or_not {D = D} d p q which kept goes_on (inl same) =
     subst (λ (x : StoreView D). StoreInvariant d (record { at = x; opening = p.opening; right = p.right })) (sym same)
     kept
 turned_or_not {D = D} d p q which kept goes_on (inr turns) = goes_on turns.kind turns.made
-
--- a write of a page is one of its turns, or nothing is done
-pub by_write : {D : Type 0} (d : Ghosts D) (p q : StoreView D) (turn : WriteTurn) → (turn ≢ write.Logged → q ≡ p)
-    → (turn ≡ write.Logged → TurnsAs d IsOfWrite p q) → (q ≡ p) ⊎ TurnsAs d IsOfWrite p q
-by_write d p q write.Frozen same turns = inl (same (λ e. cc e))
-by_write d p q write.Empty same turns = inl (same (λ e. cc e))
-by_write d p q write.Logged same turns = inr (turns refl)
 
 -- a read of a page is one of its turns, or nothing is done
 pub by_read : {D : Type 0} (d : Ghosts D) (p q : StoreView D) (turn : ReadTurn) → (turn ≡ read.Frozen → q ≡ p)

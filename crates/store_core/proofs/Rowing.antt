@@ -1,16 +1,17 @@
 -- The rows of the channels with one row set, as a function.
-use Rattle.std.proofs.Common.{None, ◌≡◌, ℕ, ◌<◌, List, [], ◌∷◌, ◌++◌, drop, length, slice_set, refl, sym, ◌∙◌, ap}
-use Rattle.std.proofs.Common.{arith, inl, inr}
+use Rattle.std.proofs.Common.{None, ◌≡◌, ◌==◌, ℕ, ◌<◌, Bool, true, false, List, [], ◌∷◌, ◌++◌, drop, length, slice_set}
+use Rattle.std.proofs.Common.{refl, sym, ◌∙◌, ap, arith, inl, inr}
+use Rattle.std.specs.Prelude.{if◌then◌else◌, slice_index_or}
 use Rattle.std.proofs.lemmas.Bool.{cases_eq, eq-eqb, ne_eqb}
-use Rattle.std.proofs.lemmas.List.{get_or-set_same, get_or-set_other}
+use Rattle.std.proofs.lemmas.List.{get_or_default, get_or-set_same, get_or-set_other}
 use Rattle.std.proofs.Math.Path.{fun_ext}
 use Rattle.page_disk.specs.declared.disk.PageDisk.{Ghosts}
 use Rattle.volume_model.specs.declared.command.Command.{Command}
 use Rattle.volume_model.specs.declared.reply.Reply.{Reply}
 use Rattle.store_model.specs.Rows.{Row, Rows, Answered, Decided, Ended, Stage, with_row, entry_of}
-use Rattle.store_model.specs.StoreState.{logged, logged_to}
+use Rattle.store_model.specs.StoreState.{logged, logged_to, StoreState}
 use Rattle.store_core.specs.StoreView.{StoreView, device_of, rows_of, state_of}
-use Rattle.store_core.specs.Steps.{left_at, logged_at, logged_then, OnlyRow}
+use Rattle.store_core.specs.Steps.{left_at, logged_at, logged_then, OnlyRow, with_row_at}
 
 -- a list with an item has a first one
 pub first_of : {A : Type 0} (l : List A) → 0 < length l → (x : A) × (rest : List A) × (l ≡ x ∷ rest)
@@ -35,6 +36,39 @@ module _ (rows : List Row) (channel : ℕ) (row : Row) (low : channel < length r
 
   pub rows_set : rows_of (slice_set rows channel row) ≡ with_row (rows_of rows) channel row
   rows_set = fun_ext row_at
+
+-- a row as it is read of the list
+pub row_read : (rows : List Row) (channel : ℕ) (row : Row) → channel < length rows
+    → row ≡ slice_index_or rows channel row → row ≡ rows_of rows channel
+row_read rows channel row low is =
+    is ∙ get_or_default rows channel row (record { left = []; stage = Ended; claim = None }) low
+
+-- the state with one row set
+pub state_with_row : {D : Type 0} (d : Ghosts D) (p : StoreView D) (channel : ℕ) (row given : Row) → row ≡ given
+    → channel < length p.rows
+    → state_of d (with_row_at p channel row)
+    ≡ record (state_of d p) { rows = with_row (rows_of p.rows) channel given }
+state_with_row d p channel row given is low =
+    ap (λ (r : Row). state_of d (with_row_at p channel r)) is
+    ∙ ap (λ (rows : Rows). record (state_of d p) { rows = rows }) (rows_set p.rows channel given low)
+
+-- of a row that is set twice the second stays
+pub with_row_twice : (rows : Rows) (channel : ℕ) (first second : Row)
+    → with_row (with_row rows channel first) channel second ≡ with_row rows channel second
+with_row_twice rows channel first second = fun_ext (λ other. by (other == channel) (rows other))
+  where
+    by : (here : Bool) (was : Row)
+        → (if here then second else (if here then first else was)) ≡ (if here then second else was)
+    by true was = refl
+    by false was = refl
+
+-- the others stay over two changes of one row
+pub only_row_twice : (old mid new : List Row) (channel : ℕ) (first second : Row) → OnlyRow old mid channel first
+    → OnlyRow mid new channel second → OnlyRow old new channel second
+only_row_twice old mid new channel first second a b = record {
+  row = b.row;
+  others = λ other ne. b.others other ne ∙ a.others other ne;
+}
 
 -- with an entry logged, the state is the one in which it is
 pub state_logged_then : (next : Stage) {D : Type 0} (d : Ghosts D) (p : StoreView D) (channel : ℕ) (command : Command)

@@ -10,7 +10,6 @@ use Rattle.std.specs.Prelude.{
   Result,
   Ok,
   Err,
-  ◌/◌,
   ℕ,
   List,
   ◌∷◌,
@@ -19,17 +18,13 @@ use Rattle.std.specs.Prelude.{
 }
 use Rattle.std.specs.Option.{option_and_then, option_map_or}
 use Rattle.page_disk.specs.declared.disk.PageDisk.{Ghosts}
-use Rattle.super_block.specs.Numbers.{cluster_pages_of}
 use Rattle.volume_model.specs.Refusals.{refusal}
 use Rattle.volume_model.specs.Steps.{named_head, volume_at}
-use Rattle.volume_model.specs.Volumes.{head_of, page_of, zero_page}
+use Rattle.volume_model.specs.Volumes.{page_of, zero_page}
 use Rattle.volume_model.specs.declared.command.Command.{Command}
 use Rattle.volume_model.specs.declared.command.Command.TheVariants as c
 use Rattle.volume_model.specs.declared.command.PageWord.{PageWord}
 use Rattle.volume_model.specs.declared.command.VolumeRef.{VolumeRef}
-use Rattle.blob_meta.specs.declared.meta.Meta.{Meta}
-use Rattle.blob_meta.specs.Parents.{slot}
-use Rattle.blob_meta.specs.Resolving.{resolved}
 use Rattle.store_model.specs.Cases.{Kind}
 use Rattle.store_model.specs.Cases as kind
 use Rattle.page_disk.specs.declared.disk.DiskFault.{DiskFault}
@@ -38,10 +33,13 @@ use Rattle.volume_model.specs.declared.reply.Reply.TheVariants as r
 use Rattle.store_model.specs.Cases.Read.{IsRead}
 use Rattle.store_model.specs.Cases.WritePage.{WritesAt}
 use Rattle.store_model.specs.Device.{Device}
-use Rattle.store_model.specs.Rows.{Idle}
+use Rattle.store_model.specs.Rows.{Claiming, Idle, Row, Stage}
 use Rattle.store_model.specs.Shown.{fixed_of}
 use Rattle.store_model.specs.StoreState.{shown, StoreState}
 use Rattle.store_model.specs.Turning.{IsNotFrozen}
+use Rattle.store_core.specs.declared.page_writing.WriteTurn.{WriteTurn}
+use Rattle.store_core.specs.declared.page_writing.WriteTurn.TheVariants as write
+use Rattle.store_core.specs.Steps.{gone_on}
 use Rattle.store_core.specs.StoreView.{read_now, rows_of, state_of, StoreView}
 use Rattle.store_core.specs.TurnMade.{TurnMade}
 
@@ -75,14 +73,20 @@ IsOfWrite kind.fails_to_write = Unit {0}
 IsOfWrite kind.halts = Unit {0}
 IsOfWrite _ = ⊥
 
--- a channel whose first command is a write of a page, of which nothing was done
-pub record WaitsToWrite {D : Type 0} (p : StoreView D) (channel : ℕ) : Type 0 where
+-- a channel whose first command is a write of a page at this stage, with no claim
+pub record WaitsToWrite {D : Type 0} (p : StoreView D) (channel : ℕ) (stage : Stage) : Type 0 where
   pub volume : VolumeRef
   pub page : ℕ
   pub word : PageWord
   pub rest : List Command
   pub row : rows_of p.rows channel
-      ≡ record { left = c.Write volume page word ∷ rest; stage = Idle; claim = None }
+      ≡ record { left = c.Write volume page word ∷ rest; stage = stage; claim = None }
+
+-- a row once its write of a page has had a turn
+abbrev pub row_written : WriteTurn → Row → Row
+row_written write.Frozen row = row
+row_written write.Empty row = record row { stage = Claiming }
+row_written write.Logged row = gone_on row
 
 -- A write of this channel's, which nothing refuses and whose slot has a cluster, puts this content to this place.
 pub record WritesNow {D : Type 0} (d : Ghosts D) (p : StoreView D) (channel place : ℕ)
@@ -97,20 +101,6 @@ pub record IsFrozenFor (p : StoreState) (command : Command) : Type 0 where
   pub head : ℕ
   pub named : named_head (fixed_of p.super) (shown p) command ≡ Some head
   pub frozen : p.frozen head ≡ true
-
--- A write of a page that nothing refuses, of a blob that isn't frozen, finds its slot empty.
-pub record FindsNoCluster (p : StoreState) (command : Command) : Type 0 where
-  pub volume : VolumeRef
-  pub page : ℕ
-  pub word : PageWord
-  pub is : command ≡ c.Write volume page word
-  pub asked : refusal (fixed_of p.super) (shown p) (c.Write volume page word) ≡ None
-  pub head : ℕ
-  pub found : head_of (fixed_of p.super) (shown p) volume ≡ Some head
-  pub free : p.frozen head ≡ false
-  pub meta : Meta
-  pub there : resolved p.base head ≡ Some meta
-  pub empty : slot meta (page / cluster_pages_of p.super) ≡ None
 
 -- a read of a page is answered, refused or has failed; or the store had stopped
 abbrev pub IsOfRead : Kind → Type 0

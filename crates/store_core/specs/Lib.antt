@@ -9,6 +9,7 @@ pub mod Running
 pub mod Steps
 pub mod TurnMade
 pub mod ChannelTurns
+pub mod ClaimTurns
 pub mod Surviving
 pub mod StoreInvariant
 pub mod Answering

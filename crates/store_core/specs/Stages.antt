@@ -6,8 +6,11 @@ use Rattle.volume_model.specs.declared.command.Command.TheVariants as c
 use Rattle.volume_model.specs.contracts.command.Command as command
 use Rattle.store_core.specs.declared.rows.RowStage as told
 use Rattle.store_core.specs.declared.rows.RowStage.TheVariants as waits
-use Rattle.store_core.specs.declared.rows.Stage as seen
-use Rattle.store_core.specs.declared.rows.Stage.TheVariants as variants
+use Rattle.store_core.specs.declared.stages.Decision as reached
+use Rattle.store_core.specs.declared.stages.Decision.TheVariants as outcome
+use Rattle.store_core.specs.declared.stages.OpenClaim as held
+use Rattle.store_core.specs.declared.stages.Stage as seen
+use Rattle.store_core.specs.declared.stages.Stage.TheVariants as variants
 use Rattle.store_model.specs.Rows.{Answered, Claiming, Copying, Decided, Decision, Ended, Idle, InJob, Lost, OpenClaim}
 use Rattle.store_model.specs.Rows.{Posted, Ready, Row, Stage, Won}
 
@@ -67,12 +70,23 @@ row_code = code_by (List Command × (Stage × Option OpenClaim))
     (λ r. (r.left, (r.stage, r.claim)))
     (λ p. record { left = p.0; stage = p.1.0; claim = p.1.1 }) (λ _. refl)
 
+abbrev pub decision_seen : reached.Decision → Decision
+decision_seen outcome.Answered = Answered
+decision_seen outcome.Won = Won
+decision_seen outcome.Lost = Lost
+
 abbrev pub stage_seen : seen.Stage → Stage
 stage_seen variants.Idle = Idle
+stage_seen variants.Claiming = Claiming
+stage_seen (variants.Copying left) = Copying left
+stage_seen variants.Ready = Ready
 stage_seen (variants.Posted serial) = Posted serial
 stage_seen variants.InJob = InJob
-stage_seen variants.Decided = Decided Answered
+stage_seen (variants.Decided outcome) = Decided (decision_seen outcome)
 stage_seen variants.Ended = Ended
+
+abbrev pub claim_seen : held.OpenClaim → OpenClaim
+claim_seen c = record { cluster = c.cluster; head = c.head; slot = c.slot; generation = c.generation }
 
 -- what a first command waits for
 abbrev pub waits_for : Command → told.RowStage

@@ -9,8 +9,9 @@ ghost use Rattle.volume_model.specs.declared.reply.Reply.{Reply as AReply};
 ghost use Rattle.store_core.specs.Stages.{stage_seen};
 ghost use Rattle.store_core.specs.Steps.{decided, gone_on, Asks, left_at, logged_at, logged_on, logged_then, OnlyRow};
 
-use crate::rows::{Stage, Taken};
+use crate::rows::Taken;
 use crate::running::Running;
+use crate::stages::{Decision, Stage};
 use page_disk::{Page, PageDisk};
 use std::boxed::Box;
 use volume_model::{Entry, Reply};
@@ -33,7 +34,12 @@ pub(crate) fn log<D: PageDisk>(running: &mut Running<D>, channel: u8, reply: Rep
         (decided (rows_of running.old.rows.items channel)) }
     ensures order { InOrder D.PageDisk running.new }
 {
-    log_then(running, channel, Answer::Reply(reply), Stage::Decided);
+    log_then(
+        running,
+        channel,
+        Answer::Reply(reply),
+        Stage::Decided(Decision::Answered),
+    );
 }
 
 /// Logs a reply in a turn of the channel's own, which goes on with its next command.

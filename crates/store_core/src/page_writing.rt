@@ -1,6 +1,6 @@
-//! A channel's write of a page whose slot has a cluster.
+//! A channel's write of a page.
 
-ghost use Rattle.std.specs.Prelude.{◌≡◌, ◌≢◌, ◌<◌, None, false};
+ghost use Rattle.std.specs.Prelude.{◌≡◌, ◌<◌, None, false};
 ghost use Rattle.std.specs.FinMap as map;
 ghost use Rattle.std.specs.FinSet as set;
 ghost use Rattle.std.specs.Option.{option_and_then, option_map_or};
@@ -8,8 +8,9 @@ ghost use Rattle.super_block.specs.Faults.{IsFaultless};
 ghost use Rattle.super_block.specs.Numbers.{cluster_pages_of};
 ghost use Rattle.blob_meta.specs.Pages as pages;
 ghost use Rattle.store_core.specs.declared.page_writing.WriteTurn.TheVariants.{Empty, Frozen, Logged};
+ghost use Rattle.store_model.specs.Cases as kind;
 ghost use Rattle.store_core.specs.ChannelTurns.{
-  FindsNoCluster,
+  row_written,
   IsFrozenFor,
   IsOfWrite,
   TurnsAs,
@@ -19,7 +20,8 @@ ghost use Rattle.store_core.specs.ChannelTurns.{
 ghost use Rattle.store_core.specs.StoreInvariant.{IsRunning};
 ghost use Rattle.store_core.specs.Running.{view_of, InOrder};
 ghost use Rattle.store_core.specs.StoreView.{rows_of, state_of};
-ghost use Rattle.store_core.specs.Steps.{gone_on, Asks, OnlyRow, Waits};
+ghost use Rattle.store_core.specs.Steps.{gone_on, Asks, OnlyRow};
+ghost use Rattle.store_core.specs.TurnMade.{TurnMade};
 ghost use Rattle.store_model.specs.Rows.{Idle};
 
 use crate::device::write_one;
@@ -27,6 +29,7 @@ use crate::logging::log_here;
 use crate::refusing::halt_here;
 use crate::rows::first_of;
 use crate::running::Running;
+use crate::stages::Stage;
 use crate::stopping::stop_here;
 use blob_meta::{Metas, find, own_place, refusal_of_write};
 use io_freeze::Guards;
@@ -39,7 +42,7 @@ use volume_model::{Command, Reply, page_of};
 pub enum WriteTurn {
     /// Its blob is frozen, and nothing is done; the same call is made again.
     Frozen,
-    /// Nothing refuses it, and its slot is empty.
+    /// Nothing refuses it, and its slot is empty: a cluster is to be claimed for it.
     Empty,
     /// It is logged.
     Logged,
@@ -56,7 +59,7 @@ pub(crate) fn is_frozen(guards: &Guards, head: Option<u32>) -> bool
 }
 
 /// Where the cluster in the slot of a page of the blob at a head lies on the device; `None` where the slot is empty.
-fn place_in(metas: &Metas, sup: &Super, head: Option<u32>, page: u64) -> Option<u64>
+pub(crate) fn place_in(metas: &Metas, sup: &Super, head: Option<u32>, page: u64) -> Option<u64>
     requires { IsFaultless sup.now }
     ensures { result ≡ option_and_then (λ h.
         option_and_then (λ m. pages.own_place (cluster_pages_of sup.now) m page) (map.get metas.now h)) head }
@@ -89,19 +92,19 @@ fn put_page<D: PageDisk>(running: &mut Running<D>, channel: u8, place: u64, cont
 fn write_page<D: PageDisk>(running: &mut Running<D>, channel: u8) -> WriteTurn
     requires order { InOrder D.PageDisk running.old }
     requires channel { channel < 16 }
-    requires waits { WaitsToWrite (view_of running.old) channel }
+    requires waits { WaitsToWrite (view_of running.old) channel Idle }
     requires running { IsRunning (state_of D.PageDisk (view_of running.old)) }
     requires faultless { IsFaultless running.old.sup }
     requires runs { running.old.stopped ≡ None }
     ensures frozen { result ≡ Frozen
         → Asks (view_of running.old) channel (IsFrozenFor (state_of D.PageDisk (view_of running.old))) }
+    ensures kept { result ≡ Frozen → view_of running.new ≡ view_of running.old }
     ensures empty { result ≡ Empty
-        → Asks (view_of running.old) channel (FindsNoCluster (state_of D.PageDisk (view_of running.old))) }
-    ensures kept { result ≢ Logged → view_of running.new ≡ view_of running.old }
+        → TurnMade D.PageDisk (view_of running.old) (view_of running.new) kind.finds_empty }
     ensures logged { result ≡ Logged
         → TurnsAs D.PageDisk IsOfWrite (view_of running.old) (view_of running.new) }
-    ensures row { result ≡ Logged → OnlyRow running.old.rows.items running.new.rows.items channel
-        (gone_on (rows_of running.old.rows.items channel)) }
+    ensures row { OnlyRow running.old.rows.items running.new.rows.items channel
+        (row_written result (rows_of running.old.rows.items channel)) }
     ensures order { InOrder D.PageDisk running.new }
 {
     let Command::Write { volume, page, word } = first_of(&running.rows, channel) else {
@@ -117,6 +120,7 @@ fn write_page<D: PageDisk>(running: &mut Running<D>, channel: u8) -> WriteTurn
         return WriteTurn::Logged;
     }
     let Some(place) = place_in(&running.metas, &running.sup, head, page) else {
+        running.rows[channel as usize].go_to(Stage::Claiming);
         return WriteTurn::Empty;
     };
     put_page(running, channel, place, &content);
@@ -127,18 +131,18 @@ fn write_page<D: PageDisk>(running: &mut Running<D>, channel: u8) -> WriteTurn
 pub(crate) fn write_or_halt<D: PageDisk>(running: &mut Running<D>, channel: u8) -> WriteTurn
     requires order { InOrder D.PageDisk running.old }
     requires channel { channel < 16 }
-    requires waits { WaitsToWrite (view_of running.old) channel }
+    requires waits { WaitsToWrite (view_of running.old) channel Idle }
     requires running { IsRunning (state_of D.PageDisk (view_of running.old)) }
     requires faultless { IsFaultless running.old.sup }
     ensures frozen { result ≡ Frozen
         → Asks (view_of running.old) channel (IsFrozenFor (state_of D.PageDisk (view_of running.old))) }
+    ensures kept { result ≡ Frozen → view_of running.new ≡ view_of running.old }
     ensures empty { result ≡ Empty
-        → Asks (view_of running.old) channel (FindsNoCluster (state_of D.PageDisk (view_of running.old))) }
-    ensures kept { result ≢ Logged → view_of running.new ≡ view_of running.old }
+        → TurnMade D.PageDisk (view_of running.old) (view_of running.new) kind.finds_empty }
     ensures logged { result ≡ Logged
         → TurnsAs D.PageDisk IsOfWrite (view_of running.old) (view_of running.new) }
-    ensures row { result ≡ Logged → OnlyRow running.old.rows.items running.new.rows.items channel
-        (gone_on (rows_of running.old.rows.items channel)) }
+    ensures row { OnlyRow running.old.rows.items running.new.rows.items channel
+        (row_written result (rows_of running.old.rows.items channel)) }
     ensures order { InOrder D.PageDisk running.new }
 {
     if running.stopped.is_some() {

@@ -1,5 +1,6 @@
 //! What a run leaves of a store.
 
+use crate::giving_back::clear_claimed;
 use crate::running::Running;
 use pools::{ClusterPool, PagePool};
 use super_block::{Masks, Super};
@@ -15,16 +16,19 @@ pub struct Parts<D> {
 }
 
 impl<D> Running<D> {
-    ghost use Rattle.std.specs.Prelude.{◌≡◌, []};
+    ghost use Rattle.std.specs.Prelude.{◌≡◌, [], length};
+    ghost use Rattle.store_core.specs.LoadedWhole.{without_first};
+    ghost use Rattle.store_core.specs.StoreView.{rows_of};
 
-    /// What is left of the store once no place is claimed.
+    /// What is left of the store once the rows' claims are given back.
     pub(crate) fn into_parts(self) -> Parts<D>
         requires no_page { self.pages.claims ≡ [] }
         requires no_cluster { self.clusters.claims ≡ [] }
         ensures disk { result.disk ≡ self.disk }
         ensures sup { result.sup ≡ self.sup }
         ensures pages { result.masks.pages ≡ self.pages.bits }
-        ensures clusters { result.masks.clusters ≡ self.clusters.bits }
+        ensures clusters { result.masks.clusters
+            ≡ without_first self.clusters.bits (rows_of self.rows.items) (length self.rows.items) }
         ensures heads { result.masks.blobs ≡ self.heads }
         ensures entries { result.entries ≡ self.entries.items }
     {
@@ -36,10 +40,10 @@ impl<D> Running<D> {
             chains: _,
             live: _,
             pages,
-            clusters,
+            mut clusters,
             heads: blobs,
             guards: _,
-            rows: _,
+            rows,
             job: _,
             serial: _,
             entries,
@@ -47,6 +51,7 @@ impl<D> Running<D> {
             marks: _,
             stopped: _,
         } = self;
+        clear_claimed(&mut clusters, rows.as_slice());
         Parts {
             disk,
             sup,

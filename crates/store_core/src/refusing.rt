@@ -3,13 +3,14 @@
 ghost use Rattle.std.specs.Prelude.{◌≡◌, ◌<◌, None, IsSome};
 ghost use Rattle.store_model.specs.Cases.{IsRefusedBy};
 ghost use Rattle.store_model.specs.Cases as kind;
-ghost use Rattle.store_model.specs.Rows.{Idle};
 ghost use Rattle.store_core.specs.TurnMade.{TurnMade};
 ghost use Rattle.store_core.specs.Running.{view_of, InOrder};
 ghost use Rattle.store_core.specs.StoreView.{rows_of, state_of};
-ghost use Rattle.store_core.specs.Steps.{decided, gone_on, Asks, IsPostedAt, OnlyRow, Waits};
+ghost use Rattle.store_core.specs.ClaimTurns.{WaitsHere};
+ghost use Rattle.store_core.specs.Steps.{decided, gone_on, Asks, IsPostedAt, OnlyRow};
 
-use crate::logging::{log, log_here};
+use crate::giving_back::give_up;
+use crate::logging::log;
 use crate::running::Running;
 use page_disk::PageDisk;
 use volume_model::Reply;
@@ -47,11 +48,11 @@ pub(crate) fn halt<D: PageDisk>(running: &mut Running<D>, channel: u8)
     }
 }
 
-/// Logs the first command of a channel, of which nothing was done, on a stopped store.
+/// Logs the first command of a channel in a turn of the channel's own, on a stopped store; a claim is given back.
 pub(crate) fn halt_here<D: PageDisk>(running: &mut Running<D>, channel: u8)
     requires order { InOrder D.PageDisk running.old }
     requires channel { channel < 16 }
-    requires waits { Waits (view_of running.old) channel Idle }
+    requires waits { WaitsHere (view_of running.old) channel }
     requires stopped { IsSome running.old.stopped }
     ensures case { TurnMade D.PageDisk (view_of running.old) (view_of running.new) kind.halts }
     ensures row { OnlyRow running.old.rows.items running.new.rows.items channel
@@ -59,7 +60,7 @@ pub(crate) fn halt_here<D: PageDisk>(running: &mut Running<D>, channel: u8)
     ensures order { InOrder D.PageDisk running.new }
 {
     match running.stopped {
-        Some(at) => log_here(running, channel, Reply::Stopped(at)),
+        Some(at) => give_up(running, channel, Reply::Stopped(at)),
         None => unreachable!(),
     }
 }

@@ -5,6 +5,7 @@ ghost use Rattle.volume_model.specs.declared.command.Command.{Command as AComman
 ghost use Rattle.store_core.specs.StoreView.{rows_of};
 
 use crate::reserved::{is_read, pages_for};
+use crate::stages::{Decision, OpenClaim, Stage};
 use out_of_memory::Memory;
 use page_disk::Page;
 use std::alloc::Global;
@@ -59,22 +60,13 @@ impl RowStage {
     }
 }
 
-/// How far the first command of a row has come.
-#[derive(Clone, Copy)]
-pub(crate) enum Stage {
-    Idle,
-    Posted(u64),
-    InJob,
-    Decided,
-    Ended,
-}
-
-/// What a channel has left of its commands, and how far the first of them has come. Contracts see both. For each
-/// command that reads a page it has one reserved.
+/// What a channel has left of its commands, how far the first of them has come, and the cluster that it has claimed, if
+/// it has. Contracts see these. For each command that reads a page it has one reserved.
 #[derive(Drop)]
 pub(crate) struct Row {
     left: VecDeque<Command>,
     stage: Stage,
+    claim: Option<OpenClaim>,
     reserved: Vec<Box<Page>>,
 }
 
@@ -86,15 +78,19 @@ pub(crate) struct Taken {
 }
 
 impl Model for Row {
-    ghost use Rattle.std.specs.Prelude.{None};
+    ghost use Rattle.std.specs.Option.{option_map};
     ghost use Rattle.store_model.specs.Rows.{Row};
-    ghost use Rattle.store_core.specs.Stages.{row_code, stage_seen};
+    ghost use Rattle.store_core.specs.Stages.{claim_seen, row_code, stage_seen};
 
     ghost Value = { Row };
 
     ghost coded = { row_code };
 
-    ghost view = { λ r. record { left = r.left.items; stage = stage_seen r.stage; claim = None } };
+    ghost view = { λ r. record {
+      left = r.left.items;
+      stage = stage_seen r.stage;
+      claim = option_map claim_seen r.claim;
+    } };
 
     ghost use Rattle.std.specs.Prelude.{◌≤◌, length};
     ghost use Rattle.store_core.specs.Reserved.{reads_in};
@@ -117,9 +113,11 @@ impl Row {
       IsSome,
     };
     ghost use Rattle.store_core.specs.Reserved.{is_read};
-    ghost use Rattle.store_model.specs.Rows.{Idle, Posted, InJob, Ended};
+    ghost use Rattle.std.specs.Prelude.{None, Some};
+    ghost use Rattle.std.specs.Option.{option_map};
+    ghost use Rattle.store_model.specs.Rows.{Copying, Idle, Posted, InJob, Ended};
     ghost use Rattle.store_core.specs.Requests.{posted_in};
-    ghost use Rattle.store_core.specs.Stages.{is_stage, stage_seen};
+    ghost use Rattle.store_core.specs.Stages.{claim_seen, is_stage, stage_seen};
 
     /// The row of a channel with these commands, of which none is posted.
     pub(crate) fn new(alloc: Global, commands: Vec<Command>) -> Result<Row, Memory>
@@ -129,6 +127,7 @@ impl Row {
         Ok(Row {
             left: VecDeque::from_vec(commands),
             stage: Stage::Idle,
+            claim: None,
             reserved,
         })
     }
@@ -140,6 +139,7 @@ impl Row {
         Row {
             left: VecDeque::new(alloc),
             stage: Stage::Ended,
+            claim: None,
             reserved: Vec::new(alloc),
         }
     }
@@ -153,9 +153,12 @@ impl Row {
                 Some(command) => RowStage::of(command),
                 None => RowStage::Over,
             },
+            Stage::Claiming => RowStage::Claim,
+            Stage::Copying(left) => RowStage::Copy { left },
+            Stage::Ready => RowStage::Ready,
             Stage::Posted(serial) => RowStage::Posted(Msg { channel, serial }),
             Stage::InJob => RowStage::InJob,
-            Stage::Decided => RowStage::Decided,
+            Stage::Decided(_) => RowStage::Decided,
             Stage::Ended => RowStage::Ended,
         }
     }
@@ -208,6 +211,7 @@ impl Row {
     {
         let command = self.left.pop_front()?;
         self.stage = next;
+        self.claim = None;
         let page = if is_read(&command) {
             self.reserved.pop()
         } else {
@@ -228,6 +232,54 @@ impl Row {
         ensures { self.new ≡ record self.old { stage = Ended } }
     {
         self.stage = Stage::Ended;
+    }
+
+    /// The first command is at this stage from now on.
+    pub(crate) fn go_to(&mut self, next: Stage)
+        ensures { self.new ≡ record self.old { stage = stage_seen next } }
+    {
+        self.stage = next;
+    }
+
+    /// The cluster that is claimed for its slot, if one is.
+    pub(crate) fn claim(&self) -> Option<OpenClaim>
+        ensures { option_map claim_seen result ≡ self.now.claim }
+    {
+        self.claim
+    }
+
+    /// A cluster is claimed for its slot, of which so many pages are to be copied.
+    pub(crate) fn hold(&mut self, claim: OpenClaim, pages: u32)
+        ensures { self.new ≡ record self.old { stage = Copying pages; claim = Some (claim_seen claim) } }
+    {
+        self.stage = Stage::Copying(pages);
+        self.claim = Some(claim);
+    }
+
+    /// The claim, if there is one, is taken out of the row, which is at this stage then.
+    pub(crate) fn let_go(&mut self, next: Stage) -> Option<OpenClaim>
+        ensures claim { option_map claim_seen result ≡ self.old.claim }
+        ensures row { self.new ≡ record self.old { stage = stage_seen next; claim = None } }
+    {
+        self.stage = next;
+        self.claim.take()
+    }
+}
+
+impl Row {
+    ghost use Rattle.std.specs.Prelude.{◌≡◌};
+    ghost use Rattle.std.specs.Option.{option_map};
+    ghost use Rattle.store_core.specs.ClaimTurns.{decided_in};
+    ghost use Rattle.store_core.specs.Stages.{decision_seen};
+
+    /// What is decided of the row, if something is.
+    pub(crate) fn decision(&self) -> Option<Decision>
+        ensures { option_map decision_seen result ≡ decided_in self.now.stage }
+    {
+        match self.stage {
+            Stage::Decided(outcome) => Some(outcome),
+            _ => None,
+        }
     }
 }
 

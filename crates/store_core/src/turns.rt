@@ -6,11 +6,28 @@ ghost use Rattle.store_model.specs.Rows.{Decided, Decision, Ended, Idle, Posted}
 ghost use Rattle.store_core.specs.Running.{view_of, InOrder};
 ghost use Rattle.store_core.specs.StoreView.{rows_of};
 ghost use Rattle.store_core.specs.TurnMade.{TurnMade};
+ghost use Rattle.store_core.specs.ClaimTurns.{row_posted};
 ghost use Rattle.store_core.specs.Steps.{OnlyRow, WaitsForMetadata};
 
 use crate::running::Running;
 use page_disk::PageDisk;
 use volume_model::Msg;
+
+/// The row of a channel is posted under the next number.
+pub(crate) fn post_row<D: PageDisk>(running: &mut Running<D>, channel: u8) -> Msg
+    requires order { InOrder D.PageDisk running.old }
+    requires channel { channel < 16 }
+    ensures posted { view_of running.new ≡ row_posted (view_of running.old) channel }
+    ensures message { result ≡ record { channel = channel; serial = running.old.serial } }
+    ensures row { OnlyRow running.old.rows.items running.new.rows.items channel
+        (record (rows_of running.old.rows.items channel) { stage = Posted running.old.serial }) }
+    ensures order { InOrder D.PageDisk running.new }
+{
+    let serial = running.serial;
+    running.rows[channel as usize].post(serial);
+    running.serial = serial.wrapping_add(1);
+    Msg { channel, serial }
+}
 
 /// Posts the first command of a channel under the next number.
 pub(crate) fn post<D: PageDisk>(running: &mut Running<D>, channel: u8) -> Msg
@@ -23,13 +40,10 @@ pub(crate) fn post<D: PageDisk>(running: &mut Running<D>, channel: u8) -> Msg
         (record (rows_of running.old.rows.items channel) { stage = Posted running.old.serial }) }
     ensures order { InOrder D.PageDisk running.new }
 {
-    let serial = running.serial;
-    running.rows[channel as usize].post(serial);
-    running.serial = serial.wrapping_add(1);
-    Msg { channel, serial }
+    post_row(running, channel)
 }
 
-/// A channel has the word that its command is logged.
+/// A channel has the word of what is decided of its row.
 pub(crate) fn settle<D: PageDisk>(running: &mut Running<D>, channel: u8)
     requires order { InOrder D.PageDisk running.old }
     requires channel { channel < 16 }

@@ -8,12 +8,13 @@ use crate::plant::Plant;
 use page_disk::PageDisk;
 
 impl<D: PageDisk> Plant<D> {
-    ghost use Rattle.std.specs.Prelude.{◌≡◌, ◌≢◌};
+    ghost use Rattle.std.specs.Prelude.{◌≡◌};
+    ghost use Rattle.store_model.specs.Cases as kind;
     ghost use Rattle.store_core.specs.declared.page_reading.ReadTurn.TheVariants as read;
     ghost use Rattle.store_core.specs.declared.page_writing.WriteTurn.TheVariants as write;
     ghost use Rattle.store_core.specs.declared.rows.RowStage.TheVariants.{Flush, Read, Write};
     ghost use Rattle.store_core.specs.ChannelTurns.{
-      FindsNoCluster,
+      row_written,
       IsFrozenFor,
       IsOfFlush,
       IsOfRead,
@@ -23,6 +24,7 @@ impl<D: PageDisk> Plant<D> {
     ghost use Rattle.store_core.specs.Stages.{is_stage};
     ghost use Rattle.store_core.specs.Steps.{gone_on, Asks, OnlyRow};
     ghost use Rattle.store_core.specs.StoreView.{rows_of, state_of};
+    ghost use Rattle.store_core.specs.TurnMade.{TurnMade};
 
     /// Reads a page, for the first command of a channel. `Frozen` comes exactly where its blob is frozen: the store is
     /// as it was. Else it is logged: with `Content`, its slot's page or its parent's or zeros; with the first of
@@ -58,8 +60,9 @@ impl<D: PageDisk> Plant<D> {
         flush_or_halt(&mut self.running, channel);
     }
 
-    /// Writes a page, for the first command of a channel. `Frozen` comes exactly where its blob is frozen. `Empty`
-    /// comes exactly where nothing refuses it and the slot is empty: the store is as it was. Else it is logged: with
+    /// Writes a page, for the first command of a channel. `Frozen` comes exactly where its blob is frozen: the store is
+    /// as it was. `Empty` comes exactly where nothing refuses it and the slot is empty, for which a cluster is to be
+    /// claimed then. Else it is logged: with
     /// `Ok`, and a flush makes the page safe from a crash; with the first of `NoVolume`, `Reserved`, `OutOfRange` and
     /// `ReadOnly` that holds; with `Fault` where the write failed, and the store has stopped then; on a stopped store
     /// with `Stopped`.
@@ -67,12 +70,11 @@ impl<D: PageDisk> Plant<D> {
         requires stage { is_stage (rows_of self.old.at.rows channel) channel ≡ Write }
         ensures frozen { result ≡ write.Frozen
             → Asks self.old.at channel (IsFrozenFor (state_of D.PageDisk self.old.at)) }
-        ensures empty { result ≡ write.Empty
-            → Asks self.old.at channel (FindsNoCluster (state_of D.PageDisk self.old.at)) }
-        ensures waiting { result ≢ write.Logged → self.new ≡ self.old }
+        ensures waiting { result ≡ write.Frozen → self.new ≡ self.old }
+        ensures empty { result ≡ write.Empty → TurnMade D.PageDisk self.old.at self.new.at kind.finds_empty }
         ensures logged { result ≡ write.Logged → TurnsAs D.PageDisk IsOfWrite self.old.at self.new.at }
-        ensures row { result ≡ write.Logged → OnlyRow self.old.at.rows self.new.at.rows channel
-            (gone_on (rows_of self.old.at.rows channel)) }
+        ensures row { OnlyRow self.old.at.rows self.new.at.rows channel
+            (row_written result (rows_of self.old.at.rows channel)) }
         ensures job { self.new.at.job ≡ self.old.at.job }
         ensures opening { self.new.opening ≡ self.old.opening }
         ensures right { self.new.right ≡ self.old.right }

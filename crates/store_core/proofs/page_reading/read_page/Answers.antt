@@ -6,7 +6,7 @@ use Rattle.store_model.specs.Rows.{Row}
 use Rattle.store_core.specs.Running.{view_of}
 use Rattle.store_core.specs.StoreView.{rows_of}
 use Rattle.store_core.proofs.ReadAsked.{heads_fit, read_inside, read_refused, reads_now, seen_read}
-use Rattle.store_core.proofs.WriteAsked.{found_there}
+use Rattle.store_core.proofs.WriteMeant.{found_there}
 use Rattle.store_core.proofs.page_reading.read_page.Goals as goal
 
 pub returns-in-Some-clause-logged : goal.returns-in-Some-clause-logged

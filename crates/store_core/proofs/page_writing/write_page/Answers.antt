@@ -1,11 +1,13 @@
-use Rattle.std.proofs.Common.{List, sym, ◌∙◌, ap, subst, arith}
+use Rattle.std.proofs.Common.{◌<◌, length, List, sym, ◌∙◌, ap, subst, arith}
 use Rattle.blob_meta.specs.Pages.{IsFirstOnPages}
 use Rattle.volume_model.specs.declared.command.Command.TheVariants as command
-use Rattle.store_model.specs.Rows.{Row}
+use Rattle.store_model.specs.Rows.{Claiming, Idle, Row}
 use Rattle.store_core.specs.ChannelTurns.{WritesNow}
 use Rattle.store_core.specs.Running.{view_of}
 use Rattle.store_core.specs.StoreView.{rows_of}
-use Rattle.store_core.proofs.WriteAsked.{found_there, no_cluster, place_low, refused, seen_write, writes_now}
+use Rattle.store_core.proofs.Rowing.{row_read}
+use Rattle.store_core.proofs.WriteAsked.{found_empty, place_low, refused, writes_now}
+use Rattle.store_core.proofs.WriteMeant.{found_there, seen_write}
 use Rattle.store_core.proofs.page_writing.write_page.Goals as goal
 
 pub refusal_of_write-requires-clause-there : goal.refusal_of_write-requires-clause-there
@@ -16,7 +18,7 @@ refusal_of_write-requires-clause-there g c =
 pub returns-in-Some-clause-logged : goal.returns-in-Some-clause-logged
 returns-in-Some-clause-logged g c said =
     let p = view_of c.args.running.now in
-    let w = seen_write p c.args.channel c.requires.waits c.first_of.result.now c.in-Write.volume c.in-Write.page
+    let w = seen_write p c.args.channel Idle c.requires.waits c.first_of.result.now c.in-Write.volume c.in-Write.page
     c.in-Write.word
     (λ k rest left. c.first_of.ensures k rest
     (ap (λ (l : List Row). (rows_of l c.args.channel).left) c.deref.ensures.value ∙ left)) c.in-Write.is in
@@ -29,22 +31,26 @@ returns-in-Some-clause-logged g c said =
 pub returns-in_default-place_in-clause-empty : goal.returns-in_default-place_in-clause-empty
 returns-in_default-place_in-clause-empty g c said =
     let p = view_of c.args.running.now in
-    let w = seen_write p c.args.channel c.requires.waits c.first_of.result.now c.in-Write.volume c.in-Write.page
+    let low : c.args.channel < length p.rows = omega (arith, c.requires.channel, c.requires.order.sixteen) in
+    let w = seen_write p c.args.channel Idle c.requires.waits c.first_of.result.now c.in-Write.volume c.in-Write.page
     c.in-Write.word
     (λ k rest left. c.first_of.ensures k rest
     (ap (λ (l : List Row). (rows_of l c.args.channel).left) c.deref.ensures.value ∙ left)) c.in-Write.is in
-    no_cluster g.D.PageDisk p c.args.channel c.requires.running c.requires.runs w c.find-head.result
+    found_empty g.D.PageDisk p c.args.channel c.requires.running c.requires.runs w c.find-head.result
     c.find-head.ensures.meant (sym c.is_frozen.ensures ∙ c.if-is_frozen.false)
     (subst (IsFirstOnPages p.metas p.super (command.Write c.in-Write.volume c.in-Write.page c.in-Write.word))
     c.in_default-refusal_of_write.is
     (c.refusal_of_write.ensures.first c.in-Write.volume c.in-Write.word c.find-head.ensures.meant))
     (sym c.place_in.ensures ∙ c.in_default-place_in.is)
     (found_there p.metas p.super c.in-Write.volume c.find-head.result c.find-head.ensures.some)
+    low c.go_to.new.self
+    (c.go_to.ensures ∙ ap (λ (r : Row). record r { stage = Claiming })
+    (row_read p.rows c.args.channel c.index_mut.result.now low c.index_mut.ensures.value))
 
 pub put_page-requires-clause-writes : goal.put_page-requires-clause-writes
 put_page-requires-clause-writes g c =
     let p = view_of c.args.running.now in
-    let w = seen_write p c.args.channel c.requires.waits c.first_of.result.now c.in-Write.volume c.in-Write.page
+    let w = seen_write p c.args.channel Idle c.requires.waits c.first_of.result.now c.in-Write.volume c.in-Write.page
     c.in-Write.word
     (λ k rest left. c.first_of.ensures k rest
     (ap (λ (l : List Row). (rows_of l c.args.channel).left) c.deref.ensures.value ∙ left)) c.in-Write.is in
@@ -60,7 +66,7 @@ put_page-requires-clause-writes g c =
 pub put_page-requires-clause-inside : goal.put_page-requires-clause-inside
 put_page-requires-clause-inside g c =
     let p = view_of c.args.running.now in
-    let w = seen_write p c.args.channel c.requires.waits c.first_of.result.now c.in-Write.volume c.in-Write.page
+    let w = seen_write p c.args.channel Idle c.requires.waits c.first_of.result.now c.in-Write.volume c.in-Write.page
     c.in-Write.word
     (λ k rest left. c.first_of.ensures k rest
     (ap (λ (l : List Row). (rows_of l c.args.channel).left) c.deref.ensures.value ∙ left)) c.in-Write.is in

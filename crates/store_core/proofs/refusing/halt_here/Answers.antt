@@ -1,32 +1,11 @@
-use Rattle.std.proofs.Common.{◌<◌, length, None, ap, arith}
-use Rattle.volume_model.specs.declared.reply.Reply.TheVariants.{Stopped}
-use Rattle.store_model.specs.Rows.{Idle, Row}
+use Rattle.std.proofs.Common.{◌<◌, length, arith}
 use Rattle.store_core.specs.Running.{view_of}
-use Rattle.store_core.proofs.Entered.{disk_same_then, entered_then}
+use Rattle.store_core.proofs.GivenBack.{halted_here}
 use Rattle.store_core.proofs.refusing.halt_here.Goals as goal
 
 pub returns-clause-case : goal.returns-clause-case
 returns-clause-case g c =
-    let d = g.D.PageDisk in
-    let old = view_of c.args.running.now in
-    let waits = c.requires.waits in
-    let left = ap (λ (r : Row). r.left) waits.row in
     let low : c.args.channel < length c.args.running.now.rows.items =
     omega (arith, c.requires.channel, c.requires.order.sixteen) in
-    let is = c.log_here.ensures.logged waits.command waits.rest left in (
-      record {
-        channel = c.args.channel;
-        command = waits.command;
-        rest = waits.rest;
-        stage = Idle;
-        claim = None;
-        row = waits.row;
-        may = tt;
-        at = c.in-Some.at;
-        stands = c.in-Some.is;
-        next = entered_then Idle d old (view_of c.log_here.new.running) c.args.channel waits.command waits.rest
-            (Stopped c.in-Some.at) low is;
-      },
-      disk_same_then Idle d old (view_of c.log_here.new.running) c.args.channel waits.command waits.rest
-          (Stopped c.in-Some.at) low is,
-    )
+    halted_here g.D.PageDisk (view_of c.args.running.now) c.args.channel low c.requires.waits c.in-Some.at
+    c.in-Some.is (view_of c.give_up.new.running) c.give_up.ensures.logged

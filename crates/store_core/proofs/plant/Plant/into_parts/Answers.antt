@@ -2,11 +2,13 @@ use Rattle.std.proofs.Common.{◌↔◌, true, ◌<◌, length, [], ◌≡◌, �
 use Rattle.std.proofs.Common.{◌∙◌}
 use Rattle.std.specs.FinMap as map
 use Rattle.bit_array.specs.Bits.{is_in}
+use Rattle.std.proofs.Math.ListN.{get_or-eq_default}
 use Rattle.store_model.specs.Places.{held_by, Unclaimed, UsedClusters, UsedPages, claimed_by}
-use Rattle.store_model.proofs.Claims.{unclaimed_used}
+use Rattle.store_model.specs.Rows.{Ended, Row}
 use Rattle.store_core.specs.Running.{view_of}
-use Rattle.store_core.specs.StoreView.{StoreView, WithOpening, rows_of}
-use Rattle.store_core.specs.LoadedWhole.{AreMasks}
+use Rattle.store_core.specs.StoreView.{StoreView, WithOpening, rows_of, state_of}
+use Rattle.store_core.specs.LoadedWhole.{AreMasks, without_first}
+use Rattle.store_core.proofs.ClaimsCleared.{all_given_back}
 use Rattle.store_core.proofs.Posting.{job_over}
 use Rattle.store_core.proofs.plant.Plant.into_parts.Goals as goal
 
@@ -19,9 +21,6 @@ returns-clause-masks g c =
     let is = c.into_parts.ensures in
     let no_job : (p.job ≡ None) ⊎ IsSome p.stopped = subst (λ (b : WithOpening g.row.D.Denot). (b.at.job ≡ None)
     ⊎ IsSome b.at.stopped) (sym c.self.view_is) c.requires.no_job in
-    let unclaimed : (channel : ℕ) → (rows_of p.rows channel).claim ≡ None =
-    subst (λ (b : WithOpening g.row.D.Denot). (channel : ℕ) → (rows_of b.at.rows channel).claim ≡ None)
-    (sym c.self.view_is) c.requires.unclaimed in
     subst (λ (b : WithOpening g.row.D.Denot). b.at.stopped ≡ None
     → AreMasks b.at.super (map.get b.at.metas) (map.get b.at.chains) masks) c.self.view_is
     (λ runs.
@@ -29,9 +28,11 @@ returns-clause-masks g c =
     let heads = c.self.invariant.1.heads in
     let used : UsedPages p.super.md_len p.pages (map.get p.chains) [] =
     subst (UsedPages p.super.md_len p.pages (map.get p.chains)) (ap held_by (job_over p no_job runs)) well.pages in
-    let mapped : UsedClusters p.super p.clusters (map.get p.metas) Unclaimed =
-    unclaimed_used (rows_of p.rows) p.job unclaimed (ap claimed_by (job_over p no_job runs)) p.super p.clusters
-    (map.get p.metas) well.clusters in
+    let clear = without_first p.clusters (rows_of p.rows) (length p.rows) in
+    let mapped : UsedClusters p.super clear (map.get p.metas) Unclaimed =
+    all_given_back (state_of d p) _ well (ap claimed_by (job_over p no_job runs)) (length p.rows)
+    (λ c past. ap (λ (r : Row). r.claim)
+    (get_or-eq_default p.rows (record { left = []; stage = Ended; claim = None }) past)) in
     record {
       pages = subst (λ (bits : List Bool). UsedPages p.super.md_len bits (map.get p.chains) []) (sym is.pages) used;
       clusters =

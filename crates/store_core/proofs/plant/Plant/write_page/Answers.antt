@@ -1,14 +1,16 @@
 use Rattle.std.proofs.Common.{◌≡◌, ◌∙◌, ap, subst, sym}
-use Rattle.store_core.specs.ChannelTurns.{FindsNoCluster, IsFrozenFor, IsOfWrite}
+use Rattle.store_model.specs.Cases as kind
+use Rattle.store_core.specs.ChannelTurns.{IsFrozenFor}
 use Rattle.store_core.specs.Running.{view_of, with_opening}
 use Rattle.store_core.specs.StoreView.{WithOpening, rows_of, state_of}
 use Rattle.store_core.specs.Stages.{is_stage}
 use Rattle.store_core.specs.Steps.{Asks}
+use Rattle.store_core.specs.TurnMade.{TurnMade}
 use Rattle.store_core.specs.declared.page_writing.WriteTurn.TheVariants as write
 use Rattle.store_core.specs.declared.rows.RowStage.TheVariants.{Write}
 use Rattle.store_core.proofs.FirstCommand.{low_write, waits_write}
-use Rattle.store_core.proofs.JobStays.{over_write}
-use Rattle.store_core.proofs.Posting.{by_write, turned_or_not}
+use Rattle.store_core.proofs.JobStays.{by_write, IsOfChannel, over_channel}
+use Rattle.store_core.proofs.Posting.{turned_or_not}
 use Rattle.store_core.proofs.plant.Plant.write_page.Goals as goal
 
 pub write_or_halt-requires-clause-channel : goal.write_or_halt-requires-clause-channel
@@ -28,10 +30,10 @@ pub invariant_of-self : goal.invariant_of-self
 invariant_of-self g c =
     let p = with_opening c.self.inside.running c.self.inside.opening.value c.self.inside.right.value.name in
     let q = view_of c.write_or_halt.new.running in (
-      turned_or_not g.D.PageDisk p q IsOfWrite c.self.invariant.0
+      turned_or_not g.D.PageDisk p q IsOfChannel c.self.invariant.0
           (λ k made. c.goes_on.ensures p q k c.self.invariant.0 made)
           (by_write g.D.PageDisk p.at q c.write_or_halt.result c.write_or_halt.ensures.kept
-          c.write_or_halt.ensures.logged),
+          c.write_or_halt.ensures.empty c.write_or_halt.ensures.logged),
       c.write_or_halt.ensures.order,
     )
 
@@ -41,13 +43,14 @@ returns-clause-frozen g c = subst (λ (b : WithOpening g.row.D.Denot). c.write_o
 
 pub returns-clause-empty : goal.returns-clause-empty
 returns-clause-empty g c = subst (λ (b : WithOpening g.row.D.Denot). c.write_or_halt.result ≡ write.Empty
-    → Asks b.at c.args.channel (FindsNoCluster (state_of g.D.PageDisk b.at))) c.self.view_is
+    → TurnMade g.D.PageDisk b.at (view_of c.write_or_halt.new.running) kind.finds_empty) c.self.view_is
     c.write_or_halt.ensures.empty
 
 pub returns-clause-job : goal.returns-clause-job
 returns-clause-job g c =
     let p = view_of c.self.inside.running in
     let q = view_of c.write_or_halt.new.running in
-    over_write g.D.PageDisk p q
-    (by_write g.D.PageDisk p q c.write_or_halt.result c.write_or_halt.ensures.kept c.write_or_halt.ensures.logged)
+    over_channel g.D.PageDisk p q
+    (by_write g.D.PageDisk p q c.write_or_halt.result c.write_or_halt.ensures.kept c.write_or_halt.ensures.empty
+    c.write_or_halt.ensures.logged)
     ∙ ap (λ (b : WithOpening g.row.D.Denot). b.at.job) c.self.view_is

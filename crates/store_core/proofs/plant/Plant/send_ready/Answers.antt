@@ -1,0 +1,42 @@
+use Rattle.std.proofs.Common.{◌≡◌, ◌∙◌, ap, subst, sym}
+use Rattle.store_core.specs.Running.{view_of, with_opening}
+use Rattle.store_core.specs.StoreView.{WithOpening, rows_of}
+use Rattle.store_core.specs.Stages.{is_stage}
+use Rattle.store_core.specs.declared.rows.RowStage.TheVariants.{Ready}
+use Rattle.store_core.proofs.FirstCommand.{holds_ready, low_ready}
+use Rattle.store_core.proofs.JobStays.{by_send, IsOfChannel, over_channel}
+use Rattle.store_core.proofs.Posting.{turned_or_not}
+use Rattle.store_core.proofs.plant.Plant.send_ready.Goals as goal
+
+pub send_or_halt-requires-clause-channel : goal.send_or_halt-requires-clause-channel
+send_or_halt-requires-clause-channel g c =
+    let p = with_opening c.self.inside.running c.self.inside.opening.value c.self.inside.right.value.name in
+    low_ready g.D.PageDisk p c.self.invariant.0 c.args.channel c.self.invariant.1.sixteen
+    (subst (λ (b : WithOpening g.row.D.Denot). is_stage (rows_of b.at.rows c.args.channel) c.args.channel ≡ Ready)
+    (sym c.self.view_is) c.requires.stage)
+
+pub send_or_halt-requires-clause-holds : goal.send_or_halt-requires-clause-holds
+send_or_halt-requires-clause-holds g c =
+    let p = with_opening c.self.inside.running c.self.inside.opening.value c.self.inside.right.value.name in
+    holds_ready g.D.PageDisk p c.self.invariant.0 c.args.channel
+    (subst (λ (b : WithOpening g.row.D.Denot). is_stage (rows_of b.at.rows c.args.channel) c.args.channel ≡ Ready)
+    (sym c.self.view_is) c.requires.stage)
+
+pub invariant_of-self : goal.invariant_of-self
+invariant_of-self g c =
+    let p = with_opening c.self.inside.running c.self.inside.opening.value c.self.inside.right.value.name in
+    let q = view_of c.send_or_halt.new.running in
+    let e = c.send_or_halt.ensures in (
+      turned_or_not g.D.PageDisk p q IsOfChannel c.self.invariant.0
+          (λ k made. c.goes_on.ensures p q k c.self.invariant.0 made)
+          (by_send g.D.PageDisk p.at q c.send_or_halt.result e.sent e.logged),
+      e.order,
+    )
+
+pub returns-clause-job : goal.returns-clause-job
+returns-clause-job g c =
+    let p = view_of c.self.inside.running in
+    let q = view_of c.send_or_halt.new.running in
+    let e = c.send_or_halt.ensures in
+    over_channel g.D.PageDisk p q (by_send g.D.PageDisk p q c.send_or_halt.result e.sent e.logged)
+    ∙ ap (λ (b : WithOpening g.row.D.Denot). b.at.job) c.self.view_is

@@ -1,0 +1,134 @@
+-- The turns of a write that has found its slot empty: which cases they are, and what they start from.
+use Rattle.std.specs.Prelude.{None, Some, ◌≡◌, ℕ, ◌/◌, ◌<◌, ◌≤◌, List, ◌∷◌, Option, slice_set}
+use Rattle.std.specs.FinMap as map
+use Rattle.page_disk.specs.declared.disk.PageDisk.{Ghosts}
+use Rattle.super_block.specs.Numbers.{cluster_pages_of}
+use Rattle.volume_model.specs.declared.command.Command.{Command}
+use Rattle.volume_model.specs.declared.command.Command.TheVariants as c
+use Rattle.volume_model.specs.declared.command.PageWord.{PageWord}
+use Rattle.volume_model.specs.declared.command.VolumeRef.{VolumeRef}
+use Rattle.store_model.specs.Cases.{Kind}
+use Rattle.store_model.specs.Cases as kind
+use Rattle.store_model.specs.Claiming.{IsWriting, MeansSlot, refused_by}
+use Rattle.store_model.specs.Places.{without_claim}
+use Rattle.store_model.specs.Rows.{Answered, Claiming, Copying, Decided, Decision, Idle, Lost, OpenClaim, Posted, Ready}
+use Rattle.store_model.specs.Rows.{Row, Stage, Won}
+use Rattle.store_model.specs.StoreState.{next_serial}
+use Rattle.store_core.specs.declared.claiming.ClaimTurn.{ClaimTurn}
+use Rattle.store_core.specs.declared.claiming.ClaimTurn.TheVariants as claim
+use Rattle.store_core.specs.declared.settling.SettleTurn.{SettleTurn}
+use Rattle.store_core.specs.declared.settling.SettleTurn.TheVariants as settle
+use Rattle.store_core.specs.declared.sending.SendTurn.{SendTurn}
+use Rattle.store_core.specs.declared.sending.SendTurn.TheVariants as send
+use Rattle.store_core.specs.ChannelTurns.{WaitsToWrite}
+use Rattle.store_core.specs.Steps.{gone_on}
+use Rattle.store_core.specs.StoreView.{rows_of, state_of, StoreView}
+
+-- ---- rows
+
+-- a row goes on at this stage, and gives its claim back, if it has one
+abbrev pub row_given_back : {D : Type 0} → StoreView D → ℕ → Stage → StoreView D
+row_given_back p channel stage = record p {
+  rows = slice_set p.rows channel (record { left = (rows_of p.rows channel).left; stage = stage; claim = None });
+  clusters = without_claim p.clusters (rows_of p.rows channel).claim;
+}
+
+-- a row is posted under the next number
+abbrev pub row_posted : {D : Type 0} → StoreView D → ℕ → StoreView D
+row_posted p channel = record p {
+  rows = slice_set p.rows channel (record (rows_of p.rows channel) { stage = Posted p.serial });
+  serial = next_serial p.serial;
+}
+
+-- the stages at which a channel logs its first command itself
+abbrev pub IsOwnStage : Stage → Type 0
+IsOwnStage Idle = Unit {0}
+IsOwnStage Claiming = Unit {0}
+IsOwnStage (Copying left) = Unit {0}
+IsOwnStage Ready = Unit {0}
+IsOwnStage _ = ⊥
+
+-- a channel whose first command it logs itself, with the claim that its row may hold
+pub record WaitsHere {D : Type 0} (p : StoreView D) (channel : ℕ) : Type 0 where
+  pub command : Command
+  pub rest : List Command
+  pub stage : Stage
+  pub claim : Option OpenClaim
+  pub row : rows_of p.rows channel ≡ record { left = command ∷ rest; stage = stage; claim = claim }
+  pub own : IsOwnStage stage
+
+-- ---- a claim
+
+-- by then the write is refused, or no cluster is clear; or the store had stopped
+abbrev pub IsOfClaim : Kind → Type 0
+IsOfClaim kind.refuses_claim = Unit {0}
+IsOfClaim kind.halts = Unit {0}
+IsOfClaim _ = ⊥
+
+-- a row once it was to claim a cluster of so many pages, with the claim that it has now
+abbrev pub row_claimed : ClaimTurn → ℕ → Option OpenClaim → Row → Row
+row_claimed claim.Frozen pages held row = row
+row_claimed claim.Filled pages held row = record row { stage = Idle }
+row_claimed claim.Logged pages held row = gone_on row
+row_claimed claim.Claimed pages held row = record row { stage = Copying pages; claim = held }
+
+-- a channel's write that has found its slot empty, as one of the state
+abbrev pub writing : {D : Type 0} (d : Ghosts D) (p : StoreView D) (channel : ℕ) (stage : Stage)
+    → WaitsToWrite p channel stage → IsWriting (state_of d p) stage None
+writing d p channel stage w = record {
+  channel = channel;
+  volume = w.volume;
+  page = w.page;
+  word = w.word;
+  rest = w.rest;
+  row = w.row;
+}
+
+-- A write of this channel's, which nothing refuses, means an empty slot of the blob at a head, of this generation.
+pub record ClaimsNow {D : Type 0} (d : Ghosts D) (p : StoreView D) (channel head slot : ℕ) : Type 0 where
+  pub waits : WaitsToWrite p channel Claiming
+  pub runs : p.stopped ≡ None
+  pub asked : refused_by (state_of d p) (writing d p channel Claiming waits) ≡ None
+  pub means : MeansSlot (state_of d p) (writing d p channel Claiming waits) None
+  pub head_is : means.head ≡ head
+  pub slot_is : waits.page / cluster_pages_of p.super ≡ slot
+  pub generation : ℕ
+  pub drawn : map.get p.guards.generations head ≡ Some generation
+
+-- ---- a copy
+
+-- A channel whose first command is a write of a page at this stage, with a claim.
+pub record HoldsClaim {D : Type 0} (p : StoreView D) (channel : ℕ) (stage : Stage) : Type 0 where
+  pub volume : VolumeRef
+  pub page : ℕ
+  pub word : PageWord
+  pub rest : List Command
+  pub claim : OpenClaim
+  pub row : rows_of p.rows channel
+      ≡ record { left = c.Write volume page word ∷ rest; stage = stage; claim = Some claim }
+
+-- ---- an insert that is posted
+
+-- the flush of the copies failed; or the store had stopped
+abbrev pub IsOfSend : Kind → Type 0
+IsOfSend kind.copy_fails = Unit {0}
+IsOfSend kind.halts = Unit {0}
+IsOfSend _ = ⊥
+
+-- a row once its insert was to be posted
+abbrev pub row_sent : SendTurn → Row → Row
+row_sent (send.Post msg) row = record row { stage = Posted msg.serial }
+row_sent send.Logged row = gone_on row
+
+-- ---- what a channel is told
+
+-- what is decided of a row at this stage
+abbrev pub decided_in : Stage → Option Decision
+decided_in (Decided outcome) = Some outcome
+decided_in _ = None
+
+-- the answer for a decision
+abbrev pub told_as : Decision → SettleTurn
+told_as Answered = settle.Logged
+told_as Won = settle.Won
+told_as Lost = settle.Lost
