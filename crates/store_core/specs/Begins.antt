@@ -32,6 +32,7 @@ use Rattle.store_core.specs.declared.effects.Effects.{Effects}
 use Rattle.store_core.specs.declared.preparing.Laid.{Laid}
 use Rattle.store_core.specs.declared.preparing.Prepared.{Prepared}
 use Rattle.store_core.specs.declared.job.RunningJob.{RunningJob}
+use Rattle.store_core.specs.declared.job.Serves.TheVariants as whom
 use Rattle.store_core.specs.declared.job.Work.TheVariants as work
 
 -- a blob's chain, of its head and the places behind it
@@ -84,7 +85,7 @@ pub record IsPrepared (chains : map.FinMap nat_cmp (List ℕ)) (head : ℕ) (met
 abbrev pub first_job : Prepared → ℕ → ℕ → Meta → Effects → RunningJob
 first_job x channel head meta effects =
     record {
-      channel = channel;
+      serves = whom.Command channel;
       work =
           work.Writing
           (record {

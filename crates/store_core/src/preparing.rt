@@ -13,7 +13,7 @@ ghost use Rattle.store_core.specs.Begins.{LacksPages, needed};
 
 use crate::clearing::clear_places;
 use crate::effects::Effects;
-use crate::job::{Planned, RunningJob, Work};
+use crate::job::{Planned, RunningJob, Serves, Work};
 use crate::taking::take_places;
 use blob_meta::{Chains, Meta, to_items};
 use descriptors::ItemList;
@@ -57,7 +57,7 @@ impl Prepared {
             pages: self.laid.pages,
         };
         RunningJob {
-            channel,
+            serves: Serves::Command(channel),
             work: Work::Writing {
                 planned,
                 written: 0,
