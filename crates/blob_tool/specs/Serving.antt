@@ -9,8 +9,15 @@ use Rattle.store_core.specs.Answering.{IsAnswerable}
 use Rattle.store_core.specs.Begins.{IsJobOf, ReplacesOne}
 use Rattle.store_core.specs.StoreView.{StoreView, state_of}
 use Rattle.store_core.specs.Steps.{Asks}
+use Rattle.store_core.specs.declared.requests.Request.{Request}
+use Rattle.store_core.specs.declared.requests.Request.TheVariants as request
 use Rattle.blob_tool.specs.declared.serving.Task.{Task}
 use Rattle.blob_tool.specs.declared.serving.Task.TheVariants as task
+
+-- what a message asks for is this command
+abbrev pub IsCommandOf : Request → Command → Type 0
+IsCommandOf request.Insert command = ⊥
+IsCommandOf (request.Meta asked) command = command ≡ asked.now
 
 -- What is planned for a command of a store that runs: nothing, if it is answered in memory; else its job, or a refusal
 -- for its first cause or for want of memory.

@@ -1,12 +1,13 @@
 //! One posted command, from its message to its entry.
 
-ghost use Rattle.std.specs.Prelude.{◌≡◌, ℕ, None};
+ghost use Rattle.std.specs.Prelude.{◌≡◌, ◌≢◌, ℕ, None};
 ghost use Rattle.blob_tool.specs.Driving.{IsServedByMetadata};
 ghost use Rattle.store_model.specs.Rows.{InJob};
-ghost use Rattle.store_core.specs.Requests.{asked_by, IsPostedBy};
+ghost use Rattle.store_core.specs.Requests.{IsPostedBy};
 ghost use Rattle.store_core.specs.StoreView.{rows_of};
 ghost use Rattle.store_core.specs.Steps.{decided, Asks, OnlyRow};
-ghost use Rattle.blob_tool.specs.Serving.{IsPlanOf, IsTaskOf};
+ghost use Rattle.store_core.specs.declared.requests.Request.TheVariants.{Insert};
+ghost use Rattle.blob_tool.specs.Serving.{IsCommandOf, IsPlanOf, IsTaskOf};
 
 use blob_meta::Job;
 use lvol_store::{plan_create, plan_put, plan_sync};
@@ -26,12 +27,14 @@ enum Task {
     Begin(Job),
 }
 
-/// The command that is asked for.
+/// The command that is asked for, where no insert is.
 fn command_of<'a>(request: Request<'a>) -> &'a Command
-    ensures { result.now ≡ asked_by request.entry }
+    requires { request ≢ Insert }
+    ensures { IsCommandOf request.entry result.now }
 {
     match request {
         Request::Meta(command) => command,
+        Request::Insert => unreachable!(),
     }
 }
 
@@ -86,6 +89,7 @@ fn task_of<D: PageDisk>(alloc: Global, plant: &Plant<D>, right: &MdRight, msg: M
 fn finish<D: PageDisk>(plant: &mut Plant<D>, right: &mut MdRight, channel: u8)
     requires right { right.old ≡ plant.old.right }
     requires in_job { (rows_of plant.old.at.rows channel).stage ≡ InJob }
+    requires served { Asks plant.old.at channel IsServedByMetadata }
     ensures row { OnlyRow plant.old.at.rows plant.new.at.rows channel (decided (rows_of plant.old.at.rows channel)) }
     ensures no_job { plant.new.at.job ≡ None }
     ensures opening { plant.new.opening ≡ plant.old.opening }

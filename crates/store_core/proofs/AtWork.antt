@@ -7,15 +7,17 @@ use Rattle.bit_array.specs.Bits.{is_in}
 use Rattle.md_chain.specs.Chain.{is_among}
 use Rattle.md_chain.specs.declared.plan.PlannedPage.{PlannedPage}
 use Rattle.store_model.specs.StoreState.{JobState, StoreState, planned_at, waiting, ForCommand}
+use Rattle.store_core.specs.declared.job.Serves.{Serves}
+use Rattle.store_core.specs.declared.job.Serves.TheVariants as whom
 use Rattle.store_model.specs.Places.{held_by, AreDistinct}
-use Rattle.store_model.specs.Jobs.{places_of, IsServed, JobStands, CanReplace, IsStep, Lays, ReadsZeros}
+use Rattle.store_model.specs.Jobs.{gained_by, places_of, IsServed, JobStands, CanReplace, IsStep, Lays, ReadsZeros}
 use Rattle.store_model.specs.RunInvariant.{RunsWell}
 use Rattle.store_model.proofs.Sets.{among_first, among_later}
 use Rattle.store_model.proofs.Used.{within}
 use Rattle.store_core.specs.StoreInvariant.{IsRunning}
 use Rattle.store_core.proofs.Cleared.{among_get}
 use Rattle.store_core.specs.declared.job.Planned.{Planned}
-use Rattle.store_core.specs.Jobs.{erasing_job, writing_job, commit_of, replacing_of}
+use Rattle.store_core.specs.Jobs.{commit_for, commit_of, erasing_for, erasing_job, replacing_of, writing_for, writing_job}
 use Rattle.store_model.specs.Phases.{page_in, held_in, Erases, Frees, Phase, Replacing, erasing, has_commit, taken_in}
 use Rattle.store_model.specs.Phases.{Replaces, taken_by}
 use Rattle.store_model.proofs.Phases.{held_clearing, planned_behind, commit_behind, held_behind, lays_reached}
@@ -90,10 +92,10 @@ module _ (p : StoreState) (r : IsRunning p) (runs : p.stopped ≡ None) where
       let low : x < length p.pages = within p.pages x (well.pages.held_too x among) in
       omega (arith, low, well.pages.count)
 
-  module _ (channel : ℕ) (planned : Planned) (old : List ℕ) (written : ℕ)
-      (is : p.job ≡ Some (writing_job channel planned old written)) where
+  module _ (serves : Serves) (planned : Planned) (old : List ℕ) (written : ℕ)
+      (is : p.job ≡ Some (writing_for serves planned old written)) where
     abbrev j : JobState
-    j = writing_job channel planned old written
+    j = writing_for serves planned old written
 
     abbrev fresh : List ℕ
     fresh = drop 1 planned.chain
@@ -103,29 +105,18 @@ module _ (p : StoreState) (r : IsRunning p) (runs : p.stopped ≡ None) where
 
     -- what comes behind the fresh pages
     abbrev pub behind : List Phase
-    behind = Replaces replacing (Some (commit_of planned)) ∷ erasing old old []
+    behind = Replaces replacing (commit_for serves planned) ∷ erasing old old []
 
     pub stands : JobStands p j
     stands = well.job j is
 
-    lays : Lays p.super p.base p.chains planned.effects.claimed fresh behind
-    lays = subst (λ w. Lays p.super p.base p.chains planned.effects.claimed w behind) (take_drop written fresh)
-        (lays_reached p.super p.base p.chains planned.effects.claimed (take written fresh) (drop written fresh) behind
+    lays : Lays p.super p.base p.chains (gained_by p.rows j) fresh behind
+    lays = subst (λ w. Lays p.super p.base p.chains (gained_by p.rows j) w behind) (take_drop written fresh)
+        (lays_reached p.super p.base p.chains (gained_by p.rows j) (take written fresh) (drop written fresh) behind
         stands.lays)
 
-    pub can : CanReplace p.super p.base p.chains planned.effects.claimed fresh replacing
+    pub can : CanReplace p.super p.base p.chains (gained_by p.rows j) fresh replacing
     can = lays.0
-
-    pub waits : has_commit j.todo ≡ true
-    waits = commit_behind (drop written fresh) behind
-
-    pub served : IsServed p channel planned.effects.claimed j.todo
-    served = stands.served channel refl waits
-
-    pub step : IsStep (ReadsZeros p.super planned.effects.claimed) p.super p.base replacing p.live served.command
-        (commit_of planned)
-    step = (does_reached (ReadsZeros p.super planned.effects.claimed) p.super p.base p.live served.command
-        (drop written fresh) behind served.does).0
 
     held_fresh : (x : ℕ) → is_among x fresh ≡ true → is_among x (held_by p.job) ≡ true
     held_fresh x among =
@@ -206,15 +197,39 @@ module _ (p : StoreState) (r : IsRunning p) (runs : p.stopped ≡ None) where
         by None none = absurd (let bad = sym (well.chains.none planned.head none) ∙ chain_there not in cc bad)
         by (Some m) some = (m, some)
 
-  -- ---- a job behind its commit
+  -- ---- one of a command
 
-  module _ (channel : ℕ) (old : List ℕ) (erased : ℕ) (is : p.job ≡ Some (erasing_job channel old erased)) where
+  module _ (channel : ℕ) (planned : Planned) (old : List ℕ) (written : ℕ)
+      (is : p.job ≡ Some (writing_job channel planned old written)) where
+    abbrev here : JobState
+    here = writing_job channel planned old written
+
+    abbrev left : List ℕ
+    left = drop written (drop 1 planned.chain)
+
+    abbrev committing : List Phase
+    committing = Replaces (replacing_of planned old) (Some (commit_of planned)) ∷ erasing old old []
+
+    pub waits : has_commit here.todo ≡ true
+    waits = commit_behind left committing
+
+    pub served : IsServed p channel planned.effects.claimed here.todo
+    served = (stands (whom.Command channel) planned old written is).served channel refl waits
+
+    pub step : IsStep (ReadsZeros p.super planned.effects.claimed) p.super p.base (replacing_of planned old) p.live
+        served.command (commit_of planned)
+    step = (does_reached (ReadsZeros p.super planned.effects.claimed) p.super p.base p.live served.command left
+        committing served.does).0
+
+  -- ---- a job behind its replacement
+
+  module _ (serves : Serves) (old : List ℕ) (erased : ℕ) (is : p.job ≡ Some (erasing_for serves old erased)) where
     -- an old page is left
     pub some_erasing : erased < length old
     some_erasing = elim (cases_lt erased (length old)) [
       | inl lt ↦ lt
       | inr ge ↦ absurd
-          (r.facts.unfinished (erasing_job channel old erased) is (ap (λ l. erasing old l []) (drop_all old erased ge)))
+          (r.facts.unfinished (erasing_for serves old erased) is (ap (λ l. erasing old l []) (drop_all old erased ge)))
     ]
       where
         drop_all : (l : List ℕ) (k : ℕ) → length l ≤ k → drop k l ≡ []
@@ -225,7 +240,7 @@ module _ (p : StoreState) (r : IsRunning p) (runs : p.stopped ≡ None) where
 
     -- what is left
     pub one_more : (place : ℕ) → slice_get old erased ≡ Some place → erased + 1 < length old
-        → (erasing_job channel old erased).todo ≡ Erases place ∷ (erasing_job channel old (suc erased)).todo
+        → (erasing_for serves old erased).todo ≡ Erases place ∷ (erasing_for serves old (suc erased)).todo
     one_more place at more =
         let next = get_or old (suc erased) 0 in
         let got_next : slice_get old (suc erased) ≡ Some next = got old (suc erased) 0 (omega (arith, more)) in
@@ -234,17 +249,14 @@ module _ (p : StoreState) (r : IsRunning p) (runs : p.stopped ≡ None) where
         ∙ ap (λ l. Erases place ∷ erasing old l []) (sym (drop_one old (suc erased) next got_next))
 
     pub last_one : (place : ℕ) → slice_get old erased ≡ Some place → erased + 1 ≡ length old
-        → (erasing_job channel old erased).todo ≡ Frees place old ∷ []
+        → (erasing_for serves old erased).todo ≡ Frees place old ∷ []
     last_one place at last =
         let none : drop (suc erased) old ≡ [] = ap (λ n. drop n old) (sym (add-one erased) ∙ last) ∙ drop_end old in
         ap (λ l. erasing old l []) (drop_one old erased place at ∙ ap (λ l. place ∷ l) none)
 
-    pub waits_for_none : waiting (ForCommand channel) (erasing_job channel old erased).todo ≡ None
-    waits_for_none = ap (λ b. if b then Some channel else None) (no_commit old (drop erased old))
-
     held_here : held_by p.job ≡ old
     held_here = ap held_by is ∙ held_clearing old (drop erased old)
-        (λ none. absurd (r.facts.unfinished (erasing_job channel old erased) is (ap (λ l. erasing old l []) none)))
+        (λ none. absurd (r.facts.unfinished (erasing_for serves old erased) is (ap (λ l. erasing old l []) none)))
 
     pub old_low : (x : ℕ) → is_among x old ≡ true → x < p.super.md_len
     old_low x among = held_low x (subst (λ l. is_among x l ≡ true) (sym held_here) among)
@@ -255,5 +267,10 @@ module _ (p : StoreState) (r : IsRunning p) (runs : p.stopped ≡ None) where
 
     pub old_distinct : AreDistinct old
     old_distinct =
-        let held : held_in (erasing_job channel old erased).todo ≡ old = sym (ap held_by is) ∙ held_here in
-        subst AreDistinct held (well.job (erasing_job channel old erased) is).distinct
+        let held : held_in (erasing_for serves old erased).todo ≡ old = sym (ap held_by is) ∙ held_here in
+        subst AreDistinct held (well.job (erasing_for serves old erased) is).distinct
+
+  -- no command waits for it
+  pub waits_for_none : (channel : ℕ) (old : List ℕ) (erased : ℕ)
+      → waiting (ForCommand channel) (erasing_job channel old erased).todo ≡ None
+  waits_for_none channel old erased = ap (λ b. if b then Some channel else None) (no_commit old (drop erased old))

@@ -1,26 +1,36 @@
 -- The end of a job on a stopped store.
-use Rattle.std.proofs.Common.{false, ◌≡◌, ℕ, ◌<◌, List, ◌∷◌, length, Option, Some, None, refl, sym, ◌∙◌, ap, inl}
-use Rattle.std.proofs.Common.{arith, Bool, option_map, true}
+use Rattle.std.proofs.Common.{◌≡◌, ◌⊎◌, ℕ, ◌<◌, Bool, true, false, List, ◌∷◌, length, Option, Some, None, refl, sym, ◌∙◌}
+use Rattle.std.proofs.Common.{ap, arith, inl, inr, option_map, subst}
 use Rattle.std.specs.Option.{option_and_then}
+use Rattle.std.specs.Prelude.{IsSome}
 use Rattle.page_disk.specs.declared.disk.PageDisk.{Ghosts}
 use Rattle.volume_model.specs.declared.command.Command.{Command}
 use Rattle.volume_model.specs.declared.reply.Reply.TheVariants.{Stopped}
-use Rattle.store_model.specs.Rows.{InJob, Row}
-use Rattle.store_model.specs.StoreState.{JobState, logged, ForCommand}
+use Rattle.store_model.specs.Cases as kind
+use Rattle.store_model.specs.Claiming.{LogsOwn}
+use Rattle.store_model.specs.Phases.{has_commit}
+use Rattle.store_model.specs.Rows.{Answered, Decided, InJob, Row}
 use Rattle.store_model.specs.RunInvariant.{IsServedRow}
-use Rattle.store_model.specs.Cases.{BreaksDown}
-use Rattle.store_core.specs.JobTurns.{waits_for_job}
+use Rattle.store_model.specs.StoreState.{ForCommand, ForInsert, JobState, logged, Service, StoreState, waiting}
+use Rattle.store_model.proofs.Shaped.{waits_for_commit, waits_no_more}
+use Rattle.store_core.specs.Jobs.{job_seen, service_of}
+use Rattle.store_core.specs.JobTurns.{waits_for_job, TurnsJob}
+use Rattle.store_core.specs.OwnWrites.{AreOwn, BeginsWithWrite, WaitsToInsert}
+use Rattle.store_core.specs.Steps.{logged_at}
 use Rattle.store_core.specs.StoreInvariant.{IsRunning}
 use Rattle.store_core.specs.StoreView.{StoreView, device_of, rows_of, state_of}
-use Rattle.store_core.specs.Steps.{logged_at}
-use Rattle.store_core.proofs.Entered.{disk_same, entered}
-use Rattle.store_core.proofs.Posting.{low_of}
+use Rattle.store_core.specs.Telling.{claim_cleared, IsGivenUp}
 use Rattle.store_core.specs.declared.job.RunningJob.{RunningJob}
-use Rattle.store_model.specs.Phases.{has_commit}
-use Rattle.store_model.proofs.Shaped.{waits_for_commit, waits_no_more}
-use Rattle.store_core.specs.Jobs.{job_seen}
+use Rattle.store_core.specs.declared.job.Serves.{Serves}
+use Rattle.store_core.specs.declared.job.Serves.TheVariants as whom
 use Rattle.store_core.specs.declared.job.Work.{Work}
-use Rattle.store_core.specs.declared.job.Work.TheVariants as work
+use Rattle.store_core.specs.declared.job.Work.TheVariants as works
+use Rattle.store_core.proofs.Entered.{disk_same, entered}
+use Rattle.store_core.proofs.InsertFailed.{command as write_of, given_up_after, logs_own}
+use Rattle.store_core.proofs.JobTurned.{entered_plainly}
+use Rattle.store_core.proofs.Posting.{low_of}
+
+-- ---- what waits for a job
 
 -- a job that serves a command, which waits for its commit in this channel
 pub record WaitsIn (o : Option JobState) (channel : ℕ) : Type 0 where
@@ -29,9 +39,11 @@ pub record WaitsIn (o : Option JobState) (channel : ℕ) : Type 0 where
   pub serves : job.serves ≡ ForCommand channel
   pub commit : has_commit job.todo ≡ true
 
--- the jobs that run serve commands
-abbrev ForCommands : Option JobState → Type 0
-ForCommands o = (job : JobState) → o ≡ Some job → (channel : ℕ) × (job.serves ≡ ForCommand channel)
+-- a job that inserts for this channel
+pub record InsertsIn (o : Option JobState) (channel : ℕ) : Type 0 where
+  pub job : JobState
+  pub is : o ≡ Some job
+  pub serves : job.serves ≡ ForInsert channel
 
 waits_by : (job : JobState) (here channel : ℕ) (commit : Bool) → job.serves ≡ ForCommand here
     → has_commit job.todo ≡ commit → waits_for_job job ≡ Some channel → WaitsIn (Some job) channel
@@ -42,74 +54,153 @@ waits_by job here channel true serves commit waits =
 waits_by job here channel false serves commit waits =
     absurd (let bad = sym (waits_no_more job here serves commit) ∙ waits in cc bad)
 
-pub waits_in : (o : Option JobState) (channel : ℕ) → ForCommands o → option_and_then waits_for_job o ≡ Some channel
-    → WaitsIn o channel
-waits_in None channel all waits = absurd (cc waits)
-waits_in (Some job) channel all waits =
-    let x = all job refl in waits_by job x.0 channel (has_commit job.todo) x.1 refl waits
+inserts_by : (job : JobState) (here channel : ℕ) → job.serves ≡ ForInsert here → waits_for_job job ≡ Some channel
+    → InsertsIn (Some job) channel
+inserts_by job here channel serves waits =
+    let both : Some here ≡ Some channel = sym (ap (λ (s : Service). waiting s job.todo) serves) ∙ waits in
+    let e : here ≡ channel = cc both in
+    record { job = job; is = refl; serves = serves ∙ ap (λ n. ForInsert n) e }
 
--- what is seen of a running job serves a command
-pub for_commands : (o : Option RunningJob) → ForCommands (option_map job_seen o)
-for_commands None job is = absurd (cc is)
-for_commands (Some j) job is =
-    let same : job_seen j ≡ job = cc is in (j.channel, ap (λ (k : JobState). k.serves) (sym same) ∙ by j.work refl)
+seen_serves : (j : RunningJob) → (job_seen j).serves ≡ service_of j.serves
+seen_serves j = by j.work refl
   where
-    by : (w : Work) → j.work ≡ w → (job_seen j).serves ≡ ForCommand j.channel
-    by (work.Zeroing planned zeroed) e = rw e refl
-    by (work.Writing planned written) e = rw e refl
-    by (work.Erasing erased) e = rw e refl
+    by : (w : Work) → j.work ≡ w → (job_seen j).serves ≡ service_of j.serves
+    by (works.Zeroing planned zeroed) e = rw e refl
+    by (works.Writing planned written) e = rw e refl
+    by (works.Erasing erased) e = rw e refl
 
--- a stopped store with a job whose command waits in a channel
-module _ {D : Type 0} (d : Ghosts D) (p : StoreView D) (running : IsRunning (state_of d p))
-    (sixteen : length p.rows ≡ 16) (channel : ℕ)
-    (all : ForCommands p.job) (waits : option_and_then waits_for_job p.job ≡ Some channel) where
-  abbrev w : WaitsIn p.job channel
-  w = waits_in p.job channel all waits
+-- what is seen of a running job serves a command or an insert
+pub waits_either : (o : Option RunningJob) (channel : ℕ)
+    → option_and_then waits_for_job (option_map job_seen o) ≡ Some channel
+    → WaitsIn (option_map job_seen o) channel ⊎ InsertsIn (option_map job_seen o) channel
+waits_either None channel waits = absurd (cc waits)
+waits_either (Some j) channel waits = by j.serves refl
+  where
+    by : (s : Serves) → j.serves ≡ s → WaitsIn (Some (job_seen j)) channel ⊎ InsertsIn (Some (job_seen j)) channel
+    by (whom.Command here) e = inl (waits_by (job_seen j) here channel (has_commit (job_seen j).todo)
+        (seen_serves j ∙ ap service_of e) refl waits)
+    by (whom.Insert here) e = inr (inserts_by (job_seen j) here channel (seen_serves j ∙ ap service_of e) waits)
 
-  served : IsServedRow (rows_of p.rows channel)
-  served = running.facts.shaped.served w.job channel w.is w.serves w.commit
+-- where nothing waits, the job ends
+pub none_waiting : {D : Type 0} (d : Ghosts D) (p : StoreView D) (o : Option RunningJob) → p.job ≡ option_map job_seen o
+    → IsSome o → option_and_then waits_for_job (option_map job_seen o) ≡ None → (at : ℕ) → p.stopped ≡ Some at
+    → TurnsJob d p (record p { job = None })
+none_waiting d p None seen some waits at stands = absurd (cc some)
+none_waiting d p (Some j) seen some waits at stands = record {
+  kind = kind.breaks_down;
+  of_job = tt;
+  made = (
+    record {
+      job = job_seen j;
+      is = seen;
+      at = at;
+      stands = stands;
+      ends = inr (record { waits = waits; next = refl });
+    },
+    refl,
+  );
+}
 
-  pub low : channel < 16
-  low = low_of p.rows channel InJob sixteen (ap (λ (r : Row). r.stage) served.is) (λ e. cc e)
+-- ---- it is logged as stopped
 
-  pub some_left : 0 < length (rows_of p.rows channel).left
-  some_left = let n = ap (λ (r : Row). length r.left) served.is in omega (arith, n)
+-- a row that waits in the job
+record Waiting (row : Row) : Type 0 where
+  command : Command
+  rest : List Command
+  left : row.left ≡ command ∷ rest
+  stage : row.stage ≡ InJob
 
-  -- its command is logged as stopped, and no job runs any more
-  pub broken_down : (at : ℕ) → p.stopped ≡ Some at → (new : StoreView D)
-      → ((command : Command) (rest : List Command) → (rows_of p.rows channel).left ≡ command ∷ rest
-      → new ≡ logged_at (record p { job = None }) channel command rest (Stopped at) (d.clock new.disk))
-      → BreaksDown (state_of d p) (state_of d new) × (new.disk ≡ p.disk)
-  broken_down at stands new entry =
-      let below : channel < length p.rows = let lt = low in omega (arith, lt, sixteen) in
-      let is = entry served.command served.rest (ap (λ (r : Row). r.left) served.is) in
-      let next : state_of d new ≡ logged (record (state_of d p) { job = None }) channel served.command served.rest
-      (Stopped at) (device_of d p.disk) =
-      entered d (record p { job = None }) new channel served.command served.rest (Stopped at) below is in (
+module _ {D : Type 0} (d : Ghosts D) (p : StoreView D) (running : IsRunning (state_of d p)) (own : AreOwn (state_of d p))
+    (sixteen : length p.rows ≡ 16) (channel : ℕ) where
+  served : WaitsIn p.job channel → IsServedRow (rows_of p.rows channel)
+  served w = running.facts.shaped.served w.job channel w.is w.serves w.commit
+
+  to_insert : InsertsIn p.job channel → WaitsToInsert (rows_of p.rows channel)
+  to_insert w = own.inserts w.job channel w.is w.serves
+
+  waiting_row : WaitsIn p.job channel ⊎ InsertsIn p.job channel → Waiting (rows_of p.rows channel)
+  waiting_row (inl w) = record {
+    command = (served w).command;
+    rest = (served w).rest;
+    left = ap (λ (r : Row). r.left) (served w).is;
+    stage = ap (λ (r : Row). r.stage) (served w).is;
+  }
+  waiting_row (inr w) = record {
+    command = write_of d p channel (to_insert w).writes;
+    rest = (to_insert w).writes.rest;
+    left = (to_insert w).writes.is;
+    stage = (to_insert w).stage;
+  }
+
+  pub low : WaitsIn p.job channel ⊎ InsertsIn p.job channel → channel < 16
+  low w = low_of p.rows channel InJob sixteen (waiting_row w).stage (λ e. cc e)
+
+  below : WaitsIn p.job channel ⊎ InsertsIn p.job channel → channel < length p.rows
+  below w = let lt = low w in omega (arith, lt, sixteen)
+
+  pub some_left : WaitsIn p.job channel ⊎ InsertsIn p.job channel → 0 < length (rows_of p.rows channel).left
+  some_left w = let n = ap (λ (l : List Command). length l) (waiting_row w).left in omega (arith, n)
+
+  abbrev ended : StoreView D
+  ended = record p { job = None }
+
+  module _ (at : ℕ) (stands : p.stopped ≡ Some at) (new : StoreView D)
+      (entry : IsGivenUp ended new channel (Stopped at) (d.clock new.disk)) where
+    -- its command is logged as stopped, and no job runs any more; or the write for which it inserts is
+    pub broken_down : WaitsIn p.job channel ⊎ InsertsIn p.job channel → TurnsJob d p new
+    broken_down (inl w) =
+        let row = (served w).is in
+        let is = entered_plainly ended new channel (Stopped at) (d.clock new.disk) (ap (λ (r : Row). r.claim) row) entry
+        (served w).command (served w).rest (ap (λ (r : Row). r.left) row) in
+        let next : state_of d new ≡ logged (record (state_of d p) { job = None }) channel (served w).command
+        (served w).rest (Stopped at) (device_of d p.disk) =
+        entered d ended new channel (served w).command (served w).rest (Stopped at) (below (inl w)) is in
         record {
-          job = w.job;
-          is = w.is;
-          at = at;
-          stands = stands;
-          ends = inl (record {
-            served = record {
-              channel = channel;
-              serves = w.serves;
-              command = served.command;
-              rest = served.rest;
-              row = served.is;
-            };
-            waits = w.commit;
-            next = next;
-          });
-        },
-        disk_same d (record p { job = None }) new channel served.command served.rest (Stopped at) below is,
-      )
+          kind = kind.breaks_down;
+          of_job = tt;
+          made = (
+            record {
+              job = w.job;
+              is = w.is;
+              at = at;
+              stands = stands;
+              ends = inl (record {
+                served = record {
+                  channel = channel;
+                  serves = w.serves;
+                  command = (served w).command;
+                  rest = (served w).rest;
+                  row = row;
+                };
+                waits = w.commit;
+                next = next;
+              });
+            },
+            disk_same d ended new channel (served w).command (served w).rest (Stopped at) (below (inl w)) is,
+          );
+        }
+    broken_down (inr w) =
+        let x = (to_insert w).writes in
+        let command = write_of d p channel x in
+        let is = given_up_after d ended ended new channel (Stopped at) refl entry command x.rest x.is in
+        record {
+          kind = kind.insert_breaks_down;
+          of_job = tt;
+          made = (
+            record {
+              job = w.job;
+              is = w.is;
+              inserting = record { row = channel; serves = w.serves; waits = (to_insert w).stage };
+              at = at;
+              stands = stands;
+              logs = subst
+                  (LogsOwn (state_of d ended) channel (Decided Answered) (Stopped at) (device_of d p.disk))
+                  (sym (ap (state_of d) is)) (logs_own d ended channel x (Stopped at));
+            },
+            ap (λ (a : StoreView D). a.disk) is,
+          );
+        }
 
-  pub stopped_still : (at : ℕ) → p.stopped ≡ Some at → (new : StoreView D)
-      → ((command : Command) (rest : List Command) → (rows_of p.rows channel).left ≡ command ∷ rest
-      → new ≡ logged_at (record p { job = None }) channel command rest (Stopped at) (d.clock new.disk))
-      → new.stopped ≡ Some at
-  stopped_still at stands new entry =
-      ap (λ (a : StoreView D). a.stopped) (entry served.command served.rest (ap (λ (r : Row). r.left) served.is))
-      ∙ stands
+    pub stopped_still : WaitsIn p.job channel ⊎ InsertsIn p.job channel → new.stopped ≡ Some at
+    stopped_still w = ap (λ (a : StoreView D). a.stopped)
+        (entry (waiting_row w).command (waiting_row w).rest (waiting_row w).left) ∙ stands

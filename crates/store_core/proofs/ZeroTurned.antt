@@ -38,6 +38,7 @@ use Rattle.store_core.specs.StoreView.{StoreView, device_of, rows_of, state_of}
 use Rattle.store_core.specs.declared.job.Planned.{Planned}
 use Rattle.store_core.specs.declared.job.Zeroed.{Zeroed}
 use Rattle.store_core.proofs.Rowing.{state_logged}
+use Rattle.store_core.proofs.JobTurned.{entered, entered_plainly}
 use Rattle.store_core.proofs.ZeroPages.{zeroes_next}
 use Rattle.store_model.specs.Phases.{Replaces, erasing}
 
@@ -134,12 +135,14 @@ module _ {D : Type 0} (d : Ghosts D) (p : StoreView D) (channel : ℕ) (planned 
     fault =
         logged_at (stopped_at (record p { disk = disk })) channel x_served.command x_served.rest r.Fault (d.clock disk)
 
+    entry : (q : StoreView D) → entered d p channel disk q → q ≡ fault
+    entry q is = entered_plainly (stopped_at (record p { disk = disk })) q channel r.Fault (d.clock disk)
+        (ap (λ (x : Row). x.claim) row) is x_served.command x_served.rest row_left
+
     pub failed_zeroing : FailsToReplace (device_of d p.disk) (device_of d disk) → (q : StoreView D)
-        → ((c : Command) (cs : List Command) → (rows_of p.rows channel).left ≡ c ∷ cs
-        → q ≡ logged_at (stopped_at (record p { disk = disk })) channel c cs r.Fault (d.clock disk))
-        → TurnsJob d (with_job p j) q
+        → entered d p channel disk q → TurnsJob d (with_job p j) q
     failed_zeroing fails q is =
-        subst (TurnsJob d (with_job p j)) (sym (is x_served.command x_served.rest row_left)) (record {
+        subst (TurnsJob d (with_job p j)) (sym (entry q is)) (record {
           kind = kind.fails;
           of_job = tt;
           made = (

@@ -1,5 +1,6 @@
 -- What contracts see of the running job.
-use Rattle.std.specs.Prelude.{◌≡◌, ◌⊎◌, ℕ, ◌==◌, ◌<◌, if◌then◌else◌, is_some, Bool, List, [], ◌∷◌, Option, None, Some}
+use Rattle.std.specs.Prelude.{◌≡◌, ◌⊎◌, ℕ, ◌==◌, ◌<◌, if◌then◌else◌, is_some, Bool, false, List, [], ◌∷◌, Option, None}
+use Rattle.std.specs.Prelude.{Some}
 use Rattle.std.specs.Prelude.{drop, take, refl, ◌++◌}
 use Rattle.std.specs.Ordering.{nat_cmp}
 use Rattle.std.specs.FinMap as map
@@ -19,9 +20,12 @@ use Rattle.store_model.specs.Phases.{writing, erasing}
 use Rattle.store_model.specs.StoreState.{JobState, Service, ForCommand, ForInsert, ForRepair}
 use Rattle.store_model.specs.Places.{AreDistinct}
 use Rattle.store_core.specs.Effects.{is_numbered, numbered_by}
+use Rattle.store_core.specs.declared.effects.Effects.{Effects}
 use Rattle.store_core.specs.declared.job.Planned.{Planned}
 use Rattle.store_core.specs.declared.job.Rooms.{Rooms}
 use Rattle.store_core.specs.declared.job.RunningJob.{RunningJob}
+use Rattle.store_core.specs.declared.job.Serves.{Serves}
+use Rattle.store_core.specs.declared.job.Serves.TheVariants as whom
 use Rattle.store_core.specs.declared.job.Work.{Work}
 use Rattle.store_core.specs.declared.job.Work.TheVariants as work
 use Rattle.store_core.specs.declared.job.Zeroed.{Zeroed}
@@ -58,56 +62,103 @@ abbrev pub commit_of : Planned → Committing
 commit_of p =
     record { reply = reply_of p; live = p.effects.live; renews = numbered_by (is_numbered p.effects) p.head }
 
+-- ---- for whom a job is done
+
+abbrev pub service_of : Serves → Service
+service_of (whom.Command channel) = ForCommand channel
+service_of (whom.Insert channel) = ForInsert channel
+
+-- the channel for which it is done
+abbrev pub row_of : Serves → ℕ
+row_of (whom.Command channel) = channel
+row_of (whom.Insert channel) = channel
+
+-- what its replacement commits: nothing for an insert
+abbrev pub commit_for : Serves → Planned → Option Committing
+commit_for (whom.Command channel) p = Some (commit_of p)
+commit_for (whom.Insert channel) p = None
+
+-- ---- the job
+
 -- a job of which so many fresh pages are written
-abbrev pub writing_job : ℕ → Planned → List ℕ → ℕ → JobState
-writing_job channel p old written = record {
-  serves = ForCommand channel;
+abbrev pub writing_for : Serves → Planned → List ℕ → ℕ → JobState
+writing_for serves p old written = record {
+  serves = service_of serves;
   freeze = None;
   claimed = p.effects.claimed;
   written = take written (drop 1 p.chain);
   todo =
-      writing (drop written (drop 1 p.chain)) (Replaces (replacing_of p old) (Some (commit_of p)) ∷ erasing old old []);
+      writing (drop written (drop 1 p.chain)) (Replaces (replacing_of p old) (commit_for serves p) ∷ erasing old old []);
 }
 
+-- one for a command
+abbrev pub writing_job : ℕ → Planned → List ℕ → ℕ → JobState
+writing_job channel p old written = writing_for (whom.Command channel) p old written
+
 -- a job of which so much of its claimed clusters is overwritten with zeros
-abbrev pub zeroing_job : ℕ → Planned → List ℕ → Zeroed → JobState
-zeroing_job channel p old z = record (writing_job channel p old 0) {
-  todo = zeros_from p.effects.claimed z ++ (writing_job channel p old 0).todo;
+abbrev pub zeroing_for : Serves → Planned → List ℕ → Zeroed → JobState
+zeroing_for serves p old z = record (writing_for serves p old 0) {
+  todo = zeros_from p.effects.claimed z ++ (writing_for serves p old 0).todo;
 }
+
+abbrev pub zeroing_job : ℕ → Planned → List ℕ → Zeroed → JobState
+zeroing_job channel p old z = zeroing_for (whom.Command channel) p old z
 
 -- the job behind a page of zeros
 abbrev pub behind_zero : JobState → JobState
 behind_zero j = record j { todo = drop 1 j.todo }
 
--- a job behind its commit, of which so many old pages are overwritten
-abbrev pub erasing_job : ℕ → List ℕ → ℕ → JobState
-erasing_job channel old erased = record {
-  serves = ForCommand channel;
+-- a job behind its replacement, of which so many old pages are overwritten
+abbrev pub erasing_for : Serves → List ℕ → ℕ → JobState
+erasing_for serves old erased = record {
+  serves = service_of serves;
   freeze = None;
   claimed = [];
   written = [];
   todo = erasing old (drop erased old) [];
 }
 
+abbrev pub erasing_job : ℕ → List ℕ → ℕ → JobState
+erasing_job channel old erased = erasing_for (whom.Command channel) old erased
+
 abbrev pub job_seen : RunningJob → JobState
 job_seen j = seen j.work
   where
     seen : Work → JobState
-    seen (work.Zeroing planned zeroed) = zeroing_job j.channel planned j.old zeroed
-    seen (work.Writing planned written) = writing_job j.channel planned j.old written
-    seen (work.Erasing erased) = erasing_job j.channel j.old erased
+    seen (work.Zeroing planned zeroed) = zeroing_for j.serves planned j.old zeroed
+    seen (work.Writing planned written) = writing_for j.serves planned j.old written
+    seen (work.Erasing erased) = erasing_for j.serves j.old erased
 
 -- The chain that is to be written begins with its head, and each cluster is freed once.
 pub record IsMatched (p : Planned) : Type 0 where
   pub headed : p.chain ≡ p.head ∷ drop 1 p.chain
   pub once : AreDistinct p.effects.freed
 
+-- Nothing is done besides: no cluster is claimed or freed, and the blob, which is there, keeps its attributes and its
+-- generation.
+pub record AreNone (e : Effects) : Type 0 where
+  pub live : e.live ≡ None
+  pub renews : e.renews ≡ false
+  pub freed : e.freed ≡ []
+  pub claimed : e.claimed ≡ []
+  pub rooms : e.rooms ≡ None
+
+-- An insert does nothing besides.
+abbrev pub IsMatchedFor : Serves → Planned → Type 0
+IsMatchedFor (whom.Command channel) p = IsMatched p
+IsMatchedFor (whom.Insert channel) p = IsMatched p × AreNone p.effects
+
+-- Only a command's job overwrites clusters.
+abbrev pub IsZeroedFor : Serves → Planned → Zeroed → Type 0
+IsZeroedFor (whom.Command channel) p zeroed = IsMatched p × IsLeft p.effects.claimed zeroed
+IsZeroedFor (whom.Insert channel) p zeroed = ⊥
+
 abbrev pub IsHeaded : RunningJob → Type 0
 IsHeaded j = headed j.work
   where
     headed : Work → Type 0
-    headed (work.Zeroing planned zeroed) = IsMatched planned × IsLeft planned.effects.claimed zeroed
-    headed (work.Writing planned written) = IsMatched planned
+    headed (work.Zeroing planned zeroed) = IsZeroedFor j.serves planned zeroed
+    headed (work.Writing planned written) = IsMatchedFor j.serves planned
     headed (work.Erasing erased) = Unit {0}
 
 -- ---- the codes by which contracts store it

@@ -13,8 +13,11 @@ pub mod ClaimTurns
 pub mod Surviving
 pub mod StoreInvariant
 pub mod Answering
+pub mod OwnWrites
 pub mod JobTurns
+pub mod Telling
 pub mod Begins
 pub mod Opening
 pub mod Requests
+pub mod Inserts
 pub mod Planning

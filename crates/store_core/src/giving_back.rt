@@ -7,11 +7,12 @@ ghost use Rattle.store_model.specs.Rows.{Idle};
 ghost use Rattle.store_core.specs.Running.{view_of, InOrder};
 ghost use Rattle.store_core.specs.Stages.{stage_seen};
 ghost use Rattle.store_core.specs.ClaimTurns.{row_given_back};
-ghost use Rattle.store_core.specs.Steps.{gone_on, logged_on, OnlyRow};
+ghost use Rattle.store_core.specs.Steps.{decided, gone_on, logged_on, OnlyRow};
 ghost use Rattle.store_core.specs.StoreView.{rows_of};
 ghost use Rattle.store_core.specs.LoadedWhole.{without_first};
+ghost use Rattle.store_core.specs.Telling.{claim_cleared, IsGivenUp};
 
-use crate::logging::log_here;
+use crate::logging::{log, log_here};
 use crate::rows::Row;
 use crate::running::Running;
 use crate::stages::Stage;
@@ -51,6 +52,18 @@ pub(crate) fn clear_claimed(clusters: &mut ClusterPool, rows: &[Row])
     }
 }
 
+/// Makes the cluster clear that the row of a channel has claimed, if it has one.
+fn clear_own<D: PageDisk>(running: &mut Running<D>, channel: u8)
+    requires order { InOrder D.PageDisk running.old }
+    requires channel { channel < 16 }
+    ensures cleared { view_of running.new ≡ claim_cleared (view_of running.old) channel }
+    ensures order { InOrder D.PageDisk running.new }
+{
+    if let Some(claim) = running.rows[channel as usize].claim() {
+        clear_cluster(&mut running.clusters, claim.cluster);
+    }
+}
+
 /// Gives back the cluster that the row of a channel has claimed, if it has one. The row goes on at this stage.
 pub(crate) fn give_back<D: PageDisk>(running: &mut Running<D>, channel: u8, next: Stage)
     requires order { InOrder D.PageDisk running.old }
@@ -65,7 +78,7 @@ pub(crate) fn give_back<D: PageDisk>(running: &mut Running<D>, channel: u8, next
 
 /// Logs a reply to the first command of a channel, in a turn of the channel's own, and gives its claim back, if it has
 /// one.
-pub(crate) fn give_up<D: PageDisk>(running: &mut Running<D>, channel: u8, reply: Reply)
+pub(crate) fn give_up_here<D: PageDisk>(running: &mut Running<D>, channel: u8, reply: Reply)
     requires order { InOrder D.PageDisk running.old }
     requires channel { channel < 16 }
     requires left { 0 < length (rows_of running.old.rows.items channel).left }
@@ -80,4 +93,20 @@ pub(crate) fn give_up<D: PageDisk>(running: &mut Running<D>, channel: u8, reply:
 {
     give_back(running, channel, Stage::Idle);
     log_here(running, channel, reply);
+}
+
+/// Logs a reply to the first command of a channel, in a turn of the metadata thread, and gives its claim back, if it has
+/// one.
+pub(crate) fn give_up<D: PageDisk>(running: &mut Running<D>, channel: u8, reply: Reply)
+    requires order { InOrder D.PageDisk running.old }
+    requires channel { channel < 16 }
+    requires left { 0 < length (rows_of running.old.rows.items channel).left }
+    ensures logged { IsGivenUp (view_of running.old) (view_of running.new) channel reply
+        (D.clock running.new.disk) }
+    ensures row { OnlyRow running.old.rows.items running.new.rows.items channel
+        (decided (rows_of running.old.rows.items channel)) }
+    ensures order { InOrder D.PageDisk running.new }
+{
+    clear_own(running, channel);
+    log(running, channel, reply);
 }

@@ -102,10 +102,34 @@ pub(crate) enum Work {
     Erasing { erased: usize },
 }
 
-/// The running job: the channel whose command it serves, and the places that stood behind the head before it.
+/// For whom a job is done.
+#[derive(Clone, Copy)]
+pub(crate) enum Serves {
+    /// The command of a channel.
+    Command(u8),
+    /// The insert of the cluster that a channel has claimed for its write.
+    Insert(u8),
+}
+
+impl Serves {
+    ghost use Rattle.std.specs.Prelude.{◌≡◌};
+    ghost use Rattle.store_core.specs.Jobs.{row_of};
+
+    /// The channel for which it is done.
+    pub(crate) fn channel(self) -> u8
+        ensures { result ≡ row_of self }
+    {
+        match self {
+            Serves::Command(channel) => channel,
+            Serves::Insert(channel) => channel,
+        }
+    }
+}
+
+/// The running job: for whom it is done, and the places that stood behind the head before it.
 #[derive(Drop)]
 pub(crate) struct RunningJob {
-    pub(crate) channel: u8,
+    pub(crate) serves: Serves,
     pub(crate) work: Work,
     pub(crate) old: PlaceList,
 }
@@ -136,6 +160,7 @@ impl RunningJob {
             (live : map.FinMap nat_cmp Xattrs) (guards : GuardsState)
             → HasRoom metas chains live guards planned.effects → IsRoomy metas chains live guards result }
     {
+        let serves = Serves::Command(channel);
         let Zeroed {
             cluster_pages,
             clusters,
@@ -152,7 +177,7 @@ impl RunningJob {
                 planned,
                 zeroed: next,
             };
-            return RunningJob { channel, work, old };
+            return RunningJob { serves, work, old };
         }
         let next_cluster = clusters + 1;
         let count = planned.effects.claimed.len();
@@ -166,26 +191,29 @@ impl RunningJob {
                 planned,
                 zeroed: next,
             };
-            return RunningJob { channel, work, old };
+            return RunningJob { serves, work, old };
         }
         let work = Work::Writing {
             planned,
             written: 0,
         };
-        RunningJob { channel, work, old }
+        RunningJob { serves, work, old }
     }
 }
 
-/// The channel whose command waits for the commit of a job.
+/// The channel that waits for a job: that of an insert to its end, that of a command to its commit.
 pub(crate) fn waiting_for(job: &Option<RunningJob>) -> Option<u8>
     ensures { result ≡ option_and_then waits_for_job (option_map job_seen job.now) }
 {
     let Some(running) = job else {
         return None;
     };
-    match &running.work {
-        Work::Zeroing { .. } => Some(running.channel),
-        Work::Writing { .. } => Some(running.channel),
-        Work::Erasing { .. } => None,
+    match running.serves {
+        Serves::Insert(channel) => Some(channel),
+        Serves::Command(channel) => match &running.work {
+            Work::Zeroing { .. } => Some(channel),
+            Work::Writing { .. } => Some(channel),
+            Work::Erasing { .. } => None,
+        },
     }
 }

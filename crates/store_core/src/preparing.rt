@@ -12,7 +12,7 @@ ghost use Rattle.store_core.specs.Begins.{needed, IsUnprepared};
 
 use crate::clearing::clear_places;
 use crate::effects::Effects;
-use crate::job::{Planned, RunningJob, Work, Zeroed};
+use crate::job::{Planned, RunningJob, Serves, Work, Zeroed};
 use crate::taking::take_places;
 use blob_meta::{Chains, Meta, to_items};
 use descriptors::ItemList;
@@ -74,6 +74,7 @@ impl Prepared {
     {
         let Prepared { laid, old } = self;
         let Laid { chain, pages } = laid;
+        let serves = Serves::Command(channel);
         let claimed = effects.claimed.len();
         let planned = Planned {
             head,
@@ -89,13 +90,13 @@ impl Prepared {
                 pages: 0,
             };
             let work = Work::Zeroing { planned, zeroed };
-            return RunningJob { channel, work, old };
+            return RunningJob { serves, work, old };
         }
         let work = Work::Writing {
             planned,
             written: 0,
         };
-        RunningJob { channel, work, old }
+        RunningJob { serves, work, old }
     }
 }
 

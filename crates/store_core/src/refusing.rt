@@ -9,7 +9,7 @@ ghost use Rattle.store_core.specs.StoreView.{rows_of, state_of};
 ghost use Rattle.store_core.specs.ClaimTurns.{WaitsHere};
 ghost use Rattle.store_core.specs.Steps.{decided, gone_on, Asks, IsPostedAt, OnlyRow};
 
-use crate::giving_back::give_up;
+use crate::giving_back::give_up_here;
 use crate::logging::log;
 use crate::running::Running;
 use page_disk::PageDisk;
@@ -60,7 +60,7 @@ pub(crate) fn halt_here<D: PageDisk>(running: &mut Running<D>, channel: u8)
     ensures order { InOrder D.PageDisk running.new }
 {
     match running.stopped {
-        Some(at) => give_up(running, channel, Reply::Stopped(at)),
+        Some(at) => give_up_here(running, channel, Reply::Stopped(at)),
         None => unreachable!(),
     }
 }

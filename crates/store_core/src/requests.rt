@@ -1,7 +1,7 @@
 //! What a message asks for.
 
-ghost use Rattle.std.specs.Prelude.{◌≡◌, [], IfErr, IfOk};
-ghost use Rattle.store_core.specs.Requests.{AsksNow, HavePosted, IsStale};
+ghost use Rattle.std.specs.Prelude.{◌≡◌, ◌≢◌, [], IfErr, IfOk};
+ghost use Rattle.store_core.specs.Requests.{AsksNow, HavePosted, IsAsked, IsStale};
 
 use crate::rows::Row;
 use volume_model::{Command, Msg};
@@ -9,6 +9,8 @@ use volume_model::{Command, Msg};
 /// What a message asks for.
 #[derive(Clone, Copy)]
 pub enum Request<'a> {
+    /// The insert of the cluster that the channel has claimed for its page write.
+    Insert,
     /// A command of the metadata thread's.
     Meta(&'a Command),
 }
@@ -35,13 +37,24 @@ pub(crate) fn asked_in(rows: &[Row], msg: Msg) -> Result<Request<'_>, Stale>
         });
     };
     match row.posted() {
-        Some(serial) if serial == msg.serial => match row.first() {
-            Some(command) => Ok(Request::Meta(command)),
-            None => unreachable!(),
-        },
+        Some(serial) if serial == msg.serial => Ok(asked_of(row)),
         row => Err(Stale {
             message: msg.serial,
             row,
         }),
+    }
+}
+
+/// What a posted row asks for: an insert, if it holds a claim, or else its first command.
+fn asked_of(row: &Row) -> Request<'_>
+    requires { row.now.left ≢ [] }
+    ensures { IsAsked row.now result }
+{
+    if row.claim().is_some() {
+        return Request::Insert;
+    }
+    match row.first() {
+        Some(command) => Request::Meta(command),
+        None => unreachable!(),
     }
 }

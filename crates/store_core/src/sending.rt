@@ -14,7 +14,7 @@ ghost use Rattle.store_core.specs.Steps.{OnlyRow};
 ghost use Rattle.store_core.specs.TurnMade.{TurnMade};
 
 use crate::device::flush_once;
-use crate::giving_back::give_up;
+use crate::giving_back::give_up_here;
 use crate::refusing::halt_here;
 use crate::running::Running;
 use crate::stopping::stop_here;
@@ -51,7 +51,7 @@ fn send<D: PageDisk>(running: &mut Running<D>, channel: u8) -> SendTurn
 {
     if flush_once(&mut running.disk).is_err() {
         stop_here(running);
-        give_up(running, channel, Reply::Fault);
+        give_up_here(running, channel, Reply::Fault);
         return SendTurn::Logged;
     }
     SendTurn::Post(post_row(running, channel))

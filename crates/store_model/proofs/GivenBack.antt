@@ -29,6 +29,7 @@ use Rattle.store_model.proofs.StateKept.{claim_facts, held_here, logged_facts}
 -- the replies with which a write ends whatever holds in the volumes
 abbrev pub EndsWrite : Reply → Type 0
 EndsWrite r.NoPage = Unit {0}
+EndsWrite r.Memory = Unit {0}
 EndsWrite r.ReadFault = Unit {0}
 EndsWrite r.Fault = Unit {0}
 EndsWrite (r.Stopped at) = Unit {0}
@@ -38,6 +39,7 @@ EndsWrite _ = ⊥
 module _ (f : Fixed) (tells : Bool) (v : Volumes) (volume : VolumeRef) (page : ℕ) (word : PageWord) where
   pub ends_so : (reply : Reply) → EndsWrite reply → Allowed f v (c.Write volume page word) (seen_reply tells reply)
   ends_so r.NoPage ends = (tt, tt)
+  ends_so r.Memory ends = tt
   ends_so r.ReadFault ends = (tt, tt)
   ends_so r.Fault ends = tt
   ends_so (r.Stopped at) ends = tt
@@ -46,6 +48,7 @@ module _ (f : Fixed) (tells : Bool) (v : Volumes) (volume : VolumeRef) (page : �
   ends_same : (reply : Reply) → EndsWrite reply
       → change f v (seen_command tells (c.Write volume page word)) (seen_reply tells reply) ≡ v
   ends_same r.NoPage ends = refl
+  ends_same r.Memory ends = refl
   ends_same r.ReadFault ends = refl
   ends_same r.Fault ends = refl
   ends_same (r.Stopped at) ends = refl

@@ -4,7 +4,12 @@ use Rattle.std.specs.Option.{option_map}
 use Rattle.store_model.specs.StoreState.{JobState}
 use Rattle.store_core.specs.declared.job.RunningJob.{RunningJob}
 use Rattle.store_core.specs.declared.job.Work.{Work}
-use Rattle.store_core.specs.Jobs.{commit_of, job_seen, replacing_of, writing_job, IsHeaded}
+use Rattle.store_core.specs.declared.job.Serves.{Serves}
+use Rattle.store_core.specs.declared.job.Serves.TheVariants as whom
+use Rattle.store_core.specs.declared.job.Zeroed.{Zeroed}
+use Rattle.store_core.specs.Jobs.{commit_for, job_seen, replacing_of, writing_for, IsHeaded, IsMatched, IsZeroedFor}
+use Rattle.store_core.specs.OwnWrites.{AreOwn}
+use Rattle.store_core.specs.Zeroing.{IsLeft}
 use Rattle.store_core.specs.JobTurns.{TurnsJob}
 use Rattle.store_core.specs.StoreInvariant.{IsRunning}
 use Rattle.store_core.specs.Running.{view_of}
@@ -16,21 +21,22 @@ use Rattle.store_model.specs.Phases.{writing, Replaces, erasing}
 
 -- what is seen of the job that was taken out
 seen_work : (o taken : Option RunningJob) (j : RunningJob) (w : Work) → taken ≡ o → taken ≡ Some j → j.work ≡ w
-    → option_map job_seen o ≡ Some (job_seen (record { channel = j.channel; work = w; old = j.old }))
+    → option_map job_seen o ≡ Some (job_seen (record { serves = j.serves; work = w; old = j.old }))
 seen_work o taken j w value is work = ap (λ x. option_map job_seen x) (sym value ∙ is)
-    ∙ ap (λ v. Some (job_seen (record { channel = j.channel; work = v; old = j.old }))) work
+    ∙ ap (λ v. Some (job_seen (record { serves = j.serves; work = v; old = j.old }))) work
 
 -- what is known of it
 headed_work : (o taken : Option RunningJob) (j : RunningJob) (w : Work) → taken ≡ o → taken ≡ Some j → j.work ≡ w
-    → IfSome o IsHeaded → IsHeaded (record { channel = j.channel; work = w; old = j.old })
+    → IfSome o IsHeaded → IsHeaded (record { serves = j.serves; work = w; old = j.old })
 headed_work o taken j w value is work all =
-    subst (λ v. IsHeaded (record { channel = j.channel; work = v; old = j.old })) work
+    subst (λ v. IsHeaded (record { serves = j.serves; work = v; old = j.old })) work
     (subst (λ x. IfSome x IsHeaded) (sym value ∙ is) all)
 
 -- all fresh pages are written
-all_written : (channel : ℕ) (planned : Planned) (old : List ℕ) (written : ℕ) → length (drop 1 planned.chain) ≤ written
-    → writing_job channel planned old written ≡ writing_job channel planned old (length (drop 1 planned.chain))
-all_written channel planned old written le =
+all_written : (serves : Serves) (planned : Planned) (old : List ℕ) (written : ℕ)
+    → length (drop 1 planned.chain) ≤ written
+    → writing_for serves planned old written ≡ writing_for serves planned old (length (drop 1 planned.chain))
+all_written serves planned old written le =
     ap (λ done. at done (drop written fresh)) (took fresh written le ∙ sym (took fresh (length fresh) (omega arith)))
     ∙ ap (at (take (length fresh) fresh))
     (dropped fresh written le ∙ sym (dropped fresh (length fresh) (omega arith)))
@@ -39,9 +45,9 @@ all_written channel planned old written le =
     fresh = drop 1 planned.chain
 
     at : List ℕ → List ℕ → JobState
-    at done left = record (writing_job channel planned old written) {
+    at done left = record (writing_for serves planned old written) {
       written = done;
-      todo = writing left (Replaces (replacing_of planned old) (Some (commit_of planned)) ∷ erasing old old []);
+      todo = writing left (Replaces (replacing_of planned old) (commit_for serves planned) ∷ erasing old old []);
     }
 
     took : (l : List ℕ) (n : ℕ) → length l ≤ n → take n l ≡ l
@@ -56,17 +62,32 @@ all_written channel planned old written le =
     dropped (x ∷ xs) zero le = absurd (omega (arith, le))
     dropped (x ∷ xs) (suc n) le = dropped xs n (omega (arith, le))
 
+-- a job that overwrites clusters serves a command
+for_command : (serves : Serves) (channel : ℕ) (planned : Planned) (zeroed : Zeroed) → serves ≡ whom.Command channel
+    → IsZeroedFor serves planned zeroed → IsMatched planned × IsLeft planned.effects.claimed zeroed
+for_command serves channel planned zeroed is known = subst (λ x. IsZeroedFor x planned zeroed) is known
+
+no_insert : (serves : Serves) (channel : ℕ) (planned : Planned) (zeroed : Zeroed) → serves ≡ whom.Insert channel
+    → IsZeroedFor serves planned zeroed → ⊥
+no_insert serves channel planned zeroed is known = subst (λ x. IsZeroedFor x planned zeroed) is known
+
 pub zero-requires-clause-matched : goal.zero-requires-clause-matched
-zero-requires-clause-matched g c = (headed_work c.args.running.now.job c.take.result c.in-Some.field-0 _
-    c.take.ensures.value c.in-Some.is c.in-Zeroing.is c.requires.order.headed).0
+zero-requires-clause-matched g c = (for_command _ _ _ _ c.in-Command.is (headed_work c.args.running.now.job
+    c.take.result c.in-Some.field-0 _ c.take.ensures.value c.in-Some.is c.in-Zeroing.is c.requires.order.headed)).0
 
 pub zero-requires-clause-clusters : goal.zero-requires-clause-clusters
-zero-requires-clause-clusters g c = (headed_work c.args.running.now.job c.take.result c.in-Some.field-0 _
-    c.take.ensures.value c.in-Some.is c.in-Zeroing.is c.requires.order.headed).1.clusters
+zero-requires-clause-clusters g c = (for_command _ _ _ _ c.in-Command.is (headed_work c.args.running.now.job
+    c.take.result c.in-Some.field-0 _ c.take.ensures.value c.in-Some.is c.in-Zeroing.is
+    c.requires.order.headed)).1.clusters
 
 pub zero-requires-clause-pages : goal.zero-requires-clause-pages
-zero-requires-clause-pages g c = (headed_work c.args.running.now.job c.take.result c.in-Some.field-0 _
-    c.take.ensures.value c.in-Some.is c.in-Zeroing.is c.requires.order.headed).1.pages
+zero-requires-clause-pages g c = (for_command _ _ _ _ c.in-Command.is (headed_work c.args.running.now.job
+    c.take.result c.in-Some.field-0 _ c.take.ensures.value c.in-Some.is c.in-Zeroing.is
+    c.requires.order.headed)).1.pages
+
+pub unreachable-requires : goal.unreachable-requires
+unreachable-requires g c = no_insert _ _ _ _ c.in-Insert.is (headed_work c.args.running.now.job c.take.result
+    c.in-Some.field-0 _ c.take.ensures.value c.in-Some.is c.in-Zeroing.is c.requires.order.headed)
 
 pub overflow_sub-fresh : goal.overflow_sub-fresh
 overflow_sub-fresh g c =
@@ -74,27 +95,29 @@ overflow_sub-fresh g c =
     c.in-Writing.is in
     let pages =
     pages_planned (state_of g.D.PageDisk (view_of c.args.running.now)) c.requires.running c.requires.not_stopped
-    c.in-Some.field-0.channel c.in-Writing.planned c.in-Some.field-0.old c.in-Writing.written is in
+    c.in-Some.field-0.serves c.in-Writing.planned c.in-Some.field-0.old c.in-Writing.written is in
     let len = c.len-fresh.ensures in
     omega (arith, pages, len)
 
-pub commit-requires-clause-at_work : goal.commit-requires-clause-at_work
-commit-requires-clause-at_work g c =
+pub replace_head-requires-clause-at_work : goal.replace_head-requires-clause-at_work
+replace_head-requires-clause-at_work g c =
     let is = seen_work c.args.running.now.job c.take.result c.in-Some.field-0 _ c.take.ensures.value c.in-Some.is
     c.in-Writing.is in
     let pages =
     pages_planned (state_of g.D.PageDisk (view_of c.args.running.now)) c.requires.running c.requires.not_stopped
-    c.in-Some.field-0.channel c.in-Writing.planned c.in-Some.field-0.old c.in-Writing.written is in
+    c.in-Some.field-0.serves c.in-Writing.planned c.in-Some.field-0.old c.in-Writing.written is in
     let len = c.len-fresh.ensures in
     let none = c.if-written-fresh.false in
     let all : length (drop 1 c.in-Writing.planned.chain) ≤ c.in-Writing.written = omega (arith, pages, len, none) in
     let whole = is ∙ ap (λ (j : JobState). Some j)
-    (all_written c.in-Some.field-0.channel c.in-Writing.planned c.in-Some.field-0.old c.in-Writing.written all) in
+    (all_written c.in-Some.field-0.serves c.in-Writing.planned c.in-Some.field-0.old c.in-Writing.written all) in
     record {
       taken = ap (λ o. option_map job_seen o) c.take.ensures.after;
       not_stopped = c.requires.not_stopped;
       running = subst (λ k. IsRunning (record (state_of g.D.PageDisk (view_of c.args.running.now)) { job = k })) whole
           c.requires.running;
+      own = subst (λ k. AreOwn (record (state_of g.D.PageDisk (view_of c.args.running.now)) { job = k })) whole
+          c.requires.own;
     }
 
 pub overflow_sub-last : goal.overflow_sub-last
@@ -102,7 +125,7 @@ overflow_sub-last g c =
     let is = seen_work c.args.running.now.job c.take.result c.in-Some.field-0 _ c.take.ensures.value c.in-Some.is
     c.in-Erasing.is in
     let some = some_erasing (state_of g.D.PageDisk (view_of c.args.running.now)) c.requires.running
-    c.requires.not_stopped c.in-Some.field-0.channel c.in-Some.field-0.old c.in-Erasing.erased is in
+    c.requires.not_stopped c.in-Some.field-0.serves c.in-Some.field-0.old c.in-Erasing.erased is in
     let len = c.len-last.ensures in
     omega (arith, some, len)
 
@@ -111,7 +134,7 @@ free-requires-clause-last g c =
     let is = seen_work c.args.running.now.job c.take.result c.in-Some.field-0 _ c.take.ensures.value c.in-Some.is
     c.in-Erasing.is in
     let some = some_erasing (state_of g.D.PageDisk (view_of c.args.running.now)) c.requires.running
-    c.requires.not_stopped c.in-Some.field-0.channel c.in-Some.field-0.old c.in-Erasing.erased is in
+    c.requires.not_stopped c.in-Some.field-0.serves c.in-Some.field-0.old c.in-Erasing.erased is in
     let len = c.len-last.ensures in
     let none = c.if-erased-last.false in
     omega (arith, some, len, none)
@@ -122,11 +145,18 @@ returns-else-written-fresh-clause-case g c =
     c.in-Writing.is in
     let pages =
     pages_planned (state_of g.D.PageDisk (view_of c.args.running.now)) c.requires.running c.requires.not_stopped
-    c.in-Some.field-0.channel c.in-Writing.planned c.in-Some.field-0.old c.in-Writing.written is in
+    c.in-Some.field-0.serves c.in-Writing.planned c.in-Some.field-0.old c.in-Writing.written is in
     let len = c.len-fresh.ensures in
     let none = c.if-written-fresh.false in
     let all : length (drop 1 c.in-Writing.planned.chain) ≤ c.in-Writing.written = omega (arith, pages, len, none) in
     let whole = is ∙ ap (λ (j : JobState). Some j)
-    (all_written c.in-Some.field-0.channel c.in-Writing.planned c.in-Some.field-0.old c.in-Writing.written all) in
-    subst (λ k. TurnsJob g.D.PageDisk (record (view_of c.args.running.now) { job = k }) (view_of c.commit.new.running))
-    (sym whole) c.commit.ensures.case
+    (all_written c.in-Some.field-0.serves c.in-Writing.planned c.in-Some.field-0.old c.in-Writing.written all) in
+    subst (λ k. TurnsJob g.D.PageDisk (record (view_of c.args.running.now) { job = k }) (view_of c.replace_head.new.running))
+    (sym whole) c.replace_head.ensures.case
+
+pub returns-then-written-fresh-clause-case : goal.returns-then-written-fresh-clause-case
+returns-then-written-fresh-clause-case g c =
+    let is = seen_work c.args.running.now.job c.take.result c.in-Some.field-0 _ c.take.ensures.value c.in-Some.is
+    c.in-Writing.is in
+    subst (λ k. TurnsJob g.D.PageDisk (record (view_of c.args.running.now) { job = k }) (view_of c.write_fresh.new.running))
+    (sym is) c.write_fresh.ensures.case

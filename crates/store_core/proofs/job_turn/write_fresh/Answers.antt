@@ -1,12 +1,13 @@
-use Rattle.std.proofs.Common.{◌+◌, [], ℕ, List, get_or, sym, ◌∙◌, ap, subst, arith}
+use Rattle.std.proofs.Common.{◌+◌, ◌<◌, [], ℕ, List, get_or, length, sym, ◌∙◌, ap, subst, arith}
 use Rattle.page_disk.specs.Disk.{Written}
 use Rattle.page_disk.specs.Moments.{CallsLeaveOnly}
 use Rattle.page_disk.specs.declared.disk.WriteKind.TheVariants.{Plain}
 use Rattle.md_chain.specs.declared.plan.PlannedPage.{PlannedPage}
 use Rattle.store_model.specs.Cases.{WritesOnePage}
 use Rattle.store_core.specs.Running.{view_of}
-use Rattle.store_core.specs.StoreView.{device_of}
-use Rattle.store_core.proofs.JobTurned.{channel_low, failed_writing, fresh_low, on_err, on_ok, row_some, wrote_fresh}
+use Rattle.store_core.specs.StoreView.{device_of, rows_of}
+use Rattle.store_core.proofs.JobTurned.{entered, failed_writing, first_low, first_some, first_waits, fresh_low}
+use Rattle.store_core.proofs.JobTurned.{on_err, on_ok, wrote_fresh}
 use Rattle.store_core.proofs.job_turn.write_fresh.Goals as goal
 use Rattle.store_core.proofs.AtWork.{got}
 
@@ -20,27 +21,30 @@ write_one-requires g c =
     let same = ap (λ l. (next l c.args.written).place) c.as_slice.ensures in
     let at = c.page_at-page.ensures in
     let low =
-    fresh_low g.D.PageDisk (view_of c.args.running.now) c.args.channel c.args.planned c.args.old c.args.written
+    fresh_low g.D.PageDisk (view_of c.args.running.now) c.args.serves c.args.planned c.args.old c.args.written
     c.requires.at_work (next plan c.args.written) (got plan (c.args.written + 1) _ c.requires.left) in
     let inside = c.requires.order.inside in
     omega (arith, at, same, low, inside)
 
 pub fail-requires-clause-channel : goal.fail-requires-clause-channel
 fail-requires-clause-channel g c =
-    let low = channel_low g.D.PageDisk
-    (view_of c.args.running.now) c.args.channel c.args.planned c.args.old c.args.written c.requires.at_work in
+    let low = first_low (view_of c.args.running.now) _ (first_waits g.D.PageDisk (view_of c.args.running.now)
+    c.args.serves c.args.planned c.args.old c.args.written c.requires.at_work) in
+    let is = c.channel.ensures in
     let sixteen = c.requires.order.sixteen in
-    omega (arith, low, sixteen)
+    omega (arith, low, is, sixteen)
 
 pub fail-requires-clause-left : goal.fail-requires-clause-left
-fail-requires-clause-left g c = row_some g.D.PageDisk
-    (view_of c.args.running.now) c.args.channel c.args.planned c.args.old c.args.written c.requires.at_work
+fail-requires-clause-left g c =
+    subst (λ n. 0 < length (rows_of c.args.running.now.rows.items n).left) (sym c.channel.ensures)
+    (first_some (view_of c.args.running.now) _ (first_waits g.D.PageDisk (view_of c.args.running.now)
+    c.args.serves c.args.planned c.args.old c.args.written c.requires.at_work))
 
 pub returns-then-is_err-clause-case : goal.returns-then-is_err-clause-case
 returns-then-is_err-clause-case g c =
     let plan = c.args.planned.pages in
     let same = ap (λ l. next l c.args.written) c.as_slice.ensures in
-    failed_writing g.D.PageDisk (view_of c.args.running.now) c.args.channel c.args.planned c.args.old c.args.written
+    failed_writing g.D.PageDisk (view_of c.args.running.now) c.args.serves c.args.planned c.args.old c.args.written
     c.requires.at_work c.write_one.new.disk (next plan c.args.written) c.page_at-page.result
     (c.page_at-page.ensures ∙ ap (λ (x : PlannedPage). c.args.running.now.sup.md_start + x.place) same)
     (got plan (c.args.written + 1) _ c.requires.left)
@@ -48,13 +52,14 @@ returns-then-is_err-clause-case g c =
     (Written (g.D.PageDisk.images c.args.running.now.disk) c.page_at-page.result Plain x.page)) same
     c.write_one.ensures.any_moment)
     (on_err c.write_one.result _ (sym c.is_err.ensures.value ∙ c.if-is_err.true) c.write_one.ensures.fails)
-    (view_of c.fail.new.running) c.fail.ensures.logged
+    (view_of c.fail.new.running) (subst (λ n. entered g.D.PageDisk (view_of c.args.running.now) n
+    c.write_one.new.disk (view_of c.fail.new.running)) c.channel.ensures c.fail.ensures.logged)
 
 pub returns-clause-case : goal.returns-clause-case
 returns-clause-case g c =
     let plan = c.args.planned.pages in
     let same = ap (λ l. next l c.args.written) c.as_slice.ensures in
-    wrote_fresh g.D.PageDisk (view_of c.args.running.now) c.args.channel c.args.planned c.args.old c.args.written
+    wrote_fresh g.D.PageDisk (view_of c.args.running.now) c.args.serves c.args.planned c.args.old c.args.written
     c.requires.at_work c.write_one.new.disk (next plan c.args.written) c.page_at-page.result
     (c.page_at-page.ensures ∙ ap (λ (x : PlannedPage). c.args.running.now.sup.md_start + x.place) same)
     (got plan (c.args.written + 1) _ c.requires.left)

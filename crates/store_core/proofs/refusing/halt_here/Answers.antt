@@ -8,4 +8,4 @@ returns-clause-case g c =
     let low : c.args.channel < length c.args.running.now.rows.items =
     omega (arith, c.requires.channel, c.requires.order.sixteen) in
     halted_here g.D.PageDisk (view_of c.args.running.now) c.args.channel low c.requires.waits c.in-Some.at
-    c.in-Some.is (view_of c.give_up.new.running) c.give_up.ensures.logged
+    c.in-Some.is (view_of c.give_up_here.new.running) c.give_up_here.ensures.logged

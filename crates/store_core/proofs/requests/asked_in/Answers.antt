@@ -1,13 +1,13 @@
 use Rattle.std.proofs.Common.{None, ◌≡◌, [], length, sym, ap, ◌∙◌}
 use Rattle.std.proofs.lemmas.Bool.{ltb-true}
 use Rattle.std.proofs.lemmas.List.{get_or_default}
-use Rattle.store_model.specs.Rows.{Row, Ended, Posted}
+use Rattle.store_model.specs.Rows.{Row, Ended}
 use Rattle.store_core.specs.StoreView.{rows_of}
-use Rattle.store_core.proofs.Requested.{first_got, none_got, posted_so}
+use Rattle.store_core.proofs.Requested.{posted_so}
 use Rattle.store_core.proofs.requests.asked_in.Goals as goal
 
-pub unreachable-requires : goal.unreachable-requires
-unreachable-requires c =
+pub asked_of-requires : goal.asked_of-requires
+asked_of-requires c = λ none.
     let row : c.in-Some.row.now ≡ rows_of c.args.rows.now c.args.msg.channel =
     c.in-Some.ensures.lookup.1 ∙ get_or_default c.args.rows.now c.args.msg.channel c.in-Some.row.now
     (record { left = []; stage = Ended; claim = None })
@@ -15,19 +15,4 @@ unreachable-requires c =
     let posted =
     posted_so c.in-Some.row.now.stage c.in-Some-posted.serial (sym c.posted.ensures ∙ c.in-Some-posted.is) in
     c.requires c.args.msg.channel c.in-Some-posted.serial (ap (λ (r : Row). r.stage) (sym row) ∙ posted)
-    (ap (λ (r : Row). r.left) (sym row) ∙ none_got c.in-Some.row.now.left (sym c.in-None.ensures))
-
-pub returns-in-Some-first-clause-found : goal.returns-in-Some-first-clause-found
-returns-in-Some-first-clause-found c =
-    let row : c.in-Some.row.now ≡ rows_of c.args.rows.now c.args.msg.channel =
-    c.in-Some.ensures.lookup.1 ∙ get_or_default c.args.rows.now c.args.msg.channel c.in-Some.row.now
-    (record { left = []; stage = Ended; claim = None })
-    (ltb-true c.args.msg.channel (length c.args.rows.now) (sym c.in-Some.ensures.lookup.0)) in
-    let posted =
-    posted_so c.in-Some.row.now.stage c.in-Some-posted.serial (sym c.posted.ensures ∙ c.in-Some-posted.is) in
-    let first = first_got c.in-Some.row.now.left c.in-Some-first.command.now (sym c.in-Some-first.ensures) in
-    record {
-      posted = ap (λ (r : Row). r.stage) (sym row) ∙ posted ∙ ap Posted c.if-serial-msg.true;
-      rest = first.0;
-      asked = ap (λ (r : Row). r.left) (sym row) ∙ first.1;
-    }
+    (ap (λ (r : Row). r.left) (sym row) ∙ none)

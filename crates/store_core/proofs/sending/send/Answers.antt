@@ -14,7 +14,7 @@ pub returns-then-is_err-clause-logged : goal.returns-then-is_err-clause-logged
 returns-then-is_err-clause-logged g c said =
     let d = g.D.PageDisk in
     let old = view_of c.args.running.now in
-    let q = view_of c.give_up.new.running in
+    let q = view_of c.give_up_here.new.running in
     let channel = c.args.channel in
     let low : channel < length c.args.running.now.rows.items =
     omega (arith, c.requires.channel, c.requires.order.sixteen) in
@@ -24,7 +24,7 @@ returns-then-is_err-clause-logged g c said =
     (thawed (state_of d old) c.args.running.now.job refl c.requires.running.facts.guarded)
     (on_err c.flush_once.result _ (sym c.is_err.ensures.value ∙ c.if-is_err.true) c.flush_once.ensures.fails)
     (λ command rest left.
-    c.give_up.ensures.logged command rest
+    c.give_up_here.ensures.logged command rest
     (ap (λ (v : StoreView g.row.D.Denot). (rows_of v.rows channel).left) stopped ∙ left)
     ∙ ap (λ (v : StoreView g.row.D.Denot).
     logged_on (row_given_back v channel Idle) channel command rest r.Fault (d.clock q.disk)) stopped)

@@ -1,9 +1,12 @@
 use Rattle.std.proofs.Common.{◌≡◌, ◌<◌, List, length, sym, ◌∙◌, ap, subst}
 use Rattle.store_model.specs.Rows.{Row}
-use Rattle.store_core.specs.JobTurns.{answer_of}
+use Rattle.volume_model.specs.declared.reply.Reply.TheVariants.{Fault}
+use Rattle.store_core.specs.JobTurns.{answer_of, stopped_at}
+use Rattle.store_core.specs.Running.{view_of}
+use Rattle.store_core.proofs.InsertFailed.{given_up_after}
 use Rattle.store_core.specs.StoreView.{rows_of}
 use Rattle.store_core.proofs.Rowing.{first_of}
-use Rattle.store_core.proofs.job_turn.fail.Goals as goal
+use Rattle.store_core.proofs.telling.fail.Goals as goal
 
 pub returns-clause-answer : goal.returns-clause-answer
 returns-clause-answer g c =
@@ -12,5 +15,10 @@ returns-clause-answer g c =
     let some : 0 < length (rows_of c.stop-turn.new.running.rows.items c.args.channel).left =
     subst (λ (rows : List Row). 0 < length (rows_of rows c.args.channel).left) (sym same) c.requires.left in
     let first = first_of (rows_of c.stop-turn.new.running.rows.items c.args.channel).left some in
-    let logged = c.log.ensures.logged first.0 first.1 first.2 in
+    let logged = c.give_up.ensures.logged first.0 first.1 first.2 in
     c.stop-turn.ensures.answer ∙ sym (ap answer_of logged)
+
+pub returns-clause-logged : goal.returns-clause-logged
+returns-clause-logged g c =
+    given_up_after g.D.PageDisk (stopped_at (view_of c.args.running.now)) (view_of c.stop-turn.new.running)
+    (view_of c.give_up.new.running) c.args.channel Fault c.stop-turn.ensures.stopped c.give_up.ensures.logged

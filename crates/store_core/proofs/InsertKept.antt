@@ -1,0 +1,53 @@
+-- What is kept over the begin of an insert, and what a message that posts one tells.
+use Rattle.std.proofs.Common.{◌≡◌, ℕ, ◌<◌, List, length, Option, Some, None, refl, subst, sym}
+use Rattle.std.specs.Prelude.{IsSome}
+use Rattle.page_disk.specs.declared.disk.PageDisk.{Ghosts}
+use Rattle.volume_model.specs.declared.reply.Msg.{Msg}
+use Rattle.store_model.specs.Cases as kind
+use Rattle.store_model.specs.Rows.{OpenClaim, Posted}
+use Rattle.store_core.specs.Inserts.{HoldsPosted, InsertsOrNot}
+use Rattle.store_core.specs.Requests.{IsInsertPosted}
+use Rattle.store_core.specs.StoreInvariant.{StoreInvariant}
+use Rattle.store_core.specs.StoreView.{StoreView, WithOpening, rows_of}
+use Rattle.store_core.specs.TurnMade.{TurnMade}
+use Rattle.store_core.specs.declared.inserting.InsertTurn.{InsertTurn}
+use Rattle.store_core.specs.declared.inserting.InsertTurn.TheVariants as insert
+use Rattle.store_core.proofs.Posting.{low_of}
+
+some_of : (o : Option OpenClaim) → IsSome o → (claim : OpenClaim) × (o ≡ Some claim)
+some_of None is = absurd (cc is)
+some_of (Some claim) is = (claim, refl)
+
+pub holds_posted : {D : Type 0} (p : StoreView D) (msg : Msg) → IsInsertPosted p.rows msg → HoldsPosted p msg.channel
+holds_posted p msg is =
+    let row = rows_of p.rows msg.channel in
+    let claim = some_of row.claim is.claimed in
+    record {
+      serial = msg.serial;
+      left = row.left;
+      claim = claim.0;
+      row = λ i. record { left = row.left; stage = is.stage i; claim = claim.1 i };
+    }
+
+pub posted_low : {D : Type 0} (p : StoreView D) (msg : Msg) → length p.rows ≡ 16 → IsInsertPosted p.rows msg
+    → msg.channel < 16
+posted_low p msg sixteen is = low_of p.rows msg.channel (Posted msg.serial) sixteen is.stage (λ bad. cc bad)
+
+-- the begin, by whether the store is stopped
+pub inserting_or_not : {D : Type 0} (d : Ghosts D) (p : WithOpening D) (q : StoreView D) (turn : InsertTurn)
+    → ((k : kind.Kind) → TurnMade d p.at q k
+    → StoreInvariant d (record { at = q; opening = p.opening; right = p.right }))
+    → (p.at.stopped ≡ None → InsertsOrNot d p.at q turn)
+    → (IsSome p.at.stopped → (turn ≡ insert.Logged) × TurnMade d p.at q kind.halts)
+    → StoreInvariant d (record { at = q; opening = p.opening; right = p.right })
+inserting_or_not d p q turn goes_on runs stops = by p.at.stopped refl
+  where
+    made : (t : InsertTurn) → InsertsOrNot d p.at q t
+        → StoreInvariant d (record { at = q; opening = p.opening; right = p.right })
+    made insert.Began x = goes_on kind.begins_insert x
+    made insert.Decided x = goes_on kind.loses_insert x
+    made insert.Logged x = goes_on x.kind x.made
+
+    by : (o : Option ℕ) → p.at.stopped ≡ o → StoreInvariant d (record { at = q; opening = p.opening; right = p.right })
+    by None is = made turn (runs is)
+    by (Some at) is = goes_on kind.halts (stops (subst IsSome (sym is) refl)).1

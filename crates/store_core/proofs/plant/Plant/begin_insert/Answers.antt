@@ -1,0 +1,39 @@
+use Rattle.std.proofs.Common.{◌≡◌, None, subst, sym}
+use Rattle.store_core.specs.Running.{view_of, with_opening}
+use Rattle.store_core.specs.Requests.{IsInsertPosted}
+use Rattle.store_core.specs.StoreView.{WithOpening}
+use Rattle.store_core.proofs.InsertKept.{holds_posted, inserting_or_not, posted_low}
+use Rattle.store_core.proofs.OwnKept.{own_kept}
+use Rattle.store_core.proofs.Posting.{kept_running}
+use Rattle.store_core.proofs.plant.Plant.begin_insert.Goals as goal
+
+pub begin_insert_or_halt-requires-clause-channel : goal.begin_insert_or_halt-requires-clause-channel
+begin_insert_or_halt-requires-clause-channel g c = posted_low (view_of c.self.inside.running) c.args.msg
+    c.self.invariant.1.sixteen
+    (subst (λ (b : WithOpening g.row.D.Denot). IsInsertPosted b.at.rows c.args.msg) (sym c.self.view_is)
+    c.requires.posted)
+
+pub begin_insert_or_halt-requires-clause-posted : goal.begin_insert_or_halt-requires-clause-posted
+begin_insert_or_halt-requires-clause-posted g c = holds_posted (view_of c.self.inside.running) c.args.msg
+    (subst (λ (b : WithOpening g.row.D.Denot). IsInsertPosted b.at.rows c.args.msg) (sym c.self.view_is)
+    c.requires.posted)
+
+pub begin_insert_or_halt-requires-clause-running : goal.begin_insert_or_halt-requires-clause-running
+begin_insert_or_halt-requires-clause-running g c = kept_running g.D.PageDisk
+    (with_opening c.self.inside.running c.self.inside.opening.value c.self.inside.right.value.name)
+    c.self.invariant.0
+
+pub begin_insert_or_halt-requires-clause-own : goal.begin_insert_or_halt-requires-clause-own
+begin_insert_or_halt-requires-clause-own g c = own_kept g.D.PageDisk
+    (with_opening c.self.inside.running c.self.inside.opening.value c.self.inside.right.value.name)
+    c.self.invariant.0
+
+pub invariant_of-self : goal.invariant_of-self
+invariant_of-self g c =
+    let p = (with_opening c.self.inside.running c.self.inside.opening.value c.self.inside.right.value.name) in
+    let q = view_of c.begin_insert_or_halt.new.running in (
+      inserting_or_not g.D.PageDisk p q c.begin_insert_or_halt.result
+          (λ k made. c.goes_on.ensures p q k c.self.invariant.0 made)
+          c.begin_insert_or_halt.ensures.begins c.begin_insert_or_halt.ensures.halted,
+      c.begin_insert_or_halt.ensures.order,
+    )
