@@ -17,7 +17,7 @@ use Rattle.store_model.specs.Jobs.{LacksPages}
 use Rattle.store_model.specs.Places.{all_set, without_claim}
 use Rattle.store_model.specs.Rows.{Answered, Decided, Ended, InJob, Lost, OpenClaim, Posted, Row, Rows, with_row}
 use Rattle.store_model.specs.StoreState.{logged, StoreState}
-use Rattle.store_core.specs.Inserts.{no_effects, HoldsPosted}
+use Rattle.store_core.specs.Inserts.{no_effects, HoldsPosted, IsLack}
 use Rattle.store_core.specs.Jobs.{replacing_of, writing_for}
 use Rattle.store_core.specs.OwnWrites.{AreOwn, BeginsWithWrite}
 use Rattle.store_core.specs.Steps.{logged_at}
@@ -28,7 +28,8 @@ use Rattle.store_core.specs.TurnMade.{TurnMade}
 use Rattle.store_core.specs.declared.job.Planned.{Planned}
 use Rattle.store_core.specs.declared.job.Serves.TheVariants as whom
 use Rattle.store_core.specs.declared.preparing.Prepared.{Prepared}
-use Rattle.store_core.specs.Begins.{IsPrepared}
+use Rattle.store_core.specs.Begins.{IsPrepared, IsUnprepared}
+use Rattle.store_core.specs.ChannelTurns.{TurnsAs}
 use Rattle.store_core.proofs.InsertFailed.{command as write_of, given_up_after, low_left, logs_own}
 use Rattle.store_core.proofs.InsertReady.{has_chain, moves, ready}
 use Rattle.store_core.proofs.Rowing.{rows_set, state_logged}

@@ -36,7 +36,7 @@ law = record {
         logs = answer (entry_of p.log t.posted.row (command p q t) r.Memory) refl refl tt t.runs;
       });
   images = λ d x t does. untouched_images d x does
-      (subst (Idles x.p) (sym t.logs.next) (idles x.p _ refl refl refl refl refl
+      (subst (Idles x.p) (sym t.logs.next) (idles x.p _ refl refl refl refl
       (λ _. notes (entry_of x.p.log t.posted.row (command x.p x.q t) r.Memory) refl refl)));
   job = λ of. absurd of;
 }
