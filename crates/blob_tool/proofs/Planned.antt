@@ -76,7 +76,7 @@ same_first left a b rest more x y = let e : a ∷ rest ≡ b ∷ more = sym x �
 
 -- what a verb that syncs asks for is to be written
 to_write : (p : StoreState) (command : Command) (head : ℕ) (new : Meta) → AsksFor p command head new
-    → AsksToWrite p command head new
+    → AsksToWrite p command head new []
 to_write p command head new asks =
     record {
       commit = record { reply = r.Ok; live = Some new.xattrs; renews = [] };
@@ -120,10 +120,11 @@ module _ {D : Type 0} (d : Ghosts D) (laws : PlanLaws d) (p : StoreView D) (runn
       let new = record plan.old { xattrs = with_value live key value } in
       let asked : found.volume ≡ volume = let e = found.asked in cc e in
       let at = at_plan head live plan.head plan.old found asked plan.meant plan.there in (
-        record { head = plan.head; new = new; is = plan.job_is },
+        record { head = plan.head; new = new; zeros = []; is = plan.job_is },
         record {
           head = plan.head;
           new = new;
+          zeros = [];
           is = plan.job_is;
           asks =
               to_write (state_of d p) (c.Put volume key value) plan.head _
@@ -140,10 +141,11 @@ module _ {D : Type 0} (d : Ghosts D) (laws : PlanLaws d) (p : StoreView D) (runn
       let new = record plan.old { xattrs = live } in
       let asked : found.volume ≡ volume = let e = found.asked in cc e in
       let at = at_plan head live plan.head plan.old found asked plan.meant plan.there in (
-        record { head = plan.head; new = new; is = plan.job_is },
+        record { head = plan.head; new = new; zeros = []; is = plan.job_is },
         record {
           head = plan.head;
           new = new;
+          zeros = [];
           is = plan.job_is;
           asks =
               to_write (state_of d p) (c.Sync volume) plan.head _
@@ -289,7 +291,7 @@ module _ {D : Type 0} (d : Ghosts D) (laws : PlanLaws d) (p : StoreView D) (runn
           → IsFirstRefusal p.metas p.super (c.Create name slots false uuid) None
           → IsFor d p (c.Create name slots false uuid) job
       made_so name slots uuid head next job plan first = (
-        record { head = head; new = new_meta head plan.xattrs false slots; is = plan.job_is },
+        record { head = head; new = new_meta head plan.xattrs false slots; zeros = []; is = plan.job_is },
         subst (λ (job : Job). IsJobOf (state_of d p) (c.Create name slots false uuid) job) (sym plan.job_is)
             (made name slots uuid head plan.xattrs plan.is_name next first plan.named),
       )

@@ -83,7 +83,7 @@ module _ (s : Super) (base : Metas) (head : ℕ) (new later : Meta) (freed claim
   pub filled_moves : MovesClusters s base (with_entry base head later) freed claimed
   filled_moves = record {
     kept = λ c x. kept c (moves.kept c x);
-    let_go = λ c among. let x = moves.let_go c among in (x.0, x.1.0, λ y. gone c x.1.0 x.1.1 (mapped_was c y));
+    let_go = λ c among. let x = moves.let_go c among in (x.0, x.1, λ y. gone c x.1 x.2 (mapped_was c y));
     gained = λ c y. gained c (mapped_was c y);
     filled = λ c among. let x = all c among in record {
       head = head;

@@ -37,24 +37,28 @@ use Rattle.store_model.specs.Shown.{fixed_of}
 use Rattle.store_model.specs.Phases.{Committing, page_in}
 use Rattle.store_model.specs.StoreState.{StoreState, shown}
 use Rattle.store_model.specs.Places.{all_set, held_by, AreDistinct, AreLeastClear, IsLinked, UsedPages}
-use Rattle.store_model.specs.Jobs.{places_of, IsPacked, MovesClusters, Needs}
+use Rattle.store_model.specs.Jobs.{places_of, with_clusters, IsPacked, MovesClusters, Needs}
 use Rattle.store_model.specs.Asking.{AsksFor, creates, IsJobFor, IsSyncing, resizes, syncs}
 use Rattle.store_model.specs.RunInvariant.{CanBeWritten, IsLoadable, RunsWell}
-use Rattle.store_model.proofs.JobReady.{job_writable}
+use Rattle.store_model.proofs.ClaimedZeros.{claimed_free, zeroed_is}
+use Rattle.store_model.proofs.JobReady.{head_of, job_writable, new_of, one_change}
 use Rattle.store_model.proofs.Cut.{cut, is_cut as is_taken, length_cut}
 use Rattle.store_model.proofs.OneReplacement.{base_lawful}
 use Rattle.store_model.proofs.Known.{Known}
 use Rattle.store_model.proofs.NewBlob.{empty_slot, two_written}
 use Rattle.store_model.proofs.Sets.{among_either, among_first, are_distinct, were_clear}
+use Rattle.store_model.proofs.ZeroSlots.{each_claimed}
 use Rattle.store_model.proofs.WithEntry.{given_here, given_elsewhere}
-use Rattle.store_core.specs.Begins.{taken_for, AsksToWrite, IsPrepared, IsTaken}
+use Rattle.store_core.specs.Begins.{job_with_zeros, taken_for, AsksToWrite, IsPrepared, IsTaken}
 use Rattle.store_core.specs.Effects.{cut_clusters, is_cut, is_live_kept, live_behind, numbered_by}
 use Rattle.store_core.specs.StoreInvariant.{IsRunning}
 use Rattle.store_core.specs.declared.preparing.Prepared.{Prepared}
 use Rattle.store_core.proofs.AtWork.{page_of, got}
 use Rattle.store_core.proofs.Cleared.{among_get}
 use Rattle.store_core.proofs.CutClusters.{cut_moves, cut_once}
+use Rattle.store_core.proofs.FilledMoves.{filled_moves}
 use Rattle.store_core.proofs.JobPlaces.{once_each, places_from}
+use Rattle.store_core.proofs.SlotsOfZeros.{can_be_filled, with_none, CanBeFilled}
 
 pub all_fit : (xattrs : Xattrs) → CanBeWritten xattrs → All FitsPage xattrs
 all_fit xattrs can = All-from_recursion FitsPage xattrs can.short
@@ -64,9 +68,10 @@ record IsSameOne (head other : ℕ) (new meta : Meta) : Type 0 where
   head_is : head ≡ other
   new_is : new ≡ meta
 
-same_one : (head other : ℕ) (new meta : Meta) (changes : Job) → job_of_one head new ≡ changes
-    → changes.list ≡ record { head = other; new = Some meta } ∷ [] → IsSameOne head other new meta
-same_one head other new meta changes is list =
+same_one : (head other : ℕ) (new meta : Meta) (zeros : List ℕ) (changes : Job)
+    → job_with_zeros head new zeros ≡ changes → changes.list ≡ record { head = other; new = Some meta } ∷ []
+    → IsSameOne head other new meta
+same_one head other new meta zeros changes is list =
     let lists = ap (λ (j : Job). j.list) is ∙ list in
     let one : record { head = head; new = Some new } ≡ record { head = other; new = Some meta } = cc lists in
     let metas : Some new ≡ Some meta = ap (λ (x : Replacement). x.new) one in
@@ -133,7 +138,7 @@ ltb-irrefl : (n : ℕ) → nat_lt n n ≡ false
 ltb-irrefl n = grind (arith, nat_tests)
 
 module _ (p : StoreState) (running : IsRunning p) (runs : p.stopped ≡ None) (command : Command) (head : ℕ) (new : Meta)
-    (asks : AsksToWrite p command head new) where
+    (zeros : List ℕ) (asks : AsksToWrite p command head new zeros) where
   abbrev known : Known
   known = record {
     s = running.store;
@@ -147,15 +152,22 @@ module _ (p : StoreState) (running : IsRunning p) (runs : p.stopped ≡ None) (c
   well : RunsWell running.first p
   well = running.facts.well runs
 
-  pub loadable : head < p.super.md_len → IsLoadable p.super head new
-  loadable low = subst (λ s. IsLoadable s head new) (sym running.facts.super)
-      (job_writable known runs command (job_of_one head new) asks.commit asks.asked [] tt refl
+  -- with clusters in its slots of zeros a load takes it
+  pub loadable : (claimed : List ℕ) → AreLeastClear p.clusters claimed → length claimed ≡ length zeros
+      → head < p.super.md_len → IsLoadable p.super head (with_clusters new zeros claimed)
+  loadable claimed least one_each low =
+      subst (λ s. IsLoadable s head (with_clusters new zeros claimed)) (sym running.facts.super)
+      (job_writable known runs command (job_with_zeros head new zeros) asks.commit asks.asked claimed least one_each
       (record { head = head; new = Some new }) new refl refl
       (subst (λ (s : Super). head < s.md_len) running.facts.super low))
 
   there_low : (m : Meta) → p.base head ≡ Some m → head < p.super.md_len
   there_low m there = subst (λ (s : Super). head < s.md_len) (sym running.facts.super)
       (running.facts.loadable head m there).stored.low
+
+  was_there : (m : Meta) → p.base head ≡ Some m → IsLoadable p.super head m
+  was_there m there =
+      subst (λ (s : Super). IsLoadable s head m) (sym running.facts.super) (running.facts.loadable head m there)
 
   -- what is known of it, whichever verb asks
   pub record IsAsked (before : Option Meta) : Type 0 where
@@ -186,17 +198,16 @@ module _ (p : StoreState) (running : IsRunning p) (runs : p.stopped ≡ None) (c
 
   -- of a blob that is there, with its slots cut or others added
   asked_there : (old : Meta) → p.base head ≡ Some old → (slots : ℕ) → new.map ≡ cut old.map slots None
-      → new.internal ≡ old.internal → MayLackMemory (fixed_of p.super) (shown p) command
+      → CanBeWritten new.xattrs → new.internal ≡ old.internal → MayLackMemory (fixed_of p.super) (shown p) command
       → asks.commit ≡ record {
         reply = r.Ok;
         live = live_behind (is_live_kept command) new;
         renews = if nat_lt slots (length old.map) then head ∷ [] else [];
       } → IsAsked (Some old)
-  asked_there old there slots map_is internal memory commit =
+  asked_there old there slots map_is xattrs internal memory commit =
       let long : length new.map ≡ slots = ap (λ (l : List (Option ℕ)). length l) map_is
       ∙ length_cut {X = Option ℕ} old.map slots None in
-      let was : IsLoadable p.super head old =
-      subst (λ (s : Super). IsLoadable s head old) (sym running.facts.super) (running.facts.loadable head old there) in
+      let was = was_there old there in
       let lawful = base_lawful known in
       record {
         commit = commit ∙ ap (λ n. record {
@@ -204,8 +215,8 @@ module _ (p : StoreState) (running : IsRunning p) (runs : p.stopped ≡ None) (c
           live = live_behind (is_live_kept command) new;
           renews = if nat_lt n (length old.map) then head ∷ [] else [];
         }) (sym long);
-        xattrs = (loadable (there_low old there)).stored.xattrs;
-        internal = (loadable (there_low old there)).stored.internal;
+        xattrs = xattrs;
+        internal = subst CanBeWritten (sym internal) was.stored.internal;
         once = subst (λ n. AreDistinct (clusters_of (drop n old.map))) (sym long)
             (cut_once p.super p.base head old new slots there lawful was map_is);
         moves = subst (λ n. MovesClusters p.super p.base (with_entry p.base head new) (clusters_of (drop n old.map)) [])
@@ -213,14 +224,20 @@ module _ (p : StoreState) (running : IsRunning p) (runs : p.stopped ≡ None) (c
         memory = memory;
       }
 
-  asked_by : IsJobFor p command (job_of_one head new) asks.commit → IsAsked (p.base head)
+  -- without clusters in its slots it is the same, but for the map
+  bare_xattrs : zeros ≡ [] → head < p.super.md_len → CanBeWritten new.xattrs
+  bare_xattrs none low = subst (λ (m : Meta). CanBeWritten m.xattrs) (with_none new zeros)
+      (loadable [] tt (sym (ap (λ (l : List ℕ). length l) none)) low).stored.xattrs
+
+  asked_by : IsJobFor p command (job_with_zeros head new zeros) asks.commit → IsAsked (p.base head)
   asked_by (syncs y) =
-      let same = same_one head y.head new y.new (job_of_one y.head y.new) y.is refl in
+      let same = same_one head y.head new y.new zeros (job_of_one y.head y.new) y.is refl in
       let mine : AsksFor p command head new = subst (λ h. AsksFor p command h new) (sym same.head_is)
       (subst (AsksFor p command y.head) (sym same.new_is) y.asks) in
       let kept : new.map ≡ cut mine.old.map (length mine.old.map) None =
       ap (λ (m : Meta). m.map) mine.new_is ∙ sym (whole_cut mine.old.map) in
       subst IsAsked (sym mine.there) (asked_there mine.old mine.there (length mine.old.map) kept
+      (bare_xattrs (ap (λ (j : Job). j.zero) y.is) (there_low mine.old mine.there))
       (ap (λ (m : Meta). m.internal) mine.new_is) (may_lack y.asks.syncing)
       (y.commit_is
       ∙ ap (λ (m : Meta). record { reply = r.Ok; live = Some m.xattrs; renews = [] }) (sym same.new_is)
@@ -234,7 +251,7 @@ module _ (p : StoreState) (running : IsRunning p) (runs : p.stopped ≡ None) (c
   asked_by (creates y) =
       let xattrs = two_xattrs (fixed_of p.super) (shown p) y.name y.uuid in
       let made = new_meta y.head xattrs y.thick y.slots in
-      let same = same_one head y.head new made (create_job y.head xattrs y.thick y.slots) y.is refl in
+      let same = same_one head y.head new made zeros (create_job y.head xattrs y.thick y.slots) y.is refl in
       let none : p.base head ≡ None = ap p.base same.head_is ∙ y.none in
       subst IsAsked (sym none) (record {
         commit = y.commit_is
@@ -256,9 +273,10 @@ module _ (p : StoreState) (running : IsRunning p) (runs : p.stopped ≡ None) (c
       })
   asked_by (resizes y) =
       let made = resized_meta y.old y.slots in
-      let same = same_one head y.head new made (resize_job y.head y.old y.slots) y.is refl in
+      let same = same_one head y.head new made zeros (resize_job y.head y.old y.slots) y.is refl in
       let there : p.base head ≡ Some y.old = ap p.base same.head_is ∙ y.there in
       subst IsAsked (sym there) (asked_there y.old there y.slots (ap (λ (m : Meta). m.map) same.new_is)
+      (subst (λ (m : Meta). CanBeWritten m.xattrs) (sym same.new_is) (was_there y.old there).stored.xattrs)
       (ap (λ (m : Meta). m.internal) same.new_is)
       (subst (MayLackMemory (fixed_of p.super) (shown p)) (sym y.command_is) tt)
       (y.commit_is
@@ -276,6 +294,40 @@ module _ (p : StoreState) (running : IsRunning p) (runs : p.stopped ≡ None) (c
 
   pub asked : IsAsked (p.base head)
   asked = asked_by asks.asked
+
+  -- ---- its slots of zeros
+
+  pub fillable : CanBeFilled p.base new zeros
+  fillable =
+      let is = one_change p command (job_with_zeros head new zeros) asks.commit asks.asked in
+      let same = same_one head (head_of p command _ asks.commit asks.asked) new
+      (new_of p command _ asks.commit asks.asked) zeros _ is refl in
+      subst (λ (m : Meta). CanBeFilled p.base m zeros) (sym same.new_is)
+      (subst (CanBeFilled p.base (new_of p command _ asks.commit asks.asked)) (sym (ap (λ (j : Job). j.zero) is))
+      (can_be_filled p command _ asks.commit asks.asked))
+
+  -- each of them is a slot of the new map
+  pub zeros_within : All (λ i. i < length new.map) zeros
+  zeros_within k d lt = (fillable.empty (get_or zeros k d) (among_get zeros k d lt)).0
+
+  placed : IsPlaced p.super
+  placed = subst IsPlaced (sym running.facts.super) running.placed
+
+  -- cluster 0 is none that a slot can hold
+  pub first_in_use : is_in p.clusters 0 ≡ true
+  first_in_use = well.clusters.fixed 0 placed.some_fixed
+      (let some = placed.some_fixed in let le = placed.fixed_clusters in omega (arith, some, le))
+
+  module _ (claimed : List ℕ) (least : AreLeastClear p.clusters claimed)
+      (one_each : length claimed ≡ length zeros) where
+    -- the clusters that are claimed for these slots are in the map then, and all else moves as without them
+    pub moves_filled : MovesClusters p.super p.base (with_entry p.base head (with_clusters new zeros claimed))
+        (cut_clusters (p.base head) new) claimed
+    moves_filled = filled_moves p.super p.base head new (with_clusters new zeros claimed)
+        (cut_clusters (p.base head) new) claimed asked.moves
+        (zeroed_is known runs claimed least head new zeros fillable.distinct fillable.empty fillable.had)
+        (each_claimed new zeros claimed fillable.distinct fillable.empty one_each)
+        (claimed_free known runs claimed least)
 
   -- ---- its chain
 
@@ -299,7 +351,6 @@ module _ (p : StoreState) (running : IsRunning p) (runs : p.stopped ≡ None) (c
 
   small : p.super.md_len < 2 ^ 32
   small =
-      let placed : IsPlaced p.super = subst IsPlaced (sym running.facts.super) running.placed in
       let few = placed.few_md_pages in
       omega (arith, few)
 
@@ -360,8 +411,12 @@ module _ (p : StoreState) (running : IsRunning p) (runs : p.stopped ≡ None) (c
       pub all_low : All (λ x. x < p.super.md_len) (head ∷ fresh)
       all_low k d lt = below (get_or (head ∷ fresh) k d) (among_get (head ∷ fresh) k d lt)
 
-    module _ (chains : map.FinMap nat_cmp (List ℕ)) (after : List Bool) (x : Prepared)
-        (is : IsPrepared chains head new makes p.pages after x) where
+    module _ (claimed : List ℕ) (least : AreLeastClear p.clusters claimed) (one_each : length claimed ≡ length zeros)
+        (chains : map.FinMap nat_cmp (List ℕ)) (after : List Bool) (x : Prepared)
+        (is : IsPrepared chains head (with_clusters new zeros claimed) makes p.pages after x) where
+      abbrev later : Meta
+      later = with_clusters new zeros claimed
+
       t : IsTaken is.items head makes p.pages after x.laid
       t = is.taken
 
@@ -372,15 +427,15 @@ module _ (p : StoreState) (running : IsRunning p) (runs : p.stopped ≡ None) (c
       planned_pages k d lt = page_of x.laid.pages k (get_or x.laid.pages k d)
           (subst AreDistinct (sym planned_places) (all_differ t.fresh t.least)) (got x.laid.pages k d lt)
 
-      whole : IsLoadable p.super head new
-      whole = loadable (head_low t.fresh t.least)
+      whole : IsLoadable p.super head later
+      whole = loadable claimed least one_each (head_low t.fresh t.least)
 
-      says_new : new ≡ meta_of head (written_items is.items)
+      says_new : later ≡ meta_of head (written_items is.items)
       says_new = sym (written_say head is.items is.plannable
-          ∙ says head new is.items whole.stored.id whole.stored.clear whole.stored.xattrs.names
+          ∙ says head later is.items whole.stored.id whole.stored.clear whole.stored.xattrs.names
           whole.stored.internal.names is.are)
 
-      ready_at : IsReady p head new makes after x.laid.pages t.fresh
+      ready_at : IsReady p head later makes after x.laid.pages t.fresh
       ready_at = record {
         needs = record { items = is.items; are = is.are; chain = sym t.count };
         least = t.least;
@@ -396,5 +451,5 @@ module _ (p : StoreState) (running : IsRunning p) (runs : p.stopped ≡ None) (c
         places = planned_places;
       }
 
-      pub ready : IsReady p head new makes after x.laid.pages (drop 1 x.laid.chain)
-      ready = subst (IsReady p head new makes after x.laid.pages) (sym (ap (drop 1) t.laid_on.chain)) ready_at
+      pub ready : IsReady p head (with_clusters new zeros claimed) makes after x.laid.pages (drop 1 x.laid.chain)
+      ready = subst (IsReady p head later makes after x.laid.pages) (sym (ap (drop 1) t.laid_on.chain)) ready_at

@@ -1,5 +1,5 @@
 -- The head that is next is a new blob's, and a create asks for its job there.
-use Rattle.std.proofs.Common.{◌≡◌, ℕ, true, false, List, [], ◌∷◌, Option, Some, None, refl, sym, ap, ◌∙◌, inl, inr}
+use Rattle.std.proofs.Common.{◌≡◌, ℕ, Bool, true, false, List, [], ◌∷◌, Option, Some, None, refl, sym, ap, ◌∙◌, inl, inr}
 use Rattle.std.proofs.Common.{arith}
 use Rattle.std.specs.Ordering.{nat_cmp}
 use Rattle.std.specs.FinMap as map
@@ -51,16 +51,17 @@ module _ (s : Super) (first : Volumes) (script : ℕ → List _) (p : StoreState
 
   -- a create that nothing refuses asks for a blob at the head that is next, with the attributes that its step gives
   pub asks_create : (metas : map.FinMap nat_cmp Meta) → ShowsMetas (fixed_of p.super) p.super metas (shown p)
-      → (name : Text) (slots : ℕ) (uuid : Option (List ℕ)) (head : ℕ) (xattrs : Xattrs) → IsName name
-      → IsNextHead p.super.md_len p.pages head → IsFirstRefusal metas p.super (c.Create name slots false uuid) None
+      → (name : Text) (slots : ℕ) (thick : Bool) (uuid : Option (List ℕ)) (head : ℕ) (xattrs : Xattrs) → IsName name
+      → IsNextHead p.super.md_len p.pages head → IsFirstRefusal metas p.super (c.Create name slots thick uuid) None
       → ((f : Fixed) (v : Volumes) → ShowsMetas f p.super metas v → two_xattrs f v name uuid ≡ xattrs)
-      → IsJobOf p (c.Create name slots false uuid) (create_job head xattrs false slots)
-  asks_create metas shows name slots uuid head xattrs is_name next unrefused named =
+      → IsJobOf p (c.Create name slots thick uuid) (create_job head xattrs thick slots)
+  asks_create metas shows name slots thick uuid head xattrs is_name next unrefused named =
       let same : xattrs ≡ two_xattrs (fixed_of p.super) (shown p) name uuid =
       sym (named (fixed_of p.super) (shown p) shows) in
       record {
         head = head;
-        new = new_meta head xattrs false slots;
+        new = new_meta head xattrs thick slots;
+        zeros = (create_job head xattrs thick slots).zero;
         is = refl;
         asks =
             record {
@@ -71,13 +72,13 @@ module _ (s : Super) (first : Volumes) (script : ℕ → List _) (p : StoreState
                     name = name;
                     named = is_name;
                     slots = slots;
-                    thick = false;
+                    thick = thick;
                     uuid = uuid;
                     command_is = refl;
                     asked = unrefused (fixed_of p.super) (shown p) shows;
                     head = head;
                     none = no_blob head next;
-                    is = ap (λ xs. create_job head xs false slots) same;
+                    is = ap (λ xs. create_job head xs thick slots) same;
                     commit_is = ap (λ xs. record { reply = r.Made head; live = Some xs; renews = head ∷ [] }) same;
                   });
               next = λ none. fresh_head head next;

@@ -1,6 +1,6 @@
 -- What a plan made of what a running store has in memory is in the volumes that the store shows.
 use Rattle.store_core.specs.StoreInvariant.{IsRunning}
-use Rattle.std.proofs.Common.{◌≡◌, ℕ, List, [], ◌∷◌, length, Some, None, refl, sym, ap, ◌∙◌}
+use Rattle.std.proofs.Common.{◌≡◌, ℕ, [], ◌∷◌, length, Some, None, refl, sym, ap, ◌∙◌}
 use Rattle.std.specs.Prelude.{if◌then◌else◌, nat_lt}
 use Rattle.std.specs.Option.{option_map, option_and_then}
 use Rattle.std.specs.Ordering.{nat_cmp}
@@ -15,7 +15,7 @@ use Rattle.blob_meta.specs.declared.meta.Meta.{Meta}
 use Rattle.blob_meta.specs.Asked.{IsFirstCause}
 use Rattle.blob_meta.specs.ShownBy.{IsFirstRefusal, IsHeadMeant, ShowsMetas}
 use Rattle.blob_meta.specs.declared.job.Job.{Job}
-use Rattle.blob_meta.specs.Jobs.{job_of_one, resize_job, resized_meta}
+use Rattle.blob_meta.specs.Jobs.{resize_job, resized_meta}
 use Rattle.volume_model.specs.declared.reply.Reply.TheVariants as r
 use Rattle.store_model.specs.Maps.{Map}
 use Rattle.store_model.specs.Shown.{fixed_of}
@@ -87,19 +87,17 @@ module _ (p : StoreState) (running : IsRunning p) (runs : p.stopped ≡ None) (m
     new_is = ap (λ (xs : Xattrs). record old { xattrs = xs }) (sym here.2);
   }
 
--- a resize of a blob that is there, without slots of zeros
+-- a resize of a blob that is there
 asks_resize : (p : StoreState) (metas : map.FinMap nat_cmp Meta) → ShowsMetas (fixed_of p.super) p.super metas (shown p)
     → (volume : VolumeRef) (slots head : ℕ) (old : Meta) (job : Job) → p.base head ≡ Some old
     → IsHeadMeant metas p.super volume (Some head) → IsFirstRefusal metas p.super (c.Resize volume slots) None
-    → job ≡ resize_job head old slots → job.zero ≡ [] → IsJobOf p (c.Resize volume slots) job
-asks_resize p metas shows volume slots head old job there meant unrefused is zeros =
-    let plain : job ≡ job_of_one head (resized_meta old slots) =
-    is ∙ ap (λ (z : List ℕ). record (job_of_one head (resized_meta old slots)) { zero = z })
-    (sym (ap (λ (j : Job). j.zero) is) ∙ zeros) in
+    → job ≡ resize_job head old slots → IsJobOf p (c.Resize volume slots) job
+asks_resize p metas shows volume slots head old job there meant unrefused is =
     record {
       head = head;
       new = resized_meta old slots;
-      is = plain;
+      zeros = (resize_job head old slots).zero;
+      is = is;
       asks =
           record {
             commit = record {
@@ -118,7 +116,7 @@ asks_resize p metas shows volume slots head old job there meant unrefused is zer
                   found = meant (fixed_of p.super) (shown p) shows;
                   old = old;
                   there = there;
-                  is = sym plain ∙ is;
+                  is = refl;
                   commit_is = refl;
                 });
             next = λ none. absurd (let bad = sym none ∙ there in cc bad);
@@ -137,12 +135,11 @@ plan_laws d = record {
       cause;
   sync = λ p volume head old live running runs blob meant cause.
       asks_sync (state_of d p) running runs p.metas refl volume head old live blob.there blob.is_live meant cause;
-  create = λ p name slots uuid head xattrs running runs is_name next unrefused named.
+  create = λ p name slots thick uuid head xattrs running runs is_name next unrefused named.
       asks_create running.store running.first running.script (state_of d p) running.facts (running.facts.well runs)
-      p.metas (shows_metas (state_of d p) running runs p.metas refl) name slots uuid head xattrs is_name next unrefused
-      named;
-  resize = λ p volume slots head old job running runs meant there unrefused is zeros.
+      p.metas (shows_metas (state_of d p) running runs p.metas refl) name slots thick uuid head xattrs is_name next
+      unrefused named;
+  resize = λ p volume slots head old job running runs meant there unrefused is.
       asks_resize (state_of d p) p.metas (shows_metas (state_of d p) running runs p.metas refl) volume slots head old
-      job
-      there meant unrefused is zeros;
+      job there meant unrefused is;
 }

@@ -3,6 +3,7 @@ use Rattle.std.proofs.Common.{◌≡◌, ℕ, zero, suc, ◌+◌, ◌-◌, ◌*�
 use Rattle.std.proofs.Common.{map, refl, sym, ◌∙◌, ap, arith, add-one}
 use Rattle.std.specs.List.{range_with_len}
 use Rattle.store_model.specs.Phases.{Phase, Zeros}
+use Rattle.store_core.specs.Begins.{begun_job}
 use Rattle.store_core.specs.Jobs.{behind_zero, writing_job, zeroing_job}
 use Rattle.store_core.specs.Zeroing.{next_zeroed, pages_from, pages_of, IsLeft}
 use Rattle.store_core.specs.declared.job.Planned.{Planned}
@@ -24,7 +25,7 @@ drop_past (x ∷ xs) zero le = absurd (omega (arith, le))
 drop_past (x ∷ xs) (suc n) le = drop_past xs n (omega (arith, le))
 
 -- all pages of clusters
-from_start : (k : ℕ) (l : List ℕ) → pages_from k l 0 ≡ pages_of k l
+pub from_start : (k : ℕ) (l : List ℕ) → pages_from k l 0 ≡ pages_of k l
 from_start k [] = refl
 from_start k (c ∷ cs) =
     ap (λ n. range_with_len n (k - 0) ++ pages_of k cs) (let same : c * k + 0 ≡ c * k = omega arith in same)
@@ -122,3 +123,11 @@ module _ (channel : ℕ) (planned : Planned) (old : List ℕ) (z : Zeroed) (left
       behind []
       (sym (ap (λ l. pages_from k l 0) (drop_past claimed (suc z.clusters) (omega (arith, all))))
       ∙ next_cluster k claimed z.clusters z.pages left.clusters left.pages last)
+
+-- where no cluster is claimed a job writes its metadata at once
+pub none_zeroed : (channel : ℕ) (planned : Planned) (old : List ℕ) (cluster_pages : ℕ)
+    → length planned.effects.claimed ≤ 0
+    → writing_job channel planned old 0 ≡ begun_job channel planned old cluster_pages
+none_zeroed channel planned old cluster_pages none = sym (ap (λ l. record (writing_job channel planned old 0) {
+  todo = map Zeros (pages_from cluster_pages l 0) ++ (writing_job channel planned old 0).todo;
+}) (drop_past planned.effects.claimed 0 none))

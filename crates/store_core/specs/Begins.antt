@@ -1,7 +1,7 @@
 -- What a job is made of before it begins.
 use Rattle.std.specs.Prelude.{◌≡◌, ◌⊎◌, ℕ, ◌+◌, ◌-◌, ◌<◌, ◌^◌, nat_eq, if◌then◌else◌, Bool, true, List, []}
 use Rattle.std.specs.Prelude.{◌∷◌}
-use Rattle.std.specs.Prelude.{drop, length, None, Some, IsSome}
+use Rattle.std.specs.Prelude.{drop, length, slice_set, None, Some, IsSome}
 use Rattle.bit_array.specs.Bits.{IsFull, IsLeastClear}
 use Rattle.std.specs.List.{All, IsDistinct}
 use Rattle.std.specs.Ordering.{nat_cmp}
@@ -15,14 +15,17 @@ use Rattle.md_chain.specs.Planned.{chain_pages, written_items}
 use Rattle.store_model.specs.Places.{all_set, AreLeastClear}
 use Rattle.page_disk.specs.declared.disk.PageDisk.{Ghosts}
 use Rattle.volume_model.specs.declared.command.Command.{Command}
+use Rattle.volume_model.specs.declared.reply.Reply.{Reply}
+use Rattle.volume_model.specs.declared.reply.Reply.TheVariants as r
 use Rattle.blob_meta.specs.declared.job.Job.{Job}
 use Rattle.blob_meta.specs.Jobs.{job_of_one}
-use Rattle.store_model.specs.StoreState.{StoreState}
+use Rattle.store_model.specs.StoreState.{JobState, StoreState}
 use Rattle.store_model.specs.Cases as kind
 use Rattle.store_model.specs.Asking.{IsJobFor}
 pub use Rattle.store_model.specs.Jobs.{LacksPages}
 use Rattle.store_core.specs.TurnMade.{TurnMade}
-use Rattle.store_core.specs.StoreView.{StoreView}
+use Rattle.store_core.specs.Jobs.{job_seen, zeroing_job}
+use Rattle.store_core.specs.StoreView.{StoreView, rows_of}
 use Rattle.store_core.specs.Steps.{decided}
 use Rattle.store_model.specs.Rows.{Row, InJob}
 use Rattle.store_core.specs.declared.begin.BeginTurn.{BeginTurn}
@@ -32,7 +35,7 @@ use Rattle.store_core.specs.declared.effects.Effects.{Effects}
 use Rattle.store_core.specs.declared.preparing.Laid.{Laid}
 use Rattle.store_core.specs.declared.preparing.Prepared.{Prepared}
 use Rattle.store_core.specs.declared.job.RunningJob.{RunningJob}
-use Rattle.store_core.specs.declared.job.Work.TheVariants as work
+use Rattle.store_core.specs.declared.job.Planned.{Planned}
 
 -- a blob's chain, of its head and the places behind it
 abbrev pub HasChain : map.FinMap nat_cmp (List ℕ) → ℕ → Type 0
@@ -80,47 +83,62 @@ pub record IsPrepared (chains : map.FinMap nat_cmp (List ℕ)) (head : ℕ) (met
   pub plannable : ArePlannable items
   pub taken : IsTaken items head makes old new x.laid
 
--- the job that begins with it
-abbrev pub first_job : Prepared → ℕ → ℕ → Meta → Effects → RunningJob
-first_job x channel head meta effects =
-    record {
-      channel = channel;
-      work =
-          work.Writing
-          (record {
-            head = head;
-            new = meta;
-            effects = effects;
-            chain = x.laid.chain;
-            pages = x.laid.pages;
-          }) 0;
-      old = x.old;
-    }
+-- Why a job isn't prepared for new metadata of a blob that is there, or new: too few pages are clear; or, where too few
+-- clusters are clear, pages are enough; or memory ran out.
+abbrev pub IsUnprepared : Bool → Bool → Meta → List Bool → Reply → Type 0
+IsUnprepared lacks_clusters there new pages r.NoPage = LacksPages there new pages
+IsUnprepared lacks_clusters there new pages r.Full = (lacks_clusters ≡ true) × ¬ LacksPages there new pages
+IsUnprepared lacks_clusters there new pages r.Memory = Unit {0}
+IsUnprepared lacks_clusters there new pages _ = ⊥
 
--- a job of one replacement, which is its commit
+-- what is written with what was prepared
+abbrev pub planned_with : Prepared → ℕ → Meta → Effects → Planned
+planned_with x head new effects =
+    record { head = head; new = new; effects = effects; chain = x.laid.chain; pages = x.laid.pages }
+
+-- A job at its begin: all pages of the clusters that it has claimed are to be overwritten with zeros, and then its
+-- metadata is written.
+abbrev pub begun_job : ℕ → Planned → List ℕ → ℕ → JobState
+begun_job channel planned old cluster_pages =
+    zeroing_job channel planned old (record { cluster_pages = cluster_pages; clusters = 0; pages = 0 })
+
+-- one replacement, which is the commit, with a cluster of zeros for each of these slots of the new map
+abbrev pub job_with_zeros : ℕ → Meta → List ℕ → Job
+job_with_zeros head new zeros = record (job_of_one head new) { zero = zeros }
+
+-- a job of one replacement, which is its commit, and which freezes nothing
 pub record ReplacesOne (job : Job) : Type 0 where
   pub head : ℕ
   pub new : Meta
-  pub is : job ≡ job_of_one head new
+  pub zeros : List ℕ
+  pub is : job ≡ job_with_zeros head new zeros
 
--- What a command asks to be written at a head: new metadata, without slots of zeros. Where no blob is there the head is
--- the page that is next.
-pub record AsksToWrite (p : StoreState) (command : Command) (head : ℕ) (new : Meta) : Type 0 where
+-- What a command asks to be written at a head: new metadata, in which each of these slots is to get a cluster of zeros.
+-- Where no blob is there the head is the page that is next.
+pub record AsksToWrite (p : StoreState) (command : Command) (head : ℕ) (new : Meta) (zeros : List ℕ) : Type 0 where
   pub commit : Committing
-  pub asked : IsJobFor p command (job_of_one head new) commit
+  pub asked : IsJobFor p command (job_with_zeros head new zeros) commit
   pub next : p.base head ≡ None → IsFreshHead p.pages head
 
 -- the job that a command asks for
 pub record IsJobOf (p : StoreState) (command : Command) (job : Job) : Type 0 where
   pub head : ℕ
   pub new : Meta
-  pub is : job ≡ job_of_one head new
-  pub asks : AsksToWrite p command head new
+  pub zeros : List ℕ
+  pub is : job ≡ job_with_zeros head new zeros
+  pub asks : AsksToWrite p command head new zeros
 
--- the job begins, or its command is logged: too few pages are clear, or memory ran out
+-- the job begins, or its command is logged: too few pages or clusters are clear, or memory ran out
 abbrev pub BeginsOrNot : {D : Type 0} → Ghosts D → StoreView D → StoreView D → BeginTurn → Type 0
 BeginsOrNot d p q begin.Began = TurnMade d p q kind.begins
 BeginsOrNot d p q begin.Logged = TurnMade d p q kind.refuses
+
+-- the store with a job that has begun for the first command of a channel, which waits for it
+abbrev pub with_begun : {D : Type 0} → StoreView D → ℕ → RunningJob → StoreView D
+with_begun p channel job = record p {
+  rows = slice_set p.rows channel (record (rows_of p.rows channel) { stage = InJob });
+  job = Some (job_seen job);
+}
 
 -- the row of the channel then: the job serves it, or its first command is logged
 abbrev pub row_begun : BeginTurn → Row → Row

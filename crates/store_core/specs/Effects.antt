@@ -42,13 +42,14 @@ abbrev pub cut_clusters : Option Meta → Meta → List ℕ
 cut_clusters None new = []
 cut_clusters (Some old) new = clusters_of (drop (length new.map) old.map)
 
--- They are those of new metadata in place of old, whose attributes are read from then on, or not.
-pub record AreEffects (old : Option Meta) (live_kept : Bool) (new : Meta) (e : Effects) : Type 0 where
-  pub live : e.live ≡ live_behind live_kept new
-  pub renews : e.renews ≡ is_cut old new
-  pub freed : e.freed ≡ cut_clusters old new
-  -- none is claimed so far
-  pub claimed : e.claimed ≡ []
+-- They are those of new metadata in place of old, whose attributes are read from then on, or not, with these clusters
+-- claimed for it.
+pub record AreEffects (old : Option Meta) (live_kept : Bool) (new : Meta) (clusters : List ℕ) (e : Effects) : Type 0
+  where
+    pub live : e.live ≡ live_behind live_kept new
+    pub renews : e.renews ≡ is_cut old new
+    pub freed : e.freed ≡ cut_clusters old new
+    pub claimed : e.claimed ≡ clusters
 
 -- whether the blob gets a generation: it is new, or slots of it are cut
 abbrev pub is_numbered : Effects → Bool

@@ -1,5 +1,5 @@
 -- What a plan made of what a running store has in memory is in the volumes that the store shows.
-use Rattle.std.specs.Prelude.{◌≡◌, ℕ, false, List, [], Option, Some, None}
+use Rattle.std.specs.Prelude.{◌≡◌, ℕ, Bool, List, Option, Some, None}
 use Rattle.std.specs.FinMap as map
 use Rattle.page_disk.specs.declared.disk.PageDisk.{Ghosts}
 use Rattle.volume_model.specs.Xattrs.{Text, Xattrs, with_value}
@@ -52,16 +52,17 @@ pub record PlanLaws {D : Type 0} (d : Ghosts D) : Type 0 where
       → IsHeadMeant p.metas p.super volume (Some head)
       → IsFirstCause p.metas p.super (Some live) (c.Sync volume) None
       → AsksFor (state_of d p) (c.Sync volume) head (record old { xattrs = live })
-  -- A create of a thin volume that nothing refuses asks for a blob at the head that is next, with the attributes that
-  -- a new volume has beside those that are shown.
-  pub create : (p : StoreView D) (name : Text) (slots : ℕ) (uuid : Option (List ℕ)) (head : ℕ) (xattrs : Xattrs)
-      → IsRunning (state_of d p) → p.stopped ≡ None → IsName name → IsNextHead p.super.md_len p.pages head
-      → IsFirstRefusal p.metas p.super (c.Create name slots false uuid) None
+  -- A create that nothing refuses asks for a blob at the head that is next, with the attributes that a new volume has
+  -- beside those that are shown; where it is thick, each of its slots is to get a cluster of zeros.
+  pub create : (p : StoreView D) (name : Text) (slots : ℕ) (thick : Bool) (uuid : Option (List ℕ)) (head : ℕ)
+      (xattrs : Xattrs) → IsRunning (state_of d p) → p.stopped ≡ None → IsName name
+      → IsNextHead p.super.md_len p.pages head
+      → IsFirstRefusal p.metas p.super (c.Create name slots thick uuid) None
       → ((f : Fixed) (v : Volumes) → ShowsMetas f p.super p.metas v → two_xattrs f v name uuid ≡ xattrs)
-      → IsJobOf (state_of d p) (c.Create name slots false uuid) (create_job head xattrs false slots)
-  -- A resize that nothing refuses, and that adds no slot to a thick volume, asks for the slots of the blob that is
-  -- meant to be cut, or for empty ones behind them.
+      → IsJobOf (state_of d p) (c.Create name slots thick uuid) (create_job head xattrs thick slots)
+  -- A resize that nothing refuses asks for the slots of the blob that is meant to be cut, or for empty ones behind them,
+  -- each of which is to get a cluster of zeros where the blob isn't thin.
   pub resize : (p : StoreView D) (volume : VolumeRef) (slots head : ℕ) (old : Meta) (job : Job)
       → IsRunning (state_of d p) → p.stopped ≡ None → IsHeadMeant p.metas p.super volume (Some head)
       → map.get p.metas head ≡ Some old → IsFirstRefusal p.metas p.super (c.Resize volume slots) None
-      → job ≡ resize_job head old slots → job.zero ≡ [] → IsJobOf (state_of d p) (c.Resize volume slots) job
+      → job ≡ resize_job head old slots → IsJobOf (state_of d p) (c.Resize volume slots) job

@@ -1,6 +1,6 @@
 //! What a commit does besides: what follows from the new metadata of its blob.
 
-ghost use Rattle.std.specs.Prelude.{◌≡◌, None, IfOk, IfSome, IfNone, IsSome, option_copied};
+ghost use Rattle.std.specs.Prelude.{◌≡◌, [], None, IfOk, IfSome, IfNone, IsSome, option_copied};
 ghost use Rattle.std.specs.FinMap as map;
 ghost use Rattle.blob_meta.specs.Faults.{clusters_of};
 ghost use Rattle.store_core.specs.Effects.{cut_clusters, is_cut, is_live_kept, AreEffects};
@@ -35,15 +35,15 @@ pub(crate) fn keeps_live(command: &Command) -> bool
     matches!(command, Command::Resize { .. })
 }
 
-/// What the commit of new metadata at a head does, whose attributes are read from then on, or not. (Want of memory too
-/// if no generation is left for the blob.)
+/// What the commit of new metadata at a head does, whose attributes are read from then on, or not; no cluster is
+/// claimed so far. (Want of memory too if no generation is left for the blob.)
 pub(crate) fn effects_of<D>(
     running: &Running<D>,
     live_kept: bool,
     head: u32,
     new: &Meta,
 ) -> Result<Effects, Memory>
-    ensures are { IfOk result (AreEffects (map.get running.now.metas head) live_kept new.now) }
+    ensures are { IfOk result (AreEffects (map.get running.now.metas head) live_kept new.now []) }
     ensures there { IfOk result (λ e. IfNone e.rooms (IsSome (map.get running.now.chains head))) }
     ensures new { IfOk result (λ e. IfSome e.rooms (λ rooms. map.get running.now.chains head ≡ None)) }
     ensures room { IfOk result

@@ -1,19 +1,18 @@
 //! What a job takes before it begins: memory, pages, and what it will write.
 
 ghost use Rattle.std.specs.Prelude.{◌≡◌, ◌+◌, ◌<◌, ◌≤◌, ◌∷◌, [], true, false, Some, None, length, is_some, IfOk, IfErr};
-ghost use Rattle.std.specs.Prelude.{IfSome, IfNone};
-ghost use Rattle.std.specs.Prelude.{IsSome};
+ghost use Rattle.std.specs.Prelude.{not, IsSome, OnErr};
 ghost use Rattle.std.specs.FinMap as map;
 ghost use Rattle.std.specs.List.{All};
 ghost use Rattle.pools.specs.Pool.{clear_in};
 ghost use Rattle.blob_meta.specs.Items.{IsItemsOf};
 ghost use Rattle.md_chain.specs.Packing.{parts_of, ArePlannable, AreFew, FitsPage};
 ghost use Rattle.store_core.specs.Begins.{behind_in, HasChain, IsFreshHead, IsLaid, IsPrepared, IsTaken};
-ghost use Rattle.store_core.specs.Begins.{LacksPages, needed};
+ghost use Rattle.store_core.specs.Begins.{needed, IsUnprepared};
 
 use crate::clearing::clear_places;
 use crate::effects::Effects;
-use crate::job::{Planned, RunningJob, Work};
+use crate::job::{Planned, RunningJob, Work, Zeroed};
 use crate::taking::take_places;
 use blob_meta::{Chains, Meta, to_items};
 use descriptors::ItemList;
@@ -21,7 +20,7 @@ use md_chain::{Plan, chain_len, plan_chain};
 use out_of_memory::Memory;
 use pools::PagePool;
 use std::alloc::Global;
-use volume_model::PlaceList;
+use volume_model::{PlaceList, Reply};
 
 /// Metadata with as many attributes and slots together isn't written: what counts the pages of a chain takes fewer.
 const MOST_PARTS: usize = (1 << 31) - 2;
@@ -42,34 +41,66 @@ pub(crate) struct Prepared {
 }
 
 impl Prepared {
-    ghost use Rattle.std.specs.Prelude.{◌≡◌};
-    ghost use Rattle.store_core.specs.Begins.{first_job};
+    ghost use Rattle.std.specs.Prelude.{◌≡◌, ◌<◌, ◌∷◌, ℕ, List, drop};
+    ghost use Rattle.std.specs.FinMap as map;
+    ghost use Rattle.std.specs.Ordering.{nat_cmp};
+    ghost use Rattle.io_freeze.specs.Guards.{GuardsState};
+    ghost use Rattle.volume_model.specs.Xattrs.{Xattrs};
+    ghost use Rattle.blob_meta.specs.declared.meta.Meta.{Meta as AMeta};
+    ghost use Rattle.store_model.specs.Places.{AreDistinct};
+    ghost use Rattle.store_core.specs.Begins.{begun_job, planned_with};
+    ghost use Rattle.store_core.specs.Jobs.{job_seen, IsHeaded};
+    ghost use Rattle.store_core.specs.Running.{HasRoom, IsRoomy};
 
-    /// The job that writes the metadata, at its begin.
-    pub(crate) fn job(self, channel: u8, head: u32, new: Meta, effects: Effects) -> RunningJob
-        ensures { result ≡ first_job self channel head new effects }
+    /// The job that writes the metadata, at its begin: clusters of so many pages each that it has claimed are to be
+    /// overwritten with zeros first.
+    pub(crate) fn job(
+        self,
+        channel: u8,
+        head: u32,
+        new: Meta,
+        effects: Effects,
+        cluster_pages: u32,
+    ) -> RunningJob
+        requires headed { self.laid.chain ≡ head ∷ drop 1 self.laid.chain }
+        requires once { AreDistinct effects.freed }
+        requires some_pages { 0 < cluster_pages }
+        ensures seen { job_seen result
+            ≡ begun_job channel (planned_with self head new effects) self.old cluster_pages }
+        ensures headed { IsHeaded result }
+        ensures roomy { (metas : map.FinMap nat_cmp AMeta) (chains : map.FinMap nat_cmp (List ℕ))
+            (live : map.FinMap nat_cmp Xattrs) (guards : GuardsState)
+            → HasRoom metas chains live guards effects → IsRoomy metas chains live guards result }
     {
+        let Prepared { laid, old } = self;
+        let Laid { chain, pages } = laid;
+        let claimed = effects.claimed.len();
         let planned = Planned {
             head,
             new,
             effects,
-            chain: self.laid.chain,
-            pages: self.laid.pages,
+            chain,
+            pages,
         };
-        RunningJob {
-            channel,
-            work: Work::Writing {
-                planned,
-                written: 0,
-            },
-            old: self.old,
+        if claimed > 0 {
+            let zeroed = Zeroed {
+                cluster_pages,
+                clusters: 0,
+                pages: 0,
+            };
+            let work = Work::Zeroing { planned, zeroed };
+            return RunningJob { channel, work, old };
         }
+        let work = Work::Writing {
+            planned,
+            written: 0,
+        };
+        RunningJob { channel, work, old }
     }
 }
 
-/// Makes what a job needs for new metadata at a head, and takes its pages, that of the head too where the blob is new;
-/// `None` where too few are clear. Pages are taken last: after `None` and after `Memory` the same ones are in use as
-/// before.
+/// Makes what a job needs for new metadata at a head, and takes its pages, that of the head too where the blob is new.
+/// `Err` is `NoPage` exactly where too few are clear, and else `Memory`, and the same ones are in use as before.
 pub(crate) fn prepare(
     alloc: Global,
     chains: &Chains,
@@ -77,29 +108,48 @@ pub(crate) fn prepare(
     head: u32,
     new: &Meta,
     makes: bool,
-) -> Result<Option<Prepared>, Memory>
+) -> Result<Prepared, Reply>
     requires there { makes ≡ false → HasChain chains.now head }
     requires none { makes ≡ true → map.get chains.now head ≡ None }
     requires next { makes ≡ true → IsFreshHead pages.old.bits head }
     requires unclaimed { pages.old.claims ≡ [] }
     requires xattrs { All FitsPage new.now.xattrs }
     requires internal { All FitsPage new.now.internal }
-    ensures some { IfOk result (λ o. IfSome o
-        (IsPrepared chains.now head new.now makes pages.old.bits pages.new.bits)) }
-    ensures none { IfOk result
-        (λ o. IfNone o (LacksPages (is_some (map.get chains.now head)) new.now pages.old.bits
-        × (pages.new.bits ≡ pages.old.bits))) }
-    ensures memory { IfErr result (λ _. pages.new.bits ≡ pages.old.bits) }
+    ensures prepared { IfOk result (IsPrepared chains.now head new.now makes pages.old.bits pages.new.bits) }
+    ensures lack { IfErr result (IsUnprepared false (is_some (map.get chains.now head)) new.now pages.old.bits) }
+    ensures same { OnErr result (pages.new.bits ≡ pages.old.bits) }
     ensures unclaimed { pages.new.claims ≡ [] }
 {
     let items = items_of(alloc, new)?;
     let old = places_behind(alloc, chains, head)?;
     let needs = pages_needed(&items, makes);
     if pages.clear_count() < needs {
-        return Ok(None);
+        return Err(Reply::NoPage);
     }
     let laid = take_chain(alloc, pages, &items, head, makes)?;
-    Ok(Some(Prepared { laid, old }))
+    Ok(Prepared { laid, old })
+}
+
+/// What a job lacks for whose slots of zeros too few clusters are clear: pages too, where too few are clear with these
+/// slots empty; else just the clusters (`Full`). Or memory.
+pub(crate) fn lack_beside_clusters(
+    alloc: Global,
+    pages: &PagePool,
+    new: &Meta,
+    makes: bool,
+) -> Reply
+    requires xattrs { All FitsPage new.now.xattrs }
+    requires internal { All FitsPage new.now.internal }
+    ensures { IsUnprepared true (not makes) new.now pages.now.bits result }
+{
+    let Ok(items) = items_of(alloc, new) else {
+        return Reply::Memory;
+    };
+    if pages.clear_count() < pages_needed(&items, makes) {
+        Reply::NoPage
+    } else {
+        Reply::Full
+    }
 }
 
 /// How many pages the chain of these items takes: those behind the head, and the head's where the blob is new.

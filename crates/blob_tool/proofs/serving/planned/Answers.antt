@@ -1,3 +1,4 @@
+use Rattle.std.proofs.Common.{false}
 use Rattle.std.specs.Option.{option_copied}
 use Rattle.blob_tool.proofs.Driven.{answerable}
 use Rattle.blob_tool.proofs.Planned.{create_plan, is_running, live_given, put_plan, sync_plan}
@@ -48,7 +49,8 @@ returns-in-Create g c =
     let running = is_running d c.args.plant.now c.keeps.ensures in
     create_plan d c.plans.ensures p running c.requires.runs c.metas-metas.result.now c.sup-sup.result.now
     c.metas-metas.ensures c.sup-sup.ensures (c.plans.ensures.shows_all p running c.requires.runs)
-    (λ name slots uuid head xattrs. c.plans.ensures.create p name slots uuid head xattrs running c.requires.runs)
+    (λ name slots uuid head xattrs. c.plans.ensures.create p name slots false uuid head xattrs running
+    c.requires.runs)
     c.next_head-new.result c.next_head-new.ensures
     c.args.command.now c.in-Create.name c.in-Create.slots c.in-Create.thick c.in-Create.uuid c.in-Create.is
     c.requires.served.served

@@ -1,10 +1,9 @@
-use Rattle.std.proofs.Common.{◌≡◌, ℕ, false, Option, Some, None, [], ◌∷◌, refl, sym, ◌∙◌, ap, subst}
+use Rattle.std.proofs.Common.{◌≡◌, ℕ, false, List, Option, Some, None, [], ◌∷◌, refl, sym, ◌∙◌, ap, subst}
 use Rattle.std.specs.Prelude.{is_some}
 use Rattle.blob_meta.specs.declared.job.Job.{Job}
 use Rattle.blob_meta.specs.declared.job.Replacement.{Replacement}
 use Rattle.blob_meta.specs.declared.meta.Meta.{Meta}
-use Rattle.blob_meta.specs.Jobs.{job_of_one}
-use Rattle.store_core.specs.Begins.{AsksToWrite}
+use Rattle.store_core.specs.Begins.{job_with_zeros, AsksToWrite}
 use Rattle.store_core.specs.Running.{view_of}
 use Rattle.store_core.specs.StoreView.{state_of}
 use Rattle.store_core.proofs.begin.begin_or_halt.Goals as goal
@@ -15,8 +14,9 @@ one_item x y e = cc e
 abbrev replacement : ℕ → Meta → Replacement
 replacement head new = record { head = head; new = Some new }
 
-one_replacement : (a b : ℕ) (m n : Meta) → job_of_one a m ≡ job_of_one b n → replacement a m ≡ replacement b n
-one_replacement a b m n e = one_item (replacement a m) (replacement b n) (ap (λ (j : Job). j.list) e)
+one_replacement : (a b : ℕ) (m n : Meta) (y z : List ℕ) → job_with_zeros a m y ≡ job_with_zeros b n z
+    → replacement a m ≡ replacement b n
+one_replacement a b m n y z e = one_item (replacement a m) (replacement b n) (ap (λ (j : Job). j.list) e)
 
 one_meta : (m n : Meta) → Some m ≡ Some n → m ≡ n
 one_meta m n e = cc e
@@ -30,7 +30,11 @@ begin-requires-clause-asks g c command rest left =
     let p = state_of g.D.PageDisk (view_of c.args.running.now) in
     let head = c.replacement_of-head.result.0 in
     let new = c.replacement_of-head.result.1 in
+    let zeros = c.replacement_of-head.result.2 in
     let x = c.requires.asks (none_of c.args.running.now.stopped c.if-is_some.ensures) command rest left in
-    let same = one_replacement x.head head x.new new (sym x.is ∙ c.replacement_of-head.ensures) in
-    subst (λ h. AsksToWrite p command h new) (ap (λ (r : Replacement). r.head) same)
-    (subst (AsksToWrite p command x.head) (one_meta x.new new (ap (λ (r : Replacement). r.new) same)) x.asks)
+    let is = sym x.is ∙ c.replacement_of-head.ensures in
+    let same = one_replacement x.head head x.new new x.zeros zeros is in
+    subst (λ h. AsksToWrite p command h new zeros) (ap (λ (r : Replacement). r.head) same)
+    (subst (λ (m : Meta). AsksToWrite p command x.head m zeros)
+    (one_meta x.new new (ap (λ (r : Replacement). r.new) same))
+    (subst (AsksToWrite p command x.head x.new) (ap (λ (j : Job). j.zero) is) x.asks))

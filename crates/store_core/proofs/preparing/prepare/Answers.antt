@@ -1,17 +1,10 @@
-use Rattle.std.proofs.Common.{◌≡◌, ◌<◌, ◌+◌, ◌-◌, ℕ, Bool, true, false, Option, None, refl, arith, length}
-use Rattle.std.proofs.Common.{subst, sym, ap, List}
-use Rattle.std.specs.Prelude.{if◌then◌else◌, is_some, not}
+use Rattle.std.proofs.Common.{◌≡◌, ◌<◌, ◌≤◌, ℕ, Bool, true, false, List, Option, None, refl, ap, arith, subst, sym}
+use Rattle.std.specs.Prelude.{is_some, not}
 use Rattle.std.specs.FinMap as map
 use Rattle.pools.specs.Pool.{clear_in}
-use Rattle.md_chain.specs.Packing.{parts_of}
-use Rattle.md_chain.proofs.Fitting.{some_parts}
+use Rattle.store_core.specs.Begins.{needed, LacksPages}
+use Rattle.store_core.proofs.Needed.{lacks_pages}
 use Rattle.store_core.proofs.preparing.prepare.Goals as goal
-
--- fewer are clear than are needed, of a blob that is there or new
-lacking : (makes : Bool) (clear parts : ℕ) → 0 < parts → clear < (if makes then parts else parts - 1)
-    → clear < (if not makes then parts - 1 else parts - 1 + 1)
-lacking true clear parts some low = omega (arith, some, low)
-lacking false clear parts some low = low
 
 -- a blob that is made isn't there
 not_there : (makes : Bool) (chain : Option (List ℕ)) → (makes ≡ false → is_some chain ≡ true)
@@ -19,24 +12,15 @@ not_there : (makes : Bool) (chain : Option (List ℕ)) → (makes ≡ false → 
 not_there false chain there none = there refl
 not_there true chain there none = ap is_some (none refl)
 
-pub returns-then-clear_count-needs-clause-none : goal.returns-then-clear_count-needs-clause-none
-returns-then-clear_count-needs-clause-none c =
-    let some = some_parts 4072 c.in_ok-items.items in
-    let makes = c.args.makes in
+pub returns-then-clear_count-needs-clause-lack : goal.returns-then-clear_count-needs-clause-lack
+returns-then-clear_count-needs-clause-lack c =
     let chain = map.get c.args.chains.now c.args.head in
-    let there : is_some chain ≡ not makes =
-    not_there makes chain (λ none. ap is_some (c.requires.there none).1) c.requires.none in
-    let long = length (parts_of c.in_ok-items.items) in
+    let there : is_some chain ≡ not c.args.makes =
+    not_there c.args.makes chain (λ none. ap is_some (c.requires.there none).1) c.requires.none in
     let needs = c.pages_needed-needs.ensures in
     let clear = c.clear_count.ensures in
     let fewer = c.if-clear_count-needs.true in
-    let low : clear_in c.args.pages.now.bits < (if makes then long else long - 1) =
-    omega (arith, clear, fewer, needs) in (
-      record {
-        count = long - 1;
-        needs = record { items = c.in_ok-items.items; are = c.in_ok-items.ensures.are; chain = omega (arith, some) };
-        lacking = subst (λ (b : Bool). clear_in c.args.pages.now.bits < (if b then long - 1 else long - 1 + 1))
-            (sym there) (lacking makes (clear_in c.args.pages.now.bits) long some low);
-      },
-      refl,
-    )
+    let low : clear_in c.args.pages.now.bits < needed c.args.makes c.in_ok-items.items =
+    omega (arith, clear, fewer, needs) in
+    subst (λ (b : Bool). LacksPages b c.args.new.now c.args.pages.now.bits) (sym there)
+    (lacks_pages c.args.new.now c.in_ok-items.items c.in_ok-items.ensures.are c.args.makes c.args.pages.now.bits low)
