@@ -15,9 +15,8 @@ use Rattle.store_core.specs.declared.plant.SettleTurn.TheVariants as settle
 use Rattle.store_core.specs.TurnMade.{TurnMade}
 use Rattle.store_core.specs.StoreView.{StoreView, WithOpening, rows_of, state_of}
 use Rattle.store_core.specs.Stages.{is_stage, waits_for}
-use Rattle.store_core.specs.ChannelTurns.{IsFrozenFor, IsOfFlush, IsOfRead, TurnsAs}
+use Rattle.store_core.specs.ChannelTurns.{IsFrozenFor}
 use Rattle.store_core.specs.StoreInvariant.{StoreInvariant}
-use Rattle.store_model.specs.Cases.{Turn}
 use Rattle.store_core.specs.Steps.{decided, gone_on, OnlyRow}
 use Rattle.volume_model.specs.Xattrs.{Text}
 use Rattle.volume_model.specs.declared.command.VolumeRef.{VolumeRef}
@@ -112,26 +111,7 @@ none_left row channel stage is waiting meta read flush = elim waiting.at [
         absurd (served_at command on.0
         (sym (ap (λ (l : List Command). is_stage (record row { left = l; stage = Idle }) channel) e) ∙ at))
 
--- ---- the turns of the channel's own
-
--- a flush leaves a job as it is
-pub flush_job : {D : Type 0} (d : Ghosts D) (p q : StoreView D) → TurnsAs d IsOfFlush p q → q.job ≡ p.job
-flush_job d p q turn = by turn.kind turn.is turn.made.0
-  where
-    by : (k : kind.Kind) → IsOfFlush k → Turn d.tells (state_of d p) k (state_of d q) → q.job ≡ p.job
-    by kind.flushes is case = ap (λ s. s.job) case.next
-    by kind.flush_fails is case = ap (λ s. s.job) case.next
-    by kind.halts is case = ap (λ s. s.job) case.next
-    by _ is case = absurd is
-
--- a read too
-pub read_job : {D : Type 0} (d : Ghosts D) (p q : StoreView D) → TurnsAs d IsOfRead p q → q.job ≡ p.job
-read_job d p q turn = by turn.kind turn.is turn.made.0
-  where
-    by : (k : kind.Kind) → IsOfRead k → Turn d.tells (state_of d p) k (state_of d q) → q.job ≡ p.job
-    by kind.reads is case = ap (λ s. s.job) case.next
-    by kind.halts is case = ap (λ s. s.job) case.next
-    by _ is case = absurd is
+-- ---- the turns of a command
 
 -- where no job runs no blob is frozen
 pub none_frozen : {D : Type 0} (d : Ghosts D) (b : WithOpening D) → StoreInvariant d b → b.at.job ≡ None
