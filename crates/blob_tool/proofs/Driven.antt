@@ -50,17 +50,19 @@ for_metadata _ is = tt
 pub answerable : (command : Command) → IsServedByMetadata command
     → ((name : Text) (slots : ℕ) (thick : Bool) (uuid : Option (List ℕ)) → command ≡ c.Create name slots thick uuid → ⊥)
     → ((volume : VolumeRef) (key value : Text) → command ≡ c.Put volume key value → ⊥)
-    → ((volume : VolumeRef) → command ≡ c.Sync volume → ⊥) → IsAnswerable command
-answerable (c.SetX volume key value) is create put sync = inl (tt, tt)
-answerable (c.DelX volume key) is create put sync = inl (tt, tt)
-answerable (c.GetX volume key) is create put sync = inl (tt, tt)
-answerable c.Df is create put sync = inr refl
-answerable (c.Create name slots thick uuid) is create put sync = absurd (create name slots thick uuid refl)
-answerable (c.Put volume key value) is create put sync = absurd (put volume key value refl)
-answerable (c.Sync volume) is create put sync = absurd (sync volume refl)
-answerable (c.Read volume page) is create put sync = absurd is.metadata
-answerable c.Flush is create put sync = absurd is.metadata
-answerable _ is create put sync = absurd is.served
+    → ((volume : VolumeRef) → command ≡ c.Sync volume → ⊥)
+    → ((volume : VolumeRef) (slots : ℕ) → command ≡ c.Resize volume slots → ⊥) → IsAnswerable command
+answerable (c.SetX volume key value) is create put sync resize = inl (tt, tt)
+answerable (c.DelX volume key) is create put sync resize = inl (tt, tt)
+answerable (c.GetX volume key) is create put sync resize = inl (tt, tt)
+answerable c.Df is create put sync resize = inr refl
+answerable (c.Create name slots thick uuid) is create put sync resize = absurd (create name slots thick uuid refl)
+answerable (c.Put volume key value) is create put sync resize = absurd (put volume key value refl)
+answerable (c.Sync volume) is create put sync resize = absurd (sync volume refl)
+answerable (c.Resize volume slots) is create put sync resize = absurd (resize volume slots refl)
+answerable (c.Read volume page) is create put sync resize = absurd is.metadata
+answerable c.Flush is create put sync resize = absurd is.metadata
+answerable _ is create put sync resize = absurd is.served
 
 -- a waiting row at a stage that isn't that of a channel without commands has a first command
 pub next_of : (row : Row) (channel : ℕ) (stage : RowStage) → is_stage row channel ≡ stage → IsWaiting row
