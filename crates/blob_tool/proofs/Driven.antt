@@ -15,9 +15,8 @@ use Rattle.store_core.specs.declared.settling.SettleTurn.TheVariants as settle
 use Rattle.store_core.specs.TurnMade.{TurnMade}
 use Rattle.store_core.specs.StoreView.{StoreView, WithOpening, rows_of, state_of}
 use Rattle.store_core.specs.Stages.{is_stage, waits_for}
-use Rattle.store_core.specs.ChannelTurns.{IsFrozenFor, IsOfFlush, IsOfRead, TurnsAs}
+use Rattle.store_core.specs.ChannelTurns.{IsFrozenFor}
 use Rattle.store_core.specs.StoreInvariant.{StoreInvariant}
-use Rattle.store_model.specs.Cases.{Turn}
 use Rattle.store_core.specs.Steps.{decided, gone_on, OnlyRow}
 use Rattle.volume_model.specs.Xattrs.{Text}
 use Rattle.volume_model.specs.declared.command.VolumeRef.{VolumeRef}
@@ -51,17 +50,19 @@ for_metadata _ is = tt
 pub answerable : (command : Command) → IsServedByMetadata command
     → ((name : Text) (slots : ℕ) (thick : Bool) (uuid : Option (List ℕ)) → command ≡ c.Create name slots thick uuid → ⊥)
     → ((volume : VolumeRef) (key value : Text) → command ≡ c.Put volume key value → ⊥)
-    → ((volume : VolumeRef) → command ≡ c.Sync volume → ⊥) → IsAnswerable command
-answerable (c.SetX volume key value) is create put sync = inl (tt, tt)
-answerable (c.DelX volume key) is create put sync = inl (tt, tt)
-answerable (c.GetX volume key) is create put sync = inl (tt, tt)
-answerable c.Df is create put sync = inr refl
-answerable (c.Create name slots thick uuid) is create put sync = absurd (create name slots thick uuid refl)
-answerable (c.Put volume key value) is create put sync = absurd (put volume key value refl)
-answerable (c.Sync volume) is create put sync = absurd (sync volume refl)
-answerable (c.Read volume page) is create put sync = absurd is.metadata
-answerable c.Flush is create put sync = absurd is.metadata
-answerable _ is create put sync = absurd is.served
+    → ((volume : VolumeRef) → command ≡ c.Sync volume → ⊥)
+    → ((volume : VolumeRef) (slots : ℕ) → command ≡ c.Resize volume slots → ⊥) → IsAnswerable command
+answerable (c.SetX volume key value) is create put sync resize = inl (tt, tt)
+answerable (c.DelX volume key) is create put sync resize = inl (tt, tt)
+answerable (c.GetX volume key) is create put sync resize = inl (tt, tt)
+answerable c.Df is create put sync resize = inr refl
+answerable (c.Create name slots thick uuid) is create put sync resize = absurd (create name slots thick uuid refl)
+answerable (c.Put volume key value) is create put sync resize = absurd (put volume key value refl)
+answerable (c.Sync volume) is create put sync resize = absurd (sync volume refl)
+answerable (c.Resize volume slots) is create put sync resize = absurd (resize volume slots refl)
+answerable (c.Read volume page) is create put sync resize = absurd is.metadata
+answerable c.Flush is create put sync resize = absurd is.metadata
+answerable _ is create put sync resize = absurd is.served
 
 -- a waiting row at a stage that isn't that of a channel without commands has a first command
 pub next_of : (row : Row) (channel : ℕ) (stage : RowStage) → is_stage row channel ≡ stage → IsWaiting row
@@ -112,26 +113,7 @@ none_left row channel stage is waiting meta read flush = elim waiting.at [
         absurd (served_at command on.0
         (sym (ap (λ (l : List Command). is_stage (record row { left = l; stage = Idle }) channel) e) ∙ at))
 
--- ---- the turns of the channel's own
-
--- a flush leaves a job as it is
-pub flush_job : {D : Type 0} (d : Ghosts D) (p q : StoreView D) → TurnsAs d IsOfFlush p q → q.job ≡ p.job
-flush_job d p q turn = by turn.kind turn.is turn.made.0
-  where
-    by : (k : kind.Kind) → IsOfFlush k → Turn d.tells (state_of d p) k (state_of d q) → q.job ≡ p.job
-    by kind.flushes is case = ap (λ s. s.job) case.next
-    by kind.flush_fails is case = ap (λ s. s.job) case.next
-    by kind.halts is case = ap (λ s. s.job) case.next
-    by _ is case = absurd is
-
--- a read too
-pub read_job : {D : Type 0} (d : Ghosts D) (p q : StoreView D) → TurnsAs d IsOfRead p q → q.job ≡ p.job
-read_job d p q turn = by turn.kind turn.is turn.made.0
-  where
-    by : (k : kind.Kind) → IsOfRead k → Turn d.tells (state_of d p) k (state_of d q) → q.job ≡ p.job
-    by kind.reads is case = ap (λ s. s.job) case.next
-    by kind.halts is case = ap (λ s. s.job) case.next
-    by _ is case = absurd is
+-- ---- the turns of a command
 
 -- where no job runs no blob is frozen
 pub none_frozen : {D : Type 0} (d : Ghosts D) (b : WithOpening D) → StoreInvariant d b → b.at.job ≡ None

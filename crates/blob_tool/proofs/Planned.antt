@@ -23,10 +23,10 @@ use Rattle.blob_meta.specs.declared.meta.Meta.{Meta}
 use Rattle.blob_meta.specs.declared.job.Job.{Job}
 use Rattle.blob_meta.specs.Find.{is_meant, IsLeast}
 use Rattle.blob_meta.specs.ShownBy.{IsFirstRefusal, IsHeadMeant, ShowsMetas}
-use Rattle.blob_meta.specs.Jobs.{create_job, new_meta}
+use Rattle.blob_meta.specs.Jobs.{create_job, resize_job}
 use Rattle.blob_meta.specs.Asked.{IsAttributeCause, IsFirstCause, IsLiveOf}
 use Rattle.lvol_store.specs.Plans.{PlansPut, PlansSync, RefusesPlan}
-use Rattle.lvol_store.specs.SlotPlans.{Creates, PlansCreate, RefusesFirst}
+use Rattle.lvol_store.specs.SlotPlans.{Creates, PlansCreate, PlansResize, RefusesFirst, Resizes}
 use Rattle.store_model.specs.Shown.{fixed_of}
 use Rattle.store_model.specs.StoreState.{StoreState, shown}
 use Rattle.store_model.specs.Asking.{AsksFor, IsSyncing, syncs}
@@ -37,7 +37,6 @@ use Rattle.store_core.specs.LoadedWhole.{IsNextHead}
 use Rattle.store_core.specs.StoreInvariant.{IsRunning, StoreInvariant}
 use Rattle.store_core.specs.Planning.{HasBlob, PlanLaws}
 use Rattle.store_core.specs.StoreView.{StoreView, WithOpening, state_of}
-use Rattle.script_lang.specs.Served.{IsServed}
 use Rattle.blob_tool.specs.Serving.{IsPlanOf}
 
 -- a store has what every state of a run has
@@ -55,6 +54,14 @@ is_running d b kept =
 -- what a job is for the command that it was planned for
 abbrev pub IsFor : {D : Type 0} → Ghosts D → StoreView D → Command → Job → Type 0
 IsFor d p command job = ReplacesOne job × IsJobOf (state_of d p) command job
+
+-- what a command asks for is one replacement
+is_for : {D : Type 0} (d : Ghosts D) (p : StoreView D) (command : Command) (job : Job)
+    → IsJobOf (state_of d p) command job → IsFor d p command job
+is_for d p command job asks = (
+  record { head = asks.head; new = asks.new; zeros = asks.zeros; is = asks.is },
+  asks,
+)
 
 -- a store that stopped at no number of entries hasn't stopped
 pub none_so : (o : Option ℕ) → ((at : ℕ) → o ≡ Some at → ⊥) → o ≡ None
@@ -273,62 +280,75 @@ module _ {D : Type 0} (d : Ghosts D) (laws : PlanLaws d) (p : StoreView D) (runn
         (of_store (λ metas sup. IfErr planned (RefusesPlan metas sup o command)) refuses)
 
   module _ (metas : map.FinMap nat_cmp Meta) (sup : Super) (m : metas ≡ p.metas) (s : sup ≡ p.super)
-      (shows : ShowsMetas (fixed_of p.super) p.super p.metas (shown (state_of d p)))
-      (made : (name : Text) (slots : ℕ) (uuid : Option (List ℕ)) (head : ℕ) (xattrs : Xattrs) → IsName name
-      → IsNextHead p.super.md_len p.pages head
-      → IsFirstRefusal p.metas p.super (c.Create name slots false uuid) None
-      → ((f : Fixed) (v : Volumes) → ShowsMetas f p.super p.metas v → two_xattrs f v name uuid ≡ xattrs)
-      → IsJobOf (state_of d p) (c.Create name slots false uuid) (create_job head xattrs false slots))
-    where
-      given : (P : map.FinMap nat_cmp Meta → Super → Type 0) → P metas sup → P p.metas p.super
-      given P x =
-          subst (λ (sup : Super). P p.metas sup) s
-          (subst (λ (metas : map.FinMap nat_cmp Meta). P metas sup) m x)
+      (shows : ShowsMetas (fixed_of p.super) p.super p.metas (shown (state_of d p))) where
+    given : (P : map.FinMap nat_cmp Meta → Super → Type 0) → P metas sup → P p.metas p.super
+    given P x =
+        subst (λ (sup : Super). P p.metas sup) s (subst (λ (metas : map.FinMap nat_cmp Meta). P metas sup) m x)
 
-      made_so : (name : Text) (slots : ℕ) (uuid : Option (List ℕ)) (head : ℕ)
-          → IsNextHead p.super.md_len p.pages head → (job : Job)
-          → Creates p.metas p.super head name slots false uuid job
-          → IsFirstRefusal p.metas p.super (c.Create name slots false uuid) None
-          → IsFor d p (c.Create name slots false uuid) job
-      made_so name slots uuid head next job plan first = (
-        record { head = head; new = new_meta head plan.xattrs false slots; zeros = []; is = plan.job_is },
-        subst (λ (job : Job). IsJobOf (state_of d p) (c.Create name slots false uuid) job) (sym plan.job_is)
-            (made name slots uuid head plan.xattrs plan.is_name next first plan.named),
-      )
+    -- a job that the command asks for is planned, or it is refused for its first cause or for want of memory
+    by_plan : (command : Command) → MayLackMemory (fixed_of p.super) (shown (state_of d p)) command
+        → (Plans : map.FinMap nat_cmp Meta → Super → Job → Type 0)
+        → ((job : Job) → Plans p.metas p.super job → IsFirstRefusal p.metas p.super command None
+        → IsJobOf (state_of d p) command job) → (planned : Result Job Reply) → IfOk planned (Plans metas sup)
+        → IfOk planned (λ job. IsFirstRefusal metas sup command None) → IfErr planned (RefusesFirst metas sup command)
+        → IsPlanOf d p command (Some planned)
+    by_plan command may Plans asks (Ok job) plan first refuses =
+        is_for d p command job
+        (asks job (given (λ metas sup. Plans metas sup job) plan)
+        (given (λ metas sup. IsFirstRefusal metas sup command None) first))
+    by_plan command may Plans asks (Err reply) plan first refuses =
+        refused_first command reply shows may (given (λ metas sup. RefusesFirst metas sup command reply) refuses)
 
-      create_thin : (head : ℕ) → IsNextHead p.super.md_len p.pages head → (name : Text) (slots : ℕ) (thick : Bool)
-          (uuid : Option (List ℕ)) → IsServed (c.Create name slots thick uuid) → (planned : Result Job Reply)
-          → IfOk planned (PlansCreate p.metas p.super head (c.Create name slots thick uuid))
-          → IfOk planned (λ job. IsFirstRefusal p.metas p.super (c.Create name slots thick uuid) None)
-          → IfErr planned (RefusesFirst p.metas p.super (c.Create name slots thick uuid))
-          → IsPlanOf d p (c.Create name slots thick uuid) (Some planned)
-      create_thin head next name slots false uuid served (Ok job) plan first refused =
-          made_so name slots uuid head next job plan first
-      create_thin head next name slots false uuid served (Err reply) plan first refused =
-          refused_first (c.Create name slots false uuid) reply shows tt refused
-      create_thin head next name slots true uuid served planned plan first refused = absurd served
+    module _ (made : (name : Text) (slots : ℕ) (thick : Bool) (uuid : Option (List ℕ)) (head : ℕ) (xattrs : Xattrs)
+        → IsName name → IsNextHead p.super.md_len p.pages head
+        → IsFirstRefusal p.metas p.super (c.Create name slots thick uuid) None
+        → ((f : Fixed) (v : Volumes) → ShowsMetas f p.super p.metas v → two_xattrs f v name uuid ≡ xattrs)
+        → IsJobOf (state_of d p) (c.Create name slots thick uuid) (create_job head xattrs thick slots)) where
+      create_asks : (head : ℕ) → IsNextHead p.super.md_len p.pages head → (name : Text) (slots : ℕ) (thick : Bool)
+          (uuid : Option (List ℕ)) (job : Job) → Creates p.metas p.super head name slots thick uuid job
+          → IsFirstRefusal p.metas p.super (c.Create name slots thick uuid) None
+          → IsJobOf (state_of d p) (c.Create name slots thick uuid) job
+      create_asks head next name slots thick uuid job plan first =
+          subst (λ (job : Job). IsJobOf (state_of d p) (c.Create name slots thick uuid) job) (sym plan.job_is)
+          (made name slots thick uuid head plan.xattrs plan.is_name next first plan.named)
 
-      create_so : (head : ℕ) → IsNextHead p.super.md_len p.pages head → (command : Command) (name : Text) (slots : ℕ)
-          (thick : Bool) (uuid : Option (List ℕ)) → command ≡ c.Create name slots thick uuid → IsServed command
-          → (planned : Result Job Reply) → IfOk planned (PlansCreate p.metas p.super head command)
-          → IfOk planned (λ job. IsFirstRefusal p.metas p.super command None)
-          → IfErr planned (RefusesFirst p.metas p.super command) → IsPlanOf d p command (Some planned)
-      create_so head next command name slots thick uuid e =
-          subst
-          (λ (command : Command). IsServed command → (planned : Result Job Reply)
-          → IfOk planned (PlansCreate p.metas p.super head command)
-          → IfOk planned (λ job. IsFirstRefusal p.metas p.super command None)
-          → IfErr planned (RefusesFirst p.metas p.super command) → IsPlanOf d p command (Some planned)) (sym e)
-          (create_thin head next name slots thick uuid)
-
-      -- what is planned for a create of a thin volume
+      -- what is planned for a create
       pub create_plan : (head : ℕ) → IsNextHead p.super.md_len p.pages head → (command : Command) (name : Text)
           (slots : ℕ) (thick : Bool) (uuid : Option (List ℕ)) → command ≡ c.Create name slots thick uuid
-          → IsServed command → (planned : Result Job Reply) → IfOk planned (PlansCreate metas sup head command)
+          → (planned : Result Job Reply) → IfOk planned (PlansCreate metas sup head command)
           → IfOk planned (λ job. IsFirstRefusal metas sup command None)
           → IfErr planned (RefusesFirst metas sup command) → IsPlanOf d p command (Some planned)
-      create_plan head next command name slots thick uuid e served planned plan first refused =
-          create_so head next command name slots thick uuid e served planned
-          (given (λ metas sup. IfOk planned (PlansCreate metas sup head command)) plan)
-          (given (λ metas sup. IfOk planned (λ job. IsFirstRefusal metas sup command None)) first)
-          (given (λ metas sup. IfErr planned (RefusesFirst metas sup command)) refused)
+      create_plan head next command name slots thick uuid e =
+          subst
+          (λ (command : Command). (planned : Result Job Reply) → IfOk planned (PlansCreate metas sup head command)
+          → IfOk planned (λ job. IsFirstRefusal metas sup command None)
+          → IfErr planned (RefusesFirst metas sup command) → IsPlanOf d p command (Some planned)) (sym e)
+          (by_plan (c.Create name slots thick uuid) tt
+          (λ metas sup. PlansCreate metas sup head (c.Create name slots thick uuid))
+          (create_asks head next name slots thick uuid))
+
+    module _ (meant : (metas : map.FinMap nat_cmp Meta) (sup : Super) (volume : VolumeRef) (head : ℕ)
+        → IsLeast (is_meant sup.super_blob metas volume) head → IsHeadMeant metas sup volume (Some head))
+        (given_slots : (volume : VolumeRef) (slots head : ℕ) (old : Meta) (job : Job)
+        → IsHeadMeant p.metas p.super volume (Some head) → map.get p.metas head ≡ Some old
+        → IsFirstRefusal p.metas p.super (c.Resize volume slots) None → job ≡ resize_job head old slots
+        → IsJobOf (state_of d p) (c.Resize volume slots) job) where
+      resize_asks : (volume : VolumeRef) (slots : ℕ) (job : Job) → Resizes p.metas p.super volume slots job
+          → IsFirstRefusal p.metas p.super (c.Resize volume slots) None
+          → IsJobOf (state_of d p) (c.Resize volume slots) job
+      resize_asks volume slots job plan first =
+          given_slots volume slots plan.head plan.old job (meant p.metas p.super volume plan.head plan.meant) plan.there
+          first plan.job_is
+
+      -- what is planned for a resize
+      pub resize_plan : (command : Command) (volume : VolumeRef) (slots : ℕ) → command ≡ c.Resize volume slots
+          → (planned : Result Job Reply) → IfOk planned (PlansResize metas sup command)
+          → IfOk planned (λ job. IsFirstRefusal metas sup command None)
+          → IfErr planned (RefusesFirst metas sup command) → IsPlanOf d p command (Some planned)
+      resize_plan command volume slots e =
+          subst
+          (λ (command : Command). (planned : Result Job Reply) → IfOk planned (PlansResize metas sup command)
+          → IfOk planned (λ job. IsFirstRefusal metas sup command None)
+          → IfErr planned (RefusesFirst metas sup command) → IsPlanOf d p command (Some planned)) (sym e)
+          (by_plan (c.Resize volume slots) tt (λ metas sup. PlansResize metas sup (c.Resize volume slots))
+          (resize_asks volume slots))

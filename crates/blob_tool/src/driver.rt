@@ -8,9 +8,10 @@ ghost use Rattle.store_core.specs.Steps.{gone_on, OnlyRow};
 ghost use Rattle.blob_tool.specs.Driving.{ended_row, IsWaiting};
 
 use crate::serving::serve;
+use data_path::{Stage, read_turn};
 use page_disk::PageDisk;
 use std::alloc::Global;
-use store_core::{MdRight, Plant, ReadTurn, RowStage};
+use store_core::{MdRight, Plant, RowStage};
 
 /// Reads the page that the next command of a channel asks for. No job runs, so no blob is frozen.
 fn read<D: PageDisk>(plant: &mut Plant<D>, channel: u8)
@@ -24,9 +25,9 @@ fn read<D: PageDisk>(plant: &mut Plant<D>, channel: u8)
     ensures right { plant.new.right ≡ plant.old.right }
 {
     plant.keeps();
-    match plant.read_page(channel) {
-        ReadTurn::Logged => {}
-        ReadTurn::Frozen => unreachable!(),
+    match read_turn(plant, channel) {
+        Stage::Logged => {}
+        _ => unreachable!(),
     }
 }
 

@@ -9,8 +9,8 @@ ghost use Rattle.store_core.specs.Steps.{decided, Asks, OnlyRow};
 ghost use Rattle.store_core.specs.declared.requests.Request.TheVariants.{Insert};
 ghost use Rattle.blob_tool.specs.Serving.{IsCommandOf, IsPlanOf, IsTaskOf};
 
-use blob_meta::Job;
-use lvol_store::{plan_create, plan_put, plan_sync};
+use blob_meta::{Job, least_heads_are_meant};
+use lvol_store::{plan_create, plan_put, plan_resize, plan_sync};
 use page_disk::PageDisk;
 use std::alloc::Global;
 use store_core::{BeginTurn, MdRight, Plant, Request, plans};
@@ -49,6 +49,7 @@ fn planned<D: PageDisk>(
     ensures { IsPlanOf D.PageDisk plant.now.at command.now result }
 {
     plans::<D>();
+    least_heads_are_meant();
     plant.keeps();
     let (metas, sup, new) = (plant.metas(), plant.sup(), plant.next_head());
     match command {
@@ -61,6 +62,7 @@ fn planned<D: PageDisk>(
             Some(plan_sync(alloc, metas, sup, command, new, live))
         }
         Command::Create { .. } => Some(plan_create(alloc, metas, sup, command, new)),
+        Command::Resize { .. } => Some(plan_resize(alloc, metas, sup, command, new)),
         _ => None,
     }
 }

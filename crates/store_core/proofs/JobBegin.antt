@@ -14,10 +14,9 @@ use Rattle.volume_model.specs.declared.command.Command.{Command}
 use Rattle.volume_model.specs.declared.reply.Reply.{Reply}
 use Rattle.volume_model.specs.declared.reply.Reply.TheVariants as r
 use Rattle.blob_meta.specs.declared.meta.Meta.{Meta}
-use Rattle.blob_meta.specs.declared.job.Replacement.{Replacement}
-use Rattle.store_model.specs.Rows.{with_row, Ended, InJob, Posted, Row, Rows}
-use Rattle.store_model.specs.StoreState.{JobState, StoreState, logged}
-use Rattle.store_model.specs.Phases.{Phase, Replacing, Zeros, replaced, taken_by}
+use Rattle.store_model.specs.Rows.{with_row, Ended, InJob, Row, Rows}
+use Rattle.store_model.specs.StoreState.{JobState, StoreState}
+use Rattle.store_model.specs.Phases.{Zeros}
 use Rattle.store_model.specs.Places.{all_set, AreLeastClear}
 use Rattle.store_model.specs.Asking.{IsJobFor}
 use Rattle.store_model.specs.Cases.{Begins, CannotBegin, IsPosted, IsRefusedAtBegin, Refuses}
@@ -25,7 +24,7 @@ use Rattle.store_model.proofs.JobReady.{lacks_for_one}
 use Rattle.store_core.specs.Begins.{begun_job, job_with_zeros, taken_for, AsksToWrite, IsUnprepared}
 use Rattle.store_core.specs.Jobs.{commit_of, replacing_of, writing_job}
 use Rattle.store_core.specs.StoreInvariant.{IsRunning}
-use Rattle.store_core.specs.StoreView.{StoreView, device_of, rows_of, state_of}
+use Rattle.store_core.specs.StoreView.{StoreView, rows_of, state_of}
 use Rattle.store_core.specs.Zeroing.{pages_of}
 use Rattle.store_core.specs.Steps.{logged_at, IsPostedAt}
 use Rattle.store_core.specs.declared.job.Planned.{Planned}

@@ -92,13 +92,22 @@ pub fn image_with_super(
     rows: &[PageRow],
 ) -> Result<MemDisk, Fail> {
     let (pages, md_pages) = sizes;
-    let mut disk = MemDisk::new(alloc, pages, 64)?;
+    let mut disk = MemDisk::new(alloc, pages, 128)?;
     put_super(&mut disk, md_pages, super_blob)?;
     for row in rows {
         put_row(&mut disk, *row)?;
     }
     disk.flush()?;
     Ok(disk)
+}
+
+/// Writes pages of other bytes than zeros to a device, from one on up to another, and flushes it.
+pub fn fill(disk: &mut MemDisk, from: u64, end: u64) -> Result<(), Fail> {
+    for at in from..end {
+        put(disk, at, &[0xAB; 4096])?;
+    }
+    disk.flush()?;
+    Ok(())
 }
 
 /// A device of 64 pages whose only blob, at place 0 of 16, has flags of zeros and no attribute.

@@ -5,6 +5,7 @@ mod images;
 mod looks;
 
 pub use images::{
-    LAST, NAMED, PageRow, READ_ONLY, THICK, THIN, image, image_with_super, store, two_blobs, volume,
+    LAST, NAMED, PageRow, READ_ONLY, THICK, THIN, fill, image, image_with_super, store, two_blobs,
+    volume,
 };
-pub use looks::{ChainRow, expect_chains, expect_written, first_value};
+pub use looks::{ChainRow, expect_chains, expect_written, first_value, is_zeros};

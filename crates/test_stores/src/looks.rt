@@ -43,15 +43,24 @@ pub fn expect_chains(alloc: Global, disk: MemDisk, wanted: &[ChainRow<'_>]) -> R
     Ok(())
 }
 
-/// Reads a metadata page of a device whose metadata region begins at page 4.
-fn md_page_at(disk: &mut MemDisk, place: u32) -> Result<Page, Fail> {
-    let at = 4 + u64::from(place);
+/// Reads a page of a device.
+fn page_at(disk: &mut MemDisk, at: u64) -> Result<Page, Fail> {
     if at >= disk.pages() {
         return Err(Fail::new(format_args!("the device has no page {at}")));
     }
     let mut page = [0; 4096];
     disk.read(at, &mut page)?;
     Ok(page)
+}
+
+/// Whether a page of a device has zeros alone.
+pub fn is_zeros(disk: &mut MemDisk, at: u64) -> Result<bool, Fail> {
+    Ok(page_at(disk, at)? == [0; 4096])
+}
+
+/// Reads a metadata page of a device whose metadata region begins at page 4.
+fn md_page_at(disk: &mut MemDisk, place: u32) -> Result<Page, Fail> {
+    page_at(disk, 4 + u64::from(place))
 }
 
 /// Expects that of so many metadata pages these are written, and that the others have zeros, or fails.

@@ -1,4 +1,4 @@
-use Rattle.std.proofs.Common.{sym, ap}
+use Rattle.std.proofs.Common.{inl, inr}
 use Rattle.store_core.specs.StoreView.{rows_of}
 use Rattle.store_core.specs.declared.rows.RowStage.TheVariants.{Read}
 use Rattle.blob_tool.proofs.Driven.{next_of, none_frozen}
@@ -10,5 +10,9 @@ unreachable-requires g c =
     let p = c.args.plant.now in
     let next = next_of (rows_of p.at.rows c.args.channel) c.args.channel Read c.requires.stage c.requires.waiting
     (λ e. cc e) (λ e. cc e) in
-    none_frozen d p c.keeps.ensures c.requires.no_job next.command
-    (c.read_page.ensures.frozen c.in-Frozen.is next.command next.rest next.left)
+    elim c.read_turn.ensures.stage [
+      | inl waits ↦
+          none_frozen d p c.keeps.ensures c.requires.no_job next.command
+          (c.read_turn.ensures.frozen waits next.command next.rest next.left)
+      | inr logged ↦ c.in_default.not-Logged logged
+    ]

@@ -1,7 +1,6 @@
-use Rattle.std.proofs.Common.{false}
 use Rattle.std.specs.Option.{option_copied}
 use Rattle.blob_tool.proofs.Driven.{answerable}
-use Rattle.blob_tool.proofs.Planned.{create_plan, is_running, live_given, put_plan, sync_plan}
+use Rattle.blob_tool.proofs.Planned.{create_plan, is_running, live_given, put_plan, resize_plan, sync_plan}
 use Rattle.blob_tool.proofs.serving.planned.Goals as goal
 
 pub plan_put-requires-clause-live : goal.plan_put-requires-clause-live
@@ -49,13 +48,25 @@ returns-in-Create g c =
     let running = is_running d c.args.plant.now c.keeps.ensures in
     create_plan d c.plans.ensures p running c.requires.runs c.metas-metas.result.now c.sup-sup.result.now
     c.metas-metas.ensures c.sup-sup.ensures (c.plans.ensures.shows_all p running c.requires.runs)
-    (λ name slots uuid head xattrs. c.plans.ensures.create p name slots false uuid head xattrs running
+    (λ name slots thick uuid head xattrs. c.plans.ensures.create p name slots thick uuid head xattrs running
     c.requires.runs)
     c.next_head-new.result c.next_head-new.ensures
     c.args.command.now c.in-Create.name c.in-Create.slots c.in-Create.thick c.in-Create.uuid c.in-Create.is
-    c.requires.served.served
     c.plan_create.result c.plan_create.ensures.job c.plan_create.ensures.unrefused c.plan_create.ensures.refused
+
+pub returns-in-Resize : goal.returns-in-Resize
+returns-in-Resize g c =
+    let d = g.D.PageDisk in
+    let p = c.args.plant.now.at in
+    let running = is_running d c.args.plant.now c.keeps.ensures in
+    resize_plan d c.plans.ensures p running c.requires.runs c.metas-metas.result.now c.sup-sup.result.now
+    c.metas-metas.ensures c.sup-sup.ensures (c.plans.ensures.shows_all p running c.requires.runs)
+    c.least_heads_are_meant.ensures
+    (λ volume slots head old job. c.plans.ensures.resize p volume slots head old job running c.requires.runs)
+    c.args.command.now c.in-Resize.volume c.in-Resize.slots c.in-Resize.is
+    c.plan_resize.result c.plan_resize.ensures.job c.plan_resize.ensures.unrefused c.plan_resize.ensures.refused
 
 pub returns-in_default : goal.returns-in_default
 returns-in_default g c =
     answerable c.args.command.now c.requires.served c.in_default.not-Create c.in_default.not-Put c.in_default.not-Sync
+    c.in_default.not-Resize

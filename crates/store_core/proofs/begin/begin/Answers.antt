@@ -1,10 +1,10 @@
-use Rattle.std.proofs.Common.{◌≡◌, ◌<◌, ◌+◌, ◌^◌, ◌≤◌, ℕ, List, length, Some, sym, ap, subst, ◌∙◌, arith, rules}
+use Rattle.std.proofs.Common.{◌≡◌, ◌<◌, ◌+◌, ◌^◌, ◌≤◌, length, Some, sym, ap, subst, ◌∙◌, arith, rules}
 use Rattle.std.specs.Prelude.{slice_set, vec_capacity}
 use Rattle.store_model.specs.Cases.{Begins}
 use Rattle.store_model.specs.Rows.{InJob, Row}
 use Rattle.store_core.specs.Jobs.{job_seen}
 use Rattle.store_core.specs.Running.{left_in, view_of}
-use Rattle.store_core.specs.StoreView.{rows_of, state_of}
+use Rattle.store_core.specs.StoreView.{state_of}
 use Rattle.store_core.specs.declared.running.Running.{Running}
 use Rattle.store_core.proofs.Counting.{left_same}
 use Rattle.store_core.proofs.JobBegin.{indexed_row, refused}

@@ -1,8 +1,8 @@
-use Rattle.std.proofs.Common.{◌≡◌, ◌<◌, ◌∙◌, ℕ, All, Bool, true, false, List, length, refl, sym, ap, subst, inl, inr, arith}
+use Rattle.std.proofs.Common.{◌≡◌, ◌<◌, ◌∙◌, All, Bool, true, false, List, length, refl, sym, ap, subst, inl, inr, arith}
 use Rattle.bit_array.specs.Bits.{is_in}
 use Rattle.pools.specs.Pool.{clear_in}
 use Rattle.store_model.specs.Jobs.{with_clusters, AreForZeros}
-use Rattle.store_model.specs.Places.{all_set, AreLeastClear}
+use Rattle.store_model.specs.Places.{all_set}
 use Rattle.store_model.proofs.Sets.{are_distinct}
 use Rattle.store_core.proofs.SlotsFilled.{some_claimed}
 use Rattle.store_core.proofs.JobPlaces.{clear_again, taken_in_use}

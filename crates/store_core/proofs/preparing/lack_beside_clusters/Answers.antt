@@ -1,4 +1,4 @@
-use Rattle.std.proofs.Common.{◌≡◌, ◌<◌, ◌≤◌, refl, arith}
+use Rattle.std.proofs.Common.{◌<◌, ◌≤◌, refl, arith}
 use Rattle.pools.specs.Pool.{clear_in}
 use Rattle.store_core.specs.Begins.{needed}
 use Rattle.store_core.proofs.Needed.{has_pages, lacks_pages}

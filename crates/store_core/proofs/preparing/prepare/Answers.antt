@@ -1,4 +1,4 @@
-use Rattle.std.proofs.Common.{◌≡◌, ◌<◌, ◌≤◌, ℕ, Bool, true, false, List, Option, None, refl, ap, arith, subst, sym}
+use Rattle.std.proofs.Common.{◌≡◌, ◌<◌, ℕ, Bool, true, false, List, Option, None, refl, ap, arith, subst, sym}
 use Rattle.std.specs.Prelude.{is_some, not}
 use Rattle.std.specs.FinMap as map
 use Rattle.pools.specs.Pool.{clear_in}

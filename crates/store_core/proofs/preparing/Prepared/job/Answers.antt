@@ -1,4 +1,4 @@
-use Rattle.std.proofs.Common.{◌≡◌, ◌≤◌, length, arith}
+use Rattle.std.proofs.Common.{arith}
 use Rattle.store_core.specs.Begins.{planned_with}
 use Rattle.store_core.proofs.ZeroPages.{none_zeroed}
 use Rattle.store_core.proofs.preparing.Prepared.job.Goals as goal
