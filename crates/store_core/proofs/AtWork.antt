@@ -17,7 +17,8 @@ use Rattle.store_model.proofs.Used.{within}
 use Rattle.store_core.specs.StoreInvariant.{IsRunning}
 use Rattle.store_core.proofs.Cleared.{among_get}
 use Rattle.store_core.specs.declared.job.Planned.{Planned}
-use Rattle.store_core.specs.Jobs.{commit_for, commit_of, erasing_for, erasing_job, replacing_of, writing_for, writing_job}
+use Rattle.store_core.specs.Jobs.{commit_for, commit_of, erasing_for, erasing_job, replacing_of, writing_for}
+use Rattle.store_core.specs.Jobs.{writing_job}
 use Rattle.store_model.specs.Phases.{page_in, held_in, Erases, Frees, Phase, Replacing, erasing, has_commit, taken_in}
 use Rattle.store_model.specs.Phases.{Replaces, taken_by}
 use Rattle.store_model.proofs.Phases.{held_clearing, planned_behind, commit_behind, held_behind, lays_reached}

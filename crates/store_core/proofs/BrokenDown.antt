@@ -1,6 +1,6 @@
 -- The end of a job on a stopped store.
-use Rattle.std.proofs.Common.{◌≡◌, ◌⊎◌, ℕ, ◌<◌, Bool, true, false, List, ◌∷◌, length, Option, Some, None, refl, sym, ◌∙◌}
-use Rattle.std.proofs.Common.{ap, arith, inl, inr, option_map, subst}
+use Rattle.std.proofs.Common.{◌≡◌, ◌⊎◌, ℕ, ◌<◌, Bool, true, false, List, ◌∷◌, length, Option, Some, None, refl}
+use Rattle.std.proofs.Common.{sym, ◌∙◌, ap, arith, inl, inr, option_map, subst}
 use Rattle.std.specs.Option.{option_and_then}
 use Rattle.std.specs.Prelude.{IsSome}
 use Rattle.page_disk.specs.declared.disk.PageDisk.{Ghosts}
@@ -110,8 +110,8 @@ record Waiting (row : Row) : Type 0 where
   left : row.left ≡ command ∷ rest
   stage : row.stage ≡ InJob
 
-module _ {D : Type 0} (d : Ghosts D) (p : StoreView D) (running : IsRunning (state_of d p)) (own : AreOwn (state_of d p))
-    (sixteen : length p.rows ≡ 16) (channel : ℕ) where
+module _ {D : Type 0} (d : Ghosts D) (p : StoreView D) (running : IsRunning (state_of d p))
+    (own : AreOwn (state_of d p)) (sixteen : length p.rows ≡ 16) (channel : ℕ) where
   served : WaitsIn p.job channel → IsServedRow (rows_of p.rows channel)
   served w = running.facts.shaped.served w.job channel w.is w.serves w.commit
 

@@ -1,7 +1,7 @@
 -- What is known of an insert before its job begins: the metadata that is to be written, and the pages on which it is
 -- laid.
-use Rattle.std.proofs.Common.{◌≡◌, ◌≢◌, ◌⊎◌, ℕ, ◌<◌, ◌^◌, true, false, All, List, [], ◌∷◌, length, get_or, drop, Some, None}
-use Rattle.std.proofs.Common.{Option, refl, sym, ◌∙◌, ap, subst, arith, inl, inr, Bool}
+use Rattle.std.proofs.Common.{◌≡◌, ◌≢◌, ◌⊎◌, ℕ, ◌<◌, ◌^◌, true, false, All, List, [], ◌∷◌, length, get_or}
+use Rattle.std.proofs.Common.{drop, Some, None, Option, refl, sym, ◌∙◌, ap, subst, arith, inl, inr, Bool}
 use Rattle.std.specs.Ordering.{nat_cmp}
 use Rattle.std.specs.FinMap as map
 use Rattle.std.proofs.lemmas.Bool.{both_ways, cases_Bool}
@@ -77,14 +77,17 @@ module _ (p : StoreState) (running : IsRunning p) (runs : p.stopped ≡ None) (r
         (running.facts.loadable claim.head meta can.there)
 
     pub loadable : IsLoadable p.super claim.head new
-    loadable = inserted_loadable meta claim.slot claim.cluster can.within can.empty p.super claim.head inside old_loadable
+    loadable = inserted_loadable meta claim.slot claim.cluster can.within can.empty p.super claim.head inside
+        old_loadable
 
     -- its cluster is in the map then, and all others stay
     pub moves : MovesClusters p.super p.base (with_entry p.base claim.head new) [] (claim.cluster ∷ [])
     moves = record {
-      kept = λ c x. inl (mapped_still meta claim.slot claim.cluster can.within can.empty p.base claim.head can.there c x);
+      kept = λ c x.
+          inl (mapped_still meta claim.slot claim.cluster can.within can.empty p.base claim.head can.there c x);
       let_go = λ c bad. absurd (cc bad);
-      gained = λ c x. by c (mapped_then meta claim.slot claim.cluster can.within can.empty p.base claim.head can.there c x);
+      gained = λ c x.
+          by c (mapped_then meta claim.slot claim.cluster can.within can.empty p.base claim.head can.there c x);
       filled = λ c among. elim (among_either c claim.cluster [] among) [
         | inl e ↦ subst (IsMapped (with_entry p.base claim.head new)) (sym e)
             (inserted_mapped meta claim.slot claim.cluster can.within can.empty p.base claim.head can.there)

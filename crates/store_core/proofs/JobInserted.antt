@@ -125,7 +125,8 @@ module _ {D : Type 0} (d : Ghosts D) (p : StoreView D) (row : ℕ) (planned : Pl
         ∙ ap (λ (h : Chains). built base_new h (rows_of (let_go_at filled row stage).rows) k) chains
         ∙ ap (λ (rows : Rows). built base_new chains_new rows k) (rows_set p.rows row (row_then stage) below)
         ∙ ap (λ (g : Stage). built base_new chains_new (with_row s.rows row (row_then g)) k) behind
-        ∙ ap (λ (o : Option JobState). built base_new chains_new (with_row s.rows row (row_then (stage_behind others))) o)
+        ∙ ap (λ (o : Option JobState).
+        built base_new chains_new (with_row s.rows row (row_then (stage_behind others))) o)
         after
 
     module _ (a : StoreView D) (a_is : a ≡ adopted_view p planned disk) (l : StoreView D) (stage : Stage)

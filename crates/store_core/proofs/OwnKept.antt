@@ -14,7 +14,7 @@ use Rattle.store_model.specs.Cases.Halt.{MayLog, stage_after}
 use Rattle.store_model.specs.Claiming.{stage_behind, LogsOwn}
 use Rattle.store_model.specs.Device.{Device}
 use Rattle.store_model.specs.Phases.{Phase}
-use Rattle.store_model.specs.Rows.{Answered, Claiming, Decided, Idle, InJob, OpenClaim, Posted, Row, Rows, Stage, with_row}
+use Rattle.store_model.specs.Rows.{InJob, OpenClaim, Row, Rows, Stage, with_row}
 use Rattle.store_model.specs.StoreState.{ForCommand, ForInsert, going_on, JobState, Opens, StoreState}
 use Rattle.store_model.proofs.LeftToDo.{goes_on_as}
 use Rattle.store_model.proofs.RowsKept.{row_here, row_other}
@@ -163,7 +163,8 @@ own_after told p q kind.writes own t = step_job p own t.running.job t.running.is
     (same_one t.running.job _ refl q.job (ap (λ (s : StoreState). s.job) t.next))
 own_after told p q kind.commits own t = step_idle p own t.served.channel _ _ q (ap (λ (s : StoreState). s.rows) t.next)
     (λ j row is insert. no_insert j t.served.channel row
-    (same_behind (record t.running.job { claimed = [] }) t.running.rest q.job (ap (λ (s : StoreState). s.job) t.next) j is
+    (same_behind (record t.running.job { claimed = [] }) t.running.rest q.job
+    (ap (λ (s : StoreState). s.job) t.next) j is
     ∙ t.served.serves) insert)
 own_after told p q kind.erases own t = step_job p own t.running.job t.running.is q
     (ap (λ (s : StoreState). s.rows) t.next)
@@ -252,7 +253,8 @@ own_after told p q kind.begins_insert own t = subst AreOwn (sym t.next) (record 
     begun : JobState
     begun = record { serves = ForInsert row; freeze = None; claimed = []; written = []; todo = [] }
 own_after told p q kind.inserts own t = subst AreOwn (sym t.next) (record {
-  claims = with_one p.rows own.claims row (given (stage_behind t.running.rest)) (unclaimed _ _);
+  claims = with_one p.rows own.claims row (given (stage_behind t.running.rest))
+      (unclaimed (p.rows row).left (stage_behind t.running.rest));
   inserts = λ j other is serves. by t.running.rest j other is serves;
 })
   where

@@ -1,7 +1,7 @@
 //! The begin of an insert: the job that puts a claimed cluster into its slot.
 
-ghost use Rattle.std.specs.Prelude.{◌≡◌, ◌<◌, None, Some, IsSome, IfNone, IfOk, IfSome, length, option_copied, slice_get};
-ghost use Rattle.std.specs.Prelude.{◌↔◌, IsTrue};
+ghost use Rattle.std.specs.Prelude.{◌≡◌, ◌<◌, None, Some, IsSome, IfNone, IfOk, IfSome};
+ghost use Rattle.std.specs.Prelude.{◌↔◌, length, IsTrue};
 ghost use Rattle.std.specs.FinMap as map;
 ghost use Rattle.blob_meta.specs.declared.meta.Meta.{Meta as AMeta};
 ghost use Rattle.blob_meta.specs.Parents.{slot};

@@ -22,12 +22,7 @@ use volume_model::{PlaceList, Reply};
 
 /// The replacement is made: a command is logged with its reply; the row of an insert, which has its cluster, goes on at
 /// this stage.
-pub(crate) fn tell<D: PageDisk>(
-    running: &mut Running<D>,
-    serves: Serves,
-    reply: Reply,
-    next: Stage,
-)
+pub(crate) fn tell<D: PageDisk>(running: &mut Running<D>, serves: Serves, reply: Reply, next: Stage)
     requires order { InOrder D.PageDisk running.old }
     requires channel { row_of serves < 16 }
     requires left { 0 < length (rows_of running.old.rows.items (row_of serves)).left }
@@ -75,8 +70,8 @@ fn let_go<D: PageDisk>(running: &mut Running<D>, channel: u8, next: Stage)
     running.rows[channel as usize].let_go(next);
 }
 
-/// The store stops, and what waits for the job is logged as failed: its command, or the write for which it inserts, whose
-/// claim is given back if the cluster isn't in its slot yet.
+/// The store stops, and what waits for the job is logged as failed: its command, or the write for which it inserts,
+/// whose claim is given back if the cluster isn't in its slot yet.
 pub(crate) fn fail<D: PageDisk>(running: &mut Running<D>, channel: u8) -> JobTurn
     requires order { InOrder D.PageDisk running.old }
     requires taken { running.old.job ≡ None }

@@ -11,7 +11,8 @@ use Rattle.blob_tool.proofs.serving.task_of.Goals as goal
 
 -- a row without a claim asks for no insert
 no_insert : (row : Row) (x : Request) → row.claim ≡ None → IsAsked row x → x ≢ request.Insert
-no_insert row request.Insert none asked = absurd (let bad = subst (λ (o : Option OpenClaim). IsSome o) none asked in cc bad)
+no_insert row request.Insert none asked =
+    absurd (let bad = subst (λ (o : Option OpenClaim). IsSome o) none asked in cc bad)
 no_insert row (request.Meta command) none asked = λ e. cc e
 
 -- the command that it asks for comes first

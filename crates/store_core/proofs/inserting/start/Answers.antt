@@ -1,5 +1,5 @@
-use Rattle.std.proofs.Common.{◌≡◌, ◌<◌, ℕ, Bool, false, List, [], ◌∷◌, length, Option, Some, None, IfSome, IfNone, refl, sym}
-use Rattle.std.proofs.Common.{ap, subst, ◌∙◌, arith, drop, rules}
+use Rattle.std.proofs.Common.{◌≡◌, ◌<◌, ℕ, Bool, false, List, [], ◌∷◌, length, Option, Some, None, IfSome, IfNone}
+use Rattle.std.proofs.Common.{refl, sym, ap, subst, ◌∙◌, arith, drop, rules}
 use Rattle.std.specs.Prelude.{◌+◌, ◌^◌, ◌≤◌, is_some, slice_set, vec_capacity}
 use Rattle.std.specs.FinMap as map
 use Rattle.std.specs.Option.{option_map}
@@ -20,7 +20,7 @@ use Rattle.store_core.specs.Telling.{IsGivenUp}
 use Rattle.store_core.specs.declared.job.RunningJob.{RunningJob}
 use Rattle.store_core.specs.declared.preparing.Prepared.{Prepared}
 use Rattle.store_core.proofs.Counting.{left_same}
-use Rattle.store_core.proofs.InsertBegun.{begun, posted_with, row_is, unprepared}
+use Rattle.store_core.proofs.InsertBegun.{begun, posted_with, row_is, some_left, unprepared}
 use Rattle.store_core.proofs.InsertReady.{has_chain, loadable}
 use Rattle.store_core.proofs.JobAsked.{all_fit}
 use Rattle.store_core.proofs.inserting.start.Goals as goal
@@ -133,3 +133,7 @@ returns-in-Err-clause-case g c =
     (subst (λ (m : Meta). IsUnprepared false there m p.pages c.in-Err.reply) c.requires.fills.2 c.in-Err.ensures.lack)) q
     (subst (λ (bits : List Bool). IsGivenUp (record p { pages = bits }) q c.args.channel c.in-Err.reply
     (d.clock q.disk)) c.in-Err.ensures.same c.give_up.ensures.logged)
+
+pub give_up-requires-clause-left : goal.give_up-requires-clause-left
+give_up-requires-clause-left g c =
+    some_left g.D.PageDisk (view_of c.args.running.now) c.args.channel c.requires.posted c.requires.own

@@ -151,12 +151,14 @@ returns-else-written-fresh-clause-case g c =
     let all : length (drop 1 c.in-Writing.planned.chain) ≤ c.in-Writing.written = omega (arith, pages, len, none) in
     let whole = is ∙ ap (λ (j : JobState). Some j)
     (all_written c.in-Some.field-0.serves c.in-Writing.planned c.in-Some.field-0.old c.in-Writing.written all) in
-    subst (λ k. TurnsJob g.D.PageDisk (record (view_of c.args.running.now) { job = k }) (view_of c.replace_head.new.running))
+    subst (λ k. TurnsJob g.D.PageDisk (record (view_of c.args.running.now) { job = k })
+    (view_of c.replace_head.new.running))
     (sym whole) c.replace_head.ensures.case
 
 pub returns-then-written-fresh-clause-case : goal.returns-then-written-fresh-clause-case
 returns-then-written-fresh-clause-case g c =
     let is = seen_work c.args.running.now.job c.take.result c.in-Some.field-0 _ c.take.ensures.value c.in-Some.is
     c.in-Writing.is in
-    subst (λ k. TurnsJob g.D.PageDisk (record (view_of c.args.running.now) { job = k }) (view_of c.write_fresh.new.running))
+    subst (λ k. TurnsJob g.D.PageDisk (record (view_of c.args.running.now) { job = k })
+    (view_of c.write_fresh.new.running))
     (sym is) c.write_fresh.ensures.case

@@ -73,7 +73,8 @@ fail-requires-clause-left g c =
     c.args.serves c.args.planned c.args.old (length (drop 1 c.args.planned.chain)) c.requires.at_work))
 
 -- the head's page is replaced on this device
-abbrev replaces : {D : Type 0} (d : Ghosts D) (p : StoreView D) (serves : Serves) (planned : Planned) (old : List ℕ) (disk : D)
+abbrev replaces : {D : Type 0} (d : Ghosts D) (p : StoreView D) (serves : Serves) (planned : Planned) (old : List ℕ)
+    (disk : D)
     → IsAtWork d p (writing_for serves planned old (length (drop 1 planned.chain))) → IsMatchedFor serves planned
     → (at : ℕ) → at ≡ p.super.md_start + planned.head → (plan : List PlannedPage) → plan ≡ planned.pages
     → CallsLeaveOnly d p.disk disk (IsReplaced (d.images p.disk) (d.now p.disk) at (first plan).page)
