@@ -83,17 +83,13 @@ left_read p channel w left is =
     let both : Some left ≡ Some (suc w.left) = is ∙ ap (λ (x : Row). to_copy_in x.stage) w.holds.row in cc both
 
 -- a test that came out so
-pub if_true : (b : Bool) → not b ≡ false → IsTrue b
-if_true true is = refl
-if_true false is = absurd (cc is)
-
-pub late : (b : Bool) (F : Type 0) → (IsTrue b ↔ F) → not b ≡ true → F → ⊥
+pub late : (b : Bool) (F : Type 0) → (IsTrue b ↔ F) → b ≡ false → F → ⊥
 late true F both is holds = absurd (cc is)
 late false F both is holds = let bad = both.1 holds in cc bad
 
 -- each head is a number of 32 bits
-pub all_fit : {D : Type 0} {d : Ghosts D} (p : StoreView D) → IsRunning (state_of d p) → HeadsFit p.metas
-all_fit p running h high = by (map.get p.metas h) refl
+pub all_fit : {D : Type 0} (d : Ghosts D) (p : StoreView D) → IsRunning (state_of d p) → HeadsFit p.metas
+all_fit d p running h high = by (map.get p.metas h) refl
   where
     by : (o : Option Meta) → map.get p.metas h ≡ o → map.get p.metas h ≡ None
     by None is = is

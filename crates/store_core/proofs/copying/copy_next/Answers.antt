@@ -5,7 +5,7 @@ use Rattle.store_model.specs.Rows.{Row}
 use Rattle.store_core.specs.ClaimTurns.{CopiesNow, to_copy_in}
 use Rattle.store_core.specs.Running.{view_of}
 use Rattle.store_core.specs.Stages.{claim_seen}
-use Rattle.store_core.proofs.PagesCopied.{all_fit, copies_now, copy_lost, from_inside, from_is, if_true, late, left_read}
+use Rattle.store_core.proofs.PagesCopied.{all_fit, copies_now, copy_lost, from_inside, from_is, late, left_read}
 use Rattle.store_core.proofs.PagesCopied.{seen_copy, to_inside}
 use Rattle.store_core.proofs.Rowing.{row_read}
 use Rattle.store_core.proofs.copying.copy_next.Goals as goal
@@ -34,9 +34,9 @@ copy_to-requires-clause-copies g c =
     let few = w.few in
     let next : c.cluster_pages-pages.result - c.in-Some-to_copy.left + suc w.left ≡ cluster_pages_of p.super =
     omega (arith, left, pages, few) in
-    let current = c.is_current.ensures.0 (if_true c.is_current.result c.if-not-is_current.false) in
+    let current = c.is_current.ensures.0 c.if-not-is_current.false in
     let page = c.cluster_pages-pages.result - c.in-Some-to_copy.left in
-    let place = c.place_read-from.ensures (all_fit p c.requires.running) in
+    let place = c.place_read-from.ensures (all_fit g.D.PageDisk p c.requires.running) in
     let from = place ∙ from_is p.metas p.super c.in-Some.claim.head c.in-Some.claim.slot page
     c.cluster_pages-pages.result pages c.page_in.result c.page_in.ensures in
     let to = c.page_in-to.ensures ∙ ap (λ (k : ℕ). c.in-Some.claim.cluster * k + page) pages in
@@ -58,9 +58,9 @@ copy_to-requires-clause-from g c =
     let few = w.few in
     let next : c.cluster_pages-pages.result - c.in-Some-to_copy.left + suc w.left ≡ cluster_pages_of p.super =
     omega (arith, left, pages, few) in
-    let current = c.is_current.ensures.0 (if_true c.is_current.result c.if-not-is_current.false) in
+    let current = c.is_current.ensures.0 c.if-not-is_current.false in
     let page = c.cluster_pages-pages.result - c.in-Some-to_copy.left in
-    let place = c.place_read-from.ensures (all_fit p c.requires.running) in
+    let place = c.place_read-from.ensures (all_fit g.D.PageDisk p c.requires.running) in
     let from = place ∙ from_is p.metas p.super c.in-Some.claim.head c.in-Some.claim.slot page
     c.cluster_pages-pages.result pages c.page_in.result c.page_in.ensures in
     let to = c.page_in-to.ensures ∙ ap (λ (k : ℕ). c.in-Some.claim.cluster * k + page) pages in
@@ -80,9 +80,9 @@ copy_to-requires-clause-to g c =
     let few = w.few in
     let next : c.cluster_pages-pages.result - c.in-Some-to_copy.left + suc w.left ≡ cluster_pages_of p.super =
     omega (arith, left, pages, few) in
-    let current = c.is_current.ensures.0 (if_true c.is_current.result c.if-not-is_current.false) in
+    let current = c.is_current.ensures.0 c.if-not-is_current.false in
     let page = c.cluster_pages-pages.result - c.in-Some-to_copy.left in
-    let place = c.place_read-from.ensures (all_fit p c.requires.running) in
+    let place = c.place_read-from.ensures (all_fit g.D.PageDisk p c.requires.running) in
     let from = place ∙ from_is p.metas p.super c.in-Some.claim.head c.in-Some.claim.slot page
     c.cluster_pages-pages.result pages c.page_in.result c.page_in.ensures in
     let to = c.page_in-to.ensures ∙ ap (λ (k : ℕ). c.in-Some.claim.cluster * k + page) pages in
