@@ -1,5 +1,5 @@
 -- What a channel's first command is, by what its row waits for.
-use Rattle.std.proofs.Common.{◌≡◌, ℕ, ◌<◌, List, [], ◌∷◌, length, Option, None, refl, sym, subst}
+use Rattle.std.proofs.Common.{◌≡◌, ℕ, zero, suc, ◌<◌, List, [], ◌∷◌, length, Option, None, refl, sym, subst, arith}
 use Rattle.page_disk.specs.declared.disk.PageDisk.{Ghosts}
 use Rattle.volume_model.specs.declared.command.Command.{Command}
 use Rattle.volume_model.specs.declared.command.Command.TheVariants as c
@@ -11,12 +11,12 @@ use Rattle.store_model.proofs.Shaped.{no_claim}
 use Rattle.store_core.specs.declared.rows.RowStage.{RowStage}
 use Rattle.store_core.specs.declared.rows.RowStage.TheVariants as waits
 use Rattle.store_core.specs.ChannelTurns.{WaitsToFlush, WaitsToRead, WaitsToWrite}
-use Rattle.store_core.specs.ClaimTurns.{HoldsClaim}
+use Rattle.store_core.specs.ClaimTurns.{HoldsClaim, WaitsToCopy}
 use Rattle.store_core.specs.StoreInvariant.{StoreInvariant}
 use Rattle.store_core.specs.StoreView.{StoreView, WithOpening, rows_of, state_of}
 use Rattle.store_core.specs.Stages.{is_stage, waits_for}
 use Rattle.store_core.proofs.Posting.{low_of}
-use Rattle.store_core.proofs.Staged.{HasClaimed, IsStagedAt, staged}
+use Rattle.store_core.proofs.Staged.{HasClaimed, IsStagedAt, IsToCopy, staged}
 
 -- what a row waits for whose first command is a channel's own
 abbrev IsOwn : RowStage → Type 0
@@ -176,6 +176,17 @@ module _ {D : Type 0} (d : Ghosts D) (p : WithOpening D) (kept : StoreInvariant 
     claim = x.held;
     row = λ i. record { left = x.write.is i; stage = at i; claim = x.is i };
   }
+
+  pub waits_copy : (left : ℕ) → is_stage r channel ≡ waits.Copy left → WaitsToCopy p.at channel
+  waits_copy left is = by left (at_stage (waits.Copy left) is) (has (Copying left) (at_stage (waits.Copy left) is))
+    where
+      by : (n : ℕ) → r.stage ≡ Copying n → IsToCopy r.left r.claim n (cluster_pages_of p.at.super)
+          → WaitsToCopy p.at channel
+      by zero at x = absurd (let some = x.some in omega (arith, some))
+      by (suc n) at x = record { left = n; holds = holds (Copying (suc n)) at x.claimed; few = x.few }
+
+  pub low_copy : (left : ℕ) → length p.at.rows ≡ 16 → is_stage r channel ≡ waits.Copy left → channel < 16
+  low_copy left sixteen is = low_at (Copying left) (at_stage (waits.Copy left) is) (λ e. cc e) sixteen
 
   pub holds_ready : is_stage r channel ≡ waits.Ready → HoldsClaim p.at channel Ready
   holds_ready is = let at = at_stage waits.Ready is in holds Ready at (has Ready at)

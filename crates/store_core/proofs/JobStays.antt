@@ -1,5 +1,5 @@
 -- The turns of a channel leave the running job as it is.
-use Rattle.std.proofs.Common.{◌≡◌, ◌≢◌, ◌⊎◌, inl, inr, Bool, ap, refl}
+use Rattle.std.proofs.Common.{◌≡◌, ◌≢◌, ◌⊎◌, ℕ, inl, inr, Bool, ap, refl}
 use Rattle.page_disk.specs.declared.disk.PageDisk.{Ghosts}
 use Rattle.volume_model.specs.declared.reply.Msg.{Msg}
 use Rattle.store_model.specs.Cases.{Kind, Turn}
@@ -9,12 +9,14 @@ use Rattle.store_core.specs.declared.claiming.ClaimTurn.{ClaimTurn}
 use Rattle.store_core.specs.declared.claiming.ClaimTurn.TheVariants as claim
 use Rattle.store_core.specs.declared.page_writing.WriteTurn.{WriteTurn}
 use Rattle.store_core.specs.declared.page_writing.WriteTurn.TheVariants as write
+use Rattle.store_core.specs.declared.copying.CopyTurn.{CopyTurn}
+use Rattle.store_core.specs.declared.copying.CopyTurn.TheVariants as copy
 use Rattle.store_core.specs.declared.sending.SendTurn.{SendTurn}
 use Rattle.store_core.specs.declared.sending.SendTurn.TheVariants as send
 use Rattle.store_core.specs.declared.settling.SettleTurn.{SettleTurn}
 use Rattle.store_core.specs.declared.settling.SettleTurn.TheVariants as settle
 use Rattle.store_core.specs.ChannelTurns.{IsOfFlush, IsOfRead, IsOfWrite, TurnsAs}
-use Rattle.store_core.specs.ClaimTurns.{IsOfClaim, IsOfSend}
+use Rattle.store_core.specs.ClaimTurns.{IsOfClaim, IsOfCopy, IsOfSend}
 use Rattle.store_core.specs.StoreView.{state_of, StoreView}
 use Rattle.store_core.specs.TurnMade.{TurnMade}
 
@@ -31,6 +33,9 @@ IsOfChannel kind.finds_empty = Unit {0}
 IsOfChannel kind.finds_filled = Unit {0}
 IsOfChannel kind.claims = Unit {0}
 IsOfChannel kind.refuses_claim = Unit {0}
+IsOfChannel kind.copies = Unit {0}
+IsOfChannel kind.loses_copy = Unit {0}
+IsOfChannel kind.copy_not_read = Unit {0}
 IsOfChannel kind.copy_fails = Unit {0}
 IsOfChannel kind.sends = Unit {0}
 IsOfChannel kind.settles = Unit {0}
@@ -59,6 +64,12 @@ of_claim kind.halts is = tt
 of_claim kind.refuses_claim is = tt
 of_claim _ is = absurd is
 
+of_copy : (k : Kind) → IsOfCopy k → IsOfChannel k
+of_copy kind.halts is = tt
+of_copy kind.copy_not_read is = tt
+of_copy kind.copy_fails is = tt
+of_copy _ is = absurd is
+
 of_send : (k : Kind) → IsOfSend k → IsOfChannel k
 of_send kind.halts is = tt
 of_send kind.copy_fails is = tt
@@ -76,6 +87,9 @@ job_stays told p q kind.finds_empty is t = ap (λ (s : StoreState). s.job) t.nex
 job_stays told p q kind.finds_filled is t = ap (λ (s : StoreState). s.job) t.next
 job_stays told p q kind.claims is t = ap (λ (s : StoreState). s.job) t.next
 job_stays told p q kind.refuses_claim is t = ap (λ (s : StoreState). s.job) t.next
+job_stays told p q kind.copies is t = ap (λ (s : StoreState). s.job) t.next
+job_stays told p q kind.loses_copy is t = ap (λ (s : StoreState). s.job) t.next
+job_stays told p q kind.copy_not_read is t = ap (λ (s : StoreState). s.job) t.logs.next
 job_stays told p q kind.copy_fails is t = ap (λ (s : StoreState). s.job) t.logs.next
 job_stays told p q kind.sends is t = ap (λ (s : StoreState). s.job) t.next
 job_stays told p q kind.settles is t = ap (λ (s : StoreState). s.job) t.next
@@ -118,6 +132,14 @@ module _ {D : Type 0} (d : Ghosts D) (p q : StoreView D) where
   by_claim claim.Claimed same filled claimed logged =
       inr (record { kind = kind.claims; is = tt; made = claimed refl })
   by_claim claim.Logged same filled claimed logged = inr (wider IsOfClaim of_claim (logged refl))
+
+  pub by_copy : (turn : CopyTurn) → (turn ≡ copy.Lost → TurnMade d p q kind.loses_copy)
+      → ((left : ℕ) → turn ≡ copy.Copied left → TurnMade d p q kind.copies)
+      → (turn ≡ copy.Logged → TurnsAs d IsOfCopy p q) → (q ≡ p) ⊎ TurnsAs d IsOfChannel p q
+  by_copy copy.Lost lost copied logged = inr (record { kind = kind.loses_copy; is = tt; made = lost refl })
+  by_copy (copy.Copied left) lost copied logged =
+      inr (record { kind = kind.copies; is = tt; made = copied left refl })
+  by_copy copy.Logged lost copied logged = inr (wider IsOfCopy of_copy (logged refl))
 
   pub by_send : (turn : SendTurn) → ((msg : Msg) → turn ≡ send.Post msg → TurnMade d p q kind.sends)
       → (turn ≡ send.Logged → TurnsAs d IsOfSend p q) → (q ≡ p) ⊎ TurnsAs d IsOfChannel p q

@@ -73,7 +73,7 @@ caused_no_fault r.ReadOnly is e = cc e
 caused_no_fault _ is e = absurd is
 
 -- of a device that doesn't tell zeros stand for the content
-content_seen : (tells : Bool) (now : Image) (place : Option ℕ) (content : List ℕ)
+pub content_seen : (tells : Bool) (now : Image) (place : Option ℕ) (content : List ℕ)
     → (IsTrue tells → content ≡ option_map_or now place zero_page)
     → option_map_or (if tells then now else (λ page. zero_page)) place zero_page
     ≡ (if tells then content else zero_page)

@@ -1,5 +1,6 @@
 -- What the flush of a channel's copies makes of the store, and the insert that is posted then.
-use Rattle.std.proofs.Common.{None, Some, false, true, ◌≡◌, ℕ, ◌<◌, List, ◌∷◌, length, refl, sym, ◌∙◌, ap, subst, IsTrue}
+use Rattle.std.proofs.Common.{None, Some, false, true, ◌≡◌, ℕ, ◌<◌, List, ◌∷◌, length, refl, sym, ◌∙◌, ap, subst}
+use Rattle.std.proofs.Common.{inl, IsTrue}
 use Rattle.page_disk.specs.Disk.{Only}
 use Rattle.page_disk.specs.Moments.{CallsLeaveOnly}
 use Rattle.page_disk.specs.declared.disk.PageDisk.{Ghosts}
@@ -68,7 +69,12 @@ module _ {D : Type 0} (d : Ghosts D) (p : StoreView D) (channel : ℕ) (low : ch
         tried = flush refl;
         runs = runs;
         device = device_of d disk;
-        fails = fails;
+        fails = record {
+          clock = fails.clock;
+          read_faults = fails.read_faults;
+          write_faults = fails.write_faults;
+          read_calls = inl fails.read_calls;
+        };
         logs = logs_failed d p channel Ready low w thawed disk q logged;
       },
       subst (λ (x : D). Touched d p.disk x (no_new false))

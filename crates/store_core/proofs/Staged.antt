@@ -221,6 +221,7 @@ module _ (tells : Bool) (p q : StoreState) (are : AreStaged p) where
   stays_staged kind.loses_insert t =
       one_row _ t.next refl t.posted.row (p.rows t.posted.row).left (Decided Lost) None refl tt
   stays_staged kind.lacks_for_insert t = logged_own p p q _ _ _ _ refl refl t.logs (told Answered) are
+  stays_staged kind.lacks_memory_for_insert t = logged_own p p q _ _ _ _ refl refl t.logs (told Answered) are
   stays_staged kind.begins_insert t =
       one_row _ t.next refl t.posted.row t.posted.left InJob (Some t.posted.claim) refl tt
   stays_staged kind.inserts t =

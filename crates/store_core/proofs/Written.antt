@@ -20,7 +20,7 @@ use Rattle.store_core.specs.StoreView.{device_of, rows_of, state_of, StoreView}
 use Rattle.store_core.proofs.Entered.{disk_same_then, entered_then}
 
 -- of a device that doesn't tell zeros stand for all pages
-blank : (tells : Bool) (now : Image) → tells ≡ false → (n : ℕ)
+pub blank : (tells : Bool) (now : Image) → tells ≡ false → (n : ℕ)
     → (if tells then now else (λ page. zero_page)) n ≡ zero_page
 blank true now is n = absurd (cc is)
 blank false now is n = refl

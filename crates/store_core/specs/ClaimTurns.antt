@@ -1,5 +1,6 @@
 -- The turns of a write that has found its slot empty: which cases they are, and what they start from.
-use Rattle.std.specs.Prelude.{None, Some, ◌≡◌, ℕ, ◌/◌, ◌<◌, ◌≤◌, List, ◌∷◌, Option, slice_set}
+use Rattle.std.specs.Prelude.{None, Some, ◌≡◌, ℕ, suc, ◌+◌, ◌/◌, ◌<◌, ◌≤◌, List, ◌∷◌, Option, slice_set}
+use Rattle.std.specs.Option.{option_map_or}
 use Rattle.std.specs.FinMap as map
 use Rattle.page_disk.specs.declared.disk.PageDisk.{Ghosts}
 use Rattle.super_block.specs.Numbers.{cluster_pages_of}
@@ -9,6 +10,9 @@ use Rattle.volume_model.specs.declared.command.PageWord.{PageWord}
 use Rattle.volume_model.specs.declared.command.VolumeRef.{VolumeRef}
 use Rattle.store_model.specs.Cases.{Kind}
 use Rattle.store_model.specs.Cases as kind
+use Rattle.volume_model.specs.Volumes.{zero_page}
+use Rattle.store_model.specs.Cases.Copy.{stage_left}
+use Rattle.store_model.specs.Copying.{IsUpToDate, page_of_claim, shown_in_slot}
 use Rattle.store_model.specs.Claiming.{IsWriting, MeansSlot, refused_by}
 use Rattle.store_model.specs.Places.{without_claim}
 use Rattle.store_model.specs.Rows.{Answered, Claiming, Copying, Decided, Decision, Idle, Lost, OpenClaim, Posted, Ready}
@@ -18,11 +22,13 @@ use Rattle.store_core.specs.declared.claiming.ClaimTurn.{ClaimTurn}
 use Rattle.store_core.specs.declared.claiming.ClaimTurn.TheVariants as claim
 use Rattle.store_core.specs.declared.settling.SettleTurn.{SettleTurn}
 use Rattle.store_core.specs.declared.settling.SettleTurn.TheVariants as settle
+use Rattle.store_core.specs.declared.copying.CopyTurn.{CopyTurn}
+use Rattle.store_core.specs.declared.copying.CopyTurn.TheVariants as copy
 use Rattle.store_core.specs.declared.sending.SendTurn.{SendTurn}
 use Rattle.store_core.specs.declared.sending.SendTurn.TheVariants as send
 use Rattle.store_core.specs.ChannelTurns.{WaitsToWrite}
 use Rattle.store_core.specs.Steps.{gone_on}
-use Rattle.store_core.specs.StoreView.{rows_of, state_of, StoreView}
+use Rattle.store_core.specs.StoreView.{read_now, rows_of, state_of, StoreView}
 
 -- ---- rows
 
@@ -106,6 +112,42 @@ pub record HoldsClaim {D : Type 0} (p : StoreView D) (channel : ℕ) (stage : St
   pub claim : OpenClaim
   pub row : rows_of p.rows channel
       ≡ record { left = c.Write volume page word ∷ rest; stage = stage; claim = Some claim }
+
+-- a copy could not be read or written; or the store had stopped
+abbrev pub IsOfCopy : Kind → Type 0
+IsOfCopy kind.copy_not_read = Unit {0}
+IsOfCopy kind.copy_fails = Unit {0}
+IsOfCopy kind.halts = Unit {0}
+IsOfCopy _ = ⊥
+
+-- a row once a page was to be copied for it
+abbrev pub row_copied : CopyTurn → Row → Row
+row_copied copy.Lost row = record row { stage = Idle; claim = None }
+row_copied (copy.Copied left) row = record row { stage = stage_left left }
+row_copied copy.Logged row = gone_on row
+
+-- how many pages are to be copied at this stage
+abbrev pub to_copy_in : Stage → Option ℕ
+to_copy_in (Copying left) = Some left
+to_copy_in _ = None
+
+-- A channel whose claim has pages to copy.
+pub record WaitsToCopy {D : Type 0} (p : StoreView D) (channel : ℕ) : Type 0 where
+  pub left : ℕ
+  pub holds : HoldsClaim p channel (Copying (suc left))
+  pub few : suc left ≤ cluster_pages_of p.super
+
+-- A channel's next page to copy, of a claim that is up to date, is what the device reads at one place, or zeros, and is
+-- to be written to another, so that so many are left.
+pub record CopiesNow {D : Type 0} (d : Ghosts D) (p : StoreView D) (channel : ℕ) (from : Option ℕ)
+    (to left : ℕ) : Type 0 where
+  pub holds : HoldsClaim p channel (Copying (suc left))
+  pub runs : p.stopped ≡ None
+  pub current : IsUpToDate (state_of d p) holds.claim
+  pub page : ℕ
+  pub is_next : page + suc left ≡ cluster_pages_of p.super
+  pub content : shown_in_slot (state_of d p) holds.claim page ≡ option_map_or (read_now d p.disk) from zero_page
+  pub to_is : page_of_claim (state_of d p) holds.claim page ≡ to
 
 -- ---- an insert that is posted
 

@@ -269,7 +269,7 @@ impl Row {
 impl Row {
     ghost use Rattle.std.specs.Prelude.{◌≡◌};
     ghost use Rattle.std.specs.Option.{option_map};
-    ghost use Rattle.store_core.specs.ClaimTurns.{decided_in};
+    ghost use Rattle.store_core.specs.ClaimTurns.{decided_in, to_copy_in};
     ghost use Rattle.store_core.specs.Stages.{decision_seen};
 
     /// What is decided of the row, if something is.
@@ -278,6 +278,16 @@ impl Row {
     {
         match self.stage {
             Stage::Decided(outcome) => Some(outcome),
+            _ => None,
+        }
+    }
+
+    /// How many pages of the claimed cluster are to be copied, at the stage where they are.
+    pub(crate) fn to_copy(&self) -> Option<u32>
+        ensures { result ≡ to_copy_in self.now.stage }
+    {
+        match self.stage {
+            Stage::Copying(left) => Some(left),
             _ => None,
         }
     }

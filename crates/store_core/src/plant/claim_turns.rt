@@ -1,21 +1,23 @@
 //! The turns of a write that has found its slot empty: what is kept of a running store over them.
 
 use crate::claiming::{ClaimTurn, claim_or_halt};
+use crate::copying::{CopyTurn, copy_or_halt};
 use crate::keeping::goes_on;
 use crate::plant::Plant;
 use crate::sending::{SendTurn, send_or_halt};
 use page_disk::PageDisk;
 
 impl<D: PageDisk> Plant<D> {
-    ghost use Rattle.std.specs.Prelude.{◌≡◌};
+    ghost use Rattle.std.specs.Prelude.{◌≡◌, ℕ};
     ghost use Rattle.super_block.specs.Numbers.{cluster_pages_of};
     ghost use Rattle.volume_model.specs.declared.reply.Msg.{Msg as AMsg};
     ghost use Rattle.store_model.specs.Cases as kind;
     ghost use Rattle.store_core.specs.declared.claiming.ClaimTurn.TheVariants as claim;
+    ghost use Rattle.store_core.specs.declared.copying.CopyTurn.TheVariants as copy;
     ghost use Rattle.store_core.specs.declared.sending.SendTurn.TheVariants as send;
-    ghost use Rattle.store_core.specs.declared.rows.RowStage.TheVariants.{Claim, Ready};
+    ghost use Rattle.store_core.specs.declared.rows.RowStage.TheVariants.{Claim, Copy, Ready};
     ghost use Rattle.store_core.specs.ChannelTurns.{IsFrozenFor, TurnsAs};
-    ghost use Rattle.store_core.specs.ClaimTurns.{row_claimed, row_sent, IsOfClaim, IsOfSend};
+    ghost use Rattle.store_core.specs.ClaimTurns.{row_claimed, row_copied, row_sent, IsOfClaim, IsOfCopy, IsOfSend};
     ghost use Rattle.store_core.specs.Stages.{is_stage};
     ghost use Rattle.store_core.specs.Steps.{Asks, OnlyRow};
     ghost use Rattle.store_core.specs.StoreView.{rows_of, state_of};
@@ -44,6 +46,27 @@ impl<D: PageDisk> Plant<D> {
     {
         goes_on::<D>();
         claim_or_halt(&mut self.running, channel)
+    }
+
+    /// Copies the next page of the slot for which a channel holds a claim into the claimed cluster: the slot's page, or
+    /// its parent's, or zeros. `Lost` comes exactly where the blob is gone or its generation is another: the claim is
+    /// given back, and the write begins again. `Copied` says how many pages are left. Else the write is logged, and its
+    /// claim given back: with `ReadFault` where the read failed; with `Fault` where the write failed, and the store has
+    /// stopped then; before all others on a stopped store, with `Stopped`.
+    pub fn copy_page(&mut self, channel: u8) -> CopyTurn
+        requires stage { (left : ℕ) × (is_stage (rows_of self.old.at.rows channel) channel ≡ Copy left) }
+        ensures lost { result ≡ copy.Lost → TurnMade D.PageDisk self.old.at self.new.at kind.loses_copy }
+        ensures copied { (left : ℕ) → result ≡ copy.Copied left
+            → TurnMade D.PageDisk self.old.at self.new.at kind.copies }
+        ensures logged { result ≡ copy.Logged → TurnsAs D.PageDisk IsOfCopy self.old.at self.new.at }
+        ensures row { OnlyRow self.old.at.rows self.new.at.rows channel
+            (row_copied result (rows_of self.old.at.rows channel)) }
+        ensures job { self.new.at.job ≡ self.old.at.job }
+        ensures opening { self.new.opening ≡ self.old.opening }
+        ensures right { self.new.right ≡ self.old.right }
+    {
+        goes_on::<D>();
+        copy_or_halt(&mut self.running, channel)
     }
 
     /// Flushes the pages that a channel has copied, and posts its insert under the next number, by this message. It is

@@ -3,14 +3,14 @@ use Rattle.std.specs.Prelude.{◌≡◌, ℕ, suc, List, ◌∷◌, None, Some}
 use Rattle.volume_model.specs.declared.command.Command.{Command}
 use Rattle.volume_model.specs.declared.reply.Reply.{Reply}
 use Rattle.volume_model.specs.declared.reply.Reply.TheVariants as r
-use Rattle.store_model.specs.Cases.CopyFail.{TriedCopy}
+use Rattle.store_model.specs.Cases.CopyFail.{FailsToCopy, TriedCopy}
 use Rattle.store_model.specs.Cases.CopyNotRead.{IsNotRead}
 use Rattle.store_model.specs.Claiming.{given_back, IsCopying}
 use Rattle.store_model.specs.Copying.{IsUpToDate}
 use Rattle.store_model.specs.Device.{Device}
 use Rattle.store_model.specs.Rows.{fill_row, Copying, Idle, Stage}
 use Rattle.store_model.specs.StoreState.{logged, StoreState}
-use Rattle.store_model.specs.Turning.{FailsToReplace, stopped_now}
+use Rattle.store_model.specs.Turning.{stopped_now}
 
 -- The fill's row goes on at this stage and gives its claim back, and the command that it works for is logged, whose
 -- channel is to be told.
@@ -41,5 +41,5 @@ pub record FillCopyFails (p q : StoreState) : Type 0 where
   pub tried : TriedCopy p copying.claim stage
   pub runs : p.stopped ≡ None
   pub device : Device
-  pub fails : FailsToReplace p.device device
+  pub fails : FailsToCopy p.device device
   pub logs : LogsFilled (stopped_now p) copying.row Idle r.Fault device q

@@ -1,0 +1,53 @@
+use Rattle.std.proofs.Common.{◌≡◌, ℕ, ◌∙◌, ap, subst, sym}
+use Rattle.store_model.specs.Cases as kind
+use Rattle.store_core.specs.TurnMade.{TurnMade}
+use Rattle.store_core.specs.declared.copying.CopyTurn.TheVariants as copy
+use Rattle.store_core.specs.Running.{view_of, with_opening}
+use Rattle.store_core.specs.StoreView.{WithOpening, rows_of}
+use Rattle.store_core.specs.Stages.{is_stage}
+use Rattle.store_core.specs.declared.rows.RowStage.TheVariants.{Copy}
+use Rattle.store_core.proofs.FirstCommand.{low_copy, waits_copy}
+use Rattle.store_core.proofs.JobStays.{by_copy, IsOfChannel, over_channel}
+use Rattle.store_core.proofs.Posting.{turned_or_not}
+use Rattle.store_core.proofs.plant.Plant.copy_page.Goals as goal
+
+pub copy_or_halt-requires-clause-channel : goal.copy_or_halt-requires-clause-channel
+copy_or_halt-requires-clause-channel g c =
+    let p = with_opening c.self.inside.running c.self.inside.opening.value c.self.inside.right.value.name in
+    let left = c.requires.stage.0 in
+    low_copy g.D.PageDisk p c.self.invariant.0 c.args.channel left c.self.invariant.1.sixteen
+    (subst (λ (b : WithOpening g.row.D.Denot). is_stage (rows_of b.at.rows c.args.channel) c.args.channel ≡ Copy left)
+    (sym c.self.view_is) c.requires.stage.1)
+
+pub copy_or_halt-requires-clause-waits : goal.copy_or_halt-requires-clause-waits
+copy_or_halt-requires-clause-waits g c =
+    let p = with_opening c.self.inside.running c.self.inside.opening.value c.self.inside.right.value.name in
+    let left = c.requires.stage.0 in
+    waits_copy g.D.PageDisk p c.self.invariant.0 c.args.channel left
+    (subst (λ (b : WithOpening g.row.D.Denot). is_stage (rows_of b.at.rows c.args.channel) c.args.channel ≡ Copy left)
+    (sym c.self.view_is) c.requires.stage.1)
+
+pub invariant_of-self : goal.invariant_of-self
+invariant_of-self g c =
+    let p = with_opening c.self.inside.running c.self.inside.opening.value c.self.inside.right.value.name in
+    let q = view_of c.copy_or_halt.new.running in
+    let e = c.copy_or_halt.ensures in (
+      turned_or_not g.D.PageDisk p q IsOfChannel c.self.invariant.0
+          (λ k made. c.goes_on.ensures p q k c.self.invariant.0 made)
+          (by_copy g.D.PageDisk p.at q c.copy_or_halt.result e.lost e.copied e.logged),
+      e.order,
+    )
+
+pub returns-clause-copied : goal.returns-clause-copied
+returns-clause-copied g c = subst (λ (b : WithOpening g.row.D.Denot). (left : ℕ)
+    → c.copy_or_halt.result ≡ copy.Copied left
+    → TurnMade g.D.PageDisk b.at (view_of c.copy_or_halt.new.running) kind.copies) c.self.view_is
+    c.copy_or_halt.ensures.copied
+
+pub returns-clause-job : goal.returns-clause-job
+returns-clause-job g c =
+    let p = view_of c.self.inside.running in
+    let q = view_of c.copy_or_halt.new.running in
+    let e = c.copy_or_halt.ensures in
+    over_channel g.D.PageDisk p q (by_copy g.D.PageDisk p q c.copy_or_halt.result e.lost e.copied e.logged)
+    ∙ ap (λ (b : WithOpening g.row.D.Denot). b.at.job) c.self.view_is
