@@ -3,6 +3,7 @@ use Rattle.std.specs.Prelude.{IsSome}
 use Rattle.volume_model.specs.declared.command.Command.{Command}
 use Rattle.store_model.specs.Rows.{OpenClaim, Row}
 use Rattle.store_core.specs.Requests.{IsAsked}
+use Rattle.store_core.specs.StoreView.{rows_of}
 use Rattle.store_core.specs.declared.requests.Request.{Request}
 use Rattle.store_core.specs.declared.requests.Request.TheVariants as request
 use Rattle.blob_tool.specs.Driving.{IsServedByMetadata}
@@ -23,9 +24,12 @@ first_asked row (request.Meta command) k asked is =
     (asked.1, asked.2 ∙ ap (λ (y : Command). y ∷ asked.1) (sym is))
 
 pub command_of-requires : goal.command_of-requires
-command_of-requires g c = no_insert _ _ c.requires.posted.unclaimed c.in-Ok.ensures.found.asked
+command_of-requires g c =
+    no_insert (rows_of c.args.plant.now.at.rows c.args.msg.channel) _ c.requires.posted.unclaimed
+    c.in-Ok.ensures.found.asked
 
 pub planned-requires-clause-served : goal.planned-requires-clause-served
 planned-requires-clause-served g c =
-    let first = first_asked _ _ c.command_of.result.now c.in-Ok.ensures.found.asked c.command_of.ensures in
+    let first = first_asked (rows_of c.args.plant.now.at.rows c.args.msg.channel) _ c.command_of.result.now
+    c.in-Ok.ensures.found.asked c.command_of.ensures in
     c.requires.served c.command_of.result.now first.0 first.1
