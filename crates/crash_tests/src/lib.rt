@@ -8,4 +8,8 @@ mod creates;
 #[cfg(test)]
 mod cut_puts;
 #[cfg(test)]
+mod points;
+#[cfg(test)]
 mod power;
+#[cfg(test)]
+mod slots;

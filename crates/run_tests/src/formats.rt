@@ -9,7 +9,7 @@ use test_runs::{Call, Ran, expect_printed, perform, play};
 use test_stores::store;
 
 /// What comes of `format IMAGE` with these options, where the writes with these numbers to the output fail.
-fn format<D: PageDisk + Drop + Send>(
+pub fn format<D: PageDisk + Drop + Send>(
     alloc: Global,
     options: &str,
     failing_writes: &[u64],

@@ -1,5 +1,5 @@
-//! Tests of the program's calls over a device in memory: the verbs on attributes, new volumes, pages, new stores, and
-//! each status.
+//! Tests of the program's calls over a device in memory: the verbs on attributes, new volumes, volumes that are thick
+//! or get another number of slots, pages, new stores, and each status.
 #![tactic(auto)]
 
 #[cfg(test)]
@@ -8,6 +8,8 @@ mod failures;
 mod formats;
 #[cfg(test)]
 mod pages;
+#[cfg(test)]
+mod slots;
 #[cfg(test)]
 mod verbs;
 #[cfg(test)]
