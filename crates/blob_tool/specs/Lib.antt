@@ -7,3 +7,4 @@ pub mod Outcome
 pub mod FormatOutcome
 pub mod Driving
 pub mod Serving
+pub mod Writing

@@ -8,6 +8,7 @@ ghost use Rattle.store_core.specs.Steps.{gone_on, OnlyRow};
 ghost use Rattle.blob_tool.specs.Driving.{ended_row, IsWaiting};
 
 use crate::serving::serve;
+use crate::writing::write;
 use data_path::{Stage, read_turn};
 use page_disk::PageDisk;
 use std::alloc::Global;
@@ -56,6 +57,7 @@ fn serve_next<D: PageDisk>(
             plant.settle(channel);
         }
         RowStage::Read => read(plant, channel),
+        RowStage::Write => write(plant, right, channel),
         RowStage::Flush => plant.flush(channel),
         _ => return false,
     }

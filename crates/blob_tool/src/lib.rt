@@ -7,6 +7,7 @@ mod format_words;
 mod serving;
 mod status;
 mod top;
+mod writing;
 
 pub use script_lang::LineKind;
 pub use status::Status;

@@ -16,7 +16,8 @@ use Rattle.script_lang.specs.declared.grammar.Grammar.TheVariants.{Served}
 use Rattle.script_lang.specs.declared.verb.Verb.{Verb}
 use Rattle.script_lang.specs.declared.verb.Verb.TheVariants as v
 use Rattle.script_lang.specs.Commands.{commands_of, command_of, alone, plain, command_on_volume, on_slots, on_name}
-use Rattle.script_lang.specs.Commands.{on_key, on_value, creation, command_on, command_of_name, read_at, read_commands}
+use Rattle.script_lang.specs.Commands.{on_key, on_value, creation, command_on, command_of_name, page_by_page, read_at, read_commands}
+use Rattle.script_lang.specs.Commands.{write_at, write_commands}
 use Rattle.script_lang.specs.Forms.{says_values}
 use Rattle.script_lang.specs.Grammar.{serves}
 use Rattle.script_lang.specs.Lines.{says, says_verb, commands_said}
@@ -95,20 +96,31 @@ one_served verb (Volume volume ∷ values) s = on_served verb volume values s
 one_served verb (Name name ∷ values) s = named_served verb name values
 one_served verb _ s = tt
 
--- reads of so many pages, one after another
-all_read : (volume : VolumeRef) (page : ℕ) (offsets : List ℕ) → AreServed (map (read_at volume page) offsets)
-all_read volume page [] = All-nil IsServed
-all_read volume page (x ∷ xs) =
-    All-cons IsServed (read_at volume page x) (map (read_at volume page) xs) tt (all_read volume page xs)
+-- commands for so many pages, one after another
+all_served : (command : ℕ → Command) → ((i : ℕ) → IsServed (command i)) → (offsets : List ℕ)
+    → AreServed (map command offsets)
+all_served command on [] = All-nil IsServed
+all_served command on (x ∷ xs) =
+    All-cons IsServed (command x) (map command xs) (on x) (all_served command on xs)
+
+pages_served : (page count : ℕ) (command : ℕ → Command) → ((i : ℕ) → IsServed (command i))
+    → IfOk (page_by_page page count command) AreServed
+pages_served page count command on =
+    either (λ (r : Result (List Command) LineKind). IfOk r AreServed) (nat_lt (page + count) (2 ^ 64)) _ _
+    (all_served command on (range_with_len 0 count)) tt
 
 read_served : (values : List Value) → IfOk (read_commands values) AreServed
 read_served (Volume volume ∷ Number page ∷ Number count ∷ []) =
-    either (λ (r : Result (List Command) LineKind). IfOk r AreServed) (nat_lt (page + count) (2 ^ 64)) _ _
-    (all_read volume page (range_with_len 0 count)) tt
+    pages_served page count (read_at volume page) (λ i. tt)
 read_served _ = tt
 
+write_served : (values : List Value) → IfOk (write_commands values) AreServed
+write_served (Volume volume ∷ Number page ∷ Number count ∷ Number word ∷ []) =
+    pages_served page count (write_at volume page word) (λ i. tt)
+write_served _ = tt
+
 served_in : (verb : Verb) (values : List Value) → serves Served verb ≡ true → IfOk (commands_of verb values) AreServed
-served_in v.Write values s = absurd (false≢true s)
+served_in v.Write values s = write_served values
 served_in v.Read values s = read_served values
 served_in verb values s = one_served verb values s
 

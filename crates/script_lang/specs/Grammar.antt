@@ -9,6 +9,7 @@ abbrev pub serves : Grammar → Verb → Bool
 serves g.Whole verb = true
 serves g.Served v.Create = true
 serves g.Served v.Read = true
+serves g.Served v.Write = true
 serves g.Served v.Flush = true
 serves g.Served v.SetX = true
 serves g.Served v.DelX = true

@@ -23,6 +23,7 @@ impl Grammar {
                 verb,
                 Verb::Create
                     | Verb::Read
+                    | Verb::Write
                     | Verb::Flush
                     | Verb::SetX
                     | Verb::DelX
