@@ -50,7 +50,7 @@ COLUMNS_WIDE, COLUMN, ROW, LEFT, TOP = 6, 150, 70, 170, 20
 CRATES = {
     "blobtool": (1, 6, 0), "blob_tool": (1, 6, 1),
     "script_lang": (1, 1, 2), "store_format": (5, 5, 2), "streams": (6, 6, 2),
-    "lvol_store": (3, 3, 3), "blob_report": (6, 6, 3),
+    "lvol_store": (3, 3, 3), "thin_write": (5, 5, 3), "blob_report": (6, 6, 3),
     "unclean_load": (2, 2, 4), "data_path": (5, 5, 4), "store_core": (4, 4, 5), "io_freeze": (3, 3, 6), "store_model": (4, 4, 6),
     "md_chain": (2, 2, 7), "pools": (4, 4, 7), "blob_meta": (1, 1, 8), "md_page": (3, 3, 8),
     "descriptors": (1, 1, 9), "super_block": (3, 3, 9),
@@ -58,15 +58,15 @@ CRATES = {
     "page_disk": (2, 6, 11), "out_of_memory": (1, 2, 12), "crc32c": (3, 6, 12),
 }
 BANDS = [
-    (0, 1, "the program"), (2, 3, "scripts, plans,|texts, a new|store"), (4, 6, "the running|store"),
+    (0, 1, "the program"), (2, 3, "scripts, plans,|texts, writes,|a new store"), (4, 6, "the running|store"),
     (7, 9, "metadata and|places"), (10, 10, "volumes, fields,|sets"), (11, 12, "the device and|the bottom"),
 ]
 STEPS = [
     "1  main opens the image, and hands over words, source, sink and device",
     "2  the source is read to its end, and the text becomes each channel's commands",
     "3  the store of the image is loaded: super block, heads, chains; the device is only read",
-    "4  the driver posts a command; a put, a sync or a create is planned from what the store shows",
-    "5  the store makes its turns: read or flush; or post, answer or refuse, or begin_job and job_turn; then settle",
+    "4  the driver posts a command; a put, sync, create or resize is planned from what the store shows",
+    "5  the store makes its turns: read, write or flush; or post, answer or refuse, or a job's; then settle",
     "6  a turn of a job writes and flushes; its entry is logged, with the clock as its mark",
     "7  the log is printed, an entry a line",
 ]

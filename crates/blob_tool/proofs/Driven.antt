@@ -61,6 +61,7 @@ answerable (c.Put volume key value) is create put sync resize = absurd (put volu
 answerable (c.Sync volume) is create put sync resize = absurd (sync volume refl)
 answerable (c.Resize volume slots) is create put sync resize = absurd (resize volume slots refl)
 answerable (c.Read volume page) is create put sync resize = absurd is.metadata
+answerable (c.Write volume page word) is create put sync resize = absurd is.metadata
 answerable c.Flush is create put sync resize = absurd is.metadata
 answerable _ is create put sync resize = absurd is.served
 
@@ -93,8 +94,9 @@ some_left row stage next = let e = ap (λ (l : List Command). length l) next.lef
 
 -- a waiting row that is at none of these stages has no command left
 pub none_left : (row : Row) (channel : ℕ) (stage : RowStage) → is_stage row channel ≡ stage → IsWaiting row
-    → (stage ≡ told.Meta → ⊥) → (stage ≡ told.Read → ⊥) → (stage ≡ told.Flush → ⊥) → row.left ≡ []
-none_left row channel stage is waiting meta read flush = elim waiting.at [
+    → (stage ≡ told.Meta → ⊥) → (stage ≡ told.Read → ⊥) → (stage ≡ told.Write → ⊥) → (stage ≡ told.Flush → ⊥)
+    → row.left ≡ []
+none_left row channel stage is waiting meta read write flush = elim waiting.at [
   | inl idle ↦ by row.left waiting.all_served refl (ap (λ s. is_stage (record row { stage = s }) channel)
       (sym idle) ∙ is)
   | inr ended ↦ ap (λ (r : Row). r.left) ended
@@ -102,7 +104,7 @@ none_left row channel stage is waiting meta read flush = elim waiting.at [
   where
     served_at : (command : Command) → IsServed command → waits_for command ≡ stage → ⊥
     served_at (c.Read volume page) on e = read (sym e)
-    served_at (c.Write volume page word) on e = on
+    served_at (c.Write volume page word) on e = write (sym e)
     served_at c.Flush on e = flush (sym e)
     served_at _ on e = meta (sym e)
 

@@ -10,7 +10,9 @@ use Rattle.store_model.specs.Cases.InsertEnd.{InsertEnds}
 use Rattle.store_model.specs.Loadable.{AreLoadable}
 use Rattle.store_model.specs.Jobs.{gained_by, JobStands, Lays, Puts}
 use Rattle.store_model.specs.Phases.{Frees, Phase}
-use Rattle.store_model.specs.Rows.{OpenClaim, Row}
+use Rattle.store_model.specs.Rows.{Answered, Decided, OpenClaim, Row}
+use Rattle.store_model.specs.Claiming.{given_back}
+use Rattle.store_model.specs.Turning.{stopped_now}
 use Rattle.store_model.specs.StoreState.{ForCommand, ForInsert, JobState, shown, StoreState, turns_left, waiting}
 use Rattle.store_model.proofs.Progress.{same_job, turns_after, turns_here}
 use Rattle.store_model.proofs.RowsKept.{row_other}
@@ -19,7 +21,7 @@ use Rattle.store_core.specs.StoreInvariant.{StoreInvariant}
 use Rattle.store_core.specs.StoreView.{rows_of, state_of, WithOpening}
 use Rattle.page_disk.specs.declared.disk.PageDisk.{Ghosts}
 use Rattle.blob_tool.specs.Writing.{InsertRuns, InsertStandsAt, logged, put, puts, won}
-use Rattle.blob_tool.proofs.Inserting as insert
+use Rattle.blob_tool.proofs.InsertStands as insert
 use Rattle.blob_tool.proofs.WriteTurns.{shown_still}
 
 module _ {D : Type 0} (d : Ghosts D) (b later : WithOpening D) (kept : StoreInvariant d b)
@@ -138,8 +140,12 @@ module _ {D : Type 0} (d : Ghosts D) (b later : WithOpening D) (kept : StoreInva
         stands = insert.after_fail volume page word rest s q channel t stands;
         less = omega (arith, before, after);
         others = λ other ne. ap (λ (x : StoreState). x.rows other) t.logs.next
-            ∙ row_other _ t.inserting.row _ other (λ e. ne (e ∙ here))
-            ∙ row_other s.rows t.inserting.row _ other (λ e. ne (e ∙ here));
+            ∙ row_other (given_back (record (stopped_now s) { job = None }) t.inserting.row (Decided Answered)).rows
+            t.inserting.row (record { left = t.logs.rest; stage = Decided Answered; claim = None }) other
+            (λ e. ne (e ∙ here))
+            ∙ row_other s.rows t.inserting.row
+            (record { left = (s.rows t.inserting.row).left; stage = Decided Answered; claim = None }) other
+            (λ e. ne (e ∙ here));
       }
   job_goes_on kind.insert_breaks_down is t stands =
       absurd (insert.none_broken volume page word rest s q channel t stands)

@@ -3,7 +3,7 @@ use Rattle.std.proofs.Common.{◌≡◌, ◌≢◌, ℕ, zero, suc, ◌+◌, ◌
 use Rattle.std.proofs.Common.{Option, Some, None, refl, sym, ap, subst, ◌∙◌, inl, inr, arith}
 use Rattle.std.specs.Prelude.{nat_le}
 use Rattle.std.proofs.lemmas.Bool.{cases_lt, le-leb}
-use Rattle.std.proofs.Math.Nat.{div-lt_iff_lt-mul}
+use Rattle.std.proofs.Math.Nat.{div-lt_iff_lt-mul, mul_comm}
 use Rattle.std.specs.FinMap as map
 use Rattle.std.specs.Ordering.{nat_cmp}
 use Rattle.page_disk.specs.declared.disk.PageDisk.{Ghosts}
@@ -22,24 +22,23 @@ use Rattle.blob_meta.specs.declared.meta.Meta.{Meta}
 use Rattle.blob_meta.specs.Parents.{is_read_only}
 use Rattle.blob_meta.specs.Resolving.{resolved}
 use Rattle.blob_meta.proofs.Refused.{at_volume}
-use Rattle.store_model.specs.Cases as kind
-use Rattle.store_model.specs.Cases.{Kind, Turn}
 use Rattle.store_model.specs.Cases.Claim.{Claims}
 use Rattle.store_model.specs.Cases.Copy.{Copies, stage_left}
 use Rattle.store_model.specs.Cases.FindEmpty.{FindsEmpty}
 use Rattle.store_model.specs.Cases.Send.{Sends}
 use Rattle.store_model.specs.Maps.{Metas}
-use Rattle.store_model.specs.Rows.{Claiming, Copying, Idle, Ready, Row, Rows, Stage}
+use Rattle.store_model.specs.Rows.{Claiming, Copying, Idle, OpenClaim, Ready, Row, Rows, Stage}
 use Rattle.store_model.specs.Seen.{seen}
 use Rattle.store_model.specs.Shown.{fixed_of}
 use Rattle.store_model.specs.StoreState.{shown, StoreState}
+use Rattle.store_core.specs.Stages.{is_stage}
 use Rattle.store_core.specs.StoreInvariant.{IsRunning, StoreInvariant}
 use Rattle.store_core.specs.StoreView.{rows_of, state_of, StoreView, WithOpening}
 use Rattle.store_core.proofs.PagesShown.{pages_long, resolved_is, volume_shown}
-use Rattle.thin_write.specs.Turns.{IsGoingOn}
-use Rattle.blob_tool.specs.Writing.{IsSent, turns_to_send, WriteStands}
+use Rattle.thin_write.specs.Turns.{GoesOn}
+use Rattle.blob_tool.specs.Writing.{begins, copies, empty, HasSlot, IsAt, IsSent, ready, turns_to_send, WriteStands}
 use Rattle.blob_tool.proofs.Planned.{is_running}
-use Rattle.blob_tool.proofs.Writing as write
+use Rattle.blob_tool.proofs.WriteStands as write
 
 -- ---- what is shown stays where nothing is logged
 
@@ -81,7 +80,7 @@ slot_there p running runs metas base some volume page word h m meant there none 
     (sym (ap first_cause (at_volume (fixed_of p.super) (shown p) volume _ h _ meant
     (volume_shown p running runs metas base h m there))) ∙ none) in
     let long = pages_long p running runs metas base h m in
-    (div-lt_iff_lt-mul some).1 (subst (λ n. page < n) long lt)
+    (div-lt_iff_lt-mul some).1 (subst (λ n. page < n) (long ∙ mul_comm _ (length m.map)) lt)
 
 -- ---- the turns of a write that goes on
 
@@ -90,7 +89,7 @@ nearer_copied pages zero = omega arith
 nearer_copied pages (suc n) = omega arith
 
 module _ {D : Type 0} (d : Ghosts D) (b later : WithOpening D) (kept : StoreInvariant d b)
-    (then : StoreInvariant d later) (opening : later.opening ≡ b.opening) (channel : ℕ)
+    (then_ : StoreInvariant d later) (opening : later.opening ≡ b.opening) (channel : ℕ)
     (others : (other : ℕ) → other ≢ channel → rows_of later.at.rows other ≡ rows_of b.at.rows other)
     (volume : VolumeRef) (page : ℕ) (word : PageWord) (rest : List Command) where
   abbrev s : StoreState
@@ -107,7 +106,7 @@ module _ {D : Type 0} (d : Ghosts D) (b later : WithOpening D) (kept : StoreInva
   to_go x = turns_to_send (cluster_pages_of x.super) (x.rows channel).stage
 
   -- it stands, and is nearer to its message or its entry
-  pub record GoesOn : Type 0 where
+  pub record WriteNears : Type 0 where
     pub stands : WriteStands volume page word rest q channel
     pub less : turns_to_send (cluster_pages_of q.super) (q.rows channel).stage
         < turns_to_send (cluster_pages_of s.super) (s.rows channel).stage
@@ -132,39 +131,58 @@ module _ {D : Type 0} (d : Ghosts D) (b later : WithOpening D) (kept : StoreInva
       slot_there s (is_running d b kept) runs b.at.metas refl some_pages volume page word head m meant
       (ap (λ (x : Metas). x head) (sym (resolved_is s (is_running d b kept) runs b.at.metas refl)) ∙ there) none
 
-  pub goes_on : (k : Kind) → IsGoingOn k → Turn d.tells s k q → Stands s → GoesOn
-  goes_on kind.finds_empty is t stands =
+  -- what the row waits for at a stage of this write
+  waits_at : (stage : Stage) (claim : Option OpenClaim) → IsAt volume page word rest s channel stage claim
+      → is_stage (rows_of b.at.rows channel) channel
+      ≡ is_stage (record { left = c.Write volume page word ∷ rest; stage = stage; claim = claim }) channel
+  waits_at stage claim at = ap (λ row. is_stage row channel) at
+
+  found : FindsEmpty s q → Stands s → WriteNears
+  found t stands =
       let stages = write.stages_found volume page word rest s q channel others t in record {
         stands = write.after_found volume page word rest s q channel others t stands;
         less = less_by Idle Claiming stages.0 stages.1 (ap (λ (x : StoreState). x.super) t.next) (omega arith);
       }
-  goes_on kind.finds_filled is t stands =
-      absurd (write.none_filled volume page word rest s q channel others t stands)
-  goes_on kind.claims is t stands =
+
+  claimed : Claims s q → Stands s → WriteNears
+  claimed t stands =
       let stages = write.stages_claimed volume page word rest s q channel others t some_pages (inside t.runs) in record {
         stands = write.after_claim volume page word rest s q channel others t some_pages (inside t.runs) stands;
         less = less_by Claiming (Copying (cluster_pages_of s.super)) stages.0 stages.1
             (ap (λ (x : StoreState). x.super) t.next) (omega arith);
       }
-  goes_on kind.copies is t stands =
+
+  copied : Copies d.tells s q → Stands s → WriteNears
+  copied t stands =
       let runs = ap (λ (x : StoreState). x.stopped) t.next ∙ t.runs in
-      let shows = shown_still d b later kept then opening (ap (λ (x : StoreState). x.log) t.next) t.runs runs in
+      let shows = shown_still d b later kept then_ opening (ap (λ (x : StoreState). x.log) t.next) t.runs runs in
       let stages = write.stages_copied volume page word rest s q channel others t shows in record {
         stands = write.after_copy volume page word rest s q channel others t shows stands;
         less = less_by (Copying (suc t.left)) (stage_left t.left) stages.0 stages.1
             (ap (λ (x : StoreState). x.super) t.next) (nearer_copied (cluster_pages_of s.super) t.left);
       }
-  goes_on kind.loses_copy is t stands =
-      absurd (write.none_lost volume page word rest s q channel others t stands)
-  goes_on _ is t stands = absurd is
+
+  -- A turn with which the write goes on.
+  pub nears : GoesOn d (is_stage (rows_of b.at.rows channel) channel) b.at later.at → Stands s → WriteNears
+  nears made (begins at) = found (subst (λ w. GoesOn d w b.at later.at) (waits_at Idle None at) made).0 (begins at)
+  nears made (empty at has) = elim (subst (λ w. GoesOn d w b.at later.at) (waits_at Claiming None at) made) [
+    | inl t ↦ absurd (write.none_filled volume page word rest s q channel others t.0 (empty at has))
+    | inr t ↦ claimed t.0 (empty at has)
+  ]
+  nears made (copies left claim at aimed) =
+      elim (subst (λ w. GoesOn d w b.at later.at) (waits_at (Copying (suc left)) (Some claim) at) made) [
+        | inl t ↦ absurd (write.none_lost volume page word rest s q channel others t.0 (copies left claim at aimed))
+        | inr t ↦ copied t.0 (copies left claim at aimed)
+      ]
+  nears made (ready claim at aimed) =
+      absurd (subst (λ w. GoesOn d w b.at later.at) (waits_at Ready (Some claim) at) made)
 
   -- ---- its insert is posted
 
-  pub is_sent : Turn d.tells s kind.sends q → Stands s
-      → (q.stopped ≡ None) × IsSent volume page word rest q channel s.serial
+  pub is_sent : Sends s q → Stands s → (q.stopped ≡ None) × IsSent volume page word rest q channel s.serial
   is_sent t stands =
       let runs = ap (λ (x : StoreState). x.stopped) t.next ∙ t.runs in
-      let shows = shown_still d b later kept then opening (ap (λ (x : StoreState). x.log) t.next) t.runs runs in (
+      let shows = shown_still d b later kept then_ opening (ap (λ (x : StoreState). x.log) t.next) t.runs runs in (
         runs,
         write.after_sending volume page word rest s q channel others t shows stands,
       )

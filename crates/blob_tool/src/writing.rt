@@ -32,8 +32,8 @@ fn write_or_send<D: PageDisk>(plant: &mut Plant<D>, channel: u8) -> Option<Msg>
     ensures right { plant.new.right ≡ plant.old.right }
 {
     let mut stage = Stage::Again;
+    plant.keeps();
     while let Stage::Again = stage {
-        plant.keeps();
         stage = write_turn(plant, channel);
         plant.keeps();
     }
@@ -53,8 +53,8 @@ fn finish_insert<D: PageDisk>(plant: &mut Plant<D>, right: &mut MdRight, channel
     ensures opening { plant.new.opening ≡ plant.old.opening }
     ensures right { (right.new ≡ right.old) × (plant.new.right ≡ plant.old.right) }
 {
+    plant.keeps();
     while plant.job_runs() {
-        plant.keeps();
         plant.job_turn(right);
         plant.keeps();
     }
@@ -72,6 +72,7 @@ fn serve_insert<D: PageDisk>(plant: &mut Plant<D>, right: &mut MdRight, msg: Msg
     ensures opening { plant.new.opening ≡ plant.old.opening }
     ensures right { (right.new ≡ right.old) × (plant.new.right ≡ plant.old.right) }
 {
+    plant.keeps();
     if let InsertTurn::Began = plant.begin_insert(right, msg) {
         finish_insert(plant, right, msg.channel);
     }

@@ -326,8 +326,7 @@ module _ (volume : VolumeRef) (page : ℕ) (word : PageWord) (rest : List Comman
         → (left ≡ c.Write volume page word ∷ rest) × (stage ≡ next) × (claim ≡ held)
     same_claim row left stage next claim held a b =
         let claims : Some claim ≡ Some held =
-        sym (ap (λ (r : Row). r.claim) a) ∙ ap (λ (r : Row). r.claim) b in
-        (
+        sym (ap (λ (r : Row). r.claim) a) ∙ ap (λ (r : Row). r.claim) b in (
           sym (ap (λ (r : Row). r.left) a) ∙ ap (λ (r : Row). r.left) b,
           sym (ap (λ (r : Row). r.stage) a) ∙ ap (λ (r : Row). r.stage) b,
           cc claims,
