@@ -1,5 +1,5 @@
 -- What a flush behind the last turn leaves.
-use Rattle.std.proofs.Common.{◌≡◌, ℕ, Option, None, Some, Result, Ok, Err, IsTrue, OnOk, refl, subst, sym}
+use Rattle.std.proofs.Common.{◌≡◌, ℕ, Option, None, Some, Result, IsTrue, OnOk, refl, subst, sym}
 use Rattle.std.specs.Prelude.{OnErr}
 use Rattle.page_disk.specs.Disk.{Alike, Elapses, Only, Telling}
 use Rattle.page_disk.specs.declared.disk.PageDisk.{Ghosts}

@@ -1,7 +1,7 @@
 -- The job of a write's insert, turn by turn, while nothing else happens: the slot has its cluster at the end, or the
 -- write is logged.
-use Rattle.std.proofs.Common.{◌≡◌, ◌≢◌, ℕ, suc, ◌/◌, ◌<◌, true, false, List, [], ◌∷◌, length, Option, Some, None}
-use Rattle.std.proofs.Common.{Bool, refl, sym, ap, subst, ◌∙◌, inl, inr}
+use Rattle.std.proofs.Common.{◌≡◌, ℕ, ◌/◌, ◌<◌, List, [], ◌∷◌, length, Option, Some, None}
+use Rattle.std.proofs.Common.{Bool, refl, sym, ap, subst, ◌∙◌}
 use Rattle.super_block.specs.Numbers.{cluster_pages_of}
 use Rattle.volume_model.specs.Volumes.{head_of}
 use Rattle.volume_model.specs.declared.command.Command.{Command}
@@ -10,26 +10,25 @@ use Rattle.volume_model.specs.declared.command.PageWord.{PageWord}
 use Rattle.volume_model.specs.declared.command.VolumeRef.{VolumeRef}
 use Rattle.blob_meta.specs.declared.meta.Meta.{Meta}
 use Rattle.blob_meta.specs.Parents.{slot}
-use Rattle.blob_meta.specs.Resolving.{resolved}
 use Rattle.store_model.specs.Cases.Erase.{Erases}
 use Rattle.store_model.specs.Cases.Insert.{Inserts}
 use Rattle.store_model.specs.Cases.InsertBreakDown.{InsertBreaksDown}
 use Rattle.store_model.specs.Cases.InsertEnd.{InsertEnds}
 use Rattle.store_model.specs.Cases.InsertFail.{InsertFails}
 use Rattle.store_model.specs.Cases.WriteFresh.{WritesFresh}
-use Rattle.store_model.specs.Claiming.{given_back, IsInserting, LogsOwn, stage_behind}
+use Rattle.store_model.specs.Claiming.{given_back, IsInserting, stage_behind}
 use Rattle.store_model.specs.Inserting.{with_slot}
-use Rattle.store_model.specs.Jobs.{InsertStands, JobStands, Puts, PutsClaim}
+use Rattle.store_model.specs.Jobs.{JobStands, Puts, PutsClaim}
 use Rattle.store_model.specs.Loadable.{AreLoadable}
-use Rattle.store_model.specs.Maps.{Metas, with_entry}
-use Rattle.store_model.specs.Phases.{Phase, Replaces, Replacing}
-use Rattle.store_model.specs.Rows.{Answered, Decided, Idle, InJob, OpenClaim, Row, Rows, Stage, Won}
+use Rattle.store_model.specs.Maps.{Metas}
+use Rattle.store_model.specs.Phases.{Phase}
+use Rattle.store_model.specs.Rows.{Answered, Decided, InJob, OpenClaim, Row, Rows, Stage, Won}
 use Rattle.store_model.specs.Shown.{fixed_of}
 use Rattle.store_model.specs.StoreState.{ForInsert, going_on, JobState, shown, StoreState}
 use Rattle.store_model.specs.Turning.{stopped_now}
 use Rattle.store_model.proofs.Inserted.{get_set_here}
 use Rattle.store_model.proofs.Progress.{same_job}
-use Rattle.store_model.proofs.RowsKept.{row_here, row_other}
+use Rattle.store_model.proofs.RowsKept.{row_here}
 use Rattle.store_model.proofs.Shows.{alone_resolved}
 use Rattle.store_model.proofs.WithEntry.{given_here}
 use Rattle.std.specs.Option.{option_and_then}

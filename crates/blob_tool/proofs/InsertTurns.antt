@@ -1,6 +1,6 @@
 -- The turns of an insert's job that is made alone, as the driver makes them.
-use Rattle.std.proofs.Common.{◌≡◌, ◌≢◌, ℕ, ◌+◌, ◌<◌, true, false, List, [], ◌∷◌, ◌++◌, length, Bool}
-use Rattle.std.proofs.Common.{Option, Some, None, refl, sym, ap, subst, ◌∙◌, arith}
+use Rattle.std.proofs.Common.{◌≡◌, ◌≢◌, ℕ, ◌<◌, List, [], ◌∷◌}
+use Rattle.std.proofs.Common.{Some, None, refl, sym, ap, subst, ◌∙◌, arith}
 use Rattle.volume_model.specs.declared.command.Command.{Command}
 use Rattle.volume_model.specs.declared.command.PageWord.{PageWord}
 use Rattle.volume_model.specs.declared.command.VolumeRef.{VolumeRef}
@@ -9,8 +9,8 @@ use Rattle.store_model.specs.Cases.{Kind, Turn}
 use Rattle.store_model.specs.Cases.InsertEnd.{InsertEnds}
 use Rattle.store_model.specs.Loadable.{AreLoadable}
 use Rattle.store_model.specs.Jobs.{gained_by, JobStands, Lays, Puts}
-use Rattle.store_model.specs.Phases.{Frees, Phase}
-use Rattle.store_model.specs.Rows.{Answered, Decided, OpenClaim, Row}
+use Rattle.store_model.specs.Phases.{Frees}
+use Rattle.store_model.specs.Rows.{Answered, Decided, OpenClaim}
 use Rattle.store_model.specs.Claiming.{given_back}
 use Rattle.store_model.specs.Turning.{stopped_now}
 use Rattle.store_model.specs.StoreState.{ForCommand, ForInsert, JobState, shown, StoreState, turns_left, waiting}

@@ -1,12 +1,10 @@
 -- A write's insert that is served alone, from its message to the word of it.
-use Rattle.std.proofs.Common.{◌≡◌, ◌≢◌, ℕ, ◌<◌, List, [], ◌∷◌, drop, Option, Some, None, refl, sym, ap}
+use Rattle.std.proofs.Common.{◌≡◌, ◌≢◌, ℕ, ◌<◌, List, [], ◌∷◌, drop, Some, None, refl, sym, ap}
 use Rattle.std.proofs.Common.{subst, ◌∙◌}
 use Rattle.page_disk.specs.declared.disk.PageDisk.{Ghosts}
 use Rattle.volume_model.specs.declared.command.Command.{Command}
 use Rattle.volume_model.specs.declared.command.Command.TheVariants as c
 use Rattle.volume_model.specs.declared.reply.Msg.{Msg}
-use Rattle.blob_meta.specs.declared.meta.Meta.{Meta}
-use Rattle.blob_meta.specs.Resolving.{resolved}
 use Rattle.store_model.specs.Cases as kind
 use Rattle.store_model.specs.Cases.{Kind, Turn}
 use Rattle.store_model.specs.Cases.BeginInsert.{BeginsInsert}
@@ -15,14 +13,14 @@ use Rattle.store_model.specs.Loadable.{AreLoadable}
 use Rattle.store_model.specs.Claiming.{CanInsert}
 use Rattle.store_model.specs.Maps.{Metas}
 use Rattle.store_model.specs.Phases.{phases_of}
-use Rattle.store_model.specs.Rows.{Answered, Decided, Decision, Idle, InJob, OpenClaim, Posted, Row, Won}
+use Rattle.store_model.specs.Rows.{Answered, Decided, Decision, Idle, InJob, Row, Won}
 use Rattle.store_model.specs.StoreState.{ForInsert, shown, StoreState, turns_left}
 use Rattle.store_model.proofs.RowsKept.{row_here}
 use Rattle.store_model.proofs.Shows.{alone_resolved}
 use Rattle.store_core.specs.ClaimTurns.{told_as}
 use Rattle.store_core.specs.Inserts.{InsertsOrNot, IsLack, row_inserting}
 use Rattle.store_core.specs.JobTurns.{TurnsJob}
-use Rattle.store_core.specs.Steps.{gone_on, OnlyRow}
+use Rattle.store_core.specs.Steps.{OnlyRow}
 use Rattle.store_core.specs.StoreInvariant.{StoreInvariant}
 use Rattle.store_core.specs.StoreView.{rows_of, state_of, StoreView, WithOpening}
 use Rattle.store_core.specs.TurnMade.{TurnMade}

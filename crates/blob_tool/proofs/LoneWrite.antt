@@ -1,5 +1,5 @@
 -- A channel's write that is made alone, from its first turn to its entry.
-use Rattle.std.proofs.Common.{◌≡◌, ◌≢◌, ℕ, suc, ◌<◌, List, ◌∷◌, Option, Some, None, refl, sym, ap, subst, ◌∙◌, arith}
+use Rattle.std.proofs.Common.{◌≡◌, ◌≢◌, ℕ, suc, ◌<◌, List, ◌∷◌, Option, None, refl, sym, ap, subst, ◌∙◌, arith}
 use Rattle.std.proofs.Common.{inl, inr}
 use Rattle.page_disk.specs.declared.disk.PageDisk.{Ghosts}
 use Rattle.super_block.specs.Numbers.{cluster_pages_of}
@@ -8,7 +8,7 @@ use Rattle.volume_model.specs.declared.command.Command.TheVariants as c
 use Rattle.volume_model.specs.declared.command.PageWord.{PageWord}
 use Rattle.volume_model.specs.declared.command.VolumeRef.{VolumeRef}
 use Rattle.volume_model.specs.declared.reply.Msg.{Msg}
-use Rattle.store_model.specs.Rows.{Claiming, Copying, Idle, OpenClaim, Ready, Row}
+use Rattle.store_model.specs.Rows.{Idle, OpenClaim, Row}
 use Rattle.store_model.specs.Rows.{Stage as RowsStage}
 use Rattle.store_model.specs.StoreState.{StoreState}
 use Rattle.store_core.specs.ChannelTurns.{IsFrozenFor}

@@ -1,7 +1,6 @@
 -- A channel's write, turn by turn, while nothing else happens: it comes to its insert's message, or to its entry.
-use Rattle.std.proofs.Common.{◌≡◌, ◌≢◌, ℕ, zero, suc, ◌+◌, ◌*◌, ◌/◌, ◌<◌, ◌≤◌, true, false, List, [], ◌∷◌, length}
+use Rattle.std.proofs.Common.{◌≡◌, ◌≢◌, ℕ, zero, suc, ◌/◌, ◌<◌, List, ◌∷◌, length}
 use Rattle.std.proofs.Common.{Option, Some, None, refl, sym, ap, subst, ◌∙◌, inl, inr, arith, Bool}
-use Rattle.std.specs.Prelude.{nat_le}
 use Rattle.std.proofs.lemmas.Bool.{cases_eq}
 use Rattle.super_block.specs.Numbers.{cluster_pages_of}
 use Rattle.volume_model.specs.Volumes.{head_of, Volumes}
@@ -19,10 +18,9 @@ use Rattle.store_model.specs.Cases.FindEmpty.{FindsEmpty}
 use Rattle.store_model.specs.Cases.FindFilled.{FindsFilled}
 use Rattle.store_model.specs.Cases.LoseCopy.{LosesCopy}
 use Rattle.store_model.specs.Cases.Send.{Sends}
-use Rattle.store_model.specs.Claiming.{IsCopying, IsWriting, MeansSlot}
-use Rattle.store_model.specs.Copying.{IsWanted}
+use Rattle.store_model.specs.Claiming.{IsWriting}
 use Rattle.store_model.specs.Maps.{Metas}
-use Rattle.store_model.specs.Rows.{Claiming, Copying, Idle, OpenClaim, Posted, Ready, Row, Rows, Stage, with_row}
+use Rattle.store_model.specs.Rows.{Claiming, Copying, Idle, OpenClaim, Posted, Ready, Row, Rows, Stage}
 use Rattle.store_model.specs.Shown.{fixed_of}
 use Rattle.store_model.specs.StoreState.{shown, StoreState}
 use Rattle.store_model.proofs.RowsKept.{row_here}

@@ -1,5 +1,5 @@
 -- The turns of a channel's write that is made alone, as the driver makes them.
-use Rattle.std.proofs.Common.{◌≡◌, ◌≢◌, ℕ, zero, suc, ◌+◌, ◌*◌, ◌/◌, ◌<◌, ◌≤◌, true, false, List, [], ◌∷◌, length, Bool}
+use Rattle.std.proofs.Common.{◌≡◌, ◌≢◌, ℕ, zero, suc, ◌/◌, ◌<◌, true, false, List, [], ◌∷◌, length, Bool}
 use Rattle.std.proofs.Common.{Option, Some, None, refl, sym, ap, subst, ◌∙◌, inl, inr, arith}
 use Rattle.std.specs.Prelude.{nat_le}
 use Rattle.std.proofs.lemmas.Bool.{cases_lt, le-leb}
@@ -8,14 +8,13 @@ use Rattle.std.specs.FinMap as map
 use Rattle.std.specs.Ordering.{nat_cmp}
 use Rattle.page_disk.specs.declared.disk.PageDisk.{Ghosts}
 use Rattle.super_block.specs.Numbers.{cluster_pages_of}
-use Rattle.volume_model.specs.Volumes.{head_of, is_super, Volume, Volumes}
+use Rattle.volume_model.specs.Volumes.{head_of, is_super}
 use Rattle.volume_model.specs.Refusals.{refusal}
 use Rattle.volume_model.specs.Logs.{replay}
 use Rattle.volume_model.specs.declared.command.Command.{Command}
 use Rattle.volume_model.specs.declared.command.Command.TheVariants as c
 use Rattle.volume_model.specs.declared.command.PageWord.{PageWord}
 use Rattle.volume_model.specs.declared.command.VolumeRef.{VolumeRef}
-use Rattle.volume_model.specs.declared.reply.Entry.{Entry}
 use Rattle.volume_model.specs.declared.reply.Reply.TheVariants as r
 use Rattle.blob_meta.specs.Asked.{first_cause}
 use Rattle.blob_meta.specs.declared.meta.Meta.{Meta}
@@ -27,7 +26,7 @@ use Rattle.store_model.specs.Cases.Copy.{Copies, stage_left}
 use Rattle.store_model.specs.Cases.FindEmpty.{FindsEmpty}
 use Rattle.store_model.specs.Cases.Send.{Sends}
 use Rattle.store_model.specs.Maps.{Metas}
-use Rattle.store_model.specs.Rows.{Claiming, Copying, Idle, OpenClaim, Ready, Row, Rows, Stage}
+use Rattle.store_model.specs.Rows.{Claiming, Copying, Idle, OpenClaim, Ready, Stage}
 use Rattle.store_model.specs.Seen.{seen}
 use Rattle.store_model.specs.Shown.{fixed_of}
 use Rattle.store_model.specs.StoreState.{shown, StoreState}
@@ -36,7 +35,7 @@ use Rattle.store_core.specs.StoreInvariant.{IsRunning, StoreInvariant}
 use Rattle.store_core.specs.StoreView.{rows_of, state_of, StoreView, WithOpening}
 use Rattle.store_core.proofs.PagesShown.{pages_long, resolved_is, volume_shown}
 use Rattle.thin_write.specs.Turns.{GoesOn}
-use Rattle.blob_tool.specs.Writing.{begins, copies, empty, HasSlot, IsAt, IsSent, ready, turns_to_send, WriteStands}
+use Rattle.blob_tool.specs.Writing.{begins, copies, empty, IsAt, IsSent, ready, turns_to_send, WriteStands}
 use Rattle.blob_tool.proofs.Planned.{is_running}
 use Rattle.blob_tool.proofs.WriteStands as write
 

@@ -6,7 +6,6 @@ use Rattle.store_core.specs.Requests.{IsAsked}
 use Rattle.store_core.specs.StoreView.{rows_of}
 use Rattle.store_core.specs.declared.requests.Request.{Request}
 use Rattle.store_core.specs.declared.requests.Request.TheVariants as request
-use Rattle.blob_tool.specs.Driving.{IsServedByMetadata}
 use Rattle.blob_tool.specs.Serving.{IsCommandOf}
 use Rattle.blob_tool.proofs.serving.task_of.Goals as goal
 
