@@ -1,0 +1,5 @@
+//! Tests of `md_queue`.
+#![tactic(auto)]
+
+#[cfg(test)]
+mod ends;
