@@ -12,4 +12,8 @@ mod points;
 #[cfg(test)]
 mod power;
 #[cfg(test)]
+mod settled;
+#[cfg(test)]
 mod slots;
+#[cfg(test)]
+mod writes;

@@ -1,11 +1,13 @@
 //! Tests of the program's calls over a device in memory: the verbs on attributes, new volumes, volumes that are thick
-//! or get another number of slots, pages, new stores, and each status.
+//! or get another number of slots, pages that are read and written, new stores, and each status.
 #![tactic(auto)]
 
 #[cfg(test)]
 mod failures;
 #[cfg(test)]
 mod formats;
+#[cfg(test)]
+mod page_faults;
 #[cfg(test)]
 mod pages;
 #[cfg(test)]
@@ -14,3 +16,5 @@ mod slots;
 mod verbs;
 #[cfg(test)]
 mod volumes;
+#[cfg(test)]
+mod writes;
