@@ -10,7 +10,8 @@ use test_stores::{LAST, NAMED, THIN, image};
 /// A map of two empty slots.
 const TWO: &[u8] = b"\x01\x08\0\0\0\0\0\0\0\x02\0\0\0";
 
-/// A store whose thin volume `v` has two empty slots. With four metadata pages clusters 0 and 1 are fixed, and 14 clear.
+/// A store whose thin volume `v` has two empty slots. With four metadata pages clusters 0 and 1 are fixed, and 14 are
+/// clear.
 fn thin(alloc: Global) -> Result<MemDisk, Fail> {
     image(alloc, (64, 4), &[(0, 0, 0, LAST, &[THIN, NAMED, TWO])])
 }

@@ -12,8 +12,8 @@ const THREE: &[u8] = b"\x01\x08\0\0\0\0\0\0\0\x03\0\0\0";
 
 const MANY: &[u8] = b"\x01\x08\0\0\0\x03\0\0\0\x0D\0\0\0";
 
-/// A store of four metadata pages, of whose clusters only cluster 2 is clear: its thin volume `v` has three empty slots,
-/// and a thick one has the others.
+/// A store of four metadata pages, of whose clusters only cluster 2 is clear: its thin volume `v` has three empty
+/// slots, and a thick one has the others.
 fn nearly_full(alloc: Global) -> Result<MemDisk, Fail> {
     let rows: [PageRow; 2] = [
         (0, 0, 0, LAST, &[THIN, NAMED, THREE]),
@@ -22,8 +22,8 @@ fn nearly_full(alloc: Global) -> Result<MemDisk, Fail> {
     image(alloc, (64, 4), &rows)
 }
 
-/// The last cluster is claimed, and a second write is refused; once the claim is lost a third one has the cluster, and a
-/// fourth is refused.
+/// The last cluster is claimed, and a second write is refused; once the claim is lost a third one has the cluster, and
+/// a fourth is refused.
 const LAST_CLUSTER: Order = Order {
     script: b"0 write v 8 1 10\n1 write v 0 1 11\n1 write v 0 1 12\n1 write v 4 1 13\n2 resize v 2\n3 read v 0 1\n\
         3 read v 4 1\n",

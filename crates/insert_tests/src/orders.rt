@@ -7,8 +7,8 @@ use std::process::Abort;
 use std::test::Fail;
 use test_stores::{ChainRow, expect_chains};
 
-/// What is done next: a turn of a channel; its turns to the post of an insert, from the first one or from the claim; the
-/// begin of what it has posted; the turns of the job; a look at what is clear.
+/// What is done next: a turn of a channel; its turns to the post of an insert, from the first one or from the claim;
+/// the begin of what it has posted; the turns of the job; a look at what is clear.
 #[derive(Clone, Copy, Debug)]
 pub enum Next {
     Turn(u8),
