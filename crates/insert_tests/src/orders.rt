@@ -63,7 +63,7 @@ fn expect_nexts(alloc: Global, session: &mut Session, order: &Order) -> Result<(
     Ok(())
 }
 
-/// Runs an order on a device, and expects what it comes to.
+/// Runs an order on a device, and expects what it comes to. Where it comes to something else, a job may run still.
 pub fn expect_order(
     rt: &impl Abort,
     alloc: Global,
@@ -72,6 +72,7 @@ pub fn expect_order(
 ) -> Result<(), Fail> {
     let mut session = Session::start(alloc, disk, order.script)?;
     let expected = expect_nexts(alloc, &mut session, order);
+    session.finish();
     let (disk, used) = session.close(rt);
     expected?;
     if used != order.used {
