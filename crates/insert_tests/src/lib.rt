@@ -9,4 +9,6 @@ mod lacks;
 #[cfg(test)]
 mod orders;
 #[cfg(test)]
+mod resizes;
+#[cfg(test)]
 mod sessions;

@@ -2,21 +2,19 @@
 
 ghost use Rattle.std.specs.Prelude.{◌≡◌};
 
-use blob_meta::least_heads_are_meant;
+use crate::resizes::begin_resize;
 use blob_report::render_entry;
-use lvol_store::plan_resize;
 use page_disk::MemDisk;
 use script_lang::{Grammar, read_script};
 use std::alloc::Global;
 use std::process::Abort;
 use std::test::Fail;
 use store_core::{
-    BeginTurn, ClaimTurn, CopyTurn, InsertTurn, JobTurn, Loaded, MdRight, Parts, Plant, ReadTurn,
-    Request, RowStage, SendTurn, SettleTurn, WriteTurn, plans,
+    ClaimTurn, CopyTurn, InsertTurn, JobTurn, Loaded, MdRight, Parts, Plant, ReadTurn, Request,
+    RowStage, SendTurn, SettleTurn, WriteTurn,
 };
 use store_model::{state_stops, state_turns};
 use unclean_load::{load, stores_are_accepted};
-use volume_model::{Command, Msg};
 
 /// A running store, and the right to change its metadata.
 pub struct Session {
@@ -146,30 +144,6 @@ impl Session {
         self.fill(channel)
     }
 
-    /// The begin of the resize that a message asks for.
-    fn begin_resize(&mut self, alloc: Global, msg: Msg) -> &'static str {
-        plans::<MemDisk>();
-        least_heads_are_meant();
-        self.plant.keeps();
-        let Ok(Request::Meta(command)) = self.plant.request(&self.right, msg) else {
-            return "no command";
-        };
-        if !matches!(command, Command::Resize { .. }) {
-            return "another command";
-        }
-        let (metas, sup, new) = (self.plant.metas(), self.plant.sup(), self.plant.next_head());
-        match plan_resize(alloc, metas, sup, command, new) {
-            Ok(job) => match self.plant.begin_job(&mut self.right, msg, job) {
-                BeginTurn::Began => "began",
-                BeginTurn::Logged => "logged",
-            },
-            Err(reply) => {
-                self.plant.refuse(&mut self.right, msg, reply);
-                "refused"
-            }
-        }
-    }
-
     /// The metadata thread begins what a channel has posted.
     pub fn begin(&mut self, alloc: Global, channel: u8) -> &'static str {
         if self.plant.job_runs() || self.plant.stopped().is_some() {
@@ -179,7 +153,7 @@ impl Session {
             return "not posted";
         };
         if !matches!(self.plant.request(&self.right, msg), Ok(Request::Insert)) {
-            return self.begin_resize(alloc, msg);
+            return begin_resize(alloc, &mut self.plant, &mut self.right, msg);
         }
         match self.plant.begin_insert(&mut self.right, msg) {
             InsertTurn::Began => "began",
