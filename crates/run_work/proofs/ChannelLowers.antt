@@ -1,18 +1,19 @@
 -- Each move of a row lowers the work.
-use Rattle.std.proofs.Common.{◌≡◌, ◌≢◌, inl, inr, ℕ, zero, suc, ◌+◌, ◌*◌, ◌<◌, ◌≤◌, ◌==◌, Option, Some, None, Bool, true, false}
-use Rattle.std.proofs.Common.{◌&&◌, not, List, [], ◌∷◌, length, refl, sym, ◌∙◌, ap, subst, arith, length-append}
+use Rattle.std.proofs.Common.{◌≡◌, ◌≢◌, inl, inr, ℕ, zero, suc, ◌+◌, ◌*◌, ◌<◌, ◌≤◌, ◌==◌, Option, Some, None, Bool}
+use Rattle.std.proofs.Common.{true, false, ◌&&◌, not, List, [], ◌∷◌, length, refl, sym, ◌∙◌, ap, subst, arith}
+use Rattle.std.proofs.Common.{length-append}
 use Rattle.std.proofs.lemmas.Bool.Decides.{eqb_tells}
 use Rattle.run_work.specs.RunState.{AtClaiming, AtCopying, AtDecided, AtEnded, AtIdle, AtInJob, AtPosted, AtReady}
-use Rattle.run_work.specs.RunState.{BlobInRun, BlobsInRun, ClaimInRun, CommandInRun, FoundHeads, PageWrite}
-use Rattle.run_work.specs.RunState.{RowInRun, RunSizes, RunState, StageInRun}
-use Rattle.run_work.specs.Reading.{has_generation, is_empty, is_filled, logged_at, row_at, slot_found, slot_in}
-use Rattle.run_work.specs.Reading.{stage_of_copy, unclaimed_at}
+use Rattle.run_work.specs.RunState.{BlobInRun, BlobsInRun, ClaimInRun, CommandInRun, FoundHeads, PageWrite, RowInRun}
+use Rattle.run_work.specs.RunState.{RunSizes, RunState, StageInRun}
+use Rattle.run_work.specs.Reading.{has_generation, is_empty, is_filled, is_there, logged_at, row_at, slot_found}
+use Rattle.run_work.specs.Reading.{slot_in, stage_of_copy, unclaimed_at}
 use Rattle.run_work.specs.Work.{again_if, base_work, command_work, is_doomed, is_filled_now, one_if, row_work, to_pay}
 use Rattle.run_work.specs.Work.{unsent_work}
-use Rattle.run_work.specs.ChannelMoves.{asking, by_claim, by_copy, by_empty, by_end, by_filled, by_log, by_lose, by_post}
-use Rattle.run_work.specs.ChannelMoves.{by_row, by_send, by_settle, ChannelMove, ClaimMove, copied, CopyMove}
-use Rattle.run_work.specs.ChannelMoves.{EmptyMove, EndMove, FilledMove, for_fill, for_write, LogMove, logs_itself, LoseMove}
-use Rattle.run_work.specs.ChannelMoves.{PostMove, RowMove, SendMove, SettleMove, WritesInto}
+use Rattle.run_work.specs.ChannelMoves.{asking, by_claim, by_copy, by_empty, by_end, by_filled, by_log, by_lose}
+use Rattle.run_work.specs.ChannelMoves.{by_post, by_row, by_send, by_settle, ChannelMove, ClaimMove, copied, CopyMove}
+use Rattle.run_work.specs.ChannelMoves.{EmptyMove, EndMove, FilledMove, for_fill, for_write, LogMove, logs_itself}
+use Rattle.run_work.specs.ChannelMoves.{LoseMove, PostMove, RowMove, SendMove, SettleMove, WritesInto}
 use Rattle.run_work.proofs.Sums.{sum_at, times_suc}
 use Rattle.run_work.proofs.RowWork.{lowers_row, one_row, work_of}
 
@@ -98,41 +99,43 @@ module _ (z : RunSizes) where
       subst (λ x. base_work z x < base_work z w) (sym c.next)
       (lowers_row z w ch next low (omega (arith, old, new, hot)))
 
-  flag_one : (t : Bool) → one_if t ≤ 1
-  flag_one true = omega arith
-  flag_one false = omega arith
+  one_most : (t : Bool) → one_if t ≤ 1
+  one_most true = omega arith
+  one_most false = omega arith
 
   -- at most one message more is unsent
-  one_more : (u v : ℕ → Bool) (ch : ℕ) → ch < z.rows → ((k : ℕ) → k ≢ ch → v k ≡ u k)
+  one_more : (u v : ℕ → Option ℕ) (ch : ℕ) → ch < z.rows → ((k : ℕ) → k ≢ ch → v k ≡ u k)
       → unsent_work z v ≤ unsent_work z u + 1
   one_more u v ch low others =
-      let all = sum_at (λ k. one_if (v k)) (λ k. one_if (u k)) z.rows ch (λ k ne. ap one_if (others k ne)) low in
-      let one = flag_one (v ch) in
+      let all = sum_at (λ k. one_if (is_there (v k))) (λ k. one_if (is_there (u k))) z.rows ch
+      (λ k ne. ap (λ o. one_if (is_there o)) (others k ne)) low in
+      let one = one_most (is_there (v ch)) in
       omega (arith, all, one)
 
-  one_less : (u v : ℕ → Bool) (ch : ℕ) → ch < z.rows → u ch ≡ true → v ch ≡ false
+  one_less : (u v : ℕ → Option ℕ) (ch serial : ℕ) → ch < z.rows → u ch ≡ Some serial → v ch ≡ None
       → ((k : ℕ) → k ≢ ch → v k ≡ u k) → unsent_work z v + 1 ≡ unsent_work z u
-  one_less u v ch low was is others =
-      let all = sum_at (λ k. one_if (v k)) (λ k. one_if (u k)) z.rows ch (λ k ne. ap one_if (others k ne)) low in
-      let a = ap one_if was in
-      let b = ap one_if is in
+  one_less u v ch serial low was is others =
+      let all = sum_at (λ k. one_if (is_there (v k))) (λ k. one_if (is_there (u k))) z.rows ch
+      (λ k ne. ap (λ o. one_if (is_there o)) (others k ne)) low in
+      let a = ap (λ o. one_if (is_there o)) was in
+      let b = ap (λ o. one_if (is_there o)) is in
       omega (arith, all, a, b)
 
   -- the stages that post have at least five more than the posted one
   posted_from : (blobs : BlobsInRun) (finds : FoundHeads) (l : List CommandInRun) (claim : Option ClaimInRun)
-      → (row_work z blobs finds (record { left = l; stage = AtPosted; claim = claim }) + 5
+      (serial : ℕ) → (row_work z blobs finds (record { left = l; stage = AtPosted serial; claim = claim }) + 5
       ≤ row_work z blobs finds (record { left = l; stage = AtReady; claim = claim }))
-      × (row_work z blobs finds (record { left = l; stage = AtPosted; claim = claim }) + 5
+      × (row_work z blobs finds (record { left = l; stage = AtPosted serial; claim = claim }) + 5
       ≤ row_work z blobs finds (record { left = l; stage = AtIdle; claim = claim }))
-  posted_from blobs finds l None = (omega arith, omega arith)
-  posted_from blobs finds l (Some x) = (omega arith, omega arith)
+  posted_from blobs finds l None serial = (omega arith, omega arith)
+  posted_from blobs finds l (Some x) serial = (omega arith, omega arith)
 
   posts : (w v : RunState) (ch : ℕ) → ch < z.rows → PostMove z w ch v → base_work z v < base_work z w
   posts w v ch low c =
       let row = w.rows ch in
-      let next : RowInRun = row_at row AtPosted in
-      let new = work_of z w.blobs w.finds next row.left AtPosted row.claim refl refl refl in
-      let five = posted_from w.blobs w.finds row.left row.claim in
+      let next : RowInRun = row_at row (AtPosted c.serial) in
+      let new = work_of z w.blobs w.finds next row.left (AtPosted c.serial) row.claim refl refl refl in
+      let five = posted_from w.blobs w.finds row.left row.claim c.serial in
       let five_ready = five.0 in
       let five_idle = five.1 in
       let less : row_work z w.blobs w.finds next + 5 ≤ row_work z w.blobs w.finds row = elim c.from [
@@ -181,7 +184,7 @@ module _ (z : RunSizes) where
   pays_all l AtClaiming is = refl
   pays_all l (AtCopying n) is = refl
   pays_all l AtReady is = refl
-  pays_all l AtPosted is = absurd (cc is)
+  pays_all l (AtPosted n) is = absurd (cc is)
   pays_all l AtInJob is = absurd (cc is)
   pays_all l AtDecided is = absurd (cc is)
   pays_all l AtEnded is = absurd (cc is)
@@ -198,8 +201,8 @@ module _ (z : RunSizes) where
 
   sends : (w v : RunState) (ch : ℕ) → ch < z.rows → SendMove z w ch v → base_work z v < base_work z w
   sends w v ch low c =
-      let less = one_less w.unsent c.unsent ch low c.waits c.sent c.others in
-      let len = length-append w.queue (ch ∷ []) in
+      let less = one_less w.unsent c.unsent ch c.serial low c.waits c.sent c.others in
+      let len = length-append w.queue (record { channel = ch; serial = c.serial } ∷ []) in
       subst (λ x. base_work z x < base_work z w) (sym c.next) (omega (arith, less, len))
 
   -- a move of a row of its own

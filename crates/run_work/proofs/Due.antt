@@ -1,23 +1,25 @@
 -- What stands where a step of the metadata thread is due.
-use Rattle.std.proofs.Common.{◌≡◌, ◌⊎◌, inl, inr, ℕ, nat_lt, if◌then◌else◌, Option, Some, None, Bool, true, false, ◌||◌}
+use Rattle.std.proofs.Common.{◌≡◌, ◌⊎◌, inl, inr, nat_lt, if◌then◌else◌, Option, Some, None, Bool, true, false, ◌||◌}
 use Rattle.std.proofs.Common.{List, [], ◌∷◌, length, refl, sym, ◌∙◌, subst}
+use Rattle.volume_model.specs.declared.reply.Msg.{Msg}
 use Rattle.run_work.specs.RunState.{JobInRun, RunState}
 use Rattle.run_work.specs.Reading.{has_any, is_in_use, is_there}
-use Rattle.run_work.specs.Steps.{can_metadata, CloseStep, due, due_in, FillStep, JobStep, MessageStep, MoveKind, TakeStep}
+use Rattle.run_work.specs.Steps.{can_metadata, CloseStep, due, due_in, FillStep, JobStep, MessageStep, MoveKind}
+use Rattle.run_work.specs.Steps.{TakeStep}
 
 -- what stands, for a kind of step
-abbrev StandsFor : Bool → Option ℕ → Option ℕ → Bool → List ℕ → List ℕ → MoveKind → Type 0
+abbrev StandsFor : Bool → Option Msg → Option Msg → Bool → List Msg → List Msg → MoveKind → Type 0
 StandsFor job held fill used waiting queue JobStep = job ≡ true
 StandsFor job held fill used waiting queue CloseStep = (job ≡ false) × (fill ≡ None) × (used ≡ true)
 StandsFor job held fill used waiting queue FillStep =
-    (job ≡ false) × (held ≡ None) × ((ch : ℕ) × (fill ≡ Some ch))
+    (job ≡ false) × (held ≡ None) × ((m : Msg) × (fill ≡ Some m))
 StandsFor job held fill used waiting queue TakeStep =
     (job ≡ false) × (held ≡ None) × ((has_any queue ≡ true)
     ⊎ ((job || is_there held || has_any queue || has_any waiting || is_there fill || used) ≡ false))
-StandsFor job held fill used waiting queue (MessageStep ch) =
-    (job ≡ false) × ((held ≡ Some ch) ⊎ ((rest : List ℕ) × (held ≡ None) × (waiting ≡ ch ∷ rest)))
+StandsFor job held fill used waiting queue (MessageStep m) =
+    (job ≡ false) × ((held ≡ Some m) ⊎ ((rest : List Msg) × (held ≡ None) × (waiting ≡ m ∷ rest)))
 
-stands_by : (job : Bool) (held fill : Option ℕ) (used : Bool) (waiting queue : List ℕ)
+stands_by : (job : Bool) (held fill : Option Msg) (used : Bool) (waiting queue : List Msg)
     → StandsFor job held fill used waiting queue (due job held fill used waiting queue)
 stands_by true held fill used waiting queue = refl
 stands_by false None None true waiting queue = (refl, refl, refl)
@@ -63,7 +65,7 @@ due_close w is = let s = stands w CloseStep is in (no_job w.job s.0, s.1, s.2)
 
 -- a fill, and nothing held, where its turn is due
 pub due_fill : (w : RunState) → due_in w ≡ FillStep
-    → (w.job ≡ None) × (w.held ≡ None) × ((ch : ℕ) × (w.fill ≡ Some ch))
+    → (w.job ≡ None) × (w.held ≡ None) × ((m : Msg) × (w.fill ≡ Some m))
 due_fill w is = let s = stands w FillStep is in (no_job w.job s.0, s.1, s.2)
 
 -- a queued message, where one is to be taken
@@ -80,6 +82,6 @@ due_take w can is =
     )
 
 -- the message that is to be served, held or the first that waits
-pub due_message : (w : RunState) (ch : ℕ) → due_in w ≡ MessageStep ch
-    → (w.job ≡ None) × ((w.held ≡ Some ch) ⊎ ((rest : List ℕ) × (w.held ≡ None) × (w.waiting ≡ ch ∷ rest)))
-due_message w ch is = let s = stands w (MessageStep ch) is in (no_job w.job s.0, s.1)
+pub due_message : (w : RunState) (m : Msg) → due_in w ≡ MessageStep m
+    → (w.job ≡ None) × ((w.held ≡ Some m) ⊎ ((rest : List Msg) × (w.held ≡ None) × (w.waiting ≡ m ∷ rest)))
+due_message w m is = let s = stands w (MessageStep m) is in (no_job w.job s.0, s.1)

@@ -1,14 +1,17 @@
 -- A round lowers the work unless all have ended; so a run of rounds ends.
-use Rattle.std.proofs.Common.{◌≡◌, ◌⊎◌, inl, inr, ℕ, zero, suc, ◌+◌, ◌<◌, ◌≤◌, true, false, List, [], ◌∷◌, refl, sym}
-use Rattle.std.proofs.Common.{◌∙◌, ap, subst, arith, ◌&&◌, nat_lt, Some}
+use Rattle.std.proofs.Common.{if◌then◌else◌, Option, None, Bool, ◌≡◌, ◌⊎◌, inl, inr, ℕ, zero, suc, ◌+◌, ◌<◌, ◌≤◌, true}
+use Rattle.std.proofs.Common.{false, List, [], ◌∷◌, refl, sym, ◌∙◌, ap, subst, arith, nat_lt, Some}
 use Rattle.std.proofs.lemmas.Bool.Decides.{eqb_tells}
-use Rattle.run_work.specs.RunState.{AtClaiming, AtCopying, AtDecided, AtEnded, AtIdle, AtInJob, AtPosted, AtReady, JobInRun}
-use Rattle.run_work.specs.RunState.{RunSizes, RunState, StageInRun}
+use Rattle.volume_model.specs.declared.reply.Msg.{Msg}
+use Rattle.run_work.specs.RunState.{AtClaiming, AtCopying, AtDecided, AtEnded, AtIdle, AtInJob, AtPosted, AtReady}
+use Rattle.run_work.specs.RunState.{JobInRun, RunSizes, RunState, StageInRun}
 use Rattle.run_work.specs.Work.{one_if, work}
 use Rattle.run_work.specs.ServingMoves.{WaitsInJob}
 use Rattle.run_work.specs.Following.{ActorInRun, ChannelActs, MetadataActs, Passes, Round, Rounds, Scheduled}
 use Rattle.run_work.specs.Steps.{all_ended, can_channel, can_metadata, can_move, RunFollows, StepOf}
-use Rattle.run_work.specs.RunFacts.{at_start, awaited, is_posted, RunFacts}
+use Rattle.run_work.specs.RunFacts.{at_start, awaited, in_queue, is_filled_for, is_held, is_waiting, IsOnTheWay}
+use Rattle.run_work.specs.RunFacts.{not_sent, RunFacts, serial_posted}
+use Rattle.run_work.specs.Reading.{is_there}
 use Rattle.run_work.proofs.Keeping.{step_keeps}
 use Rattle.run_work.proofs.Lowering.{channel_below, step_lowers}
 use Rattle.run_work.proofs.Progress.{some_actor}
@@ -112,15 +115,53 @@ module _ (z : RunSizes) where
 
 -- ---- the start
 
-awaited_at_start : (k : ℕ) (s : StageInRun) → one_if (is_posted s && nat_lt k 16) ≡ awaited k s
-awaited_at_start k AtPosted = refl
-awaited_at_start k AtIdle = refl
-awaited_at_start k AtClaiming = refl
-awaited_at_start k (AtCopying n) = refl
-awaited_at_start k AtReady = refl
-awaited_at_start k AtInJob = refl
-awaited_at_start k AtDecided = refl
-awaited_at_start k AtEnded = refl
+-- a message that a channel has still to send at the start
+abbrev sent_at_start : RunState → ℕ → Bool → Option ℕ
+sent_at_start w k t = if t then serial_posted (w.rows k).stage else None
+
+awaited_at_start : (k : ℕ) (s : StageInRun) (t : Bool) → nat_lt k 16 ≡ t
+    → one_if (is_there (if t then serial_posted s else None)) ≡ awaited k s
+awaited_at_start k (AtPosted n) true is = ap one_if (sym is)
+awaited_at_start k (AtPosted n) false is = ap one_if (sym is)
+awaited_at_start k AtIdle true is = refl
+awaited_at_start k AtClaiming true is = refl
+awaited_at_start k (AtCopying n) true is = refl
+awaited_at_start k AtReady true is = refl
+awaited_at_start k AtInJob true is = refl
+awaited_at_start k AtDecided true is = refl
+awaited_at_start k AtEnded true is = refl
+awaited_at_start k AtIdle false is = refl
+awaited_at_start k AtClaiming false is = refl
+awaited_at_start k (AtCopying n) false is = refl
+awaited_at_start k AtReady false is = refl
+awaited_at_start k AtInJob false is = refl
+awaited_at_start k AtDecided false is = refl
+awaited_at_start k AtEnded false is = refl
+
+serial_is : (s : StageInRun) (n : ℕ) → serial_posted s ≡ Some n → s ≡ AtPosted n
+serial_is (AtPosted x) n is = ap (λ o. AtPosted (or_zero o)) is
+  where
+    or_zero : Option ℕ → ℕ
+    or_zero None = 0
+    or_zero (Some y) = y
+serial_is AtIdle n is = absurd (cc is)
+serial_is AtClaiming n is = absurd (cc is)
+serial_is (AtCopying x) n is = absurd (cc is)
+serial_is AtReady n is = absurd (cc is)
+serial_is AtInJob n is = absurd (cc is)
+serial_is AtDecided n is = absurd (cc is)
+serial_is AtEnded n is = absurd (cc is)
+
+current_at_start : (w : RunState) (m : Msg) → IsOnTheWay (at_start w) m → (w.rows m.channel).stage ≡ AtPosted m.serial
+current_at_start w m (not_sent is) = go (nat_lt m.channel 16) is
+  where
+    go : (t : Bool) → sent_at_start w m.channel t ≡ Some m.serial → (w.rows m.channel).stage ≡ AtPosted m.serial
+    go true at = serial_is (w.rows m.channel).stage m.serial at
+    go false at = absurd (cc at)
+current_at_start w m (in_queue none) = absurd none
+current_at_start w m (is_held is) = absurd (cc is)
+current_at_start w m (is_waiting none) = absurd none
+current_at_start w m (is_filled_for is) = absurd (cc is)
 
 -- two facts of a store are enough for a driver to start
 pub starts : (w : RunState)
@@ -129,5 +170,6 @@ pub starts : (w : RunState)
 starts w frozen in_job = record {
   frozen = frozen;
   in_job = in_job;
-  counted = λ k. let one = awaited_at_start k (w.rows k).stage in omega (arith, one);
+  counted = λ k. let one = awaited_at_start k (w.rows k).stage (nat_lt k 16) refl in omega (arith, one);
+  current = current_at_start w;
 }

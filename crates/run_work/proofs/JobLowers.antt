@@ -1,15 +1,16 @@
 -- Each move of a job's turns lowers the work.
-use Rattle.std.proofs.Common.{◌≡◌, ℕ, zero, suc, ◌+◌, ◌*◌, ◌<◌, ◌≤◌, if◌then◌else◌, Option, Some, None, Bool, true, false}
-use Rattle.std.proofs.Common.{List, [], ◌∷◌, length, refl, sym, ◌∙◌, ap, subst, arith}
-use Rattle.run_work.specs.RunState.{AtDecided, AtInJob, BlobsInRun, ClaimInRun, CommandInRun, CommitPhase}
-use Rattle.run_work.specs.RunState.{DeviceFlush, FoundHeads, InsertPhase, JobInRun, MetadataCommand, PagePhase, PageRead}
-use Rattle.run_work.specs.RunState.{PageWrite, PhaseInRun, ReplacementPhase, RowInRun, RunSizes, RunState}
-use Rattle.run_work.specs.Reading.{asks_metadata, job_left, logged_at, slot_at, slot_in, stage_after_insert, unclaimed_at}
-use Rattle.run_work.specs.Reading.{with_filled}
+use Rattle.std.proofs.Common.{◌≡◌, ℕ, zero, suc, ◌+◌, ◌*◌, ◌<◌, ◌≤◌, if◌then◌else◌, Option, Some, None, Bool, true}
+use Rattle.std.proofs.Common.{false, List, [], ◌∷◌, length, refl, sym, ◌∙◌, ap, subst, arith}
+use Rattle.run_work.specs.RunState.{AtDecided, AtInJob, BlobsInRun, ClaimInRun, CommandInRun, CommitPhase, DeviceFlush}
+use Rattle.run_work.specs.RunState.{FoundHeads, InsertPhase, JobInRun, MetadataCommand, PagePhase, PageRead, PageWrite}
+use Rattle.run_work.specs.RunState.{PhaseInRun, ReplacementPhase, RowInRun, RunSizes, RunState}
+use Rattle.run_work.specs.Reading.{asks_metadata, job_left, logged_at, slot_at, slot_in, stage_after_insert}
+use Rattle.run_work.specs.Reading.{unclaimed_at, with_filled}
 use Rattle.run_work.specs.Work.{again_work, base_work, command_work, commit_is_left, decision_is_left, empties}
-use Rattle.run_work.specs.Work.{empty_in, empty_slots, job_work, replacement_work, replacements_in}
-use Rattle.run_work.specs.Work.{row_behind, row_work, slot_work, to_pay}
-use Rattle.run_work.specs.JobMoves.{CommitMove, DropMove, FailMove, InsertMove, PageMove, ReplaceMove, ReplacesBlob, WinMove}
+use Rattle.run_work.specs.Work.{empty_in, empty_slots, job_work, replacement_work, replacements_in, row_behind}
+use Rattle.run_work.specs.Work.{row_work, slot_work, to_pay}
+use Rattle.run_work.specs.JobMoves.{CommitMove, DropMove, FailMove, InsertMove, PageMove, ReplaceMove, ReplacesBlob}
+use Rattle.run_work.specs.JobMoves.{WinMove}
 use Rattle.run_work.proofs.Sums.{suc_times, sum_at, times_le, times_plus, times_suc}
 use Rattle.run_work.proofs.RowWork.{any_row, no_row, one_row, work_of}
 
@@ -46,6 +47,7 @@ module _ (z : RunSizes) where
       go None = omega arith
       go (Some ch) = omega arith
 
+  -- a page is written
   pub writes : (w v : RunState) → PageMove z w v → base_work z v < base_work z w
   writes w v c =
       let was = ap (job_work z) c.runs in
@@ -88,6 +90,7 @@ module _ (z : RunSizes) where
       let most = most_behind j.waits (x ∷ xs) in
       omega (arith, counts, most)
 
+  -- the replacement of an insert pays with a slot
   pub inserts : (w v : RunState) (ch : ℕ) → ch < z.rows → InsertMove z w ch v → base_work z v < base_work z w
   inserts w v ch low c =
       let row = w.rows ch in
@@ -111,6 +114,7 @@ module _ (z : RunSizes) where
   kept_behind j ch is =
       ap (λ o. job_work z (Some (record j { phases = PagePhase ∷ []; waits = o }))) is ∙ omega arith
 
+  -- the last page of an insert
   pub wins : (w v : RunState) (ch : ℕ) → ch < z.rows → WinMove z w ch v → base_work z v < base_work z w
   wins w v ch low c =
       let row = w.rows ch in
@@ -152,6 +156,7 @@ module _ (z : RunSizes) where
       go None = omega (arith, step)
       go (Some ch) = omega (arith, step)
 
+  -- a replacement that is no commit
   pub replaces : (w v : RunState) → ReplaceMove z w v → base_work z v < base_work z w
   replaces w v c =
       let was = ap (job_work z) c.runs in
@@ -176,6 +181,7 @@ module _ (z : RunSizes) where
       ∙ ap (λ l. command_work z * to_pay l AtInJob) left in
       omega (arith, counts)
 
+  -- the commit
   pub commits : (w v : RunState) (ch : ℕ) → ch < z.rows → CommitMove z w ch v → base_work z v < base_work z w
   commits w v ch low c =
       let next : RowInRun = logged_at c.commands AtDecided in
@@ -215,6 +221,7 @@ module _ (z : RunSizes) where
   failed blobs finds DeviceFlush l x j is = let step = times_suc (command_work z) (length l) in omega (arith, step)
   failed blobs finds MetadataCommand l x j is = let pays = commit_pays j.phases (is refl) in omega (arith, pays)
 
+  -- a failure for which a row waits
   pub fails : (w v : RunState) (ch : ℕ) → ch < z.rows → FailMove z w ch v → base_work z v < base_work z w
   fails w v ch low c =
       let row = w.rows ch in
@@ -225,6 +232,7 @@ module _ (z : RunSizes) where
       let all = one_row z w.blobs w.finds w.rows ch next low in
       subst (λ x. base_work z x < base_work z w) (sym c.next) (omega (arith, was, old, less, all))
 
+  -- a failure for which none waits
   pub drops : (w v : RunState) → DropMove z w v → base_work z v < base_work z w
   drops w v c =
       let was = ap (job_work z) c.runs in

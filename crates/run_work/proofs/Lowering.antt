@@ -1,20 +1,21 @@
 -- Each move lowers the work.
-use Rattle.std.proofs.Common.{◌≡◌, ◌≢◌, ◌⊎◌, inl, inr, ℕ, ◌<◌, ◌≤◌, if◌then◌else◌, Option, Some, None, Bool, true, false}
-use Rattle.std.proofs.Common.{◌&&◌, nat_lt, not, [], ◌∷◌, ◌++◌, length, refl, sym, ◌∙◌, ap, arith}
+use Rattle.std.proofs.Common.{◌≡◌, ◌≢◌, ◌⊎◌, inl, inr, ℕ, ◌<◌, ◌≤◌, if◌then◌else◌, Option, Some, None, Bool, true}
+use Rattle.std.proofs.Common.{false, ◌&&◌, nat_lt, [], ◌∷◌, ◌++◌, refl, sym, ◌∙◌, ap, arith}
 use Rattle.std.proofs.lemmas.Bool.Decides.{nat_tests}
-use Rattle.run_work.specs.RunState.{AtCopying, AtDecided, AtEnded, AtIdle, AtInJob, AtPosted, MetadataCommand}
-use Rattle.run_work.specs.RunState.{AtClaiming, RowInRun, RowsInRun, RunSizes, RunState, StageInRun}
-use Rattle.run_work.specs.Reading.{is_in_use, logged_at, meets_frozen, row_at, stage_after_insert, stage_of_copy}
-use Rattle.run_work.specs.Reading.{unclaimed_at, with_row_in_run}
+use Rattle.volume_model.specs.declared.reply.Msg.{Msg}
+use Rattle.run_work.specs.Steps.{at_once, at_turn, behind_fill, by_answer, by_begin_insert, by_begin_job, by_close}
+use Rattle.run_work.specs.Steps.{by_commit, by_drop, by_fail, by_insert, by_log_fill, by_lose_insert, by_own_row}
+use Rattle.run_work.specs.Steps.{by_page, by_replace, by_take, by_win, can_at, can_channel, can_move, can_send}
+use Rattle.run_work.specs.Steps.{has_to_wait, is_free_at, MetadataMove, OneMove, queued_behind, StepOf}
+use Rattle.run_work.specs.RunState.{AtClaiming, AtCopying, AtDecided, AtEnded, AtIdle, AtInJob, AtPosted}
+use Rattle.run_work.specs.RunState.{MetadataCommand, RowInRun, RowsInRun, RunSizes, RunState, StageInRun}
+use Rattle.run_work.specs.Reading.{is_in_use, logged_at, row_at, stage_after_insert, stage_of_copy, unclaimed_at}
+use Rattle.run_work.specs.Reading.{with_row_in_run}
 use Rattle.run_work.specs.Work.{work}
-use Rattle.run_work.specs.ChannelMoves.{by_claim, by_copy, by_empty, by_end, by_filled, by_log, by_lose, by_post, by_row}
-use Rattle.run_work.specs.ChannelMoves.{by_send, by_settle, ChannelMove, RowMove}
+use Rattle.run_work.specs.ChannelMoves.{by_claim, by_copy, by_empty, by_end, by_filled, by_log, by_lose, by_post}
+use Rattle.run_work.specs.ChannelMoves.{by_row, by_send, by_settle, ChannelMove, RowMove}
 use Rattle.run_work.specs.ServingMoves.{BeginJobMove, for_filled, for_message, TakeUpMove}
 use Rattle.run_work.specs.Following.{ActorInRun, ChannelActs, MetadataActs}
-use Rattle.run_work.specs.Steps.{at_once, at_turn, behind_fill, by_answer, by_begin_insert, by_begin_job, by_close}
-use Rattle.run_work.specs.Steps.{by_commit, by_drop, by_fail, by_insert, by_log_fill, by_lose_insert, by_own_row, by_page}
-use Rattle.run_work.specs.Steps.{by_replace, by_take, by_win, can_at, can_channel, can_move, has_to_wait, MetadataMove}
-use Rattle.run_work.specs.Steps.{OneMove, queued_behind, StepOf}
 use Rattle.run_work.proofs.Sums.{row_there}
 use Rattle.run_work.proofs.ChannelLowers.{channel_base, row_base}
 use Rattle.run_work.proofs.ServingLowers as serving
@@ -43,7 +44,7 @@ module _ (z : RunSizes) where
   row_stays w v ch (by_lose c) =
       (unclaimed_at (w.rows ch) AtIdle, inl (ap (λ x. x.rows) c.next), ap (λ x. x.fill) c.next)
   row_stays w v ch (by_post c) =
-      (row_at (w.rows ch) AtPosted, inl (ap (λ x. x.rows) c.next), ap (λ x. x.fill) c.next)
+      (row_at (w.rows ch) (AtPosted c.serial), inl (ap (λ x. x.rows) c.next), ap (λ x. x.fill) c.next)
   row_stays w v ch (by_settle c) =
       (unclaimed_at (w.rows ch) AtIdle, inl (ap (λ x. x.rows) c.next), ap (λ x. x.fill) c.next)
 
@@ -81,24 +82,24 @@ module _ (z : RunSizes) where
       ∙ row_there w.rows ch (logged_at (MetadataCommand ∷ c.commands) AtInJob) 16 (λ is. apart ch low (sym is)) in
       with_own z w v (serving.begins_job z w v ch (omega (arith, low, enough)) c) (elim c.begins [
         | for_message same serves ↦ same_own z w v (ap (λ x. x.fill) c.next ∙ same) stays_there
-        | for_filled fills unused held waiting none ↦
+        | for_filled m fills channel unused held waiting none ↦
             unused_own z w v (ap (λ (r : RowInRun). is_in_use r.stage) stays_there ∙ unused)
       ])
 
   one_lowers : (w v : RunState) → 16 < z.rows → OneMove z w v → work z v < work z w
-  one_lowers w v enough (by_own_row filling is c) =
-      with_own z w v (row_base z w v 16 enough c) (fill_own z w v filling ((row_stays w v 16 c).2 ∙ is))
+  one_lowers w v enough (by_own_row m is c) =
+      with_own z w v (row_base z w v 16 enough c) (fill_own z w v m ((row_stays w v 16 c).2 ∙ is))
   one_lowers w v enough (by_take c) =
       with_own z w v (serving.takes z w v c)
       (same_own z w v (ap (λ x. x.fill) c.next) (ap (λ x. x.rows 16) c.next))
   one_lowers w v enough (by_lose_insert ch low c) =
       with_own z w v (serving.loses_insert z w v ch low c)
       (row_own z w v ch (unclaimed_at (w.rows ch) AtDecided) (ap (λ x. x.rows) c.next) (ap (λ x. x.fill) c.next)
-      (inr (used_at (w.rows ch).stage AtPosted c.stage refl)))
+      (inr (used_at (w.rows ch).stage (AtPosted c.serial) c.stage refl)))
   one_lowers w v enough (by_begin_insert ch low c) =
       with_own z w v (serving.begins_insert z w v ch low c)
       (row_own z w v ch (row_at (w.rows ch) AtInJob) (ap (λ x. x.rows) c.next) (ap (λ x. x.fill) c.next)
-      (inr (used_at (w.rows ch).stage AtPosted c.stage refl)))
+      (inr (used_at (w.rows ch).stage (AtPosted c.serial) c.stage refl)))
   one_lowers w v enough (by_answer ch low c) =
       with_own z w v (serving.answers z w v ch (omega (arith, low, enough)) c)
       (row_own z w v ch (logged_at c.commands AtDecided) (ap (λ x. x.rows) c.next) (ap (λ x. x.fill) c.next)
@@ -135,15 +136,15 @@ module _ (z : RunSizes) where
       with_own z w v (job.drops z w v c)
       (same_own z w v (ap (λ x. x.fill) c.next) (ap (λ x. x.rows 16) c.next))
 
-  taken_up : (w v : RunState) (ch : ℕ) → TakeUpMove z w ch v → work z v < work z w
-  taken_up w v ch c =
-      with_own z w v (serving.takes_up z w v ch c) (fill_own z w v ch (ap (λ x. x.fill) c.next))
+  taken_up : (w v : RunState) (m : Msg) → TakeUpMove z w m v → work z v < work z w
+  taken_up w v m c =
+      with_own z w v (serving.takes_up z w v m c) (fill_own z w v m (ap (λ x. x.fill) c.next))
 
   -- a move of the metadata thread
   pub metadata_lowers : (w v : RunState) → 16 < z.rows → MetadataMove z w v → work z v < work z w
   metadata_lowers w v enough (at_once c due) = one_lowers w v enough c
-  metadata_lowers w v enough (behind_fill ch mid up due c fill) =
-      let first = taken_up w mid ch up in
+  metadata_lowers w v enough (behind_fill m mid up due c fill) =
+      let first = taken_up w mid m up in
       let second = one_lowers mid v enough c in
       omega (arith, first, second)
 
@@ -154,16 +155,16 @@ module _ (z : RunSizes) where
   channel_below w ch can = go (nat_lt ch 16) refl can
     where
       go : (t : Bool) → nat_lt ch 16 ≡ t → (t
-          && can_at (not (meets_frozen w.frozen w.finds (w.rows ch).left)) (w.unsent ch && nat_lt (length w.queue) 8)
+          && can_at (is_free_at w ch) (can_send w ch)
           (w.rows ch).stage) ≡ true → ch < 16
       go true is can = grind (arith, nat_tests)
       go false is can = absurd (cc can)
 
-  behind_lowers : (w : RunState) (o : Option ℕ) → w.held ≡ o → work z (queued_behind w o) ≤ work z w
+  behind_lowers : (w : RunState) (o : Option Msg) → w.held ≡ o → work z (queued_behind w o) ≤ work z w
   behind_lowers w None is = omega arith
-  behind_lowers w (Some ch) is =
-      let v : RunState = record w { held = None; waiting = w.waiting ++ ch ∷ [] } in
-      let less = with_own z w v (serving.joins z w ch is) (same_own z w v refl refl) in
+  behind_lowers w (Some m) is =
+      let v : RunState = record w { held = None; waiting = w.waiting ++ m ∷ [] } in
+      let less = with_own z w v (serving.joins z w m is) (same_own z w v refl refl) in
       omega (arith, less)
 
   -- that a command comes to wait

@@ -1,7 +1,8 @@
 -- What the metadata thread's own row has to end doesn't grow, but where a fill's command is logged.
-use Rattle.std.proofs.Common.{◌≡◌, ◌≢◌, ◌⊎◌, inl, inr, ℕ, ◌+◌, ◌<◌, ◌≤◌, Option, Some, None, Bool, true, false, sym, ◌∙◌}
-use Rattle.std.proofs.Common.{ap, subst, arith}
+use Rattle.std.proofs.Common.{◌≡◌, ◌≢◌, ◌⊎◌, inl, inr, ℕ, ◌+◌, ◌<◌, ◌≤◌, Option, Some, None, Bool, true, false, sym}
+use Rattle.std.proofs.Common.{◌∙◌, ap, subst, arith}
 use Rattle.std.proofs.lemmas.Bool.Decides.{eqb_tells}
+use Rattle.volume_model.specs.declared.reply.Msg.{Msg}
 use Rattle.run_work.specs.RunState.{RowInRun, RowsInRun, RunSizes, RunState}
 use Rattle.run_work.specs.Reading.{is_in_use, with_row_in_run}
 use Rattle.run_work.specs.Work.{base_work, own_work, to_end, try_work, work}
@@ -16,7 +17,7 @@ module _ (z : RunSizes) where
       ∙ ap (λ (r : RowInRun). to_end z w.fill (is_in_use r.stage)) row in
       omega (arith, is)
 
-  to_end_most : (f : Option ℕ) (used : Bool) → to_end z f used ≤ to_end z f true
+  to_end_most : (f : Option Msg) (used : Bool) → to_end z f used ≤ to_end z f true
   to_end_most None true = omega arith
   to_end_most None false = omega arith
   to_end_most (Some x) used = omega arith
@@ -30,15 +31,15 @@ module _ (z : RunSizes) where
       omega (arith, most, a, b)
 
   -- one behind which a fill goes on
-  pub fill_own : (w v : RunState) (ch : ℕ) → v.fill ≡ Some ch → own_work z v ≤ own_work z w
-  fill_own w v ch fill =
+  pub fill_own : (w v : RunState) (m : Msg) → v.fill ≡ Some m → own_work z v ≤ own_work z w
+  fill_own w v m fill =
       let none = ap (λ f. to_end z f (is_in_use (v.rows 16).stage)) fill in omega (arith, none)
 
   -- one behind which the row isn't in use
   pub unused_own : (w v : RunState) → is_in_use (v.rows 16).stage ≡ false → own_work z v ≤ own_work z w
   unused_own w v unused = go v.fill (is_in_use (v.rows 16).stage) unused
     where
-      go : (f : Option ℕ) (t : Bool) → t ≡ false → to_end z f t ≤ own_work z w
+      go : (f : Option Msg) (t : Bool) → t ≡ false → to_end z f t ≤ own_work z w
       go None false is = omega arith
       go (Some x) false is = omega arith
       go f true is = absurd (cc is)
@@ -47,7 +48,7 @@ module _ (z : RunSizes) where
   pub own_most : (w : RunState) → own_work z w ≤ try_work z + 1
   own_most w = go w.fill (is_in_use (w.rows 16).stage)
     where
-      go : (f : Option ℕ) (t : Bool) → to_end z f t ≤ try_work z + 1
+      go : (f : Option Msg) (t : Bool) → to_end z f t ≤ try_work z + 1
       go None true = omega arith
       go None false = omega arith
       go (Some x) t = omega arith

@@ -1,15 +1,17 @@
 -- While an actor hasn't ended, some actor can move; and behind that none can.
-use Rattle.std.proofs.Common.{◌≡◌, ◌⊎◌, inl, inr, ℕ, zero, suc, ◌<◌, nat_lt, Option, Some, None, Bool, true}
-use Rattle.std.proofs.Common.{false, ◌&&◌, ◌||◌, not, List, [], ◌∷◌, length, refl, sym, ◌∙◌, ap, subst, arith}
+use Rattle.std.proofs.Common.{◌≡◌, ◌⊎◌, inl, inr, ℕ, zero, suc, ◌<◌, nat_lt, Option, Some, None, Bool, true, false}
+use Rattle.std.proofs.Common.{◌&&◌, ◌||◌, not, List, [], ◌∷◌, length, refl, sym, ◌∙◌, ap, subst, arith}
 use Rattle.std.proofs.lemmas.Bool.Decides.{eqb_tells, nat_tests}
+use Rattle.volume_model.specs.declared.reply.Msg.{Msg}
+use Rattle.run_work.specs.Steps.{all_ended, can_at, can_channel, can_metadata, can_move, can_send, ended_below}
+use Rattle.run_work.specs.Steps.{has_ended, is_free_at}
 use Rattle.run_work.specs.RunState.{AtClaiming, AtCopying, AtDecided, AtEnded, AtIdle, AtInJob, AtPosted, AtReady}
-use Rattle.run_work.specs.RunState.{CommandInRun, DeviceFlush, FoundHeads, MetadataCommand, PageRead, PageWrite, RowsInRun}
-use Rattle.run_work.specs.RunState.{RunState, StageInRun}
+use Rattle.run_work.specs.RunState.{CommandInRun, DeviceFlush, FoundHeads, MetadataCommand, PageRead, PageWrite}
+use Rattle.run_work.specs.RunState.{RowsInRun, RunState, StageInRun}
 use Rattle.run_work.specs.Reading.{has_any, is_frozen_at, is_in_use, is_there, meets_frozen}
 use Rattle.run_work.specs.Work.{one_if}
 use Rattle.run_work.specs.Following.{ActorInRun, ChannelActs, MetadataActs}
-use Rattle.run_work.specs.Steps.{all_ended, can_at, can_channel, can_metadata, can_move, ended_below, has_ended}
-use Rattle.run_work.specs.RunFacts.{awaited, is_that, occurs, RunFacts}
+use Rattle.run_work.specs.RunFacts.{awaited, is_from, occurs, RunFacts}
 
 -- what holds of a metadata thread that can't move
 record IsIdle (w : RunState) : Type 0 where
@@ -32,7 +34,7 @@ none_there : {X : Type 0} → (o : Option X) → is_there o ≡ false → o ≡ 
 none_there None is = refl
 none_there (Some x) is = absurd (cc is)
 
-none_in : (l : List ℕ) → has_any l ≡ false → l ≡ []
+none_in : (l : List Msg) → has_any l ≡ false → l ≡ []
 none_in [] is = refl
 none_in (x ∷ l) is = absurd (cc is)
 
@@ -66,13 +68,13 @@ isnt_true : (t : Bool) → (t ≡ true → ⊥) → t ≡ false
 isnt_true true no_true = absurd (no_true refl)
 isnt_true false no_true = refl
 
-able : (free sends : Bool) (s : StageInRun) → free ≡ true → (s ≡ AtPosted → sends ≡ true) → (s ≡ AtInJob → ⊥)
-    → has_ended s ≡ false → can_at free sends s ≡ true
+able : (free sends : Bool) (s : StageInRun) → free ≡ true → ((n : ℕ) → s ≡ AtPosted n → sends ≡ true)
+    → (s ≡ AtInJob → ⊥) → has_ended s ≡ false → can_at free sends s ≡ true
 able free sends AtIdle w p j e = w
 able free sends AtClaiming w p j e = w
 able free sends (AtCopying n) w p j e = refl
 able free sends AtReady w p j e = refl
-able free sends AtPosted w p j e = p refl
+able free sends (AtPosted n) w p j e = p n refl
 able free sends AtInJob w p j e = absurd (j refl)
 able free sends AtDecided w p j e = refl
 able free sends AtEnded w p j e = absurd (cc e)
@@ -92,17 +94,19 @@ can_go w ch f stuck low goes =
     let free = free_by w.frozen w.finds
     (λ h. isnt_true (w.frozen h) (λ is. absurd (cc (sym (f.frozen h is).1 ∙ i.job)))) (w.rows ch).left in
     let in_job : (w.rows ch).stage ≡ AtInJob → ⊥ = λ is. absurd (cc (sym (f.in_job ch is).1 ∙ i.job)) in
-    let sends : (w.rows ch).stage ≡ AtPosted → (w.unsent ch && nat_lt (length w.queue) 8) ≡ true = λ is.
+    let sends : (n : ℕ) → (w.rows ch).stage ≡ AtPosted n
+    → can_send w ch ≡ true = λ n is.
     let one = f.counted ch ∙ ap (awaited ch) is ∙ ap one_if (below_is ch 16 low) in
     let queue = ap (occurs ch) i.queue in
-    let held = ap (is_that ch) i.held in
+    let held = ap (is_from ch) i.held in
     let waiting = ap (occurs ch) i.waiting in
-    let fill = ap (is_that ch) i.fill in
-    let unsent : w.unsent ch ≡ true = is_one (w.unsent ch) (omega (arith, one, queue, held, waiting, fill)) in
+    let fill = ap (is_from ch) i.fill in
+    let unsent : is_there (w.unsent ch) ≡ true =
+    is_one (is_there (w.unsent ch)) (omega (arith, one, queue, held, waiting, fill)) in
     ap (λ t. t && nat_lt (length w.queue) 8) unsent ∙ ap (λ q. nat_lt (length q) 8) i.queue in
-    ap (λ t. t && can_at (not (meets_frozen w.frozen w.finds (w.rows ch).left))
-    (w.unsent ch && nat_lt (length w.queue) 8) (w.rows ch).stage) (below_is ch 16 low)
-    ∙ able (not (meets_frozen w.frozen w.finds (w.rows ch).left)) (w.unsent ch && nat_lt (length w.queue) 8)
+    ap (λ t. t && can_at (is_free_at w ch)
+    (can_send w ch) (w.rows ch).stage) (below_is ch 16 low)
+    ∙ able (is_free_at w ch) (can_send w ch)
     (w.rows ch).stage free sends in_job goes
 
 -- ---- some actor, or none
@@ -154,7 +158,7 @@ cannot_at free sends AtIdle is = absurd (cc is)
 cannot_at free sends AtClaiming is = absurd (cc is)
 cannot_at free sends (AtCopying n) is = absurd (cc is)
 cannot_at free sends AtReady is = absurd (cc is)
-cannot_at free sends AtPosted is = absurd (cc is)
+cannot_at free sends (AtPosted n) is = absurd (cc is)
 cannot_at free sends AtInJob is = absurd (cc is)
 cannot_at free sends AtDecided is = absurd (cc is)
 
@@ -165,10 +169,10 @@ no_actor w MetadataActs all =
 no_actor w (ChannelActs ch) all = go (nat_lt ch 16) refl
   where
     go : (t : Bool) → nat_lt ch 16 ≡ t → (t
-        && can_at (not (meets_frozen w.frozen w.finds (w.rows ch).left)) (w.unsent ch && nat_lt (length w.queue) 8)
+        && can_at (is_free_at w ch) (can_send w ch)
         (w.rows ch).stage) ≡ false
     go false is = refl
     go true is =
-        cannot_at (not (meets_frozen w.frozen w.finds (w.rows ch).left)) (w.unsent ch && nat_lt (length w.queue) 8)
+        cannot_at (is_free_at w ch) (can_send w ch)
         (w.rows ch).stage
         (ended_at w.rows 16 ch (grind (arith, nat_tests)) (both (ended_below w.rows 16) (not (can_metadata w)) all).0)

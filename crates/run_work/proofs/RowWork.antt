@@ -1,8 +1,7 @@
 -- The work of the rows, where one changes, and where all may be doomed.
-use Rattle.std.proofs.Common.{◌≡◌, ℕ, ◌+◌, ◌*◌, ◌<◌, ◌≤◌, Option, Bool, true, false, List}
-use Rattle.std.proofs.Common.{sym, ◌∙◌, ap, subst, arith}
-use Rattle.run_work.specs.RunState.{BlobsInRun, ClaimInRun, CommandInRun, FoundHeads}
-use Rattle.run_work.specs.RunState.{RowInRun, RowsInRun, RunSizes, RunState, StageInRun}
+use Rattle.std.proofs.Common.{◌≡◌, ℕ, ◌+◌, ◌*◌, ◌<◌, ◌≤◌, Option, Bool, true, false, List, sym, ◌∙◌, ap, subst, arith}
+use Rattle.run_work.specs.RunState.{BlobsInRun, ClaimInRun, CommandInRun, FoundHeads, RowInRun, RowsInRun, RunSizes}
+use Rattle.run_work.specs.RunState.{RunState, StageInRun}
 use Rattle.run_work.specs.Reading.{with_row_in_run}
 use Rattle.run_work.specs.Work.{again_if, again_work, base_work, is_row_doomed, row_work, rows_work}
 use Rattle.run_work.specs.ChannelMoves.{moved_row}

@@ -1,42 +1,48 @@
 -- Messages that are served, and the job that rows wait for and blobs are frozen by.
-use Rattle.std.proofs.Common.{◌≡◌, ◌≢◌, inl, inr, ℕ, ◌+◌, ◌≤◌, nat_lt, if◌then◌else◌, Option, Some, None, Bool, true, false}
-use Rattle.std.proofs.Common.{List, [], ◌∷◌, refl, sym, ◌∙◌, ap, arith}
+use Rattle.std.proofs.Common.{◌==◌, subst, ◌≡◌, ◌≢◌, inl, inr, ℕ, ◌+◌, ◌≤◌, nat_lt, if◌then◌else◌, Option, Some, None}
+use Rattle.std.proofs.Common.{Bool, true, false, List, [], ◌∷◌, refl, sym, ◌∙◌, ap, arith}
 use Rattle.std.proofs.lemmas.Bool.Decides.{eqb_tells}
-use Rattle.run_work.specs.RunState.{AtPosted, JobInRun, PhaseInRun}
-use Rattle.run_work.specs.RunState.{RunState}
-use Rattle.run_work.specs.Reading.{frozen_left, frozen_set, job_left}
+use Rattle.volume_model.specs.declared.reply.Msg.{Msg}
+use Rattle.run_work.specs.RunState.{AtPosted, JobInRun, PhaseInRun, RunState}
+use Rattle.run_work.specs.Reading.{frozen_left, frozen_set, is_there, job_left}
 use Rattle.run_work.specs.Work.{one_if}
-use Rattle.run_work.specs.ServingMoves.{Serves}
-use Rattle.run_work.specs.ServingMoves.{the_first, the_held, the_own, WaitsInJob}
-use Rattle.run_work.specs.RunFacts.{awaited, is_that, occurs, on_the_way, RunFacts}
+use Rattle.run_work.specs.ServingMoves.{Serves, TakesOut, the_first, the_held, the_message, the_own, WaitsInJob}
+use Rattle.run_work.specs.RunFacts.{awaited, in_queue, is_filled_for, is_from, is_held, is_waiting, IsAmongThese}
+use Rattle.run_work.specs.RunFacts.{IsOneOf, IsOnTheWay, not_sent, occurs, on_the_way, RunFacts}
 use Rattle.run_work.proofs.Changing.{FrozenBy, itself, other}
 
 -- ---- messages that are served
 
--- what is held or waits of the other channels stays
-pub others_wait : (w : RunState) (ch : ℕ) (held : Option ℕ) (waiting : List ℕ) → Serves w ch held waiting → (k : ℕ)
-    → k ≢ ch → is_that k held + occurs k waiting ≡ is_that k w.held + occurs k w.waiting
-others_wait w ch held waiting (the_held was none same) k ne =
-    let a = ap (is_that k) was in
-    let b = ap (is_that k) none in
+-- what is taken out is held no more, or waits no more
+pub taken_out : (w : RunState) (m : Msg) (held : Option Msg) (waiting : List Msg) → TakesOut w m held waiting → (k : ℕ)
+    → is_from k held + occurs k waiting + one_if (k == m.channel) ≡ is_from k w.held + occurs k w.waiting
+taken_out w m held waiting (the_held was none same) k =
+    let a = ap (is_from k) was in
+    let b = ap (is_from k) none in
     let c = ap (occurs k) same in
-    let no_match = other k ch ne in
-    omega (arith, a, b, c, no_match)
-others_wait w ch held waiting (the_first same first) k ne =
-    let a = ap (is_that k) same in
+    omega (arith, a, b, c)
+taken_out w m held waiting (the_first same first) k =
+    let a = ap (is_from k) same in
     let b = ap (occurs k) first in
-    let no_match = other k ch ne in
-    omega (arith, a, b, no_match)
+    omega (arith, a, b)
+
+-- what is held or waits of the other channels stays
+pub others_wait : (w : RunState) (ch : ℕ) (held : Option Msg) (waiting : List Msg) → Serves w ch held waiting → (k : ℕ)
+    → k ≢ ch → is_from k held + occurs k waiting ≡ is_from k w.held + occurs k w.waiting
+others_wait w ch held waiting (the_message m channel takes) k ne =
+    let all = taken_out w m held waiting takes k in
+    let no_match = other k m.channel (λ is. ne (is ∙ channel)) in
+    omega (arith, all, no_match)
 others_wait w ch held waiting (the_own own same too) k ne =
-    let a = ap (is_that k) same in
+    let a = ap (is_from k) same in
     let b = ap (occurs k) too in
     omega (arith, a, b)
 
 -- the message that is served was the only one of its channel
-pub none_left : (w : RunState) (ch : ℕ) (held : Option ℕ) (waiting : List ℕ) → RunFacts w → Serves w ch held waiting
-    → (w.rows ch).stage ≡ AtPosted
-    → one_if (w.unsent ch) + occurs ch w.queue + is_that ch held + occurs ch waiting + is_that ch w.fill ≡ 0
-none_left w ch held waiting f serves at = go serves
+pub none_left : (w : RunState) (ch serial : ℕ) (held : Option Msg) (waiting : List Msg) → RunFacts w
+    → Serves w ch held waiting → (w.rows ch).stage ≡ AtPosted serial
+    → one_if (is_there (w.unsent ch)) + occurs ch w.queue + is_from ch held + occurs ch waiting + is_from ch w.fill ≡ 0
+none_left w ch serial held waiting f serves at = go serves
   where
     all : on_the_way w ch ≡ one_if (nat_lt ch 16)
     all = f.counted ch ∙ ap (awaited ch) at
@@ -49,23 +55,48 @@ none_left w ch held waiting f serves at = go serves
     most = one_most (nat_lt ch 16)
 
     go : Serves w ch held waiting
-        → one_if (w.unsent ch) + occurs ch w.queue + is_that ch held + occurs ch waiting + is_that ch w.fill ≡ 0
-    go (the_held was none same) =
-        let a = ap (is_that ch) was in
-        let b = ap (is_that ch) none in
-        let c = ap (occurs ch) same in
-        let one = itself ch in
-        omega (arith, all, most, a, b, c, one)
-    go (the_first same first) =
-        let a = ap (is_that ch) same in
-        let b = ap (occurs ch) first in
-        let one = itself ch in
-        omega (arith, all, most, a, b, one)
+        → one_if (is_there (w.unsent ch)) + occurs ch w.queue + is_from ch held + occurs ch waiting
+        + is_from ch w.fill ≡ 0
+    go (the_message m channel takes) =
+        let out = taken_out w m held waiting takes ch in
+        let one : one_if (ch == m.channel) ≡ 1 = ap (λ k. one_if (ch == k)) channel ∙ itself ch in
+        omega (arith, all, most, out, one)
     go (the_own own same too) =
-        let a = ap (is_that ch) same in
+        let a = ap (is_from ch) same in
         let b = ap (occurs ch) too in
         let none : one_if (nat_lt ch 16) ≡ 0 = ap (λ k. one_if (nat_lt k 16)) own in
         omega (arith, all, none, a, b)
+
+-- what is on its way behind the taking out of a message was before
+pub ways_out : (w : RunState) (x : Msg) (held : Option Msg) (waiting : List Msg) → TakesOut w x held waiting → (m : Msg)
+    → IsAmongThese w.unsent w.queue held waiting w.fill m → IsOnTheWay w m
+ways_out w x held waiting takes m (not_sent is) = not_sent is
+ways_out w x held waiting takes m (in_queue is) = in_queue is
+ways_out w x held waiting takes m (is_filled_for is) = is_filled_for is
+ways_out w x held waiting (the_held was none same) m (is_held is) = absurd (cc (sym none ∙ is))
+ways_out w x held waiting (the_first same first) m (is_held is) = is_held (sym same ∙ is)
+ways_out w x held waiting (the_held was none same) m (is_waiting is) = is_waiting (subst (IsOneOf m) same is)
+ways_out w x held waiting (the_first same first) m (is_waiting is) = is_waiting (subst (IsOneOf m) (sym first) (inr is))
+
+-- or behind the serving of a row
+pub ways_served : (w : RunState) (ch : ℕ) (held : Option Msg) (waiting : List Msg) → Serves w ch held waiting
+    → (m : Msg) → IsAmongThese w.unsent w.queue held waiting w.fill m → IsOnTheWay w m
+ways_served w ch held waiting (the_message x channel takes) m way = ways_out w x held waiting takes m way
+ways_served w ch held waiting (the_own own same too) m (not_sent is) = not_sent is
+ways_served w ch held waiting (the_own own same too) m (in_queue is) = in_queue is
+ways_served w ch held waiting (the_own own same too) m (is_held is) = is_held (sym same ∙ is)
+ways_served w ch held waiting (the_own own same too) m (is_waiting is) = is_waiting (subst (IsOneOf m) too is)
+ways_served w ch held waiting (the_own own same too) m (is_filled_for is) = is_filled_for is
+
+-- the same without the fill's
+pub ways_unfilled : (w : RunState) (held : Option Msg) (waiting : List Msg) (fill : Option Msg) → fill ≡ None
+    → (m : Msg) → IsAmongThese w.unsent w.queue held waiting fill m
+    → IsAmongThese w.unsent w.queue held waiting w.fill m
+ways_unfilled w held waiting fill none m (not_sent is) = not_sent is
+ways_unfilled w held waiting fill none m (in_queue is) = in_queue is
+ways_unfilled w held waiting fill none m (is_held is) = is_held is
+ways_unfilled w held waiting fill none m (is_waiting is) = is_waiting is
+ways_unfilled w held waiting fill none m (is_filled_for is) = absurd (cc (sym none ∙ is))
 
 -- ---- jobs
 

@@ -1,12 +1,11 @@
 -- The moves of a row: what a turn, or the sending of a message, changes in a run. What a move doesn't name stays.
-use Rattle.std.specs.Prelude.{◌≡◌, ◌≢◌, ℕ, suc, ◌<◌, ◌≤◌, Some, None, Bool, true, false, List, [], ◌∷◌, ◌++◌}
+use Rattle.std.specs.Prelude.{◌≡◌, ◌≢◌, ℕ, suc, ◌<◌, ◌≤◌, Option, Some, None, Bool, true, false, List, [], ◌∷◌, ◌++◌}
 use Rattle.std.specs.Prelude.{length}
 use Rattle.volume_model.specs.declared.command.VolumeRef.{VolumeRef}
 use Rattle.run_work.specs.RunState.{AtClaiming, AtCopying, AtDecided, AtEnded, AtIdle, AtPosted, AtReady, BlobInRun}
 use Rattle.run_work.specs.RunState.{ClaimInRun, CommandInRun, MetadataCommand, PageWrite, RowInRun, RunSizes, RunState}
 use Rattle.run_work.specs.RunState.{StageInRun}
-use Rattle.run_work.specs.Reading.{is_filled, logged_at, row_at, slot_in, stage_of_copy, unclaimed_at}
-use Rattle.run_work.specs.Reading.{with_row_in_run}
+use Rattle.run_work.specs.Reading.{is_filled, logged_at, row_at, slot_in, stage_of_copy, unclaimed_at, with_row_in_run}
 use Rattle.run_work.specs.Work.{is_doomed}
 
 -- the state with one row changed
@@ -92,14 +91,16 @@ module _ (z : RunSizes) where
     pub lost : is_doomed w.blobs held ≡ true
     pub next : v ≡ moved_row w ch (unclaimed_at (w.rows ch) AtIdle)
 
-  -- The row is posted, and a channel has the message still to send. (The metadata thread serves its own row itself.)
+  -- The row is posted under a serial, and a channel has the message still to send. (The metadata thread serves its own
+  -- row itself.)
   pub record PostMove (w : RunState) (ch : ℕ) (v : RunState) : Type 0 where
     pub from : PostsFrom w ch
-    pub unsent : ℕ → Bool
-    pub message : ch < 16 → unsent ch ≡ true
+    pub serial : ℕ
+    pub unsent : ℕ → Option ℕ
+    pub message : ch < 16 → unsent ch ≡ Some serial
     pub no_message : 16 ≤ ch → unsent ch ≡ w.unsent ch
     pub others : (k : ℕ) → k ≢ ch → unsent k ≡ w.unsent k
-    pub next : v ≡ record (moved_row w ch (row_at (w.rows ch) AtPosted)) { unsent = unsent }
+    pub next : v ≡ record (moved_row w ch (row_at (w.rows ch) (AtPosted serial))) { unsent = unsent }
 
   -- the row takes the word of what was decided of it
   pub record SettleMove (w : RunState) (ch : ℕ) (v : RunState) : Type 0 where
@@ -125,12 +126,13 @@ module _ (z : RunSizes) where
 
   -- the message of a row is sent, where fewer than 8 are queued
   pub record SendMove (w : RunState) (ch : ℕ) (v : RunState) : Type 0 where
-    pub unsent : ℕ → Bool
-    pub waits : w.unsent ch ≡ true
-    pub sent : unsent ch ≡ false
+    pub serial : ℕ
+    pub unsent : ℕ → Option ℕ
+    pub waits : w.unsent ch ≡ Some serial
+    pub sent : unsent ch ≡ None
     pub others : (k : ℕ) → k ≢ ch → unsent k ≡ w.unsent k
     pub room : length w.queue < 8
-    pub next : v ≡ record w { unsent = unsent; queue = w.queue ++ ch ∷ [] }
+    pub next : v ≡ record w { unsent = unsent; queue = w.queue ++ record { channel = ch; serial = serial } ∷ [] }
 
   -- the moves of a write that finds its slot empty, on a channel's row or on the metadata thread's own
   pub data RowMove (w : RunState) (ch : ℕ) (v : RunState) : Type 0 where

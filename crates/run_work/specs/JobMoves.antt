@@ -1,8 +1,8 @@
 -- The moves of a job's turns.
 use Rattle.std.specs.Prelude.{◌≡◌, ◌≢◌, ℕ, ◌<◌, ◌≤◌, Some, None, Bool, true, false, List, [], ◌∷◌}
-use Rattle.run_work.specs.RunState.{AtDecided, AtInJob, BlobInRun, BlobsInRun, CommandInRun, CommitPhase}
-use Rattle.run_work.specs.RunState.{FoundHeads, InsertPhase, JobInRun, MetadataCommand, PagePhase, PhaseInRun}
-use Rattle.run_work.specs.RunState.{ReplacementPhase, RunSizes, RunState}
+use Rattle.run_work.specs.RunState.{AtDecided, AtInJob, BlobInRun, BlobsInRun, CommandInRun, CommitPhase, FoundHeads}
+use Rattle.run_work.specs.RunState.{InsertPhase, JobInRun, MetadataCommand, PagePhase, PhaseInRun, ReplacementPhase}
+use Rattle.run_work.specs.RunState.{RunSizes, RunState}
 use Rattle.run_work.specs.Reading.{asks_metadata, frozen_left, job_left, logged_at, slot_in, stage_after_insert}
 use Rattle.run_work.specs.Reading.{unclaimed_at, with_filled}
 use Rattle.run_work.specs.Work.{commit_is_left, empty_in}

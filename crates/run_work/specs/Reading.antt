@@ -1,8 +1,9 @@
 -- What a state of a run says: slots, first commands, and its parts with something changed.
-use Rattle.std.specs.Prelude.{ℕ, zero, suc, ◌==◌, if◌then◌else◌, Option, Some, None, Bool, true, false, not, List, [], ◌∷◌}
+use Rattle.std.specs.Prelude.{ℕ, zero, suc, ◌==◌, if◌then◌else◌, Option, Some, None, Bool, true, false, not, List, []}
+use Rattle.std.specs.Prelude.{◌∷◌}
 use Rattle.run_work.specs.RunState.{AtCopying, AtDecided, AtEnded, AtIdle, AtInJob, AtReady, BlobInRun, BlobsInRun}
-use Rattle.run_work.specs.RunState.{CommandInRun, FoundHeads, JobInRun, MetadataCommand, PageRead, PageWrite, PhaseInRun}
-use Rattle.run_work.specs.RunState.{RowInRun, RowsInRun, StageInRun}
+use Rattle.run_work.specs.RunState.{CommandInRun, FoundHeads, JobInRun, MetadataCommand, PageRead, PageWrite}
+use Rattle.run_work.specs.RunState.{PhaseInRun, RowInRun, RowsInRun, StageInRun}
 
 -- ---- slots
 
@@ -111,6 +112,6 @@ abbrev pub is_there : {X : Type 0} → Option X → Bool
 is_there None = false
 is_there (Some x) = true
 
-abbrev pub has_any : List ℕ → Bool
+abbrev pub has_any : {X : Type 0} → List X → Bool
 has_any [] = false
 has_any (x ∷ xs) = true

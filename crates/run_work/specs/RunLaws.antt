@@ -1,5 +1,6 @@
 -- The laws of runs: every move lowers the work, what every state has is kept, some actor can move, and rounds end.
 use Rattle.std.specs.Prelude.{◌≡◌, ◌⊎◌, ℕ, ◌+◌, ◌<◌, ◌≤◌, Some, None, true, false, List, ◌∷◌}
+use Rattle.volume_model.specs.declared.reply.Msg.{Msg}
 use Rattle.run_work.specs.RunState.{AtInJob, AtPosted, JobInRun, RunSizes, RunState}
 use Rattle.run_work.specs.Reading.{has_any, is_in_use}
 use Rattle.run_work.specs.Work.{work}
@@ -9,7 +10,7 @@ use Rattle.run_work.specs.Following.{ActorInRun}
 use Rattle.run_work.specs.Following as following
 use Rattle.run_work.specs.Steps.{all_ended, at_turn, can_channel, can_metadata, can_move, CloseStep, due_in, FillStep}
 use Rattle.run_work.specs.Steps.{has_ended, JobStep, MessageStep, MetadataMove, RunFollows, StepOf, TakeStep}
-use Rattle.run_work.specs.RunFacts.{at_start, on_the_way, RunFacts}
+use Rattle.run_work.specs.RunFacts.{at_start, IsOnTheWay, RunFacts}
 
 -- with a row for each channel and one for the metadata thread
 pub record WorkLaws : Type 0 where
@@ -23,7 +24,8 @@ pub record WorkLaws : Type 0 where
       → (work z v < work z w) ⊎ ((can_move w actor ≡ false) × (v ≡ w))
 
 pub record FactLaws : Type 0 where
-  -- whatever the stages of its rows, a store whose job is waited for and freezes blobs is one that a driver can start on
+  -- A driver can start on a store at whatever stages its rows are, if a row in the job waits for it, and a frozen blob
+  -- is the job's.
   pub start : (w : RunState)
       → ((h : ℕ) → w.frozen h ≡ true → (job : JobInRun) × (w.job ≡ Some job) × (job.freeze ≡ Some h))
       → ((ch : ℕ) → (w.rows ch).stage ≡ AtInJob → WaitsInJob w ch) → RunFacts (at_start w)
@@ -32,9 +34,9 @@ pub record FactLaws : Type 0 where
   pub metadata : (z : RunSizes) (w v : RunState) → RunFacts w → MetadataMove z w v → RunFacts v
   pub turn : (w : RunState) → RunFacts w → RunFacts (at_turn w)
   pub step : (z : RunSizes) (actor : ActorInRun) (w v : RunState) → RunFacts w → StepOf z actor w v → RunFacts v
-  -- no message is stale: the row of one that is on its way is a channel's, and is posted
-  pub posted : (w : RunState) (ch : ℕ) → RunFacts w → 0 < on_the_way w ch
-      → (ch < 16) × ((w.rows ch).stage ≡ AtPosted)
+  -- no message is stale: the row of one that is on its way is a channel's, and is posted under its serial
+  pub posted : (w : RunState) (m : Msg) → RunFacts w → IsOnTheWay w m
+      → (m.channel < 16) × ((w.rows m.channel).stage ≡ AtPosted m.serial)
 
 -- What stands where a step of the metadata thread is due that can move.
 pub record DueLaws : Type 0 where
@@ -42,11 +44,11 @@ pub record DueLaws : Type 0 where
   pub close : (w : RunState) → due_in w ≡ CloseStep
       → (w.job ≡ None) × (w.fill ≡ None) × (is_in_use (w.rows 16).stage ≡ true)
   pub fill : (w : RunState) → due_in w ≡ FillStep
-      → (w.job ≡ None) × (w.held ≡ None) × ((ch : ℕ) × (w.fill ≡ Some ch))
+      → (w.job ≡ None) × (w.held ≡ None) × ((m : Msg) × (w.fill ≡ Some m))
   pub take : (w : RunState) → can_metadata w ≡ true → due_in w ≡ TakeStep
       → (w.job ≡ None) × (w.held ≡ None) × (has_any w.queue ≡ true)
-  pub message : (w : RunState) (ch : ℕ) → due_in w ≡ MessageStep ch
-      → (w.job ≡ None) × ((w.held ≡ Some ch) ⊎ ((rest : List ℕ) × (w.held ≡ None) × (w.waiting ≡ ch ∷ rest)))
+  pub message : (w : RunState) (m : Msg) → due_in w ≡ MessageStep m
+      → (w.job ≡ None) × ((w.held ≡ Some m) ⊎ ((rest : List Msg) × (w.held ≡ None) × (w.waiting ≡ m ∷ rest)))
 
 pub record ProgressLaws : Type 0 where
   -- where the metadata thread can't move, every channel that hasn't ended can

@@ -1,6 +1,7 @@
 -- What the work of a run is computed from: of a running store and of the driver of its run a few plain values.
 use Rattle.std.specs.Prelude.{ℕ, Option, Bool, List}
 use Rattle.volume_model.specs.declared.command.VolumeRef.{VolumeRef}
+use Rattle.volume_model.specs.declared.reply.Msg.{Msg}
 
 -- What a command is in a run: a page of a volume is read; a page is written, in a slot of a volume; the device is
 -- flushed; or the metadata thread serves it.
@@ -16,10 +17,11 @@ pub record ClaimInRun : Type 0 where
   pub slot : ℕ
   pub generation : ℕ
 
--- how far the first command of a row has come, without serials and outcomes
+-- how far the first command of a row has come, without outcomes
 pub data StageInRun : Type 0 where
-  AtIdle AtClaiming AtReady AtPosted AtInJob AtDecided AtEnded : StageInRun
+  AtIdle AtClaiming AtReady AtInJob AtDecided AtEnded : StageInRun
   AtCopying : (left : ℕ) → StageInRun
+  AtPosted : (serial : ℕ) → StageInRun
 
 pub record RowInRun : Type 0 where
   pub left : List CommandInRun
@@ -53,20 +55,20 @@ pub record JobInRun : Type 0 where
   pub freeze : Option ℕ
 
 -- Of the store: its blobs, what references mean, the rows, the job, which blobs are frozen. The rows below 16 are those
--- of the channels, and row 16 is the metadata thread's own, on which it fills slots. Of the driver, messages by their
--- channels: who has one still to send, what is queued, what the metadata thread took and holds, which commands wait
--- behind a fill, and the command whose fill goes on.
+-- of the channels, and row 16 is the metadata thread's own, on which it fills slots. Of the driver its messages: the
+-- serial of one that a channel has still to send, those that are queued, the one that the metadata thread took and
+-- holds, those whose commands wait behind a fill, and that of the command whose fill goes on.
 pub record RunState : Type 0 where
   pub blobs : BlobsInRun
   pub finds : FoundHeads
   pub rows : RowsInRun
   pub job : Option JobInRun
   pub frozen : ℕ → Bool
-  pub unsent : ℕ → Bool
-  pub queue : List ℕ
-  pub held : Option ℕ
-  pub waiting : List ℕ
-  pub fill : Option ℕ
+  pub unsent : ℕ → Option ℕ
+  pub queue : List Msg
+  pub held : Option Msg
+  pub waiting : List Msg
+  pub fill : Option Msg
 
 -- Numbers that are fixed for a run: the pages of a cluster, the most turns of an insert's job, the most turns and the
 -- most replacements of any job, the most slots of a blob, how many rows there are, and how many heads there may be.

@@ -1,11 +1,12 @@
 -- The work that is left in a run: a number that every move lowers.
-use Rattle.std.specs.Prelude.{ℕ, zero, suc, ◌+◌, ◌*◌, if◌then◌else◌, Option, Some, None, Bool, true, false, ◌&&◌, not, List}
-use Rattle.std.specs.Prelude.{[], ◌∷◌, length}
+use Rattle.std.specs.Prelude.{ℕ, zero, suc, ◌+◌, ◌*◌, if◌then◌else◌, Option, Some, None, Bool, true, false, ◌&&◌, not}
+use Rattle.std.specs.Prelude.{List, [], ◌∷◌, length}
+use Rattle.volume_model.specs.declared.reply.Msg.{Msg}
 use Rattle.run_work.specs.RunState.{AtClaiming, AtCopying, AtDecided, AtEnded, AtIdle, AtInJob, AtPosted, AtReady}
-use Rattle.run_work.specs.RunState.{BlobInRun, BlobsInRun, ClaimInRun, CommandInRun, CommitPhase, FoundHeads, InsertPhase}
-use Rattle.run_work.specs.RunState.{JobInRun, MetadataCommand, PageWrite, PhaseInRun, ReplacementPhase, RowInRun, RowsInRun}
-use Rattle.run_work.specs.RunState.{RunSizes, RunState, StageInRun}
-use Rattle.run_work.specs.Reading.{has_generation, is_empty, is_filled, is_in_use, slot_found, slot_in}
+use Rattle.run_work.specs.RunState.{BlobInRun, BlobsInRun, ClaimInRun, CommandInRun, CommitPhase, FoundHeads}
+use Rattle.run_work.specs.RunState.{InsertPhase, JobInRun, MetadataCommand, PageWrite, PhaseInRun, ReplacementPhase}
+use Rattle.run_work.specs.RunState.{RowInRun, RowsInRun, RunSizes, RunState, StageInRun}
+use Rattle.run_work.specs.Reading.{has_generation, is_empty, is_filled, is_in_use, is_there, slot_found, slot_in}
 
 abbrev pub sum_below : (ℕ → ℕ) → ℕ → ℕ
 sum_below f zero = 0
@@ -103,7 +104,7 @@ module _ (z : RunSizes) where
   stage_work AtClaiming = z.pages + z.insert_turns + 12
   stage_work (AtCopying left) = z.insert_turns + 9 + left
   stage_work AtReady = z.insert_turns + 9
-  stage_work AtPosted = z.insert_turns + 4
+  stage_work (AtPosted serial) = z.insert_turns + 4
   stage_work AtInJob = 0
   stage_work AtDecided = try_work + 1
   stage_work AtEnded = 0
@@ -134,12 +135,12 @@ module _ (z : RunSizes) where
       length j.phases + replacements_in j.phases * replacement_work + row_behind j.waits j.phases + 1
 
   -- a message is sent, taken, and joins those that wait or is served
-  abbrev pub held_work : Option ℕ → ℕ
+  abbrev pub held_work : Option Msg → ℕ
   held_work None = 0
   held_work (Some x) = 2
 
-  abbrev pub unsent_work : (ℕ → Bool) → ℕ
-  unsent_work unsent = sum_below (λ k. one_if (unsent k)) z.rows
+  abbrev pub unsent_work : (ℕ → Option ℕ) → ℕ
+  unsent_work unsent = sum_below (λ k. one_if (is_there (unsent k))) z.rows
 
   abbrev pub messages_work : RunState → ℕ
   messages_work w = 4 * unsent_work w.unsent + 3 * length w.queue + held_work w.held + length w.waiting
@@ -149,10 +150,10 @@ module _ (z : RunSizes) where
       slot_work * empties w.blobs + rows_work w.blobs w.finds w.rows + job_work w.job + messages_work w
 
   -- the metadata thread's own row, in use without a fill, has to be ended
-  abbrev pub to_end : Option ℕ → Bool → ℕ
+  abbrev pub to_end : Option Msg → Bool → ℕ
   to_end None true = try_work + 1
   to_end None false = 0
-  to_end (Some ch) used = 0
+  to_end (Some message) used = 0
 
   abbrev pub own_work : RunState → ℕ
   own_work w = to_end w.fill (is_in_use (w.rows 16).stage)
