@@ -54,7 +54,7 @@ CRATES = {
     "unclean_load": (2, 2, 4), "data_path": (5, 5, 4), "store_core": (4, 4, 5), "io_freeze": (3, 3, 6), "store_model": (4, 4, 6),
     "md_queue": (1, 1, 6),
     "md_chain": (2, 2, 7), "pools": (4, 4, 7), "blob_meta": (1, 1, 8), "md_page": (3, 3, 8),
-    "descriptors": (1, 1, 9), "super_block": (3, 3, 9),
+    "descriptors": (1, 1, 9), "run_work": (2, 2, 9), "super_block": (3, 3, 9),
     "volume_model": (1, 1, 10), "page_fields": (3, 3, 10), "bit_array": (4, 4, 10),
     "page_disk": (2, 6, 11), "out_of_memory": (1, 2, 12), "crc32c": (3, 6, 12),
 }
