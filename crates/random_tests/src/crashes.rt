@@ -43,12 +43,10 @@ fn stopped(
         disk,
     } = run(alloc, &done.script, FaultDisk::stopping(disk, calls))?;
     let count = answered(&done.lines, out.bytes());
-    let length = done
-        .lines
-        .iter()
-        .take(count)
-        .map(|line| line.len())
-        .sum::<usize>();
+    let mut length = 0usize;
+    for line in done.lines.iter().take(count) {
+        length = length.saturating_add(line.len());
+    }
     match out.bytes().get(length..) {
         Some(rest) if begins_with_fault(rest) => Ok((count, disk.into_inner())),
         _ => Err(Fail::new(format_args!("another answer than {count} is wanted in {calls} calls"))),

