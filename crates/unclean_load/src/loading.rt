@@ -4,7 +4,7 @@ ghost use Rattle.std.specs.Prelude.{◌≡◌, ◌≤◌, ◌+◌, ◌^◌, ℕ,
 ghost use Rattle.std.specs.FinMap as map;
 ghost use Rattle.blob_meta.specs.Resolving.{IsLawful, slots_together};
 ghost use Rattle.md_chain.specs.Reading.{OnlyRead};
-ghost use Rattle.store_core.specs.LoadedWhole.{AreMasks, IsWhole};
+ghost use Rattle.running_store.specs.LoadedWhole.{AreMasks, IsWhole};
 ghost use Rattle.store_model.specs.Regions.{region_of, look_of};
 ghost use Rattle.store_model.specs.Scans.{Says};
 ghost use Rattle.store_model.specs.RunInvariant.{AreLoadable, HaveChains};
