@@ -1,13 +1,13 @@
 -- The clusters in use once the rows have given their claims back, one after another.
-use Rattle.std.proofs.Common.{None, ◌≡◌, ◌≢◌, ℕ, zero, suc, ◌+◌, ◌<◌, ◌≤◌, Bool, List, [], length, sym, ◌∙◌, ap, subst, arith}
-use Rattle.std.proofs.Common.{add-one, inl, inr, refl}
+use Rattle.std.proofs.Common.{None, ◌≡◌, ℕ, zero, suc, ◌<◌, ◌≤◌, Bool, List, [], ◌∙◌, ap, subst, arith}
+use Rattle.std.proofs.Common.{inl, inr, refl}
 use Rattle.std.proofs.lemmas.Bool.{cases_eq, cases_lt}
 use Rattle.super_block.specs.declared.page.Super.{Super}
 use Rattle.pools.specs.Pool.{PoolState}
 use Rattle.store_model.specs.Claiming.{given_back}
 use Rattle.store_model.specs.Maps.{Metas}
 use Rattle.store_model.specs.Places.{claimed_by, Unclaimed, UsedClusters, without_claim}
-use Rattle.store_model.specs.Rows.{Idle, Row, Rows, with_row}
+use Rattle.store_model.specs.Rows.{Idle, Row, with_row}
 use Rattle.store_model.specs.RunInvariant.{RunsWell}
 use Rattle.store_model.specs.StoreState.{StoreState}
 use Rattle.store_model.proofs.Claims.{unclaimed_used}

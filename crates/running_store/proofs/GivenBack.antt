@@ -8,17 +8,15 @@ use Rattle.std.proofs.Math.ListN.{get_or-eq_default}
 use Rattle.bit_array.specs.Bits.{is_in}
 use Rattle.page_disk.specs.declared.disk.PageDisk.{Ghosts}
 use Rattle.volume_model.specs.declared.command.Command.{Command}
-use Rattle.volume_model.specs.declared.command.Command.TheVariants as c
 use Rattle.volume_model.specs.declared.reply.Reply.{Reply}
 use Rattle.volume_model.specs.declared.reply.Reply.TheVariants as r
 use Rattle.store_model.specs.Cases as kind
 use Rattle.store_model.specs.Cases.Halt.{MayLog, stage_after}
-use Rattle.store_model.specs.Claiming.{given_back, IsCopying, LogsOwn, own}
+use Rattle.store_model.specs.Claiming.{given_back}
 use Rattle.store_model.specs.Places.{without_claim}
 use Rattle.store_model.specs.Rows.{Claiming, Copying, Idle, OpenClaim, Ready, Row, Rows, Stage}
 use Rattle.store_model.specs.StoreState.{logged_here, logged_to, StoreState}
-use Rattle.store_model.specs.Turning.{stopped_now}
-use Rattle.running_store.specs.Steps.{logged_on, stopped_here}
+use Rattle.running_store.specs.Steps.{logged_on}
 use Rattle.running_store.specs.GivingBack.{IsOwnStage, row_given_back, WaitsHere}
 use Rattle.running_store.specs.declared.stages.OpenClaim as held
 use Rattle.running_store.specs.Stages.{claim_seen}

@@ -10,7 +10,7 @@ use Rattle.page_disk.specs.declared.disk.PageDisk.{Ghosts}
 use Rattle.volume_model.specs.declared.command.Command.{Command}
 use Rattle.volume_model.specs.declared.reply.Reply.{Reply}
 use Rattle.store_model.specs.Rows.{Row, Rows, Answered, Decided, Ended, Stage, with_row, entry_of}
-use Rattle.store_model.specs.StoreState.{logged, logged_to, StoreState}
+use Rattle.store_model.specs.StoreState.{logged, logged_to}
 use Rattle.running_store.specs.StoreView.{StoreView, device_of, rows_of, state_of}
 use Rattle.running_store.specs.Steps.{left_at, logged_at, logged_then, OnlyRow, with_row_at}
 

@@ -1,7 +1,6 @@
-use Rattle.std.proofs.Common.{◌≡◌, false, Option, Some, None, refl, sym, ◌∙◌, ap}
+use Rattle.std.proofs.Common.{◌≡◌, false, Option, Some, None, refl, sym, ◌∙◌}
 use Rattle.std.specs.Prelude.{is_some}
 use Rattle.std.specs.Option.{option_map}
-use Rattle.store_model.specs.Rows.{OpenClaim}
 use Rattle.running_store.specs.Stages.{claim_seen}
 use Rattle.running_store.specs.declared.stages.OpenClaim as held
 use Rattle.running_store.proofs.Requested.{first_got, none_got}

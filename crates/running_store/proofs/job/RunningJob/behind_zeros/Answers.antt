@@ -1,4 +1,4 @@
-use Rattle.std.proofs.Common.{◌≤◌, ◌+◌, ◌<◌, length, arith}
+use Rattle.std.proofs.Common.{arith}
 use Rattle.running_store.proofs.ZeroPages.{cluster_more, none_more, page_more}
 use Rattle.running_store.proofs.job.RunningJob.behind_zeros.Goals as goal
 
