@@ -23,8 +23,8 @@ use crate::super_page::super_on;
 use crate::walking::{Blobs, blobs_on};
 use blob_meta::{Chains, Metas, ReplacementList};
 use page_disk::PageDisk;
+use running_store::Loaded;
 use std::alloc::Global;
-use store_core::Loaded;
 use super_block::{Masks, Super};
 
 /// A store as it was read.
