@@ -17,7 +17,9 @@ ghost use Rattle.running_store.specs.Steps.{OnlyRow};
 use blob_meta::place_read;
 use io_freeze::Guards;
 use page_disk::PageDisk;
-use running_store::{OpenClaim, Running, Stage, give_back, give_up_here, halt_here, read_at, stop_here, write_one};
+use running_store::{
+    OpenClaim, Running, Stage, give_back, give_up_here, halt_here, read_at, stop_here, write_one,
+};
 use volume_model::Reply;
 
 /// What a copy of a page comes to.

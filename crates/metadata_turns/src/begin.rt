@@ -18,7 +18,9 @@ use crate::filling::fill_slots;
 use crate::preparing::{lack_beside_clusters, prepare};
 use blob_meta::{Job, Meta, Replacement};
 use page_disk::PageDisk;
-use running_store::{Running, RunningJob, clear_places, effects_of, first_of, halt, keeps_live, log};
+use running_store::{
+    Running, RunningJob, clear_places, effects_of, first_of, halt, keeps_live, log,
+};
 use volume_model::{Reply, SlotList};
 
 /// What the begin of a job comes to.
@@ -128,11 +130,7 @@ fn job_for<D: PageDisk>(
 
 /// Begins the job of one replacement, for the posted command of a channel, or, on a stopped store, logs that it is
 /// stopped.
-pub fn begin_or_halt<D: PageDisk>(
-    running: &mut Running<D>,
-    channel: u8,
-    job: Job,
-) -> BeginTurn
+pub fn begin_or_halt<D: PageDisk>(running: &mut Running<D>, channel: u8, job: Job) -> BeginTurn
     requires order { InOrder D.PageDisk running.old }
     requires channel { channel < 16 }
     requires posted { IsPostedAt (view_of running.old) channel }

@@ -22,7 +22,10 @@ use crate::preparing::{Prepared, prepare};
 use blob_meta::Meta;
 use out_of_memory::Memory;
 use page_disk::PageDisk;
-use running_store::{Decision, Effects, OpenClaim, Planned, Row, Running, RunningJob, Serves, Stage, Work, give_back, give_up};
+use running_store::{
+    Decision, Effects, OpenClaim, Planned, Row, Running, RunningJob, Serves, Stage, Work,
+    give_back, give_up,
+};
 use std::alloc::Global;
 use volume_model::{PlaceList, Reply, TryCopy};
 

@@ -12,7 +12,10 @@ ghost use Rattle.running_store.specs.StoreView.{state_of};
 use crate::adopting::adopt;
 use crate::telling::{break_off, fail, stage_behind, tell, win};
 use page_disk::PageDisk;
-use running_store::{Planned, Running, RunningJob, Serves, Work, Zeroed, clear_places, give_up, replace, waiting_for, write_last, write_one};
+use running_store::{
+    Planned, Running, RunningJob, Serves, Work, Zeroed, clear_places, give_up, replace,
+    waiting_for, write_last, write_one,
+};
 use super_block::Super;
 use volume_model::{PlaceList, Reply};
 

@@ -15,7 +15,9 @@ use descriptors::ItemList;
 use md_chain::{Plan, chain_len, plan_chain};
 use out_of_memory::Memory;
 use pools::PagePool;
-use running_store::{Effects, Planned, RunningJob, Serves, Work, Zeroed, clear_places, take_places};
+use running_store::{
+    Effects, Planned, RunningJob, Serves, Work, Zeroed, clear_places, take_places,
+};
 use std::alloc::Global;
 use volume_model::{PlaceList, Reply};
 

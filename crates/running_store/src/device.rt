@@ -29,11 +29,7 @@ pub fn write_one<D: PageDisk>(disk: &mut D, place: u64, page: &Page) -> Result<(
 
 /// Writes a page and flushes, in two device calls.
 #[tactic(auto, using(crate::proofs::Moving::moves, crate::proofs::Moving::fails))]
-pub fn write_last<D: PageDisk>(
-    disk: &mut D,
-    place: u64,
-    page: &Page,
-) -> Result<(), DiskFault>
+pub fn write_last<D: PageDisk>(disk: &mut D, place: u64, page: &Page) -> Result<(), DiskFault>
     requires { place < D.pages disk.old }
     ensures moves { OnOk result
         (WritesOnePage D.tells (device_of D.PageDisk disk.old) place page.now 2 (device_of D.PageDisk disk.new)) }

@@ -144,12 +144,7 @@ impl RunningJob {
     ghost use Rattle.running_store.specs.Running.{HasRoom, IsRoomy};
 
     /// The job behind a page of zeros: the next page of its clusters, or else its metadata, is to be written.
-    pub fn behind_zeros(
-        channel: u8,
-        planned: Planned,
-        zeroed: Zeroed,
-        old: PlaceList,
-    ) -> RunningJob
+    pub fn behind_zeros(channel: u8, planned: Planned, zeroed: Zeroed, old: PlaceList) -> RunningJob
         requires matched { IsMatched planned }
         requires clusters { zeroed.clusters < length planned.effects.claimed }
         requires pages { zeroed.pages < zeroed.cluster_pages }

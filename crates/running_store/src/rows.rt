@@ -174,7 +174,7 @@ impl Row {
     }
 
     /// How many commands are left.
-    pub(crate) fn len(&self) -> usize
+    pub fn len(&self) -> usize
         ensures { result ≡ length self.now.left }
     {
         self.left.len()

@@ -11,11 +11,7 @@ use volume_model::PlaceList;
 
 /// Takes so many of the least clear places, in their order; no place stays claimed. After `Memory` the pool is as
 /// before.
-pub fn take_places<K>(
-    alloc: Global,
-    pool: &mut Pool<K>,
-    count: u32,
-) -> Result<PlaceList, Memory>
+pub fn take_places<K>(alloc: Global, pool: &mut Pool<K>, count: u32) -> Result<PlaceList, Memory>
     requires unclaimed { pool.old.claims ≡ [] }
     requires enough { count ≤ clear_in pool.old.bits }
     ensures least { IfOk result (AreLeastClear pool.old.bits) }
