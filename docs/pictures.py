@@ -55,7 +55,7 @@ CRATES = {
     "channel_turns": (3, 3, 6), "metadata_turns": (4, 4, 6), "running_store": (3, 4, 7),
     "md_queue": (1, 1, 8), "io_freeze": (3, 3, 8), "store_model": (4, 4, 8),
     "md_chain": (2, 2, 9), "pools": (4, 4, 9), "blob_meta": (1, 1, 10), "md_page": (3, 3, 10),
-    "descriptors": (1, 1, 11), "super_block": (3, 3, 11),
+    "descriptors": (1, 1, 11), "run_work": (2, 2, 11), "super_block": (3, 3, 11),
     "volume_model": (1, 1, 12), "page_fields": (3, 3, 12), "bit_array": (4, 4, 12),
     "page_disk": (2, 6, 13), "out_of_memory": (1, 2, 14), "crc32c": (3, 6, 14),
 }

@@ -1,0 +1,60 @@
+//! The begin of a resize by the metadata thread.
+
+ghost use Rattle.std.specs.Prelude.{◌≡◌, IfSome, None, Some};
+ghost use Rattle.blob_tool.specs.Serving.{IsPlanOf};
+
+use blob_meta::{Job, least_heads_are_meant};
+use lvol_store::plan_resize;
+use page_disk::PageDisk;
+use std::alloc::Global;
+use store_core::{BeginTurn, MdRight, Plant, Request, plans};
+use volume_model::{Command, Msg, Reply};
+
+/// The job that is planned for a resize, or why it is refused; `None` for another command.
+fn planned<D: PageDisk>(
+    alloc: Global,
+    plant: &Plant<D>,
+    command: &Command,
+) -> Option<Result<Job, Reply>>
+    requires runs { plant.now.at.stopped ≡ None }
+    ensures { IfSome result (λ plan. IsPlanOf D.PageDisk plant.now.at command.now (Some plan)) }
+{
+    plans::<D>();
+    least_heads_are_meant();
+    plant.keeps();
+    let (metas, sup, new) = (plant.metas(), plant.sup(), plant.next_head());
+    match command {
+        Command::Resize { .. } => Some(plan_resize(alloc, metas, sup, command, new)),
+        _ => None,
+    }
+}
+
+/// Begins the resize that a message asks for, and tells what comes of it.
+pub fn begin_resize<D: PageDisk>(
+    alloc: Global,
+    plant: &mut Plant<D>,
+    right: &mut MdRight,
+    msg: Msg,
+) -> &'static str
+    requires right { right.old ≡ plant.old.right }
+    requires no_job { plant.old.at.job ≡ None }
+    requires runs { plant.old.at.stopped ≡ None }
+    ensures right { (right.new ≡ right.old) × (plant.new.right ≡ plant.old.right) }
+{
+    let Ok(Request::Meta(command)) = plant.request(right, msg) else {
+        return "no command";
+    };
+    let Some(plan) = planned(alloc, plant, command) else {
+        return "another command";
+    };
+    match plan {
+        Ok(job) => match plant.begin_job(right, msg, job) {
+            BeginTurn::Began => "began",
+            BeginTurn::Logged => "logged",
+        },
+        Err(reply) => {
+            plant.refuse(right, msg, reply);
+            "refused"
+        }
+    }
+}

@@ -1,0 +1,143 @@
+//! Random scripts, and power that fails at each call of the device.
+
+use crate::scripts::{Play, new_store, play_of, size_of};
+use crate::shown::shown_of;
+use page_disk::{FaultDisk, MemDisk, PageDisk};
+use std::alloc::Global;
+use std::test::Fail;
+use test_runs::{Ran, run};
+
+/// How many commands of a play are answered by what was printed, before the one that stopped the store.
+fn answered(lines: &[Vec<u8>], printed: &[u8]) -> usize {
+    let mut rest = printed;
+    let mut count = 0usize;
+    for line in lines {
+        match rest.strip_prefix(line.as_slice()) {
+            Some(after) => rest = after,
+            None => return count,
+        }
+        count = count.wrapping_add(1);
+    }
+    count
+}
+
+/// Whether the first line of a text, if it has one, tells a fault.
+fn begins_with_fault(printed: &[u8]) -> bool {
+    match printed.split(|byte| *byte == b'\n').next() {
+        Some(line) => line.is_empty() || line.ends_with(b" fault"),
+        None => true,
+    }
+}
+
+/// The device after so many calls, and how many commands were answered by then; behind them only one may have met the
+/// fault.
+fn stopped(
+    alloc: Global,
+    done: &Play,
+    calls: u64,
+    disk: MemDisk,
+) -> Result<(usize, MemDisk), Fail> {
+    let Ran {
+        status: _,
+        out,
+        disk,
+    } = run(alloc, &done.script, FaultDisk::stopping(disk, calls))?;
+    let count = answered(&done.lines, out.bytes());
+    let length = done
+        .lines
+        .iter()
+        .take(count)
+        .map(|line| line.len())
+        .sum::<usize>();
+    match out.bytes().get(length..) {
+        Some(rest) if begins_with_fault(rest) => Ok((count, disk.into_inner())),
+        _ => Err(Fail::new(format_args!("another answer than {count} is wanted in {calls} calls"))),
+    }
+}
+
+/// Expects that a crash leaves the state with so many commands done, or with one more.
+fn expect_state(
+    alloc: Global,
+    done: &Play,
+    count: usize,
+    fixed: u32,
+    disk: MemDisk,
+) -> Result<(), Fail> {
+    let mut shown = shown_of(alloc, disk)?;
+    let mut is_known = false;
+    for state in done.states.iter().skip(count).take(2) {
+        shown.expect_claimed(state, fixed)?;
+        is_known = is_known || shown.is(alloc, state, false)?;
+    }
+    if !is_known {
+        return Err(Fail::new(format_args!("no state after {count} commands is left")));
+    }
+    Ok(())
+}
+
+/// Expects that what each crash leaves of a device is a state with so many commands done, or with one more.
+fn expect_left(
+    alloc: Global,
+    done: &Play,
+    count: usize,
+    fixed: u32,
+    disk: &MemDisk,
+) -> Result<(), Fail> {
+    for pick in 0..4 {
+        expect_state(alloc, done, count, fixed, disk.crash(pick)?)?;
+    }
+    Ok(())
+}
+
+/// Expects that whenever power fails in a run of a script on a store of few metadata pages, each command that was
+/// answered is done. Where a call leaves nothing else than the one before it, the crashes are the same.
+fn expect_crashes(alloc: Global, place: u64) -> Result<(), Fail> {
+    let number = number_at(place);
+    let done = play_of(alloc, number, (place % 4).wrapping_add(3))?;
+    let (md_pages, fixed) = size_of(number);
+    let store = new_store(alloc, md_pages)?;
+    let mut before = None;
+    for calls in 0..1000 {
+        let (count, disk) = stopped(alloc, &done, calls, store.crash(0)?)?;
+        if before != Some((count, disk.clock())) {
+            expect_left(alloc, &done, count, fixed, &disk)?;
+        }
+        before = Some((count, disk.clock()));
+        if count == done.lines.len() {
+            return Ok(());
+        }
+    }
+    Err(Fail::new("the script makes more calls"))
+}
+
+/// The number of a script that is stopped: its store has four metadata pages, or three.
+fn number_at(place: u64) -> u64 {
+    place
+        .wrapping_mul(8)
+        .wrapping_add(2)
+        .wrapping_add(place % 2)
+}
+
+/// Stops each of the scripts with these places.
+fn expect_all(alloc: Global, places: (u64, u64)) -> Result<(), Fail> {
+    let (from, end) = places;
+    for place in from..end {
+        expect_crashes(alloc, place)?;
+    }
+    Ok(())
+}
+
+#[test]
+fn each_crash_leaves_what_was_answered(rt: HostRuntime) -> Result<(), Fail> {
+    expect_all(rt.alloc(), (0, 7))
+}
+
+#[test]
+fn each_crash_of_seven_others_leaves_what_was_answered(rt: HostRuntime) -> Result<(), Fail> {
+    expect_all(rt.alloc(), (7, 14))
+}
+
+#[test]
+fn each_crash_of_the_last_six_leaves_what_was_answered(rt: HostRuntime) -> Result<(), Fail> {
+    expect_all(rt.alloc(), (14, 20))
+}

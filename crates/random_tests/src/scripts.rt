@@ -1,0 +1,128 @@
+//! Random scripts, and what they are to print.
+
+use crate::asks::{Ask, command_of, drawn, push_line};
+use crate::draws::Draws;
+use crate::states::State;
+use crate::worlds::World;
+use blob_report::render_entry;
+use page_disk::MemDisk;
+use std::alloc::Global;
+use std::test::Fail;
+use test_runs::{Call, Ran, perform};
+use volume_model::Entry;
+
+/// A script, the line that each of its commands is to print, and the states before its first command and after each.
+#[derive(Drop)]
+pub struct Play {
+    pub script: Vec<u8>,
+    pub lines: Vec<Vec<u8>>,
+    pub states: Vec<State>,
+}
+
+/// The sizes of the stores: how many metadata pages there are, and how many clusters the store takes itself.
+const SIZES: [(u32, u32); 4] = [(16, 5), (32, 9), (4, 2), (3, 2)];
+
+/// The size of the store for a script with this number.
+pub fn size_of(number: u64) -> (u32, u32) {
+    match SIZES.get((number % 4) as usize) {
+        Some(size) => *size,
+        None => (16, 5),
+    }
+}
+
+/// A new store of 16 clusters and so many metadata pages, with room for a long script.
+pub fn new_store(alloc: Global, md_pages: u32) -> Result<MemDisk, Fail> {
+    let line = format!(in alloc; "format store.img --cluster 16384 --md-pages {md_pages}")?;
+    let call = Call {
+        line: line.as_str(),
+        script: b"",
+        failing_reads: &[],
+        failing_writes: &[],
+    };
+    let Ran {
+        status: _,
+        out: _,
+        disk,
+    } = perform(alloc, &call, MemDisk::new(alloc, 64, 1024)?)?;
+    Ok(disk.crash(0)?)
+}
+
+/// The line that a command is to print.
+fn line_of(alloc: Global, world: &mut World, ask: &Ask, index: usize) -> Result<Vec<u8>, Fail> {
+    let entry = Entry {
+        channel: 0,
+        index: index as u32,
+        command: command_of(alloc, ask)?,
+        reply: world.step(alloc, ask)?,
+    };
+    let mut line = Vec::new(alloc);
+    render_entry(&entry, &mut line)?;
+    Ok(line)
+}
+
+/// The word by which the line tells its volume: by its name, or sometimes by its head.
+fn volume_word(alloc: Global, draws: &mut Draws, state: &State, ask: &Ask) -> Result<String, Fail> {
+    let Some(name) = ask.name() else {
+        return Ok(String::new(alloc));
+    };
+    let by_head = draws.is_zero(4) && !matches!(ask, Ask::Create { .. });
+    let head = match state.find(name) {
+        Some(volume) if by_head => volume.head(),
+        _ => None,
+    };
+    match head {
+        Some(head) => Ok(format!(in alloc; "@{head}")?),
+        None => Ok(format!(in alloc; "{}", char::from(name))?),
+    }
+}
+
+/// How many pages a line asks for, if it is a read or a write.
+fn drawn_count(draws: &mut Draws, ask: &Ask) -> u64 {
+    match ask {
+        Ask::Read { .. } | Ask::Write { .. } if draws.is_zero(3) => draws.below(5).wrapping_add(1),
+        _ => 1,
+    }
+}
+
+/// Appends a line, and what each of its commands is to print and to leave.
+fn push_ask(
+    alloc: Global,
+    play: &mut Play,
+    world: &mut World,
+    draws: &mut Draws,
+    ask: &Ask,
+) -> Result<(), Fail> {
+    let volume = volume_word(alloc, draws, &world.state, ask)?;
+    let count = drawn_count(draws, ask);
+    push_line(alloc, &mut play.script, ask, volume.as_str(), count)?;
+    for at in 0..count {
+        let line = line_of(alloc, world, &ask.nth(at), play.lines.len())?;
+        play.lines.push(line)?;
+        play.states.push(world.state.copy(alloc)?)?;
+    }
+    Ok(())
+}
+
+/// The script of a number, with so many drawn lines, between a first volume and a last `df`.
+pub fn play_of(alloc: Global, number: u64, lines: u64) -> Result<Play, Fail> {
+    let (md_pages, fixed) = size_of(number);
+    let mut world = World::new(alloc, md_pages, fixed)?;
+    let mut draws = Draws::new(number);
+    let mut play = Play {
+        script: Vec::new(alloc),
+        lines: Vec::new(alloc),
+        states: vec![in alloc; world.state.copy(alloc)?]?,
+    };
+    let first = Ask::Create {
+        name: b'a',
+        slots: draws.below(6).wrapping_add(1),
+        thick: draws.is_zero(3),
+    };
+    push_ask(alloc, &mut play, &mut world, &mut draws, &first)?;
+    for _ in 0..lines {
+        let ask = drawn(&mut draws);
+        push_ask(alloc, &mut play, &mut world, &mut draws, &ask)?;
+    }
+    push_ask(alloc, &mut play, &mut world, &mut draws, &Ask::Df)?;
+    Ok(play)
+}

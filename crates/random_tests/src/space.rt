@@ -1,0 +1,289 @@
+//! What is clear: which commands find too little of it, and what the others take.
+
+use crate::asks::Ask;
+use crate::attributes::{Attribute, has, set, without};
+use crate::states::{CLUSTER_PAGES, PageState, State, Volume, clear_count, give_back, take_least};
+use std::alloc::Global;
+use std::test::Fail;
+use volume_model::Reply;
+
+/// What a command makes of a state, where it is plain volumes that refuse it.
+#[derive(Drop)]
+pub enum Outcome {
+    /// It stays.
+    Same,
+    /// It stays, since too little is clear, as this reply says.
+    Lacks(Reply),
+    /// It becomes this one.
+    Next(State),
+}
+
+/// The bytes of descriptors in a metadata page, those of the flags, and the uuid's.
+const BODY: usize = 4072;
+
+const FLAGS: usize = 29;
+
+const UUID: usize = 50;
+
+/// What the attribute `name` takes of a page, where the name is one letter.
+const NAME: usize = 15;
+
+/// How many runs the map of a volume is.
+fn runs_in(map: &[Option<u32>]) -> usize {
+    let mut runs = 0usize;
+    let mut next = None;
+    for slot in map {
+        if next != Some(*slot) {
+            runs = runs.wrapping_add(1);
+        }
+        next = Some(slot.map(|cluster| cluster.wrapping_add(1)));
+    }
+    runs
+}
+
+/// How many pages a chain has: the first begins with the flags, each attribute goes to a new page where it doesn't fit,
+/// and the runs go on in new pages as long as some are left.
+pub fn chain_length(attributes: &[Attribute], map: &[Option<u32>]) -> usize {
+    let mut pages = 1usize;
+    let mut left = BODY - FLAGS - NAME - UUID;
+    for attribute in attributes {
+        let size = attribute.length.saturating_add(10);
+        if size > left {
+            pages = pages.wrapping_add(1);
+            left = BODY;
+        }
+        left = left.saturating_sub(size);
+    }
+    let mut runs = runs_in(map);
+    if left >= 13 {
+        runs = runs.saturating_sub(left.saturating_sub(5) / 8);
+    }
+    if runs > 0 {
+        pages = pages.wrapping_add(1);
+    }
+    pages
+}
+
+/// The slots that are added to a volume: those of a thick one hold the least clear clusters. `false` where too few are
+/// clear; the slots are empty then.
+fn added_slots(
+    alloc: Global,
+    state: &mut State,
+    thick: bool,
+    count: u64,
+) -> Result<(Vec<Option<u32>>, bool), Fail> {
+    let has_room = !thick || clear_count(&state.used_clusters) as u64 >= count;
+    let mut slots = Vec::new(alloc);
+    for _ in 0..count {
+        if thick && has_room {
+            slots.push(Some(take_least(&mut state.used_clusters)?))?;
+        } else {
+            slots.push(None)?;
+        }
+    }
+    Ok((slots, has_room))
+}
+
+/// Appends pages of zeros, or cuts, so that these are the pages of so many slots.
+fn with_slots(pages: &mut Vec<PageState>, slots: usize) -> Result<(), Fail> {
+    let wanted = slots.saturating_mul(CLUSTER_PAGES);
+    pages.truncate(wanted);
+    let zeros = PageState {
+        word: 0,
+        is_settled: true,
+    };
+    for _ in pages.len()..wanted {
+        pages.push(zeros)?;
+    }
+    Ok(())
+}
+
+/// The least clear metadata pages, so many.
+fn taken_pages(alloc: Global, state: &mut State, count: usize) -> Result<Vec<u32>, Fail> {
+    let mut places = Vec::new(alloc);
+    for _ in 0..count {
+        places.push(take_least(&mut state.used_pages)?)?;
+    }
+    Ok(places)
+}
+
+fn create(
+    alloc: Global,
+    state: &State,
+    name: u8,
+    slots: u64,
+    thick: bool,
+) -> Result<Outcome, Fail> {
+    let mut next = state.copy(alloc)?;
+    let (map, has_room) = added_slots(alloc, &mut next, thick, slots)?;
+    let length = chain_length(&[], &map);
+    if clear_count(&next.used_pages) < length {
+        return Ok(Outcome::Lacks(Reply::NoPage));
+    }
+    if !has_room {
+        return Ok(Outcome::Lacks(Reply::Full));
+    }
+    let chain = taken_pages(alloc, &mut next, length)?;
+    let mut pages = Vec::new(alloc);
+    with_slots(&mut pages, map.len())?;
+    next.volumes.push(Volume {
+        name,
+        thick,
+        live: Vec::new(alloc),
+        synced: Vec::new(alloc),
+        map,
+        chain,
+        pages,
+    })?;
+    next.settle();
+    Ok(Outcome::Next(next))
+}
+
+/// Gives a volume the chain that its attributes and its map take: the pages behind the head are fresh, and the old ones
+/// are clear then. `false` where too few are clear.
+fn replace_chain(alloc: Global, next: &mut State, name: u8) -> Result<bool, Fail> {
+    let volume = next.find(name).ok_or("no volume")?;
+    let length = chain_length(&volume.synced, &volume.map);
+    let head = volume.head().ok_or("no head")?;
+    let old = Vec::from_slice(alloc, &volume.chain)?;
+    let fresh = length.saturating_sub(1);
+    if clear_count(&next.used_pages) < fresh {
+        return Ok(false);
+    }
+    let mut chain = vec![in alloc; head]?;
+    chain.extend_from_slice(&taken_pages(alloc, next, fresh)?)?;
+    for place in old.iter().skip(1) {
+        give_back(&mut next.used_pages, *place);
+    }
+    next.find_mut(name).ok_or("no volume")?.chain = chain;
+    Ok(true)
+}
+
+/// The state where a volume's chain is written anew and all that was written lasts, or that too little is clear.
+fn replaced(alloc: Global, next: State, name: u8, has_room: bool) -> Result<Outcome, Fail> {
+    let mut next = next;
+    if !replace_chain(alloc, &mut next, name)? {
+        return Ok(Outcome::Lacks(Reply::NoPage));
+    }
+    if !has_room {
+        return Ok(Outcome::Lacks(Reply::Full));
+    }
+    next.settle();
+    Ok(Outcome::Next(next))
+}
+
+fn resize(alloc: Global, state: &State, name: u8, slots: u64) -> Result<Outcome, Fail> {
+    let mut next = state.copy(alloc)?;
+    let old = next.find(name).ok_or("no volume")?;
+    let (thick, had) = (old.thick, old.map.len());
+    let more = slots.saturating_sub(had as u64);
+    let (added, has_room) = added_slots(alloc, &mut next, thick, more)?;
+    let volume = next.find_mut(name).ok_or("no volume")?;
+    let cut = Vec::from_slice(alloc, &volume.map)?;
+    volume.map.truncate(slots as usize);
+    volume.map.extend_from_slice(&added)?;
+    let has = volume.map.len();
+    with_slots(&mut volume.pages, has)?;
+    for cluster in cut.iter().skip(has).flatten() {
+        give_back(&mut next.used_clusters, *cluster);
+    }
+    replaced(alloc, next, name, has_room)
+}
+
+/// A put of an attribute, or a sync where there is none.
+fn sync(
+    alloc: Global,
+    state: &State,
+    name: u8,
+    attribute: Option<Attribute>,
+) -> Result<Outcome, Fail> {
+    let mut next = state.copy(alloc)?;
+    let volume = next.find_mut(name).ok_or("no volume")?;
+    if let Some(attribute) = attribute {
+        set(&mut volume.live, attribute)?;
+    }
+    volume.synced = Vec::from_slice(alloc, &volume.live)?;
+    replaced(alloc, next, name, true)
+}
+
+/// A write: where its slot is empty, the least clear cluster comes there first.
+fn write(alloc: Global, state: &State, name: u8, page: usize, word: u64) -> Result<Outcome, Fail> {
+    let mut next = state.copy(alloc)?;
+    let slot = page / CLUSTER_PAGES;
+    let volume = next.find(name).ok_or("no volume")?;
+    if volume.map.get(slot) == Some(&None) {
+        if clear_count(&next.used_clusters) == 0 {
+            return Ok(Outcome::Lacks(Reply::Full));
+        }
+        let cluster = take_least(&mut next.used_clusters)?;
+        let volume = next.find_mut(name).ok_or("no volume")?;
+        *volume.map.get_mut(slot).ok_or("no slot")? = Some(cluster);
+        if !replace_chain(alloc, &mut next, name)? {
+            return Ok(Outcome::Lacks(Reply::NoPage));
+        }
+    }
+    let volume = next.find_mut(name).ok_or("no volume")?;
+    *volume.pages.get_mut(page).ok_or("no page")? = PageState {
+        word,
+        is_settled: false,
+    };
+    Ok(Outcome::Next(next))
+}
+
+fn set_live(alloc: Global, state: &State, name: u8, attribute: Attribute) -> Result<Outcome, Fail> {
+    let mut next = state.copy(alloc)?;
+    let volume = next.find_mut(name).ok_or("no volume")?;
+    set(&mut volume.live, attribute)?;
+    Ok(Outcome::Next(next))
+}
+
+fn remove_live(alloc: Global, state: &State, name: u8, key: u8) -> Result<Outcome, Fail> {
+    let mut next = state.copy(alloc)?;
+    let volume = next.find_mut(name).ok_or("no volume")?;
+    volume.live = without(alloc, &volume.live, key)?;
+    Ok(Outcome::Next(next))
+}
+
+/// Whether an attribute may be set, of a volume that is there.
+fn may_set(attribute: Attribute) -> bool {
+    attribute.key != b'n' && attribute.length <= 4062
+}
+
+/// Whether what is asked for changes something, as far as not too little is clear.
+fn is_done(state: &State, ask: &Ask) -> bool {
+    let meant = match ask.name() {
+        Some(name) => state.find(name),
+        None => return matches!(ask, Ask::Flush),
+    };
+    match (ask, meant) {
+        (Ask::Create { slots, .. }, None) => *slots <= 1 << 20,
+        (Ask::Resize { slots, .. }, Some(_)) => *slots <= 1 << 20,
+        (Ask::Write { page, .. }, Some(volume)) => *page < volume.pages.len() as u64,
+        (Ask::Set { attribute, .. } | Ask::Put { attribute, .. }, Some(_)) => may_set(*attribute),
+        (Ask::Remove { key, .. }, Some(volume)) => has(&volume.live, *key),
+        (Ask::Sync { .. }, Some(_)) => true,
+        _ => false,
+    }
+}
+
+/// What a command makes of a state.
+pub fn outcome_of(alloc: Global, state: &State, ask: &Ask) -> Result<Outcome, Fail> {
+    if !is_done(state, ask) {
+        return Ok(Outcome::Same);
+    }
+    match *ask {
+        Ask::Create { name, slots, thick } => create(alloc, state, name, slots, thick),
+        Ask::Resize { name, slots } => resize(alloc, state, name, slots),
+        Ask::Write { name, page, word } => write(alloc, state, name, page as usize, word),
+        Ask::Set { name, attribute } => set_live(alloc, state, name, attribute),
+        Ask::Put { name, attribute } => sync(alloc, state, name, Some(attribute)),
+        Ask::Remove { name, key } => remove_live(alloc, state, name, key),
+        Ask::Sync { name } => sync(alloc, state, name, None),
+        Ask::Flush => {
+            let mut next = state.copy(alloc)?;
+            next.settle();
+            Ok(Outcome::Next(next))
+        }
+        Ask::Read { .. } | Ask::Get { .. } | Ask::Df => Ok(Outcome::Same),
+    }
+}

@@ -1,0 +1,149 @@
+//! What plain volumes hold, and which metadata pages and clusters they take.
+
+use crate::attributes::Attribute;
+use std::alloc::Global;
+use std::test::Fail;
+use volume_model::Df;
+
+/// A page: the word that fills it, and whether it outlasts a crash.
+#[derive(Clone, Copy, Debug)]
+pub struct PageState {
+    pub word: u64,
+    pub is_settled: bool,
+}
+
+/// A volume: its name, told by a letter, its attributes as they are read and as they were last synced, beside `name`
+/// and `uuid`, the clusters in its slots, the places of its chain, and its pages.
+#[derive(Drop)]
+pub struct Volume {
+    pub name: u8,
+    pub thick: bool,
+    pub live: Vec<Attribute>,
+    pub synced: Vec<Attribute>,
+    pub map: Vec<Option<u32>>,
+    pub chain: Vec<u32>,
+    pub pages: Vec<PageState>,
+}
+
+/// All volumes, by ascending time of making, and which metadata pages and clusters are in use.
+#[derive(Drop)]
+pub struct State {
+    pub volumes: Vec<Volume>,
+    pub used_pages: Vec<bool>,
+    pub used_clusters: Vec<bool>,
+}
+
+/// How many pages a cluster has.
+pub const CLUSTER_PAGES: usize = 4;
+
+/// How many clusters the stores have.
+const CLUSTERS: u32 = 16;
+
+/// As many marks as there are places, of which the first ones are set.
+fn first_set(alloc: Global, places: u32, set: u32) -> Result<Vec<bool>, Fail> {
+    let mut marks = Vec::new(alloc);
+    for place in 0..places {
+        marks.push(place < set)?;
+    }
+    Ok(marks)
+}
+
+/// How many of the marks are not set.
+pub fn clear_count(marks: &[bool]) -> usize {
+    marks.iter().filter(|is_set| !**is_set).count()
+}
+
+/// Sets the first mark that is not set, and gives its place.
+pub fn take_least(marks: &mut [bool]) -> Result<u32, Fail> {
+    let mut at = 0u32;
+    for mark in marks.iter_mut() {
+        if !*mark {
+            *mark = true;
+            return Ok(at);
+        }
+        at = at.wrapping_add(1);
+    }
+    Err(Fail::new("no mark is clear"))
+}
+
+/// Clears the mark of a place.
+pub fn give_back(marks: &mut [bool], place: u32) {
+    if let Some(mark) = marks.get_mut(place as usize) {
+        *mark = false;
+    }
+}
+
+impl Volume {
+    fn copy(&self, alloc: Global) -> Result<Volume, Fail> {
+        Ok(Volume {
+            name: self.name,
+            thick: self.thick,
+            live: Vec::from_slice(alloc, &self.live)?,
+            synced: Vec::from_slice(alloc, &self.synced)?,
+            map: Vec::from_slice(alloc, &self.map)?,
+            chain: Vec::from_slice(alloc, &self.chain)?,
+            pages: Vec::from_slice(alloc, &self.pages)?,
+        })
+    }
+
+    /// The head, the first place of its chain.
+    pub fn head(&self) -> Option<u32> {
+        self.chain.first().copied()
+    }
+}
+
+impl State {
+    /// No volume yet, in a store of so many metadata pages that takes so many clusters itself.
+    pub fn new(alloc: Global, md_pages: u32, fixed: u32) -> Result<State, Fail> {
+        Ok(State {
+            volumes: Vec::new(alloc),
+            used_pages: first_set(alloc, md_pages, 0)?,
+            used_clusters: first_set(alloc, CLUSTERS, fixed)?,
+        })
+    }
+
+    pub fn copy(&self, alloc: Global) -> Result<State, Fail> {
+        let mut volumes = Vec::new(alloc);
+        for volume in &self.volumes {
+            volumes.push(volume.copy(alloc)?)?;
+        }
+        Ok(State {
+            volumes,
+            used_pages: Vec::from_slice(alloc, &self.used_pages)?,
+            used_clusters: Vec::from_slice(alloc, &self.used_clusters)?,
+        })
+    }
+
+    /// The volume of a name.
+    pub fn find(&self, name: u8) -> Option<&Volume> {
+        self.volumes.iter().find(|volume| volume.name == name)
+    }
+
+    /// The volume of a name, to be changed.
+    pub fn find_mut(&mut self, name: u8) -> Option<&mut Volume> {
+        self.volumes.iter_mut().find(|volume| volume.name == name)
+    }
+
+    /// Each page outlasts a crash from now on.
+    pub fn settle(&mut self) {
+        for volume in self.volumes.iter_mut() {
+            settle_pages(&mut volume.pages);
+        }
+    }
+
+    /// What is clear, and what there is.
+    pub fn df(&self) -> Df {
+        Df {
+            free_clusters: clear_count(&self.used_clusters) as u32,
+            clusters: self.used_clusters.len() as u32,
+            free_pages: clear_count(&self.used_pages) as u32,
+            pages: self.used_pages.len() as u32,
+        }
+    }
+}
+
+fn settle_pages(pages: &mut [PageState]) {
+    for page in pages.iter_mut() {
+        page.is_settled = true;
+    }
+}

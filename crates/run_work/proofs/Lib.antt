@@ -1,0 +1,16 @@
+pub mod Sums
+pub mod RowWork
+pub mod ChannelLowers
+pub mod ServingLowers
+pub mod JobLowers
+pub mod OwnRow
+pub mod Lowering
+pub mod Changing
+pub mod ChannelKeeps
+pub mod Waited
+pub mod ServingKeeps
+pub mod JobKeeps
+pub mod Keeping
+pub mod Progress
+pub mod Ending
+pub mod Due

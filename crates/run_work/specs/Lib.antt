@@ -1,0 +1,10 @@
+pub mod RunState
+pub mod Reading
+pub mod Work
+pub mod ChannelMoves
+pub mod ServingMoves
+pub mod JobMoves
+pub mod Following
+pub mod Steps
+pub mod RunFacts
+pub mod RunLaws
