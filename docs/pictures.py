@@ -51,16 +51,17 @@ CRATES = {
     "blobtool": (1, 6, 0), "blob_tool": (1, 6, 1),
     "script_lang": (1, 1, 2), "store_format": (5, 5, 2), "streams": (6, 6, 2),
     "lvol_store": (3, 3, 3), "thin_write": (5, 5, 3), "blob_report": (6, 6, 3),
-    "unclean_load": (2, 2, 4), "data_path": (5, 5, 4), "store_core": (4, 4, 5), "io_freeze": (3, 3, 6), "store_model": (4, 4, 6),
-    "md_queue": (1, 1, 6),
-    "md_chain": (2, 2, 7), "pools": (4, 4, 7), "blob_meta": (1, 1, 8), "md_page": (3, 3, 8),
-    "descriptors": (1, 1, 9), "run_work": (2, 2, 9), "super_block": (3, 3, 9),
-    "volume_model": (1, 1, 10), "page_fields": (3, 3, 10), "bit_array": (4, 4, 10),
-    "page_disk": (2, 6, 11), "out_of_memory": (1, 2, 12), "crc32c": (3, 6, 12),
+    "unclean_load": (2, 2, 4), "data_path": (5, 5, 4), "store_core": (4, 4, 5),
+    "channel_turns": (3, 3, 6), "metadata_turns": (4, 4, 6), "running_store": (3, 4, 7),
+    "md_queue": (1, 1, 8), "io_freeze": (3, 3, 8), "store_model": (4, 4, 8),
+    "md_chain": (2, 2, 9), "pools": (4, 4, 9), "blob_meta": (1, 1, 10), "md_page": (3, 3, 10),
+    "descriptors": (1, 1, 11), "run_work": (2, 2, 11), "super_block": (3, 3, 11),
+    "volume_model": (1, 1, 12), "page_fields": (3, 3, 12), "bit_array": (4, 4, 12),
+    "page_disk": (2, 6, 13), "out_of_memory": (1, 2, 14), "crc32c": (3, 6, 14),
 }
 BANDS = [
-    (0, 1, "the program"), (2, 3, "scripts, plans,|texts, writes,|a new store"), (4, 6, "the running|store"),
-    (7, 9, "metadata and|places"), (10, 10, "volumes, fields,|sets"), (11, 12, "the device and|the bottom"),
+    (0, 1, "the program"), (2, 3, "scripts, plans,|texts, writes,|a new store"), (4, 8, "the running|store"),
+    (9, 11, "metadata and|places"), (12, 12, "volumes, fields,|sets"), (13, 14, "the device and|the bottom"),
 ]
 STEPS = [
     "1  main opens the image, and hands over words, source, sink and device",

@@ -8,19 +8,19 @@ use Rattle.volume_model.specs.declared.command.Command.TheVariants as c
 use Rattle.script_lang.specs.Served.{IsServed}
 use Rattle.store_model.specs.Rows.{Answered, Decided, Decision, Idle, IsForMetadata, Posted, Row}
 use Rattle.store_model.specs.Cases as kind
-use Rattle.store_core.specs.declared.rows.RowStage.{RowStage}
-use Rattle.store_core.specs.declared.rows.RowStage.TheVariants as told
-use Rattle.store_core.specs.declared.settling.SettleTurn.{SettleTurn}
-use Rattle.store_core.specs.declared.settling.SettleTurn.TheVariants as settle
-use Rattle.store_core.specs.TurnMade.{TurnMade}
-use Rattle.store_core.specs.StoreView.{StoreView, WithOpening, rows_of, state_of}
-use Rattle.store_core.specs.Stages.{is_stage, waits_for}
-use Rattle.store_core.specs.ChannelTurns.{IsFrozenFor}
-use Rattle.store_core.specs.StoreInvariant.{StoreInvariant}
-use Rattle.store_core.specs.Steps.{decided, gone_on, OnlyRow}
+use Rattle.running_store.specs.declared.rows.RowStage.{RowStage}
+use Rattle.running_store.specs.declared.rows.RowStage.TheVariants as told
+use Rattle.channel_turns.specs.declared.settling.SettleTurn.{SettleTurn}
+use Rattle.channel_turns.specs.declared.settling.SettleTurn.TheVariants as settle
+use Rattle.running_store.specs.TurnMade.{TurnMade}
+use Rattle.running_store.specs.StoreView.{StoreView, WithOpening, rows_of, state_of}
+use Rattle.running_store.specs.Stages.{is_stage, waits_for}
+use Rattle.channel_turns.specs.ChannelTurns.{IsFrozenFor}
+use Rattle.running_store.specs.StoreInvariant.{StoreInvariant}
+use Rattle.running_store.specs.Steps.{decided, gone_on, OnlyRow}
 use Rattle.volume_model.specs.Xattrs.{Text}
 use Rattle.volume_model.specs.declared.command.VolumeRef.{VolumeRef}
-use Rattle.store_core.specs.Answering.{IsAnswerable}
+use Rattle.metadata_turns.specs.Answering.{IsAnswerable}
 use Rattle.blob_tool.specs.Driving.{ended_row, IsServedByMetadata, IsWaiting}
 
 -- ---- one channel

@@ -26,10 +26,10 @@ use Rattle.blob_tool.specs.declared.status.Status.{Status}
 use Rattle.blob_tool.specs.declared.status.Status.TheVariants as status
 use Rattle.volume_model.specs.declared.command.Command.{Command}
 use Rattle.md_chain.specs.Reading.{OnlyRead}
-use Rattle.store_core.specs.declared.loaded.Loaded.{Loaded}
+use Rattle.running_store.specs.declared.loaded.Loaded.{Loaded}
 use Rattle.store_core.specs.Opening.{IsOpened}
-use Rattle.store_core.specs.StoreView.{StoreView, state_of}
-use Rattle.store_core.specs.Surviving.{HasOneImage}
+use Rattle.running_store.specs.StoreView.{StoreView, state_of}
+use Rattle.running_store.specs.Surviving.{HasOneImage}
 use Rattle.unclean_load.specs.declared.fault.LoadFault.{LoadFault}
 use Rattle.unclean_load.specs.declared.fault.LoadFault.TheVariants as loading
 use Rattle.unclean_load.specs.Accepted.{IsAccepted, IsFaultOf, IsImageFault}

@@ -16,9 +16,9 @@ use Rattle.store_model.specs.Turning.{stopped_now}
 use Rattle.store_model.specs.StoreState.{ForCommand, ForInsert, JobState, shown, StoreState, turns_left, waiting}
 use Rattle.store_model.proofs.Progress.{same_job, turns_after, turns_here}
 use Rattle.store_model.proofs.RowsKept.{row_other}
-use Rattle.store_core.specs.JobTurns.{IsOfJob}
-use Rattle.store_core.specs.StoreInvariant.{StoreInvariant}
-use Rattle.store_core.specs.StoreView.{rows_of, state_of, WithOpening}
+use Rattle.metadata_turns.specs.JobTurns.{IsOfJob}
+use Rattle.running_store.specs.StoreInvariant.{StoreInvariant}
+use Rattle.running_store.specs.StoreView.{rows_of, state_of, WithOpening}
 use Rattle.page_disk.specs.declared.disk.PageDisk.{Ghosts}
 use Rattle.blob_tool.specs.Writing.{InsertRuns, InsertStandsAt, logged, put, puts, won}
 use Rattle.blob_tool.proofs.InsertStands as insert

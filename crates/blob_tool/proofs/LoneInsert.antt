@@ -17,17 +17,17 @@ use Rattle.store_model.specs.Rows.{Answered, Decided, Decision, Idle, InJob, Row
 use Rattle.store_model.specs.StoreState.{ForInsert, shown, StoreState, turns_left}
 use Rattle.store_model.proofs.RowsKept.{row_here}
 use Rattle.store_model.proofs.Shows.{alone_resolved}
-use Rattle.store_core.specs.ClaimTurns.{told_as}
-use Rattle.store_core.specs.Inserts.{InsertsOrNot, IsLack, row_inserting}
-use Rattle.store_core.specs.JobTurns.{TurnsJob}
-use Rattle.store_core.specs.Steps.{OnlyRow}
-use Rattle.store_core.specs.StoreInvariant.{StoreInvariant}
-use Rattle.store_core.specs.StoreView.{rows_of, state_of, StoreView, WithOpening}
-use Rattle.store_core.specs.TurnMade.{TurnMade}
-use Rattle.store_core.specs.declared.inserting.InsertTurn.{InsertTurn}
-use Rattle.store_core.specs.declared.inserting.InsertTurn.TheVariants as insert
-use Rattle.store_core.specs.declared.settling.SettleTurn.{SettleTurn}
-use Rattle.store_core.specs.declared.settling.SettleTurn.TheVariants as settle
+use Rattle.channel_turns.specs.ClaimTurns.{told_as}
+use Rattle.metadata_turns.specs.Inserts.{InsertsOrNot, IsLack, row_inserting}
+use Rattle.metadata_turns.specs.JobTurns.{TurnsJob}
+use Rattle.running_store.specs.Steps.{OnlyRow}
+use Rattle.running_store.specs.StoreInvariant.{StoreInvariant}
+use Rattle.running_store.specs.StoreView.{rows_of, state_of, StoreView, WithOpening}
+use Rattle.running_store.specs.TurnMade.{TurnMade}
+use Rattle.metadata_turns.specs.declared.inserting.InsertTurn.{InsertTurn}
+use Rattle.metadata_turns.specs.declared.inserting.InsertTurn.TheVariants as insert
+use Rattle.channel_turns.specs.declared.settling.SettleTurn.{SettleTurn}
+use Rattle.channel_turns.specs.declared.settling.SettleTurn.TheVariants as settle
 use Rattle.thin_write.specs.Turns.{OthersStay}
 use Rattle.blob_tool.specs.Writing.{FindsFilled, InsertsWrite, InsertStandsAt, IsSentBy, logged, put, puts, won}
 use Rattle.blob_tool.proofs.InsertTurns.{job_goes_on}

@@ -11,12 +11,12 @@ use Rattle.volume_model.specs.declared.reply.Msg.{Msg}
 use Rattle.store_model.specs.Rows.{Idle, OpenClaim, Row}
 use Rattle.store_model.specs.Rows.{Stage as RowsStage}
 use Rattle.store_model.specs.StoreState.{StoreState}
-use Rattle.store_core.specs.ChannelTurns.{IsFrozenFor}
-use Rattle.store_core.specs.Stages.{is_stage, waits_for}
-use Rattle.store_core.specs.Steps.{Asks, gone_on, OnlyRow}
-use Rattle.store_core.specs.StoreInvariant.{StoreInvariant}
-use Rattle.store_core.specs.StoreView.{rows_of, state_of, StoreView, WithOpening}
-use Rattle.store_core.specs.declared.rows.RowStage.TheVariants as told
+use Rattle.channel_turns.specs.ChannelTurns.{IsFrozenFor}
+use Rattle.running_store.specs.Stages.{is_stage, waits_for}
+use Rattle.running_store.specs.Steps.{Asks, gone_on, OnlyRow}
+use Rattle.running_store.specs.StoreInvariant.{StoreInvariant}
+use Rattle.running_store.specs.StoreView.{rows_of, state_of, StoreView, WithOpening}
+use Rattle.running_store.specs.declared.rows.RowStage.TheVariants as told
 use Rattle.data_path.specs.declared.reading.Stage.{Stage}
 use Rattle.data_path.specs.declared.reading.Stage.TheVariants as turn
 use Rattle.thin_write.specs.Turns.{GoesOn, IsAtWrite, OthersStay, PostsInsert}

@@ -31,12 +31,12 @@ use Rattle.store_model.specs.Shown.{fixed_of}
 use Rattle.store_model.specs.StoreState.{StoreState, shown}
 use Rattle.store_model.specs.Asking.{AsksFor, IsSyncing, syncs}
 use Rattle.store_model.specs.Cases.{IsRefusedBy}
-use Rattle.store_core.specs.Answering.{IsFound}
-use Rattle.store_core.specs.Begins.{AsksToWrite, IsJobOf, ReplacesOne}
-use Rattle.store_core.specs.LoadedWhole.{IsNextHead}
-use Rattle.store_core.specs.StoreInvariant.{IsRunning, StoreInvariant}
+use Rattle.metadata_turns.specs.Answering.{IsFound}
+use Rattle.metadata_turns.specs.Begins.{AsksToWrite, IsJobOf, ReplacesOne}
+use Rattle.running_store.specs.LoadedWhole.{IsNextHead}
+use Rattle.running_store.specs.StoreInvariant.{IsRunning, StoreInvariant}
 use Rattle.store_core.specs.Planning.{HasBlob, PlanLaws}
-use Rattle.store_core.specs.StoreView.{StoreView, WithOpening, state_of}
+use Rattle.running_store.specs.StoreView.{StoreView, WithOpening, state_of}
 use Rattle.blob_tool.specs.Serving.{IsPlanOf}
 
 -- a store has what every state of a run has

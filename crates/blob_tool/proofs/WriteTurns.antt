@@ -30,10 +30,10 @@ use Rattle.store_model.specs.Rows.{Claiming, Copying, Idle, OpenClaim, Ready, St
 use Rattle.store_model.specs.Seen.{seen}
 use Rattle.store_model.specs.Shown.{fixed_of}
 use Rattle.store_model.specs.StoreState.{shown, StoreState}
-use Rattle.store_core.specs.Stages.{is_stage}
-use Rattle.store_core.specs.StoreInvariant.{IsRunning, StoreInvariant}
-use Rattle.store_core.specs.StoreView.{rows_of, state_of, StoreView, WithOpening}
-use Rattle.store_core.proofs.PagesShown.{pages_long, resolved_is, volume_shown}
+use Rattle.running_store.specs.Stages.{is_stage}
+use Rattle.running_store.specs.StoreInvariant.{IsRunning, StoreInvariant}
+use Rattle.running_store.specs.StoreView.{rows_of, state_of, StoreView, WithOpening}
+use Rattle.channel_turns.proofs.PagesShown.{pages_long, resolved_is, volume_shown}
 use Rattle.thin_write.specs.Turns.{GoesOn}
 use Rattle.blob_tool.specs.Writing.{begins, copies, empty, IsAt, IsSent, ready, turns_to_send, WriteStands}
 use Rattle.blob_tool.proofs.Planned.{is_running}

@@ -10,8 +10,8 @@ use Rattle.md_chain.specs.Reading.{OnlyRead}
 use Rattle.script_lang.specs.Script.{reads, IsFirstBad}
 use Rattle.script_lang.specs.declared.grammar.Grammar.TheVariants.{Served}
 use Rattle.script_lang.specs.declared.fault.LineKind.{LineKind}
-use Rattle.store_core.specs.declared.loaded.Loaded.{Loaded}
-use Rattle.store_core.specs.StoreView.{StoreView}
+use Rattle.running_store.specs.declared.loaded.Loaded.{Loaded}
+use Rattle.running_store.specs.StoreView.{StoreView}
 use Rattle.unclean_load.specs.Accepted.{IsAccepted, IsFaultOf, IsImageFault}
 use Rattle.unclean_load.specs.declared.fault.LoadFault.{LoadFault}
 use Rattle.streams.specs.declared.source.Source as source

@@ -17,11 +17,11 @@ use Rattle.store_model.specs.Shown.{fixed_of}
 use Rattle.store_model.specs.Cases.{IsQuiet}
 use Rattle.store_model.specs.StoreState.{Opens, shown}
 use Rattle.store_model.specs.Cases.{Kind, Run}
-use Rattle.store_core.specs.declared.loaded.Loaded.{Loaded}
+use Rattle.running_store.specs.declared.loaded.Loaded.{Loaded}
 use Rattle.store_core.specs.Opening.{IsOpened}
-use Rattle.store_core.specs.StoreView.{StoreView, rows_of, state_of}
-use Rattle.store_core.specs.Surviving.{HasOneImage}
-use Rattle.store_core.specs.LoadedWhole.{IsWhole as IsLoadedWhole}
+use Rattle.running_store.specs.StoreView.{StoreView, rows_of, state_of}
+use Rattle.running_store.specs.Surviving.{HasOneImage}
+use Rattle.running_store.specs.LoadedWhole.{IsWhole as IsLoadedWhole}
 use Rattle.unclean_load.specs.Accepted.{IsAccepted}
 use Rattle.blob_report.specs.Text.{log_text}
 use Rattle.streams.specs.declared.sink.Sink as sink

@@ -5,12 +5,12 @@ use Rattle.volume_model.specs.declared.reply.Reply.{Reply}
 use Rattle.blob_meta.specs.declared.job.Job.{Job}
 use Rattle.page_disk.specs.declared.disk.PageDisk.{Ghosts}
 use Rattle.store_model.specs.Cases.{IsRefusedBy}
-use Rattle.store_core.specs.Answering.{IsAnswerable}
-use Rattle.store_core.specs.Begins.{IsJobOf, ReplacesOne}
-use Rattle.store_core.specs.StoreView.{StoreView, state_of}
-use Rattle.store_core.specs.Steps.{Asks}
-use Rattle.store_core.specs.declared.requests.Request.{Request}
-use Rattle.store_core.specs.declared.requests.Request.TheVariants as request
+use Rattle.metadata_turns.specs.Answering.{IsAnswerable}
+use Rattle.metadata_turns.specs.Begins.{IsJobOf, ReplacesOne}
+use Rattle.running_store.specs.StoreView.{StoreView, state_of}
+use Rattle.running_store.specs.Steps.{Asks}
+use Rattle.running_store.specs.declared.requests.Request.{Request}
+use Rattle.running_store.specs.declared.requests.Request.TheVariants as request
 use Rattle.blob_tool.specs.declared.serving.Task.{Task}
 use Rattle.blob_tool.specs.declared.serving.Task.TheVariants as task
 

@@ -7,8 +7,8 @@ use Rattle.page_disk.specs.declared.disk.PageDisk.{Ghosts}
 use Rattle.super_block.specs.declared.page.Super.{Super}
 use Rattle.volume_model.specs.Volumes.{Volumes}
 use Rattle.store_model.specs.Recovers.{Recovers, RecoversAt, RecoversFrom}
-use Rattle.store_core.specs.StoreView.{StoreView}
-use Rattle.store_core.specs.Surviving.{HoldsMetadata}
+use Rattle.running_store.specs.StoreView.{StoreView}
+use Rattle.running_store.specs.Surviving.{HoldsMetadata}
 use Rattle.unclean_load.specs.Accepted.{IsAccepted}
 
 -- a store that began with this super block and these volumes, at the end of its run, and the device that is left

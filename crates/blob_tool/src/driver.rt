@@ -1,10 +1,10 @@
 //! The driver of a running store: it serves one channel after the other.
 
 ghost use Rattle.std.specs.Prelude.{◌≡◌, ◌<◌, ◌≤◌, ℕ, [], None, false, length, IsTrue};
-ghost use Rattle.store_core.specs.declared.rows.RowStage.TheVariants.{Read};
-ghost use Rattle.store_core.specs.Stages.{is_stage};
-ghost use Rattle.store_core.specs.StoreView.{rows_of};
-ghost use Rattle.store_core.specs.Steps.{gone_on, OnlyRow};
+ghost use Rattle.running_store.specs.declared.rows.RowStage.TheVariants.{Read};
+ghost use Rattle.running_store.specs.Stages.{is_stage};
+ghost use Rattle.running_store.specs.StoreView.{rows_of};
+ghost use Rattle.running_store.specs.Steps.{gone_on, OnlyRow};
 ghost use Rattle.blob_tool.specs.Driving.{ended_row, IsWaiting};
 
 use crate::serving::serve;

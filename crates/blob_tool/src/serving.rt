@@ -3,10 +3,10 @@
 ghost use Rattle.std.specs.Prelude.{◌≡◌, ◌≢◌, ℕ, None};
 ghost use Rattle.blob_tool.specs.Driving.{IsServedByMetadata};
 ghost use Rattle.store_model.specs.Rows.{InJob};
-ghost use Rattle.store_core.specs.Requests.{IsPostedBy};
-ghost use Rattle.store_core.specs.StoreView.{rows_of};
-ghost use Rattle.store_core.specs.Steps.{decided, Asks, OnlyRow};
-ghost use Rattle.store_core.specs.declared.requests.Request.TheVariants.{Insert};
+ghost use Rattle.running_store.specs.Requests.{IsPostedBy};
+ghost use Rattle.running_store.specs.StoreView.{rows_of};
+ghost use Rattle.running_store.specs.Steps.{decided, Asks, OnlyRow};
+ghost use Rattle.running_store.specs.declared.requests.Request.TheVariants.{Insert};
 ghost use Rattle.blob_tool.specs.Serving.{IsCommandOf, IsPlanOf, IsTaskOf};
 
 use blob_meta::{Job, least_heads_are_meant};

@@ -3,10 +3,10 @@
 ghost use Rattle.std.specs.Prelude.{◌≡◌, false, None, IfNone, IfSome, IsTrue};
 ghost use Rattle.blob_tool.specs.Driving.{IsWaiting};
 ghost use Rattle.blob_tool.specs.Writing.{FindsFilled, InsertsWrite, IsSentBy};
-ghost use Rattle.store_core.specs.declared.rows.RowStage.TheVariants.{Write};
-ghost use Rattle.store_core.specs.Stages.{is_stage};
-ghost use Rattle.store_core.specs.Steps.{gone_on, OnlyRow};
-ghost use Rattle.store_core.specs.StoreView.{rows_of, state_of};
+ghost use Rattle.running_store.specs.declared.rows.RowStage.TheVariants.{Write};
+ghost use Rattle.running_store.specs.Stages.{is_stage};
+ghost use Rattle.running_store.specs.Steps.{gone_on, OnlyRow};
+ghost use Rattle.running_store.specs.StoreView.{rows_of, state_of};
 ghost use Rattle.thin_write.specs.Turns.{OthersStay};
 
 use data_path::Stage;

@@ -2,11 +2,12 @@
 
 ghost use Rattle.std.specs.Prelude.{◌≡◌, ◌⊎◌};
 ghost use Rattle.data_path.specs.declared.reading.Stage.TheVariants.{Logged, Waiting};
-ghost use Rattle.store_core.specs.declared.rows.RowStage.TheVariants.{Read};
-ghost use Rattle.store_core.specs.ChannelTurns.{IsFrozenFor, IsOfRead, TurnsAs};
-ghost use Rattle.store_core.specs.Stages.{is_stage};
-ghost use Rattle.store_core.specs.Steps.{gone_on, Asks, OnlyRow};
-ghost use Rattle.store_core.specs.StoreView.{rows_of, state_of};
+ghost use Rattle.running_store.specs.declared.rows.RowStage.TheVariants.{Read};
+ghost use Rattle.channel_turns.specs.ChannelTurns.{IsFrozenFor, IsOfRead};
+ghost use Rattle.running_store.specs.TurnMade.{TurnsAs};
+ghost use Rattle.running_store.specs.Stages.{is_stage};
+ghost use Rattle.running_store.specs.Steps.{gone_on, Asks, OnlyRow};
+ghost use Rattle.running_store.specs.StoreView.{rows_of, state_of};
 
 use page_disk::PageDisk;
 use store_core::{Plant, ReadTurn};

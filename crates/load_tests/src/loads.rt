@@ -3,9 +3,9 @@
 use bit_array::Bits;
 use blob_meta::{Chains, Metas};
 use page_disk::{CallKind, Fail, FaultDisk, MemDisk, PageDisk};
+use running_store::Loaded;
 use std::alloc::Global;
 use std::test::Fail as TestFail;
-use store_core::Loaded;
 use super_block::Masks;
 use test_stores::{LAST, PageRow, THICK, THIN, image};
 use unclean_load::{load, stores_are_accepted};

@@ -8,14 +8,14 @@ use Rattle.store_model.specs.Rows.{Claiming, Copying, Decided, Decision, Ended, 
 use Rattle.store_model.specs.Rows.{Row, Stage}
 use Rattle.store_model.specs.RunInvariant.{IsShaped, MayClaim}
 use Rattle.store_model.proofs.Shaped.{no_claim}
-use Rattle.store_core.specs.declared.rows.RowStage.{RowStage}
-use Rattle.store_core.specs.declared.rows.RowStage.TheVariants as waits
-use Rattle.store_core.specs.ChannelTurns.{WaitsToFlush, WaitsToRead, WaitsToWrite}
-use Rattle.store_core.specs.ClaimTurns.{HoldsClaim, WaitsToCopy}
-use Rattle.store_core.specs.StoreInvariant.{StoreInvariant}
-use Rattle.store_core.specs.StoreView.{StoreView, WithOpening, rows_of, state_of}
-use Rattle.store_core.specs.Stages.{is_stage, waits_for}
-use Rattle.store_core.proofs.Posting.{low_of}
+use Rattle.running_store.specs.declared.rows.RowStage.{RowStage}
+use Rattle.running_store.specs.declared.rows.RowStage.TheVariants as waits
+use Rattle.channel_turns.specs.ChannelTurns.{WaitsToFlush, WaitsToRead, WaitsToWrite}
+use Rattle.channel_turns.specs.ClaimTurns.{HoldsClaim, WaitsToCopy}
+use Rattle.running_store.specs.StoreInvariant.{StoreInvariant}
+use Rattle.running_store.specs.StoreView.{StoreView, WithOpening, rows_of, state_of}
+use Rattle.running_store.specs.Stages.{is_stage, waits_for}
+use Rattle.running_store.proofs.Rowing.{low_of}
 use Rattle.store_core.proofs.Staged.{HasClaimed, IsStagedAt, IsToCopy, staged}
 
 -- what a row waits for whose first command is a channel's own

@@ -5,20 +5,20 @@ use Rattle.volume_model.specs.declared.reply.Msg.{Msg}
 use Rattle.store_model.specs.Cases.{Kind, Turn}
 use Rattle.store_model.specs.Cases as kind
 use Rattle.store_model.specs.StoreState.{StoreState}
-use Rattle.store_core.specs.declared.claiming.ClaimTurn.{ClaimTurn}
-use Rattle.store_core.specs.declared.claiming.ClaimTurn.TheVariants as claim
-use Rattle.store_core.specs.declared.page_writing.WriteTurn.{WriteTurn}
-use Rattle.store_core.specs.declared.page_writing.WriteTurn.TheVariants as write
-use Rattle.store_core.specs.declared.copying.CopyTurn.{CopyTurn}
-use Rattle.store_core.specs.declared.copying.CopyTurn.TheVariants as copy
-use Rattle.store_core.specs.declared.sending.SendTurn.{SendTurn}
-use Rattle.store_core.specs.declared.sending.SendTurn.TheVariants as send
-use Rattle.store_core.specs.declared.settling.SettleTurn.{SettleTurn}
-use Rattle.store_core.specs.declared.settling.SettleTurn.TheVariants as settle
-use Rattle.store_core.specs.ChannelTurns.{IsOfFlush, IsOfRead, IsOfWrite, TurnsAs}
-use Rattle.store_core.specs.ClaimTurns.{IsOfClaim, IsOfCopy, IsOfSend}
-use Rattle.store_core.specs.StoreView.{state_of, StoreView}
-use Rattle.store_core.specs.TurnMade.{TurnMade}
+use Rattle.channel_turns.specs.declared.claiming.ClaimTurn.{ClaimTurn}
+use Rattle.channel_turns.specs.declared.claiming.ClaimTurn.TheVariants as claim
+use Rattle.channel_turns.specs.declared.page_writing.WriteTurn.{WriteTurn}
+use Rattle.channel_turns.specs.declared.page_writing.WriteTurn.TheVariants as write
+use Rattle.channel_turns.specs.declared.copying.CopyTurn.{CopyTurn}
+use Rattle.channel_turns.specs.declared.copying.CopyTurn.TheVariants as copy
+use Rattle.channel_turns.specs.declared.sending.SendTurn.{SendTurn}
+use Rattle.channel_turns.specs.declared.sending.SendTurn.TheVariants as send
+use Rattle.channel_turns.specs.declared.settling.SettleTurn.{SettleTurn}
+use Rattle.channel_turns.specs.declared.settling.SettleTurn.TheVariants as settle
+use Rattle.channel_turns.specs.ChannelTurns.{IsOfFlush, IsOfRead, IsOfWrite}
+use Rattle.running_store.specs.TurnMade.{TurnMade, TurnsAs}
+use Rattle.channel_turns.specs.ClaimTurns.{IsOfClaim, IsOfCopy, IsOfSend}
+use Rattle.running_store.specs.StoreView.{state_of, StoreView}
 
 -- the turns of a channel
 abbrev pub IsOfChannel : Kind → Type 0

@@ -13,12 +13,12 @@ use Rattle.store_model.specs.RunInvariant.{RunInvariant}
 use Rattle.store_model.proofs.Going.{survives_start}
 use Rattle.store_model.proofs.Over.{CrashLaws, Over}
 use Rattle.store_model.proofs.Turns as turns
-use Rattle.store_core.proofs.Showing.{loaded_alike}
-use Rattle.store_core.specs.JobTurns.{TurnsJob}
-use Rattle.store_core.specs.StoreInvariant.{StoreInvariant, opening_script}
-use Rattle.store_core.specs.TurnMade.{TurnMade}
-use Rattle.store_core.specs.StoreView.{StoreView, WithOpening, state_of}
-use Rattle.store_core.specs.Surviving.{HasOneImage, HoldsMetadata, OldOrNew}
+use Rattle.running_store.proofs.Showing.{loaded_alike}
+use Rattle.metadata_turns.specs.JobTurns.{TurnsJob}
+use Rattle.running_store.specs.StoreInvariant.{StoreInvariant, opening_script}
+use Rattle.running_store.specs.TurnMade.{TurnMade}
+use Rattle.running_store.specs.StoreView.{StoreView, WithOpening, state_of}
+use Rattle.running_store.specs.Surviving.{HasOneImage, HoldsMetadata, OldOrNew}
 
 module _ {D : Type 0} (d : Ghosts D) (laws : CrashLaws)
     (law : IsTrue d.tells → Telling d.now d.images d.since d.clock) where

@@ -18,8 +18,8 @@ use Rattle.store_model.specs.Shown.{fixed_of}
 use Rattle.store_model.specs.StoreState.{StoreState, shown}
 use Rattle.store_model.specs.RunInvariant.{RunInvariant, RunsWell}
 use Rattle.store_model.proofs.Sets.{among_first}
-use Rattle.store_core.specs.Begins.{IsFreshHead, IsJobOf}
-use Rattle.store_core.specs.LoadedWhole.{IsNextHead}
+use Rattle.metadata_turns.specs.Begins.{IsFreshHead, IsJobOf}
+use Rattle.running_store.specs.LoadedWhole.{IsNextHead}
 
 module _ (s : Super) (first : Volumes) (script : ℕ → List _) (p : StoreState) (facts : RunInvariant s first script p)
     (well : RunsWell first p) where

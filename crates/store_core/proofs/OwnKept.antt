@@ -18,10 +18,10 @@ use Rattle.store_model.specs.Rows.{InJob, OpenClaim, Row, Rows, Stage, with_row}
 use Rattle.store_model.specs.StoreState.{ForCommand, ForInsert, going_on, JobState, Opens, StoreState}
 use Rattle.store_model.proofs.LeftToDo.{goes_on_as}
 use Rattle.store_model.proofs.RowsKept.{row_here, row_other}
-use Rattle.store_core.specs.OwnWrites.{AreOwn, BeginsWithWrite, WaitsToInsert}
-use Rattle.store_core.specs.StoreInvariant.{StoreInvariant}
-use Rattle.store_core.specs.StoreView.{WithOpening, state_of}
-use Rattle.store_core.proofs.InsertFailed.{with_row_twice}
+use Rattle.metadata_turns.specs.OwnWrites.{AreOwn, BeginsWithWrite, WaitsToInsert}
+use Rattle.running_store.specs.StoreInvariant.{StoreInvariant}
+use Rattle.running_store.specs.StoreView.{WithOpening, state_of}
+use Rattle.metadata_turns.proofs.InsertFailed.{with_row_twice}
 
 -- ---- rows with claims
 

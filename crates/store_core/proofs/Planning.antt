@@ -1,5 +1,5 @@
 -- What a plan made of what a running store has in memory is in the volumes that the store shows.
-use Rattle.store_core.specs.StoreInvariant.{IsRunning}
+use Rattle.running_store.specs.StoreInvariant.{IsRunning}
 use Rattle.std.proofs.Common.{◌≡◌, ℕ, [], ◌∷◌, length, Some, None, refl, sym, ap, ◌∙◌}
 use Rattle.std.specs.Prelude.{if◌then◌else◌, nat_lt}
 use Rattle.std.specs.Option.{option_map, option_and_then}
@@ -21,14 +21,14 @@ use Rattle.store_model.specs.Maps.{Map}
 use Rattle.store_model.specs.Shown.{fixed_of}
 use Rattle.store_model.specs.StoreState.{StoreState, shown}
 use Rattle.store_model.specs.Asking.{resizes, AsksFor}
-use Rattle.store_core.specs.Begins.{IsJobOf}
+use Rattle.metadata_turns.specs.Begins.{IsJobOf}
 use Rattle.store_model.proofs.Synced.{edited_here}
 use Rattle.store_core.specs.Planning.{PlanLaws}
-use Rattle.store_core.specs.StoreView.{state_of}
+use Rattle.running_store.specs.StoreView.{state_of}
 use Rattle.store_core.proofs.NextHead.{asks_create}
-use Rattle.store_core.proofs.Showing.{shows_metas}
-use Rattle.store_core.proofs.Answered.{found, live_same}
-use Rattle.store_core.proofs.Found.{is_live_of, shows_live}
+use Rattle.running_store.proofs.Showing.{shows_metas}
+use Rattle.metadata_turns.proofs.Answered.{found, live_same}
+use Rattle.metadata_turns.proofs.Found.{is_live_of, shows_live}
 
 module _ (p : StoreState) (running : IsRunning p) (runs : p.stopped ≡ None) (metas : map.FinMap nat_cmp Meta)
     (base : p.base ≡ map.get metas) (volume : VolumeRef) (head : ℕ) (old : Meta) (live : Xattrs)

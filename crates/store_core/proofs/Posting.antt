@@ -28,30 +28,22 @@ use Rattle.volume_model.specs.declared.reply.Msg.{Msg}
 use Rattle.store_model.specs.Rows.{Claiming, Copying, Decided, Ended, Idle, InJob, IsForMetadata, OpenClaim}
 use Rattle.store_model.specs.Rows.{Posted, Ready, Row, Stage}
 use Rattle.store_model.specs.Cases as kind
-use Rattle.store_core.specs.declared.rows.RowStage.TheVariants.{Meta, Over}
-use Rattle.store_core.specs.declared.begin.BeginTurn.{BeginTurn}
-use Rattle.store_core.specs.declared.begin.BeginTurn.TheVariants as begin
-use Rattle.store_core.specs.declared.page_reading.ReadTurn.{ReadTurn}
-use Rattle.store_core.specs.declared.page_reading.ReadTurn.TheVariants as read
-use Rattle.store_core.specs.ChannelTurns.{IsOfRead, TurnsAs}
-use Rattle.store_core.specs.Begins.{BeginsOrNot}
-use Rattle.store_core.specs.StoreInvariant.{IsRunning, StoreInvariant}
-use Rattle.store_core.specs.TurnMade.{TurnMade}
-use Rattle.store_core.specs.StoreView.{StoreView, WithOpening, rows_of, state_of}
-use Rattle.store_core.specs.Requests.{HavePosted, IsPostedBy}
-use Rattle.store_core.specs.Stages.{is_stage, waits_for}
-use Rattle.store_core.specs.Steps.{IsPostedAt, WaitsForMetadata}
+use Rattle.running_store.specs.declared.rows.RowStage.TheVariants.{Meta, Over}
+use Rattle.metadata_turns.specs.declared.begin.BeginTurn.{BeginTurn}
+use Rattle.metadata_turns.specs.declared.begin.BeginTurn.TheVariants as begin
+use Rattle.channel_turns.specs.declared.page_reading.ReadTurn.{ReadTurn}
+use Rattle.channel_turns.specs.declared.page_reading.ReadTurn.TheVariants as read
+use Rattle.channel_turns.specs.ChannelTurns.{IsOfRead}
+use Rattle.running_store.specs.TurnMade.{TurnMade, TurnsAs}
+use Rattle.metadata_turns.specs.Begins.{BeginsOrNot}
+use Rattle.running_store.specs.StoreInvariant.{IsRunning, StoreInvariant}
+use Rattle.running_store.specs.StoreView.{StoreView, WithOpening, rows_of, state_of}
+use Rattle.running_store.specs.Requests.{HavePosted, IsPostedBy}
+use Rattle.running_store.specs.Stages.{is_stage, waits_for}
+use Rattle.running_store.specs.Steps.{IsPostedAt, WaitsForMetadata}
 use Rattle.store_model.specs.RunInvariant.{IsShaped, MayClaim}
 use Rattle.store_model.proofs.Shaped.{no_claim}
-
--- a row that hasn't ended is that of one of the channels
-pub low_of : (rows : List Row) (channel : ℕ) (stage : Stage) → length rows ≡ 16 → (rows_of rows channel).stage ≡ stage
-    → (Ended ≡ stage → ⊥) → channel < 16
-low_of rows channel stage sixteen is other = elim (cases_lt channel (length rows)) [
-  | inl lt ↦ omega (arith, lt, sixteen)
-  | inr ge ↦ absurd (other (sym
-      (ap (λ (r : Row). r.stage) (get_or-eq_default rows (record { left = []; stage = Ended; claim = None }) ge)) ∙ is))
-]
+use Rattle.running_store.proofs.Rowing.{low_of}
 
 -- the first command of a row is for the metadata thread
 pub record HasMeta (left : List Command) (stage : Stage) : Type 0 where

@@ -23,8 +23,8 @@ use Rattle.store_model.specs.Rows.{Posted, Ready, Row, Rows, Stage, with_row, Wo
 use Rattle.store_model.specs.StoreState.{Opens, StoreState}
 use Rattle.store_model.specs.Turning.{stopped_now}
 use Rattle.store_model.proofs.RowsKept.{row_here, row_other}
-use Rattle.store_core.specs.StoreInvariant.{StoreInvariant}
-use Rattle.store_core.specs.StoreView.{rows_of, state_of, StoreView, WithOpening}
+use Rattle.running_store.specs.StoreInvariant.{StoreInvariant}
+use Rattle.running_store.specs.StoreView.{rows_of, state_of, StoreView, WithOpening}
 
 -- a write of a page comes first
 pub record HasWrite (left : List Command) : Type 0 where

@@ -26,11 +26,11 @@ use Rattle.store_model.specs.StoreState.{Opens}
 use Rattle.store_model.specs.RunInvariant.{AreLoadable}
 use Rattle.store_model.specs.Rows.{Row, Idle, Ended}
 use Rattle.store_model.proofs.WithEntry.{given_here, given_elsewhere}
-use Rattle.store_core.specs.declared.loaded.Loaded.{Loaded}
+use Rattle.running_store.specs.declared.loaded.Loaded.{Loaded}
 use Rattle.store_core.specs.Opening.{AreGuardsAtStart, AreRows, IsLiveAtStart, opened_with, row_at_start}
-use Rattle.store_core.specs.StoreView.{rows_of, state_of}
-use Rattle.store_core.specs.LoadedWhole.{IsWhole}
-use Rattle.store_core.proofs.Maps.{insert_given}
+use Rattle.running_store.specs.StoreView.{rows_of, state_of}
+use Rattle.running_store.specs.LoadedWhole.{IsWhole}
+use Rattle.running_store.proofs.Maps.{insert_given}
 
 -- the live attributes of the blobs whose heads are below this
 pub record LiveBelow (metas : map.FinMap nat_cmp Meta) (live : map.FinMap nat_cmp Xattrs) (end : ℕ) : Type 0 where

@@ -12,10 +12,10 @@ use Rattle.blob_meta.specs.declared.meta.Meta.{Meta}
 use Rattle.io_freeze.specs.Guards.{GuardsState}
 use Rattle.store_model.specs.Guarding.{AreGenerations}
 use Rattle.store_model.specs.Rows.{Row, Idle, Ended}
-use Rattle.store_core.specs.declared.loaded.Loaded.{Loaded}
+use Rattle.running_store.specs.declared.loaded.Loaded.{Loaded}
 use Rattle.store_core.specs.declared.starting.AtStart.{AtStart}
-use Rattle.store_core.specs.Running.{left_in}
-use Rattle.store_core.specs.StoreView.{StoreView, rows_of}
+use Rattle.running_store.specs.Running.{left_in}
+use Rattle.running_store.specs.StoreView.{StoreView, rows_of}
 
 -- each blob's attributes are live as they are synced
 abbrev pub IsLiveAtStart : map.FinMap nat_cmp Meta → map.FinMap nat_cmp Xattrs → Type 0

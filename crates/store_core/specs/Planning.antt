@@ -16,11 +16,11 @@ use Rattle.blob_meta.specs.ShownBy.{IsFirstRefusal, IsHeadMeant, ShowsMetas}
 use Rattle.store_model.specs.Shown.{fixed_of}
 use Rattle.store_model.specs.StoreState.{shown}
 use Rattle.store_model.specs.Asking.{AsksFor}
-use Rattle.store_core.specs.Answering.{IsFound}
-use Rattle.store_core.specs.Begins.{IsJobOf}
-use Rattle.store_core.specs.LoadedWhole.{IsNextHead}
-use Rattle.store_core.specs.StoreInvariant.{IsRunning}
-use Rattle.store_core.specs.StoreView.{StoreView, state_of}
+use Rattle.metadata_turns.specs.Answering.{IsFound}
+use Rattle.metadata_turns.specs.Begins.{IsJobOf}
+use Rattle.running_store.specs.LoadedWhole.{IsNextHead}
+use Rattle.running_store.specs.StoreInvariant.{IsRunning}
+use Rattle.running_store.specs.StoreView.{StoreView, state_of}
 
 -- A blob as a store has it in memory: its metadata, and its live attributes.
 pub record HasBlob {D : Type 0} (p : StoreView D) (head : ℕ) (old : Meta) (live : Xattrs) : Type 0 where

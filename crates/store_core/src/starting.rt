@@ -4,16 +4,14 @@ ghost use Rattle.std.specs.Prelude.{◌≡◌, ◌+◌, ◌<◌, ◌≤◌, ◌^
 ghost use Rattle.std.specs.FinMap as map;
 ghost use Rattle.volume_model.specs.declared.command.Command.{Command as ACommand};
 ghost use Rattle.store_core.specs.Opening.{AreGuardsAtStart, AreRows, IsAtStart, IsLiveAtStart, opened_with};
-ghost use Rattle.store_core.specs.Running.{view_of, AreHeads, InOrder, left_in};
+ghost use Rattle.running_store.specs.Running.{view_of, AreHeads, InOrder, left_in};
 
-use crate::loaded::Loaded;
-use crate::rows::Row;
-use crate::running::Running;
 use blob_meta::{HeadMap, Metas};
 use io_freeze::Guards;
 use out_of_memory::Memory;
 use page_disk::PageDisk;
 use pools::{ClusterPool, PagePool};
+use running_store::{Loaded, Row, Running};
 use std::alloc::Global;
 use super_block::Masks;
 use volume_model::{Entry, Script, TryCopy, XattrList};

@@ -1,9 +1,9 @@
 //! What a device is found to hold.
 
 use page_disk::{MemDisk, Page, PageDisk};
+use running_store::Loaded;
 use std::alloc::Global;
 use std::test::Fail;
-use store_core::Loaded;
 use unclean_load::load;
 
 /// A head, and the places of its chain.

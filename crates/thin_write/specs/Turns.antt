@@ -4,12 +4,12 @@ use Rattle.page_disk.specs.declared.disk.PageDisk.{Ghosts}
 use Rattle.volume_model.specs.declared.reply.Msg.{Msg}
 use Rattle.store_model.specs.Cases as kind
 use Rattle.store_model.specs.Rows.{Row}
-use Rattle.store_core.specs.ChannelTurns.{IsOfWrite, TurnsAs}
-use Rattle.store_core.specs.ClaimTurns.{IsOfClaim, IsOfCopy, IsOfSend}
-use Rattle.store_core.specs.StoreView.{rows_of, StoreView}
-use Rattle.store_core.specs.TurnMade.{TurnMade}
-use Rattle.store_core.specs.declared.rows.RowStage.{RowStage}
-use Rattle.store_core.specs.declared.rows.RowStage.TheVariants as waits
+use Rattle.channel_turns.specs.ChannelTurns.{IsOfWrite}
+use Rattle.running_store.specs.TurnMade.{TurnMade, TurnsAs}
+use Rattle.channel_turns.specs.ClaimTurns.{IsOfClaim, IsOfCopy, IsOfSend}
+use Rattle.running_store.specs.StoreView.{rows_of, StoreView}
+use Rattle.running_store.specs.declared.rows.RowStage.{RowStage}
+use Rattle.running_store.specs.declared.rows.RowStage.TheVariants as waits
 
 -- what the row of a write waits for where the next turn is the channel's own
 abbrev pub IsAtWrite : RowStage → Type 0

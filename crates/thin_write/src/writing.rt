@@ -2,10 +2,10 @@
 
 ghost use Rattle.std.specs.Prelude.{◌≡◌};
 ghost use Rattle.data_path.specs.declared.reading.Stage.TheVariants.{Again, Logged, Send, Waiting};
-ghost use Rattle.store_core.specs.ChannelTurns.{IsFrozenFor};
-ghost use Rattle.store_core.specs.Stages.{is_stage};
-ghost use Rattle.store_core.specs.Steps.{gone_on, Asks, OnlyRow};
-ghost use Rattle.store_core.specs.StoreView.{rows_of, state_of};
+ghost use Rattle.channel_turns.specs.ChannelTurns.{IsFrozenFor};
+ghost use Rattle.running_store.specs.Stages.{is_stage};
+ghost use Rattle.running_store.specs.Steps.{gone_on, Asks, OnlyRow};
+ghost use Rattle.running_store.specs.StoreView.{rows_of, state_of};
 ghost use Rattle.thin_write.specs.Turns.{GoesOn, IsAtWrite, LogsWrite, OthersStay, PostsInsert};
 ghost use Rattle.volume_model.specs.declared.reply.Msg.{Msg as AMsg};
 

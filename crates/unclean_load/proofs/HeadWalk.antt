@@ -26,7 +26,7 @@ use Rattle.unclean_load.specs.declared.heads.Blob.{Blob}
 use Rattle.unclean_load.specs.Heads.{has_mark, AreWholeBelow, Shows, ShowsFirst, IsHeadsFault}
 use Rattle.unclean_load.specs.Reading.{SaysAt, IsBlobFault, IsPlaceFault, AreRead, HasNoneFrom, IsChainOf}
 use Rattle.unclean_load.specs.Reading.{IsBlobRefused, meta_in, chain_in, IsFaultCounted}
-use Rattle.store_core.proofs.Maps.{insert_given}
+use Rattle.running_store.proofs.Maps.{insert_given}
 use Rattle.unclean_load.proofs.Taken.{loadable, chain_of_region}
 use Rattle.unclean_load.proofs.Sums.{sum_more, sum_same}
 

@@ -4,7 +4,7 @@ ghost use Rattle.std.specs.Prelude.{◌≡◌, ◌≤◌, ◌+◌, ◌^◌, ℕ,
 ghost use Rattle.std.specs.FinMap as map;
 ghost use Rattle.blob_meta.specs.Resolving.{IsLawful, slots_together};
 ghost use Rattle.md_chain.specs.Reading.{OnlyRead};
-ghost use Rattle.store_core.specs.LoadedWhole.{AreMasks, IsWhole};
+ghost use Rattle.running_store.specs.LoadedWhole.{AreMasks, IsWhole};
 ghost use Rattle.store_model.specs.Regions.{region_of, look_of};
 ghost use Rattle.store_model.specs.Scans.{Says};
 ghost use Rattle.store_model.specs.RunInvariant.{AreLoadable, HaveChains};
@@ -23,8 +23,8 @@ use crate::super_page::super_on;
 use crate::walking::{Blobs, blobs_on};
 use blob_meta::{Chains, Metas, ReplacementList};
 use page_disk::PageDisk;
+use running_store::Loaded;
 use std::alloc::Global;
-use store_core::Loaded;
 use super_block::{Masks, Super};
 
 /// A store as it was read.

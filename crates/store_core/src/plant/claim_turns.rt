@@ -1,10 +1,8 @@
 //! The turns of a write that has found its slot empty: what is kept of a running store over them.
 
-use crate::claiming::{ClaimTurn, claim_or_halt};
-use crate::copying::{CopyTurn, copy_or_halt};
 use crate::keeping::goes_on;
 use crate::plant::Plant;
-use crate::sending::{SendTurn, send_or_halt};
+use channel_turns::{ClaimTurn, CopyTurn, SendTurn, claim_or_halt, copy_or_halt, send_or_halt};
 use page_disk::PageDisk;
 
 impl<D: PageDisk> Plant<D> {
@@ -12,16 +10,17 @@ impl<D: PageDisk> Plant<D> {
     ghost use Rattle.super_block.specs.Numbers.{cluster_pages_of};
     ghost use Rattle.volume_model.specs.declared.reply.Msg.{Msg as AMsg};
     ghost use Rattle.store_model.specs.Cases as kind;
-    ghost use Rattle.store_core.specs.declared.claiming.ClaimTurn.TheVariants as claim;
-    ghost use Rattle.store_core.specs.declared.copying.CopyTurn.TheVariants as copy;
-    ghost use Rattle.store_core.specs.declared.sending.SendTurn.TheVariants as send;
-    ghost use Rattle.store_core.specs.declared.rows.RowStage.TheVariants.{Claim, Copy, Ready};
-    ghost use Rattle.store_core.specs.ChannelTurns.{IsFrozenFor, TurnsAs};
-    ghost use Rattle.store_core.specs.ClaimTurns.{row_claimed, row_copied, row_sent, IsOfClaim, IsOfCopy, IsOfSend};
-    ghost use Rattle.store_core.specs.Stages.{is_stage};
-    ghost use Rattle.store_core.specs.Steps.{Asks, OnlyRow};
-    ghost use Rattle.store_core.specs.StoreView.{rows_of, state_of};
-    ghost use Rattle.store_core.specs.TurnMade.{TurnMade};
+    ghost use Rattle.channel_turns.specs.declared.claiming.ClaimTurn.TheVariants as claim;
+    ghost use Rattle.channel_turns.specs.declared.copying.CopyTurn.TheVariants as copy;
+    ghost use Rattle.channel_turns.specs.declared.sending.SendTurn.TheVariants as send;
+    ghost use Rattle.running_store.specs.declared.rows.RowStage.TheVariants.{Claim, Copy, Ready};
+    ghost use Rattle.channel_turns.specs.ChannelTurns.{IsFrozenFor};
+    ghost use Rattle.running_store.specs.TurnMade.{TurnsAs};
+    ghost use Rattle.channel_turns.specs.ClaimTurns.{row_claimed, row_copied, row_sent, IsOfClaim, IsOfCopy, IsOfSend};
+    ghost use Rattle.running_store.specs.Stages.{is_stage};
+    ghost use Rattle.running_store.specs.Steps.{Asks, OnlyRow};
+    ghost use Rattle.running_store.specs.StoreView.{rows_of, state_of};
+    ghost use Rattle.running_store.specs.TurnMade.{TurnMade};
 
     /// Claims a cluster for the first command of a channel, a write that has found its slot empty. `Frozen` comes
     /// exactly where its blob is frozen: the store is as it was. Else `Filled` comes exactly where the slot has a

@@ -1,21 +1,21 @@
 //! The begin of an insert: what is kept of a running store over it.
 
-use crate::inserting::{InsertTurn, begin_insert_or_halt};
 use crate::keeping::goes_on;
 use crate::plant::Plant;
 use crate::right::MdRight;
+use metadata_turns::{InsertTurn, begin_insert_or_halt};
 use page_disk::PageDisk;
 use volume_model::Msg;
 
 impl<D: PageDisk> Plant<D> {
     ghost use Rattle.std.specs.Prelude.{◌≡◌, None, IsSome};
     ghost use Rattle.store_model.specs.Cases as kind;
-    ghost use Rattle.store_core.specs.declared.inserting.InsertTurn.TheVariants.{Logged};
-    ghost use Rattle.store_core.specs.Inserts.{row_inserting, InsertsOrNot};
-    ghost use Rattle.store_core.specs.Requests.{IsInsertPosted};
-    ghost use Rattle.store_core.specs.Steps.{OnlyRow};
-    ghost use Rattle.store_core.specs.StoreView.{rows_of};
-    ghost use Rattle.store_core.specs.TurnMade.{TurnMade};
+    ghost use Rattle.metadata_turns.specs.declared.inserting.InsertTurn.TheVariants.{Logged};
+    ghost use Rattle.metadata_turns.specs.Inserts.{row_inserting, InsertsOrNot};
+    ghost use Rattle.running_store.specs.Requests.{IsInsertPosted};
+    ghost use Rattle.running_store.specs.Steps.{OnlyRow};
+    ghost use Rattle.running_store.specs.StoreView.{rows_of};
+    ghost use Rattle.running_store.specs.TurnMade.{TurnMade};
 
     /// Begins the insert that a message posts: the job that writes its blob's metadata, as it was last synced, with the
     /// cluster in the claim's slot. `Decided` comes exactly where the blob is gone or has another generation than at

@@ -1,6 +1,6 @@
 use Rattle.std.proofs.Common.{inl, inr}
-use Rattle.store_core.specs.StoreView.{rows_of}
-use Rattle.store_core.specs.declared.rows.RowStage.TheVariants.{Read}
+use Rattle.running_store.specs.StoreView.{rows_of}
+use Rattle.running_store.specs.declared.rows.RowStage.TheVariants.{Read}
 use Rattle.blob_tool.proofs.Driven.{next_of, none_frozen}
 use Rattle.blob_tool.proofs.driver.read.Goals as goal
 

@@ -1,5 +1,5 @@
 use Rattle.std.proofs.Common.{◌≡◌, length}
-use Rattle.store_core.specs.StoreView.{rows_of}
+use Rattle.running_store.specs.StoreView.{rows_of}
 use Rattle.blob_tool.proofs.Driven.{Serves}
 use Rattle.blob_tool.proofs.driver.run_channel.Given as goal
 

@@ -1,7 +1,7 @@
 use Rattle.std.proofs.Common.{sym, ap, ◌∙◌}
 use Rattle.store_model.specs.Rows.{Row}
-use Rattle.store_core.specs.Begins.{row_begun}
-use Rattle.store_core.specs.StoreView.{rows_of}
+use Rattle.metadata_turns.specs.Begins.{row_begun}
+use Rattle.running_store.specs.StoreView.{rows_of}
 use Rattle.blob_tool.proofs.serving.serve.Goals as goal
 
 pub finish-requires-clause-served : goal.finish-requires-clause-served

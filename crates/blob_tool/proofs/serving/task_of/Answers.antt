@@ -2,10 +2,10 @@ use Rattle.std.proofs.Common.{◌≡◌, ◌≢◌, List, ◌∷◌, None, Optio
 use Rattle.std.specs.Prelude.{IsSome}
 use Rattle.volume_model.specs.declared.command.Command.{Command}
 use Rattle.store_model.specs.Rows.{OpenClaim, Row}
-use Rattle.store_core.specs.Requests.{IsAsked}
-use Rattle.store_core.specs.StoreView.{rows_of}
-use Rattle.store_core.specs.declared.requests.Request.{Request}
-use Rattle.store_core.specs.declared.requests.Request.TheVariants as request
+use Rattle.running_store.specs.Requests.{IsAsked}
+use Rattle.running_store.specs.StoreView.{rows_of}
+use Rattle.running_store.specs.declared.requests.Request.{Request}
+use Rattle.running_store.specs.declared.requests.Request.TheVariants as request
 use Rattle.blob_tool.specs.Serving.{IsCommandOf}
 use Rattle.blob_tool.proofs.serving.task_of.Goals as goal
 

@@ -1,5 +1,5 @@
 use Rattle.std.proofs.Common.{◌≡◌}
-use Rattle.store_core.specs.StoreInvariant.{StoreInvariant}
+use Rattle.running_store.specs.StoreInvariant.{StoreInvariant}
 use Rattle.blob_tool.specs.Driving.{turns_left}
 use Rattle.blob_tool.proofs.LoneInsert.{FinishesInsert}
 use Rattle.blob_tool.proofs.writing.finish_insert.Given as goal

@@ -1,5 +1,5 @@
 use Rattle.std.proofs.Common.{◌∙◌}
-use Rattle.store_core.specs.StoreView.{rows_of}
+use Rattle.running_store.specs.StoreView.{rows_of}
 use Rattle.blob_tool.proofs.LoneInsert.{not_won, won_told}
 use Rattle.blob_tool.proofs.writing.insert.Goals as goal
 

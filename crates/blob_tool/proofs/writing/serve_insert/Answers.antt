@@ -1,8 +1,8 @@
 use Rattle.std.proofs.Common.{List, sym, ap, subst, ◌∙◌}
 use Rattle.volume_model.specs.declared.command.Command.{Command}
 use Rattle.store_model.specs.Rows.{Row}
-use Rattle.store_core.specs.Inserts.{row_inserting}
-use Rattle.store_core.specs.StoreView.{rows_of, state_of}
+use Rattle.metadata_turns.specs.Inserts.{row_inserting}
+use Rattle.running_store.specs.StoreView.{rows_of, state_of}
 use Rattle.blob_tool.specs.Writing.{InsertsWrite}
 use Rattle.blob_tool.proofs.LoneInsert.{after_begin}
 use Rattle.blob_tool.proofs.writing.serve_insert.Goals as goal

@@ -1,5 +1,5 @@
 use Rattle.std.proofs.Common.{◌≡◌}
-use Rattle.store_core.specs.StoreInvariant.{StoreInvariant}
+use Rattle.running_store.specs.StoreInvariant.{StoreInvariant}
 use Rattle.blob_tool.proofs.LoneWrite.{to_message, ToMessage}
 use Rattle.blob_tool.proofs.writing.write_or_send.Given as goal
 

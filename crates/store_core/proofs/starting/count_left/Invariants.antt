@@ -1,5 +1,5 @@
 use Rattle.std.proofs.Common.{◌≡◌, ◌+◌, drop}
-use Rattle.store_core.specs.Running.{left_in}
+use Rattle.running_store.specs.Running.{left_in}
 use Rattle.store_core.proofs.starting.count_left.Given as goal
 
 -- what is counted and what is left are all

@@ -1,7 +1,7 @@
 use Rattle.std.proofs.Common.{◌≡◌, None, subst, sym}
-use Rattle.store_core.specs.Running.{view_of, with_opening}
-use Rattle.store_core.specs.Requests.{IsInsertPosted}
-use Rattle.store_core.specs.StoreView.{WithOpening}
+use Rattle.running_store.specs.Running.{view_of, with_opening}
+use Rattle.running_store.specs.Requests.{IsInsertPosted}
+use Rattle.running_store.specs.StoreView.{WithOpening}
 use Rattle.store_core.proofs.InsertKept.{holds_posted, inserting_or_not, posted_low}
 use Rattle.store_core.proofs.OwnKept.{own_kept}
 use Rattle.store_core.proofs.Posting.{kept_running}

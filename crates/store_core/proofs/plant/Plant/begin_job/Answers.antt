@@ -1,9 +1,9 @@
 use Rattle.std.proofs.Common.{◌≡◌, None, subst, sym}
-use Rattle.store_core.specs.Running.{view_of, with_opening}
-use Rattle.store_core.specs.Begins.{IsJobOf}
-use Rattle.store_core.specs.StoreView.{WithOpening, state_of}
-use Rattle.store_core.specs.Steps.{Asks}
-use Rattle.store_core.specs.Requests.{IsPostedBy}
+use Rattle.running_store.specs.Running.{view_of, with_opening}
+use Rattle.metadata_turns.specs.Begins.{IsJobOf}
+use Rattle.running_store.specs.StoreView.{WithOpening, state_of}
+use Rattle.running_store.specs.Steps.{Asks}
+use Rattle.running_store.specs.Requests.{IsPostedBy}
 use Rattle.store_core.proofs.Posting.{begun_or_not, posted_at}
 use Rattle.store_core.proofs.plant.Plant.begin_job.Goals as goal
 

@@ -1,13 +1,13 @@
 use Rattle.std.proofs.Common.{◌≡◌, ◌∙◌, ap, subst, sym}
 use Rattle.store_model.specs.Cases as kind
-use Rattle.store_core.specs.ChannelTurns.{IsFrozenFor}
-use Rattle.store_core.specs.Running.{view_of, with_opening}
-use Rattle.store_core.specs.StoreView.{WithOpening, rows_of, state_of}
-use Rattle.store_core.specs.Stages.{is_stage}
-use Rattle.store_core.specs.Steps.{Asks}
-use Rattle.store_core.specs.TurnMade.{TurnMade}
-use Rattle.store_core.specs.declared.claiming.ClaimTurn.TheVariants as claim
-use Rattle.store_core.specs.declared.rows.RowStage.TheVariants.{Claim}
+use Rattle.channel_turns.specs.ChannelTurns.{IsFrozenFor}
+use Rattle.running_store.specs.Running.{view_of, with_opening}
+use Rattle.running_store.specs.StoreView.{WithOpening, rows_of, state_of}
+use Rattle.running_store.specs.Stages.{is_stage}
+use Rattle.running_store.specs.Steps.{Asks}
+use Rattle.running_store.specs.TurnMade.{TurnMade}
+use Rattle.channel_turns.specs.declared.claiming.ClaimTurn.TheVariants as claim
+use Rattle.running_store.specs.declared.rows.RowStage.TheVariants.{Claim}
 use Rattle.store_core.proofs.FirstCommand.{low_claim, waits_claim}
 use Rattle.store_core.proofs.JobStays.{by_claim, IsOfChannel, over_channel}
 use Rattle.store_core.proofs.Posting.{turned_or_not}

@@ -1,11 +1,11 @@
 use Rattle.std.proofs.Common.{◌≡◌, ℕ, ◌∙◌, ap, subst, sym}
 use Rattle.store_model.specs.Cases as kind
-use Rattle.store_core.specs.TurnMade.{TurnMade}
-use Rattle.store_core.specs.declared.copying.CopyTurn.TheVariants as copy
-use Rattle.store_core.specs.Running.{view_of, with_opening}
-use Rattle.store_core.specs.StoreView.{WithOpening, rows_of}
-use Rattle.store_core.specs.Stages.{is_stage}
-use Rattle.store_core.specs.declared.rows.RowStage.TheVariants.{Copy}
+use Rattle.running_store.specs.TurnMade.{TurnMade}
+use Rattle.channel_turns.specs.declared.copying.CopyTurn.TheVariants as copy
+use Rattle.running_store.specs.Running.{view_of, with_opening}
+use Rattle.running_store.specs.StoreView.{WithOpening, rows_of}
+use Rattle.running_store.specs.Stages.{is_stage}
+use Rattle.running_store.specs.declared.rows.RowStage.TheVariants.{Copy}
 use Rattle.store_core.proofs.FirstCommand.{low_copy, waits_copy}
 use Rattle.store_core.proofs.JobStays.{by_copy, IsOfChannel, over_channel}
 use Rattle.store_core.proofs.Posting.{turned_or_not}

@@ -1,9 +1,9 @@
 use Rattle.std.proofs.Common.{◌≡◌, subst, sym}
 use Rattle.store_model.specs.Cases as kind
-use Rattle.store_core.specs.Running.{view_of, with_opening}
-use Rattle.store_core.specs.StoreView.{WithOpening, rows_of}
-use Rattle.store_core.specs.Stages.{is_stage}
-use Rattle.store_core.specs.declared.rows.RowStage.TheVariants.{Over}
+use Rattle.running_store.specs.Running.{view_of, with_opening}
+use Rattle.running_store.specs.StoreView.{WithOpening, rows_of}
+use Rattle.running_store.specs.Stages.{is_stage}
+use Rattle.running_store.specs.declared.rows.RowStage.TheVariants.{Over}
 use Rattle.store_core.proofs.Posting.{low_over, over_row}
 use Rattle.store_core.proofs.plant.Plant.end.Goals as goal
 

@@ -5,10 +5,10 @@ use Rattle.bit_array.specs.Bits.{is_in}
 use Rattle.std.proofs.Math.ListN.{get_or-eq_default}
 use Rattle.store_model.specs.Places.{held_by, Unclaimed, UsedClusters, UsedPages, claimed_by}
 use Rattle.store_model.specs.Rows.{Ended, Row}
-use Rattle.store_core.specs.Running.{view_of}
-use Rattle.store_core.specs.StoreView.{StoreView, WithOpening, rows_of, state_of}
-use Rattle.store_core.specs.LoadedWhole.{AreMasks, without_first}
-use Rattle.store_core.proofs.ClaimsCleared.{all_given_back}
+use Rattle.running_store.specs.Running.{view_of}
+use Rattle.running_store.specs.StoreView.{StoreView, WithOpening, rows_of, state_of}
+use Rattle.running_store.specs.LoadedWhole.{AreMasks, without_first}
+use Rattle.running_store.proofs.ClaimsCleared.{all_given_back}
 use Rattle.store_core.proofs.Posting.{job_over}
 use Rattle.store_core.proofs.plant.Plant.into_parts.Goals as goal
 

@@ -1,11 +1,11 @@
 use Rattle.std.proofs.Common.{◌≡◌, ◌∙◌, ap, subst, sym}
-use Rattle.store_core.specs.ChannelTurns.{IsFrozenFor, IsOfRead}
-use Rattle.store_core.specs.Running.{view_of, with_opening}
-use Rattle.store_core.specs.StoreView.{WithOpening, rows_of, state_of}
-use Rattle.store_core.specs.Stages.{is_stage}
-use Rattle.store_core.specs.Steps.{Asks}
-use Rattle.store_core.specs.declared.page_reading.ReadTurn.TheVariants as read
-use Rattle.store_core.specs.declared.rows.RowStage.TheVariants.{Read}
+use Rattle.channel_turns.specs.ChannelTurns.{IsFrozenFor, IsOfRead}
+use Rattle.running_store.specs.Running.{view_of, with_opening}
+use Rattle.running_store.specs.StoreView.{WithOpening, rows_of, state_of}
+use Rattle.running_store.specs.Stages.{is_stage}
+use Rattle.running_store.specs.Steps.{Asks}
+use Rattle.channel_turns.specs.declared.page_reading.ReadTurn.TheVariants as read
+use Rattle.running_store.specs.declared.rows.RowStage.TheVariants.{Read}
 use Rattle.store_core.proofs.FirstCommand.{low_read, waits_read}
 use Rattle.store_core.proofs.JobStays.{over_read}
 use Rattle.store_core.proofs.Posting.{by_read, turned_or_not}

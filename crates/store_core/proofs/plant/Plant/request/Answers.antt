@@ -1,6 +1,6 @@
 use Rattle.std.proofs.Common.{subst, sym}
-use Rattle.store_core.specs.Running.{with_opening}
-use Rattle.store_core.specs.Requests.{HavePosted}
+use Rattle.running_store.specs.Running.{with_opening}
+use Rattle.running_store.specs.Requests.{HavePosted}
 use Rattle.store_core.proofs.Posting.{have_posted}
 use Rattle.store_core.proofs.plant.Plant.request.Goals as goal
 

@@ -1,8 +1,8 @@
 use Rattle.std.proofs.Common.{◌≡◌, ◌∙◌, ap, subst, sym}
-use Rattle.store_core.specs.Running.{view_of, with_opening}
-use Rattle.store_core.specs.StoreView.{WithOpening, rows_of}
-use Rattle.store_core.specs.Stages.{is_stage}
-use Rattle.store_core.specs.declared.rows.RowStage.TheVariants.{Ready}
+use Rattle.running_store.specs.Running.{view_of, with_opening}
+use Rattle.running_store.specs.StoreView.{WithOpening, rows_of}
+use Rattle.running_store.specs.Stages.{is_stage}
+use Rattle.running_store.specs.declared.rows.RowStage.TheVariants.{Ready}
 use Rattle.store_core.proofs.FirstCommand.{holds_ready, low_ready}
 use Rattle.store_core.proofs.JobStays.{by_send, IsOfChannel, over_channel}
 use Rattle.store_core.proofs.Posting.{turned_or_not}

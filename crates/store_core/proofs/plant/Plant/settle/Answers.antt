@@ -1,4 +1,4 @@
-use Rattle.store_core.specs.Running.{view_of, with_opening}
+use Rattle.running_store.specs.Running.{view_of, with_opening}
 use Rattle.store_core.proofs.FirstCommand.{decided_so}
 use Rattle.store_core.proofs.JobStays.{by_settle, IsOfChannel}
 use Rattle.store_core.proofs.Posting.{turned_or_not}

@@ -1,10 +1,10 @@
 use Rattle.std.proofs.Common.{◌≡◌, sym, subst}
 use Rattle.std.specs.FinMap as map
-use Rattle.store_core.specs.declared.running.Running.{Running}
-use Rattle.store_core.specs.StoreInvariant.{StoreInvariant}
+use Rattle.running_store.specs.declared.running.Running.{Running}
+use Rattle.running_store.specs.StoreInvariant.{StoreInvariant}
 use Rattle.store_core.specs.Opening.{opened_with}
-use Rattle.store_core.specs.Running.{view_of, with_opening}
-use Rattle.store_core.specs.StoreView.{StoreView}
+use Rattle.running_store.specs.Running.{view_of, with_opening}
+use Rattle.running_store.specs.StoreView.{StoreView}
 use Rattle.store_core.proofs.Starts.{is_loaded_with, it_opens, none_past}
 use Rattle.store_core.proofs.plant.Plant.start.Goals as goal
 

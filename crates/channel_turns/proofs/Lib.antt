@@ -1,0 +1,11 @@
+pub mod Flushed
+pub mod PagesShown
+pub mod WriteMeant
+pub mod WriteAsked
+pub mod ClaimAsked
+pub mod Sent
+pub mod PagesCopied
+pub mod Written
+pub mod ReadAsked
+pub mod Thawed
+pub mod GivenUp

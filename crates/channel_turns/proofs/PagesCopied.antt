@@ -1,0 +1,339 @@
+-- What a channel's copy of a page comes to.
+use Rattle.std.proofs.Common.{◌≡◌, ◌≢◌, ◌⊎◌, ℕ, zero, suc, ◌+◌, ◌-◌, ◌*◌, ◌<◌, ◌≤◌, Bool, true, false, List, ◌∷◌}
+use Rattle.std.proofs.Common.{Option, Some, None, Result, Ok, Err, length, refl, sym, ◌∙◌, ap, subst, arith, inl, inr}
+use Rattle.std.proofs.Common.{◌^◌, add-one, IsTrue, not}
+use Rattle.std.specs.Prelude.{◌↔◌}
+use Rattle.std.specs.Ordering.{nat_cmp}
+use Rattle.blob_meta.specs.declared.meta.Meta.{Meta}
+use Rattle.super_block.specs.declared.page.Super.{Super}
+use Rattle.std.specs.Prelude.{if◌then◌else◌, IfSome, IsSome, OnErr, OnOk, slice_set}
+use Rattle.std.specs.Option.{option_map_or}
+use Rattle.std.specs.Result.{is_err}
+use Rattle.std.specs.FinMap as map
+use Rattle.std.proofs.Math.Nat.{mul-le-mul_right}
+use Rattle.page_disk.specs.Disk.{Image, Rose, RoseByOne, Telling, Written}
+use Rattle.page_disk.specs.Moments.{CallsLeaveOnly}
+use Rattle.page_disk.specs.declared.disk.DiskFault.{DiskFault}
+use Rattle.page_disk.specs.declared.disk.PageDisk.{Ghosts}
+use Rattle.page_disk.specs.declared.disk.WriteKind.TheVariants.{Plain}
+use Rattle.page_disk.proofs.Moments.{joined, kept_before}
+use Rattle.super_block.specs.Numbers.{cluster_pages_of, clusters_of}
+use Rattle.super_block.specs.Placed.{IsPlaced}
+use Rattle.volume_model.specs.Volumes.{zero_page}
+use Rattle.volume_model.specs.declared.command.Command.{Command}
+use Rattle.volume_model.specs.declared.command.Command.TheVariants as c
+use Rattle.volume_model.specs.declared.reply.Reply.TheVariants as r
+use Rattle.blob_meta.specs.Pages.{place_read}
+use Rattle.blob_meta.specs.Resolving.{resolved}
+use Rattle.blob_meta.specs.SlotCounts.{HeadsFit}
+use Rattle.store_model.specs.Cases as kind
+use Rattle.store_model.specs.Cases.{FailsToReplace, WritesOnePage}
+use Rattle.store_model.specs.Cases.Copy.{stage_left}
+use Rattle.store_model.specs.Cases.CopyFail.{copy, FailsToCopy}
+use Rattle.store_model.specs.Cases.Read.{IsRead}
+use Rattle.store_model.specs.Claiming.{given_back}
+use Rattle.store_model.specs.Copying.{IsUpToDate, page_of_claim, shown_in_slot}
+use Rattle.store_model.specs.Device.{Device}
+use Rattle.store_model.specs.Maps.{Metas}
+use Rattle.store_model.specs.Rows.{Copying, Idle, OpenClaim, Row, Rows, Stage}
+use Rattle.store_model.specs.StoreState.{logged_here, StoreState}
+use Rattle.store_model.specs.Touches.{no_new, puts, Touched}
+use Rattle.store_model.specs.Turning.{read_after}
+use Rattle.store_model.proofs.Used.{within}
+use Rattle.running_store.specs.DeviceCalls.{IsReadSo}
+use Rattle.running_store.specs.Steps.{logged_on, stopped_here, with_row_at}
+use Rattle.running_store.specs.TurnMade.{TurnMade, TurnsAs}
+use Rattle.channel_turns.specs.ClaimTurns.{CopiesNow, HoldsClaim, IsOfCopy, WaitsToCopy}
+use Rattle.running_store.specs.GivingBack.{row_given_back}
+use Rattle.running_store.specs.Stages.{to_copy_in}
+use Rattle.running_store.specs.StoreInvariant.{IsRunning}
+use Rattle.running_store.specs.StoreView.{device_of, read_now, rows_of, state_of, StoreView}
+use Rattle.channel_turns.proofs.GivenUp.{copying, disk_failed, logs_failed}
+use Rattle.running_store.proofs.GivenBack.{given_up, state_given_back}
+use Rattle.channel_turns.proofs.PagesShown.{read_content, read_low, resolved_is}
+use Rattle.channel_turns.proofs.ReadAsked.{content_seen, failed_so}
+use Rattle.running_store.proofs.Rowing.{state_with_row}
+use Rattle.channel_turns.proofs.Written.{blank}
+
+-- the stage of a row that has some pages left
+pub some_left : (left : ℕ) → left ≢ 0 → Copying left ≡ stage_left left
+some_left zero some = absurd (some refl)
+some_left (suc n) some = refl
+
+-- a claim with pages to copy, by what is read of its row
+abbrev pub seen_copy : {D : Type 0} (p : StoreView D) (channel : ℕ) (w : WaitsToCopy p channel) (claim : OpenClaim)
+    → (rows_of p.rows channel).claim ≡ Some claim → WaitsToCopy p channel
+seen_copy p channel w claim is = record {
+  left = w.left;
+  holds = record {
+    volume = w.holds.volume;
+    page = w.holds.page;
+    word = w.holds.word;
+    rest = w.holds.rest;
+    claim = claim;
+    row = w.holds.row ∙ ap (λ (o : Option OpenClaim). record {
+      left = c.Write w.holds.volume w.holds.page w.holds.word ∷ w.holds.rest;
+      stage = Copying (suc w.left);
+      claim = o;
+    }) (sym (ap (λ (x : Row). x.claim) w.holds.row) ∙ is);
+  };
+  few = w.few;
+}
+
+pub left_read : {D : Type 0} (p : StoreView D) (channel : ℕ) (w : WaitsToCopy p channel) (left : ℕ)
+    → Some left ≡ to_copy_in (rows_of p.rows channel).stage → left ≡ suc w.left
+left_read p channel w left is =
+    let both : Some left ≡ Some (suc w.left) = is ∙ ap (λ (x : Row). to_copy_in x.stage) w.holds.row in cc both
+
+-- a test that came out so
+pub late : (b : Bool) (F : Type 0) → (IsTrue b ↔ F) → b ≡ false → F → ⊥
+late true F both is holds = absurd (cc is)
+late false F both is holds = let bad = both.1 holds in cc bad
+
+-- each head is a number of 32 bits
+pub all_fit : {D : Type 0} (d : Ghosts D) (p : StoreView D) → IsRunning (state_of d p) → HeadsFit p.metas
+all_fit d p running h high = by (map.get p.metas h) refl
+  where
+    by : (o : Option Meta) → map.get p.metas h ≡ o → map.get p.metas h ≡ None
+    by None is = is
+    by (Some m) is =
+        let few = running.placed.few_md_pages in
+        let low = (running.facts.loadable h m is).stored.low in
+        absurd (omega (arith, few, low, high))
+
+-- where the page is read, by the pages of a cluster
+pub from_is : (metas : map.FinMap nat_cmp Meta) (sup : Super) (head slot page k : ℕ) → k ≡ cluster_pages_of sup
+    → (n : ℕ) → n ≡ slot * k + page
+    → place_read k (map.get metas) (sup.md_len + 1) head n
+    ≡ place_read (cluster_pages_of sup) (map.get metas) (sup.md_len + 1) head (slot * cluster_pages_of sup + page)
+from_is metas sup head slot page k pages n is =
+    ap (λ m. place_read k (map.get metas) (sup.md_len + 1) head m) is
+    ∙ ap (λ k. place_read k (map.get metas) (sup.md_len + 1) head (slot * k + page)) pages
+
+-- ---- where a page is copied from and to
+
+module _ {D : Type 0} (d : Ghosts D) (p : StoreView D) (channel : ℕ) (running : IsRunning (state_of d p))
+    (runs : p.stopped ≡ None) (w : WaitsToCopy p channel)
+    (current : map.get p.guards.generations w.holds.claim.head ≡ Some w.holds.claim.generation) where
+  abbrev s : StoreState
+  s = state_of d p
+
+  abbrev k : ℕ
+  k = cluster_pages_of p.super
+
+  abbrev claim : OpenClaim
+  claim = w.holds.claim
+
+  module _ (page : ℕ) (is_next : page + suc w.left ≡ k) (from : Option ℕ)
+      (from_is : from ≡ place_read k (map.get p.metas) (p.super.md_len + 1) claim.head (claim.slot * k + page)) where
+    -- what the slot shows is what is read there
+    shows : shown_in_slot s claim page ≡ option_map_or (read_now d p.disk) from zero_page
+    shows =
+        let n = claim.slot * k + page in
+        read_content k s.device.reads (resolved s.base) (suc p.super.md_len) n claim.head
+        ∙ ap (λ (b : Metas). option_map_or s.device.reads (place_read k b (suc p.super.md_len) claim.head n) zero_page)
+        (resolved_is s running runs p.metas refl)
+        ∙ ap (λ t. option_map_or s.device.reads (place_read k (map.get p.metas) t claim.head n) zero_page)
+        (sym (add-one p.super.md_len))
+        ∙ ap (λ (o : Option ℕ). option_map_or s.device.reads o zero_page) (sym from_is)
+
+    pub copies_now : (to : ℕ) → to ≡ claim.cluster * k + page → CopiesNow d p channel from to w.left
+    copies_now to to_is = record {
+      holds = w.holds;
+      runs = runs;
+      current = current;
+      page = page;
+      is_next = is_next;
+      content = shows;
+      to_is = sym to_is;
+    }
+
+    -- both places lie on the device
+    pub from_inside : (bound : ℕ) → p.super.device_pages ≤ bound → IfSome from (λ n. n < bound)
+    from_inside bound le = by from from_is
+      where
+        by : (o : Option ℕ)
+            → o ≡ place_read k (map.get p.metas) (p.super.md_len + 1) claim.head (claim.slot * k + page)
+            → IfSome o (λ n. n < bound)
+        by None is = tt
+        by (Some n) is =
+            let low = read_low s running runs p.metas refl (p.super.md_len + 1) (claim.slot * k + page) claim.head n
+            (sym is) in
+            omega (arith, low, le)
+
+    pub to_inside : (to : ℕ) → to ≡ claim.cluster * k + page → to < p.super.device_pages
+    to_inside to to_is =
+        let used = (running.facts.well runs).clusters in
+        let low = within p.clusters claim.cluster (used.claimed_too claim.cluster (inl (record {
+          channel = channel;
+          claim = claim;
+          held = ap (λ (x : Row). x.claim) w.holds.row;
+          is = refl;
+        }))) in
+        let count = used.count in
+        let le : (claim.cluster + 1) * k ≤ clusters_of p.super * k =
+        mul-le-mul_right k (omega (arith, low, count)) in
+        let on = (subst IsPlaced (sym running.facts.super) running.placed).on_device in
+        let below = is_next in
+        omega (arith, le, below, to_is, on)
+
+-- ---- the copy itself
+
+module _ {D : Type 0} (d : Ghosts D) (p : StoreView D) (channel : ℕ) (from : Option ℕ) (to left : ℕ)
+    (x : CopiesNow d p channel from to left) (low : channel < length p.rows) where
+  abbrev now : StoreState
+  now = state_of d p
+
+  abbrev w : HoldsClaim p channel (Copying (suc left))
+  w = x.holds
+
+  abbrev command : Command
+  command = c.Write w.volume w.page w.word
+
+  -- the page can't be read
+  pub copy_not_read : (disk : D) → CallsLeaveOnly d p.disk disk (d.images p.disk)
+      → IsRead (device_of d p.disk) (device_of d disk) r.ReadFault → (q : StoreView D)
+      → ((command : Command) (rest : List Command) → (rows_of p.rows channel).left ≡ command ∷ rest
+      → q ≡ logged_on (row_given_back (record p { disk = disk }) channel Idle) channel command rest r.ReadFault
+      (d.clock q.disk))
+      → TurnsAs d IsOfCopy p q
+  copy_not_read disk moments read q logged =
+      let row_left = ap (λ (y : Row). y.left) w.row in
+      let is = logged command w.rest row_left in
+      record {
+        kind = kind.copy_not_read;
+        is = tt;
+        made = (
+          record {
+            left = left;
+            copying = copying d p channel (Copying (suc left)) low w;
+            runs = x.runs;
+            current = x.current;
+            device = device_of d disk;
+            failed = record {
+              reads = read.reads;
+              clock = read.clock;
+              read_faults = read.fault refl;
+              write_faults = read.write_faults;
+            };
+            logs = record {
+              volume = w.volume;
+              page = w.page;
+              word = w.word;
+              rest = w.rest;
+              left = row_left;
+              next = given_up d (record p { disk = disk }) channel low q command w.rest r.ReadFault is;
+            };
+          },
+          subst (λ (y : D). Touched d p.disk y (no_new false)) (sym (ap (λ (a : StoreView D). a.disk) is))
+              (record { moments = moments; durable = λ never. absurd (cc never) }),
+        );
+      }
+
+  -- the page is read, and then it is written or not
+  module _ (law : IsTrue d.tells → Telling d.now d.images d.since d.clock) (mid : D)
+      (reading : CallsLeaveOnly d p.disk mid (d.images p.disk))
+      (read : IsRead (device_of d p.disk) (device_of d mid) r.Ok) (content : List ℕ) (disk : D)
+      (writing : CallsLeaveOnly d mid disk (Written (d.images mid) to Plain content)) where
+    -- over both calls
+    moments : CallsLeaveOnly d p.disk disk (Written (d.images p.disk) to Plain content)
+    moments tells =
+        let first = reading tells in
+        joined d p.disk mid disk (d.images p.disk) (Written (d.images mid) to Plain content)
+        (Written (d.images p.disk) to Plain content) first (writing tells)
+        (kept_before (d.images p.disk) to Plain content)
+        (λ image y. record {
+          before = y.before;
+          was = first.each y.before ((law tells).counts_now mid (d.clock p.disk) y.before first.later y.was);
+          page = y.page;
+          kept_or_put = y.kept_or_put;
+        })
+
+    touched : Touched d p.disk disk (puts (page_of_claim now w.claim x.page) content false)
+    touched = subst (λ n. Touched d p.disk disk (puts n content false)) (sym x.to_is)
+        (record { moments = moments; durable = λ never. absurd (cc never) })
+
+    calls : (after : ℕ) → after ≡ d.reads mid → (after ≡ d.reads p.disk) ⊎ RoseByOne (d.reads p.disk) after
+    calls after is = subst (λ n. (n ≡ d.reads p.disk) ⊎ RoseByOne (d.reads p.disk) n) (sym is) read.read_calls
+
+    no_read_fault : d.read_faults mid ≡ d.read_faults p.disk
+    no_read_fault = read.no_fault (λ e. cc e)
+
+    pub copy_made : (IsTrue d.tells → content ≡ option_map_or (d.now p.disk) from zero_page)
+        → WritesOnePage d.tells (device_of d mid) to content 1 (device_of d disk)
+        → (row : Row) → row ≡ record (rows_of p.rows channel) { stage = stage_left left }
+        → TurnMade d p (record (with_row_at p channel row) { disk = disk }) kind.copies
+    copy_made content_is moves row is = (
+      record {
+        told_so = refl;
+        blank = blank d.tells (d.now p.disk);
+        left = left;
+        copying = copying d p channel (Copying (suc left)) low w;
+        runs = x.runs;
+        current = x.current;
+        page = x.page;
+        is_next = x.is_next;
+        content = content;
+        is_content = λ told. sym (x.content
+            ∙ content_seen d.tells (d.now p.disk) from content content_is
+            ∙ ap (λ (b : Bool). if b then content else zero_page) told);
+        device = device_of d disk;
+        reads = moves.reads
+            ∙ ap (λ (image : Image). read_after d.tells image to content) read.reads
+            ∙ ap (λ n. read_after d.tells now.device.reads n content) (sym x.to_is);
+        clock = let rises = moves.clock in let still = read.clock in omega (arith, rises, still);
+        read_calls = calls (d.reads disk) moves.read_calls;
+        read_faults = moves.read_faults ∙ no_read_fault;
+        write_faults = moves.write_faults ∙ read.write_faults;
+        next = state_with_row d (record p { disk = disk }) channel row
+            (record { left = command ∷ w.rest; stage = stage_left left; claim = Some w.claim })
+            (is ∙ ap (λ (y : Row). record y { stage = stage_left left }) w.row) low;
+      },
+      touched,
+    )
+
+    pub copy_failed : now.frozen ≡ (λ head. false) → FailsToReplace (device_of d mid) (device_of d disk)
+        → (q : StoreView D)
+        → ((command : Command) (rest : List Command) → (rows_of p.rows channel).left ≡ command ∷ rest
+        → q ≡ logged_on (row_given_back (stopped_here (record p { disk = disk })) channel Idle) channel command rest
+        r.Fault (d.clock q.disk))
+        → TurnsAs d IsOfCopy p q
+    copy_failed thawed fails q logged = record {
+      kind = kind.copy_fails;
+      is = tt;
+      made = (
+        record {
+          stage = Copying (suc left);
+          copying = copying d p channel (Copying (suc left)) low w;
+          tried = copy left x.page content refl x.current x.is_next;
+          runs = x.runs;
+          device = device_of d disk;
+          fails = record {
+            clock = let later = fails.clock in let still = read.clock in omega (arith, later, still);
+            read_faults = fails.read_faults ∙ no_read_fault;
+            write_faults = subst (λ n. Rose n (d.write_faults disk)) read.write_faults fails.write_faults;
+            read_calls = calls (d.reads disk) fails.read_calls;
+          };
+          logs = logs_failed d p channel (Copying (suc left)) low w thawed disk q logged;
+        },
+        subst (λ (y : D). Touched d p.disk y (puts (page_of_claim now w.claim x.page) content false))
+            (sym (disk_failed d p channel (Copying (suc left)) low w disk q logged)) touched,
+      );
+    }
+
+-- ---- the claim is lost
+
+pub copy_lost : {D : Type 0} (d : Ghosts D) (p : StoreView D) (channel : ℕ) → channel < length p.rows
+    → p.stopped ≡ None → (w : WaitsToCopy p channel)
+    → map.get p.guards.generations w.holds.claim.head ≢ Some w.holds.claim.generation → (q : StoreView D)
+    → q ≡ row_given_back p channel Idle → TurnMade d p q kind.loses_copy
+copy_lost {D = D} d p channel low runs w late q is = (
+  record {
+    left = w.left;
+    copying = copying d p channel (Copying (suc w.left)) low w.holds;
+    runs = runs;
+    late = late;
+    next = ap (state_of d) is ∙ state_given_back d p channel low Idle;
+  },
+  ap (λ (a : StoreView D). a.disk) is,
+)

@@ -1,0 +1,92 @@
+use Rattle.std.proofs.Common.{◌≡◌, ℕ, suc, ◌+◌, ◌-◌, ◌*◌, ◌<◌, length, sym, ◌∙◌, ap, subst, arith, Some}
+use Rattle.std.specs.Option.{option_map}
+use Rattle.super_block.specs.Numbers.{cluster_pages_of}
+use Rattle.store_model.specs.Rows.{Row}
+use Rattle.channel_turns.specs.ClaimTurns.{CopiesNow}
+use Rattle.running_store.specs.Stages.{claim_seen, to_copy_in}
+use Rattle.running_store.specs.Running.{view_of}
+use Rattle.channel_turns.proofs.PagesCopied.{all_fit, copies_now, copy_lost, from_inside, from_is, late, left_read}
+use Rattle.channel_turns.proofs.PagesCopied.{seen_copy, to_inside}
+use Rattle.running_store.proofs.Rowing.{row_read}
+use Rattle.channel_turns.proofs.copying.copy_next.Goals as goal
+
+pub returns-then-not-is_current-clause-lost : goal.returns-then-not-is_current-clause-lost
+returns-then-not-is_current-clause-lost g c said =
+    let p = view_of c.args.running.now in
+    let low : c.args.channel < length p.rows = omega (arith, c.requires.channel, c.requires.order.sixteen) in
+    let row = row_read p.rows c.args.channel c.index-row.result.now low c.index-row.ensures in
+    let w = seen_copy p c.args.channel c.requires.waits (claim_seen c.in-Some.claim)
+    (ap (λ (r : Row). r.claim) (sym row) ∙ sym c.claim.ensures ∙ ap (option_map claim_seen) c.in-Some.is) in
+    copy_lost g.D.PageDisk p c.args.channel low c.requires.runs w
+    (late c.is_current.result _ c.is_current.ensures c.if-not-is_current.true) (view_of c.give_back.new.running)
+    c.give_back.ensures.given_back
+
+pub copy_to-requires-clause-copies : goal.copy_to-requires-clause-copies
+copy_to-requires-clause-copies g c =
+    let p = view_of c.args.running.now in
+    let low : c.args.channel < length p.rows = omega (arith, c.requires.channel, c.requires.order.sixteen) in
+    let row = row_read p.rows c.args.channel c.index-row.result.now low c.index-row.ensures in
+    let w = seen_copy p c.args.channel c.requires.waits (claim_seen c.in-Some.claim)
+    (ap (λ (r : Row). r.claim) (sym row) ∙ sym c.claim.ensures ∙ ap (option_map claim_seen) c.in-Some.is) in
+    let left : c.in-Some-to_copy.left ≡ suc w.left = left_read p c.args.channel w c.in-Some-to_copy.left
+    (sym c.in-Some-to_copy.is ∙ c.to_copy.ensures ∙ ap (λ (r : Row). to_copy_in r.stage) row) in
+    let pages = c.cluster_pages-pages.ensures.value in
+    let few = w.few in
+    let next : c.cluster_pages-pages.result - c.in-Some-to_copy.left + suc w.left ≡ cluster_pages_of p.super =
+    omega (arith, left, pages, few) in
+    let current = c.is_current.ensures.0 c.if-not-is_current.false in
+    let page = c.cluster_pages-pages.result - c.in-Some-to_copy.left in
+    let place = c.place_read-from.ensures (all_fit g.D.PageDisk p c.requires.running) in
+    let from = place ∙ from_is p.metas p.super c.in-Some.claim.head c.in-Some.claim.slot page
+    c.cluster_pages-pages.result pages c.page_in.result c.page_in.ensures in
+    let to = c.page_in-to.ensures ∙ ap (λ (k : ℕ). c.in-Some.claim.cluster * k + page) pages in
+    let fewer : w.left ≡ c.in-Some-to_copy.left - 1 = omega (arith, left) in
+    subst (CopiesNow g.D.PageDisk p c.args.channel c.place_read-from.result c.page_in-to.result) fewer
+    (copies_now g.D.PageDisk p c.args.channel c.requires.running c.requires.runs w current page next
+    c.place_read-from.result from c.page_in-to.result to)
+
+pub copy_to-requires-clause-from : goal.copy_to-requires-clause-from
+copy_to-requires-clause-from g c =
+    let p = view_of c.args.running.now in
+    let low : c.args.channel < length p.rows = omega (arith, c.requires.channel, c.requires.order.sixteen) in
+    let row = row_read p.rows c.args.channel c.index-row.result.now low c.index-row.ensures in
+    let w = seen_copy p c.args.channel c.requires.waits (claim_seen c.in-Some.claim)
+    (ap (λ (r : Row). r.claim) (sym row) ∙ sym c.claim.ensures ∙ ap (option_map claim_seen) c.in-Some.is) in
+    let left : c.in-Some-to_copy.left ≡ suc w.left = left_read p c.args.channel w c.in-Some-to_copy.left
+    (sym c.in-Some-to_copy.is ∙ c.to_copy.ensures ∙ ap (λ (r : Row). to_copy_in r.stage) row) in
+    let pages = c.cluster_pages-pages.ensures.value in
+    let few = w.few in
+    let next : c.cluster_pages-pages.result - c.in-Some-to_copy.left + suc w.left ≡ cluster_pages_of p.super =
+    omega (arith, left, pages, few) in
+    let current = c.is_current.ensures.0 c.if-not-is_current.false in
+    let page = c.cluster_pages-pages.result - c.in-Some-to_copy.left in
+    let place = c.place_read-from.ensures (all_fit g.D.PageDisk p c.requires.running) in
+    let from = place ∙ from_is p.metas p.super c.in-Some.claim.head c.in-Some.claim.slot page
+    c.cluster_pages-pages.result pages c.page_in.result c.page_in.ensures in
+    let to = c.page_in-to.ensures ∙ ap (λ (k : ℕ). c.in-Some.claim.cluster * k + page) pages in
+    from_inside g.D.PageDisk p c.args.channel c.requires.running c.requires.runs w current page next
+    c.place_read-from.result from (g.D.PageDisk.pages p.disk) c.requires.order.device
+
+pub copy_to-requires-clause-to : goal.copy_to-requires-clause-to
+copy_to-requires-clause-to g c =
+    let p = view_of c.args.running.now in
+    let low : c.args.channel < length p.rows = omega (arith, c.requires.channel, c.requires.order.sixteen) in
+    let row = row_read p.rows c.args.channel c.index-row.result.now low c.index-row.ensures in
+    let w = seen_copy p c.args.channel c.requires.waits (claim_seen c.in-Some.claim)
+    (ap (λ (r : Row). r.claim) (sym row) ∙ sym c.claim.ensures ∙ ap (option_map claim_seen) c.in-Some.is) in
+    let left : c.in-Some-to_copy.left ≡ suc w.left = left_read p c.args.channel w c.in-Some-to_copy.left
+    (sym c.in-Some-to_copy.is ∙ c.to_copy.ensures ∙ ap (λ (r : Row). to_copy_in r.stage) row) in
+    let pages = c.cluster_pages-pages.ensures.value in
+    let few = w.few in
+    let next : c.cluster_pages-pages.result - c.in-Some-to_copy.left + suc w.left ≡ cluster_pages_of p.super =
+    omega (arith, left, pages, few) in
+    let current = c.is_current.ensures.0 c.if-not-is_current.false in
+    let page = c.cluster_pages-pages.result - c.in-Some-to_copy.left in
+    let place = c.place_read-from.ensures (all_fit g.D.PageDisk p c.requires.running) in
+    let from = place ∙ from_is p.metas p.super c.in-Some.claim.head c.in-Some.claim.slot page
+    c.cluster_pages-pages.result pages c.page_in.result c.page_in.ensures in
+    let to = c.page_in-to.ensures ∙ ap (λ (k : ℕ). c.in-Some.claim.cluster * k + page) pages in
+    let low_to = to_inside g.D.PageDisk p c.args.channel c.requires.running c.requires.runs w current page next
+    c.place_read-from.result from c.page_in-to.result to in
+    let device = c.requires.order.device in
+    omega (arith, low_to, device)

@@ -1,0 +1,2 @@
+pub mod ChannelTurns
+pub mod ClaimTurns

@@ -1,0 +1,273 @@
+-- What is known of the running job: the pages of its plan, and its places.
+use Rattle.std.proofs.Common.{◌≡◌, ◌≢◌, ℕ, zero, suc, ◌<◌, ◌≤◌, true, false, All, List, [], ◌∷◌, length, get_or, Some}
+use Rattle.std.proofs.Common.{None, refl, sym, ◌∙◌, ap, subst, arith, inl, inr, drop, take, ◌++◌, ◌+◌, Option, add-one}
+use Rattle.std.specs.Prelude.{slice_get}
+use Rattle.std.proofs.lemmas.Bool.{cases_Bool, both_ways, eq-eqb, ne_eqb, cases_lt}
+use Rattle.bit_array.specs.Bits.{is_in}
+use Rattle.md_chain.specs.Chain.{is_among}
+use Rattle.md_chain.specs.declared.plan.PlannedPage.{PlannedPage}
+use Rattle.store_model.specs.StoreState.{JobState, StoreState, planned_at, waiting, ForCommand}
+use Rattle.running_store.specs.declared.job.Serves.{Serves}
+use Rattle.running_store.specs.declared.job.Serves.TheVariants as whom
+use Rattle.store_model.specs.Places.{held_by, AreDistinct}
+use Rattle.store_model.specs.Jobs.{gained_by, places_of, IsServed, JobStands, CanReplace, IsStep, Lays, ReadsZeros}
+use Rattle.store_model.specs.RunInvariant.{RunsWell}
+use Rattle.store_model.proofs.Sets.{among_first, among_later}
+use Rattle.store_model.proofs.Used.{within}
+use Rattle.running_store.specs.StoreInvariant.{IsRunning}
+use Rattle.running_store.proofs.Cleared.{among_get}
+use Rattle.running_store.proofs.PlainFacts.{got}
+use Rattle.running_store.specs.declared.job.Planned.{Planned}
+use Rattle.running_store.specs.Jobs.{commit_for, commit_of, erasing_for, erasing_job, replacing_of, writing_for}
+use Rattle.running_store.specs.Jobs.{writing_job}
+use Rattle.store_model.specs.Phases.{page_in, held_in, Erases, Frees, Phase, Replacing, erasing, has_commit, taken_in}
+use Rattle.store_model.specs.Phases.{Replaces, taken_by}
+use Rattle.store_model.proofs.Phases.{held_clearing, planned_behind, commit_behind, held_behind, lays_reached}
+use Rattle.store_model.proofs.Phases.{does_reached, no_commit}
+use Rattle.blob_meta.specs.declared.meta.Meta.{Meta}
+use Rattle.store_model.proofs.LeftToDo.{among_left, distinct_left}
+use Rattle.std.specs.Prelude.{if◌then◌else◌, is_some, Bool}
+
+-- ---- the pages of a plan
+
+pub among_at : (ps : List ℕ) (k place : ℕ) → slice_get ps k ≡ Some place → is_among place ps ≡ true
+among_at [] k place is = absurd (cc is)
+among_at (p ∷ ps) zero place is =
+    let e : p ≡ place = cc is in subst (λ x. is_among x (p ∷ ps) ≡ true) e (among_first p ps)
+among_at (p ∷ ps) (suc k) place is = among_later place p ps (among_at ps k place is)
+
+place_of : (plan : List PlannedPage) (k : ℕ) (x : PlannedPage) → slice_get plan k ≡ Some x
+    → slice_get (places_of plan) k ≡ Some x.place
+place_of [] k x is = absurd (cc is)
+place_of (y ∷ ys) zero x is = let e : y ≡ x = cc is in ap (λ (z : PlannedPage). Some z.place) e
+place_of (y ∷ ys) (suc k) x is = place_of ys k x is
+
+-- the page for a place is the planned one, where the places differ
+pub page_of : (plan : List PlannedPage) (k : ℕ) (x : PlannedPage) → AreDistinct (places_of plan)
+    → slice_get plan k ≡ Some x → page_in plan x.place ≡ x.page
+page_of [] k x distinct is = absurd (cc is)
+page_of (y ∷ ys) zero x distinct is =
+    let e : y ≡ x = cc is in
+    let here : page_in (y ∷ ys) y.place ≡ y.page = rw (eq-eqb y.place y.place refl) refl in
+    subst (λ (z : PlannedPage). page_in (y ∷ ys) z.place ≡ z.page) e here
+page_of (y ∷ ys) (suc k) x distinct is =
+    let among = among_at (places_of ys) k x.place (place_of ys k x is) in
+    let ne : x.place ≢ y.place = λ e. both_ways (is_among y.place (places_of ys)) distinct.0
+    (subst (λ q. is_among q (places_of ys) ≡ true) e among) in
+    rw (ne_eqb x.place y.place ne) (page_of ys k x distinct.1 is)
+
+-- ---- places of a list
+
+pub drop_one : (l : List ℕ) (k x : ℕ) → slice_get l k ≡ Some x → drop k l ≡ x ∷ drop (suc k) l
+drop_one [] k x is = absurd (cc is)
+drop_one (y ∷ ys) zero x is = let e : y ≡ x = cc is in ap (λ n. n ∷ ys) e
+drop_one (y ∷ ys) (suc k) x is = drop_one ys k x is
+
+pub take_one : (l : List ℕ) (k x : ℕ) → slice_get l k ≡ Some x → take (suc k) l ≡ take k l ++ x ∷ []
+take_one [] k x is = absurd (cc is)
+take_one (y ∷ ys) zero x is = let e : y ≡ x = cc is in ap (λ n. n ∷ []) e
+take_one (y ∷ ys) (suc k) x is = ap (λ l. y ∷ l) (take_one ys k x is)
+
+pub drop_end : (l : List ℕ) → drop (length l) l ≡ []
+drop_end [] = refl
+drop_end (x ∷ xs) = drop_end xs
+
+take_drop : (k : ℕ) (l : List ℕ) → take k l ++ drop k l ≡ l
+take_drop zero l = refl
+take_drop (suc k) [] = refl
+take_drop (suc k) (x ∷ xs) = ap (λ t. x ∷ t) (take_drop k xs)
+
+-- ---- a job of which fresh pages are written
+
+module _ (p : StoreState) (r : IsRunning p) (runs : p.stopped ≡ None) where
+  pub well : RunsWell r.first p
+  well = r.facts.well runs
+
+  -- a place that is held is in use, and so of the region
+  held_low : (x : ℕ) → is_among x (held_by p.job) ≡ true → x < p.super.md_len
+  held_low x among =
+      let low : x < length p.pages = within p.pages x (well.pages.held_too x among) in
+      omega (arith, low, well.pages.count)
+
+  module _ (serves : Serves) (planned : Planned) (old : List ℕ) (written : ℕ)
+      (is : p.job ≡ Some (writing_for serves planned old written)) where
+    abbrev j : JobState
+    j = writing_for serves planned old written
+
+    abbrev fresh : List ℕ
+    fresh = drop 1 planned.chain
+
+    abbrev replacing : Replacing
+    replacing = replacing_of planned old
+
+    -- what comes behind the fresh pages
+    abbrev pub behind : List Phase
+    behind = Replaces replacing (commit_for serves planned) ∷ erasing old old []
+
+    pub stands : JobStands p j
+    stands = well.job j is
+
+    lays : Lays p.super p.base p.chains (gained_by p.rows j) fresh behind
+    lays = subst (λ w. Lays p.super p.base p.chains (gained_by p.rows j) w behind) (take_drop written fresh)
+        (lays_reached p.super p.base p.chains (gained_by p.rows j) (take written fresh) (drop written fresh) behind
+        stands.lays)
+
+    pub can : CanReplace p.super p.base p.chains (gained_by p.rows j) fresh replacing
+    can = lays.0
+
+    held_fresh : (x : ℕ) → is_among x fresh ≡ true → is_among x (held_by p.job) ≡ true
+    held_fresh x among =
+        let held : held_by p.job ≡ taken_by replacing ++ taken_in (erasing old old []) =
+        ap held_by is ∙ held_behind (drop written fresh) behind in
+        subst (λ l. is_among x l ≡ true) (sym held)
+        (among_left x (taken_by replacing) (taken_in (erasing old old [])) (taken (is_some planned.effects.rooms)))
+      where
+        taken : (makes : Bool) → is_among x (if makes then planned.head ∷ fresh else fresh) ≡ true
+        taken true = among_later x planned.head fresh among
+        taken false = among
+
+    -- the chain of a blob that is there
+    pub chain_there : is_some planned.effects.rooms ≡ false → p.chains planned.head ≡ Some (planned.head ∷ old)
+    chain_there not = can.chain ∙ ap (λ b. if b then None else Some (planned.head ∷ old)) not
+
+    -- and none, where the blob is new
+    pub none_there : is_some planned.effects.rooms ≡ true → p.chains planned.head ≡ None
+    none_there makes = can.chain ∙ ap (λ b. if b then None else Some (planned.head ∷ old)) makes
+
+    distinct : AreDistinct (places_of planned.pages)
+    distinct =
+        let differ : AreDistinct (taken_by replacing ++ taken_in (erasing old old [])) =
+        subst AreDistinct (held_behind (drop written fresh) behind) stands.distinct in
+        let taken : AreDistinct (taken_by replacing) =
+        distinct_left (taken_by replacing) (taken_in (erasing old old [])) differ in
+        subst AreDistinct (sym can.places) (elim (cases_Bool (is_some planned.effects.rooms)) [
+          | inl makes ↦ subst (λ (b : Bool). AreDistinct (if b then planned.head ∷ fresh else fresh)) makes taken
+          | inr not ↦ (
+            elim (cases_Bool (is_among planned.head fresh)) [
+              | inl among ↦ absurd (well.pages.apart planned.head (held_fresh planned.head among) (record {
+                head = planned.head;
+                pages = planned.head ∷ old;
+                chain = chain_there not;
+                among = among_first planned.head old;
+              }))
+              | inr out ↦ out
+            ],
+            subst (λ (b : Bool). AreDistinct (if b then planned.head ∷ fresh else fresh)) not taken,
+          )
+        ])
+
+    -- the next fresh page
+    pub next_place : (k : ℕ) (x : PlannedPage) → slice_get planned.pages (suc k) ≡ Some x
+        → slice_get fresh k ≡ Some x.place
+    next_place k x at = sym (ap (λ l. slice_get l (suc k)) can.places) ∙ place_of planned.pages (suc k) x at
+
+    pub next_page : (k : ℕ) (x : PlannedPage) → slice_get planned.pages k ≡ Some x → planned_at j x.place ≡ x.page
+    next_page k x at = planned_behind (drop written fresh) behind x.place ∙ page_of planned.pages k x distinct at
+
+    pub next_low : (k : ℕ) (x : PlannedPage) → slice_get planned.pages (suc k) ≡ Some x → x.place < p.super.md_len
+    next_low k x at = held_low x.place (held_fresh x.place (among_at fresh k x.place (next_place k x at)))
+
+    -- the head's
+    pub head_page : (x : PlannedPage) → slice_get planned.pages zero ≡ Some x
+        → page_in planned.pages planned.head ≡ x.page
+    head_page x at =
+        let here : planned.head ≡ x.place =
+        let both = sym (ap (λ l. slice_get l zero) can.places) ∙ place_of planned.pages zero x at in cc both in
+        ap (page_in planned.pages) here ∙ page_of planned.pages zero x distinct at
+
+    pub head_low : planned.head < p.super.md_len
+    head_low = (can.loadable planned.new refl).stored.low
+
+    -- the plan has a page for the head, and one for each fresh place
+    pub pages_planned : length planned.pages ≡ suc (length fresh)
+    pages_planned = sym (length_places planned.pages) ∙ ap (λ (l : List ℕ). length l) can.places
+      where
+        length_places : (plan : List PlannedPage) → length (places_of plan) ≡ length plan
+        length_places [] = refl
+        length_places (x ∷ xs) = ap suc (length_places xs)
+
+    -- a blob that is there has its metadata
+    pub has_meta : is_some planned.effects.rooms ≡ false → (m : Meta) × (p.base planned.head ≡ Some m)
+    has_meta not = by (p.base planned.head) refl
+      where
+        by : (o : Option Meta) → p.base planned.head ≡ o → (m : Meta) × (p.base planned.head ≡ Some m)
+        by None none = absurd (let bad = sym (well.chains.none planned.head none) ∙ chain_there not in cc bad)
+        by (Some m) some = (m, some)
+
+  -- ---- one of a command
+
+  module _ (channel : ℕ) (planned : Planned) (old : List ℕ) (written : ℕ)
+      (is : p.job ≡ Some (writing_job channel planned old written)) where
+    abbrev here : JobState
+    here = writing_job channel planned old written
+
+    abbrev left : List ℕ
+    left = drop written (drop 1 planned.chain)
+
+    abbrev committing : List Phase
+    committing = Replaces (replacing_of planned old) (Some (commit_of planned)) ∷ erasing old old []
+
+    pub waits : has_commit here.todo ≡ true
+    waits = commit_behind left committing
+
+    pub served : IsServed p channel planned.effects.claimed here.todo
+    served = (stands (whom.Command channel) planned old written is).served channel refl waits
+
+    pub step : IsStep (ReadsZeros p.super planned.effects.claimed) p.super p.base (replacing_of planned old) p.live
+        served.command (commit_of planned)
+    step = (does_reached (ReadsZeros p.super planned.effects.claimed) p.super p.base p.live served.command left
+        committing served.does).0
+
+  -- ---- a job behind its replacement
+
+  module _ (serves : Serves) (old : List ℕ) (erased : ℕ) (is : p.job ≡ Some (erasing_for serves old erased)) where
+    -- an old page is left
+    pub some_erasing : erased < length old
+    some_erasing = elim (cases_lt erased (length old)) [
+      | inl lt ↦ lt
+      | inr ge ↦ absurd
+          (r.facts.unfinished (erasing_for serves old erased) is (ap (λ l. erasing old l []) (drop_all old erased ge)))
+    ]
+      where
+        drop_all : (l : List ℕ) (k : ℕ) → length l ≤ k → drop k l ≡ []
+        drop_all [] zero le = refl
+        drop_all [] (suc k) le = refl
+        drop_all (x ∷ xs) zero le = absurd (omega (arith, le))
+        drop_all (x ∷ xs) (suc k) le = drop_all xs k (omega (arith, le))
+
+    -- what is left
+    pub one_more : (place : ℕ) → slice_get old erased ≡ Some place → erased + 1 < length old
+        → (erasing_for serves old erased).todo ≡ Erases place ∷ (erasing_for serves old (suc erased)).todo
+    one_more place at more =
+        let next = get_or old (suc erased) 0 in
+        let got_next : slice_get old (suc erased) ≡ Some next = got old (suc erased) 0 (omega (arith, more)) in
+        ap (λ l. erasing old l [])
+        (drop_one old erased place at ∙ ap (λ l. place ∷ l) (drop_one old (suc erased) next got_next))
+        ∙ ap (λ l. Erases place ∷ erasing old l []) (sym (drop_one old (suc erased) next got_next))
+
+    pub last_one : (place : ℕ) → slice_get old erased ≡ Some place → erased + 1 ≡ length old
+        → (erasing_for serves old erased).todo ≡ Frees place old ∷ []
+    last_one place at last =
+        let none : drop (suc erased) old ≡ [] = ap (λ n. drop n old) (sym (add-one erased) ∙ last) ∙ drop_end old in
+        ap (λ l. erasing old l []) (drop_one old erased place at ∙ ap (λ l. place ∷ l) none)
+
+    held_here : held_by p.job ≡ old
+    held_here = ap held_by is ∙ held_clearing old (drop erased old)
+        (λ none. absurd (r.facts.unfinished (erasing_for serves old erased) is (ap (λ l. erasing old l []) none)))
+
+    pub old_low : (x : ℕ) → is_among x old ≡ true → x < p.super.md_len
+    old_low x among = held_low x (subst (λ l. is_among x l ≡ true) (sym held_here) among)
+
+    pub old_in_use : All (λ x. is_in p.pages x ≡ true) old
+    old_in_use k d low = well.pages.held_too (get_or old k d)
+        (subst (λ l. is_among (get_or old k d) l ≡ true) (sym held_here) (among_get old k d low))
+
+    pub old_distinct : AreDistinct old
+    old_distinct =
+        let held : held_in (erasing_for serves old erased).todo ≡ old = sym (ap held_by is) ∙ held_here in
+        subst AreDistinct held (well.job (erasing_for serves old erased) is).distinct
+
+  -- no command waits for it
+  pub waits_for_none : (channel : ℕ) (old : List ℕ) (erased : ℕ)
+      → waiting (ForCommand channel) (erasing_job channel old erased).todo ≡ None
+  waits_for_none channel old erased = ap (λ b. if b then Some channel else None) (no_commit old (drop erased old))

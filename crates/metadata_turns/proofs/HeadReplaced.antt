@@ -1,0 +1,158 @@
+-- A job whose fresh pages are all written: what is known of its replacement.
+use Rattle.std.proofs.Common.{◌≡◌, ℕ, ◌+◌, ◌<◌, Bool, All, List, [], ◌∷◌, length, Option, Some, None, refl, sym, ◌∙◌}
+use Rattle.std.proofs.Common.{ap, get_or, subst, drop, true, false}
+use Rattle.std.proofs.Common.{arith}
+use Rattle.std.specs.Prelude.{if◌then◌else◌, IsSome, is_some, slice_get}
+use Rattle.std.specs.FinMap as map
+use Rattle.bit_array.specs.Bits.{is_in}
+use Rattle.page_disk.specs.Moments.{CallsLeaveOnly, IsReplaced}
+use Rattle.page_disk.specs.declared.disk.PageDisk.{Ghosts}
+use Rattle.volume_model.specs.Xattrs.{Xattrs}
+use Rattle.blob_meta.specs.declared.meta.Meta.{Meta}
+use Rattle.md_chain.specs.declared.plan.PlannedPage.{PlannedPage}
+use Rattle.store_model.specs.Jobs.{gained_by, CanReplace}
+use Rattle.store_model.specs.Maps.{Metas}
+use Rattle.store_model.specs.Phases.{erasing, page_in, Phase, Replaces, writing}
+use Rattle.store_model.specs.RunInvariant.{RunsWell}
+use Rattle.store_model.specs.Places.{all_set}
+use Rattle.store_model.specs.StoreState.{going_on, JobState, StoreState}
+use Rattle.store_model.proofs.Shows.{alone_resolved}
+use Rattle.io_freeze.specs.Guards.{renewed, GuardsState}
+use Rattle.metadata_turns.specs.declared.job_turn.JobTurn.TheVariants as turn
+use Rattle.running_store.specs.Effects.{is_numbered}
+use Rattle.metadata_turns.specs.JobTurns.{answer_of, with_job, IsAtWork}
+use Rattle.running_store.specs.Jobs.{commit_for, erasing_for, replacing_of, service_of, writing_for}
+use Rattle.running_store.specs.Running.{live_given}
+use Rattle.running_store.specs.StoreView.{StoreView, state_of}
+use Rattle.running_store.specs.declared.job.Planned.{Planned}
+use Rattle.running_store.specs.declared.job.Serves.{Serves}
+use Rattle.metadata_turns.proofs.AtWork.{can, drop_end, has_meta, head_low, head_page, well}
+use Rattle.metadata_turns.proofs.AtWork.{chain_there as chain_before, none_there as none_before}
+use Rattle.running_store.proofs.Cleared.{among_get}
+
+-- ---- the job behind its replacement
+
+pub after_none : (old : List ℕ) (j : JobState) → length old ≡ 0 → going_on j [] (erasing old old []) ≡ None
+after_none [] j none = refl
+after_none (o ∷ os) j none = absurd (cc none)
+
+pub after_some : (serves : Serves) (old : List ℕ) → 0 < length old → (j : JobState) → j.serves ≡ service_of serves
+    → j.freeze ≡ None → j.claimed ≡ [] → going_on j [] (erasing old old []) ≡ Some (erasing_for serves old 0)
+after_some serves [] some j served freeze claimed = absurd (omega (arith, some))
+after_some serves (o ∷ []) some j served freeze claimed = rw (served, freeze, claimed) refl
+after_some serves (o ∷ p ∷ ps) some j served freeze claimed = rw (served, freeze, claimed) refl
+
+-- ---- what a turn answers
+
+pub answer_done : {D : Type 0} (q : StoreView D) → q.stopped ≡ None → q.job ≡ None → turn.Done ≡ answer_of q
+answer_done q on none = rw (on, none) refl
+
+pub answer_more : {D : Type 0} (q : StoreView D) (j : JobState) → q.stopped ≡ None → q.job ≡ Some j
+    → turn.More ≡ answer_of q
+answer_more q j on some = rw (on, some) refl
+
+-- ---- the blob as it was planned
+
+-- a blob that is new, or of which slots are cut, gets a generation
+abbrev pub numbered : Bool → GuardsState → ℕ → GuardsState
+numbered gets guards head = if gets then renewed guards head else guards
+
+abbrev pub adopted_view : {D : Type 0} → StoreView D → Planned → D → StoreView D
+adopted_view p planned disk = record p {
+  disk = disk;
+  metas = map.insert p.metas planned.head planned.new;
+  chains = map.insert p.chains planned.head planned.chain;
+  live = live_given p.live planned.head planned.effects.live;
+  clusters = all_set p.clusters planned.effects.freed false;
+  guards = numbered (is_numbered planned.effects) p.guards planned.head;
+}
+
+-- ---- its replacement
+
+module _ {D : Type 0} (d : Ghosts D) (p : StoreView D) (serves : Serves) (planned : Planned) (old : List ℕ)
+    (at_work : IsAtWork d p (writing_for serves planned old (length (drop 1 planned.chain)))) where
+  abbrev written : ℕ
+  written = length (drop 1 planned.chain)
+
+  abbrev j : JobState
+  j = writing_for serves planned old written
+
+  abbrev s : StoreState
+  s = state_of d (with_job p j)
+
+  runs_well : RunsWell at_work.running.first s
+  runs_well = well s at_work.running at_work.not_stopped
+
+  can_replace : CanReplace s.super s.base s.chains (gained_by s.rows j) (drop 1 planned.chain)
+      (replacing_of planned old)
+  can_replace = can s at_work.running at_work.not_stopped serves planned old written refl
+
+  abbrev pub others : List Phase
+  others = erasing old old []
+
+  pub todo_is : j.todo ≡ Replaces (replacing_of planned old) (commit_for serves planned) ∷ others
+  todo_is = ap (λ l. writing l (Replaces (replacing_of planned old) (commit_for serves planned) ∷ others))
+      (drop_end (drop 1 planned.chain))
+
+  -- whether the blob is new
+  abbrev makes : Bool
+  makes = is_some planned.effects.rooms
+
+  -- a blob that is there has its entries
+  meta_is : makes ≡ false → (m : Meta) × (s.base planned.head ≡ Some m)
+  meta_is not = has_meta s at_work.running at_work.not_stopped serves planned old written refl not
+
+  pub meta_there : makes ≡ false → IsSome (map.get p.metas planned.head)
+  meta_there not = subst (λ (o : Option Meta). IsSome o) (sym (meta_is not).1) refl
+
+  pub chain_there : makes ≡ false → IsSome (map.get p.chains planned.head)
+  chain_there not = subst (λ (o : Option (List ℕ)). IsSome o)
+      (sym (chain_before s at_work.running at_work.not_stopped serves planned old written refl not)) refl
+
+  pub live_there : makes ≡ false → IsSome (map.get p.live planned.head)
+  live_there not = subst (λ (o : Option Xattrs). IsSome o) (sym (runs_well.live planned.head (meta_is not).0
+      (ap (λ (m : Metas). m planned.head) (alone_resolved at_work.running.store s.base at_work.running.facts.loadable)
+      ∙ (meta_is not).1)).1) refl
+
+  pub guarded_there : makes ≡ false → IsSome (map.get p.guards.generations planned.head)
+  guarded_there not = subst (λ (b : Bool). b ≡ true) (sym (runs_well.generations.each planned.head))
+      (ap is_some (meta_is not).1)
+
+  -- what is freed is in use
+  pub freed_in_use : All (λ c. is_in p.clusters c ≡ true) planned.effects.freed
+  freed_in_use k d low = runs_well.clusters.mapped (get_or planned.effects.freed k d)
+      (can_replace.clusters.let_go (get_or planned.effects.freed k d) (among_get planned.effects.freed k d low)).1
+
+  -- a new one has none, and no generation
+  none_there : makes ≡ true → s.base planned.head ≡ None
+  none_there new = by (s.base planned.head) refl
+    where
+      by : (o : Option Meta) → s.base planned.head ≡ o → s.base planned.head ≡ None
+      by None is = is
+      by (Some m) is =
+          let chain = runs_well.chains.chain planned.head m is in
+          absurd (let bad = sym (none_before s at_work.running at_work.not_stopped serves planned old written refl new)
+          ∙ chain.1 in cc bad)
+
+  pub unguarded : makes ≡ true → map.get p.guards.generations planned.head ≡ None
+  unguarded new = none_of (map.get p.guards.generations planned.head)
+      (runs_well.generations.each planned.head ∙ ap is_some (none_there new))
+    where
+      none_of : (o : Option ℕ) → is_some o ≡ false → o ≡ None
+      none_of None none = refl
+      none_of (Some n) none = absurd (cc none)
+
+  pub head_below : planned.head < p.super.md_len
+  head_below = head_low s at_work.running at_work.not_stopped serves planned old written refl
+
+  module _ (disk : D) (x : PlannedPage) (at : ℕ) (at_is : at ≡ p.super.md_start + planned.head)
+      (first : slice_get planned.pages 0 ≡ Some x)
+      (touches : CallsLeaveOnly d p.disk disk (IsReplaced (d.images p.disk) (d.now p.disk) at x.page)) where
+    pub planned_is : page_in planned.pages planned.head ≡ x.page
+    planned_is = head_page s at_work.running at_work.not_stopped serves planned old written refl x first
+
+    pub touched : CallsLeaveOnly d p.disk disk (IsReplaced (d.images p.disk) (d.now p.disk)
+        (p.super.md_start + planned.head) (page_in planned.pages planned.head))
+    touched = subst (λ page. CallsLeaveOnly d p.disk disk
+        (IsReplaced (d.images p.disk) (d.now p.disk) (p.super.md_start + planned.head) page)) (sym planned_is)
+        (subst (λ n. CallsLeaveOnly d p.disk disk (IsReplaced (d.images p.disk) (d.now p.disk) n x.page)) at_is touches)

@@ -1,0 +1,177 @@
+-- What is known of an insert before its job begins: the metadata that is to be written, and the pages on which it is
+-- laid.
+use Rattle.std.proofs.Common.{◌≡◌, ◌≢◌, ◌⊎◌, ℕ, ◌<◌, ◌^◌, true, false, All, List, [], ◌∷◌, length, get_or}
+use Rattle.std.proofs.Common.{drop, Some, None, Option, refl, sym, ◌∙◌, ap, subst, arith, inl, inr, Bool}
+use Rattle.std.specs.Ordering.{nat_cmp}
+use Rattle.std.specs.FinMap as map
+use Rattle.std.proofs.lemmas.Bool.{both_ways, cases_Bool}
+use Rattle.bit_array.specs.Bits.{is_in}
+use Rattle.super_block.specs.declared.page.Super.{Super}
+use Rattle.super_block.specs.Placed.{IsPlaced}
+use Rattle.blob_meta.specs.declared.meta.Meta.{Meta}
+use Rattle.blob_meta.specs.Says.{meta_of}
+use Rattle.blob_meta.proofs.Inverse.{says}
+use Rattle.md_chain.specs.Chain.{is_among}
+use Rattle.md_chain.specs.Packing.{parts_of}
+use Rattle.md_chain.specs.Planned.{written_items}
+use Rattle.md_chain.specs.declared.plan.PlannedPage.{PlannedPage}
+use Rattle.md_chain.proofs.Saying.{written_say}
+use Rattle.store_model.specs.Claiming.{CanInsert}
+use Rattle.store_model.specs.Inserting.{with_slot}
+use Rattle.store_model.specs.Jobs.{places_of, MovesClusters}
+use Rattle.store_model.specs.Maps.{Metas, with_entry}
+use Rattle.store_model.specs.Phases.{page_in}
+use Rattle.store_model.specs.Places.{AreDistinct, AreLeastClear, HasClaim, held_by, IsLinked, IsMapped, UsedPages}
+use Rattle.store_model.specs.Regions.{region_of}
+use Rattle.store_model.specs.Rows.{OpenClaim, Row}
+use Rattle.store_model.specs.RunInvariant.{IsLoadable, RunsWell}
+use Rattle.store_model.specs.StoreState.{StoreState}
+use Rattle.store_model.proofs.InsertedBlob.{inserted_loadable, inserted_mapped, mapped_still, mapped_then}
+use Rattle.store_model.proofs.Inside.{IsInside}
+use Rattle.store_model.proofs.Sets.{among_either, among_first, are_distinct, were_clear}
+use Rattle.store_model.proofs.Used.{within}
+use Rattle.metadata_turns.specs.Begins.{IsPrepared, IsTaken}
+use Rattle.running_store.specs.StoreInvariant.{IsRunning}
+use Rattle.metadata_turns.specs.declared.preparing.Prepared.{Prepared}
+use Rattle.metadata_turns.proofs.AtWork.{page_of}
+use Rattle.running_store.proofs.PlainFacts.{got}
+use Rattle.running_store.proofs.Cleared.{among_get}
+use Rattle.metadata_turns.proofs.JobAsked.{IsReady}
+use Rattle.metadata_turns.proofs.JobPlaces.{once_each, places_from}
+
+module _ (p : StoreState) (running : IsRunning p) (runs : p.stopped ≡ None) (row : ℕ) (claim : OpenClaim)
+    (held : (p.rows row).claim ≡ Some claim) where
+  well : RunsWell running.first p
+  well = running.facts.well runs
+
+  placed : IsPlaced p.super
+  placed = subst IsPlaced (sym running.facts.super) running.placed
+
+  claimed : HasClaim p.rows p.job claim.cluster
+  claimed = inl (record { channel = row; claim = claim; held = held; is = refl })
+
+  -- ---- the cluster
+
+  -- it is none of the fixed ones, and so not 0
+  pub some_cluster : 0 < claim.cluster
+  some_cluster =
+      let behind = (well.clusters.apart claim.cluster claimed).0 in
+      let some = placed.some_fixed in
+      omega (arith, behind, some)
+
+  inside : IsInside (region_of p.super).fixed (region_of p.super).clusters claim.cluster
+  inside =
+      let low = within p.clusters claim.cluster (well.clusters.claimed_too claim.cluster claimed) in
+      record {
+        behind = (well.clusters.apart claim.cluster claimed).0;
+        below = omega (arith, low, well.clusters.count);
+      }
+
+  -- ---- the metadata
+
+  module _ (meta : Meta) (can : CanInsert p claim meta) where
+    abbrev pub new : Meta
+    new = with_slot meta claim.slot claim.cluster
+
+    old_loadable : IsLoadable p.super claim.head meta
+    old_loadable = subst (λ (s : Super). IsLoadable s claim.head meta) (sym running.facts.super)
+        (running.facts.loadable claim.head meta can.there)
+
+    pub loadable : IsLoadable p.super claim.head new
+    loadable = inserted_loadable meta claim.slot claim.cluster can.within can.empty p.super claim.head inside
+        old_loadable
+
+    -- its cluster is in the map then, and all others stay
+    pub moves : MovesClusters p.super p.base (with_entry p.base claim.head new) [] (claim.cluster ∷ [])
+    moves = record {
+      kept = λ c x.
+          inl (mapped_still meta claim.slot claim.cluster can.within can.empty p.base claim.head can.there c x);
+      let_go = λ c bad. absurd (cc bad);
+      gained = λ c x.
+          by c (mapped_then meta claim.slot claim.cluster can.within can.empty p.base claim.head can.there c x);
+      filled = λ c among. elim (among_either c claim.cluster [] among) [
+        | inl e ↦ subst (IsMapped (with_entry p.base claim.head new)) (sym e)
+            (inserted_mapped meta claim.slot claim.cluster can.within can.empty p.base claim.head can.there)
+        | inr bad ↦ absurd (cc bad)
+      ];
+    }
+      where
+        by : (c : ℕ) → IsMapped p.base c ⊎ (c ≡ claim.cluster)
+            → IsMapped p.base c ⊎ (is_among c (claim.cluster ∷ []) ≡ true)
+        by c (inl was) = inl was
+        by c (inr e) = inr (subst (λ n. is_among n (claim.cluster ∷ []) ≡ true) (sym e) (among_first claim.cluster []))
+
+    pub has_chain : (behind : List ℕ) × (p.chains claim.head ≡ Some (claim.head ∷ behind))
+    has_chain = well.chains.chain claim.head meta can.there
+
+    -- ---- laid on pages
+
+    module _ (no_job : p.job ≡ None) (chains : map.FinMap nat_cmp (List ℕ)) (after : List Bool) (x : Prepared)
+        (is : IsPrepared chains claim.head new false p.pages after x) where
+      t : IsTaken is.items claim.head false p.pages after x.laid
+      t = is.taken
+
+      used : UsedPages p.super.md_len p.pages p.chains []
+      used = subst (UsedPages p.super.md_len p.pages p.chains) (ap held_by no_job) well.pages
+
+      -- the head is in use
+      head_apart : is_among claim.head t.fresh ≡ false
+      head_apart = elim (cases_Bool (is_among claim.head t.fresh)) [
+        | inl among ↦
+            let linked : IsLinked p.chains claim.head = record {
+              head = claim.head;
+              pages = claim.head ∷ has_chain.0;
+              chain = has_chain.1;
+              among = among_first claim.head has_chain.0;
+            } in
+            absurd (both_ways (is_in p.pages claim.head) (were_clear p.pages t.fresh t.least claim.head among).clear
+            (used.linked claim.head linked))
+        | inr out ↦ out
+      ]
+
+      all_differ : AreDistinct (claim.head ∷ t.fresh)
+      all_differ = (head_apart, are_distinct p.pages t.fresh t.least)
+
+      below : (q : ℕ) → is_among q (claim.head ∷ t.fresh) ≡ true → q < p.super.md_len
+      below q among = elim (among_either q claim.head t.fresh among) [
+        | inl first ↦ subst (λ y. y < p.super.md_len) (sym first) old_loadable.stored.low
+        | inr later ↦ subst (λ n. q < n) used.count (were_clear p.pages t.fresh t.least q later).below
+      ]
+
+      all_low : All (λ q. q < p.super.md_len) (claim.head ∷ t.fresh)
+      all_low k d lt = below (get_or (claim.head ∷ t.fresh) k d) (among_get (claim.head ∷ t.fresh) k d lt)
+
+      planned_places : places_of x.laid.pages ≡ claim.head ∷ t.fresh
+      planned_places =
+          ap places_of t.laid_on.pages ∙ places_from claim.head 0 claim.head t.fresh (parts_of is.items) t.count
+
+      planned_pages : All (λ (q : PlannedPage). page_in x.laid.pages q.place ≡ q.page) x.laid.pages
+      planned_pages k d lt = page_of x.laid.pages k (get_or x.laid.pages k d)
+          (subst AreDistinct (sym planned_places) all_differ) (got x.laid.pages k d lt)
+
+      small : p.super.md_len < 2 ^ 32
+      small = let few = placed.few_md_pages in omega (arith, few)
+
+      says_new : new ≡ meta_of claim.head (written_items is.items)
+      says_new = sym (written_say claim.head is.items is.plannable
+          ∙ says claim.head new is.items loadable.stored.id loadable.stored.clear loadable.stored.xattrs.names
+          loadable.stored.internal.names is.are)
+
+      ready_at : IsReady p claim.head new false after x.laid.pages t.fresh
+      ready_at = record {
+        needs = record { items = is.items; are = is.are; chain = sym t.count };
+        least = t.least;
+        taken = t.taken;
+        packed = record { items = is.items; are = is.are; pages = t.laid_on.pages };
+        planned = record {
+          items = written_items is.items;
+          chain = t.laid_on.reads (page_in x.laid.pages) p.super.md_len small
+              (once_each (claim.head ∷ t.fresh) all_differ) all_low planned_pages;
+          meta_is = says_new;
+          faultless = loadable.stored.faultless;
+        };
+        places = planned_places;
+      }
+
+      pub ready : IsReady p claim.head new false after x.laid.pages (drop 1 x.laid.chain)
+      ready = subst (IsReady p claim.head new false after x.laid.pages) (sym (ap (drop 1) t.laid_on.chain)) ready_at

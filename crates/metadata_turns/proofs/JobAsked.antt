@@ -1,0 +1,456 @@
+-- What is known of a job that a command asks for, before it begins.
+use Rattle.std.proofs.Common.{◌≡◌, ℕ, ◌<◌, ◌^◌, Bool, true, false, List, [], ◌∷◌, length, get_or, drop}
+use Rattle.std.proofs.Common.{All, Option, Some, None, refl, sym, ◌∙◌, ap, subst, arith, inl, inr}
+use Rattle.std.specs.Prelude.{◌||◌, if◌then◌else◌, is_some, nat_lt, not}
+use Rattle.std.specs.Ordering.{nat_cmp}
+use Rattle.std.specs.FinMap as map
+use Rattle.std.proofs.lemmas.Bool.{cases_Bool, both_ways, cases_eq}
+use Rattle.std.proofs.lemmas.List.Elements.{All-from_recursion}
+use Rattle.std.proofs.lemmas.List.{take_all}
+use Rattle.std.proofs.lemmas.Bool.Decides.{nat_tests}
+use Rattle.bit_array.specs.Bits.{is_in}
+use Rattle.super_block.specs.declared.page.Super.{Super}
+use Rattle.super_block.specs.Placed.{IsPlaced}
+use Rattle.volume_model.specs.Xattrs.{Xattrs}
+use Rattle.volume_model.specs.Volumes.{two_xattrs}
+use Rattle.volume_model.specs.Steps.{MayLackMemory}
+use Rattle.volume_model.specs.declared.command.Command.{Command}
+use Rattle.volume_model.specs.declared.command.Command.TheVariants as c
+use Rattle.volume_model.specs.declared.reply.Reply.TheVariants as r
+use Rattle.blob_meta.specs.declared.meta.Meta.{Meta}
+use Rattle.blob_meta.specs.declared.job.Job.{Job}
+use Rattle.blob_meta.specs.declared.job.Replacement.{Replacement}
+use Rattle.blob_meta.specs.Jobs.{create_job, job_of_one, new_meta, resize_job, resized_meta}
+use Rattle.blob_meta.specs.Faults.{clusters_of}
+use Rattle.blob_meta.specs.Parents.{slot}
+use Rattle.blob_meta.specs.Says.{meta_of}
+use Rattle.blob_meta.proofs.Inverse.{says}
+use Rattle.md_chain.specs.Chain.{is_among}
+use Rattle.md_chain.specs.Packing.{parts_of, FitsPage}
+use Rattle.md_chain.specs.Planned.{written_items}
+use Rattle.md_chain.specs.declared.plan.PlannedPage.{PlannedPage}
+use Rattle.md_chain.proofs.Saying.{written_say}
+use Rattle.store_model.specs.Maps.{Metas, with_entry}
+use Rattle.store_model.specs.Regions.{region_of}
+use Rattle.store_model.specs.Scans.{MetaAt}
+use Rattle.store_model.specs.Shown.{fixed_of}
+use Rattle.store_model.specs.Phases.{Committing, page_in}
+use Rattle.store_model.specs.StoreState.{StoreState, shown}
+use Rattle.store_model.specs.Places.{all_set, held_by, AreDistinct, AreLeastClear, IsLinked, UsedPages}
+use Rattle.store_model.specs.Jobs.{places_of, with_clusters, IsPacked, MovesClusters, Needs}
+use Rattle.store_model.specs.Asking.{AsksFor, creates, IsJobFor, IsSyncing, resizes, syncs}
+use Rattle.store_model.specs.RunInvariant.{CanBeWritten, IsLoadable, RunsWell}
+use Rattle.store_model.proofs.ClaimedZeros.{claimed_free, zeroed_is}
+use Rattle.store_model.proofs.JobReady.{head_of, job_writable, new_of, one_change}
+use Rattle.store_model.proofs.Cut.{cut, is_cut as is_taken, length_cut}
+use Rattle.store_model.proofs.OneReplacement.{base_lawful}
+use Rattle.store_model.proofs.Known.{Known}
+use Rattle.store_model.proofs.NewBlob.{empty_slot, two_written}
+use Rattle.store_model.proofs.Sets.{among_either, among_first, are_distinct, were_clear}
+use Rattle.store_model.proofs.ZeroSlots.{each_claimed}
+use Rattle.store_model.proofs.WithEntry.{given_here, given_elsewhere}
+use Rattle.metadata_turns.specs.Begins.{job_with_zeros, taken_for, AsksToWrite, IsPrepared, IsTaken}
+use Rattle.running_store.specs.Effects.{cut_clusters, is_cut, is_live_kept, live_behind, numbered_by}
+use Rattle.running_store.specs.StoreInvariant.{IsRunning}
+use Rattle.metadata_turns.specs.declared.preparing.Prepared.{Prepared}
+use Rattle.metadata_turns.proofs.AtWork.{page_of}
+use Rattle.running_store.proofs.PlainFacts.{got}
+use Rattle.running_store.proofs.Cleared.{among_get}
+use Rattle.metadata_turns.proofs.CutClusters.{cut_moves, cut_once}
+use Rattle.metadata_turns.proofs.FilledMoves.{filled_moves}
+use Rattle.metadata_turns.proofs.JobPlaces.{once_each, places_from}
+use Rattle.metadata_turns.proofs.SlotsOfZeros.{can_be_filled, with_none, CanBeFilled}
+
+pub all_fit : (xattrs : Xattrs) → CanBeWritten xattrs → All FitsPage xattrs
+all_fit xattrs can = All-from_recursion FitsPage xattrs can.short
+
+-- one replacement is that of another job, which is the same
+record IsSameOne (head other : ℕ) (new meta : Meta) : Type 0 where
+  head_is : head ≡ other
+  new_is : new ≡ meta
+
+same_one : (head other : ℕ) (new meta : Meta) (zeros : List ℕ) (changes : Job)
+    → job_with_zeros head new zeros ≡ changes → changes.list ≡ record { head = other; new = Some meta } ∷ []
+    → IsSameOne head other new meta
+same_one head other new meta zeros changes is list =
+    let lists = ap (λ (j : Job). j.list) is ∙ list in
+    let one : record { head = head; new = Some new } ≡ record { head = other; new = Some meta } = cc lists in
+    let metas : Some new ≡ Some meta = ap (λ (x : Replacement). x.new) one in
+    record { head_is = ap (λ (x : Replacement). x.head) one; new_is = cc metas }
+
+-- what the commit makes of a blob that is there, of which slots are cut or not, or of a new one
+abbrev pub commit_by : Bool → ℕ → Bool → Option Xattrs → Committing
+commit_by there head cut live = record {
+  reply = if there then r.Ok else r.Made head;
+  live = live;
+  renews = numbered_by (not there || cut) head;
+}
+
+-- what is taken and planned is what a job begins with
+pub record IsReady (p : StoreState) (head : ℕ) (new : Meta) (makes : Bool) (after : List Bool)
+    (plan : List PlannedPage) (fresh : List ℕ) : Type 0 where
+  pub needs : Needs new (length fresh)
+  pub least : AreLeastClear p.pages (taken_for makes head fresh)
+  pub taken : after ≡ all_set p.pages (taken_for makes head fresh) true
+  pub packed : IsPacked new head fresh plan
+  pub planned : MetaAt (page_in plan) (region_of p.super) head new (head ∷ fresh)
+  pub places : places_of plan ≡ head ∷ fresh
+
+-- ---- clusters stay as they are
+
+-- a blob that is made has none
+moves_made : (s : Super) (base : Metas) (head : ℕ) (new : Meta) → base head ≡ None → ((i : ℕ) → slot new i ≡ None)
+    → MovesClusters s base (with_entry base head new) [] []
+moves_made s base head new none empty = record {
+  kept = λ c x. elim (cases_eq x.head head) [
+    | inl e ↦ absurd (let bad = sym (ap base e ∙ none) ∙ x.there in cc bad)
+    | inr ne ↦ inl (record {
+      head = x.head;
+      meta = x.meta;
+      there = given_elsewhere base head new x.head ne ∙ x.there;
+      place = x.place;
+      in_slot = x.in_slot;
+    })
+  ];
+  let_go = λ c bad. absurd (cc bad);
+  gained = λ c x. elim (cases_eq x.head head) [
+    | inl e ↦
+        let one : new ≡ x.meta = let both = sym (given_here base head new x.head e) ∙ x.there in cc both in
+        absurd (let bad = sym (empty x.place) ∙ subst (λ (m : Meta). slot m x.place ≡ Some c) (sym one) x.in_slot in
+        cc bad)
+    | inr ne ↦ inl (record {
+      head = x.head;
+      meta = x.meta;
+      there = sym (given_elsewhere base head new x.head ne) ∙ x.there;
+      place = x.place;
+      in_slot = x.in_slot;
+    })
+  ];
+  filled = λ c bad. absurd (cc bad);
+}
+
+-- ---- what is asked
+
+-- a map of all its slots
+whole_cut : (map : List (Option ℕ)) → cut map (length map) None ≡ map
+whole_cut map = is_taken map (length map) None (omega arith) ∙ take_all (length map) map (omega arith)
+
+ltb-irrefl : (n : ℕ) → nat_lt n n ≡ false
+ltb-irrefl n = grind (arith, nat_tests)
+
+module _ (p : StoreState) (running : IsRunning p) (runs : p.stopped ≡ None) (command : Command) (head : ℕ) (new : Meta)
+    (zeros : List ℕ) (asks : AsksToWrite p command head new zeros) where
+  abbrev known : Known
+  known = record {
+    s = running.store;
+    placed = running.placed;
+    first = running.first;
+    script = running.script;
+    p = p;
+    facts = running.facts;
+  }
+
+  well : RunsWell running.first p
+  well = running.facts.well runs
+
+  -- with clusters in its slots of zeros a load takes it
+  pub loadable : (claimed : List ℕ) → AreLeastClear p.clusters claimed → length claimed ≡ length zeros
+      → head < p.super.md_len → IsLoadable p.super head (with_clusters new zeros claimed)
+  loadable claimed least one_each low =
+      subst (λ s. IsLoadable s head (with_clusters new zeros claimed)) (sym running.facts.super)
+      (job_writable known runs command (job_with_zeros head new zeros) asks.commit asks.asked claimed least one_each
+      (record { head = head; new = Some new }) new refl refl
+      (subst (λ (s : Super). head < s.md_len) running.facts.super low))
+
+  there_low : (m : Meta) → p.base head ≡ Some m → head < p.super.md_len
+  there_low m there = subst (λ (s : Super). head < s.md_len) (sym running.facts.super)
+      (running.facts.loadable head m there).stored.low
+
+  was_there : (m : Meta) → p.base head ≡ Some m → IsLoadable p.super head m
+  was_there m there =
+      subst (λ (s : Super). IsLoadable s head m) (sym running.facts.super) (running.facts.loadable head m there)
+
+  -- what is known of it, whichever verb asks
+  pub record IsAsked (before : Option Meta) : Type 0 where
+    pub commit : asks.commit
+        ≡ commit_by (is_some before) head (is_cut before new) (live_behind (is_live_kept command) new)
+    pub xattrs : CanBeWritten new.xattrs
+    pub internal : CanBeWritten new.internal
+    pub once : AreDistinct (cut_clusters before new)
+    pub moves : MovesClusters p.super p.base (with_entry p.base head new) (cut_clusters before new) []
+    pub memory : MayLackMemory (fixed_of p.super) (shown p) command
+
+  may_lack : IsSyncing command → MayLackMemory (fixed_of p.super) (shown p) command
+  may_lack is = by command is
+    where
+      by : (k : Command) → IsSyncing k → MayLackMemory (fixed_of p.super) (shown p) k
+      by (c.Put volume key value) is = tt
+      by (c.Sync volume) is = tt
+      by _ is = absurd is
+
+  -- a verb that syncs makes its attributes read
+  live_synced : IsSyncing command → live_behind (is_live_kept command) new ≡ Some new.xattrs
+  live_synced is = by command is
+    where
+      by : (k : Command) → IsSyncing k → live_behind (is_live_kept k) new ≡ Some new.xattrs
+      by (c.Put volume key value) is = refl
+      by (c.Sync volume) is = refl
+      by _ is = absurd is
+
+  -- of a blob that is there, with its slots cut or others added
+  asked_there : (old : Meta) → p.base head ≡ Some old → (slots : ℕ) → new.map ≡ cut old.map slots None
+      → CanBeWritten new.xattrs → new.internal ≡ old.internal → MayLackMemory (fixed_of p.super) (shown p) command
+      → asks.commit ≡ record {
+        reply = r.Ok;
+        live = live_behind (is_live_kept command) new;
+        renews = if nat_lt slots (length old.map) then head ∷ [] else [];
+      } → IsAsked (Some old)
+  asked_there old there slots map_is xattrs internal memory commit =
+      let long : length new.map ≡ slots = ap (λ (l : List (Option ℕ)). length l) map_is
+      ∙ length_cut {X = Option ℕ} old.map slots None in
+      let was = was_there old there in
+      let lawful = base_lawful known in
+      record {
+        commit = commit ∙ ap (λ n. record {
+          reply = r.Ok;
+          live = live_behind (is_live_kept command) new;
+          renews = if nat_lt n (length old.map) then head ∷ [] else [];
+        }) (sym long);
+        xattrs = xattrs;
+        internal = subst CanBeWritten (sym internal) was.stored.internal;
+        once = subst (λ n. AreDistinct (clusters_of (drop n old.map))) (sym long)
+            (cut_once p.super p.base head old new slots there lawful was map_is);
+        moves = subst (λ n. MovesClusters p.super p.base (with_entry p.base head new) (clusters_of (drop n old.map)) [])
+            (sym long) (cut_moves p.super p.base head old new slots there lawful was map_is);
+        memory = memory;
+      }
+
+  -- without clusters in its slots it is the same, but for the map
+  bare_xattrs : zeros ≡ [] → head < p.super.md_len → CanBeWritten new.xattrs
+  bare_xattrs none low = subst (λ (m : Meta). CanBeWritten m.xattrs) (with_none new zeros)
+      (loadable [] tt (sym (ap (λ (l : List ℕ). length l) none)) low).stored.xattrs
+
+  asked_by : IsJobFor p command (job_with_zeros head new zeros) asks.commit → IsAsked (p.base head)
+  asked_by (syncs y) =
+      let same = same_one head y.head new y.new zeros (job_of_one y.head y.new) y.is refl in
+      let mine : AsksFor p command head new = subst (λ h. AsksFor p command h new) (sym same.head_is)
+      (subst (AsksFor p command y.head) (sym same.new_is) y.asks) in
+      let kept : new.map ≡ cut mine.old.map (length mine.old.map) None =
+      ap (λ (m : Meta). m.map) mine.new_is ∙ sym (whole_cut mine.old.map) in
+      subst IsAsked (sym mine.there) (asked_there mine.old mine.there (length mine.old.map) kept
+      (bare_xattrs (ap (λ (j : Job). j.zero) y.is) (there_low mine.old mine.there))
+      (ap (λ (m : Meta). m.internal) mine.new_is) (may_lack y.asks.syncing)
+      (y.commit_is
+      ∙ ap (λ (m : Meta). record { reply = r.Ok; live = Some m.xattrs; renews = [] }) (sym same.new_is)
+      ∙ ap (λ (b : Bool). record { reply = r.Ok; live = Some new.xattrs; renews = if b then head ∷ [] else [] })
+      (sym (ltb-irrefl (length mine.old.map)))
+      ∙ ap (λ (o : Option Xattrs). record {
+        reply = r.Ok;
+        live = o;
+        renews = if nat_lt (length mine.old.map) (length mine.old.map) then head ∷ [] else [];
+      }) (sym (live_synced y.asks.syncing))))
+  asked_by (creates y) =
+      let xattrs = two_xattrs (fixed_of p.super) (shown p) y.name y.uuid in
+      let made = new_meta y.head xattrs y.thick y.slots in
+      let same = same_one head y.head new made zeros (create_job y.head xattrs y.thick y.slots) y.is refl in
+      let none : p.base head ≡ None = ap p.base same.head_is ∙ y.none in
+      subst IsAsked (sym none) (record {
+        commit = y.commit_is
+            ∙ ap (λ (h : ℕ). record { reply = r.Made h; live = Some xattrs; renews = h ∷ [] }) (sym same.head_is)
+            ∙ ap (λ (m : Meta). record { reply = r.Made head; live = Some m.xattrs; renews = head ∷ [] })
+            (sym same.new_is)
+            ∙ ap (λ (k : Command). record {
+              reply = r.Made head;
+              live = live_behind (is_live_kept k) new;
+              renews = head ∷ [];
+            }) (sym y.command_is);
+        xattrs = subst (λ (m : Meta). CanBeWritten m.xattrs) (sym same.new_is)
+            (two_written (fixed_of p.super) (shown p) y.name y.uuid y.named);
+        internal = subst (λ (m : Meta). CanBeWritten m.internal) (sym same.new_is) (record { names = tt; short = tt });
+        once = tt;
+        moves = moves_made p.super p.base head new none
+            (λ i. ap (λ (m : Meta). slot m i) same.new_is ∙ empty_slot y.slots i);
+        memory = subst (MayLackMemory (fixed_of p.super) (shown p)) (sym y.command_is) tt;
+      })
+  asked_by (resizes y) =
+      let made = resized_meta y.old y.slots in
+      let same = same_one head y.head new made zeros (resize_job y.head y.old y.slots) y.is refl in
+      let there : p.base head ≡ Some y.old = ap p.base same.head_is ∙ y.there in
+      subst IsAsked (sym there) (asked_there y.old there y.slots (ap (λ (m : Meta). m.map) same.new_is)
+      (subst (λ (m : Meta). CanBeWritten m.xattrs) (sym same.new_is) (was_there y.old there).stored.xattrs)
+      (ap (λ (m : Meta). m.internal) same.new_is)
+      (subst (MayLackMemory (fixed_of p.super) (shown p)) (sym y.command_is) tt)
+      (y.commit_is
+      ∙ ap (λ h. record {
+        reply = r.Ok;
+        live = None;
+        renews = if nat_lt y.slots (length y.old.map) then h ∷ [] else [];
+      })
+      (sym same.head_is)
+      ∙ ap (λ (k : Command). record {
+        reply = r.Ok;
+        live = live_behind (is_live_kept k) new;
+        renews = if nat_lt y.slots (length y.old.map) then head ∷ [] else [];
+      }) (sym y.command_is)))
+
+  pub asked : IsAsked (p.base head)
+  asked = asked_by asks.asked
+
+  -- ---- its slots of zeros
+
+  pub fillable : CanBeFilled p.base new zeros
+  fillable =
+      let is = one_change p command (job_with_zeros head new zeros) asks.commit asks.asked in
+      let same = same_one head (head_of p command _ asks.commit asks.asked) new
+      (new_of p command _ asks.commit asks.asked) zeros _ is refl in
+      subst (λ (m : Meta). CanBeFilled p.base m zeros) (sym same.new_is)
+      (subst (CanBeFilled p.base (new_of p command _ asks.commit asks.asked)) (sym (ap (λ (j : Job). j.zero) is))
+      (can_be_filled p command _ asks.commit asks.asked))
+
+  -- each of them is a slot of the new map
+  pub zeros_within : All (λ i. i < length new.map) zeros
+  zeros_within k d lt = (fillable.empty (get_or zeros k d) (among_get zeros k d lt)).0
+
+  placed : IsPlaced p.super
+  placed = subst IsPlaced (sym running.facts.super) running.placed
+
+  -- cluster 0 is none that a slot can hold
+  pub first_in_use : is_in p.clusters 0 ≡ true
+  first_in_use = well.clusters.fixed 0 placed.some_fixed
+      (let some = placed.some_fixed in let le = placed.fixed_clusters in omega (arith, some, le))
+
+  module _ (claimed : List ℕ) (least : AreLeastClear p.clusters claimed)
+      (one_each : length claimed ≡ length zeros) where
+    -- the clusters that are claimed for these slots are in the map then, and all else moves as without them
+    pub moves_filled : MovesClusters p.super p.base (with_entry p.base head (with_clusters new zeros claimed))
+        (cut_clusters (p.base head) new) claimed
+    moves_filled = filled_moves p.super p.base head new (with_clusters new zeros claimed)
+        (cut_clusters (p.base head) new) claimed asked.moves
+        (zeroed_is known runs claimed least head new zeros fillable.distinct fillable.empty fillable.had)
+        (each_claimed new zeros claimed fillable.distinct fillable.empty one_each)
+        (claimed_free known runs claimed least)
+
+  -- ---- its chain
+
+  chain_where : (there : Bool) → is_some (p.chains head) ≡ there → is_some (p.base head) ≡ there
+  chain_where there is = by (p.base head) refl
+    where
+      by : (o : Option Meta) → p.base head ≡ o → is_some (p.base head) ≡ there
+      by None none = ap is_some none ∙ sym (ap is_some (well.chains.none head none)) ∙ is
+      by (Some m) some = ap is_some some ∙ sym (ap is_some (well.chains.chain head m some).1) ∙ is
+
+  -- a blob has one exactly where it is there
+  pub there_is : is_some (p.base head) ≡ is_some (p.chains head)
+  there_is = chain_where (is_some (p.chains head)) refl
+
+  pub has_chain : is_some (p.chains head) ≡ true → (behind : List ℕ) × (p.chains head ≡ Some (head ∷ behind))
+  has_chain some = by (p.base head) refl
+    where
+      by : (o : Option Meta) → p.base head ≡ o → (behind : List ℕ) × (p.chains head ≡ Some (head ∷ behind))
+      by None none = absurd (let bad = sym (there_is ∙ some) ∙ ap is_some none in cc bad)
+      by (Some m) there = well.chains.chain head m there
+
+  small : p.super.md_len < 2 ^ 32
+  small =
+      let few = placed.few_md_pages in
+      omega (arith, few)
+
+  -- ---- laid on pages
+
+  module _ (no_job : p.job ≡ None) (makes : Bool) (was : is_some (p.chains head) ≡ not makes) where
+    used : UsedPages p.super.md_len p.pages p.chains []
+    used = subst (UsedPages p.super.md_len p.pages p.chains) (ap held_by no_job) well.pages
+
+    module _ (fresh : List ℕ) (least : AreLeastClear p.pages (taken_for makes head fresh)) where
+      as_made : makes ≡ true → AreLeastClear p.pages (head ∷ fresh)
+      as_made e = subst (λ (b : Bool). AreLeastClear p.pages (taken_for b head fresh)) e least
+
+      as_there : makes ≡ false → AreLeastClear p.pages fresh
+      as_there e = subst (λ (b : Bool). AreLeastClear p.pages (taken_for b head fresh)) e least
+
+      chain_there : makes ≡ false → (behind : List ℕ) × (p.chains head ≡ Some (head ∷ behind))
+      chain_there e = has_chain (was ∙ ap not e)
+
+      -- the head of a blob that is there is in use
+      head_apart : makes ≡ false → is_among head fresh ≡ false
+      head_apart e = elim (cases_Bool (is_among head fresh)) [
+        | inl among ↦
+            let chain = chain_there e in
+            let linked : IsLinked p.chains head = record {
+              head = head;
+              pages = head ∷ chain.0;
+              chain = chain.1;
+              among = among_first head chain.0;
+            } in
+            absurd (both_ways (is_in p.pages head) (were_clear p.pages fresh (as_there e) head among).clear
+            (used.linked head linked))
+        | inr out ↦ out
+      ]
+
+      pub all_differ : AreDistinct (head ∷ fresh)
+      all_differ = elim (cases_Bool makes) [
+        | inl e ↦ are_distinct p.pages (head ∷ fresh) (as_made e)
+        | inr e ↦ (head_apart e, are_distinct p.pages fresh (as_there e))
+      ]
+
+      pub head_low : head < p.super.md_len
+      head_low = elim (cases_Bool makes) [
+        | inl e ↦ subst (λ n. head < n) used.count (as_made e).0.within
+        | inr e ↦ well.chains.low head head (head ∷ (chain_there e).0) (chain_there e).1
+            (among_first head (chain_there e).0)
+      ]
+
+      below : (x : ℕ) → is_among x (head ∷ fresh) ≡ true → x < p.super.md_len
+      below x among = elim (among_either x head fresh among) [
+        | inl first ↦ subst (λ y. y < p.super.md_len) (sym first) head_low
+        | inr later ↦ elim (cases_Bool makes) [
+          | inl e ↦ subst (λ n. x < n) used.count (were_clear p.pages (head ∷ fresh) (as_made e) x among).below
+          | inr e ↦ subst (λ n. x < n) used.count (were_clear p.pages fresh (as_there e) x later).below
+        ]
+      ]
+
+      pub all_low : All (λ x. x < p.super.md_len) (head ∷ fresh)
+      all_low k d lt = below (get_or (head ∷ fresh) k d) (among_get (head ∷ fresh) k d lt)
+
+    module _ (claimed : List ℕ) (least : AreLeastClear p.clusters claimed) (one_each : length claimed ≡ length zeros)
+        (chains : map.FinMap nat_cmp (List ℕ)) (after : List Bool) (x : Prepared)
+        (is : IsPrepared chains head (with_clusters new zeros claimed) makes p.pages after x) where
+      abbrev later : Meta
+      later = with_clusters new zeros claimed
+
+      t : IsTaken is.items head makes p.pages after x.laid
+      t = is.taken
+
+      planned_places : places_of x.laid.pages ≡ head ∷ t.fresh
+      planned_places = ap places_of t.laid_on.pages ∙ places_from head 0 head t.fresh (parts_of is.items) t.count
+
+      planned_pages : All (λ (q : PlannedPage). page_in x.laid.pages q.place ≡ q.page) x.laid.pages
+      planned_pages k d lt = page_of x.laid.pages k (get_or x.laid.pages k d)
+          (subst AreDistinct (sym planned_places) (all_differ t.fresh t.least)) (got x.laid.pages k d lt)
+
+      whole : IsLoadable p.super head later
+      whole = loadable claimed least one_each (head_low t.fresh t.least)
+
+      says_new : later ≡ meta_of head (written_items is.items)
+      says_new = sym (written_say head is.items is.plannable
+          ∙ says head later is.items whole.stored.id whole.stored.clear whole.stored.xattrs.names
+          whole.stored.internal.names is.are)
+
+      ready_at : IsReady p head later makes after x.laid.pages t.fresh
+      ready_at = record {
+        needs = record { items = is.items; are = is.are; chain = sym t.count };
+        least = t.least;
+        taken = t.taken;
+        packed = record { items = is.items; are = is.are; pages = t.laid_on.pages };
+        planned = record {
+          items = written_items is.items;
+          chain = t.laid_on.reads (page_in x.laid.pages) p.super.md_len small
+              (once_each (head ∷ t.fresh) (all_differ t.fresh t.least)) (all_low t.fresh t.least) planned_pages;
+          meta_is = says_new;
+          faultless = whole.stored.faultless;
+        };
+        places = planned_places;
+      }
+
+      pub ready : IsReady p head (with_clusters new zeros claimed) makes after x.laid.pages (drop 1 x.laid.chain)
+      ready = subst (IsReady p head later makes after x.laid.pages) (sym (ap (drop 1) t.laid_on.chain)) ready_at

@@ -1,0 +1,176 @@
+-- What the replacement of an insert's job makes of the store.
+use Rattle.std.proofs.Common.{◌≡◌, ℕ, ◌+◌, ◌<◌, Bool, false, List, [], ◌∷◌, length, Option, Some, None, refl, sym, ◌∙◌}
+use Rattle.std.proofs.Common.{ap, subst, drop, IsTrue}
+use Rattle.std.specs.Prelude.{is_some, slice_get, ◌||◌}
+use Rattle.std.specs.FinMap as map
+use Rattle.page_disk.specs.Disk.{Only}
+use Rattle.page_disk.specs.Moments.{CallsLeaveOnly, IsReplaced}
+use Rattle.page_disk.specs.declared.disk.PageDisk.{Ghosts}
+use Rattle.volume_model.specs.Xattrs.{Xattrs}
+use Rattle.md_chain.specs.declared.plan.PlannedPage.{PlannedPage}
+use Rattle.store_model.specs.Cases.{FailsToReplace, WritesOnePage}
+use Rattle.store_model.specs.Cases as kind
+use Rattle.store_model.specs.Cases.InsertFail as tried
+use Rattle.store_model.specs.Claiming.{stage_behind}
+use Rattle.store_model.specs.Maps.{with_entry, Chains, Metas}
+use Rattle.store_model.specs.Phases.{erasing, page_in, Phase, Replaces}
+use Rattle.store_model.specs.Places.{all_set}
+use Rattle.store_model.specs.Rows.{Row, Rows, Stage, with_row}
+use Rattle.store_model.specs.StoreState.{going_on, JobState, StoreState}
+use Rattle.io_freeze.specs.Guards.{GuardsState}
+use Rattle.running_store.specs.Effects.{is_numbered}
+use Rattle.metadata_turns.specs.JobTurns.{with_job, IsAtWork, TurnsJob}
+use Rattle.running_store.specs.Jobs.{erasing_for, replacing_of, writing_for, AreNone}
+use Rattle.running_store.specs.Running.{live_given}
+use Rattle.running_store.specs.StoreView.{StoreView, device_of, rows_of, state_of}
+use Rattle.metadata_turns.specs.Telling.{let_go_at}
+use Rattle.running_store.specs.declared.job.Planned.{Planned}
+use Rattle.running_store.specs.declared.job.Serves.{Serves}
+use Rattle.running_store.specs.declared.job.Serves.TheVariants as whom
+use Rattle.metadata_turns.proofs.HeadReplaced.{adopted_view, after_none, after_some, numbered, planned_is, todo_is, touched}
+use Rattle.metadata_turns.proofs.InsertFailed.{fails_insert, inserting, waits, command as write_of}
+use Rattle.metadata_turns.proofs.JobTurned.{entered, first_low, first_waits}
+use Rattle.running_store.proofs.Maps.{insert_given}
+use Rattle.running_store.proofs.Rowing.{rows_set}
+
+module _ {D : Type 0} (d : Ghosts D) (p : StoreView D) (row : ℕ) (planned : Planned) (old : List ℕ)
+    (w : IsAtWork d p (writing_for (whom.Insert row) planned old (length (drop 1 planned.chain))))
+    (chain_is : planned.chain ≡ planned.head ∷ drop 1 planned.chain) (none : AreNone planned.effects) where
+  abbrev serves : Serves
+  serves = whom.Insert row
+
+  abbrev j : JobState
+  j = writing_for serves planned old (length (drop 1 planned.chain))
+
+  abbrev s : StoreState
+  s = state_of d (with_job p j)
+
+  abbrev others : List Phase
+  others = erasing old old []
+
+  abbrev row_then : Stage → Row
+  row_then stage = record { left = (rows_of p.rows row).left; stage = stage; claim = None }
+
+  below : row < length p.rows
+  below = first_low p row (first_waits d p serves planned old (length (drop 1 planned.chain)) w)
+
+  module _ (disk : D) (x : PlannedPage) (at : ℕ) (at_is : at ≡ p.super.md_start + planned.head)
+      (first : slice_get planned.pages 0 ≡ Some x)
+      (touches : CallsLeaveOnly d p.disk disk (IsReplaced (d.images p.disk) (d.now p.disk) at x.page)) where
+    head_is : page_in planned.pages planned.head ≡ x.page
+    head_is = planned_is d p serves planned old w disk x at at_is first touches
+
+    head_touched : CallsLeaveOnly d p.disk disk (IsReplaced (d.images p.disk) (d.now p.disk)
+        (p.super.md_start + planned.head) (page_in planned.pages planned.head))
+    head_touched = touched d p serves planned old w disk x at at_is first touches
+
+    pub failed_inserting : FailsToReplace (device_of d p.disk) (device_of d disk) → (q : StoreView D)
+        → entered d p row disk q → TurnsJob d (with_job p j) q
+    failed_inserting fails q is =
+        let writes = (waits d p j w row refl refl).writes in
+        subst (TurnsJob d (with_job p j)) (sym (is (write_of d p row writes) writes.rest writes.is)) (record {
+          kind = kind.insert_fails;
+          of_job = tt;
+          made = (
+            fails_insert d p j w row refl refl disk (Replaces (replacing_of planned old) None) others
+                (todo_is d p serves planned old w) (tried.head (replacing_of planned old) planned.new refl refl) fails,
+            record { moments = head_touched; durable = λ never. absurd (cc never) },
+          );
+        })
+
+    -- the blob has its cluster, and nothing else is another
+    abbrev filled : StoreView D
+    filled = record p {
+      disk = disk;
+      metas = map.insert p.metas planned.head planned.new;
+      chains = map.insert p.chains planned.head planned.chain;
+    }
+
+    abbrev with_others : Option Xattrs → List ℕ → Bool → StoreView D
+    with_others live freed gets = record filled {
+      live = live_given p.live planned.head live;
+      clusters = all_set p.clusters freed false;
+      guards = numbered gets p.guards planned.head;
+    }
+
+    numbers_none : is_numbered planned.effects ≡ false
+    numbers_none = ap (λ b. is_some planned.effects.rooms || b) none.renews
+        ∙ ap (λ b. b || false) (ap is_some none.rooms)
+
+    filled_is : adopted_view p planned disk ≡ filled
+    filled_is =
+        ap (λ o. with_others o planned.effects.freed (is_numbered planned.effects)) none.live
+        ∙ ap (λ l. with_others None l (is_numbered planned.effects)) none.freed
+        ∙ ap (λ b. with_others None [] b) numbers_none
+
+    abbrev built : Metas → Chains → Rows → Option JobState → StoreState
+    built base chains rows job =
+        record s { base = base; chains = chains; rows = rows; job = job; device = device_of d disk }
+
+    abbrev base_new : Metas
+    base_new = with_entry s.base planned.head planned.new
+
+    abbrev chains_new : Chains
+    chains_new = with_entry s.chains planned.head (planned.head ∷ drop 1 planned.chain)
+
+    next : (k : Option JobState) → k ≡ going_on j [] others → (stage : Stage) → stage ≡ stage_behind others
+        → state_of d (record (let_go_at filled row stage) { job = k })
+        ≡ built base_new chains_new (with_row s.rows row (row_then (stage_behind others))) (going_on j [] others)
+    next k after stage behind =
+        let metas = insert_given p.metas planned.head planned.new in
+        let chains : map.get (map.insert p.chains planned.head planned.chain) ≡ chains_new =
+        insert_given p.chains planned.head planned.chain ∙ ap (λ ps. with_entry s.chains planned.head ps) chain_is in
+        ap (λ (b : Metas). built b (map.get (map.insert p.chains planned.head planned.chain))
+        (rows_of (let_go_at filled row stage).rows) k) metas
+        ∙ ap (λ (h : Chains). built base_new h (rows_of (let_go_at filled row stage).rows) k) chains
+        ∙ ap (λ (rows : Rows). built base_new chains_new rows k) (rows_set p.rows row (row_then stage) below)
+        ∙ ap (λ (g : Stage). built base_new chains_new (with_row s.rows row (row_then g)) k) behind
+        ∙ ap (λ (o : Option JobState).
+        built base_new chains_new (with_row s.rows row (row_then (stage_behind others))) o)
+        after
+
+    module _ (a : StoreView D) (a_is : a ≡ adopted_view p planned disk) (l : StoreView D) (stage : Stage)
+        (told : l ≡ let_go_at a row stage) where
+      pub told_filled : l ≡ let_go_at filled row stage
+      told_filled = told ∙ ap (λ (b : StoreView D). let_go_at b row stage) (a_is ∙ filled_is)
+
+      module _ (moves : WritesOnePage d.tells (device_of d p.disk) at x.page 3 (device_of d disk))
+          (durable : IsTrue d.tells → Only (d.now disk) (d.images disk)) where
+        inserted : (k : Option JobState) → k ≡ going_on j [] others → stage ≡ stage_behind others
+            → (q : StoreView D) → q ≡ record (let_go_at filled row stage) { job = k } → TurnsJob d (with_job p j) q
+        inserted k after behind q is = subst (TurnsJob d (with_job p j)) (sym is) (record {
+          kind = kind.inserts;
+          of_job = tt;
+          made = (
+            record {
+              replacing = replacing_of planned old;
+              running = record {
+                job = j;
+                is = refl;
+                rest = others;
+                next = todo_is d p serves planned old w;
+                runs = w.not_stopped;
+              };
+              inserting = inserting d p j w row refl refl;
+              new = planned.new;
+              new_is = refl;
+              device = device_of d disk;
+              moves =
+                  subst (λ page. WritesOnePage d.tells (device_of d p.disk) (p.super.md_start + planned.head) page 3
+                  (device_of d disk)) (sym head_is)
+                  (subst (λ n. WritesOnePage d.tells (device_of d p.disk) n x.page 3 (device_of d disk)) at_is moves);
+              next = next k after stage behind;
+            },
+            record { moments = head_touched; durable = λ _. durable },
+          );
+        })
+
+        pub inserted_done : stage ≡ stage_behind others → length old ≡ 0 → TurnsJob d (with_job p j) l
+        inserted_done behind empty = inserted p.job (w.taken ∙ sym (after_none old j empty)) behind l told_filled
+
+        pub inserted_more : stage ≡ stage_behind others → 0 < length old
+            → TurnsJob d (with_job p j) (record l { job = Some (erasing_for serves old 0) })
+        inserted_more behind some = inserted (Some (erasing_for serves old 0))
+            (sym (after_some serves old some j refl refl none.claimed)) behind
+            (record l { job = Some (erasing_for serves old 0) })
+            (ap (λ (b : StoreView D). record b { job = Some (erasing_for serves old 0) }) told_filled)

@@ -1,0 +1,171 @@
+-- A job for the posted command of a channel, while its pages and clusters are taken.
+use Rattle.std.proofs.Common.{◌≡◌, ℕ, ◌<◌, ◌≤◌, All, Bool, true, false, List, [], length, Option, Some, None}
+use Rattle.std.proofs.Common.{IfSome, IfNone, refl, sym, ap, ◌∙◌, subst, arith, inl, inr}
+use Rattle.std.specs.Prelude.{is_some, not, slice_set, IsSome}
+use Rattle.std.specs.FinMap as map
+use Rattle.page_disk.specs.declared.disk.PageDisk.{Ghosts}
+use Rattle.bit_array.specs.Bits.{is_in}
+use Rattle.pools.specs.Pool.{clear_in}
+use Rattle.super_block.specs.Numbers.{cluster_pages_of}
+use Rattle.volume_model.specs.declared.command.Command.{Command}
+use Rattle.volume_model.specs.declared.reply.Reply.{Reply}
+use Rattle.volume_model.specs.declared.reply.Reply.TheVariants.{Memory}
+use Rattle.blob_meta.specs.declared.meta.Meta.{Meta}
+use Rattle.md_chain.specs.Packing.{FitsPage}
+use Rattle.store_model.specs.Cases.{Begins, IsRefusedAtBegin}
+use Rattle.store_model.specs.Jobs.{with_clusters, AreForZeros}
+use Rattle.store_model.specs.Loadable.{CanBeWritten}
+use Rattle.store_model.specs.Places.{all_set, AreDistinct}
+use Rattle.store_model.specs.Rows.{InJob, Row}
+use Rattle.store_model.specs.StoreState.{JobState, StoreState}
+use Rattle.store_model.proofs.ZeroSlots.{zeroed_rest}
+use Rattle.running_store.specs.Jobs.{begun_job, job_seen}
+use Rattle.metadata_turns.specs.Begins.{planned_with, with_begun, AsksToWrite, HasChain, IsFreshHead, IsPrepared}
+use Rattle.metadata_turns.specs.Begins.{IsUnprepared}
+use Rattle.running_store.specs.Effects.{cut_clusters, is_live_kept, live_behind, AreEffects}
+use Rattle.running_store.specs.StoreInvariant.{IsRunning}
+use Rattle.running_store.specs.StoreView.{StoreView, rows_of, state_of}
+use Rattle.running_store.specs.Steps.{Asks, IsPostedAt}
+use Rattle.running_store.specs.declared.effects.Effects.{Effects}
+use Rattle.running_store.specs.declared.job.Rooms.{Rooms}
+use Rattle.running_store.specs.declared.job.RunningJob.{RunningJob}
+use Rattle.metadata_turns.specs.declared.preparing.Prepared.{Prepared}
+use Rattle.metadata_turns.proofs.JobAsked.{all_fit, asked, first_in_use, has_chain, ready, there_is, zeros_within, IsAsked}
+use Rattle.metadata_turns.proofs.JobBegin.{begun, why_unprepared}
+use Rattle.metadata_turns.proofs.SlotsOfZeros.{with_none}
+
+-- where room is taken no blob is there
+not_there : (rooms : Option Rooms) (chain : Option (List ℕ)) → IfNone rooms (IsSome chain)
+    → IfSome rooms (λ _. chain ≡ None) → is_some chain ≡ not (is_some rooms)
+not_there None chain there none = there
+not_there (Some x) chain there none = ap is_some none
+
+none_of : {A : Type 0} (o : Option A) → is_some o ≡ false → o ≡ None
+none_of None is = refl
+none_of (Some x) is = absurd (cc is)
+
+module _ {D : Type 0} (d : Ghosts D) (p : StoreView D) (channel : ℕ) (posted : IsPostedAt p channel)
+    (running : IsRunning (state_of d p)) (runs : p.stopped ≡ None) (head : ℕ) (new : Meta) (zeros : List ℕ)
+    (asks_it : Asks p channel (λ command. AsksToWrite (state_of d p) command head new zeros)) where
+  abbrev s : StoreState
+  s = state_of d p
+
+  abbrev command : Command
+  command = posted.waits.command
+
+  asks : AsksToWrite s command head new zeros
+  asks = asks_it command posted.waits.rest (ap (λ (r : Row). r.left) posted.waits.row)
+
+  known : IsAsked s running runs command head new zeros asks (s.base head)
+  known = asked s running runs command head new zeros asks
+
+  pub slots_within : All (λ i. i < length new.map) zeros
+  slots_within = zeros_within s running runs command head new zeros asks
+
+  pub first_cluster : is_in p.clusters 0 ≡ true
+  first_cluster = first_in_use s running runs command head new zeros asks
+
+  pub once : AreDistinct (cut_clusters (s.base head) new)
+  once = known.once
+
+  -- memory may always be wanting
+  pub no_memory : Asks p channel (λ k. IsRefusedAtBegin s k Memory)
+  no_memory k ks left = (asked s running runs k head new zeros (asks_it k ks left)).memory
+
+  -- ---- the blob's chain
+
+  module _ (rooms : Option Rooms) (some : IfNone rooms (IsSome (s.chains head)))
+      (none : IfSome rooms (λ _. s.chains head ≡ None)) where
+    pub was : is_some (s.chains head) ≡ not (is_some rooms)
+    was = not_there rooms (s.chains head) some none
+
+    pub has_one : is_some rooms ≡ false → HasChain p.chains head
+    has_one no_room = has_chain s running runs command head new zeros asks (was ∙ ap not no_room)
+
+    pub has_none : is_some rooms ≡ true → s.chains head ≡ None
+    has_none room = none_of (s.chains head) (was ∙ ap not room)
+
+    pub next_head : is_some rooms ≡ true → IsFreshHead p.pages head
+    next_head room = asks.next (none_of (s.base head)
+        (there_is s running runs command head new zeros asks ∙ was ∙ ap not room))
+
+  -- ---- with clusters in its slots of zeros
+
+  module _ (claimed : List ℕ) (claims : AreForZeros p.clusters zeros claimed) (later : Meta)
+      (is : later ≡ with_clusters new zeros claimed) where
+    rest_same : later ≡ record new { map = later.map }
+    rest_same = subst (λ (m : Meta). m ≡ record new { map = m.map }) (sym is) (zeroed_rest new zeros claimed)
+
+    pub xattrs_fit : All FitsPage later.xattrs
+    xattrs_fit = all_fit later.xattrs
+        (subst CanBeWritten (sym (ap (λ (m : Meta). m.xattrs) rest_same)) known.xattrs)
+
+    pub internal_fit : All FitsPage later.internal
+    internal_fit = all_fit later.internal
+        (subst CanBeWritten (sym (ap (λ (m : Meta). m.internal) rest_same)) known.internal)
+
+    -- all of them have one, or none has, since too few are clear
+    pub as_many : length zeros ≤ length claimed → length claimed ≡ length zeros
+    as_many all = elim claims.count [
+      | inl same ↦ same
+      | inr few ↦
+          let fewer = few.1 in
+          let none : length claimed ≡ 0 = ap (λ (l : List ℕ). length l) few.0 in
+          omega (arith, all, none)
+    ]
+
+    pub too_few : length claimed < length zeros → (claimed ≡ []) × (clear_in p.clusters < length zeros)
+    too_few less = elim claims.count [ inl same ↦ absurd (omega (arith, less, same)) | inr few ↦ few ]
+
+    module _ (no_job : p.job ≡ None) where
+      -- why the command is refused, where too few clusters are clear,
+      pub lacks_clusters : length claimed < length zeros → (there : Bool) → is_some (s.chains head) ≡ there
+          → (reply : Reply) → IsUnprepared true there later p.pages reply
+          → Asks p channel (λ k. IsRefusedAtBegin s k reply)
+      lacks_clusters less there was reply x k ks left =
+          let few = too_few less in
+          why_unprepared s running runs no_job k head new zeros (asks_it k ks left) claimed claims true
+          (λ _. (few.1, ap (with_clusters new zeros) few.0 ∙ with_none new zeros)) reply
+          (subst (λ (b : Bool). IsUnprepared true b (with_clusters new zeros claimed) p.pages reply) (sym was)
+          (subst (λ (m : Meta). IsUnprepared true there m p.pages reply) is x))
+
+      -- and where enough are
+      pub lacks_pages : (reply : Reply) → IsUnprepared false (is_some (s.chains head)) later p.pages reply
+          → Asks p channel (λ k. IsRefusedAtBegin s k reply)
+      lacks_pages reply x k ks left =
+          why_unprepared s running runs no_job k head new zeros (asks_it k ks left) claimed claims false
+          (λ bad. absurd (cc bad)) reply
+          (subst (λ (m : Meta). IsUnprepared false (is_some (s.chains head)) m p.pages reply) is x)
+
+      -- the job begins, once all that it needs is taken
+      pub job_begins : channel < length p.rows → length zeros ≤ length claimed → (e : Effects) (kept : Bool)
+          → kept ≡ is_live_kept command → AreEffects (s.base head) kept new [] e
+          → IfNone e.rooms (IsSome (s.chains head)) → IfSome e.rooms (λ _. s.chains head ≡ None)
+          → (pages clusters : List Bool) → clusters ≡ all_set p.clusters claimed true → (x : Prepared)
+          → IsPrepared p.chains head later (is_some e.rooms) p.pages pages x → (cluster_pages : ℕ)
+          → cluster_pages ≡ cluster_pages_of p.super → (job : RunningJob)
+          → job_seen job
+          ≡ begun_job channel (planned_with x head later (record e { claimed = claimed })) x.old cluster_pages
+          → Begins s (state_of d (with_begun (record p { pages = pages; clusters = clusters }) channel job))
+      job_begins low all e kept kept_is effects some none pages clusters set x prepared cluster_pages each job seen =
+          let one_each = as_many all in
+          let there = was e.rooms some none in
+          let with_its : IsPrepared p.chains head (with_clusters new zeros claimed) (is_some e.rooms) p.pages pages x =
+          subst (λ (m : Meta). IsPrepared p.chains head m (is_some e.rooms) p.pages pages x) is prepared in
+          let begins = begun d p channel low posted runs running no_job
+          (planned_with x head later (record e { claimed = claimed })) x.old new zeros asks
+          (record {
+            live = effects.live ∙ ap (λ (b : Bool). live_behind b new) kept_is;
+            renews = effects.renews;
+            freed = effects.freed;
+            claimed = refl;
+          }) claims.least one_each is cluster_pages each there with_its.behind
+          (λ no. with_its.none_behind (none_of (s.chains head) no)) pages clusters set
+          (ready s running runs command head new zeros asks no_job (is_some e.rooms) there claimed claims.least
+          one_each p.chains pages x with_its) in
+          subst (λ (j : JobState). Begins s (state_of d (record p {
+            rows = slice_set p.rows channel (record (rows_of p.rows channel) { stage = InJob });
+            pages = pages;
+            clusters = clusters;
+            job = Some j;
+          }))) (sym seen) begins

@@ -1,0 +1,189 @@
+-- What a turn of a running job that overwrites a page of a claimed cluster makes of the store.
+use Rattle.std.proofs.Common.{None, ◌≡◌, ℕ, ◌*◌, ◌/◌, ◌%◌, ◌<◌, Bool, true, false, List, [], ◌∷◌, length}
+use Rattle.std.proofs.Common.{Some, refl, sym, ◌∙◌, ap, subst, arith, inl, inr, drop}
+use Rattle.std.specs.Prelude.{if◌then◌else◌}
+use Rattle.std.proofs.lemmas.Bool.{cases_lt}
+use Rattle.std.proofs.lemmas.Nat.{div-add-mod', mul-add-lt}
+use Rattle.std.proofs.Math.Nat.{mod-lt}
+use Rattle.std.proofs.Math.ListN.{get_or-eq_default}
+use Rattle.std.proofs.Math.Path.{fun_ext}
+use Rattle.page_disk.specs.Disk.{Written}
+use Rattle.page_disk.specs.Moments.{CallsLeaveOnly}
+use Rattle.page_disk.specs.declared.disk.PageDisk.{Ghosts}
+use Rattle.page_disk.specs.declared.disk.WriteKind.TheVariants.{Plain}
+use Rattle.super_block.specs.Numbers.{cluster_pages_of, clusters_of}
+use Rattle.super_block.specs.Placed.{IsPlaced}
+use Rattle.super_block.specs.declared.page.Super.{Super}
+use Rattle.volume_model.specs.Volumes.{zero_page}
+use Rattle.volume_model.specs.declared.command.Command.{Command}
+use Rattle.volume_model.specs.declared.reply.Reply.TheVariants as r
+use Rattle.md_chain.specs.Chain.{is_among}
+use Rattle.store_model.specs.Rows.{Row, InJob}
+use Rattle.store_model.specs.StoreState.{JobState, logged, StoreState}
+use Rattle.store_model.specs.Cases.{FailsToReplace, WritesOnePage}
+use Rattle.store_model.specs.Cases as kind
+use Rattle.store_model.specs.Cases.Fail.{zeros}
+use Rattle.store_model.specs.Jobs.{IsServed, JobStands, Lays}
+use Rattle.store_model.specs.Phases.{has_commit, Phase, Zeros}
+use Rattle.store_model.specs.RunInvariant.{RunsWell}
+use Rattle.store_model.proofs.Guarding.{none_frozen_by}
+use Rattle.store_model.proofs.Phases.{commit_behind}
+use Rattle.store_model.proofs.Used.{within}
+use Rattle.store_model.proofs.Zeroing.{commit_zeros}
+use Rattle.running_store.specs.Jobs.{behind_zero, commit_of, replacing_of, writing_job, zeroing_job}
+use Rattle.running_store.specs.Zeroing.{next_zeroed, pages_from, IsLeft}
+use Rattle.metadata_turns.specs.JobTurns.{stopped_at, with_job, IsAtWork, TurnsJob}
+use Rattle.running_store.specs.Steps.{logged_at}
+use Rattle.running_store.specs.StoreView.{StoreView, device_of, rows_of, state_of}
+use Rattle.running_store.specs.declared.job.Planned.{Planned}
+use Rattle.running_store.specs.declared.job.Zeroed.{Zeroed}
+use Rattle.running_store.proofs.Rowing.{state_logged}
+use Rattle.metadata_turns.proofs.JobTurned.{entered, entered_plainly}
+use Rattle.running_store.proofs.ZeroPages.{zeroes_next}
+use Rattle.store_model.specs.Phases.{Replaces, erasing}
+
+-- a page of one of so many clusters
+on_device : (page k clusters : ℕ) → 0 < k → page / k < clusters → page < k * clusters
+on_device page k clusters some low =
+    subst (λ n. n < k * clusters) (div-add-mod' page k)
+    (mul-add-lt (page / k) k (page % k) clusters low (mod-lt page some))
+
+module _ {D : Type 0} (d : Ghosts D) (p : StoreView D) (channel : ℕ) (planned : Planned) (old : List ℕ) (z : Zeroed)
+    (w : IsAtWork d p (zeroing_job channel planned old z)) (left : IsLeft planned.effects.claimed z) where
+  abbrev j : JobState
+  j = zeroing_job channel planned old z
+
+  abbrev s : StoreState
+  s = state_of d (with_job p j)
+
+  abbrev claimed : List ℕ
+  claimed = planned.effects.claimed
+
+  abbrev page : ℕ
+  page = next_zeroed claimed z
+
+  abbrev others : List Phase
+  others = drop 1 j.todo
+
+  todo_is : j.todo ≡ Zeros page ∷ others
+  todo_is = zeroes_next channel planned old z left
+
+  well : RunsWell w.running.first s
+  well = w.running.facts.well w.not_stopped
+
+  stands : JobStands s j
+  stands = well.job j refl
+
+  waits : has_commit j.todo ≡ true
+  waits =
+      commit_zeros (pages_from z.cluster_pages (drop z.clusters claimed) z.pages)
+      (writing_job channel planned old 0).todo
+      ∙ commit_behind (drop 0 (drop 1 planned.chain))
+      (Replaces (replacing_of planned old) (Some (commit_of planned)) ∷ erasing old old [])
+
+  x_served : IsServed s channel claimed j.todo
+  x_served = stands.served channel refl waits
+
+  row : rows_of p.rows channel ≡ record { left = x_served.command ∷ x_served.rest; stage = InJob; claim = None }
+  row = x_served.row
+
+  row_left : (rows_of p.rows channel).left ≡ x_served.command ∷ x_served.rest
+  row_left = ap (λ (x : Row). x.left) row
+
+  pub row_some : 0 < length (rows_of p.rows channel).left
+  row_some = let long = ap (λ (l : List Command). length l) row_left in omega (arith, long)
+
+  pub channel_low : channel < length p.rows
+  channel_low = elim (cases_lt channel (length p.rows)) [
+    | inl lt ↦ lt
+    | inr ge ↦
+        let none = get_or-eq_default p.rows _ ge in
+        absurd (let bad = sym (ap (λ (x : Row). x.left) none) ∙ row_left in cc bad)
+  ]
+
+  -- the page is one of a claimed cluster, and so of the device
+  in_claimed : is_among (page / cluster_pages_of p.super) claimed ≡ true
+  in_claimed = (subst (Lays s.super s.base s.chains claimed []) todo_is stands.lays).0
+
+  placed : IsPlaced p.super
+  placed = subst IsPlaced (sym w.running.facts.super) w.running.placed
+
+  pub page_low : page < p.super.device_pages
+  page_low =
+      let cluster = page / cluster_pages_of p.super in
+      let below = within p.clusters cluster (well.clusters.claimed_too cluster (inr in_claimed)) in
+      let low : cluster < clusters_of p.super = omega (arith, below, well.clusters.count) in
+      let inside = on_device page (cluster_pages_of p.super) (clusters_of p.super) placed.some_pages low in
+      let turned : cluster_pages_of p.super * clusters_of p.super ≡ clusters_of p.super * cluster_pages_of p.super =
+      omega arith in
+      let all = placed.on_device in
+      omega (arith, inside, turned, all)
+
+  thawed : s.frozen ≡ (λ head. false)
+  thawed = fun_ext (none_frozen_by s w.running.facts.guarded j refl refl)
+
+  -- of a device that doesn't tell zeros are read
+  blank : d.tells ≡ false → (n : ℕ) → s.device.reads n ≡ zero_page
+  blank silent n = ap (λ (told : Bool). (if told then d.now p.disk else (λ _. zero_page)) n) silent
+
+  module _ (disk : D) (at : ℕ) (at_is : at ≡ page)
+      (touches : CallsLeaveOnly d p.disk disk (Written (d.images p.disk) at Plain zero_page)) where
+    touched : CallsLeaveOnly d p.disk disk (Written (d.images p.disk) page Plain zero_page)
+    touched = subst (λ n. CallsLeaveOnly d p.disk disk (Written (d.images p.disk) n Plain zero_page)) at_is touches
+
+    abbrev fault : StoreView D
+    fault =
+        logged_at (stopped_at (record p { disk = disk })) channel x_served.command x_served.rest r.Fault (d.clock disk)
+
+    entry : (q : StoreView D) → entered d p channel disk q → q ≡ fault
+    entry q is = entered_plainly (stopped_at (record p { disk = disk })) q channel r.Fault (d.clock disk)
+        (ap (λ (x : Row). x.claim) row) is x_served.command x_served.rest row_left
+
+    pub failed_zeroing : FailsToReplace (device_of d p.disk) (device_of d disk) → (q : StoreView D)
+        → entered d p channel disk q → TurnsJob d (with_job p j) q
+    failed_zeroing fails q is =
+        subst (TurnsJob d (with_job p j)) (sym (entry q is)) (record {
+          kind = kind.fails;
+          of_job = tt;
+          made = (
+            record {
+              phase = Zeros page;
+              running = record { job = j; is = refl; rest = others; next = todo_is; runs = w.not_stopped };
+              served = record {
+                channel = channel;
+                serves = refl;
+                command = x_served.command;
+                rest = x_served.rest;
+                row = row;
+              };
+              waits = waits;
+              tried = zeros page refl;
+              device = device_of d disk;
+              fails = fails;
+              next = state_logged d (stopped_at (record p { disk = disk })) channel x_served.command x_served.rest
+                  r.Fault channel_low
+                  ∙ ap (λ (f : ℕ → Bool).
+                  logged (record s { stopped = Some (length p.log); job = None; frozen = f }) channel
+                  x_served.command x_served.rest r.Fault (device_of d disk)) thawed;
+            },
+            record { moments = touched; durable = λ never. absurd (cc never) },
+          );
+        })
+
+    pub zeroed_one : WritesOnePage d.tells (device_of d p.disk) at zero_page 1 (device_of d disk) → (k : JobState)
+        → k ≡ behind_zero j → TurnsJob d (with_job p j) (record p { disk = disk; job = Some k })
+    zeroed_one moves k is = record {
+      kind = kind.zeroes;
+      of_job = tt;
+      made = (
+        record {
+          page = page;
+          running = record { job = j; is = refl; rest = others; next = todo_is; runs = w.not_stopped };
+          blank = blank;
+          device = device_of d disk;
+          moves = subst (λ n. WritesOnePage d.tells (device_of d p.disk) n zero_page 1 (device_of d disk)) at_is moves;
+          next = ap (λ (x : JobState). record s { job = Some x; device = device_of d disk }) is;
+        },
+        record { moments = touched; durable = λ never. absurd (cc never) },
+      );
+    }

@@ -1,0 +1,72 @@
+use Rattle.std.proofs.Common.{◌<◌, ◌+◌, ℕ, [], List, length, get_or, sym, ◌∙◌, ap, refl, subst, arith}
+use Rattle.page_disk.specs.Disk.{Written}
+use Rattle.page_disk.specs.Moments.{CallsLeaveOnly}
+use Rattle.page_disk.specs.declared.disk.WriteKind.TheVariants.{Plain}
+use Rattle.store_model.specs.Cases.{WritesOnePage}
+use Rattle.running_store.specs.Running.{view_of}
+use Rattle.running_store.specs.StoreView.{device_of}
+use Rattle.metadata_turns.proofs.JobTurned.{broke_off, freed_all, insert_row, last_left, old_below, old_used}
+use Rattle.running_store.proofs.PlainFacts.{got, on_err, on_ok, zeros}
+use Rattle.store_model.specs.Phases.{Frees}
+use Rattle.metadata_turns.proofs.JobTurned.{old_differ}
+use Rattle.metadata_turns.proofs.job_turn.free.Goals as goal
+
+pub write_last-requires : goal.write_last-requires
+write_last-requires g c =
+    let low : c.args.erased < length c.args.old = omega (arith, c.requires.last) in
+    let same = ap (λ (l : List ℕ). get_or l c.args.erased 0) c.as_slice.ensures in
+    let at = c.page_at-page.ensures in
+    let below =
+    old_below g.D.PageDisk (view_of c.args.running.now) c.args.serves c.args.old c.args.erased c.requires.at_work
+    (get_or c.args.old c.args.erased 0) (got c.args.old c.args.erased 0 low) in
+    let inside = c.requires.order.inside in
+    omega (arith, at, same, below, inside)
+
+pub break_off-requires-clause-row : goal.break_off-requires-clause-row
+break_off-requires-clause-row g c = insert_row g.D.PageDisk (view_of c.args.running.now) c.args.serves c.args.old
+    c.args.erased c.requires.at_work c.requires.order.sixteen
+
+pub returns-then-is_err-clause-case : goal.returns-then-is_err-clause-case
+returns-then-is_err-clause-case g c =
+    let low : c.args.erased < length c.args.old = omega (arith, c.requires.last) in
+    let same = ap (λ (l : List ℕ). get_or l c.args.erased 0) c.as_slice.ensures in
+    let place = get_or c.args.old c.args.erased 0 in
+    broke_off g.D.PageDisk (view_of c.args.running.now) c.args.serves c.args.old c.args.erased c.requires.at_work
+    c.write_last.new.disk place c.page_at-page.result
+    (c.page_at-page.ensures ∙ ap (λ x. c.args.running.now.sup.md_start + x) same)
+    (subst (λ page. CallsLeaveOnly g.D.PageDisk c.args.running.now.disk c.write_last.new.disk
+    (Written (g.D.PageDisk.images c.args.running.now.disk) c.page_at-page.result Plain page)) zeros
+    c.write_last.ensures.any_moment)
+    (Frees place c.args.old) [] (last_left g.D.PageDisk (view_of c.args.running.now) c.args.serves c.args.old
+    c.args.erased c.requires.at_work place (got c.args.old c.args.erased 0 low) c.requires.last) refl
+    (on_err c.write_last.result _ (sym c.is_err.ensures.value ∙ c.if-is_err.true) c.write_last.ensures.fails)
+    (view_of c.break_off.new.running) c.break_off.ensures.broken_off
+
+pub clear_places-requires-clause-distinct : goal.clear_places-requires-clause-distinct
+clear_places-requires-clause-distinct g c =
+    old_differ g.D.PageDisk (view_of c.args.running.now) c.args.serves c.args.old c.args.erased c.requires.at_work
+
+pub clear_places-requires-clause-in_use : goal.clear_places-requires-clause-in_use
+clear_places-requires-clause-in_use g c =
+    old_used g.D.PageDisk (view_of c.args.running.now) c.args.serves c.args.old c.args.erased c.requires.at_work
+
+pub win-requires-clause-row : goal.win-requires-clause-row
+win-requires-clause-row g c = insert_row g.D.PageDisk (view_of c.args.running.now) c.args.serves c.args.old
+    c.args.erased c.requires.at_work c.requires.order.sixteen
+
+pub returns-clause-case : goal.returns-clause-case
+returns-clause-case g c =
+    let low : c.args.erased < length c.args.old = omega (arith, c.requires.last) in
+    let same = ap (λ (l : List ℕ). get_or l c.args.erased 0) c.as_slice.ensures in
+    freed_all g.D.PageDisk (view_of c.args.running.now) c.args.serves c.args.old c.args.erased c.requires.at_work
+    c.write_last.new.disk (get_or c.args.old c.args.erased 0) c.page_at-page.result
+    (c.page_at-page.ensures ∙ ap (λ x. c.args.running.now.sup.md_start + x) same)
+    (subst (λ page. CallsLeaveOnly g.D.PageDisk c.args.running.now.disk c.write_last.new.disk
+    (Written (g.D.PageDisk.images c.args.running.now.disk) c.page_at-page.result Plain page)) zeros
+    c.write_last.ensures.any_moment) (got c.args.old c.args.erased 0 low) c.requires.last
+    (subst (λ page. WritesOnePage g.D.PageDisk.tells (device_of g.D.PageDisk c.args.running.now.disk)
+    c.page_at-page.result page 2 (device_of g.D.PageDisk c.write_last.new.disk)) zeros
+    (on_ok c.write_last.result _ (sym c.is_err.ensures.value ∙ c.if-is_err.false) c.write_last.ensures.moves))
+    (λ tells. on_ok c.write_last.result _ (sym c.is_err.ensures.value ∙ c.if-is_err.false)
+    (c.write_last.ensures.durable tells)) c.clear_places.new.pool.bits c.clear_places.ensures.bits
+    (view_of c.win.new.running) c.win.ensures.won

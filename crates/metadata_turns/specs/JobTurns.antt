@@ -1,0 +1,50 @@
+-- The turns of the running job: which cases they are, what they start from, and what they answer.
+use Rattle.std.specs.Prelude.{◌≡◌, ℕ, Option, Some, None, length}
+use Rattle.page_disk.specs.declared.disk.PageDisk.{Ghosts}
+use Rattle.store_model.specs.StoreState.{JobState, waiting}
+use Rattle.store_model.specs.Cases.{Kind, the}
+use Rattle.store_model.specs.Cases as kind
+use Rattle.metadata_turns.specs.declared.job_turn.JobTurn.{JobTurn}
+use Rattle.metadata_turns.specs.declared.job_turn.JobTurn.TheVariants as turn
+use Rattle.running_store.specs.StoreView.{StoreView, state_of}
+use Rattle.running_store.specs.TurnMade.{TurnMade}
+use Rattle.running_store.specs.StoreInvariant.{IsRunning}
+use Rattle.metadata_turns.specs.OwnWrites.{AreOwn}
+
+-- the kinds of a job's turns, but for its beginning: those of an insert's job alone, and of any other
+abbrev pub IsOfJob : Kind → Type 0
+IsOfJob kind.inserts = Unit {0}
+IsOfJob kind.insert_ends = Unit {0}
+IsOfJob kind.insert_fails = Unit {0}
+IsOfJob kind.insert_breaks_down = Unit {0}
+IsOfJob other = (the other).OfJob
+
+-- One of these turns is made.
+pub record TurnsJob {D : Type 0} (d : Ghosts D) (p q : StoreView D) : Type 0 where
+  pub kind : Kind
+  pub of_job : IsOfJob kind
+  pub made : TurnMade d p q kind
+
+-- what a turn answers: the store stopped at an entry, or the job runs on, or it is done
+abbrev pub answer_of : {D : Type 0} → StoreView D → JobTurn
+answer_of p = by p.stopped p.job
+  where
+    by : Option ℕ → Option JobState → JobTurn
+    by (Some at) job = turn.Stopped at
+    by None (Some j) = turn.More
+    by None None = turn.Done
+
+-- with this job running
+abbrev pub with_job : {D : Type 0} → StoreView D → JobState → StoreView D
+with_job p j = record p { job = Some j }
+
+-- with no job, and stopped behind the entries so far
+abbrev pub stopped_at : {D : Type 0} → StoreView D → StoreView D
+stopped_at p = record p { stopped = Some (length p.log); job = None }
+
+-- A store that isn't stopped runs this job, which has been taken out of it for its turn.
+pub record IsAtWork {D : Type 0} (d : Ghosts D) (p : StoreView D) (j : JobState) : Type 0 where
+  pub taken : p.job ≡ None
+  pub not_stopped : p.stopped ≡ None
+  pub running : IsRunning (state_of d (with_job p j))
+  pub own : AreOwn (state_of d (with_job p j))

@@ -1,0 +1,39 @@
+-- How whoever waits for a job is told.
+use Rattle.std.specs.Prelude.{None, ◌≡◌, ℕ, ◌<◌, List, ◌∷◌, length}
+use Rattle.volume_model.specs.declared.command.Command.{Command}
+use Rattle.volume_model.specs.declared.reply.Reply.{Reply}
+use Rattle.volume_model.specs.declared.reply.Reply.TheVariants as r
+use Rattle.store_model.specs.Places.{without_claim}
+use Rattle.store_model.specs.Rows.{Decided, Row, Stage, Won}
+use Rattle.running_store.specs.declared.job.Serves.{Serves}
+use Rattle.running_store.specs.declared.job.Serves.TheVariants as whom
+use Rattle.metadata_turns.specs.JobTurns.{stopped_at}
+use Rattle.running_store.specs.GivingBack.{IsEntered, IsGivenUp}
+use Rattle.running_store.specs.Steps.{logged_at, with_row_at}
+use Rattle.running_store.specs.StoreView.{StoreView, rows_of}
+
+-- a row goes on at this stage, without a claim
+abbrev pub let_go_at : {D : Type 0} → StoreView D → ℕ → Stage → StoreView D
+let_go_at p channel stage =
+    with_row_at p channel (record { left = (rows_of p.rows channel).left; stage = stage; claim = None })
+
+-- Once a replacement is made: the command is logged with its reply; the row of an insert, which has its cluster, goes on
+-- at this stage.
+abbrev pub IsTold : Serves → Reply → Stage → {D : Type 0} → StoreView D → StoreView D → ℕ → Type 0
+IsTold (whom.Command channel) reply next p q mark = IsEntered p q channel reply mark
+IsTold (whom.Insert channel) reply next p q mark = q ≡ let_go_at p channel next
+
+-- Once the old pages are clear: the row of an insert is decided as won.
+abbrev pub IsWon : Serves → {D : Type 0} → StoreView D → StoreView D → Type 0
+IsWon (whom.Command channel) p q = q ≡ p
+IsWon (whom.Insert channel) p q = q ≡ let_go_at p channel (Decided Won)
+
+-- The store stopped behind a replacement: the write that waits for an insert is logged as failed.
+abbrev pub IsBrokenOff : Serves → {D : Type 0} → StoreView D → StoreView D → ℕ → Type 0
+IsBrokenOff (whom.Command channel) p q mark = q ≡ stopped_at p
+IsBrokenOff (whom.Insert channel) p q mark = IsGivenUp (stopped_at p) q channel r.Fault mark
+
+-- the row of an insert is one of the sixteen, and has a command
+abbrev pub HasInsertRow : List Row → Serves → Type 0
+HasInsertRow rows (whom.Command channel) = Unit {0}
+HasInsertRow rows (whom.Insert channel) = (channel < 16) × (0 < length (rows_of rows channel).left)

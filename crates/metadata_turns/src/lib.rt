@@ -1,0 +1,16 @@
+//! The turns of the metadata thread: it answers commands in memory, begins jobs, and makes the phases of the running job.
+#![tactic(auto)]
+
+mod adopting;
+mod answering;
+mod begin;
+mod filling;
+mod inserting;
+mod job_turn;
+mod preparing;
+mod telling;
+
+pub use answering::{answer_or_halt, live_at};
+pub use begin::{BeginTurn, begin_or_halt};
+pub use inserting::{InsertTurn, begin_insert_or_halt};
+pub use job_turn::{JobTurn, job_turn_or_end};

@@ -1,0 +1,114 @@
+//! Whoever waits for a job is told how it goes.
+
+ghost use Rattle.std.specs.Prelude.{◌≡◌, ◌<◌, None, [], length};
+ghost use Rattle.volume_model.specs.declared.reply.Reply.TheVariants.{Fault};
+ghost use Rattle.store_model.specs.Claiming as claiming;
+ghost use Rattle.store_model.specs.Phases.{erasing};
+ghost use Rattle.running_store.specs.Jobs.{row_of};
+ghost use Rattle.metadata_turns.specs.JobTurns.{answer_of, stopped_at};
+ghost use Rattle.running_store.specs.Running.{view_of, InOrder};
+ghost use Rattle.running_store.specs.Stages.{stage_seen};
+ghost use Rattle.running_store.specs.StoreView.{rows_of};
+ghost use Rattle.metadata_turns.specs.Telling.{let_go_at, HasInsertRow, IsBrokenOff, IsTold, IsWon};
+ghost use Rattle.running_store.specs.GivingBack.{IsGivenUp};
+
+use crate::job_turn::JobTurn;
+use page_disk::PageDisk;
+use running_store::{Decision, Running, Serves, Stage, give_up, log};
+use volume_model::{PlaceList, Reply};
+
+/// The replacement is made: a command is logged with its reply; the row of an insert, which has its cluster, goes on at
+/// this stage.
+pub(crate) fn tell<D: PageDisk>(running: &mut Running<D>, serves: Serves, reply: Reply, next: Stage)
+    requires order { InOrder D.PageDisk running.old }
+    requires channel { row_of serves < 16 }
+    requires left { 0 < length (rows_of running.old.rows.items (row_of serves)).left }
+    ensures told { IsTold serves reply (stage_seen next) (view_of running.old) (view_of running.new)
+        (D.clock running.new.disk) }
+    ensures order { InOrder D.PageDisk running.new }
+{
+    match serves {
+        Serves::Command(channel) => log(running, channel, reply),
+        Serves::Insert(channel) => let_go(running, channel, next),
+    }
+}
+
+/// The stage of an insert's row once its cluster stands in its slot: it waits for the old pages, where some are left.
+pub(crate) fn stage_behind(old: &PlaceList) -> Stage
+    ensures { stage_seen result ≡ claiming.stage_behind (erasing old.now old.now []) }
+{
+    if old.len() == 0 {
+        Stage::Decided(Decision::Won)
+    } else {
+        Stage::InJob
+    }
+}
+
+/// The old pages are clear: the row of an insert is decided as won.
+pub(crate) fn win<D: PageDisk>(running: &mut Running<D>, serves: Serves)
+    requires order { InOrder D.PageDisk running.old }
+    requires row { HasInsertRow running.old.rows.items serves }
+    ensures won { IsWon serves (view_of running.old) (view_of running.new) }
+    ensures order { InOrder D.PageDisk running.new }
+{
+    match serves {
+        Serves::Command(_) => {}
+        Serves::Insert(channel) => let_go(running, channel, Stage::Decided(Decision::Won)),
+    }
+}
+
+/// A row goes on at this stage, and its claim has ended.
+fn let_go<D: PageDisk>(running: &mut Running<D>, channel: u8, next: Stage)
+    requires order { InOrder D.PageDisk running.old }
+    requires channel { channel < 16 }
+    ensures row { view_of running.new ≡ let_go_at (view_of running.old) channel (stage_seen next) }
+    ensures order { InOrder D.PageDisk running.new }
+{
+    running.rows[channel as usize].let_go(next);
+}
+
+/// The store stops, and what waits for the job is logged as failed: its command, or the write for which it inserts,
+/// whose claim is given back if the cluster isn't in its slot yet.
+pub(crate) fn fail<D: PageDisk>(running: &mut Running<D>, channel: u8) -> JobTurn
+    requires order { InOrder D.PageDisk running.old }
+    requires taken { running.old.job ≡ None }
+    requires channel { channel < 16 }
+    requires left { 0 < length (rows_of running.old.rows.items channel).left }
+    ensures logged { IsGivenUp (stopped_at (view_of running.old)) (view_of running.new) channel Fault
+        (D.clock running.old.disk) }
+    ensures answer { result ≡ answer_of (view_of running.new) }
+    ensures order { InOrder D.PageDisk running.new }
+{
+    let turn = stop(running);
+    give_up(running, channel, Reply::Fault);
+    turn
+}
+
+/// The store stops behind a replacement: a command has its entry, and the write for which a job inserts is logged as
+/// failed.
+pub(crate) fn break_off<D: PageDisk>(running: &mut Running<D>, serves: Serves) -> JobTurn
+    requires order { InOrder D.PageDisk running.old }
+    requires taken { running.old.job ≡ None }
+    requires row { HasInsertRow running.old.rows.items serves }
+    ensures broken_off { IsBrokenOff serves (view_of running.old) (view_of running.new) (D.clock running.old.disk) }
+    ensures answer { result ≡ answer_of (view_of running.new) }
+    ensures order { InOrder D.PageDisk running.new }
+{
+    match serves {
+        Serves::Command(_) => stop(running),
+        Serves::Insert(channel) => fail(running, channel),
+    }
+}
+
+/// The store stops behind the entries so far.
+fn stop<D: PageDisk>(running: &mut Running<D>) -> JobTurn
+    requires order { InOrder D.PageDisk running.old }
+    requires taken { running.old.job ≡ None }
+    ensures stopped { view_of running.new ≡ stopped_at (view_of running.old) }
+    ensures answer { result ≡ answer_of (view_of running.new) }
+    ensures order { InOrder D.PageDisk running.new }
+{
+    let entries = running.entries.len() as u32;
+    running.stopped = Some(entries);
+    JobTurn::Stopped(entries)
+}

@@ -1,0 +1,13 @@
+pub mod Moving
+pub mod Counting
+pub mod Maps
+pub mod Rowing
+pub mod Entered
+pub mod GivenBack
+pub mod ClaimsCleared
+pub mod Cleared
+pub mod PagesTaken
+pub mod Requested
+pub mod Showing
+pub mod ZeroPages
+pub mod PlainFacts

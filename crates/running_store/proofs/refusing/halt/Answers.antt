@@ -1,0 +1,31 @@
+use Rattle.std.proofs.Common.{◌<◌, length, None, ap, arith}
+use Rattle.volume_model.specs.declared.reply.Reply.TheVariants.{Stopped}
+use Rattle.store_model.specs.Rows.{Posted, Row}
+use Rattle.running_store.specs.Running.{view_of}
+use Rattle.running_store.proofs.Entered.{disk_same, entered}
+use Rattle.running_store.proofs.refusing.halt.Goals as goal
+
+pub returns-clause-case : goal.returns-clause-case
+returns-clause-case g c =
+    let d = g.D.PageDisk in
+    let old = view_of c.args.running.now in
+    let waits = c.requires.posted.waits in
+    let left = ap (λ (r : Row). r.left) waits.row in
+    let low : c.args.channel < length c.args.running.now.rows.items =
+    omega (arith, c.requires.channel, c.requires.order.sixteen) in
+    let is = c.log.ensures.logged waits.command waits.rest left in (
+      record {
+        channel = c.args.channel;
+        command = waits.command;
+        rest = waits.rest;
+        stage = Posted c.requires.posted.serial;
+        claim = None;
+        row = waits.row;
+        may = tt;
+        at = c.in-Some.at;
+        stands = c.in-Some.is;
+        next = entered d old (view_of c.log.new.running) c.args.channel waits.command waits.rest
+            (Stopped c.in-Some.at) low is;
+      },
+      disk_same d old (view_of c.log.new.running) c.args.channel waits.command waits.rest (Stopped c.in-Some.at) low is,
+    )

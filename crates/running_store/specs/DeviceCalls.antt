@@ -1,0 +1,12 @@
+-- What is seen of the device over the calls of a turn.
+use Rattle.std.specs.Prelude.{◌≢◌, Result, Ok, Err}
+use Rattle.page_disk.specs.declared.disk.DiskFault.{DiskFault}
+use Rattle.volume_model.specs.declared.reply.Reply.{Reply}
+use Rattle.volume_model.specs.declared.reply.Reply.TheVariants as r
+use Rattle.store_model.specs.Cases.Read.{IsRead}
+use Rattle.store_model.specs.Device.{Device}
+
+-- what is seen of the device over one read at most, whatever reply other than a fault follows where it was done
+abbrev pub IsReadSo : {T : Type 0} → Device → Device → Result T DiskFault → Type 0
+IsReadSo old new (Ok x) = (reply : Reply) → reply ≢ r.ReadFault → IsRead old new reply
+IsReadSo old new (Err e) = IsRead old new r.ReadFault

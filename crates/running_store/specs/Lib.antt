@@ -1,0 +1,15 @@
+pub mod LoadedWhole
+pub mod Stages
+pub mod Effects
+pub mod Zeroing
+pub mod Jobs
+pub mod Reserved
+pub mod StoreView
+pub mod Running
+pub mod Steps
+pub mod TurnMade
+pub mod Surviving
+pub mod StoreInvariant
+pub mod Requests
+pub mod GivingBack
+pub mod DeviceCalls

@@ -1,0 +1,114 @@
+-- The fields of a running store as contracts see them, and how they are kept in order.
+use Rattle.std.specs.Prelude.{◌≡◌, ◌↔◌, ℕ, ◌+◌, ◌-◌, ◌^◌, ◌<◌, ◌≤◌, Bool, true, [], length, vec_capacity}
+use Rattle.std.specs.Prelude.{slice_index_or}
+use Rattle.std.specs.Prelude.{IfSome, IsSome, List, if◌then◌else◌, is_some, slice_set, false, None, Option, Some}
+use Rattle.std.specs.FinMap as map
+use Rattle.bit_array.specs.Bits.{is_in}
+use Rattle.store_model.specs.Maps.{Metas}
+use Rattle.std.specs.List.{sum_by}
+use Rattle.std.specs.Option.{option_map}
+use Rattle.page_disk.specs.declared.disk.PageDisk.{Ghosts}
+use Rattle.store_model.specs.Rows.{Row, entries_of}
+use Rattle.running_store.specs.Jobs.{AreRoomsOf, job_seen, IsHeaded}
+use Rattle.std.specs.Ordering.{nat_cmp}
+use Rattle.blob_meta.specs.declared.meta.Meta.{Meta}
+use Rattle.volume_model.specs.Xattrs.{Xattrs}
+use Rattle.io_freeze.specs.Guards.{GuardsState, renewed}
+use Rattle.store_model.specs.Places.{all_set}
+use Rattle.running_store.specs.Effects.{is_numbered}
+use Rattle.running_store.specs.declared.effects.Effects.{Effects}
+use Rattle.running_store.specs.declared.job.Planned.{Planned}
+use Rattle.running_store.specs.declared.job.Rooms.{Rooms}
+use Rattle.running_store.specs.declared.job.RunningJob.{RunningJob}
+use Rattle.running_store.specs.declared.job.Work.{Work}
+use Rattle.running_store.specs.declared.job.Work.TheVariants as work
+use Rattle.running_store.specs.declared.running.Running.{Running}
+use Rattle.running_store.specs.StoreView.{StoreView, WithOpening}
+
+abbrev pub view_of : {D : Type 0} → Running D → StoreView D
+view_of running = record {
+  disk = running.disk;
+  super = running.sup;
+  metas = running.metas;
+  chains = running.chains;
+  live = running.live;
+  pages = running.pages.bits;
+  clusters = running.clusters.bits;
+  rows = running.rows.items;
+  job = option_map job_seen running.job;
+  guards = running.guards;
+  serial = running.serial;
+  log = running.entries.items;
+  marks = running.marks.items;
+  stopped = running.stopped;
+}
+
+abbrev pub with_opening : {D : Type 0} → Running D → Running D → ℕ → WithOpening D
+with_opening running opening right = record { at = view_of running; opening = view_of opening; right = right }
+
+-- how many commands are left in all rows
+abbrev pub left_in : List Row → ℕ
+left_in rows = sum_by (λ r. length r.left) rows
+
+-- The places in the set are those of the blobs' heads.
+pub record AreHeads (md_len : ℕ) (metas : Metas) (heads : List Bool) : Type 0 where
+  pub count : length heads ≡ md_len
+  pub are : (head : ℕ) → head < md_len → (is_in heads head ≡ true) ↔ IsSome (metas head)
+
+-- Room for the blob that a job makes, also for its generation, and a number left for that.
+pub record HasRooms (metas : map.FinMap nat_cmp Meta) (chains : map.FinMap nat_cmp (List ℕ))
+    (live : map.FinMap nat_cmp Xattrs) (guards : GuardsState) (rooms : Rooms) : Type 0 where
+  pub maps : AreRoomsOf metas chains live rooms
+  pub guards_fit : map.len guards.generations < guards.room
+  pub numbers : guards.drawn < 2 ^ 64 - 1
+
+-- Room for what a commit does: for a new blob, and a number for a new generation of one that is there.
+pub record HasRoom (metas : map.FinMap nat_cmp Meta) (chains : map.FinMap nat_cmp (List ℕ))
+    (live : map.FinMap nat_cmp Xattrs) (guards : GuardsState) (e : Effects) : Type 0 where
+  pub blob : IfSome e.rooms (HasRooms metas chains live guards)
+  pub number : e.renews ≡ true → guards.drawn < 2 ^ 64 - 1
+
+-- the same, of what a job is to write
+abbrev pub IsRoomy : map.FinMap nat_cmp Meta → map.FinMap nat_cmp (List ℕ) → map.FinMap nat_cmp Xattrs → GuardsState
+    → RunningJob → Type 0
+IsRoomy metas chains live guards j = by j.work
+  where
+    by : Work → Type 0
+    by (work.Zeroing planned zeroed) = HasRoom metas chains live guards planned.effects
+    by (work.Writing planned written) = HasRoom metas chains live guards planned.effects
+    by (work.Erasing erased) = Unit {0}
+
+-- the attributes of one blob, if they are given, in place of those that it had
+abbrev pub live_given : map.FinMap nat_cmp Xattrs → ℕ → Option Xattrs → map.FinMap nat_cmp Xattrs
+live_given live head None = live
+live_given live head (Some xattrs) = map.insert live head xattrs
+
+-- the store once it has the blob that was planned
+abbrev pub adopted : {D : Type 0} → Running D → Planned → Running D
+adopted running p = record running {
+  metas = map.insert running.metas p.head p.new;
+  chains = map.insert running.chains p.head p.chain;
+  live = live_given running.live p.head p.effects.live;
+  clusters = record { bits = all_set running.clusters.bits p.effects.freed false; claims = [] };
+  guards = if is_numbered p.effects then renewed running.guards p.head else running.guards;
+  heads = if is_some p.effects.rooms then slice_set running.heads p.head true else running.heads;
+}
+
+-- There are sixteen rows; the log and the marks have room for all that is left; the entries of each channel are
+-- counted; no place is claimed; the metadata region lies on the device, and so do all pages of the store; the heads
+-- are set; and what the job makes has its room.
+pub record InOrder {D : Type 0} (d : Ghosts D) (running : Running D) : Type 0 where
+  pub inside : running.sup.md_start + running.sup.md_len ≤ d.pages running.disk
+  pub device : running.sup.device_pages ≤ d.pages running.disk
+  pub sixteen : length running.rows.items ≡ 16
+  pub entries : length running.entries.items + left_in running.rows.items ≤ vec_capacity running.entries
+  pub marks : length running.marks.items + left_in running.rows.items ≤ vec_capacity running.marks
+  pub few : length running.entries.items + left_in running.rows.items < 2 ^ 31
+  pub counts : length running.logged ≡ 16
+  pub counted : (channel : ℕ) → channel < 16
+      → slice_index_or running.logged channel 0 ≡ length (entries_of channel running.entries.items)
+  pub no_page : running.pages.claims ≡ []
+  pub no_cluster : running.clusters.claims ≡ []
+  pub headed : IfSome running.job IsHeaded
+  pub heads : AreHeads running.sup.md_len (map.get running.metas) running.heads
+  pub roomy : IfSome running.job (IsRoomy running.metas running.chains running.live running.guards)

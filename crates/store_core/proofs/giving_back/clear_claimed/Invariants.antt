@@ -1,5 +1,0 @@
-use Rattle.store_core.proofs.ClaimsCleared.{ClearsClaims}
-use Rattle.store_core.proofs.giving_back.clear_claimed.Given as goal
-
-abbrev pub invariant-loop-row : goal.invariant-loop-row
-invariant-loop-row l = ClearsClaims l.fn.clusters.bits l.rows l.row-index l.clusters
