@@ -1,0 +1,4 @@
+pub mod Moved
+pub mod BlobsMeant
+pub mod ChannelLogs
+pub mod ChannelWrites

@@ -1,0 +1,3 @@
+pub mod Projection
+pub mod Sizes
+pub mod ChannelTurns
