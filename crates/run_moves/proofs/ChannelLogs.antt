@@ -50,8 +50,8 @@ module _ (p q : StoreState) (d : RunMessages) where
     stage = ap (λ x. logs_itself (stage_in_run x)) at ∙ may;
     frozen = frozen;
     fewer = fewer;
-    next = leaves ∙ moved p.super p.device.reads image p.base p.generations p.live p.rows p.job p.frozen frozen d ch
-        (behind_entry rest);
+    next = leaves ∙ moved p.super p.device.reads image p.base p.generations p.live p.rows p.job p.job p.frozen frozen
+        d ch (behind_entry rest);
   })
 
   -- a row that waits

@@ -32,7 +32,7 @@ use Rattle.run_moves.specs.Projection.{claim_in_run, command_in_run, row_in_run,
 use Rattle.run_moves.specs.Projection.{stage_in_run}
 use Rattle.run_moves.specs.Sizes.{sizes_of}
 use Rattle.run_moves.proofs.BlobsMeant.{empty_there, filled_there, late_doomed, slot_within, unfilled_there}
-use Rattle.run_moves.proofs.Moved.{moved}
+use Rattle.run_moves.proofs.Moved.{changes_row}
 
 -- a move of a row is one of its channel
 pub row_moves : (p q : StoreState) (d e : RunMessages) (ch : ℕ) → IsRowMove p d ch q e → IsChannelMove p d ch q e
@@ -52,14 +52,11 @@ module _ (p : StoreState) (d : RunMessages) (ch serial : ℕ) where
   })
 
 module _ (p q : StoreState) (d : RunMessages) where
-  -- a turn that changes one row
+  -- a turn that changes one row alone
   changed : (e : RunMessages) (ch : ℕ) (image : Image) (after : Row) (to : RowInRun) → row_in_run p.super after ≡ to
       → run_of q e ≡ run_by p.super image p.base p.generations p.live (with_row p.rows ch after) p.job p.frozen e
       → run_of q e ≡ moved_row (run_of p e) ch to
-  changed e ch image after to is leaves =
-      leaves
-      ∙ moved p.super p.device.reads image p.base p.generations p.live p.rows p.job p.frozen p.frozen e ch after
-      ∙ ap (λ r. moved_row (run_of p e) ch r) is
+  changed e ch image after to is leaves = changes_row p q e ch image after to p.job p.frozen is leaves
 
   -- ---- a write
 

@@ -2,3 +2,5 @@ pub mod Moved
 pub mod BlobsMeant
 pub mod ChannelLogs
 pub mod ChannelWrites
+pub mod JobPhases
+pub mod Serving

@@ -17,11 +17,11 @@ use Rattle.blob_meta.specs.Resolving.{resolved}
 use Rattle.store_model.specs.Maps.{Map, Metas}
 use Rattle.store_model.specs.Rows.{Row, Rows, with_row}
 use Rattle.store_model.specs.Shown.{fixed_of, shown_by, volume_of}
-use Rattle.store_model.specs.StoreState.{JobState}
-use Rattle.run_work.specs.RunState.{RunState}
+use Rattle.store_model.specs.StoreState.{JobState, StoreState}
+use Rattle.run_work.specs.RunState.{RowInRun, RunState}
 use Rattle.run_work.specs.Reading.{with_row_in_run}
 use Rattle.run_work.specs.ChannelMoves.{moved_row}
-use Rattle.run_moves.specs.Projection.{heads_found, row_in_run, rows_in_run, run_by, RunMessages}
+use Rattle.run_moves.specs.Projection.{heads_found, job_in_run, row_in_run, rows_in_run, run_by, run_of, RunMessages}
 
 -- ---- rows
 
@@ -77,12 +77,33 @@ module _ (s : Super) (a b : Image) (base : Metas) (live : Map Xattrs) where
 
 -- ---- the state
 
--- A row changes, what the device reads, which blobs are frozen, and messages.
+-- A row changes, what the device reads, the job, which blobs are frozen, and messages.
 pub moved : (s : Super) (a b : Image) (base : Metas) (generations : Map ℕ) (live : Map Xattrs) (rows : Rows)
-    (job : Option JobState) (frozen now : ℕ → Bool) (d : RunMessages) (ch : ℕ) (row : Row)
-    → run_by s b base generations live (with_row rows ch row) job now d
-    ≡ record (moved_row (run_by s a base generations live rows job frozen d) ch (row_in_run s row)) { frozen = now }
-moved s a b base generations live rows job frozen now d ch row =
-    ap (λ f. record (run_by s b base generations live (with_row rows ch row) job now d) { finds = f })
+    (job other : Option JobState) (frozen now : ℕ → Bool) (d : RunMessages) (ch : ℕ) (row : Row)
+    → run_by s b base generations live (with_row rows ch row) other now d
+    ≡ record (moved_row (run_by s a base generations live rows job frozen d) ch (row_in_run s row)) {
+      job = option_map job_in_run other;
+      frozen = now;
+    }
+moved s a b base generations live rows job other frozen now d ch row =
+    ap (λ f. record (run_by s b base generations live (with_row rows ch row) other now d) { finds = f })
     (finds_same s b a base live)
-    ∙ ap (λ r. record (run_by s a base generations live rows job now d) { rows = r }) (rows_moved s rows ch row)
+    ∙ ap (λ r. record (run_by s a base generations live rows other now d) { rows = r }) (rows_moved s rows ch row)
+
+module _ (p q : StoreState) (e : RunMessages) where
+  -- a turn that changes one row, and maybe the job and which blobs are frozen
+  pub changes_row : (ch : ℕ) (image : Image) (after : Row) (to : RowInRun) (other : Option JobState) (now : ℕ → Bool)
+      → row_in_run p.super after ≡ to
+      → run_of q e ≡ run_by p.super image p.base p.generations p.live (with_row p.rows ch after) other now e
+      → run_of q e ≡ record (moved_row (run_of p e) ch to) { job = option_map job_in_run other; frozen = now }
+  changes_row ch image after to other now is leaves =
+      leaves ∙ moved p.super p.device.reads image p.base p.generations p.live p.rows p.job other p.frozen now e ch after
+      ∙ ap (λ r. record (moved_row (run_of p e) ch r) { job = option_map job_in_run other; frozen = now }) is
+
+  -- one that changes no row
+  pub changes_job : (image : Image) (other : Option JobState) (now : ℕ → Bool)
+      → run_of q e ≡ run_by p.super image p.base p.generations p.live p.rows other now e
+      → run_of q e ≡ record (run_of p e) { job = option_map job_in_run other; frozen = now }
+  changes_job image other now leaves =
+      leaves ∙ ap (λ f. record (run_by p.super image p.base p.generations p.live p.rows other now e) { finds = f })
+      (finds_same p.super image p.device.reads p.base p.live)

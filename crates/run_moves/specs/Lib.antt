@@ -1,3 +1,4 @@
 pub mod Projection
 pub mod Sizes
 pub mod ChannelTurns
+pub mod ServingTurns

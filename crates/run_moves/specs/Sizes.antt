@@ -15,7 +15,7 @@ sizes_of s = record {
   insert_turns = replacement_turns s;
   job_turns = clusters_of s * cluster_pages_of s + replacement_turns s;
   replacements = 1;
-  slots = 2 ^ 24;
+  slots = 2 ^ 20;
   rows = 17;
   heads = s.md_len;
 }

@@ -3,8 +3,14 @@
 #![tactic(auto)]
 
 ghost use Rattle.run_moves.specs.ChannelTurns.{ChannelTurnLaws};
+ghost use Rattle.run_moves.specs.ServingTurns.{ServingTurnLaws};
 
 /// Each turn of a channel is a move of it.
 pub fn channels_move()
     ensures { ChannelTurnLaws }
+{}
+
+/// Each turn of the metadata thread that serves a message is a move: it answers, an insert is lost, or a job begins.
+pub fn messages_move()
+    ensures { ServingTurnLaws }
 {}
