@@ -5,6 +5,7 @@ use Rattle.std.specs.Prelude.{map, ◌==◌, ◌&&◌, if◌then◌else◌, nat_
 use Rattle.std.specs.Option.{option_map}
 use Rattle.std.proofs.lemmas.Bool.{eq-eqb, le-ltb, lt-ltb, ne_eqb}
 use Rattle.page_disk.specs.Disk.{Image}
+use Rattle.super_block.specs.declared.page.Super.{Super}
 use Rattle.super_block.specs.Numbers.{cluster_pages_of}
 use Rattle.volume_model.specs.declared.command.Command.{Command}
 use Rattle.volume_model.specs.declared.command.Command.TheVariants as c
@@ -33,6 +34,13 @@ use Rattle.run_moves.specs.Projection.{stage_in_run}
 use Rattle.run_moves.specs.Sizes.{sizes_of}
 use Rattle.run_moves.proofs.BlobsMeant.{empty_there, filled_there, late_doomed, slot_within, unfilled_there}
 use Rattle.run_moves.proofs.Moved.{changes_row}
+
+-- a command for the metadata thread
+pub asks : (s : Super) (command : Command) → IsForMetadata command → command_in_run s command ≡ MetadataCommand
+asks s (c.Read volume page) for = absurd for
+asks s (c.Write volume page word) for = absurd for
+asks s c.Flush for = absurd for
+asks s _ for = refl
 
 -- a move of a row is one of its channel
 pub row_moves : (p q : StoreState) (d e : RunMessages) (ch : ℕ) → IsRowMove p d ch q e → IsChannelMove p d ch q e
@@ -185,17 +193,11 @@ module _ (p q : StoreState) (d : RunMessages) where
       (ap (λ (r : Row). row_at (row_in_run p.super r) (AtPosted p.serial)) (sym t.copying.is))
       (ap (λ v. run_of v (with_unsent d t.copying.row p.serial)) t.next)
 
-  asks : (command : Command) → IsForMetadata command → command_in_run p.super command ≡ MetadataCommand
-  asks (c.Read volume page) for = absurd for
-  asks (c.Write volume page word) for = absurd for
-  asks c.Flush for = absurd for
-  asks _ for = refl
-
   posts_move : (t : Posts p q) → IsRowMove p d t.channel q (with_unsent d t.channel p.serial)
   posts_move t = posted_moves t.channel p.device.reads _
       (asking (map (command_in_run p.super) t.rest)
       (ap (λ (r : Row). map (command_in_run p.super) r.left) t.row
-      ∙ ap (λ x. x ∷ map (command_in_run p.super) t.rest) (asks t.command t.is_meta))
+      ∙ ap (λ x. x ∷ map (command_in_run p.super) t.rest) (asks p.super t.command t.is_meta))
       (ap (λ (r : Row). stage_in_run r.stage) t.row))
       (ap (λ (r : Row). row_at (row_in_run p.super r) (AtPosted p.serial)) (sym t.row))
       (ap (λ v. run_of v (with_unsent d t.channel p.serial)) t.next)

@@ -4,3 +4,5 @@ pub mod ChannelLogs
 pub mod ChannelWrites
 pub mod JobPhases
 pub mod Serving
+pub mod JobTurning
+pub mod Replacing

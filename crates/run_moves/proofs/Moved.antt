@@ -10,12 +10,13 @@ use Rattle.super_block.specs.declared.page.Super.{Super}
 use Rattle.volume_model.specs.Volumes.{has_name, heads, is_super, Volume}
 use Rattle.std.specs.Str.{bytes_eq}
 use Rattle.volume_model.specs.Xattrs.{name_key, told, Xattrs}
+use Rattle.volume_model.specs.declared.command.Command.{Command}
 use Rattle.volume_model.specs.declared.command.VolumeRef.{VolumeRef}
 use Rattle.volume_model.specs.declared.command.VolumeRef.TheVariants.{Head, Named}
 use Rattle.blob_meta.specs.declared.meta.Meta.{Meta}
 use Rattle.blob_meta.specs.Resolving.{resolved}
 use Rattle.store_model.specs.Maps.{Map, Metas}
-use Rattle.store_model.specs.Rows.{Row, Rows, with_row}
+use Rattle.store_model.specs.Rows.{Answered, Decided, Row, Rows, with_row}
 use Rattle.store_model.specs.Shown.{fixed_of, shown_by, volume_of}
 use Rattle.store_model.specs.StoreState.{JobState, StoreState}
 use Rattle.run_work.specs.RunState.{RowInRun, RunState}
@@ -35,6 +36,10 @@ module _ (s : Super) (rows : Rows) (ch : ℕ) (row : Row) where
   pub rows_moved : rows_in_run s (with_row rows ch row)
       ≡ with_row_in_run (rows_in_run s rows) ch (row_in_run s row)
   rows_moved = fun_ext (λ k. at_row (k == ch) k)
+
+-- a row that is logged by the metadata thread, of which its channel is to be told
+abbrev pub decided_row : List Command → Row
+decided_row rest = record { left = rest; stage = Decided Answered; claim = None }
 
 -- a row that changes twice
 pub row_twice : (rows : Rows) (ch : ℕ) (first row : Row) → with_row (with_row rows ch first) ch row

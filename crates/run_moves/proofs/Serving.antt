@@ -48,7 +48,7 @@ use Rattle.run_moves.specs.ServingTurns.{AnsweringTurns, BeginningTurns, IsAnswe
 use Rattle.run_moves.specs.Sizes.{replacement_turns, sizes_of}
 use Rattle.store_model.proofs.Phases.{commit_behind}
 use Rattle.run_moves.proofs.JobPhases as phases
-use Rattle.run_moves.proofs.Moved.{changes_row, row_twice, rows_moved}
+use Rattle.run_moves.proofs.Moved.{changes_row, decided_row, row_twice, rows_moved}
 
 -- ---- a claim that can't be inserted
 
@@ -164,10 +164,6 @@ frozen_same frozen None = refl
 frozen_same frozen (Some blob) = refl
 
 -- ---- the turns
-
--- a row of which the channel is to be told
-abbrev decided_row : List Command → Row
-decided_row rest = record { left = rest; stage = Decided Answered; claim = None }
 
 module _ (p q : StoreState) (d : RunMessages) (held : Option Msg) (waiting : List Msg) where
   abbrev e : RunMessages

@@ -2,3 +2,4 @@ pub mod Projection
 pub mod Sizes
 pub mod ChannelTurns
 pub mod ServingTurns
+pub mod JobTurns

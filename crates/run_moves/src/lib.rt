@@ -3,6 +3,7 @@
 #![tactic(auto)]
 
 ghost use Rattle.run_moves.specs.ChannelTurns.{ChannelTurnLaws};
+ghost use Rattle.run_moves.specs.JobTurns.{JobTurnLaws};
 ghost use Rattle.run_moves.specs.ServingTurns.{ServingTurnLaws};
 
 /// Each turn of a channel is a move of it.
@@ -13,4 +14,9 @@ pub fn channels_move()
 /// Each turn of the metadata thread that serves a message is a move: it answers, an insert is lost, or a job begins.
 pub fn messages_move()
     ensures { ServingTurnLaws }
+{}
+
+/// Each turn of a job is a move: a page is written, a head's page is replaced, or the job fails.
+pub fn jobs_move()
+    ensures { JobTurnLaws }
 {}
