@@ -1,32 +1,17 @@
 -- The turns of a channel that log its first command.
-use Rattle.std.proofs.Common.{◌≡◌, ◌≢◌, ℕ, ◌/◌, ◌<◌, Bool, true, false, List, [], ◌∷◌, Option, Some, None, refl, sym}
-use Rattle.std.proofs.Common.{ap, ◌∙◌, subst}
+use Rattle.std.proofs.Common.{◌≡◌, ℕ, Bool, true, false, List, ◌∷◌, None, refl}
+use Rattle.std.proofs.Common.{ap, ◌∙◌}
 use Rattle.std.specs.Prelude.{map}
 use Rattle.page_disk.specs.Disk.{Image}
-use Rattle.super_block.specs.declared.page.Super.{Super}
-use Rattle.volume_model.specs.Xattrs.{Xattrs}
 use Rattle.volume_model.specs.declared.command.Command.{Command}
-use Rattle.store_model.specs.Cases.CopyFail.{copy, CopyFails, flush, TriedCopy}
-use Rattle.store_model.specs.Cases.CopyNotRead.{CopyNotRead}
-use Rattle.store_model.specs.Cases.Flush.{Flushes}
-use Rattle.store_model.specs.Cases.FlushFail.{FlushFails}
-use Rattle.store_model.specs.Cases.Halt.{Halts, MayLog, stage_after}
-use Rattle.store_model.specs.Cases.Read.{Reads}
-use Rattle.store_model.specs.Cases.RefuseClaim.{RefusesClaim}
-use Rattle.store_model.specs.Cases.RefuseWrite.{RefusesWrite}
-use Rattle.store_model.specs.Cases.WritePage.{WritesPage}
-use Rattle.store_model.specs.Cases.WritePageFail.{FailsToWrite}
-use Rattle.store_model.specs.Claiming.{LogsOwn}
-use Rattle.store_model.specs.Maps.{Map, Metas}
+use Rattle.store_model.specs.Cases.CopyFail.{copy, flush, TriedCopy}
+use Rattle.store_model.specs.Cases.Halt.{Halts, stage_after}
 use Rattle.store_model.specs.Rows.{Claiming, Copying, Decided, Ended, Idle, InJob, OpenClaim, Posted, Ready, Row}
-use Rattle.store_model.specs.Rows.{Rows, Stage, with_row}
-use Rattle.store_model.specs.StoreState.{JobState, StoreState}
-use Rattle.run_work.specs.Reading.{logged_at}
-use Rattle.run_work.specs.RunState.{AtIdle, AtPosted, RunState, StageInRun}
-use Rattle.run_work.specs.ChannelMoves.{by_log, ChannelMove, logs_itself}
+use Rattle.store_model.specs.Rows.{Stage, with_row}
+use Rattle.store_model.specs.StoreState.{StoreState}
+use Rattle.run_work.specs.ChannelMoves.{by_log, logs_itself}
 use Rattle.run_moves.specs.ChannelTurns.{IsChannelMove, LoggingTurns}
-use Rattle.run_moves.specs.Projection.{command_in_run, row_in_run, run_by, run_of, RunMessages, stage_in_run}
-use Rattle.run_moves.specs.Sizes.{sizes_of}
+use Rattle.run_moves.specs.Projection.{command_in_run, run_by, run_state_of, RunMessages, stage_in_run}
 use Rattle.run_moves.proofs.Moved.{moved, row_twice}
 
 -- a row behind its entry
@@ -36,7 +21,7 @@ behind_entry rest = record { left = rest; stage = Idle; claim = None }
 module _ (p q : StoreState) (d : RunMessages) where
   -- what a turn that logs leaves of the run
   abbrev LeavesRun : ℕ → List Command → Image → (ℕ → Bool) → Type 0
-  LeavesRun ch rest image frozen = run_of q d
+  LeavesRun ch rest image frozen = run_state_of q d
       ≡ run_by p.super image p.base p.generations p.live (with_row p.rows ch (behind_entry rest)) p.job frozen d
 
   -- whatever it reads then, and whichever blobs are still frozen
@@ -68,7 +53,7 @@ module _ (p q : StoreState) (d : RunMessages) where
   copying_moves : (ch : ℕ) (command : Command) (rest : List Command) (first : Row) (stage : Stage) (image : Image)
       (frozen : ℕ → Bool) → (p.rows ch).left ≡ command ∷ rest → (p.rows ch).stage ≡ stage
       → logs_itself (stage_in_run stage) ≡ true → ((h : ℕ) → frozen h ≡ true → p.frozen h ≡ true)
-      → run_of q d ≡ run_by p.super image p.base p.generations p.live
+      → run_state_of q d ≡ run_by p.super image p.base p.generations p.live
       (with_row (with_row p.rows ch first) ch (behind_entry rest)) p.job frozen d → IsChannelMove p d ch q d
   copying_moves ch command rest first stage image frozen left at may fewer leaves =
       logs_move ch command rest stage image frozen left at may fewer
@@ -92,31 +77,31 @@ module _ (p q : StoreState) (d : RunMessages) where
   halts_move : (t : Halts p q) → logs_itself (stage_in_run t.stage) ≡ true → IsChannelMove p d t.channel q d
   halts_move t may = logs_move t.channel t.command t.rest t.stage p.device.reads p.frozen
       (ap (λ (r : Row). r.left) t.row) (ap (λ (r : Row). r.stage) t.row) may (λ h is. is)
-      (ap (λ v. run_of v d) t.next ∙ ap (λ x. run_by p.super p.device.reads p.base p.generations p.live
+      (ap (λ v. run_state_of v d) t.next ∙ ap (λ x. run_by p.super p.device.reads p.base p.generations p.live
       (with_row p.rows t.channel (record { left = t.rest; stage = x; claim = None })) p.job p.frozen d)
       (idle_after t.stage may))
 
   pub logging_turns : LoggingTurns p q d
   logging_turns = record {
     flush = λ t. idle_moves t.channel _ t.rest t.device.reads p.frozen t.row (λ h is. is)
-        (ap (λ v. run_of v d) t.next);
+        (ap (λ v. run_state_of v d) t.next);
     flush_fails = λ t. idle_moves t.channel _ t.rest t.device.reads (λ h. false) t.row none_frozen
-        (ap (λ v. run_of v d) t.next);
+        (ap (λ v. run_state_of v d) t.next);
     reads = λ t. idle_moves t.channel _ t.rest t.device.reads p.frozen t.row (λ h is. is)
-        (ap (λ v. run_of v d) t.next);
+        (ap (λ v. run_state_of v d) t.next);
     refuses_write = λ t. idle_moves t.channel _ t.rest p.device.reads p.frozen t.row (λ h is. is)
-        (ap (λ v. run_of v d) t.next);
+        (ap (λ v. run_state_of v d) t.next);
     writes_page = λ told t. idle_moves t.at.channel _ t.at.rest t.device.reads p.frozen t.at.row (λ h is. is)
-        (ap (λ v. run_of v d) t.next);
+        (ap (λ v. run_state_of v d) t.next);
     fails_to_write = λ t. idle_moves t.at.channel _ t.at.rest t.device.reads (λ h. false) t.at.row none_frozen
-        (ap (λ v. run_of v d) t.next);
+        (ap (λ v. run_state_of v d) t.next);
     refuses_claim = λ t. logs_move t.write.channel _ t.write.rest _ p.device.reads p.frozen
         (ap (λ (r : Row). r.left) t.write.row) (ap (λ (r : Row). r.stage) t.write.row) refl (λ h is. is)
-        (ap (λ v. run_of v d) t.next);
+        (ap (λ v. run_state_of v d) t.next);
     copy_not_read = λ t. copying_moves t.copying.row _ t.logs.rest _ _ t.device.reads p.frozen t.logs.left
-        (ap (λ (r : Row). r.stage) t.copying.is) refl (λ h is. is) (ap (λ v. run_of v d) t.logs.next);
+        (ap (λ (r : Row). r.stage) t.copying.is) refl (λ h is. is) (ap (λ v. run_state_of v d) t.logs.next);
     copy_fails = λ t. copying_moves t.copying.row _ t.logs.rest _ t.stage t.device.reads (λ h. false) t.logs.left
         (ap (λ (r : Row). r.stage) t.copying.is) (tried_itself t.copying.claim t.stage t.tried) none_frozen
-        (ap (λ v. run_of v d) t.logs.next);
+        (ap (λ v. run_state_of v d) t.logs.next);
     halts = halts_move;
   }

@@ -1,7 +1,7 @@
 -- The turns of a write that finds its slot empty, and those by which a row waits.
-use Rattle.std.proofs.Common.{◌≡◌, ◌≢◌, ℕ, zero, suc, ◌/◌, ◌<◌, ◌≤◌, Bool, true, false, List, [], ◌∷◌, length, Option}
-use Rattle.std.proofs.Common.{Some, None, refl, sym, ap, ◌∙◌, subst, arith}
-use Rattle.std.specs.Prelude.{map, ◌==◌, ◌&&◌, if◌then◌else◌, nat_lt}
+use Rattle.std.proofs.Common.{◌≡◌, ℕ, zero, suc, ◌/◌, ◌<◌, ◌≤◌, Bool, ◌∷◌, length, Option}
+use Rattle.std.proofs.Common.{Some, None, refl, sym, ap, ◌∙◌}
+use Rattle.std.specs.Prelude.{map}
 use Rattle.std.specs.Option.{option_map}
 use Rattle.std.proofs.lemmas.Bool.{eq-eqb, le-ltb, lt-ltb, ne_eqb}
 use Rattle.page_disk.specs.Disk.{Image}
@@ -11,27 +11,24 @@ use Rattle.volume_model.specs.declared.command.Command.{Command}
 use Rattle.volume_model.specs.declared.command.Command.TheVariants as c
 use Rattle.store_model.specs.Cases.Claim.{Claims}
 use Rattle.store_model.specs.Cases.Copy.{Copies, stage_left}
-use Rattle.store_model.specs.Cases.End.{Ends}
 use Rattle.store_model.specs.Cases.FindEmpty.{FindsEmpty}
 use Rattle.store_model.specs.Cases.FindFilled.{FindsFilled}
 use Rattle.store_model.specs.Cases.LoseCopy.{LosesCopy}
 use Rattle.store_model.specs.Cases.Post.{Posts}
 use Rattle.store_model.specs.Cases.Send.{Sends}
-use Rattle.store_model.specs.Cases.Settle.{Settles}
 use Rattle.store_model.specs.Claiming.{IsWriting, MeansSlot}
 use Rattle.store_model.specs.Guarding.{AreGenerations}
-use Rattle.store_model.specs.Rows.{Claiming, Copying, Ended, Idle, IsForMetadata, OpenClaim, Posted, Row, Rows, Stage}
+use Rattle.store_model.specs.Rows.{IsForMetadata, OpenClaim, Row, Stage}
 use Rattle.store_model.specs.Rows.{with_row}
 use Rattle.store_model.specs.StoreState.{StoreState}
-use Rattle.run_work.specs.Reading.{logged_at, row_at, stage_of_copy, unclaimed_at}
-use Rattle.run_work.specs.RunState.{AtClaiming, AtCopying, AtEnded, AtIdle, AtPosted, MetadataCommand, RowInRun, RunState}
+use Rattle.run_work.specs.Reading.{row_at, stage_of_copy}
+use Rattle.run_work.specs.RunState.{AtClaiming, AtCopying, AtIdle, AtPosted, MetadataCommand, RowInRun}
 use Rattle.run_work.specs.ChannelMoves.{asking, by_claim, by_copy, by_empty, by_end, by_filled, by_lose, by_post, by_row}
-use Rattle.run_work.specs.ChannelMoves.{by_send, by_settle, ChannelMove, copied, for_write, moved_row, PostMove}
-use Rattle.run_work.specs.ChannelMoves.{PostsFrom, RowMove, WritesInto}
+use Rattle.run_work.specs.ChannelMoves.{by_send, by_settle, copied, for_write, moved_row}
+use Rattle.run_work.specs.ChannelMoves.{PostsFrom, WritesInto}
 use Rattle.run_moves.specs.ChannelTurns.{IsChannelMove, IsRowMove, WaitingTurns, with_sent, with_unsent, WritingTurns}
-use Rattle.run_moves.specs.Projection.{claim_in_run, command_in_run, row_in_run, run_by, run_of, RunMessages}
+use Rattle.run_moves.specs.Projection.{claim_in_run, command_in_run, row_in_run, run_by, run_state_of, RunMessages}
 use Rattle.run_moves.specs.Projection.{stage_in_run}
-use Rattle.run_moves.specs.Sizes.{sizes_of}
 use Rattle.run_moves.proofs.BlobsMeant.{empty_there, filled_there, late_doomed, slot_within, unfilled_there}
 use Rattle.run_moves.proofs.Moved.{changes_row}
 
@@ -62,15 +59,15 @@ module _ (p : StoreState) (d : RunMessages) (ch serial : ℕ) where
 module _ (p q : StoreState) (d : RunMessages) where
   -- a turn that changes one row alone
   changed : (e : RunMessages) (ch : ℕ) (image : Image) (after : Row) (to : RowInRun) → row_in_run p.super after ≡ to
-      → run_of q e ≡ run_by p.super image p.base p.generations p.live (with_row p.rows ch after) p.job p.frozen e
-      → run_of q e ≡ moved_row (run_of p e) ch to
+      → run_state_of q e ≡ run_by p.super image p.base p.generations p.live (with_row p.rows ch after) p.job p.frozen e
+      → run_state_of q e ≡ moved_row (run_state_of p e) ch to
   changed e ch image after to is leaves = changes_row p q e ch image after to p.job p.frozen is leaves
 
   -- ---- a write
 
   writes_into : (stage : Stage) (claim : Option OpenClaim) (w : IsWriting p stage claim) (cluster : Option ℕ)
       (means : MeansSlot p w cluster)
-      → WritesInto (run_of p d) w.channel means.head (w.page / cluster_pages_of p.super)
+      → WritesInto (run_state_of p d) w.channel means.head (w.page / cluster_pages_of p.super)
   writes_into stage claim w cluster means = record {
     volume = w.volume;
     commands = map (command_in_run p.super) w.rest;
@@ -89,7 +86,7 @@ module _ (p q : StoreState) (d : RunMessages) where
     unfilled = unfilled_there p.base p.generations t.means.head (t.write.page / cluster_pages_of p.super) t.means.meta
         t.means.there t.means.is;
     next = changed d t.write.channel p.device.reads _ _
-        (ap (λ (r : Row). row_at (row_in_run p.super r) AtClaiming) (sym t.write.row)) (ap (λ v. run_of v d) t.next);
+        (ap (λ (r : Row). row_at (row_in_run p.super r) AtClaiming) (sym t.write.row)) (ap (λ v. run_state_of v d) t.next);
   })
 
   finds_filled_moves : AreGenerations p.base p.generations p.drawn → (t : FindsFilled p q)
@@ -103,7 +100,7 @@ module _ (p q : StoreState) (d : RunMessages) where
     filled = filled_there p.base p.generations p.drawn t.means.head (t.write.page / cluster_pages_of p.super) t.cluster
         t.means.meta are t.means.there t.means.is;
     next = changed d t.write.channel p.device.reads _ _
-        (ap (λ (r : Row). row_at (row_in_run p.super r) AtIdle) (sym t.write.row)) (ap (λ v. run_of v d) t.next);
+        (ap (λ (r : Row). row_at (row_in_run p.super r) AtIdle) (sym t.write.row)) (ap (λ v. run_state_of v d) t.next);
   })
 
   claims_move : 0 < cluster_pages_of p.super → (t : Claims p q) → IsRowMove p d t.write.channel q d
@@ -130,7 +127,7 @@ module _ (p q : StoreState) (d : RunMessages) where
             ∙ ap (λ n. record (row_in_run p.super (p.rows t.write.channel)) {
               stage = AtCopying (cluster_pages_of p.super);
               claim = Some (record { head = t.means.head; slot = place; generation = n });
-            }) (sym there.generation_is)) (ap (λ v. run_of v d) t.next);
+            }) (sym there.generation_is)) (ap (λ v. run_state_of v d) t.next);
       })
 
   stage_copied : (left : ℕ) → stage_in_run (stage_left left) ≡ stage_of_copy left
@@ -150,7 +147,7 @@ module _ (p q : StoreState) (d : RunMessages) where
           claim = Some (claim_in_run t.copying.claim);
         }) (stage_copied t.left)
         ∙ ap (λ (r : Row). row_at (row_in_run p.super r) (stage_of_copy t.left)) (sym t.copying.is))
-        (ap (λ v. run_of v d) t.next);
+        (ap (λ v. run_state_of v d) t.next);
   })
 
   loses_copy_moves : (t : LosesCopy p q) → IsRowMove p d t.copying.row q d
@@ -160,7 +157,7 @@ module _ (p q : StoreState) (d : RunMessages) where
     claim = ap (λ (r : Row). option_map claim_in_run r.claim) t.copying.is;
     stage = ap (λ (r : Row). stage_in_run r.stage) t.copying.is;
     lost = late_doomed p.base p.generations (claim_in_run t.copying.claim) t.late;
-    next = changed d t.copying.row p.device.reads _ _ refl (ap (λ v. run_of v d) t.next);
+    next = changed d t.copying.row p.device.reads _ _ refl (ap (λ v. run_state_of v d) t.next);
   })
 
   -- ---- posting
@@ -171,9 +168,9 @@ module _ (p q : StoreState) (d : RunMessages) where
   no_message_there : (ch : ℕ) → 16 ≤ ch → (with_unsent d ch p.serial).unsent ch ≡ d.unsent ch
   no_message_there ch high = rw (eq-eqb ch ch refl, le-ltb ch 16 high) refl
 
-  posted_moves : (ch : ℕ) (image : Image) (after : Row) → PostsFrom (run_of p d) ch
+  posted_moves : (ch : ℕ) (image : Image) (after : Row) → PostsFrom (run_state_of p d) ch
       → row_in_run p.super after ≡ row_at (row_in_run p.super (p.rows ch)) (AtPosted p.serial)
-      → run_of q (with_unsent d ch p.serial)
+      → run_state_of q (with_unsent d ch p.serial)
       ≡ run_by p.super image p.base p.generations p.live (with_row p.rows ch after) p.job p.frozen
       (with_unsent d ch p.serial)
       → IsRowMove p d ch q (with_unsent d ch p.serial)
@@ -191,7 +188,7 @@ module _ (p q : StoreState) (d : RunMessages) where
   sends_move t = posted_moves t.copying.row t.device.reads _
       (copied (ap (λ (r : Row). stage_in_run r.stage) t.copying.is))
       (ap (λ (r : Row). row_at (row_in_run p.super r) (AtPosted p.serial)) (sym t.copying.is))
-      (ap (λ v. run_of v (with_unsent d t.copying.row p.serial)) t.next)
+      (ap (λ v. run_state_of v (with_unsent d t.copying.row p.serial)) t.next)
 
   posts_move : (t : Posts p q) → IsRowMove p d t.channel q (with_unsent d t.channel p.serial)
   posts_move t = posted_moves t.channel p.device.reads _
@@ -200,7 +197,7 @@ module _ (p q : StoreState) (d : RunMessages) where
       ∙ ap (λ x. x ∷ map (command_in_run p.super) t.rest) (asks p.super t.command t.is_meta))
       (ap (λ (r : Row). stage_in_run r.stage) t.row))
       (ap (λ (r : Row). row_at (row_in_run p.super r) (AtPosted p.serial)) (sym t.row))
-      (ap (λ v. run_of v (with_unsent d t.channel p.serial)) t.next)
+      (ap (λ v. run_state_of v (with_unsent d t.channel p.serial)) t.next)
 
   pub writing_turns : WritingTurns p q d
   writing_turns = record {
@@ -217,11 +214,11 @@ module _ (p q : StoreState) (d : RunMessages) where
     posts = posts_move;
     settles = λ t. by_settle (record {
       stage = ap stage_in_run t.decided;
-      next = changed d t.channel p.device.reads _ _ refl (ap (λ v. run_of v d) t.next);
+      next = changed d t.channel p.device.reads _ _ refl (ap (λ v. run_state_of v d) t.next);
     });
     ends = λ t. by_end (record {
       left = ap (λ (r : Row). map (command_in_run p.super) r.left) t.over;
       stage = ap (λ (r : Row). stage_in_run r.stage) t.over;
-      next = changed d t.channel p.device.reads _ _ refl (ap (λ v. run_of v d) t.next);
+      next = changed d t.channel p.device.reads _ _ refl (ap (λ v. run_state_of v d) t.next);
     });
   }

@@ -1,9 +1,9 @@
 -- The phases of a job as those of a run: how many there are, and which are replacements.
-use Rattle.std.proofs.Common.{◌≡◌, ◌≢◌, ℕ, suc, ◌+◌, ◌*◌, ◌<◌, ◌≤◌, Bool, true, false, List, [], ◌∷◌, ◌++◌, length}
+use Rattle.std.proofs.Common.{◌≡◌, ℕ, suc, ◌+◌, ◌*◌, ◌<◌, ◌≤◌, Bool, true, false, List, [], ◌∷◌, ◌++◌, length}
 use Rattle.std.proofs.Common.{Option, Some, None, refl, sym, ap, ◌∙◌, subst, inl, inr, arith}
 use Rattle.std.specs.Prelude.{map, ◌==◌, ◌||◌, slice_set}
-use Rattle.std.specs.List.{AllByRecursion, flat_map, IsDistinct, list_any, range_with_len}
-use Rattle.std.proofs.lemmas.Bool.{cases_eq, eq-eqb, eqb-true, ne_eqb}
+use Rattle.std.specs.List.{AllByRecursion, IsDistinct, list_any, range_with_len}
+use Rattle.std.proofs.lemmas.Bool.{cases_eq, eq-eqb, ne_eqb}
 use Rattle.std.proofs.lemmas.List.{length-append, length-map, length-set}
 use Rattle.std.proofs.lemmas.List.FromFn.{length-range_with_len}
 use Rattle.std.proofs.lemmas.Map.Steps.{length-le_from_distinct_below}
@@ -15,7 +15,7 @@ use Rattle.store_model.specs.Phases.{Committing, erasing, Erases, Frees, has_com
 use Rattle.store_model.specs.Phases.{Replacing, Writes, writing, Zeros}
 use Rattle.store_model.specs.Places.{AreDistinct, AreLeastClear}
 use Rattle.store_model.specs.StoreState.{ForCommand, ForInsert, ForRepair, Service}
-use Rattle.store_model.proofs.Sets.{among_either, among_first, among_later, are_distinct}
+use Rattle.store_model.proofs.Sets.{among_either, among_later, are_distinct}
 use Rattle.run_work.specs.Work.{commit_is_left, decision_is_left, replacements_in}
 use Rattle.run_moves.specs.Projection.{phases_in_run}
 

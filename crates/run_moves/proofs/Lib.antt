@@ -3,6 +3,8 @@ pub mod BlobsMeant
 pub mod ChannelLogs
 pub mod ChannelWrites
 pub mod JobPhases
-pub mod Serving
+pub mod Answering
+pub mod Beginning
 pub mod JobTurning
+pub mod CommitTurns
 pub mod Replacing

@@ -1,6 +1,6 @@
 -- The state of a run in which one row changed.
-use Rattle.std.proofs.Common.{◌≡◌, ◌≢◌, ℕ, ◌<◌, ◌≤◌, Bool, true, false, List, [], ◌∷◌, Option, Some, None, refl, sym}
-use Rattle.std.proofs.Common.{ap, ◌∙◌, subst}
+use Rattle.std.proofs.Common.{◌≡◌, ℕ, Bool, true, false, List, [], Option, Some, None, refl}
+use Rattle.std.proofs.Common.{ap, ◌∙◌}
 use Rattle.std.specs.Prelude.{◌==◌, if◌then◌else◌, ◌&&◌, is_some, not}
 use Rattle.std.specs.List.{find}
 use Rattle.std.specs.Option.{option_map, option_map_or}
@@ -19,10 +19,10 @@ use Rattle.store_model.specs.Maps.{Map, Metas}
 use Rattle.store_model.specs.Rows.{Answered, Decided, Row, Rows, with_row}
 use Rattle.store_model.specs.Shown.{fixed_of, shown_by, volume_of}
 use Rattle.store_model.specs.StoreState.{JobState, StoreState}
-use Rattle.run_work.specs.RunState.{RowInRun, RunState}
+use Rattle.run_work.specs.RunState.{RowInRun}
 use Rattle.run_work.specs.Reading.{with_row_in_run}
 use Rattle.run_work.specs.ChannelMoves.{moved_row}
-use Rattle.run_moves.specs.Projection.{heads_found, job_in_run, row_in_run, rows_in_run, run_by, run_of, RunMessages}
+use Rattle.run_moves.specs.Projection.{heads_found, job_in_run, row_in_run, rows_in_run, run_by, run_state_of, RunMessages}
 
 -- ---- rows
 
@@ -99,16 +99,16 @@ module _ (p q : StoreState) (e : RunMessages) where
   -- a turn that changes one row, and maybe the job and which blobs are frozen
   pub changes_row : (ch : ℕ) (image : Image) (after : Row) (to : RowInRun) (other : Option JobState) (now : ℕ → Bool)
       → row_in_run p.super after ≡ to
-      → run_of q e ≡ run_by p.super image p.base p.generations p.live (with_row p.rows ch after) other now e
-      → run_of q e ≡ record (moved_row (run_of p e) ch to) { job = option_map job_in_run other; frozen = now }
+      → run_state_of q e ≡ run_by p.super image p.base p.generations p.live (with_row p.rows ch after) other now e
+      → run_state_of q e ≡ record (moved_row (run_state_of p e) ch to) { job = option_map job_in_run other; frozen = now }
   changes_row ch image after to other now is leaves =
       leaves ∙ moved p.super p.device.reads image p.base p.generations p.live p.rows p.job other p.frozen now e ch after
-      ∙ ap (λ r. record (moved_row (run_of p e) ch r) { job = option_map job_in_run other; frozen = now }) is
+      ∙ ap (λ r. record (moved_row (run_state_of p e) ch r) { job = option_map job_in_run other; frozen = now }) is
 
   -- one that changes no row
   pub changes_job : (image : Image) (other : Option JobState) (now : ℕ → Bool)
-      → run_of q e ≡ run_by p.super image p.base p.generations p.live p.rows other now e
-      → run_of q e ≡ record (run_of p e) { job = option_map job_in_run other; frozen = now }
+      → run_state_of q e ≡ run_by p.super image p.base p.generations p.live p.rows other now e
+      → run_state_of q e ≡ record (run_state_of p e) { job = option_map job_in_run other; frozen = now }
   changes_job image other now leaves =
       leaves ∙ ap (λ f. record (run_by p.super image p.base p.generations p.live p.rows other now e) { finds = f })
       (finds_same p.super image p.device.reads p.base p.live)

@@ -25,7 +25,7 @@ use Rattle.store_model.specs.Cases.Halt.{Halts}
 use Rattle.store_model.specs.Guarding.{AreGenerations}
 use Rattle.store_model.specs.StoreState.{StoreState}
 use Rattle.run_work.specs.ChannelMoves.{ChannelMove, logs_itself, RowMove}
-use Rattle.run_moves.specs.Projection.{run_of, RunMessages, stage_in_run}
+use Rattle.run_moves.specs.Projection.{run_state_of, RunMessages, stage_in_run}
 use Rattle.run_moves.specs.Sizes.{sizes_of}
 
 -- Where a row is posted a channel has the message of it to send; the metadata thread sends itself none.
@@ -42,11 +42,11 @@ with_sent d ch serial = record d {
 
 -- a move of a channel between the runs of two states of a store with their messages
 abbrev pub IsChannelMove : StoreState → RunMessages → ℕ → StoreState → RunMessages → Type 0
-IsChannelMove p d ch q e = ChannelMove (sizes_of p.super) (run_of p d) ch (run_of q e)
+IsChannelMove p d ch q e = ChannelMove (sizes_of p.super) (run_state_of p d) ch (run_state_of q e)
 
 -- the same of a row, a channel's or the metadata thread's own
 abbrev pub IsRowMove : StoreState → RunMessages → ℕ → StoreState → RunMessages → Type 0
-IsRowMove p d row q e = RowMove (sizes_of p.super) (run_of p d) row (run_of q e)
+IsRowMove p d row q e = RowMove (sizes_of p.super) (run_state_of p d) row (run_state_of q e)
 
 -- turns that log the first command of a channel
 pub record LoggingTurns (p q : StoreState) (d : RunMessages) : Type 0 where

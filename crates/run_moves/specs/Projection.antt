@@ -12,11 +12,11 @@ use Rattle.volume_model.specs.declared.reply.Msg.{Msg}
 use Rattle.blob_meta.specs.declared.meta.Meta.{Meta}
 use Rattle.blob_meta.specs.Resolving.{resolved}
 use Rattle.store_model.specs.Maps.{Map, Metas}
-use Rattle.store_model.specs.Phases.{Erases, Frees, Marks, Phase, Replaces, Writes, Zeros}
+use Rattle.store_model.specs.Phases.{Phase, Replaces}
 use Rattle.store_model.specs.Rows.{Claiming, Copying, Decided, Ended, Idle, InJob, OpenClaim, Posted, Ready, Row, Rows}
 use Rattle.store_model.specs.Rows.{Stage}
 use Rattle.store_model.specs.Shown.{fixed_of, shown_by}
-use Rattle.store_model.specs.StoreState.{ForCommand, ForInsert, ForRepair, JobState, Service, StoreState, waiting}
+use Rattle.store_model.specs.StoreState.{ForInsert, JobState, Service, StoreState, waiting}
 use Rattle.run_work.specs.RunState.{AtClaiming, AtCopying, AtDecided, AtEnded, AtIdle, AtInJob, AtPosted, AtReady}
 use Rattle.run_work.specs.RunState.{BlobInRun, BlobsInRun, ClaimInRun, CommandInRun, CommitPhase, DeviceFlush}
 use Rattle.run_work.specs.RunState.{FoundHeads, InsertPhase, JobInRun, MetadataCommand, PagePhase, PageRead, PageWrite}
@@ -121,5 +121,5 @@ run_by s image base generations live rows job frozen d = record {
 }
 
 -- the state of the run of a store and its driver
-abbrev pub run_of : StoreState → RunMessages → RunState
-run_of p d = run_by p.super p.device.reads p.base p.generations p.live p.rows p.job p.frozen d
+abbrev pub run_state_of : StoreState → RunMessages → RunState
+run_state_of p d = run_by p.super p.device.reads p.base p.generations p.live p.rows p.job p.frozen d

@@ -1,4 +1,5 @@
-use Rattle.run_moves.proofs.Serving.{answering_turns, beginning_turns}
+use Rattle.run_moves.proofs.Answering.{answering_turns}
+use Rattle.run_moves.proofs.Beginning.{beginning_turns}
 use Rattle.run_moves.proofs.messages_move.Goals as goal
 
 pub returns : goal.returns

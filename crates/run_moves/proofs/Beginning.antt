@@ -1,54 +1,40 @@
--- The turns of the metadata thread that serve a message.
-use Rattle.std.proofs.Common.{◌≡◌, ◌≢◌, ℕ, suc, ◌+◌, ◌*◌, ◌<◌, ◌≤◌, Bool, true, false, List, [], ◌∷◌, ◌++◌, length}
-use Rattle.std.proofs.Common.{Option, Some, None, refl, sym, ap, ◌∙◌, subst, inl, inr, arith, zero}
+-- The turns of the metadata thread in which an insert is lost, or a job begins.
+use Rattle.std.proofs.Common.{◌≡◌, ℕ, suc, ◌+◌, ◌*◌, ◌<◌, ◌≤◌, Bool, true, false, List, [], ◌∷◌, ◌++◌, length}
+use Rattle.std.proofs.Common.{Option, Some, None, refl, sym, ap, ◌∙◌, subst, arith, zero}
 use Rattle.std.specs.Prelude.{map, is_some, slice_get, if◌then◌else◌, ◌==◌, ◌&&◌, not}
 use Rattle.std.specs.Option.{option_and_then, option_map}
-use Rattle.std.proofs.lemmas.Bool.{cases_eq, eqb-true, ne_eqb}
+use Rattle.std.proofs.lemmas.Bool.{eqb-true}
 use Rattle.std.proofs.lemmas.List.{length-append, length-map}
-use Rattle.page_disk.specs.Disk.{Image}
 use Rattle.super_block.specs.Numbers.{cluster_pages_of, clusters_of}
-use Rattle.volume_model.specs.Steps.{change}
-use Rattle.volume_model.specs.Xattrs.{Xattrs}
 use Rattle.volume_model.specs.declared.command.Command.{Command}
 use Rattle.volume_model.specs.declared.command.Command.TheVariants as c
 use Rattle.volume_model.specs.declared.reply.Msg.{Msg}
 use Rattle.blob_meta.specs.declared.job.Job.{Job as Changes}
 use Rattle.blob_meta.specs.declared.job.Replacement.{Replacement}
 use Rattle.blob_meta.specs.declared.meta.Meta.{Meta}
-use Rattle.blob_meta.specs.Parents.{slot}
-use Rattle.md_chain.specs.Chain.{is_among}
 use Rattle.store_model.specs.Asking.{creates, IsJobFor, IsSyncing, resizes, syncs}
-use Rattle.store_model.specs.Cases.Answer.{Answers}
 use Rattle.store_model.specs.Cases.Begin.{Begins}
 use Rattle.store_model.specs.Cases.BeginInsert.{BeginsInsert}
-use Rattle.store_model.specs.Cases.Halt.{Halts, stage_after}
-use Rattle.store_model.specs.Cases.LackForInsert.{LacksForInsert}
-use Rattle.store_model.specs.Cases.LackMemoryForInsert.{LacksMemoryForInsert}
 use Rattle.store_model.specs.Cases.LoseInsert.{LosesInsert}
-use Rattle.store_model.specs.Cases.Refuse.{Refuses}
 use Rattle.store_model.specs.Claiming.{CanInsert}
 use Rattle.store_model.specs.Guarding.{freezing}
 use Rattle.store_model.specs.Jobs.{AreLaid, IsJobPlanned, IsLaid, pages_in, with_zeroed, zeroing}
-use Rattle.store_model.specs.Maps.{Map, Metas}
-use Rattle.store_model.specs.Phases.{chain_before, Committing, erasing, has_commit, Phase, phases_of, Replaces}
+use Rattle.store_model.specs.Phases.{Committing, erasing, has_commit, Phase, phases_of, Replaces}
 use Rattle.store_model.specs.Phases.{Replacing, taken_by, todo_of}
-use Rattle.store_model.specs.Phases.{writing}
-use Rattle.store_model.specs.Places.{AreLeastClear}
-use Rattle.store_model.specs.Rows.{Answered, Decided, IsForMetadata, OpenClaim, Posted, Row, Rows, Stage, with_row}
-use Rattle.store_model.specs.Shown.{fixed_of}
-use Rattle.store_model.specs.StoreState.{ForCommand, ForInsert, JobState, live_of, shown, StoreState}
-use Rattle.run_work.specs.Reading.{frozen_set, has_generation, is_empty, logged_at, row_at, slot_at, slot_in, unclaimed_at}
-use Rattle.run_work.specs.RunState.{AtDecided, AtInJob, BlobInRun, ClaimInRun, MetadataCommand, RowInRun, RunState}
+use Rattle.store_model.specs.Rows.{OpenClaim, Row}
+use Rattle.store_model.specs.StoreState.{ForCommand, ForInsert, JobState, StoreState}
+use Rattle.run_work.specs.Reading.{frozen_set, has_generation, is_empty, logged_at, row_at, slot_at, slot_in}
+use Rattle.run_work.specs.RunState.{AtInJob, MetadataCommand}
 use Rattle.run_work.specs.ChannelMoves.{moved_row}
-use Rattle.run_work.specs.ServingMoves.{BeginInsertMove, BeginJobMove, for_message, LoseInsertMove, Serves}
-use Rattle.run_work.specs.Work.{decision_is_left, is_doomed, replacements_in}
-use Rattle.run_moves.specs.Projection.{blob_in_run, blobs_in_run, claim_in_run, command_in_run, heads_found, job_in_run}
-use Rattle.run_moves.specs.Projection.{phase_in_run, phases_in_run, row_in_run, rows_in_run, run_by, run_of, RunMessages, stage_in_run}
-use Rattle.run_moves.specs.ServingTurns.{AnsweringTurns, BeginningTurns, IsAnswer, IsMeasured, IsServed, with_taken}
+use Rattle.run_work.specs.ServingMoves.{BeginInsertMove, BeginJobMove, for_message, LoseInsertMove}
+use Rattle.run_work.specs.Work.{is_doomed, replacements_in}
+use Rattle.run_moves.specs.Projection.{blob_in_run, blobs_in_run, claim_in_run, command_in_run, job_in_run}
+use Rattle.run_moves.specs.Projection.{phase_in_run, phases_in_run, row_in_run, run_state_of, RunMessages, stage_in_run}
+use Rattle.run_moves.specs.ServingTurns.{BeginningTurns, IsMeasured, ServesRow, with_taken}
 use Rattle.run_moves.specs.Sizes.{replacement_turns, sizes_of}
 use Rattle.store_model.proofs.Phases.{commit_behind}
 use Rattle.run_moves.proofs.JobPhases as phases
-use Rattle.run_moves.proofs.Moved.{changes_row, decided_row, row_twice, rows_moved}
+use Rattle.run_moves.proofs.Moved.{changes_row}
 
 -- ---- a claim that can't be inserted
 
@@ -169,69 +155,8 @@ module _ (p q : StoreState) (d : RunMessages) (held : Option Msg) (waiting : Lis
   abbrev e : RunMessages
   e = with_taken d held waiting
 
-  answer_moves : (ch : ℕ) (command : Command) (rest : List Command) (serial : ℕ) (live : Map Xattrs) (image : Image)
-      → (p.rows ch).left ≡ command ∷ rest → (p.rows ch).stage ≡ Posted serial → IsServed p q d held waiting ch
-      → run_of q e
-      ≡ run_by p.super image p.base p.generations live (with_row p.rows ch (decided_row rest)) p.job p.frozen e
-      → IsAnswer p q d held waiting ch
-  answer_moves ch command rest serial live image left at serves leaves = record {
-    command = command_in_run p.super command;
-    commands = map (command_in_run p.super) rest;
-    left = ap (map (command_in_run p.super)) left;
-    serial = serial;
-    stage = ap stage_in_run at;
-    finds = heads_found p.super image p.base live;
-    held = held;
-    waiting = waiting;
-    serves = serves;
-    next = leaves
-        ∙ ap (λ r. record (run_by p.super image p.base p.generations live p.rows p.job p.frozen e) { rows = r })
-        (rows_moved p.super p.rows ch (decided_row rest));
-  }
-
-  -- an insert gives its claim back before
-  insert_answer_moves : (ch : ℕ) (command : Command) (rest : List Command) (serial : ℕ) (first : Row)
-      → (p.rows ch).left ≡ command ∷ rest → (p.rows ch).stage ≡ Posted serial → IsServed p q d held waiting ch
-      → run_of q e ≡ run_by p.super p.device.reads p.base p.generations p.live
-      (with_row (with_row p.rows ch first) ch (decided_row rest)) p.job p.frozen e
-      → IsAnswer p q d held waiting ch
-  insert_answer_moves ch command rest serial first left at serves leaves =
-      answer_moves ch command rest serial p.live p.device.reads left at serves
-      (leaves ∙ ap (λ r. run_by p.super p.device.reads p.base p.generations p.live r p.job p.frozen e)
-      (row_twice p.rows ch first (decided_row rest)))
-
-  halts_answer : (serial : ℕ) (t : Halts p q) → t.stage ≡ Posted serial → IsServed p q d held waiting t.channel
-      → IsAnswer p q d held waiting t.channel
-  halts_answer serial t posted serves =
-      answer_moves t.channel t.command t.rest serial p.live p.device.reads (ap (λ (r : Row). r.left) t.row)
-      (ap (λ (r : Row). r.stage) t.row ∙ posted) serves
-      (ap (λ v. run_of v e) t.next ∙ ap (λ x. run_by p.super p.device.reads p.base p.generations p.live
-      (with_row p.rows t.channel (record {
-        left = t.rest;
-        stage = stage_after x;
-        claim = None;
-      })) p.job p.frozen e) posted)
-
-  pub answering_turns : AnsweringTurns p q d held waiting
-  answering_turns = record {
-    answers = λ t serves. answer_moves t.posted.channel t.posted.command t.posted.rest t.posted.serial
-        (live_of (change (fixed_of p.super) (shown p) t.posted.command t.reply)) p.device.reads
-        (ap (λ (r : Row). r.left) t.posted.row) (ap (λ (r : Row). r.stage) t.posted.row) serves
-        (ap (λ v. run_of v e) t.next);
-    refuses = λ t serves. answer_moves t.posted.channel t.posted.command t.posted.rest t.posted.serial p.live
-        p.device.reads (ap (λ (r : Row). r.left) t.posted.row) (ap (λ (r : Row). r.stage) t.posted.row) serves
-        (ap (λ v. run_of v e) t.next);
-    lacks_for_insert = λ t serves. insert_answer_moves t.posted.row _ t.logs.rest t.serial _ t.logs.left
-        (ap (λ (r : Row). r.stage) t.posted.is) serves (ap (λ v. run_of v e) t.logs.next);
-    lacks_memory_for_insert = λ t serves. insert_answer_moves t.posted.row _ t.logs.rest t.serial _ t.logs.left
-        (ap (λ (r : Row). r.stage) t.posted.is) serves (ap (λ v. run_of v e) t.logs.next);
-    halts = halts_answer;
-  }
-
-  -- ---- a job begins
-
-  loses_insert_moves : (t : LosesInsert p q) → IsServed p q d held waiting t.posted.row
-      → LoseInsertMove (sizes_of p.super) (run_of p d) t.posted.row (run_of q e)
+  loses_insert_moves : (t : LosesInsert p q) → ServesRow p q d held waiting t.posted.row
+      → LoseInsertMove (sizes_of p.super) (run_state_of p d) t.posted.row (run_state_of q e)
   loses_insert_moves t serves = record {
     lost = claim_in_run t.posted.claim;
     serial = t.serial;
@@ -241,11 +166,11 @@ module _ (p q : StoreState) (d : RunMessages) (held : Option Msg) (waiting : Lis
     held = held;
     waiting = waiting;
     serves = serves;
-    next = changes_row p q e t.posted.row p.device.reads _ _ p.job p.frozen refl (ap (λ v. run_of v e) t.next);
+    next = changes_row p q e t.posted.row p.device.reads _ _ p.job p.frozen refl (ap (λ v. run_state_of v e) t.next);
   }
 
-  begins_insert_moves : IsMeasured p → (t : BeginsInsert p q) → IsServed p q d held waiting t.posted.row
-      → BeginInsertMove (sizes_of p.super) (run_of p d) t.posted.row (run_of q e)
+  begins_insert_moves : IsMeasured p → (t : BeginsInsert p q) → ServesRow p q d held waiting t.posted.row
+      → BeginInsertMove (sizes_of p.super) (run_state_of p d) t.posted.row (run_state_of q e)
   begins_insert_moves measured t serves =
       let todo = phases_of t.replacing None [] in
       let job : JobState = record {
@@ -274,7 +199,7 @@ module _ (p q : StoreState) (d : RunMessages) (held : Option Msg) (waiting : Lis
             ∙ phases.replacements_erasing (ForInsert t.posted.row) t.replacing.old t.replacing.old;
         inserts = phases.decision_writing (ForInsert t.posted.row) t.replacing.fresh _;
         next = changes_row p q e t.posted.row p.device.reads _ _ (Some job) p.frozen
-            (ap (λ (r : Row). row_at (row_in_run p.super r) AtInJob) (sym t.posted.is)) (ap (λ v. run_of v e) t.next);
+            (ap (λ (r : Row). row_at (row_in_run p.super r) AtInJob) (sym t.posted.is)) (ap (λ v. run_state_of v e) t.next);
       }
 
   module _ (measured : IsMeasured p) (t : Begins p q) where
@@ -336,8 +261,8 @@ module _ (p q : StoreState) (d : RunMessages) (held : Option Msg) (waiting : Lis
         (subst (λ l. AreLaid p.super p.base p.chains p.pages t.claimed (with_zeroed l t.changes.zero t.claimed) t.list)
         one.list t.laid))
 
-    begins_moves : IsServed p q d held waiting t.posted.channel
-        → BeginJobMove (sizes_of p.super) (run_of p d) t.posted.channel (run_of q e)
+    begins_moves : ServesRow p q d held waiting t.posted.channel
+        → BeginJobMove (sizes_of p.super) (run_state_of p d) t.posted.channel (run_state_of q e)
     begins_moves serves =
         let todo = commit_phases t.list t.changes.commit in
         let asks = job_asks p t.posted.command t.changes t.commit t.asked in
@@ -363,8 +288,8 @@ module _ (p q : StoreState) (d : RunMessages) (held : Option Msg) (waiting : Lis
                 left = x ∷ map (command_in_run p.super) t.posted.rest;
                 stage = AtInJob;
                 claim = None;
-              }) asks) (ap (λ v. run_of v e) t.next)
-              ∙ ap (λ f. record (moved_row (run_of p e) t.posted.channel
+              }) asks) (ap (λ v. run_state_of v e) t.next)
+              ∙ ap (λ f. record (moved_row (run_state_of p e) t.posted.channel
               (logged_at (MetadataCommand ∷ map (command_in_run p.super) t.posted.rest) AtInJob)) {
                 job = Some (job_in_run (seen_job todo));
                 frozen = f;
