@@ -1,9 +1,8 @@
 -- The turns of the metadata thread in which an insert is lost, or a job begins.
-use Rattle.std.proofs.Common.{◌≡◌, ℕ, suc, ◌+◌, ◌*◌, ◌<◌, ◌≤◌, Bool, true, false, List, [], ◌∷◌, ◌++◌, length}
-use Rattle.std.proofs.Common.{Option, Some, None, refl, sym, ap, ◌∙◌, subst, arith, zero}
-use Rattle.std.specs.Prelude.{map, is_some, slice_get, if◌then◌else◌, ◌==◌, ◌&&◌, not}
-use Rattle.std.specs.Option.{option_and_then, option_map}
-use Rattle.std.proofs.lemmas.Bool.{eqb-true}
+use Rattle.std.proofs.Common.{◌≡◌, ℕ, ◌+◌, ◌*◌, ◌≤◌, Bool, true, false, List, [], ◌∷◌, ◌++◌, length}
+use Rattle.std.proofs.Common.{Option, Some, None, refl, sym, ap, ◌∙◌, subst, arith}
+use Rattle.std.specs.Prelude.{map, if◌then◌else◌}
+use Rattle.std.specs.Option.{option_map}
 use Rattle.std.proofs.lemmas.List.{length-append, length-map}
 use Rattle.super_block.specs.Numbers.{cluster_pages_of, clusters_of}
 use Rattle.volume_model.specs.declared.command.Command.{Command}
@@ -16,59 +15,25 @@ use Rattle.store_model.specs.Asking.{creates, IsJobFor, IsSyncing, resizes, sync
 use Rattle.store_model.specs.Cases.Begin.{Begins}
 use Rattle.store_model.specs.Cases.BeginInsert.{BeginsInsert}
 use Rattle.store_model.specs.Cases.LoseInsert.{LosesInsert}
-use Rattle.store_model.specs.Claiming.{CanInsert}
 use Rattle.store_model.specs.Guarding.{freezing}
 use Rattle.store_model.specs.Jobs.{AreLaid, IsJobPlanned, IsLaid, pages_in, with_zeroed, zeroing}
 use Rattle.store_model.specs.Phases.{Committing, erasing, has_commit, Phase, phases_of, Replaces}
 use Rattle.store_model.specs.Phases.{Replacing, taken_by, todo_of}
-use Rattle.store_model.specs.Rows.{OpenClaim, Row}
+use Rattle.store_model.specs.Rows.{Row}
 use Rattle.store_model.specs.StoreState.{ForCommand, ForInsert, JobState, StoreState}
-use Rattle.run_work.specs.Reading.{frozen_set, has_generation, is_empty, logged_at, row_at, slot_at, slot_in}
+use Rattle.run_work.specs.Reading.{frozen_set, logged_at, row_at}
 use Rattle.run_work.specs.RunState.{AtInJob, MetadataCommand}
 use Rattle.run_work.specs.ChannelMoves.{moved_row}
 use Rattle.run_work.specs.ServingMoves.{BeginInsertMove, BeginJobMove, for_message, LoseInsertMove}
-use Rattle.run_work.specs.Work.{is_doomed, replacements_in}
-use Rattle.run_moves.specs.Projection.{blob_in_run, blobs_in_run, claim_in_run, command_in_run, job_in_run}
+use Rattle.run_work.specs.Work.{replacements_in}
+use Rattle.run_moves.specs.Projection.{claim_in_run, command_in_run, job_in_run}
 use Rattle.run_moves.specs.Projection.{phase_in_run, phases_in_run, row_in_run, run_state_of, RunMessages, stage_in_run}
 use Rattle.run_moves.specs.ServingTurns.{BeginningTurns, IsMeasured, ServesRow, with_taken}
 use Rattle.run_moves.specs.Sizes.{replacement_turns, sizes_of}
 use Rattle.store_model.proofs.Phases.{commit_behind}
+use Rattle.run_moves.proofs.DoomedClaims.{doomed_claim}
 use Rattle.run_moves.proofs.JobPhases as phases
 use Rattle.run_moves.proofs.Moved.{changes_row}
-
--- ---- a claim that can't be inserted
-
--- an empty slot is there
-slot_is_empty : (l : List (Option ℕ)) (i : ℕ) → is_empty (slot_at (map is_some l) i) ≡ true
-    → (i < length l) × (option_and_then (λ s. s) (slice_get l i) ≡ None)
-slot_is_empty [] i is = absurd (cc is)
-slot_is_empty (None ∷ l) zero is = (omega arith, refl)
-slot_is_empty (Some x ∷ l) zero is = absurd (cc is)
-slot_is_empty (x ∷ l) (suc i) is = let r = slot_is_empty l i is in (omega (arith, r.0), r.1)
-
-module _ (p : StoreState) (claim : OpenClaim) (cannot : (m : Meta) → CanInsert p claim m → ⊥) where
-  by_slot : (m : Meta) → p.base claim.head ≡ Some m → p.generations claim.head ≡ Some claim.generation → (b : Bool)
-      → is_empty (slot_at (map is_some m.map) claim.slot) ≡ b → b ≡ false
-  by_slot m there current true is =
-      let r = slot_is_empty m.map claim.slot is in
-      absurd (cannot m (record { there = there; current = current; within = r.0; empty = r.1 }))
-  by_slot m there current false is = refl
-
-  by_generation : (m : Meta) (n : ℕ) → p.base claim.head ≡ Some m → p.generations claim.head ≡ Some n → (b : Bool)
-      → (n == claim.generation) ≡ b → not (b && is_empty (slot_at (map is_some m.map) claim.slot)) ≡ true
-  by_generation m n there drawn true is = ap not (by_slot m there
-      (drawn ∙ ap (λ k. Some k) (eqb-true n claim.generation is)) _ refl)
-  by_generation m n there drawn false is = refl
-
-  by_blob : (o : Option Meta) (g : Option ℕ) → p.base claim.head ≡ o → p.generations claim.head ≡ g
-      → not (has_generation (option_and_then (λ m. option_map (blob_in_run m) g) o) claim.generation
-      && is_empty (slot_in (option_and_then (λ m. option_map (blob_in_run m) g) o) claim.slot)) ≡ true
-  by_blob None g there drawn = refl
-  by_blob (Some m) None there drawn = refl
-  by_blob (Some m) (Some n) there drawn = by_generation m n there drawn _ refl
-
-  doomed_claim : is_doomed (blobs_in_run p.base p.generations) (claim_in_run claim) ≡ true
-  doomed_claim = by_blob (p.base claim.head) (p.generations claim.head) refl refl
 
 -- ---- a job that is laid on pages
 
@@ -199,7 +164,8 @@ module _ (p q : StoreState) (d : RunMessages) (held : Option Msg) (waiting : Lis
             ∙ phases.replacements_erasing (ForInsert t.posted.row) t.replacing.old t.replacing.old;
         inserts = phases.decision_writing (ForInsert t.posted.row) t.replacing.fresh _;
         next = changes_row p q e t.posted.row p.device.reads _ _ (Some job) p.frozen
-            (ap (λ (r : Row). row_at (row_in_run p.super r) AtInJob) (sym t.posted.is)) (ap (λ v. run_state_of v e) t.next);
+            (ap (λ (r : Row). row_at (row_in_run p.super r) AtInJob) (sym t.posted.is))
+            (ap (λ v. run_state_of v e) t.next);
       }
 
   module _ (measured : IsMeasured p) (t : Begins p q) where

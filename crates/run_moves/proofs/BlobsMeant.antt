@@ -188,6 +188,6 @@ module _ (p : StoreState) (head : ℕ) (m : Meta) (there : resolved p.base head 
       (sym (ap first_cause (at_volume (fixed_of p.super) (shown p) volume _ head volume_there meant shown_there))
       ∙ none) in
       let long : length volume_there.pages ≡ cluster_pages_of p.super * length m.map =
-      length-map-range_with_len (content (cluster_pages_of p.super) p.device.reads (resolved p.base) (suc p.super.md_len)
-      head) 0 (cluster_pages_of p.super * length m.map) in
+      length-map-range_with_len (content (cluster_pages_of p.super) p.device.reads (resolved p.base)
+      (suc p.super.md_len) head) 0 (cluster_pages_of p.super * length m.map) in
       (div-lt_iff_lt-mul some).1 (subst (λ n. page < n) (long ∙ mul_comm _ (length m.map)) lt)

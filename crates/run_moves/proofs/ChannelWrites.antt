@@ -23,7 +23,8 @@ use Rattle.store_model.specs.Rows.{with_row}
 use Rattle.store_model.specs.StoreState.{StoreState}
 use Rattle.run_work.specs.Reading.{row_at, stage_of_copy}
 use Rattle.run_work.specs.RunState.{AtClaiming, AtCopying, AtIdle, AtPosted, MetadataCommand, RowInRun}
-use Rattle.run_work.specs.ChannelMoves.{asking, by_claim, by_copy, by_empty, by_end, by_filled, by_lose, by_post, by_row}
+use Rattle.run_work.specs.ChannelMoves.{asking, by_claim, by_copy, by_empty, by_end, by_filled, by_lose, by_post}
+use Rattle.run_work.specs.ChannelMoves.{by_row}
 use Rattle.run_work.specs.ChannelMoves.{by_send, by_settle, copied, for_write, moved_row}
 use Rattle.run_work.specs.ChannelMoves.{PostsFrom, WritesInto}
 use Rattle.run_moves.specs.ChannelTurns.{IsChannelMove, IsRowMove, WaitingTurns, with_sent, with_unsent, WritingTurns}
@@ -86,7 +87,8 @@ module _ (p q : StoreState) (d : RunMessages) where
     unfilled = unfilled_there p.base p.generations t.means.head (t.write.page / cluster_pages_of p.super) t.means.meta
         t.means.there t.means.is;
     next = changed d t.write.channel p.device.reads _ _
-        (ap (λ (r : Row). row_at (row_in_run p.super r) AtClaiming) (sym t.write.row)) (ap (λ v. run_state_of v d) t.next);
+        (ap (λ (r : Row). row_at (row_in_run p.super r) AtClaiming) (sym t.write.row))
+        (ap (λ v. run_state_of v d) t.next);
   })
 
   finds_filled_moves : AreGenerations p.base p.generations p.drawn → (t : FindsFilled p q)

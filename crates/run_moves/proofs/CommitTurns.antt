@@ -30,7 +30,8 @@ use Rattle.run_work.specs.RunState.{AtDecided, MetadataCommand}
 use Rattle.run_work.specs.Work.{empty_in, empty_slots}
 use Rattle.run_work.specs.ChannelMoves.{moved_row}
 use Rattle.run_moves.specs.JobTurns.{IsJobMoveOf}
-use Rattle.run_moves.specs.Projection.{blob_in_run, blobs_in_run, command_in_run, heads_found, job_in_run, phases_in_run}
+use Rattle.run_moves.specs.Projection.{blob_in_run, blobs_in_run, command_in_run, heads_found, job_in_run}
+use Rattle.run_moves.specs.Projection.{phases_in_run}
 use Rattle.run_moves.specs.Projection.{run_by, run_state_of, RunMessages, stage_in_run}
 use Rattle.run_moves.specs.Sizes.{sizes_of}
 use Rattle.run_moves.proofs.ChannelWrites.{asks}
@@ -135,7 +136,8 @@ module _ (p q : StoreState) (d : RunMessages) (first : Volumes) (well : RunsWell
     generations_are =
         subst (λ (v : StoreState). AreGenerations v.base v.generations v.drawn) t.next later.generations
 
-    replaces : ReplacesBlob (sizes_of p.super) (blobs_in_run p.base p.generations) (blobs_in_run base_new generations_new)
+    replaces : ReplacesBlob (sizes_of p.super) (blobs_in_run p.base p.generations)
+        (blobs_in_run base_new generations_new)
     replaces = record {
       head = t.replacing.head;
       inside = loadable.stored.low;
@@ -173,7 +175,8 @@ module _ (p q : StoreState) (d : RunMessages) (first : Volumes) (well : RunsWell
           replaces = replaces;
           next = ap (λ v. run_state_of v d) t.next
               ∙ ap (λ r. record (run_by p.super t.device.reads base_new generations_new live_new p.rows
-              (going_on (record job { claimed = [] }) [] t.running.rest) (frozen_behind p.frozen job t.running.rest) d) {
+              (going_on (record job { claimed = [] }) [] t.running.rest)
+              (frozen_behind p.frozen job t.running.rest) d) {
                 rows = r;
               }) (rows_moved p.super p.rows t.served.channel (decided_row t.served.rest))
               ∙ ap (λ j. record (moved_row (run_state_of p d) t.served.channel (logged_at commands AtDecided)) {

@@ -29,7 +29,8 @@ distinct_from (p ∷ ps) d = (others ps d.0, distinct_from ps d.1)
     others : (xs : List ℕ) → is_among p xs ≡ false → AllByRecursion (λ y. (p == y) ≡ false) xs
     others [] none = tt
     others (x ∷ xs) none = elim (cases_eq p x) [
-      | inl e ↦ absurd (let bad : true ≡ false = sym (ap (λ b. b || is_among p xs) (eq-eqb x p (sym e))) ∙ none in cc bad)
+      | inl e ↦ absurd (let bad : true ≡ false =
+          sym (ap (λ b. b || is_among p xs) (eq-eqb x p (sym e))) ∙ none in cc bad)
       | inr ne ↦ (
         ne_eqb p x ne,
         others xs (sym (ap (λ b. b || is_among p xs) (ne_eqb x p (λ e. ne (sym e)))) ∙ none),
@@ -91,7 +92,8 @@ length_zeroing s clusters = length-map (pages_in s clusters) Zeros ∙ go cluste
         let a = length-append (range_with_len (c * cluster_pages_of s) (cluster_pages_of s)) (pages_in s cs) in
         let b = length-range_with_len (c * cluster_pages_of s) (cluster_pages_of s) in
         let e = go cs in
-        let m : suc (length cs) * cluster_pages_of s ≡ cluster_pages_of s + length cs * cluster_pages_of s = grind arith in
+        let m : suc (length cs) * cluster_pages_of s ≡ cluster_pages_of s + length cs * cluster_pages_of s =
+        grind arith in
         omega (arith, a, b, e, m)
 
 -- ---- which are replacements

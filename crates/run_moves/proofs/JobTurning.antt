@@ -150,7 +150,8 @@ module _ (p q : StoreState) (d : RunMessages) where
     }
 
     drop_moves : waiting job.serves job.todo ≡ None
-        → run_state_of q d ≡ run_by p.super image p.base p.generations p.live p.rows None frozen d → IsJobMove p q d DropMove
+        → run_state_of q d ≡ run_by p.super image p.base p.generations p.live p.rows None frozen d
+        → IsJobMove p q d DropMove
     drop_moves waits leaves = record {
       job = job_in_run job;
       runs = ap (option_map job_in_run) is;
@@ -181,7 +182,8 @@ module _ (p q : StoreState) (d : RunMessages) where
         (leaves ∙ ap (λ r. run_by p.super image p.base p.generations p.live r None frozen d)
         (row_twice p.rows ch first (decided_row rest)))
 
-  breaks_down_moves : IsGuarded p → BreaksDown p q → ((row : ℕ) × IsJobMoveOf p q d FailMove row) ⊎ IsJobMove p q d DropMove
+  breaks_down_moves : IsGuarded p → BreaksDown p q
+      → ((row : ℕ) × IsJobMoveOf p q d FailMove row) ⊎ IsJobMove p q d DropMove
   breaks_down_moves guarded t = elim t.ends [
     | inl x ↦ inl (
       x.served.channel,

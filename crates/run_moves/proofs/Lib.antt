@@ -4,6 +4,7 @@ pub mod ChannelLogs
 pub mod ChannelWrites
 pub mod JobPhases
 pub mod Answering
+pub mod DoomedClaims
 pub mod Beginning
 pub mod JobTurning
 pub mod CommitTurns

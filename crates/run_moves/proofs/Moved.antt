@@ -22,7 +22,8 @@ use Rattle.store_model.specs.StoreState.{JobState, StoreState}
 use Rattle.run_work.specs.RunState.{RowInRun}
 use Rattle.run_work.specs.Reading.{with_row_in_run}
 use Rattle.run_work.specs.ChannelMoves.{moved_row}
-use Rattle.run_moves.specs.Projection.{heads_found, job_in_run, row_in_run, rows_in_run, run_by, run_state_of, RunMessages}
+use Rattle.run_moves.specs.Projection.{heads_found, job_in_run, row_in_run, rows_in_run, run_by, run_state_of}
+use Rattle.run_moves.specs.Projection.{RunMessages}
 
 -- ---- rows
 
@@ -100,7 +101,8 @@ module _ (p q : StoreState) (e : RunMessages) where
   pub changes_row : (ch : ℕ) (image : Image) (after : Row) (to : RowInRun) (other : Option JobState) (now : ℕ → Bool)
       → row_in_run p.super after ≡ to
       → run_state_of q e ≡ run_by p.super image p.base p.generations p.live (with_row p.rows ch after) other now e
-      → run_state_of q e ≡ record (moved_row (run_state_of p e) ch to) { job = option_map job_in_run other; frozen = now }
+      → run_state_of q e
+      ≡ record (moved_row (run_state_of p e) ch to) { job = option_map job_in_run other; frozen = now }
   changes_row ch image after to other now is leaves =
       leaves ∙ moved p.super p.device.reads image p.base p.generations p.live p.rows p.job other p.frozen now e ch after
       ∙ ap (λ r. record (moved_row (run_state_of p e) ch r) { job = option_map job_in_run other; frozen = now }) is

@@ -47,9 +47,11 @@ module _ (p q : StoreState) (d : RunMessages) (held : Option Msg) (waiting : Lis
     pub loses_insert : (t : LosesInsert p q) → ServesRow t.posted.row
         → LoseInsertMove (sizes_of p.super) (run_state_of p d) t.posted.row (run_state_of q (with_taken d held waiting))
     pub begins_insert : IsMeasured p → (t : BeginsInsert p q) → ServesRow t.posted.row
-        → BeginInsertMove (sizes_of p.super) (run_state_of p d) t.posted.row (run_state_of q (with_taken d held waiting))
+        → BeginInsertMove (sizes_of p.super) (run_state_of p d) t.posted.row
+        (run_state_of q (with_taken d held waiting))
     pub begins : IsMeasured p → (t : Begins p q) → ServesRow t.posted.channel
-        → BeginJobMove (sizes_of p.super) (run_state_of p d) t.posted.channel (run_state_of q (with_taken d held waiting))
+        → BeginJobMove (sizes_of p.super) (run_state_of p d) t.posted.channel
+        (run_state_of q (with_taken d held waiting))
 
 pub record ServingTurnLaws : Type 0 where
   pub answering : (p q : StoreState) (d : RunMessages) (held : Option Msg) (waiting : List Msg)
