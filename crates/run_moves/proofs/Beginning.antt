@@ -64,6 +64,7 @@ module _ (p : StoreState) (measured : IsMeasured p) (claimed : List ℕ) (x : Re
       (λ y among. measured.chains.low r.head y (r.head ∷ r.old) chain among) in
       omega (arith, few)
 
+  -- one replacement has no more turns than there may be
   pub replacement_short : (commit : Option Committing)
       → length (phases_of r commit []) ≤ replacement_turns p.super
   replacement_short commit =
@@ -80,6 +81,7 @@ module _ (p : StoreState) where
   syncing_asks (c.Sync volume) is = refl
   syncing_asks _ is = absurd is
 
+  -- a job's command is one for the metadata thread
   pub job_asks : (command : Command) (changes : Changes) (commit : Committing) → IsJobFor p command changes commit
       → command_in_run p.super command ≡ MetadataCommand
   job_asks command changes commit (syncs x) = syncing_asks command x.asks.syncing
@@ -92,6 +94,7 @@ module _ (p : StoreState) where
     pub list : changes.list ≡ only ∷ []
     pub first : changes.commit ≡ 1
 
+  -- every job has one replacement
   pub job_of_one : (command : Command) (changes : Changes) (commit : Committing) → IsJobFor p command changes commit
       → IsOne changes
   job_of_one command changes commit (syncs x) = record {

@@ -29,6 +29,7 @@ use Rattle.run_moves.specs.Projection.{blob_in_run, blobs_in_run}
 
 -- ---- slots
 
+-- a slot that has a cluster
 pub slot_filled : (l : List (Option ℕ)) (i cluster : ℕ) → option_and_then (λ s. s) (slice_get l i) ≡ Some cluster
     → slot_at (map is_some l) i ≡ Some true
 slot_filled [] i cluster is = absurd (cc is)
@@ -36,6 +37,7 @@ slot_filled (None ∷ l) zero cluster is = absurd (cc is)
 slot_filled (Some x ∷ l) zero cluster is = refl
 slot_filled (x ∷ l) (suc i) cluster is = slot_filled l i cluster is
 
+-- a slot without one, or none
 pub slot_unfilled : (l : List (Option ℕ)) (i : ℕ) → option_and_then (λ s. s) (slice_get l i) ≡ None
     → is_filled (slot_at (map is_some l) i) ≡ false
 slot_unfilled [] i is = refl
@@ -43,6 +45,7 @@ slot_unfilled (None ∷ l) zero is = refl
 slot_unfilled (Some x ∷ l) zero is = absurd (cc is)
 slot_unfilled (x ∷ l) (suc i) is = slot_unfilled l i is
 
+-- a slot that is there without one
 pub slot_empty : (l : List (Option ℕ)) (i : ℕ) → option_and_then (λ s. s) (slice_get l i) ≡ None → i < length l
     → slot_at (map is_some l) i ≡ Some false
 slot_empty [] i is low = absurd (omega (arith, low))
@@ -76,12 +79,14 @@ module _ (metas : Metas) (head : ℕ) (m : Meta) where
   by_blob (Some before) there is =
       record { before = before; there = there; map_is = by_mark before (mark_of before) is }
 
+  -- resolving metadata changes no map
   pub had_map : resolved metas head ≡ Some m → HadMap metas head m
   had_map is = by_blob (metas head) refl is
 
 -- ---- blobs
 
 module _ (base : Metas) (generations : Map ℕ) where
+  -- a blob of the store as one of the run
   pub blob_is : (head generation : ℕ) (m : Meta) → base head ≡ Some m → generations head ≡ Some generation
       → blobs_in_run base generations head ≡ Some (blob_in_run m generation)
   blob_is head generation m there drawn = rw (there, drawn) refl
@@ -95,6 +100,7 @@ module _ (base : Metas) (generations : Map ℕ) where
   some_there head None is bad = absurd (cc bad)
   some_there head (Some n) is there = record { generation = n; is = is }
 
+  -- a blob that is there has a generation
   pub has_one : (drawn head : ℕ) (m : Meta) → AreGenerations base generations drawn → base head ≡ Some m
       → HasGeneration head
   has_one drawn head m are there = some_there head (generations head) refl
@@ -132,6 +138,7 @@ module _ (base : Metas) (generations : Map ℕ) where
     pub empty : slot_in (blobs_in_run base generations head) i ≡ Some false
     pub generation_is : blob.generation ≡ generation
 
+  -- a slot that is there and empty, of a blob with this generation
   pub empty_there : (head i generation : ℕ) (m : Meta) → resolved base head ≡ Some m → slot m i ≡ None
       → i < length m.map → generations head ≡ Some generation → IsEmptyThere head i generation
   empty_there head i generation m kept is low drawn =
@@ -179,6 +186,7 @@ module _ (p : StoreState) (head : ℕ) (m : Meta) (there : resolved p.base head 
   shown_there = ap (λ o. option_map (λ x. volume_of (fixed_of p.super).cluster_pages p.device.reads (resolved p.base)
       p.super.md_len (option_map_or (λ xs. xs) (p.live head) []) head x) o) there
 
+  -- the slot of a page that nothing refuses to write is there
   pub slot_within : 0 < cluster_pages_of p.super → (volume : VolumeRef) (page : ℕ) (word : PageWord)
       → head_of (fixed_of p.super) (shown p) volume ≡ Some head
       → refusal (fixed_of p.super) (shown p) (c.Write volume page word) ≡ None

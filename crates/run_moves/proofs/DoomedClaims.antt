@@ -41,5 +41,6 @@ module _ (p : StoreState) (claim : OpenClaim) (cannot : (m : Meta) → CanInsert
   by_blob (Some m) None there drawn = refl
   by_blob (Some m) (Some n) there drawn = by_generation m n there drawn _ refl
 
+  -- its blob is gone or has another generation, or its slot is filled or gone
   pub doomed_claim : is_doomed (blobs_in_run p.base p.generations) (claim_in_run claim) ≡ true
   doomed_claim = by_blob (p.base claim.head) (p.generations claim.head) refl refl

@@ -63,11 +63,13 @@ few_clear bits ps least = few_below ps (length bits) (are_distinct bits ps least
 
 -- ---- so many phases
 
+-- fresh pages, a turn each
 pub length_writing : (fresh : List ℕ) (others : List Phase)
     → length (writing fresh others) ≡ length fresh + length others
 length_writing [] others = omega arith
 length_writing (p ∷ ps) others = let e = length_writing ps others in omega (arith, e)
 
+-- old pages, a turn each
 pub length_erasing : (old places : List ℕ) (others : List Phase)
     → length (erasing old places others) ≡ length places + length others
 length_erasing old [] others = omega arith
@@ -82,6 +84,7 @@ length_phases r commit =
     let b = length_erasing r.old r.old [] in
     omega (arith, a, b)
 
+-- pages of claimed clusters, a turn each
 pub length_zeroing : (s : Super) (clusters : List ℕ)
     → length (zeroing s clusters) ≡ length clusters * cluster_pages_of s
 length_zeroing s clusters = length-map (pages_in s clusters) Zeros ∙ go clusters
@@ -99,23 +102,27 @@ length_zeroing s clusters = length-map (pages_in s clusters) Zeros ∙ go cluste
 -- ---- which are replacements
 
 module _ (serves : Service) where
+  -- fresh pages are no replacements
   pub replacements_writing : (fresh : List ℕ) (others : List Phase)
       → replacements_in (phases_in_run serves (writing fresh others)) ≡ replacements_in (phases_in_run serves others)
   replacements_writing [] others = refl
   replacements_writing (p ∷ ps) others = replacements_writing ps others
 
+  -- nor are old pages
   pub replacements_erasing : (old places : List ℕ)
       → replacements_in (phases_in_run serves (erasing old places [])) ≡ 0
   replacements_erasing old [] = refl
   replacements_erasing old (p ∷ []) = refl
   replacements_erasing old (p ∷ q ∷ ps) = replacements_erasing old (q ∷ ps)
 
+  -- nor are pages of zeros
   pub replacements_zeroing : (pages : List ℕ) (others : List Phase)
       → replacements_in (phases_in_run serves (map Zeros pages ++ others))
       ≡ replacements_in (phases_in_run serves others)
   replacements_zeroing [] others = refl
   replacements_zeroing (p ∷ ps) others = replacements_zeroing ps others
 
+  -- nor do fresh pages decide
   pub decision_writing : (fresh : List ℕ) (others : List Phase)
       → decision_is_left (phases_in_run serves (writing fresh others)) ≡ decision_is_left (phases_in_run serves others)
   decision_writing [] others = refl
@@ -143,6 +150,7 @@ module _ (serves : Service) where
   commit_seen (Erases place ∷ rest) = commit_seen rest
   commit_seen (Frees place old ∷ rest) = commit_seen rest
 
+-- pages of zeros are no commit
 pub commit_zeroing : (pages : List ℕ) (others : List Phase) → has_commit (map Zeros pages ++ others) ≡ has_commit others
 commit_zeroing [] others = refl
 commit_zeroing (p ∷ ps) others = commit_zeroing ps others

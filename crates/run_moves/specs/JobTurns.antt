@@ -35,6 +35,7 @@ module _ (p q : StoreState) (d : RunMessages) where
   abbrev pub IsJobMove : (RunSizes → RunState → RunState → Type 0) → Type 0
   IsJobMove Move = Move (sizes_of p.super) (run_state_of p d) (run_state_of q d)
 
+  -- a move of the metadata thread that concerns a row
   abbrev pub IsJobMoveOf : (RunSizes → RunState → ℕ → RunState → Type 0) → ℕ → Type 0
   IsJobMoveOf Move row = Move (sizes_of p.super) (run_state_of p d) row (run_state_of q d)
 

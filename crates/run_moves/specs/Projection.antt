@@ -55,6 +55,7 @@ stage_in_run InJob = AtInJob
 stage_in_run (Decided outcome) = AtDecided
 stage_in_run Ended = AtEnded
 
+-- a row with its commands, its stage and its claim as those of a run
 abbrev pub row_in_run : Super → Row → RowInRun
 row_in_run s row = record {
   left = map (command_in_run s) row.left;
@@ -62,6 +63,7 @@ row_in_run s row = record {
   claim = option_map claim_in_run row.claim;
 }
 
+-- all rows
 abbrev pub rows_in_run : Super → Rows → RowsInRun
 rows_in_run s rows ch = row_in_run s (rows ch)
 
@@ -86,11 +88,13 @@ abbrev pub replacement_for : Service → PhaseInRun
 replacement_for (ForInsert channel) = InsertPhase
 replacement_for _ = ReplacementPhase
 
+-- a commit, another replacement, or a page
 abbrev pub phase_in_run : Service → Phase → PhaseInRun
 phase_in_run serves (Replaces r (Some commit)) = CommitPhase
 phase_in_run serves (Replaces r None) = replacement_for serves
 phase_in_run serves _ = PagePhase
 
+-- what is left of a job
 abbrev pub phases_in_run : Service → List Phase → List PhaseInRun
 phases_in_run serves todo = map (phase_in_run serves) todo
 

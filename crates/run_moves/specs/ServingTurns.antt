@@ -28,9 +28,11 @@ pub record IsMeasured (p : StoreState) : Type 0 where
   pub chains : HaveChains p.super p.base p.chains
 
 module _ (p q : StoreState) (d : RunMessages) (held : Option Msg) (waiting : List Msg) where
+  -- the row of this number is served, and this is held and waits then
   abbrev pub ServesRow : ℕ → Type 0
   ServesRow ch = Serves (run_state_of p d) ch held waiting
 
+  -- its first command is logged, so that its channel is to be told
   abbrev pub IsAnswer : ℕ → Type 0
   IsAnswer ch = AnswerMove (sizes_of p.super) (run_state_of p d) ch (run_state_of q (with_taken d held waiting))
 
