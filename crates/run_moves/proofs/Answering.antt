@@ -64,6 +64,7 @@ module _ (p q : StoreState) (d : RunMessages) (held : Option Msg) (waiting : Lis
         claim = None;
       })) p.job p.frozen e) posted)
 
+  -- all of them
   pub answering_turns : AnsweringTurns p q d held waiting
   answering_turns = record {
     answers = λ t serves. answer_moves t.posted.channel t.posted.command t.posted.rest t.posted.serial

@@ -265,6 +265,7 @@ module _ (p q : StoreState) (d : RunMessages) (held : Option Msg) (waiting : Lis
               }) (frozen_same p.frozen t.changes.freeze);
         }
 
+  -- all of them
   pub beginning_turns : BeginningTurns p q d held waiting
   beginning_turns = record {
     loses_insert = loses_insert_moves;

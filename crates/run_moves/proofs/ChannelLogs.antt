@@ -81,6 +81,7 @@ module _ (p q : StoreState) (d : RunMessages) where
       (with_row p.rows t.channel (record { left = t.rest; stage = x; claim = None })) p.job p.frozen d)
       (idle_after t.stage may))
 
+  -- all of them
   pub logging_turns : LoggingTurns p q d
   logging_turns = record {
     flush = λ t. idle_moves t.channel _ t.rest t.device.reads p.frozen t.row (λ h is. is)

@@ -201,6 +201,7 @@ module _ (p q : StoreState) (d : RunMessages) where
       (ap (λ (r : Row). row_at (row_in_run p.super r) (AtPosted p.serial)) (sym t.row))
       (ap (λ v. run_state_of v (with_unsent d t.channel p.serial)) t.next)
 
+  -- those of a write
   pub writing_turns : WritingTurns p q d
   writing_turns = record {
     finds_empty = finds_empty_moves;
@@ -211,6 +212,7 @@ module _ (p q : StoreState) (d : RunMessages) where
     sends = sends_move;
   }
 
+  -- those by which a row waits
   pub waiting_turns : WaitingTurns p q d
   waiting_turns = record {
     posts = posts_move;

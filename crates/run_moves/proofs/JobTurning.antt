@@ -108,6 +108,7 @@ module _ (p q : StoreState) (d : RunMessages) where
         ∙ ap (λ f. run_by p.super image p.base p.generations p.live p.rows (going_on job written rest) f d)
         (still_frozen p.frozen job rest some))
 
+  -- those that write a page
   pub page_turns : PageTurns p q d
   page_turns = record {
     zeroes = λ left told t. page_goes_on t.running.job (Zeros t.page) t.running.rest t.running.is t.running.next refl
@@ -195,6 +196,7 @@ module _ (p q : StoreState) (d : RunMessages) where
         (ap (λ v. run_state_of v d) x.next))
   ]
 
+  -- those that fail
   pub failing_turns : FailingTurns p q d
   failing_turns = record {
     fails = λ t. command_fails t.running.job t.running.is t.device.reads (λ h. false) (λ h. refl) t.served.channel

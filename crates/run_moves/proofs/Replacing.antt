@@ -72,6 +72,7 @@ module _ (p q : StoreState) (d : RunMessages) (first : Volumes) (well : RunsWell
         (sym (ap shown t.next) ∙ later.replayed
         ∙ ap (λ (v : StoreState). replay (fixed_of v.super) first (seen v.tells v.log)) t.next ∙ sym well.replayed)
 
+    -- the replacement of an insert
     pub inserts_move : IsJobMoveOf p q d InsertMove t.inserting.row
     inserts_move =
         let had = had_map p.base puts.claim.head puts.wanted.meta puts.wanted.there in
@@ -153,6 +154,7 @@ module _ (p q : StoreState) (d : RunMessages) (first : Volumes) (well : RunsWell
     next = changes_row p q d t.inserting.row t.device.reads _ _ None p.frozen refl (ap (λ v. run_state_of v d) t.next);
   }
 
+-- all of them
 pub replacing_turns : (p q : StoreState) (d : RunMessages) → ReplacingTurns p q d
 replacing_turns p q d = record {
   commits = λ first well later told t. commits_move p q d first well later told t;
