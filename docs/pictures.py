@@ -51,7 +51,7 @@ CRATES = {
     "blobtool": (1, 6, 0), "blob_tool": (1, 6, 1),
     "script_lang": (1, 1, 2), "store_format": (5, 5, 2), "streams": (6, 6, 2),
     "lvol_store": (3, 3, 3), "thin_write": (5, 5, 3), "blob_report": (6, 6, 3),
-    "unclean_load": (2, 2, 4), "data_path": (5, 5, 4), "store_core": (4, 4, 5),
+    "unclean_load": (2, 2, 4), "data_path": (5, 5, 4), "store_core": (4, 4, 5), "run_moves": (6, 6, 5),
     "channel_turns": (3, 3, 6), "metadata_turns": (4, 4, 6), "running_store": (3, 4, 7),
     "md_queue": (1, 1, 8), "io_freeze": (3, 3, 8), "store_model": (4, 4, 8),
     "md_chain": (2, 2, 9), "pools": (4, 4, 9), "blob_meta": (1, 1, 10), "md_page": (3, 3, 10),

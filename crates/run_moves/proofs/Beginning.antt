@@ -1,0 +1,274 @@
+-- The turns of the metadata thread in which an insert is lost, or a job begins.
+use Rattle.std.proofs.Common.{◌≡◌, ℕ, ◌+◌, ◌*◌, ◌≤◌, Bool, true, false, List, [], ◌∷◌, ◌++◌, length}
+use Rattle.std.proofs.Common.{Option, Some, None, refl, sym, ap, ◌∙◌, subst, arith}
+use Rattle.std.specs.Prelude.{map, if◌then◌else◌}
+use Rattle.std.specs.Option.{option_map}
+use Rattle.std.proofs.lemmas.List.{length-append, length-map}
+use Rattle.super_block.specs.Numbers.{cluster_pages_of, clusters_of}
+use Rattle.volume_model.specs.declared.command.Command.{Command}
+use Rattle.volume_model.specs.declared.command.Command.TheVariants as c
+use Rattle.volume_model.specs.declared.reply.Msg.{Msg}
+use Rattle.blob_meta.specs.declared.job.Job.{Job as Changes}
+use Rattle.blob_meta.specs.declared.job.Replacement.{Replacement}
+use Rattle.blob_meta.specs.declared.meta.Meta.{Meta}
+use Rattle.store_model.specs.Asking.{creates, IsJobFor, IsSyncing, resizes, syncs}
+use Rattle.store_model.specs.Cases.Begin.{Begins}
+use Rattle.store_model.specs.Cases.BeginInsert.{BeginsInsert}
+use Rattle.store_model.specs.Cases.LoseInsert.{LosesInsert}
+use Rattle.store_model.specs.Guarding.{freezing}
+use Rattle.store_model.specs.Jobs.{AreLaid, IsJobPlanned, IsLaid, pages_in, with_zeroed, zeroing}
+use Rattle.store_model.specs.Phases.{Committing, erasing, has_commit, Phase, phases_of, Replaces}
+use Rattle.store_model.specs.Phases.{Replacing, taken_by, todo_of}
+use Rattle.store_model.specs.Rows.{Row}
+use Rattle.store_model.specs.StoreState.{ForCommand, ForInsert, JobState, StoreState}
+use Rattle.run_work.specs.Reading.{frozen_set, logged_at, row_at}
+use Rattle.run_work.specs.RunState.{AtInJob, MetadataCommand}
+use Rattle.run_work.specs.ChannelMoves.{moved_row}
+use Rattle.run_work.specs.ServingMoves.{BeginInsertMove, BeginJobMove, for_message, LoseInsertMove}
+use Rattle.run_work.specs.Work.{replacements_in}
+use Rattle.run_moves.specs.Projection.{claim_in_run, command_in_run, job_in_run}
+use Rattle.run_moves.specs.Projection.{phase_in_run, phases_in_run, row_in_run, run_state_of, RunMessages, stage_in_run}
+use Rattle.run_moves.specs.ServingTurns.{BeginningTurns, IsMeasured, ServesRow, with_taken}
+use Rattle.run_moves.specs.Sizes.{replacement_turns, sizes_of}
+use Rattle.store_model.proofs.Phases.{commit_behind}
+use Rattle.run_moves.proofs.DoomedClaims.{doomed_claim}
+use Rattle.run_moves.proofs.JobPhases as phases
+use Rattle.run_moves.proofs.Moved.{changes_row}
+
+-- ---- a job that is laid on pages
+
+module _ (p : StoreState) (measured : IsMeasured p) (claimed : List ℕ) (x : Replacement) (r : Replacing)
+    (laid : IsLaid p.super p.base p.chains p.pages claimed x r) where
+  fresh_taken : (b : Bool) (fresh : List ℕ) (head : ℕ) → length fresh ≤ length (if b then head ∷ fresh else fresh)
+  fresh_taken true fresh head = omega arith
+  fresh_taken false fresh head = omega arith
+
+  fresh_few : (o : Option Meta) → IsJobPlanned p.super p.pages o r
+      → length r.fresh ≤ p.super.md_len
+  fresh_few (Some m) planned =
+      let a = phases.few_clear p.pages (taken_by r) planned.least in
+      let b = fresh_taken r.makes r.fresh r.head in
+      let e = measured.pages in
+      omega (arith, a, b, e)
+  fresh_few None planned =
+      let e : length r.fresh ≡ 0 = ap length planned.0 in
+      omega (arith, e)
+
+  old_few : (b : Bool) → r.makes ≡ b → length r.old ≤ p.super.md_len
+  old_few true makes = let e : length r.old ≡ 0 = ap length (laid.unerased makes) in omega (arith, e)
+  old_few false there =
+      let chain : p.chains r.head ≡ Some (r.head ∷ r.old) =
+      laid.chain ∙ ap (λ b. if b then None else Some (r.head ∷ r.old)) there in
+      let few = phases.few_below (r.head ∷ r.old) p.super.md_len
+      (measured.chains.differ r.head (r.head ∷ r.old) chain)
+      (λ y among. measured.chains.low r.head y (r.head ∷ r.old) chain among) in
+      omega (arith, few)
+
+  -- one replacement has no more turns than there may be
+  pub replacement_short : (commit : Option Committing)
+      → length (phases_of r commit []) ≤ replacement_turns p.super
+  replacement_short commit =
+      let a = fresh_few x.new laid.planned in
+      let b = old_few r.makes refl in
+      let l = phases.length_phases r commit in
+      omega (arith, a, b, l)
+
+-- ---- the command of a job
+
+module _ (p : StoreState) where
+  syncing_asks : (command : Command) → IsSyncing command → command_in_run p.super command ≡ MetadataCommand
+  syncing_asks (c.Put volume key value) is = refl
+  syncing_asks (c.Sync volume) is = refl
+  syncing_asks _ is = absurd is
+
+  -- a job's command is one for the metadata thread
+  pub job_asks : (command : Command) (changes : Changes) (commit : Committing) → IsJobFor p command changes commit
+      → command_in_run p.super command ≡ MetadataCommand
+  job_asks command changes commit (syncs x) = syncing_asks command x.asks.syncing
+  job_asks command changes commit (creates x) = ap (command_in_run p.super) x.command_is
+  job_asks command changes commit (resizes x) = ap (command_in_run p.super) x.command_is
+
+  -- its changes are one replacement, which is the commit
+  pub record IsOne (changes : Changes) : Type 0 where
+    pub only : Replacement
+    pub list : changes.list ≡ only ∷ []
+    pub first : changes.commit ≡ 1
+
+  -- every job has one replacement
+  pub job_of_one : (command : Command) (changes : Changes) (commit : Committing) → IsJobFor p command changes commit
+      → IsOne changes
+  job_of_one command changes commit (syncs x) = record {
+    only = _;
+    list = ap (λ (y : Changes). y.list) x.is;
+    first = ap (λ (y : Changes). y.commit) x.is;
+  }
+  job_of_one command changes commit (creates x) = record {
+    only = _;
+    list = ap (λ (y : Changes). y.list) x.is;
+    first = ap (λ (y : Changes). y.commit) x.is;
+  }
+  job_of_one command changes commit (resizes x) = record {
+    only = _;
+    list = ap (λ (y : Changes). y.list) x.is;
+    first = ap (λ (y : Changes). y.commit) x.is;
+  }
+
+frozen_same : (frozen : ℕ → Bool) (o : Option ℕ) → freezing frozen o ≡ frozen_set frozen o true
+frozen_same frozen None = refl
+frozen_same frozen (Some blob) = refl
+
+-- ---- the turns
+
+module _ (p q : StoreState) (d : RunMessages) (held : Option Msg) (waiting : List Msg) where
+  abbrev e : RunMessages
+  e = with_taken d held waiting
+
+  loses_insert_moves : (t : LosesInsert p q) → ServesRow p q d held waiting t.posted.row
+      → LoseInsertMove (sizes_of p.super) (run_state_of p d) t.posted.row (run_state_of q e)
+  loses_insert_moves t serves = record {
+    lost = claim_in_run t.posted.claim;
+    serial = t.serial;
+    stage = ap (λ (r : Row). stage_in_run r.stage) t.posted.is;
+    claim = ap (λ (r : Row). option_map claim_in_run r.claim) t.posted.is;
+    doomed = doomed_claim p t.posted.claim t.cannot;
+    held = held;
+    waiting = waiting;
+    serves = serves;
+    next = changes_row p q e t.posted.row p.device.reads _ _ p.job p.frozen refl (ap (λ v. run_state_of v e) t.next);
+  }
+
+  begins_insert_moves : IsMeasured p → (t : BeginsInsert p q) → ServesRow p q d held waiting t.posted.row
+      → BeginInsertMove (sizes_of p.super) (run_state_of p d) t.posted.row (run_state_of q e)
+  begins_insert_moves measured t serves =
+      let todo = phases_of t.replacing None [] in
+      let job : JobState = record {
+        serves = ForInsert t.posted.row;
+        freeze = None;
+        claimed = [];
+        written = [];
+        todo = todo;
+      } in
+      let short = replacement_short p measured _ _ t.replacing t.laid None in
+      let long = length-map todo (phase_in_run (ForInsert t.posted.row)) in
+      record {
+        won = claim_in_run t.posted.claim;
+        serial = t.serial;
+        stage = ap (λ (r : Row). stage_in_run r.stage) t.posted.is;
+        claim = ap (λ (r : Row). option_map claim_in_run r.claim) t.posted.is;
+        idle = ap (option_map job_in_run) t.no_job;
+        held = held;
+        waiting = waiting;
+        serves = serves;
+        job = job_in_run job;
+        waits = refl;
+        thaws = refl;
+        short = subst (λ n. n ≤ replacement_turns p.super) (sym long) short;
+        plain = phases.replacements_writing (ForInsert t.posted.row) t.replacing.fresh _
+            ∙ phases.replacements_erasing (ForInsert t.posted.row) t.replacing.old t.replacing.old;
+        inserts = phases.decision_writing (ForInsert t.posted.row) t.replacing.fresh _;
+        next = changes_row p q e t.posted.row p.device.reads _ _ (Some job) p.frozen
+            (ap (λ (r : Row). row_at (row_in_run p.super r) AtInJob) (sym t.posted.is))
+            (ap (λ v. run_state_of v e) t.next);
+      }
+
+  module _ (measured : IsMeasured p) (t : Begins p q) where
+    abbrev commit_phases : List Replacing → ℕ → List Phase
+    commit_phases list n = zeroing p.super t.claimed ++ todo_of list n t.commit
+
+    abbrev seen_job : List Phase → JobState
+    seen_job todo = record {
+      serves = ForCommand t.posted.channel;
+      freeze = t.changes.freeze;
+      claimed = t.claimed;
+      written = [];
+      todo = todo;
+    }
+
+    -- what a run sees of the job's phases
+    record AreCounted (todo : List Phase) : Type 0 where
+      committed : has_commit todo ≡ true
+      short : length todo ≤ clusters_of p.super * cluster_pages_of p.super + replacement_turns p.super
+      few : replacements_in (phases_in_run (ForCommand t.posted.channel) todo) ≤ 1
+
+    claimed_few : length t.claimed * cluster_pages_of p.super ≤ clusters_of p.super * cluster_pages_of p.super
+    claimed_few =
+        let a = phases.few_clear p.clusters t.claimed t.clusters in
+        let b : length t.claimed ≤ clusters_of p.super = subst (λ n. length t.claimed ≤ n) measured.clusters a in
+        grind (arith, b)
+
+    one_counted : (x : Replacement) (r : Replacing)
+        → IsLaid p.super p.base p.chains p.pages t.claimed x r → AreCounted (commit_phases (r ∷ []) 1)
+    one_counted x r laid =
+        let behind = phases_of r (Some t.commit) [] in
+        let a = length-append (zeroing p.super t.claimed) behind in
+        let b = phases.length_zeroing p.super t.claimed in
+        let f = replacement_short p measured t.claimed x r laid (Some t.commit) in
+        let g = claimed_few in
+        record {
+          committed = phases.commit_zeroing (pages_in p.super t.claimed) behind
+              ∙ commit_behind r.fresh (Replaces r (Some t.commit) ∷ erasing r.old r.old []);
+          short = omega (arith, a, b, f, g);
+          few =
+              let z = phases.replacements_zeroing (ForCommand t.posted.channel) (pages_in p.super t.claimed) behind in
+              let w = phases.replacements_writing (ForCommand t.posted.channel) r.fresh
+              (Replaces r (Some t.commit) ∷ erasing r.old r.old []) in
+              let o = phases.replacements_erasing (ForCommand t.posted.channel) r.old r.old in
+              omega (arith, z, w, o);
+        }
+
+    laid_counted : (x : Replacement) (list : List Replacing)
+        → AreLaid p.super p.base p.chains p.pages t.claimed (x ∷ []) list → AreCounted (commit_phases list 1)
+    laid_counted x (r ∷ []) laid = one_counted x r laid.0
+    laid_counted x (r ∷ s ∷ rs) laid = absurd laid.1
+    laid_counted x [] laid = absurd laid
+
+    counted : AreCounted (commit_phases t.list t.changes.commit)
+    counted =
+        let one = job_of_one p t.posted.command t.changes t.commit t.asked in
+        subst (λ n. AreCounted (commit_phases t.list n)) (sym one.first)
+        (laid_counted _ t.list
+        (subst (λ l. AreLaid p.super p.base p.chains p.pages t.claimed (with_zeroed l t.changes.zero t.claimed) t.list)
+        one.list t.laid))
+
+    begins_moves : ServesRow p q d held waiting t.posted.channel
+        → BeginJobMove (sizes_of p.super) (run_state_of p d) t.posted.channel (run_state_of q e)
+    begins_moves serves =
+        let todo = commit_phases t.list t.changes.commit in
+        let asks = job_asks p t.posted.command t.changes t.commit t.asked in
+        record {
+          commands = map (command_in_run p.super) t.posted.rest;
+          left = ap (λ (r : Row). map (command_in_run p.super) r.left) t.posted.row
+              ∙ ap (λ x. x ∷ map (command_in_run p.super) t.posted.rest) asks;
+          serial = t.posted.serial;
+          stage = ap (λ (r : Row). stage_in_run r.stage) t.posted.row;
+          idle = ap (option_map job_in_run) t.no_job;
+          held = held;
+          waiting = waiting;
+          fill = d.fill;
+          begins = for_message refl serves;
+          job = job_in_run (seen_job todo);
+          waits = ap (λ b. if b then Some t.posted.channel else None) counted.committed;
+          short = subst (λ n. n ≤ clusters_of p.super * cluster_pages_of p.super + replacement_turns p.super)
+              (sym (length-map todo (phase_in_run (ForCommand t.posted.channel)))) counted.short;
+          few = counted.few;
+          next = changes_row p q e t.posted.channel p.device.reads _ _ (Some (seen_job todo))
+              (freezing p.frozen t.changes.freeze)
+              (ap (λ x. record {
+                left = x ∷ map (command_in_run p.super) t.posted.rest;
+                stage = AtInJob;
+                claim = None;
+              }) asks) (ap (λ v. run_state_of v e) t.next)
+              ∙ ap (λ f. record (moved_row (run_state_of p e) t.posted.channel
+              (logged_at (MetadataCommand ∷ map (command_in_run p.super) t.posted.rest) AtInJob)) {
+                job = Some (job_in_run (seen_job todo));
+                frozen = f;
+              }) (frozen_same p.frozen t.changes.freeze);
+        }
+
+  -- all of them
+  pub beginning_turns : BeginningTurns p q d held waiting
+  beginning_turns = record {
+    loses_insert = loses_insert_moves;
+    begins_insert = begins_insert_moves;
+    begins = begins_moves;
+  }

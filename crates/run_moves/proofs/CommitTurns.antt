@@ -1,0 +1,196 @@
+-- A commit is a move.
+use Rattle.std.proofs.Common.{◌≡◌, ℕ, ◌+◌, ◌^◌, ◌≤◌, Bool, true, false, List, [], ◌∷◌, length, Option}
+use Rattle.std.proofs.Common.{Some, None, refl, sym, ap, ◌∙◌, subst, arith}
+use Rattle.std.specs.Prelude.{if◌then◌else◌, is_some, map, nat_le}
+use Rattle.std.specs.Option.{option_and_then, option_map}
+use Rattle.std.proofs.lemmas.Bool.Decides.{nat_tests}
+use Rattle.super_block.specs.declared.page.Super.{Super}
+use Rattle.volume_model.specs.Steps.{change}
+use Rattle.volume_model.specs.Volumes.{Volumes}
+use Rattle.blob_meta.specs.Faults.{first_some, map_fault}
+use Rattle.blob_meta.specs.Faults.{too_large, unknown_flag}
+use Rattle.blob_meta.specs.declared.meta.Meta.{Meta}
+use Rattle.store_model.specs.Cases.Commit.{Commits}
+use Rattle.store_model.specs.Guarding.{all_renewed, AreGenerations, frozen_behind}
+use Rattle.store_model.specs.Jobs.{Does, gained_by, IsServed, JobStands, Lays}
+use Rattle.store_model.specs.Jobs.{ReadsZeros}
+use Rattle.store_model.specs.Loadable.{IsLoadable}
+use Rattle.store_model.specs.Maps.{Map, Metas, with_entry}
+use Rattle.store_model.specs.Phases.{has_commit, Replaces}
+use Rattle.store_model.specs.Regions.{region_of}
+use Rattle.store_model.specs.Rows.{IsForMetadata, Row}
+use Rattle.store_model.specs.RunInvariant.{RunsWell}
+use Rattle.store_model.specs.Shown.{fixed_of}
+use Rattle.store_model.specs.StoreState.{going_on, JobState, live_of, shown}
+use Rattle.store_model.specs.StoreState.{StoreState, waiting}
+use Rattle.store_model.proofs.WithEntry.{given_elsewhere, given_here}
+use Rattle.run_work.specs.JobMoves.{CommitMove, ReplacesBlob}
+use Rattle.run_work.specs.Reading.{job_left, logged_at}
+use Rattle.run_work.specs.RunState.{AtDecided, MetadataCommand}
+use Rattle.run_work.specs.Work.{empty_in, empty_slots}
+use Rattle.run_work.specs.ChannelMoves.{moved_row}
+use Rattle.run_moves.specs.JobTurns.{IsJobMoveOf}
+use Rattle.run_moves.specs.Projection.{blob_in_run, blobs_in_run, command_in_run, heads_found, job_in_run}
+use Rattle.run_moves.specs.Projection.{phases_in_run}
+use Rattle.run_moves.specs.Projection.{run_by, run_state_of, RunMessages, stage_in_run}
+use Rattle.run_moves.specs.Sizes.{sizes_of}
+use Rattle.run_moves.proofs.ChannelWrites.{asks}
+use Rattle.run_moves.proofs.JobTurning.{frozen_on, goes_on}
+use Rattle.run_moves.proofs.Moved.{decided_row, rows_moved}
+
+-- ---- slots of a blob
+
+empties_few : (l : List (Option ℕ)) → empty_slots (map is_some l) ≤ length l
+empties_few [] = omega arith
+empties_few (None ∷ l) = let e = empties_few l in omega (arith, e)
+empties_few (Some x ∷ l) = let e = empties_few l in omega (arith, e)
+
+empties_by : (o : Option ℕ) (m : Meta) → empty_in (option_map (blob_in_run m) o) ≤ length m.map
+empties_by None m = omega arith
+empties_by (Some n) m = empties_few m.map
+
+none_first : {X : Type 0} (x : Option X) (rest : List (Option X)) → first_some (x ∷ rest) ≡ None → x ≡ None
+none_first None rest none = refl
+none_first (Some x) rest none = absurd (cc none)
+
+none_next : {X : Type 0} (x : Option X) (rest : List (Option X)) → first_some (x ∷ rest) ≡ None
+    → first_some rest ≡ None
+none_next None rest none = none
+none_next (Some x) rest none = absurd (cc none)
+
+never_none : {X : Type 0} (b : Bool) (x : X) → b ≡ false → (if b then None else Some x) ≡ None → ⊥
+never_none true x is none = cc is
+never_none false x is none = cc none
+
+short_map : (l : List (Option ℕ)) (b : Bool) → nat_le (length l) (2 ^ 20) ≡ b → too_large l ≡ None → length l ≤ 2 ^ 20
+short_map l true is none = grind (arith, nat_tests, is)
+short_map l false is none = absurd (never_none _ _ is none)
+
+-- a map that a load takes has no more slots than a blob may have
+few_slots : (s : Super) (head : ℕ) (m : Meta) → IsLoadable s head m → length m.map ≤ 2 ^ 20
+few_slots s head m loadable =
+    let in_map = none_first (map_fault (region_of s).fixed (region_of s).clusters m.map) _
+    (none_next (unknown_flag m.flags) _ loadable.stored.faultless) in
+    short_map m.map (nat_le (length m.map) (2 ^ 20)) refl (none_first (too_large m.map) _ in_map)
+
+-- ---- blobs with generations
+
+-- how many slots are empty doesn't depend on the generation
+abbrev empties_of : Option Meta → ℕ
+empties_of None = 0
+empties_of (Some m) = empty_slots (map is_some m.map)
+
+module _ (base : Metas) (generations : Map ℕ) (drawn : ℕ) (are : AreGenerations base generations drawn) where
+  by_both : (o : Option Meta) (g : Option ℕ) → is_some g ≡ is_some o
+      → empty_in (option_and_then (λ m. option_map (blob_in_run m) g) o) ≡ empties_of o
+  by_both None g same = refl
+  by_both (Some m) (Some n) same = refl
+  by_both (Some m) None same = absurd (cc same)
+
+  empties_are : (head : ℕ) → empty_in (blobs_in_run base generations head) ≡ empties_of (base head)
+  empties_are head = by_both (base head) (generations head) (are.each head)
+
+-- ---- the turn
+
+module _ (p q : StoreState) (d : RunMessages) (first : Volumes) (well : RunsWell first p) where
+  module _ (later : RunsWell first q) (told : Bool) (t : Commits told p q) where
+    abbrev job : JobState
+    job = t.running.job
+
+    stands : JobStands p job
+    stands = well.job job t.running.is
+
+    commit_there : has_commit job.todo ≡ true
+    commit_there = ap has_commit t.running.next
+
+    served : IsServed p t.served.channel job.claimed job.todo
+    served = stands.served t.served.channel t.served.serves commit_there
+
+    does : Does (ReadsZeros p.super job.claimed) p.super p.base p.live served.command
+        (Replaces t.replacing (Some t.commit) ∷ t.running.rest)
+    does = subst (Does (ReadsZeros p.super job.claimed) p.super p.base p.live served.command) t.running.next served.does
+
+    lays : Lays p.super p.base p.chains (gained_by p.rows job) job.written
+        (Replaces t.replacing (Some t.commit) ∷ t.running.rest)
+    lays = subst (Lays p.super p.base p.chains (gained_by p.rows job) job.written) t.running.next stands.lays
+
+    loadable : IsLoadable p.super t.replacing.head t.new
+    loadable = lays.0.loadable t.new t.new_is
+
+    commands_same : served.command ≡ t.served.command
+    commands_same =
+        let lists : served.command ∷ served.rest ≡ t.served.command ∷ t.served.rest =
+        ap (λ (r : Row). r.left) (sym served.row ∙ t.served.row) in
+        cc lists
+
+    asks_so : command_in_run p.super t.served.command ≡ MetadataCommand
+    asks_so = asks p.super t.served.command (subst IsForMetadata commands_same does.0.metadata)
+
+    abbrev base_new : Metas
+    base_new = with_entry p.base t.replacing.head t.new
+
+    abbrev generations_new : Map ℕ
+    generations_new = all_renewed p.generations p.drawn t.commit.renews
+
+    generations_are : AreGenerations base_new generations_new (p.drawn + length t.commit.renews)
+    generations_are =
+        subst (λ (v : StoreState). AreGenerations v.base v.generations v.drawn) t.next later.generations
+
+    replaces : ReplacesBlob (sizes_of p.super) (blobs_in_run p.base p.generations)
+        (blobs_in_run base_new generations_new)
+    replaces = record {
+      head = t.replacing.head;
+      inside = loadable.stored.low;
+      few =
+          let here = given_here p.base t.replacing.head t.new t.replacing.head refl in
+          let less = empties_by (generations_new t.replacing.head) t.new in
+          let long = few_slots p.super t.replacing.head t.new loadable in
+          let same = ap (λ o. empty_in (option_and_then (λ m. option_map (blob_in_run m)
+          (generations_new t.replacing.head)) o)) here in
+          subst (λ n. n ≤ 2 ^ 20) (sym same) (omega (arith, less, long));
+      others = λ h ne. empties_are base_new generations_new (p.drawn + length t.commit.renews) generations_are h
+          ∙ ap empties_of (given_elsewhere p.base t.replacing.head t.new h ne)
+          ∙ sym (empties_are p.base p.generations p.drawn well.generations h);
+    }
+
+    -- a commit
+    pub commits_move : IsJobMoveOf p q d CommitMove t.served.channel
+    commits_move =
+        let commands = map (command_in_run p.super) t.served.rest in
+        let live_new = live_of (change (fixed_of p.super) (shown p) t.served.command t.commit.reply) in
+        let finds = heads_found p.super t.device.reads base_new live_new in
+        let rest = phases_in_run job.serves t.running.rest in
+        record {
+          job = job_in_run job;
+          rest = rest;
+          commands = commands;
+          runs = ap (option_map job_in_run) t.running.is;
+          here = ap (phases_in_run job.serves) t.running.next;
+          waits = ap (λ s. waiting s job.todo) t.served.serves
+              ∙ ap (λ b. if b then Some t.served.channel else None) commit_there;
+          left = ap (λ (r : Row). map (command_in_run p.super) r.left) t.served.row ∙ ap (λ x. x ∷ commands) asks_so;
+          stage = ap (λ (r : Row). stage_in_run r.stage) t.served.row;
+          blobs = blobs_in_run base_new generations_new;
+          finds = finds;
+          replaces = replaces;
+          next = ap (λ v. run_state_of v d) t.next
+              ∙ ap (λ r. record (run_by p.super t.device.reads base_new generations_new live_new p.rows
+              (going_on (record job { claimed = [] }) [] t.running.rest)
+              (frozen_behind p.frozen job t.running.rest) d) {
+                rows = r;
+              }) (rows_moved p.super p.rows t.served.channel (decided_row t.served.rest))
+              ∙ ap (λ j. record (moved_row (run_state_of p d) t.served.channel (logged_at commands AtDecided)) {
+                blobs = blobs_in_run base_new generations_new;
+                finds = finds;
+                job = j;
+                frozen = frozen_behind p.frozen job t.running.rest;
+              }) (goes_on (record job { claimed = [] }) t.running.rest [] None
+              (ap (λ s. waiting s t.running.rest) t.served.serves
+              ∙ ap (λ b. if b then Some t.served.channel else None) does.1))
+              ∙ ap (λ f. record (moved_row (run_state_of p d) t.served.channel (logged_at commands AtDecided)) {
+                blobs = blobs_in_run base_new generations_new;
+                finds = finds;
+                job = job_left (record (job_in_run job) { waits = None }) rest;
+                frozen = f;
+              }) (frozen_on p.frozen job t.running.rest);
+        }

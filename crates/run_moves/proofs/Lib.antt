@@ -1,0 +1,11 @@
+pub mod Moved
+pub mod BlobsMeant
+pub mod ChannelLogs
+pub mod ChannelWrites
+pub mod JobPhases
+pub mod Answering
+pub mod DoomedClaims
+pub mod Beginning
+pub mod JobTurning
+pub mod CommitTurns
+pub mod Replacing

@@ -1,0 +1,5 @@
+pub mod Projection
+pub mod Sizes
+pub mod ChannelTurns
+pub mod ServingTurns
+pub mod JobTurns

@@ -1,0 +1,21 @@
+-- The numbers of a store that are fixed for a run.
+use Rattle.std.specs.Prelude.{ℕ, ◌+◌, ◌*◌, ◌^◌}
+use Rattle.super_block.specs.declared.page.Super.{Super}
+use Rattle.super_block.specs.Numbers.{cluster_pages_of, clusters_of}
+use Rattle.run_work.specs.RunState.{RunSizes}
+
+-- the most turns of one replacement: each page of the metadata region is written once at most, and erased once
+abbrev pub replacement_turns : Super → ℕ
+replacement_turns s = 2 * s.md_len + 1
+
+-- a job of a command has one replacement, before which each page of each claimed cluster is zeroed
+abbrev pub sizes_of : Super → RunSizes
+sizes_of s = record {
+  pages = cluster_pages_of s;
+  insert_turns = replacement_turns s;
+  job_turns = clusters_of s * cluster_pages_of s + replacement_turns s;
+  replacements = 1;
+  slots = 2 ^ 20;
+  rows = 17;
+  heads = s.md_len;
+}
