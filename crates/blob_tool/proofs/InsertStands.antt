@@ -19,7 +19,7 @@ use Rattle.store_model.specs.Cases.WriteFresh.{WritesFresh}
 use Rattle.store_model.specs.Claiming.{given_back, IsInserting, stage_behind}
 use Rattle.store_model.specs.Inserting.{with_slot}
 use Rattle.store_model.specs.Jobs.{JobStands, Puts, PutsClaim}
-use Rattle.store_model.specs.Loadable.{AreLoadable}
+use Rattle.store_model.specs.Steady.{AreSteady}
 use Rattle.store_model.specs.Maps.{Metas}
 use Rattle.store_model.specs.Phases.{Phase}
 use Rattle.store_model.specs.Rows.{Answered, Decided, InJob, OpenClaim, Row, Rows, Stage, Won}
@@ -29,7 +29,7 @@ use Rattle.store_model.specs.Turning.{stopped_now}
 use Rattle.store_model.proofs.Inserted.{get_set_here}
 use Rattle.store_model.proofs.Progress.{same_job}
 use Rattle.store_model.proofs.RowsKept.{row_here}
-use Rattle.store_model.proofs.Shows.{alone_resolved}
+use Rattle.store_model.proofs.Shows.{steady_resolved}
 use Rattle.store_model.proofs.WithEntry.{given_here}
 use Rattle.std.specs.Option.{option_and_then}
 use Rattle.blob_tool.specs.Writing.{HasSlot, InsertRuns, InsertStandsAt, IsAimed, IsAt, logged, put, puts, won}
@@ -109,7 +109,7 @@ module _ (volume : VolumeRef) (page : ℕ) (word : PageWord) (rest : List Comman
     filled_slot m i cluster lt =
         ap (λ (o : Option (Option ℕ)). option_and_then (λ x. x) o) (get_set_here m.map i (Some cluster) lt)
 
-    module _ {told : Bool} (t : Inserts told s q) (shows : shown q ≡ shown s) (loadable : AreLoadable q.super q.base)
+    module _ {told : Bool} (t : Inserts told s q) (shows : shown q ≡ shown s) (steady : AreSteady q.super q.base)
         (stood : (job : JobState) → s.job ≡ Some job → JobStands s job) where
       -- what the replacement makes
       made : (r : InsertRuns s channel) → PutsClaim s channel t.replacing
@@ -145,7 +145,7 @@ module _ (volume : VolumeRef) (page : ℕ) (word : PageWord) (rest : List Comman
             found = ap (λ y. head_of (fixed_of y) (shown q) volume) super
                 ∙ ap (λ v. head_of (fixed_of s.super) v volume) shows ∙ aimed.found;
             meta = t.new;
-            there = ap (λ (b : Metas). b claim.head) (alone_resolved q.super q.base loadable)
+            there = ap (λ (b : Metas). b claim.head) (steady_resolved q.super q.base steady)
                 ∙ ap q.base (ap (λ (y : OpenClaim). y.head) (sym claims) ∙ sym x.head) ∙ inserted_base;
             is = ap (λ y. slot t.new (page / cluster_pages_of y)) super
                 ∙ ap (slot t.new) (sym aimed.slot_is ∙ ap (λ (y : OpenClaim). y.slot) (sym claims))

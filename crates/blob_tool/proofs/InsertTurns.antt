@@ -7,7 +7,7 @@ use Rattle.volume_model.specs.declared.command.VolumeRef.{VolumeRef}
 use Rattle.store_model.specs.Cases as kind
 use Rattle.store_model.specs.Cases.{Kind, Turn}
 use Rattle.store_model.specs.Cases.InsertEnd.{InsertEnds}
-use Rattle.store_model.specs.Loadable.{AreLoadable}
+use Rattle.store_model.specs.Steady.{AreSteady}
 use Rattle.store_model.specs.Jobs.{gained_by, JobStands, Lays, Puts}
 use Rattle.store_model.specs.Phases.{Frees}
 use Rattle.store_model.specs.Rows.{Answered, Decided, OpenClaim}
@@ -112,7 +112,7 @@ module _ {D : Type 0} (d : Ghosts D) (b later : WithOpening D) (kept : StoreInva
       record {
         stands = insert.after_insert volume page word rest s q channel t
             (shows_still (ap (λ (x : StoreState). x.log) t.next) runs on)
-            (subst (λ x. AreLoadable x q.base) (sym then_.facts.super) then_.facts.loadable) (stood runs) stands;
+            (subst (λ x. AreSteady x q.base) (sym then_.facts.super) then_.facts.steady) (stood runs) stands;
         less = omega (arith, before, after);
         others = λ other ne. ap (λ (x : StoreState). x.rows other) t.next
             ∙ row_other s.rows t.inserting.row _ other (λ e. ne (e ∙ here));

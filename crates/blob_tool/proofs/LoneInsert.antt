@@ -9,14 +9,14 @@ use Rattle.store_model.specs.Cases as kind
 use Rattle.store_model.specs.Cases.{Kind, Turn}
 use Rattle.store_model.specs.Cases.BeginInsert.{BeginsInsert}
 use Rattle.store_model.specs.Cases.LoseInsert.{LosesInsert}
-use Rattle.store_model.specs.Loadable.{AreLoadable}
+use Rattle.store_model.specs.Steady.{AreSteady}
 use Rattle.store_model.specs.Claiming.{CanInsert}
 use Rattle.store_model.specs.Maps.{Metas}
 use Rattle.store_model.specs.Phases.{phases_of}
 use Rattle.store_model.specs.Rows.{Answered, Decided, Decision, Idle, InJob, Row, Won}
 use Rattle.store_model.specs.StoreState.{ForInsert, shown, StoreState, turns_left}
 use Rattle.store_model.proofs.RowsKept.{row_here}
-use Rattle.store_model.proofs.Shows.{alone_resolved}
+use Rattle.store_model.proofs.Shows.{steady_resolved}
 use Rattle.channel_turns.specs.ClaimTurns.{told_as}
 use Rattle.metadata_turns.specs.Inserts.{InsertsOrNot, IsLack, row_inserting}
 use Rattle.metadata_turns.specs.JobTurns.{TurnsJob}
@@ -91,8 +91,8 @@ module _ {D : Type 0} (d : Ghosts D) (b : WithOpening D) (q : StoreView D) (kept
   -- the claim of the write can be inserted
   can : CanInsert s x.sent.claim x.sent.aimed.wanted.meta
   can = record {
-    there = sym (ap (λ (m : Metas). m x.sent.claim.head) (alone_resolved s.super s.base
-        (subst (λ y. AreLoadable y s.base) (sym kept.facts.super) kept.facts.loadable)))
+    there = sym (ap (λ (m : Metas). m x.sent.claim.head) (steady_resolved s.super s.base
+        (subst (λ y. AreSteady y s.base) (sym kept.facts.super) kept.facts.steady)))
         ∙ x.sent.aimed.wanted.there;
     current = x.sent.aimed.wanted.current;
     within = x.sent.aimed.within;

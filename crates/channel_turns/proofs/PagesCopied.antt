@@ -98,7 +98,7 @@ all_fit d p running h high = by (map.get p.metas h) refl
     by None is = is
     by (Some m) is =
         let few = running.placed.few_md_pages in
-        let low = (running.facts.loadable h m is).stored.low in
+        let low = (running.facts.steady h m is).stored.low in
         absurd (omega (arith, few, low, high))
 
 -- where the page is read, by the pages of a cluster

@@ -32,7 +32,7 @@ use Rattle.blob_meta.proofs.Refused.{at_volume}
 use Rattle.store_model.specs.Maps.{Metas}
 use Rattle.store_model.specs.Shown.{content, content_by, fixed_of, volume_of}
 use Rattle.store_model.specs.StoreState.{shown, StoreState}
-use Rattle.store_model.proofs.Shows.{alone_resolved, or_empty}
+use Rattle.store_model.proofs.Shows.{steady_resolved, or_empty}
 use Rattle.store_model.proofs.SlotSums.{slots_shown}
 use Rattle.store_model.proofs.Inside.{none_second}
 use Rattle.store_model.specs.Regions.{region_of}
@@ -134,7 +134,7 @@ module _ (p : StoreState) (running : IsRunning p) (runs : p.stopped ≡ None) (m
   placed = subst IsPlaced (sym running.facts.super) running.placed
 
   pub resolved_is : resolved p.base ≡ map.get metas
-  resolved_is = alone_resolved running.store p.base running.facts.loadable ∙ base
+  resolved_is = steady_resolved running.store p.base running.facts.steady ∙ base
 
   pub pages_long : (h : ℕ) (m : Meta) → length (as_volume h m).pages ≡ k * length m.map
   pages_long h m = length-map-range_with_len (content k p.device.reads (resolved p.base) (suc p.super.md_len) h) 0
@@ -184,7 +184,7 @@ module _ (p : StoreState) (running : IsRunning p) (runs : p.stopped ≡ None) (m
   pub few_slots : (h : ℕ) (m : Meta) → map.get metas h ≡ Some m → length m.map ≤ 2 ^ 20
   few_slots h m there =
       let region = region_of running.store in
-      let fine = (running.facts.loadable h m (ap (λ (b : Metas). b h) base ∙ there)).stored.faultless in
+      let fine = (running.facts.steady h m (ap (λ (b : Metas). b h) base ∙ there)).stored.faultless in
       let in_map : map_fault region.fixed region.clusters m.map ≡ None =
       none_second (unknown_flag m.flags) (map_fault region.fixed region.clusters m.map)
       (hole_in_thick m.flags m.map ∷ bad_mark m.internal ∷ []) fine in

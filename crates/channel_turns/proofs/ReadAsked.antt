@@ -212,7 +212,7 @@ module _ {D : Type 0} (d : Ghosts D) (p : StoreView D) (channel : ℕ) (running 
       by None is = is
       by (Some m) is =
           let few = running.placed.few_md_pages in
-          let low = (running.facts.loadable h m is).stored.low in
+          let low = (running.facts.steady h m is).stored.low in
           absurd (omega (arith, few, low, high))
 
 -- ---- the read itself

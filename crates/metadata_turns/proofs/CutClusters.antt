@@ -11,7 +11,7 @@ use Rattle.md_chain.specs.Chain.{is_among}
 use Rattle.store_model.specs.Maps.{Metas, with_entry}
 use Rattle.store_model.specs.Places.{AreDistinct}
 use Rattle.store_model.specs.Jobs.{MovesClusters}
-use Rattle.store_model.specs.Loadable.{IsLoadable}
+use Rattle.store_model.specs.Steady.{IsSteady}
 use Rattle.store_model.specs.Regions.{region_of}
 use Rattle.store_model.proofs.Cut.{cut, length_cut, slot_in, slot_kept, slot_past, slot_was}
 use Rattle.store_model.proofs.Inside.{inside_slot}
@@ -80,7 +80,7 @@ none_cut map n le = ap clusters_of (none_behind map n le)
 -- ---- a blob that gets a map that is cut, or has empty slots added
 
 module _ (s : Super) (base : Metas) (head : ℕ) (old new : Meta) (slots : ℕ) (there : base head ≡ Some old)
-    (lawful : IsLawful s.md_len base) (stored : IsLoadable s head old) (map_is : new.map ≡ cut old.map slots None)
+    (lawful : IsLawful s.md_len base) (stored : IsSteady s head old) (map_is : new.map ≡ cut old.map slots None)
   where
     abbrev freed : List ℕ
     freed = clusters_of (drop slots old.map)

@@ -20,7 +20,7 @@ use Rattle.blob_meta.proofs.Shown.{meant_there}
 use Rattle.store_model.specs.Maps.{Map}
 use Rattle.store_model.specs.Shown.{fixed_of}
 use Rattle.store_model.specs.StoreState.{StoreState, shown}
-use Rattle.store_model.proofs.Shows.{alone_resolved}
+use Rattle.store_model.proofs.Shows.{steady_resolved}
 use Rattle.metadata_turns.specs.Answering.{IsFound}
 use Rattle.running_store.specs.StoreInvariant.{IsRunning}
 use Rattle.metadata_turns.proofs.Answered.{live_same}
@@ -98,10 +98,10 @@ module _ (p : StoreState) (running : IsRunning p) (runs : p.stopped ≡ None) (m
       of_meta h None there some meant is = absurd (cc some)
       of_meta h (Some m) there some meant is =
           let in_base : p.base h ≡ Some m = ap (λ (x : Map Meta). x h) base ∙ there in
-          let low = (running.facts.loadable h m in_base).stored.low in
+          let low = (running.facts.steady h m in_base).stored.low in
           let few = placed.few_md_pages in
           let super = running.facts.super in
-          let whole = alone_resolved running.store p.base running.facts.loadable in
+          let whole = steady_resolved running.store p.base running.facts.steady in
           let mine = (running.facts.well runs).live h m (ap (λ (x : Map Meta). x h) whole ∙ in_base) in
           subst (λ xs. IsLiveOf metas p.super xs command)
           (sym (is ∙ ap (λ (x : Map Xattrs). x h) (sym live_now) ∙ mine.1))

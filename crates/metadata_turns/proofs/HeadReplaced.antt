@@ -16,7 +16,7 @@ use Rattle.store_model.specs.Phases.{erasing, page_in, Phase, Replaces, writing}
 use Rattle.store_model.specs.RunInvariant.{RunsWell}
 use Rattle.store_model.specs.Places.{all_set}
 use Rattle.store_model.specs.StoreState.{going_on, JobState, StoreState}
-use Rattle.store_model.proofs.Shows.{alone_resolved}
+use Rattle.store_model.proofs.Shows.{steady_resolved}
 use Rattle.io_freeze.specs.Guards.{renewed, GuardsState}
 use Rattle.metadata_turns.specs.declared.job_turn.JobTurn.TheVariants as turn
 use Rattle.running_store.specs.Effects.{is_numbered}
@@ -111,7 +111,7 @@ module _ {D : Type 0} (d : Ghosts D) (p : StoreView D) (serves : Serves) (planne
 
   pub live_there : makes ≡ false → IsSome (map.get p.live planned.head)
   live_there not = subst (λ (o : Option Xattrs). IsSome o) (sym (runs_well.live planned.head (meta_is not).0
-      (ap (λ (m : Metas). m planned.head) (alone_resolved at_work.running.store s.base at_work.running.facts.loadable)
+      (ap (λ (m : Metas). m planned.head) (steady_resolved at_work.running.store s.base at_work.running.facts.steady)
       ∙ (meta_is not).1)).1) refl
 
   pub guarded_there : makes ≡ false → IsSome (map.get p.guards.generations planned.head)

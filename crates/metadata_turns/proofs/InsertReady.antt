@@ -24,9 +24,9 @@ use Rattle.store_model.specs.Phases.{page_in}
 use Rattle.store_model.specs.Places.{AreDistinct, AreLeastClear, HasClaim, held_by, IsLinked, IsMapped, UsedPages}
 use Rattle.store_model.specs.Regions.{region_of}
 use Rattle.store_model.specs.Rows.{OpenClaim, Row}
-use Rattle.store_model.specs.RunInvariant.{IsLoadable, RunsWell}
+use Rattle.store_model.specs.RunInvariant.{IsSteady, RunsWell}
 use Rattle.store_model.specs.StoreState.{StoreState}
-use Rattle.store_model.proofs.InsertedBlob.{inserted_loadable, inserted_mapped, mapped_still, mapped_then}
+use Rattle.store_model.proofs.InsertedBlob.{inserted_steady, inserted_mapped, mapped_still, mapped_then}
 use Rattle.store_model.proofs.Inside.{IsInside}
 use Rattle.store_model.proofs.Sets.{among_either, among_first, are_distinct, were_clear}
 use Rattle.store_model.proofs.Used.{within}
@@ -73,13 +73,13 @@ module _ (p : StoreState) (running : IsRunning p) (runs : p.stopped ≡ None) (r
     abbrev pub new : Meta
     new = with_slot meta claim.slot claim.cluster
 
-    old_loadable : IsLoadable p.super claim.head meta
-    old_loadable = subst (λ (s : Super). IsLoadable s claim.head meta) (sym running.facts.super)
-        (running.facts.loadable claim.head meta can.there)
+    old_steady : IsSteady p.super claim.head meta
+    old_steady = subst (λ (s : Super). IsSteady s claim.head meta) (sym running.facts.super)
+        (running.facts.steady claim.head meta can.there)
 
-    pub loadable : IsLoadable p.super claim.head new
-    loadable = inserted_loadable meta claim.slot claim.cluster can.within can.empty p.super claim.head inside
-        old_loadable
+    pub steady : IsSteady p.super claim.head new
+    steady = inserted_steady meta claim.slot claim.cluster can.within can.empty p.super claim.head inside
+        old_steady
 
     -- its cluster is in the map then, and all others stay
     pub moves : MovesClusters p.super p.base (with_entry p.base claim.head new) [] (claim.cluster ∷ [])
@@ -134,7 +134,7 @@ module _ (p : StoreState) (running : IsRunning p) (runs : p.stopped ≡ None) (r
 
       below : (q : ℕ) → is_among q (claim.head ∷ t.fresh) ≡ true → q < p.super.md_len
       below q among = elim (among_either q claim.head t.fresh among) [
-        | inl first ↦ subst (λ y. y < p.super.md_len) (sym first) old_loadable.stored.low
+        | inl first ↦ subst (λ y. y < p.super.md_len) (sym first) old_steady.stored.low
         | inr later ↦ subst (λ n. q < n) used.count (were_clear p.pages t.fresh t.least q later).below
       ]
 
@@ -154,8 +154,8 @@ module _ (p : StoreState) (running : IsRunning p) (runs : p.stopped ≡ None) (r
 
       says_new : new ≡ meta_of claim.head (written_items is.items)
       says_new = sym (written_say claim.head is.items is.plannable
-          ∙ says claim.head new is.items loadable.stored.id loadable.stored.clear loadable.stored.xattrs.names
-          loadable.stored.internal.names is.are)
+          ∙ says claim.head new is.items steady.stored.id steady.stored.clear steady.stored.xattrs.names
+          steady.stored.internal.names is.are)
 
       ready_at : IsReady p claim.head new false after x.laid.pages t.fresh
       ready_at = record {
@@ -168,7 +168,7 @@ module _ (p : StoreState) (running : IsRunning p) (runs : p.stopped ≡ None) (r
           chain = t.laid_on.reads (page_in x.laid.pages) p.super.md_len small
               (once_each (claim.head ∷ t.fresh) all_differ) all_low planned_pages;
           meta_is = says_new;
-          faultless = loadable.stored.faultless;
+          faultless = steady.stored.faultless;
         };
         places = planned_places;
       }

@@ -39,7 +39,7 @@ use Rattle.store_model.specs.StoreState.{StoreState, shown}
 use Rattle.store_model.specs.Places.{all_set, held_by, AreDistinct, AreLeastClear, IsLinked, UsedPages}
 use Rattle.store_model.specs.Jobs.{places_of, with_clusters, IsPacked, MovesClusters, Needs}
 use Rattle.store_model.specs.Asking.{AsksFor, creates, IsJobFor, IsSyncing, resizes, syncs}
-use Rattle.store_model.specs.RunInvariant.{CanBeWritten, IsLoadable, RunsWell}
+use Rattle.store_model.specs.RunInvariant.{CanBeWritten, IsSteady, RunsWell}
 use Rattle.store_model.proofs.ClaimedZeros.{claimed_free, zeroed_is}
 use Rattle.store_model.proofs.JobReady.{head_of, job_writable, new_of, one_change}
 use Rattle.store_model.proofs.Cut.{cut, is_cut as is_taken, length_cut}
@@ -153,22 +153,22 @@ module _ (p : StoreState) (running : IsRunning p) (runs : p.stopped ≡ None) (c
   well : RunsWell running.first p
   well = running.facts.well runs
 
-  -- with clusters in its slots of zeros a load takes it
-  pub loadable : (claimed : List ℕ) → AreLeastClear p.clusters claimed → length claimed ≡ length zeros
-      → head < p.super.md_len → IsLoadable p.super head (with_clusters new zeros claimed)
-  loadable claimed least one_each low =
-      subst (λ s. IsLoadable s head (with_clusters new zeros claimed)) (sym running.facts.super)
+  -- with clusters in its slots of zeros it is steady
+  pub steady : (claimed : List ℕ) → AreLeastClear p.clusters claimed → length claimed ≡ length zeros
+      → head < p.super.md_len → IsSteady p.super head (with_clusters new zeros claimed)
+  steady claimed least one_each low =
+      subst (λ s. IsSteady s head (with_clusters new zeros claimed)) (sym running.facts.super)
       (job_writable known runs command (job_with_zeros head new zeros) asks.commit asks.asked claimed least one_each
       (record { head = head; new = Some new }) new refl refl
       (subst (λ (s : Super). head < s.md_len) running.facts.super low))
 
   there_low : (m : Meta) → p.base head ≡ Some m → head < p.super.md_len
   there_low m there = subst (λ (s : Super). head < s.md_len) (sym running.facts.super)
-      (running.facts.loadable head m there).stored.low
+      (running.facts.steady head m there).stored.low
 
-  was_there : (m : Meta) → p.base head ≡ Some m → IsLoadable p.super head m
+  was_there : (m : Meta) → p.base head ≡ Some m → IsSteady p.super head m
   was_there m there =
-      subst (λ (s : Super). IsLoadable s head m) (sym running.facts.super) (running.facts.loadable head m there)
+      subst (λ (s : Super). IsSteady s head m) (sym running.facts.super) (running.facts.steady head m there)
 
   -- what is known of it, whichever verb asks
   pub record IsAsked (before : Option Meta) : Type 0 where
@@ -228,7 +228,7 @@ module _ (p : StoreState) (running : IsRunning p) (runs : p.stopped ≡ None) (c
   -- without clusters in its slots it is the same, but for the map
   bare_xattrs : zeros ≡ [] → head < p.super.md_len → CanBeWritten new.xattrs
   bare_xattrs none low = subst (λ (m : Meta). CanBeWritten m.xattrs) (with_none new zeros)
-      (loadable [] tt (sym (ap (λ (l : List ℕ). length l) none)) low).stored.xattrs
+      (steady [] tt (sym (ap (λ (l : List ℕ). length l) none)) low).stored.xattrs
 
   asked_by : IsJobFor p command (job_with_zeros head new zeros) asks.commit → IsAsked (p.base head)
   asked_by (syncs y) =
@@ -428,8 +428,8 @@ module _ (p : StoreState) (running : IsRunning p) (runs : p.stopped ≡ None) (c
       planned_pages k d lt = page_of x.laid.pages k (get_or x.laid.pages k d)
           (subst AreDistinct (sym planned_places) (all_differ t.fresh t.least)) (got x.laid.pages k d lt)
 
-      whole : IsLoadable p.super head later
-      whole = loadable claimed least one_each (head_low t.fresh t.least)
+      whole : IsSteady p.super head later
+      whole = steady claimed least one_each (head_low t.fresh t.least)
 
       says_new : later ≡ meta_of head (written_items is.items)
       says_new = sym (written_say head is.items is.plannable

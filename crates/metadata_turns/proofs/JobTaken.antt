@@ -14,7 +14,7 @@ use Rattle.blob_meta.specs.declared.meta.Meta.{Meta}
 use Rattle.md_chain.specs.Packing.{FitsPage}
 use Rattle.store_model.specs.Cases.{Begins, IsRefusedAtBegin}
 use Rattle.store_model.specs.Jobs.{with_clusters, AreForZeros}
-use Rattle.store_model.specs.Loadable.{CanBeWritten}
+use Rattle.store_model.specs.Steady.{CanBeWritten}
 use Rattle.store_model.specs.Places.{all_set, AreDistinct}
 use Rattle.store_model.specs.Rows.{InJob, Row}
 use Rattle.store_model.specs.StoreState.{JobState, StoreState}

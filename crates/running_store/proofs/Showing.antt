@@ -19,7 +19,7 @@ use Rattle.store_model.specs.Shown.{fixed_of, volume_of}
 use Rattle.store_model.specs.StateLaws.{IsLoadedWith}
 use Rattle.store_model.specs.StoreState.{StoreState, shown}
 use Rattle.store_model.specs.RunInvariant.{RunsWell}
-use Rattle.store_model.proofs.Shows.{alone_resolved, or_empty}
+use Rattle.store_model.proofs.Shows.{steady_resolved, or_empty}
 use Rattle.store_model.proofs.SlotSums.{slots_shown}
 use Rattle.running_store.specs.StoreInvariant.{IsRunning}
 
@@ -46,7 +46,7 @@ module _ (p : StoreState) (running : IsRunning p) (runs : p.stopped ≡ None) (m
   placed = subst IsPlaced (sym running.facts.super) running.placed
 
   resolved_is : resolved p.base ≡ map.get metas
-  resolved_is = alone_resolved running.store p.base running.facts.loadable ∙ base
+  resolved_is = steady_resolved running.store p.base running.facts.steady ∙ base
 
   alike : AreNamedAlike (shown p)
   alike = subst AreNamedAlike (sym well.replayed)
@@ -72,7 +72,7 @@ module _ (p : StoreState) (running : IsRunning p) (runs : p.stopped ≡ None) (m
   low : (h : ℕ) (o : Option Meta) → p.base h ≡ o → IsSome o → h < p.super.md_len
   low h None is some = absurd (cc some)
   low h (Some m) is some = subst (λ (s : Super). h < s.md_len) (sym running.facts.super)
-      (running.facts.loadable h m is).stored.low
+      (running.facts.steady h m is).stored.low
 
   -- all volumes that are shown show its metadata
   pub shows_metas : ShowsMetas (fixed_of p.super) p.super metas (shown p)

@@ -8,7 +8,7 @@ use Rattle.blob_meta.specs.Resolving.{IsLawful}
 use Rattle.store_model.specs.Maps.{Metas, Chains}
 use Rattle.store_model.specs.Places.{Unclaimed, UsedClusters, UsedPages, without_claim}
 use Rattle.store_model.specs.Rows.{Rows}
-use Rattle.store_model.specs.RunInvariant.{AreLoadable, HaveChains}
+use Rattle.store_model.specs.RunInvariant.{AreSteady, HaveChains}
 use Rattle.running_store.specs.declared.loaded.Loaded.{Loaded}
 
 -- The masks are what the chains and the maps claim: pages, clusters and heads.
@@ -23,9 +23,9 @@ abbrev pub without_first : List Bool → Rows → ℕ → List Bool
 without_first bits rows zero = bits
 without_first bits rows (suc count) = without_claim (without_first bits rows count) (rows count).claim
 
--- The metadata is what a load takes, and lawful; each blob has its chain; and nothing is left to recover.
+-- The blobs are steady, and the metadata is lawful; each blob has its chain; and nothing is left to recover.
 pub record IsWhole {D : Type 0} (loaded : Loaded D) : Type 0 where
-  pub loadable : AreLoadable loaded.sup (map.get loaded.metas)
+  pub steady : AreSteady loaded.sup (map.get loaded.metas)
   pub lawful : IsLawful loaded.sup.md_len (map.get loaded.metas)
   pub chains : HaveChains loaded.sup (map.get loaded.metas) (map.get loaded.chains)
   pub masks : AreMasks loaded.sup (map.get loaded.metas) (map.get loaded.chains) loaded.masks

@@ -1,5 +1,5 @@
 -- What the loops of a start have made so far.
-use Rattle.store_model.proofs.Shows.{alone_resolved}
+use Rattle.store_model.proofs.Shows.{steady_resolved}
 use Rattle.blob_meta.specs.Resolving.{IsLawful, resolved}
 use Rattle.std.proofs.Common.{◌≡◌, ℕ, ◌+◌, ◌<◌, ◌≤◌, Bool, true, false, cond, List, [], ◌∷◌, ◌++◌, length, Option, Some}
 use Rattle.std.proofs.Common.{None, refl, sym, ◌∙◌, ap, subst, ◌⊎◌, arith, inl, inr, length-append, ◌≢◌}
@@ -23,7 +23,7 @@ use Rattle.io_freeze.specs.Guards.{GuardsState, no_guards, renewed}
 use Rattle.store_model.specs.Maps.{Map, Metas, with_entry}
 use Rattle.store_model.specs.StateLaws.{IsLoadedWith}
 use Rattle.store_model.specs.StoreState.{Opens}
-use Rattle.store_model.specs.RunInvariant.{AreLoadable}
+use Rattle.store_model.specs.RunInvariant.{AreSteady}
 use Rattle.store_model.specs.Rows.{Row, Idle, Ended}
 use Rattle.store_model.proofs.WithEntry.{given_here, given_elsewhere}
 use Rattle.running_store.specs.declared.loaded.Loaded.{Loaded}
@@ -247,13 +247,13 @@ module _ (script : List (List Command)) (rows : List Row) (are : AreRows script 
 module _ {D : Type 0} (d : Ghosts D) (loaded : Loaded D) (live : map.FinMap nat_cmp Xattrs) (guards : GuardsState)
     (rows : List Row) (guarded : AreGuardsAtStart loaded.metas guards) where
   resolved_is : IsWhole loaded → resolved (map.get loaded.metas) ≡ map.get loaded.metas
-  resolved_is whole = alone_resolved loaded.sup (map.get loaded.metas) whole.loadable
+  resolved_is whole = steady_resolved loaded.sup (map.get loaded.metas) whole.steady
 
   pub is_loaded_with : IsWhole loaded → IsLiveAtStart loaded.metas live
       → IsLoadedWith loaded.sup (state_of d (opened_with d loaded live guards rows))
   is_loaded_with whole is = record {
     super = refl;
-    loadable = whole.loadable;
+    steady = whole.steady;
     few = whole.lawful.few;
     lawful = subst (IsLawful loaded.sup.md_len) (sym (resolved_is whole)) whole.lawful;
     chains = whole.chains;
@@ -279,11 +279,11 @@ module _ {D : Type 0} (d : Ghosts D) (loaded : Loaded D) (live : map.FinMap nat_
     stopped = refl;
   }
 
-none_by : (s : Super) (metas : Metas) → AreLoadable s metas → (head : ℕ) → s.md_len ≤ head → (found : Option Meta)
+none_by : (s : Super) (metas : Metas) → AreSteady s metas → (head : ℕ) → s.md_len ≤ head → (found : Option Meta)
     → metas head ≡ found → metas head ≡ None
 none_by s metas all head past None is = is
 none_by s metas all head past (Some m) is = absurd (omega (arith, (all head m is).stored.low, past))
 
 -- no blob's head lies past the metadata pages
-pub none_past : (s : Super) (metas : Metas) → AreLoadable s metas → (head : ℕ) → s.md_len ≤ head → metas head ≡ None
+pub none_past : (s : Super) (metas : Metas) → AreSteady s metas → (head : ℕ) → s.md_len ≤ head → metas head ≡ None
 none_past s metas all head past = none_by s metas all head past (metas head) refl

@@ -182,7 +182,7 @@ module _ (plan : Layout) (laid : IsLaidOut plan) (image : Image) (new : IsNewSto
     super_is = sup_is;
     accepted = subst (λ (n : ℕ). IsAccepted n image) same_pages
         (accepts sup image no_blob no_chain faultless read_again says_nothing (λ head m is. absurd (cc is))
-        (none_lawful sup.md_len));
+        (λ head m is. absurd (cc is)) (none_lawful sup.md_len));
     holds = record {
       store = record { faultless = faultless; same = subst (IsSameStore sup) read_again refl };
       says = says_nothing;

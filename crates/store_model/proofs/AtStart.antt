@@ -41,7 +41,7 @@ holds_loaded s first script p facts image x = record {
   metas = p.base;
   chains = p.chains;
   says = x.says;
-  loadable = facts.loadable;
+  steady = facts.steady;
   few = facts.few;
   lawful = facts.lawful;
 }

@@ -20,7 +20,7 @@ use Rattle.store_model.proofs.Holding.{put_elsewhere}
 use Rattle.store_model.proofs.JobKept.{claimed_behind}
 use Rattle.store_model.proofs.Known.{Known}
 use Rattle.store_model.proofs.Over.{says, Over, Way}
-use Rattle.store_model.proofs.Shows.{alone_resolved, shown_agree}
+use Rattle.store_model.proofs.Shows.{steady_resolved, shown_agree}
 use Rattle.store_model.proofs.StandsKept.{stands_claimed}
 
 module _ (known : Known) where
@@ -40,7 +40,7 @@ module _ (known : Known) where
         (well.clusters.apart (page / k) (inr among)).1 (record {
           head = head;
           meta = m;
-          there = ap (λ (b : Metas). b head) (sym (alone_resolved s p.base facts.loadable)) ∙ there;
+          there = ap (λ (b : Metas). b head) (sym (steady_resolved s p.base facts.steady)) ∙ there;
           place = q / k;
           in_slot = in_slot ∙ ap Some (sym row);
         })

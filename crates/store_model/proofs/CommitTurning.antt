@@ -27,7 +27,7 @@ use Rattle.store_model.specs.Jobs.{
   Keeps,
   MovesClusters,
 }
-use Rattle.store_model.specs.RunInvariant.{RunInvariant, CanBeWritten, IsLoadable, RunsWell}
+use Rattle.store_model.specs.RunInvariant.{RunInvariant, CanBeWritten, IsSteady, RunsWell}
 use Rattle.store_model.specs.Places.{held_by, UsedPages, AreDistinct, all_set, claimed_by, UsedClusters, HasClaim}
 use Rattle.store_model.proofs.Known.{Known}
 use Rattle.store_model.proofs.Progress.{NoneWaits, none_after}
@@ -37,7 +37,7 @@ use Rattle.store_model.proofs.Writable.{AllWritable}
 use Rattle.store_model.proofs.Shows.{or_empty, shown_written}
 use Rattle.store_model.proofs.Sets.{among_either, AllBelow}
 use Rattle.store_model.proofs.UsedCommitted.{used_committed, chains_committed, old_distinct}
-use Rattle.store_model.proofs.Replaced.{loadable_given}
+use Rattle.store_model.proofs.Replaced.{steady_given}
 use Rattle.store_model.proofs.StateKept.{allowed_here, log_kept, replay_plain, LogKept}
 use Rattle.store_model.proofs.Seen.{change_seen, metadata_seen}
 use Rattle.store_model.specs.Seen.{seen}
@@ -122,8 +122,8 @@ module _ (known : Known) where
     chains_are : rechained p.chains r ≡ with_entry p.chains r.head (r.head ∷ r.fresh)
     chains_are = rechained_is p.chains r t.new t.new_is
 
-    loadable_new : IsLoadable s r.head t.new
-    loadable_new = subst (λ (y : Super). IsLoadable y r.head t.new) facts.super (can.loadable t.new t.new_is)
+    steady_new : IsSteady s r.head t.new
+    steady_new = subst (λ (y : Super). IsSteady y r.head t.new) facts.super (can.steady t.new t.new_is)
 
     abbrev taken : List ℕ
     taken = taken_by r
@@ -142,7 +142,7 @@ module _ (known : Known) where
 
     low : AllBelow p.super.md_len (r.head ∷ r.fresh)
     low x among = elim (among_either x r.head r.fresh among) [
-      | inl e ↦ subst (λ n. n < p.super.md_len) (sym e) (can.loadable t.new t.new_is).stored.low
+      | inl e ↦ subst (λ n. n < p.super.md_len) (sym e) (can.steady t.new t.new_is).stored.low
       | inr f ↦ subst (λ (y : Super). x < y.md_len) (sym facts.super)
           (held_low known well (taken ++ later) held x (among_left x taken later (among_taken r x f)))
     ]
@@ -178,7 +178,7 @@ module _ (known : Known) where
     -- each page of the claimed clusters was overwritten, and is read as zeros still
     zeros_read : ReadsZeros p.super j.claimed t.device.reads
     zeros_read page among =
-        claimed_unread known well told r.head (page_in r.planned r.head) t.device loadable_new.stored.low t.moves.reads
+        claimed_unread known well told r.head (page_in r.planned r.head) t.device steady_new.stored.low t.moves.reads
         page (subst (λ l. is_among (page / cluster_pages_of p.super) l ≡ true) (sym (ap claimed_by t.running.is)) among)
         ∙ stood.zeroed page among (ap (λ todo. is_among page (zeros_in todo)) t.running.next)
 
@@ -188,7 +188,7 @@ module _ (known : Known) where
         t.moves.reads ∙ ap (λ (y : Super).
         read_after told p.device.reads (y.md_start + r.head) (page_in r.planned r.head)) facts.super in
         let same : shown_of p.super p.base p.live t.device.reads ≡ shown p = shown_written told s p t.device r.head
-        (page_in r.planned r.head) facts.super facts.loadable facts.lawful placed loadable_new.stored.low at in
+        (page_in r.planned r.head) facts.super facts.steady facts.lawful placed steady_new.stored.low at in
         let step = does.0.shows t.device.reads zeros_read in
         let on_w : shown_of p.super (replaced p.base r) (live_of w) t.device.reads ≡ w =
         subst (λ (v : Volumes). shown_of p.super
@@ -201,7 +201,7 @@ module _ (known : Known) where
     copied_new =
         let mid : StoreState = record p { device = t.device } in
         let read : AreCopied mid = copied_put known told mid r.head (page_in r.planned r.head) refl refl refl refl well
-        loadable_new.stored.low t.moves.reads in
+        steady_new.stored.low t.moves.reads in
         copied_committed mid now read t.commit.renews refl refl refl well.claims_drawn
         (row_unclaimed (cluster_pages_of p.super) p.rows channel _ refl) (some_pages known) (λ image. Unit {0}) tt
         (λ h out. subst (λ (m : Metas). LeavesEmpty p.super (resolved p.base) (resolved m) (λ image. Unit {0}) h)
@@ -265,7 +265,7 @@ module _ (known : Known) where
         let done_so : RunInvariant s first script now =
         record {
           super = facts.super;
-          loadable = loadable_given s p.base r.head t.new facts.loadable loadable_new;
+          steady = steady_given s p.base r.head t.new facts.steady steady_new;
           few = subst (λ (m : Metas). slots_together s.md_len m ≤ 2 ^ 24) base_is
               (subst (λ (y : Super). slots_together y.md_len (replaced p.base r) ≤ 2 ^ 24) facts.super can.few);
           lawful = subst (λ (m : Metas). IsLawful s.md_len (resolved m)) base_is

@@ -1,4 +1,4 @@
--- What a create asks for: a blob that a load takes, and what each image shows with it.
+-- What a create asks for: a steady blob, and what each image shows with it.
 use Rattle.std.proofs.Common.{◌≡◌, ℕ, ◌+◌, ◌<◌, ◌≤◌, ◌^◌, Bool, true, false, List, [], ◌∷◌, length}
 use Rattle.std.proofs.Common.{Option}
 use Rattle.std.proofs.Common.{Some, None, refl, sym, ap, ◌∙◌, subst, inl, inr, arith}
@@ -34,7 +34,7 @@ use Rattle.store_model.proofs.ShowsGiven.{none_childless}
 use Rattle.store_model.proofs.EmptySlots.{Any, leaves_elsewhere, leaves_resolved}
 use Rattle.store_model.specs.Copying.{LeavesEmpty}
 use Rattle.store_model.specs.Jobs.{IsStep, ReadsZeros, shown_of, with_clusters}
-use Rattle.store_model.specs.Loadable.{AreLoadable, CanBeWritten, IsLoadable}
+use Rattle.store_model.specs.Steady.{AreSteady, CanBeWritten, IsSteady}
 use Rattle.store_model.specs.RunInvariant.{RunsWell}
 use Rattle.store_model.proofs.Known.{Known}
 use Rattle.store_model.proofs.Meanwhile.{blank_reading, reading}
@@ -43,12 +43,12 @@ use Rattle.store_model.proofs.NewBlob.{empty_slot, new_takes_none, two_written}
 use Rattle.store_model.proofs.ClaimedZeros.{claimed_inside, zeroed_fresh, zeroed_is, zeros_read}
 use Rattle.store_model.proofs.InARow.{among_range, range_among, range_differs}
 use Rattle.store_model.proofs.ZeroSlots.{filled_slot, AreEmpty}
-use Rattle.store_model.proofs.ZeroedBlob.{all_filled, lawful_zeroed, new_but, zeroed_loadable, IsZeroed}
+use Rattle.store_model.proofs.ZeroedBlob.{all_filled, lawful_zeroed, new_but, zeroed_steady, IsZeroed}
 use Rattle.blob_meta.specs.declared.fault.MetaFault.TheVariants.{HoleInThick}
 use Rattle.blob_meta.specs.Faults.{hole_in_thick}
 use Rattle.blob_meta.specs.Parents.{slot}
 use Rattle.store_model.specs.Places.{AreDistinct, AreLeastClear, IsMapped}
-use Rattle.store_model.proofs.OneReplacement.{all_loadable, base_is, base_lawful, base_loadable, base_resolved, IsReady}
+use Rattle.store_model.proofs.OneReplacement.{all_steady, base_is, base_lawful, base_steady, base_resolved, IsReady}
 use Rattle.store_model.proofs.OneReplacement.{lawful_still, ready_by, some_pages}
 use Rattle.store_model.proofs.ShowsNew.{live_here, shown_made, w_elsewhere}
 use Rattle.store_model.proofs.SlotSums.{all_shown, slots_given, slots_in}
@@ -132,8 +132,8 @@ module _ (known : Known) where
     few : Fits (fixed_of p.super) (shown p) slots
     few = fits (fixed_of p.super) (shown p) name slots thick uuid asked
 
-    one_loadable : IsLoadable p.super head new
-    one_loadable = zeroed_loadable p.super head bare new claimed zeroed
+    one_steady : IsSteady p.super head new
+    one_steady = zeroed_steady p.super head bare new claimed zeroed
         (new_but p.super head xattrs thick slots low can few.alone) (claimed_inside known runs claimed least)
         (no_hole thick refl)
       where
@@ -147,8 +147,8 @@ module _ (known : Known) where
             filled_slot bare (new_zeros thick slots) claimed (zeros_differ thick) all_empty one_each i
             (filled thick is)))
 
-    loadable : AreLoadable p.super all
-    loadable = all_loadable known head new one_loadable
+    steady : AreSteady p.super all
+    steady = all_steady known head new one_steady
 
     few_with : (m : Meta) → length m.map ≡ slots → slots_together p.super.md_len (with_entry p.base head m) ≤ 2 ^ 24
     few_with m long =
@@ -174,7 +174,7 @@ module _ (known : Known) where
         (lawful_still known head bare (new_takes_none p.base head xattrs thick slots none) bare_few) all_few
 
     base_now : replaced p.base r ≡ all
-    base_now = base_is known head new one_loadable r head_is new_is
+    base_now = base_is known head new one_steady r head_is new_is
 
     -- ---- what every image shows
 
@@ -200,16 +200,16 @@ module _ (known : Known) where
 
       shows_new : ReadsZeros p.super claimed image → shown_of p.super (replaced p.base r) (live_of w) image ≡ w
       shows_new holds = ap (λ (m : Metas). shown_of p.super m (live_of w) image) base_now
-          ∙ shown_made there (base_loadable known) (base_lawful known) head none name slots thick uuid xattrs
-          same_two new loadable claimed zeroed (zeros_read known claimed image holds)
+          ∙ shown_made there (base_steady known) (base_lawful known) head none name slots thick uuid xattrs
+          same_two new steady claimed zeroed (zeros_read known claimed image holds)
 
       live_at : live_of w head ≡ Some xattrs
-      live_at = live_here there (base_loadable known) (base_lawful known) head none name slots thick uuid xattrs
-          same_two new loadable
+      live_at = live_here there (base_steady known) (base_lawful known) head none name slots thick uuid xattrs
+          same_two new steady
 
       others : (h : ℕ) → (h ≡ head → ⊥) → w h ≡ shown there h
-      others = w_elsewhere there (base_loadable known) (base_lawful known) head none name slots thick uuid xattrs
-          same_two new loadable
+      others = w_elsewhere there (base_steady known) (base_lawful known) head none name slots thick uuid xattrs
+          same_two new steady
 
       lives : live_of w ≡ with_entry p.live r.head xattrs
       lives = fun_ext (λ h. elim (cases_eq h head) [
@@ -241,15 +241,15 @@ module _ (known : Known) where
       renews = (ap (λ (m : Metas). is_some (m head)) base_now ∙ ap is_some (given_here p.base head new head refl), tt);
       numbers = λ makes. subst (λ h. is_among h (head ∷ []) ≡ true) (sym head_is) (among_first head []);
       leaves = λ h out.
-          leaves_resolved p.super p.base (replaced p.base r) Any h (base_loadable known)
-          (subst (AreLoadable p.super) (sym base_now) loadable)
+          leaves_resolved p.super p.base (replaced p.base r) Any h (base_steady known)
+          (subst (AreSteady p.super) (sym base_now) steady)
           (subst (λ (m : Metas). LeavesEmpty p.super p.base m Any h) (sym base_now)
           (leaves_elsewhere p.super p.base head new (none_childless p.base head (base_lawful known).parents none) h
           (not_first h head [] out).0));
     }
 
     pub ready : IsReady p claimed (c.Create name slots thick uuid) commit new r
-    ready = ready_by known head new one_loadable r head_is new_is claimed (c.Create name slots thick uuid) commit
+    ready = ready_by known head new one_steady r head_is new_is claimed (c.Create name slots thick uuid) commit
         all_lawful all_few step
 
   -- what a create asks for is ready, with the clusters that are claimed for it, once its head is a place of the region

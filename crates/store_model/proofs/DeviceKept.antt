@@ -44,7 +44,7 @@ module _ (known : Known) where
       let now : StoreState = record p { device = d } in
       record {
         super = facts.super;
-        loadable = facts.loadable;
+        steady = facts.steady;
         few = facts.few;
         lawful = facts.lawful;
         legal = facts.legal;

@@ -32,12 +32,12 @@ use Rattle.blob_meta.specs.Parents.{parent_of, slot}
 use Rattle.blob_meta.specs.Resolving.{resolved}
 use Rattle.store_model.specs.Maps.{Metas, with_entry}
 use Rattle.store_model.specs.Copying.{LeavesEmpty}
-use Rattle.store_model.specs.Loadable.{AreLoadable}
+use Rattle.store_model.specs.Steady.{AreSteady}
 use Rattle.store_model.specs.Shown.{content, content_by}
 use Rattle.store_model.proofs.Cut.{slot_kept, slot_past}
 use Rattle.store_model.proofs.Elsewhere.{IsChildless, same_elsewhere, through}
 use Rattle.store_model.proofs.SameMaps.{content_alike, IsPlacedAlike}
-use Rattle.store_model.proofs.Shows.{alone_resolved}
+use Rattle.store_model.proofs.Shows.{steady_resolved}
 use Rattle.store_model.proofs.WithEntry.{given_elsewhere, given_here}
 
 -- whatever an image holds
@@ -131,8 +131,8 @@ module _ (s : Super) (metas : Metas) (head : ℕ) (old : Meta) (there : metas he
       record { old = old; there = there; empty = before; same = λ image _. shows_same image page none before }
 
 -- metadata without marks is resolved
-pub leaves_resolved : (s : Super) (base later : Metas) (Held : Image → Type 0) (h : ℕ) → AreLoadable s base
-    → AreLoadable s later → LeavesEmpty s base later Held h → LeavesEmpty s (resolved base) (resolved later) Held h
-leaves_resolved s base later Held h loadable loadable_too leaves =
-    subst (λ (m : Metas). LeavesEmpty s m (resolved later) Held h) (sym (alone_resolved s base loadable))
-    (subst (λ (m : Metas). LeavesEmpty s base m Held h) (sym (alone_resolved s later loadable_too)) leaves)
+pub leaves_resolved : (s : Super) (base later : Metas) (Held : Image → Type 0) (h : ℕ) → AreSteady s base
+    → AreSteady s later → LeavesEmpty s base later Held h → LeavesEmpty s (resolved base) (resolved later) Held h
+leaves_resolved s base later Held h steady steady_too leaves =
+    subst (λ (m : Metas). LeavesEmpty s m (resolved later) Held h) (sym (steady_resolved s base steady))
+    (subst (λ (m : Metas). LeavesEmpty s base m Held h) (sym (steady_resolved s later steady_too)) leaves)

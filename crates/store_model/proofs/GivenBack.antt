@@ -93,7 +93,7 @@ module _ (known : Known) where
       let now : StoreState = record (stopped_now p) { device = d } in
       record {
         super = facts.super;
-        loadable = facts.loadable;
+        steady = facts.steady;
         few = facts.few;
         lawful = facts.lawful;
         legal = facts.legal;

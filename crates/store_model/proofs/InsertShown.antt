@@ -11,7 +11,7 @@ use Rattle.store_model.specs.Copying.{AreCopied, HasCopied, LeavesEmpty}
 use Rattle.store_model.specs.Inserting.{with_slot}
 use Rattle.store_model.specs.Jobs.{CanReplace, gained_by, InsertStands, JobStands, Lays, Puts, PutsClaim}
 use Rattle.store_model.specs.Jobs.{shown_of}
-use Rattle.store_model.specs.Loadable.{AreLoadable, IsLoadable}
+use Rattle.store_model.specs.Steady.{AreSteady, IsSteady}
 use Rattle.store_model.specs.Maps.{Metas, with_entry}
 use Rattle.store_model.specs.Phases.{page_in, Phase, rechained, replaced}
 use Rattle.store_model.specs.Phases.{Replaces, Replacing}
@@ -22,15 +22,14 @@ use Rattle.store_model.specs.Turning.{read_after}
 use Rattle.store_model.specs.Cases.Insert.{Inserts}
 use Rattle.store_model.specs.RunInvariant.{RunsWell}
 use Rattle.store_model.proofs.Copies.{copied_committed, row_unclaimed}
-use Rattle.store_model.proofs.Elsewhere.{IsChildless}
 use Rattle.store_model.proofs.Heads.{rechained_is, replaced_is}
 use Rattle.store_model.proofs.InsertedContent.{Holds, leaves_inserted, shown_same}
 use Rattle.store_model.proofs.JobKept.{copied_put}
 use Rattle.store_model.proofs.Known.{Known}
-use Rattle.store_model.proofs.OneReplacement.{base_loadable, base_resolved, some_pages}
-use Rattle.store_model.proofs.Replaced.{loadable_given}
-use Rattle.store_model.proofs.Shows.{alone_resolved, shown_written}
-use Rattle.store_model.proofs.ShowsGiven.{alone_childless}
+use Rattle.store_model.proofs.OneReplacement.{base_lawful, base_steady, base_resolved, some_pages}
+use Rattle.store_model.proofs.Ranks.{levels, Levels}
+use Rattle.store_model.proofs.Replaced.{steady_given}
+use Rattle.store_model.proofs.Shows.{steady_resolved, shown_written}
 
 module _ (known : Known) where
   open known use {s, placed, first, script, p, facts}
@@ -108,20 +107,20 @@ module _ (known : Known) where
         let one : t.new ≡ with_slot old claim.slot claim.cluster = let both = sym t.new_is ∙ put.new in cc both in
         ap (λ h. with_entry p.base h t.new) put.head ∙ ap (with_entry p.base claim.head) one
 
-    pub new_loadable : IsLoadable p.super r.head t.new
-    new_loadable = can.loadable t.new t.new_is
+    pub new_steady : IsSteady p.super r.head t.new
+    new_steady = can.steady t.new t.new_is
 
-    pub now_loadable : AreLoadable p.super now.base
-    now_loadable = loadable_given p.super p.base r.head t.new (base_loadable known) new_loadable
+    pub now_steady : AreSteady p.super now.base
+    now_steady = steady_given p.super p.base r.head t.new (base_steady known) new_steady
 
     pub resolved_all : resolved now.base ≡ all
-    resolved_all = alone_resolved p.super now.base now_loadable ∙ base_all
+    resolved_all = steady_resolved p.super now.base now_steady ∙ base_all
 
-    childless : IsChildless p.base claim.head
-    childless = alone_childless p.super p.base claim.head (base_loadable known)
+    ranks : Levels p.super.md_len p.base
+    ranks = levels p.super.md_len p.base (base_lawful known) (λ h m is. (base_steady known h m is).stored.low)
 
     pub low : r.head < s.md_len
-    low = subst (λ (x : Super). r.head < x.md_len) facts.super new_loadable.stored.low
+    low = subst (λ (x : Super). r.head < x.md_len) facts.super new_steady.stored.low
 
     -- ---- what is shown
 
@@ -132,7 +131,7 @@ module _ (known : Known) where
     read = copied_put known told mid r.head (page_in r.planned r.head) refl refl refl refl well low t.moves.reads
 
     abbrev Held : Image → Type 0
-    Held = Holds p.super (some_pages known) p.base claim.head old there childless claim.slot claim.cluster put.within
+    Held = Holds p.super (some_pages known) p.base claim.head old there ranks claim.slot claim.cluster put.within
         put.wanted.empty
 
     holds : Held t.device.reads
@@ -152,9 +151,9 @@ module _ (known : Known) where
         t.moves.reads ∙ ap (λ (y : Super).
         read_after told p.device.reads (y.md_start + r.head) (page_in r.planned r.head)) facts.super in
         let same : shown_of p.super p.base p.live t.device.reads ≡ shown p = shown_written told s p t.device r.head
-        (page_in r.planned r.head) facts.super facts.loadable facts.lawful placed low at in
+        (page_in r.planned r.head) facts.super facts.steady facts.lawful placed low at in
         ap (λ (m : Metas). shown_by (fixed_of p.super) t.device.reads m p.live) resolved_all
-        ∙ shown_same p.super (some_pages known) p.base claim.head old there childless claim.slot claim.cluster
+        ∙ shown_same p.super (some_pages known) p.base claim.head old there ranks claim.slot claim.cluster
         put.within put.wanted.empty t.device.reads holds p.live
         ∙ ap (λ (m : Metas). shown_by (fixed_of p.super) t.device.reads m p.live) (sym (base_resolved known))
         ∙ same
@@ -164,5 +163,5 @@ module _ (known : Known) where
         (row_unclaimed (cluster_pages_of p.super) p.rows row next refl) (some_pages known) Held holds
         (λ h out. subst (λ (m : Metas). LeavesEmpty p.super m (resolved now.base) Held h) (sym (base_resolved known))
         (subst (λ (m : Metas). LeavesEmpty p.super p.base m Held h) (sym resolved_all)
-        (leaves_inserted p.super (some_pages known) p.base claim.head old there childless claim.slot claim.cluster
+        (leaves_inserted p.super (some_pages known) p.base claim.head old there ranks claim.slot claim.cluster
         put.within put.wanted.empty h)))

@@ -56,7 +56,7 @@ module _ (known : Known) (j : JobState) (is : known.p.job ≡ Some j) (inserting
       let done : RunInvariant s first script now =
       record {
         super = facts.super;
-        loadable = facts.loadable;
+        steady = facts.steady;
         few = facts.few;
         lawful = facts.lawful;
         legal = kept.legal;

@@ -87,7 +87,7 @@ module _ {D : Type 0} (d : Ghosts D) (x : Over d) (r : Replacing) (running : Run
     metas = would_be.base;
     chains = would_be.chains;
     says = holds.says;
-    loadable = would_facts.loadable;
+    steady = would_facts.steady;
     few = would_facts.few;
     lawful = would_facts.lawful;
   }) p.log recovers (unchanged refl)

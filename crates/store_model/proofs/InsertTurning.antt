@@ -11,7 +11,7 @@ use Rattle.blob_meta.specs.Resolving.{IsLawful, resolved, slots_together}
 use Rattle.store_model.specs.Claiming.{stage_behind}
 use Rattle.store_model.specs.Inserting.{with_slot}
 use Rattle.store_model.specs.Jobs.{CanReplace, gained_by, inserted_by, InsertStands, JobStands, Lays, Puts, PutsClaim}
-use Rattle.store_model.specs.Loadable.{AreLoadable, CanBeWritten, IsLoadable}
+use Rattle.store_model.specs.Steady.{AreSteady, CanBeWritten, IsSteady}
 use Rattle.store_model.specs.Maps.{Chains, Metas, with_entry}
 use Rattle.store_model.specs.Phases.{held_in, Phase, rechained, replaced}
 use Rattle.store_model.specs.Phases.{Replaces, Replacing, taken_by, taken_in}
@@ -43,7 +43,7 @@ use Rattle.store_model.proofs.RowsKept.{row_here, row_other, way_kept}
 use Rattle.store_model.proofs.Sets.{AllBelow, among_either}
 use Rattle.store_model.proofs.SameBlobs.{had_blob, had_none, same_generations}
 use Rattle.store_model.proofs.Shaped.{MayBe, shaped_with}
-use Rattle.store_model.proofs.Shows.{alone_resolved}
+use Rattle.store_model.proofs.Shows.{steady_resolved}
 use Rattle.store_model.proofs.StateKept.{runs_here}
 use Rattle.store_model.proofs.UsedCommitted.{chains_committed, old_distinct, used_committed}
 use Rattle.store_model.proofs.WithEntry.{given_elsewhere, given_here}
@@ -117,11 +117,11 @@ module _ (known : Known) where
     base_all : now.base ≡ with_entry p.base claim.head (with_slot old claim.slot claim.cluster)
     base_all = before.base_all known told q t
 
-    new_loadable : IsLoadable p.super r.head t.new
-    new_loadable = before.new_loadable known told q t
+    new_steady : IsSteady p.super r.head t.new
+    new_steady = before.new_steady known told q t
 
-    now_loadable : AreLoadable p.super now.base
-    now_loadable = before.now_loadable known told q t
+    now_steady : AreSteady p.super now.base
+    now_steady = before.now_steady known told q t
 
     -- ---- blobs
 
@@ -134,7 +134,7 @@ module _ (known : Known) where
 
     had_resolved : (h : ℕ) → is_some (resolved now.base h) ≡ is_some (resolved p.base h)
     had_resolved h =
-        ap (λ (m : Metas). is_some (m h)) (alone_resolved p.super now.base now_loadable) ∙ had h
+        ap (λ (m : Metas). is_some (m h)) (steady_resolved p.super now.base now_steady) ∙ had h
         ∙ ap (λ (m : Metas). is_some (m h)) (sym (base_resolved known))
 
     live : (h : ℕ) (m : Meta) → resolved now.base h ≡ Some m
@@ -161,7 +161,7 @@ module _ (known : Known) where
 
     all_low : AllBelow p.super.md_len (r.head ∷ r.fresh)
     all_low x among = elim (among_either x r.head r.fresh among) [
-      | inl e ↦ subst (λ n. n < p.super.md_len) (sym e) new_loadable.stored.low
+      | inl e ↦ subst (λ n. n < p.super.md_len) (sym e) new_steady.stored.low
       | inr f ↦ subst (λ (y : Super). x < y.md_len) (sym facts.super)
           (held_low known well (taken ++ later) held x (among_left x taken later (among_taken r x f)))
     ]
@@ -241,7 +241,7 @@ module _ (known : Known) where
         let done_so : RunInvariant s first script now =
         record {
           super = facts.super;
-          loadable = subst (λ (y : Super). AreLoadable y now.base) facts.super now_loadable;
+          steady = subst (λ (y : Super). AreSteady y now.base) facts.super now_steady;
           few = subst (λ (m : Metas). slots_together s.md_len m ≤ 2 ^ 24) base_is
               (subst (λ (y : Super). slots_together y.md_len (replaced p.base r) ≤ 2 ^ 24) facts.super can.few);
           lawful = subst (λ (m : Metas). IsLawful s.md_len (resolved m)) base_is

@@ -1,4 +1,4 @@
--- The metadata of a blob with a cluster in a slot that was empty: a load takes it, and with it all metadata is lawful.
+-- The metadata of a blob with a cluster in a slot that was empty: it is steady, and with it all metadata is lawful.
 use Rattle.std.proofs.Common.{
   ◌≡◌,
   ◌≢◌,
@@ -47,7 +47,7 @@ use Rattle.store_model.specs.Inserting.{with_slot}
 use Rattle.store_model.specs.Maps.{Metas, with_entry}
 use Rattle.store_model.specs.Places.{IsMapped}
 use Rattle.store_model.specs.Regions.{region_of}
-use Rattle.store_model.specs.Loadable.{IsLoadable}
+use Rattle.store_model.specs.Steady.{IsSteady}
 use Rattle.store_model.proofs.Cut.{all_full}
 use Rattle.store_model.proofs.Inserted.{get_set_here}
 use Rattle.store_model.proofs.Inside.{IsInside, none_of_map, passes}
@@ -135,9 +135,9 @@ module _ (old : Meta) (i cluster : ℕ) (within : i < length old.map) (empty : s
       too_long : ℕ → Option MetaFault
       too_long n = if nat_le n (2 ^ 20) then None else Some (faults.TooLarge (at_most (2 ^ 64 - 1) n))
 
-  pub inserted_loadable : (s : Super) (head : ℕ) → IsInside (region_of s).fixed (region_of s).clusters cluster
-      → IsLoadable s head old → IsLoadable s head next
-  inserted_loadable s head inside was = record {
+  pub inserted_steady : (s : Super) (head : ℕ) → IsInside (region_of s).fixed (region_of s).clusters cluster
+      → IsSteady s head old → IsSteady s head next
+  inserted_steady s head inside was = record {
     stored = record {
       low = was.stored.low;
       id = was.stored.id;
@@ -146,11 +146,7 @@ module _ (old : Meta) (i cluster : ℕ) (within : i < length old.map) (empty : s
       internal = was.stored.internal;
       faultless = still_passes (region_of s).fixed (region_of s).clusters inside was.stored.faultless;
     };
-    alone = record {
-      no_parent = was.alone.no_parent;
-      not_made = was.alone.not_made;
-      not_removed = was.alone.not_removed;
-    };
+    unmarked = was.unmarked;
   }
 
   -- ---- all metadata

@@ -38,7 +38,7 @@ use Rattle.store_model.specs.Asking.{creates, IsJobFor, resizes, syncs}
 use Rattle.store_model.specs.Maps.{Metas}
 use Rattle.store_model.specs.Jobs.{with_clusters, IsLaid, LacksPages, LacksPagesFor}
 use Rattle.blob_meta.specs.Faults.{is_thin}
-use Rattle.store_model.specs.Loadable.{IsLoadable}
+use Rattle.store_model.specs.Steady.{IsSteady}
 use Rattle.store_model.specs.RunInvariant.{RunsWell}
 use Rattle.store_model.proofs.CreateStep.{create_ready, new_zeros}
 use Rattle.store_model.proofs.Known.{Known}
@@ -151,7 +151,7 @@ module _ (known : Known) where
       → IsJobFor p command changes commit → (claimed : List ℕ) → AreLeastClear p.clusters claimed
       → length claimed ≡ length changes.zero → (x : Replacement) (new : Meta)
       → changes.list ≡ x ∷ [] → x.new ≡ Some new → x.head < s.md_len
-      → IsLoadable s x.head (with_clusters new changes.zero claimed)
+      → IsSteady s x.head (with_clusters new changes.zero claimed)
   job_writable runs command changes commit asked claimed least one_each x new list is low =
       let head = head_of p command changes commit asked in
       let bare = new_of p command changes commit asked in
@@ -162,15 +162,15 @@ module _ (known : Known) where
       in
       let head_is : x.head ≡ head = ap (λ (y : Replacement). y.head) one in
       let new_is : bare ≡ new = let both = sym (ap (λ (y : Replacement). y.new) one) ∙ is in cc both in
-      let written : IsLoadable p.super head (with_claimed p command changes commit asked claimed) =
+      let written : IsSteady p.super head (with_claimed p command changes commit asked claimed) =
       by asked (one_each ∙ ap (λ (l : List ℕ). length l) zeros_are)
       (subst (λ h. h < p.super.md_len) head_is (subst (λ (y : Super). x.head < y.md_len) (sym facts.super) low))
       in
-      subst (λ l. IsLoadable s x.head (with_clusters new l claimed)) (sym zeros_are)
-      (subst (λ (m : Meta). IsLoadable s x.head (with_clusters m (zeros_of p command changes commit asked) claimed))
+      subst (λ l. IsSteady s x.head (with_clusters new l claimed)) (sym zeros_are)
+      (subst (λ (m : Meta). IsSteady s x.head (with_clusters m (zeros_of p command changes commit asked) claimed))
       new_is
-      (subst (λ h. IsLoadable s h (with_claimed p command changes commit asked claimed)) (sym head_is)
-      (subst (λ (y : Super). IsLoadable y head (with_claimed p command changes commit asked claimed)) facts.super
+      (subst (λ h. IsSteady s h (with_claimed p command changes commit asked claimed)) (sym head_is)
+      (subst (λ (y : Super). IsSteady y head (with_claimed p command changes commit asked claimed)) facts.super
       written)))
     where
       -- on no pages
@@ -188,11 +188,11 @@ module _ (known : Known) where
       by : (asked : IsJobFor p command changes commit)
           → length claimed ≡ length (zeros_of p command changes commit asked)
           → head_of p command changes commit asked < p.super.md_len
-          → IsLoadable p.super (head_of p command changes commit asked)
+          → IsSteady p.super (head_of p command changes commit asked)
           (with_claimed p command changes commit asked claimed)
       by (syncs y) long low =
-          (sync_ready known runs command y.head y.new y.asks (bare_at y.head y.new false) refl refl refl).loadable
+          (sync_ready known runs command y.head y.new y.asks (bare_at y.head y.new false) refl refl refl).steady
       by (creates y) long low = (create_ready known runs command changes commit y claimed least long low
-          (bare_at y.head (with_claimed p command changes commit (creates y) claimed) true) refl refl).loadable
+          (bare_at y.head (with_claimed p command changes commit (creates y) claimed) true) refl refl).steady
       by (resizes y) long low = (resize_ready known runs command changes commit y claimed least long
-          (bare_at y.head (with_claimed p command changes commit (resizes y) claimed) false) refl refl refl).loadable
+          (bare_at y.head (with_claimed p command changes commit (resizes y) claimed) false) refl refl refl).steady

@@ -1,4 +1,4 @@
--- The metadata of a new blob: a load takes it, and with it the metadata of all blobs is lawful.
+-- The metadata of a new blob: it is steady, and with it the metadata of all blobs is lawful.
 use Rattle.std.proofs.Common.{◌≡◌, ◌⊎◌, ℕ, zero, suc, ◌<◌, ◌≤◌, ◌^◌, Bool, true, false, List, [], ◌∷◌, length}
 use Rattle.std.proofs.Common.{Option, None, refl, sym, ◌∙◌, inl, inr, arith, length-append}
 use Rattle.std.specs.Prelude.{if◌then◌else◌, nat_le, replicate, slice_get}
@@ -19,7 +19,7 @@ use Rattle.blob_meta.specs.Jobs.{new_meta}
 use Rattle.blob_meta.specs.Says.{without_bit_1}
 use Rattle.store_model.specs.Maps.{Metas}
 use Rattle.store_model.specs.Regions.{region_of}
-use Rattle.store_model.specs.Loadable.{CanBeWritten, IsLoadable}
+use Rattle.store_model.specs.Steady.{CanBeWritten, IsSteady}
 use Rattle.store_model.proofs.LawfulGiven.{TakesNone}
 
 -- ---- its attributes
@@ -81,10 +81,10 @@ no_hole true slots (inl thin) = absurd (cc thin)
 no_hole true slots (inr none) = rw none refl
 
 -- a new blob that is thin, or has no slot
-pub new_loadable : (s : Super) (head : ℕ) (xattrs : Xattrs) (thick : Bool) (slots : ℕ) → head < s.md_len
+pub new_steady : (s : Super) (head : ℕ) (xattrs : Xattrs) (thick : Bool) (slots : ℕ) → head < s.md_len
     → CanBeWritten xattrs → slots ≤ 2 ^ 20 → (thick ≡ false) ⊎ (slots ≡ 0)
-    → IsLoadable s head (new_meta head xattrs thick slots)
-new_loadable s head xattrs thick slots low can few thin = record {
+    → IsSteady s head (new_meta head xattrs thick slots)
+new_steady s head xattrs thick slots low can few thin = record {
   stored = record {
     low = low;
     id = refl;
@@ -94,7 +94,7 @@ new_loadable s head xattrs thick slots low can few thin = record {
     faultless = all_pass _ _ _ _ (known_flags thick)
         (new_passes (region_of s).fixed (region_of s).clusters slots few) (no_hole thick slots thin) refl;
   };
-  alone = record { no_parent = refl; not_made = refl; not_removed = refl };
+  unmarked = refl;
 }
 
 -- it takes no cluster and no parent

@@ -8,19 +8,19 @@ use Rattle.store_model.specs.Maps.{Metas, with_entry}
 use Rattle.store_model.specs.Shown.{fixed_of}
 use Rattle.store_model.specs.Phases.{Committing, replaced, Replacing}
 use Rattle.store_model.specs.Jobs.{IsStep, ReadsZeros}
-use Rattle.store_model.specs.Loadable.{AreLoadable, IsLoadable}
+use Rattle.store_model.specs.Steady.{AreSteady, IsSteady}
 use Rattle.store_model.specs.StoreState.{StoreState}
 use Rattle.store_model.proofs.Heads.{replaced_is}
 use Rattle.store_model.proofs.Known.{Known}
 use Rattle.store_model.proofs.LawfulGiven.{lawful_given, TakesNone}
-use Rattle.store_model.proofs.Replaced.{loadable_given}
-use Rattle.store_model.proofs.Shows.{alone_resolved}
+use Rattle.store_model.proofs.Replaced.{steady_given}
+use Rattle.store_model.proofs.Shows.{steady_resolved}
 
--- What is known of the replacement, whatever the verb: a load takes the new metadata, all metadata is lawful with it,
+-- What is known of the replacement, whatever the verb: the new metadata is steady, all metadata is lawful with it,
 -- and its commit is the command's step, where the clusters that it has claimed read as zeros.
 pub record IsReady (p : StoreState) (claimed : List ℕ) (command : Command) (commit : Committing) (new : Meta)
     (r : Replacing) : Type 0 where
-  pub loadable : IsLoadable p.super r.head new
+  pub steady : IsSteady p.super r.head new
   pub few : slots_together p.super.md_len (replaced p.base r) ≤ 2 ^ 24
   pub lawful : IsLawful p.super.md_len (resolved (replaced p.base r))
   pub step : IsStep (ReadsZeros p.super claimed) p.super p.base r p.live command commit
@@ -30,11 +30,11 @@ module _ (known : Known) where
 
   -- ---- the metadata that there is
 
-  pub base_loadable : AreLoadable p.super p.base
-  base_loadable = subst (λ (y : Super). AreLoadable y p.base) (sym facts.super) facts.loadable
+  pub base_steady : AreSteady p.super p.base
+  base_steady = subst (λ (y : Super). AreSteady y p.base) (sym facts.super) facts.steady
 
   pub base_resolved : resolved p.base ≡ p.base
-  base_resolved = alone_resolved p.super p.base base_loadable
+  base_resolved = steady_resolved p.super p.base base_steady
 
   pub base_lawful : IsLawful p.super.md_len p.base
   base_lawful = subst (IsLawful p.super.md_len) base_resolved
@@ -51,9 +51,9 @@ module _ (known : Known) where
 
   -- ---- with the new metadata of one blob
 
-  module _ (head : ℕ) (new : Meta) (one : IsLoadable p.super head new) where
-    pub all_loadable : AreLoadable p.super (with_entry p.base head new)
-    all_loadable = loadable_given p.super p.base head new base_loadable one
+  module _ (head : ℕ) (new : Meta) (one : IsSteady p.super head new) where
+    pub all_steady : AreSteady p.super (with_entry p.base head new)
+    all_steady = steady_given p.super p.base head new base_steady one
 
     module _ (r : Replacing) (head_is : r.head ≡ head) (new_is : r.new ≡ Some new) where
       pub base_is : replaced p.base r ≡ with_entry p.base head new
@@ -65,10 +65,10 @@ module _ (known : Known) where
           → IsStep (ReadsZeros p.super claimed) p.super p.base r p.live command commit
           → IsReady p claimed command commit new r
       ready_by claimed command commit lawful few step = record {
-        loadable = subst (λ h. IsLoadable p.super h new) (sym head_is) one;
+        steady = subst (λ h. IsSteady p.super h new) (sym head_is) one;
         few = subst (λ (m : Metas). slots_together p.super.md_len m ≤ 2 ^ 24) (sym base_is) few;
         lawful = subst (λ (m : Metas). IsLawful p.super.md_len (resolved m)) (sym base_is)
-            (subst (IsLawful p.super.md_len) (sym (alone_resolved p.super (with_entry p.base head new) all_loadable))
+            (subst (IsLawful p.super.md_len) (sym (steady_resolved p.super (with_entry p.base head new) all_steady))
             lawful);
         step = step;
       }

@@ -1,4 +1,4 @@
--- The metadata with one blob's attributes replaced: a load takes it still, it is lawful, and has the same clusters.
+-- The metadata with one blob's attributes replaced: it is steady still, it is lawful, and has the same clusters.
 use Rattle.std.proofs.Common.{◌≡◌, ℕ, length, Option, Some, None, refl, sym, ◌∙◌, ap, subst, inl, inr}
 use Rattle.std.specs.List.{range_with_len, sum_by}
 use Rattle.std.specs.Prelude.{codes}
@@ -19,7 +19,7 @@ use Rattle.blob_meta.specs.Resolving.{slots_together}
 use Rattle.store_model.specs.Maps.{Metas, with_entry}
 use Rattle.store_model.specs.Places.{IsMapped}
 use Rattle.store_model.specs.Asking.{IsSyncing}
-use Rattle.store_model.specs.RunInvariant.{CanBeWritten, IsLoadable, AreLoadable}
+use Rattle.store_model.specs.RunInvariant.{CanBeWritten, IsSteady, AreSteady}
 use Rattle.store_model.proofs.WithEntry.{given_here, given_elsewhere}
 use Rattle.store_model.proofs.LawfulGiven.{TakesNone}
 use Rattle.store_model.proofs.Synced.{edited_here}
@@ -48,10 +48,10 @@ synced_written f v (c.Sync volume) head after writable is asked found step =
     subst (λ (x : Volume). CanBeWritten x.synced) (sym from.2) made
 synced_written f v _ head after writable is asked found step = absurd is
 
-pub new_loadable : (s : Super) (head : ℕ) (old new : Meta) (xattrs : Xattrs) → IsLoadable s head old
-    → new ≡ record old { xattrs = xattrs } → CanBeWritten xattrs → IsLoadable s head new
-new_loadable s head old new xattrs old_one is can =
-    let made : IsLoadable s head (record old { xattrs = xattrs }) =
+pub new_steady : (s : Super) (head : ℕ) (old new : Meta) (xattrs : Xattrs) → IsSteady s head old
+    → new ≡ record old { xattrs = xattrs } → CanBeWritten xattrs → IsSteady s head new
+new_steady s head old new xattrs old_one is can =
+    let made : IsSteady s head (record old { xattrs = xattrs }) =
     record {
       stored = record {
         low = old_one.stored.low;
@@ -61,22 +61,18 @@ new_loadable s head old new xattrs old_one is can =
         internal = old_one.stored.internal;
         faultless = old_one.stored.faultless;
       };
-      alone = record {
-        no_parent = old_one.alone.no_parent;
-        not_made = old_one.alone.not_made;
-        not_removed = old_one.alone.not_removed;
-      };
+      unmarked = old_one.unmarked;
     } in
-    subst (IsLoadable s head) (sym is) made
+    subst (IsSteady s head) (sym is) made
 
 -- ---- the whole map
 
-pub loadable_given : (s : Super) (metas : Metas) (head : ℕ) (new : Meta) → AreLoadable s metas → IsLoadable s head new
-    → AreLoadable s (with_entry metas head new)
-loadable_given s metas head new all one_new h m is = elim (cases_eq h head) [
+pub steady_given : (s : Super) (metas : Metas) (head : ℕ) (new : Meta) → AreSteady s metas → IsSteady s head new
+    → AreSteady s (with_entry metas head new)
+steady_given s metas head new all one_new h m is = elim (cases_eq h head) [
   | inl e ↦
       let one : new ≡ m = let both = sym (given_here metas head new h e) ∙ is in cc both in
-      subst (λ (k : ℕ). IsLoadable s k m) (sym e) (subst (IsLoadable s head) one one_new)
+      subst (λ (k : ℕ). IsSteady s k m) (sym e) (subst (IsSteady s head) one one_new)
   | inr ne ↦ all h m (sym (given_elsewhere metas head new h ne) ∙ is)
 ]
 

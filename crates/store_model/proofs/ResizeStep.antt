@@ -1,15 +1,15 @@
--- What a resize asks for: metadata that a load takes, and what each image shows with it.
-use Rattle.std.proofs.Common.{◌≡◌, ◌≢◌, ℕ, ◌+◌, ◌-◌, ◌<◌, ◌≤◌, ◌^◌, ◌&&◌, Bool, true, false, List, [], ◌∷◌, length}
+-- What a resize asks for: steady metadata, and what each image shows with it.
+use Rattle.std.proofs.Common.{◌≡◌, ◌≢◌, ℕ, suc, ◌+◌, ◌/◌, ◌-◌, ◌<◌, ◌≤◌, ◌^◌, ◌&&◌, Bool, true, false, List, [], ◌∷◌, length}
 use Rattle.std.proofs.Common.{Option, Some, None, refl, sym, ap, ◌∙◌, subst, inl, inr, arith}
 use Rattle.std.specs.List.{position}
 use Rattle.std.specs.Prelude.{is_none, if◌then◌else◌, is_some, IsSome, nat_lt}
 use Rattle.std.specs.List.{AllByRecursion, range_with_len}
 use Rattle.std.specs.Option.{option_map, option_map_or}
-use Rattle.std.proofs.lemmas.Bool.{cases_eq, cases_lt, false≢true, lt-ltb, ltb-false}
+use Rattle.std.proofs.lemmas.Bool.{cases_Bool, cases_eq, cases_lt, false≢true, lt-ltb, ltb-false}
 use Rattle.std.proofs.lemmas.Bool.Decides.{nat_tests}
 use Rattle.std.proofs.Math.Path.{fun_ext}
 use Rattle.page_disk.specs.Disk.{Image}
-use Rattle.volume_model.specs.Volumes.{all_slots, Fixed, head_of, is_super, resized, slots_at, slots_of, Volume}
+use Rattle.volume_model.specs.Volumes.{all_slots, Fixed, head_of, is_super, resized, slots_at, slots_of, Volume, zero_page}
 use Rattle.volume_model.specs.Volumes.{Volumes}
 use Rattle.volume_model.specs.Refusals.{has_longer_parent, is_too_large, refusal}
 use Rattle.volume_model.specs.Steps.{Allowed, change, named_head}
@@ -24,7 +24,7 @@ use Rattle.blob_meta.specs.Faults.{is_thin}
 use Rattle.blob_meta.specs.Jobs.{resized_meta}
 use Rattle.blob_meta.specs.Resolving.{resolved, slots_together, IsLawful}
 use Rattle.store_model.specs.Maps.{Metas, with_entry}
-use Rattle.store_model.specs.Shown.{fixed_of}
+use Rattle.store_model.specs.Shown.{content, fixed_of}
 use Rattle.store_model.specs.Phases.{Committing, replaced, Replacing}
 use Rattle.store_model.specs.StoreState.{live_of, shown, StoreState}
 use Rattle.store_model.specs.Asking.{IsResizeJob}
@@ -32,40 +32,39 @@ use Rattle.store_model.proofs.Sets.{among_first}
 use Rattle.store_model.proofs.EmptySlots.{Any, leaves_elsewhere, leaves_given, leaves_resolved, resized_empty}
 use Rattle.store_model.specs.Copying.{LeavesEmpty}
 use Rattle.store_model.specs.Jobs.{IsStep, ReadsZeros, shown_of, with_clusters}
-use Rattle.store_model.specs.Loadable.{AreLoadable, CanBeWritten, IsLoadable}
+use Rattle.store_model.specs.Steady.{AreSteady, CanBeWritten, IsSteady}
 use Rattle.store_model.specs.RunInvariant.{RunsWell}
 use Rattle.store_model.proofs.Cut.{length_cut, slot_kept, slot_past, slot_was}
 use Rattle.store_model.proofs.ClaimedZeros.{claimed_inside, zeroed_fresh, zeroed_is, zeros_read}
 use Rattle.store_model.proofs.InARow.{among_range, range_among, range_differs}
-use Rattle.store_model.proofs.ZeroSlots.{filled_slot, AreEmpty}
+use Rattle.store_model.proofs.ZeroSlots.{filled_slot, other_slot, AreEmpty, IsZeroedAt}
 use Rattle.store_model.proofs.ZeroedBlob.{
   all_filled,
   lawful_zeroed,
   slot_filled,
   volume_zeroed,
-  zeroed_loadable,
+  zeroed_steady,
   IsZeroed,
 }
 use Rattle.blob_meta.specs.declared.fault.MetaFault.TheVariants.{HoleInThick}
 use Rattle.blob_meta.specs.Faults.{hole_in_thick}
-use Rattle.blob_meta.specs.Parents.{named_in, parent_of, slot}
+use Rattle.blob_meta.specs.Parents.{parent_of, slot}
 use Rattle.md_chain.specs.Chain.{is_among}
-use Rattle.std.specs.Option.{option_and_then}
 use Rattle.store_model.specs.Places.{AreDistinct, AreLeastClear, IsMapped}
 use Rattle.store_model.proofs.Elsewhere.{IsChildless}
 use Rattle.store_model.proofs.Known.{Known}
 use Rattle.store_model.proofs.Meanwhile.{blank_reading, reading}
 use Rattle.store_model.proofs.Moved.{live_shown, live_writable}
-use Rattle.store_model.proofs.OneReplacement.{all_loadable, base_is, base_lawful, base_loadable, base_resolved, IsReady}
+use Rattle.store_model.proofs.OneReplacement.{all_steady, base_is, base_lawful, base_steady, base_resolved, IsReady}
 use Rattle.store_model.proofs.OneReplacement.{lawful_still, ready_by, some_pages}
 use Rattle.store_model.proofs.ResizedBlob.{resized_but, resized_takes_none, thick_full}
 use Rattle.store_model.proofs.Shows.{or_empty}
-use Rattle.store_model.proofs.ShowsGiven.{by, shown_given, shown_is, writable_childless}
-use Rattle.store_model.proofs.ShowsResized.{IsNoLonger, volume_resized}
+use Rattle.store_model.proofs.ShowsGiven.{by, childless_given, shown_given, shown_is, writable_childless}
+use Rattle.store_model.proofs.ShowsResized.{IsNoLonger, page_added, volume_resized}
 use Rattle.store_model.proofs.SlotSums.{all_shown, slots_at_shown, slots_given, slots_in, slots_shown}
 use Rattle.store_model.proofs.Synced.{edited_here, edited_there}
 use Rattle.store_model.proofs.Writable.{AllWritable, none_holds}
-use Rattle.store_model.proofs.WithEntry.{given_here}
+use Rattle.store_model.proofs.WithEntry.{given_here, given_elsewhere}
 
 -- the slots that get clusters of zeros: those that are added to a blob that isn't thin
 abbrev pub added_zeros : Bool → ℕ → ℕ → List ℕ
@@ -143,11 +142,11 @@ module _ (known : Known) where
     -- ---- the volume, and what doesn't hold of it
 
     abbrev x : Volume
-    x = by p (base_loadable known) p.base (or_empty (p.live head)) head old
+    x = by p (base_steady known) p.base (or_empty (p.live head)) head old
 
     was : shown p head ≡ Some x
-    was = shown_is p (base_loadable known) head
-        ∙ ap (λ o. option_map (by p (base_loadable known) p.base (or_empty (p.live head)) head) o)
+    was = shown_is p (base_steady known) head
+        ∙ ap (λ o. option_map (by p (base_steady known) p.base (or_empty (p.live head)) head) o)
         there
 
     can : CanResize f (shown p) slots x
@@ -196,10 +195,10 @@ module _ (known : Known) where
     zeroed = zeroed_is known runs claimed least head bare zeros
         (zeros_differ (is_thin old.flags) (length old.map) slots) all_empty had
 
-    one_loadable : IsLoadable p.super head new
-    one_loadable = zeroed_loadable p.super head bare new claimed zeroed
+    one_steady : IsSteady p.super head new
+    one_steady = zeroed_steady p.super head bare new claimed zeroed
         (resized_but old slots p.super head (let large = can.large in grind (arith, nat_tests, large))
-        (base_loadable known head old there)) (claimed_inside known runs claimed least)
+        (base_steady known head old there)) (claimed_inside known runs claimed least)
         (no_hole (is_thin old.flags) refl)
       where
         kept : (o : Option ℕ) → is_thin old.flags ≡ false → (i : ℕ) → i < length new.map → slot new i ≡ o → IsSome o
@@ -207,7 +206,7 @@ module _ (known : Known) where
         kept None thick i lt at = absurd (elim (cases_lt i (length old.map)) [
           | inl below ↦
               let was : IsSome (slot old i) =
-              slot_filled old.map (thick_full old p.super head (base_loadable known head old there) thick) i below in
+              slot_filled old.map (thick_full old p.super head (base_steady known head old there) thick) i below in
               let in_bare : slot bare i ≡ slot old i =
               slot_kept old.map slots i (omega (arith, lt, zeroed.long, length_cut {X = Option ℕ} old.map slots None))
               in
@@ -235,8 +234,8 @@ module _ (known : Known) where
             (sym is)
             (ap (λ o. option_map HoleInThick o) (all_filled new.map (λ i lt. kept (slot new i) is i lt refl)))
 
-    loadable : AreLoadable p.super all
-    loadable = all_loadable known head new one_loadable
+    steady : AreSteady p.super all
+    steady = all_steady known head new one_steady
 
     few_with : (m : Meta) → length m.map ≡ slots → slots_together p.super.md_len (with_entry p.base head m) ≤ 2 ^ 24
     few_with m long =
@@ -245,7 +244,7 @@ module _ (known : Known) where
         let counted : slots_together p.super.md_len (with_entry p.base head m) + length old.map
         ≡ slots_together p.super.md_len p.base + length m.map =
         ap (λ o. slots_together p.super.md_len (with_entry p.base head m) + slots_in o) (sym there)
-        ∙ slots_given p.super.md_len p.base head m (base_loadable known head old there).stored.low in
+        ∙ slots_given p.super.md_len p.base head m (base_steady known head old there).stored.low in
         omega (arith, together, counted, all_are, slots_are, long)
 
     bare_few : slots_together p.super.md_len (with_entry p.base head bare) ≤ 2 ^ 24
@@ -260,11 +259,8 @@ module _ (known : Known) where
         (zeros_differ (is_thin old.flags) (length old.map) slots) all_empty had)
         (lawful_still known head bare (resized_takes_none p.base head old slots there) bare_few) all_few
 
-    no_parent : parent_of bare ≡ None
-    no_parent = ap (λ o. option_and_then named_in o) (base_loadable known head old there).alone.no_parent
-
     base_now : replaced p.base r ≡ all
-    base_now = base_is known head new one_loadable r head_is new_is
+    base_now = base_is known head new one_steady r head_is new_is
 
     renews_there : (b : Bool) → AllByRecursion (λ h. IsSome (replaced p.base r h)) (if b then head ∷ [] else [])
     renews_there false = tt
@@ -293,11 +289,11 @@ module _ (known : Known) where
       others h ne = edited_there f (shown now) (head_of f (shown now) volume) edit head found_now h ne
 
       abbrev y : Volume
-      y = by now (base_loadable known) p.base (or_empty (p.live head)) head old
+      y = by now (base_steady known) p.base (or_empty (p.live head)) head old
 
       was_now : shown now head ≡ Some y
-      was_now = shown_is now (base_loadable known) head
-          ∙ ap (λ o. option_map (by now (base_loadable known) p.base (or_empty (p.live head)) head) o) there
+      was_now = shown_is now (base_steady known) head
+          ∙ ap (λ o. option_map (by now (base_steady known) p.base (or_empty (p.live head)) head) o) there
 
       is_now : w head ≡ Some (edit y)
       is_now = here ∙ ap (option_map edit) was_now
@@ -312,15 +308,33 @@ module _ (known : Known) where
             ∙ live_shown now well.live well.no_live h
       ]
 
+      -- a slot that gets a cluster of zeros is one of those that are added, and showed zeros
+      were_zeros : (q : ℕ) → IsZeroedAt bare new claimed (q / f.cluster_pages)
+          → content f.cluster_pages image (with_entry p.base head bare) (suc f.md_len) head q ≡ zero_page
+      were_zeros q x = elim (cases_Bool (is_among (q / f.cluster_pages) zeros)) [
+        | inl among ↦
+            let at = zeros_lie (is_thin old.flags) (length old.map) slots (q / f.cluster_pages) among in
+            let behind = at.0 in
+            let below = at.1 in
+            page_added f.cluster_pages (some_pages known) p.base head old there childless image f.md_len slots
+            (no_longer (omega (arith, behind, below))) q behind below
+        | inr out ↦
+            absurd (let bad = sym x.empty ∙ sym (other_slot bare zeros claimed (q / f.cluster_pages) out) ∙ x.at in
+            cc bad)
+      ]
+
       shows_new : ReadsZeros p.super claimed image → shown_of p.super (replaced p.base r) (live_of w) image ≡ w
       shows_new holds =
           ap (λ (m : Metas). shown_of p.super m (live_of w) image) base_now
-          ∙ shown_given now (base_loadable known) head new childless loadable w others
-          (ap (λ o. Some (by now (base_loadable known) all (or_empty o) head new)) (live_same head)
+          ∙ shown_given now (base_steady known) head new childless steady w others
+          (ap (λ o. Some (by now (base_steady known) all (or_empty o) head new)) (live_same head)
           ∙ ap (λ (v : Volume). Some v)
-          (volume_zeroed f.cluster_pages image f.md_len bare new claimed zeroed no_parent
+          (volume_zeroed f.cluster_pages image f.md_len bare new claimed zeroed
           (zeros_read known claimed image holds) (with_entry p.base head bare) all head
-          (given_here p.base head bare head refl) (given_here p.base head new head refl) (or_empty (p.live head))
+          (given_here p.base head bare head refl) (given_here p.base head new head refl)
+          (λ h ne. given_elsewhere p.base head new h ne ∙ sym (given_elsewhere p.base head bare h ne))
+          (childless_given p.base head bare childless (λ q of. childless head q old there of)) were_zeros
+          (or_empty (p.live head))
           ∙ volume_resized f.cluster_pages (some_pages known) p.base head old there childless image
           f.md_len slots f refl no_longer (or_empty (p.live head)))
           ∙ sym is_now)
@@ -364,13 +378,13 @@ module _ (known : Known) where
       renews = renews_there (nat_lt slots (length old.map));
       numbers = λ makes. absurd (false≢true (sym not_made ∙ makes));
       leaves = λ h out.
-          leaves_resolved p.super p.base (replaced p.base r) Any h (base_loadable known)
-          (subst (AreLoadable p.super) (sym base_now) loadable)
+          leaves_resolved p.super p.base (replaced p.base r) Any h (base_steady known)
+          (subst (AreSteady p.super) (sym base_now) steady)
           (subst (λ (m : Metas). LeavesEmpty p.super p.base m Any h) (sym base_now) (left_empty h out));
     }
 
     pub ready : IsReady p claimed (c.Resize volume slots) commit new r
-    ready = ready_by known head new one_loadable r head_is new_is claimed (c.Resize volume slots) commit all_lawful
+    ready = ready_by known head new one_steady r head_is new_is claimed (c.Resize volume slots) commit all_lawful
         all_few
         step
 

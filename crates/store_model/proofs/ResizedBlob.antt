@@ -1,4 +1,4 @@
--- The metadata of a blob with another number of slots: a load takes it, and with it all metadata is lawful.
+-- The metadata of a blob with another number of slots: it is steady, and with it all metadata is lawful.
 use Rattle.std.proofs.Common.{◌≡◌, ℕ, ◌≤◌, ◌^◌, true, List, [], ◌∷◌, Option, Some, None, refl, sym, ◌∙◌}
 use Rattle.std.proofs.Common.{subst, false, arith}
 use Rattle.std.specs.Prelude.{if◌then◌else◌, is_none}
@@ -15,10 +15,10 @@ use Rattle.blob_meta.specs.Jobs.{resized_meta}
 use Rattle.blob_meta.specs.Parents.{is_read_only}
 use Rattle.store_model.specs.Maps.{Metas}
 use Rattle.store_model.specs.Regions.{region_of}
-use Rattle.store_model.specs.Loadable.{IsLoadable}
+use Rattle.store_model.specs.Steady.{IsSteady}
 use Rattle.store_model.proofs.Cut.{length_cut, slot_was}
 use Rattle.store_model.proofs.Inside.{inside_slot, none_of_map, none_second}
-use Rattle.store_model.proofs.ZeroedBlob.{IsLoadableBut}
+use Rattle.store_model.proofs.ZeroedBlob.{IsSteadyBut}
 use Rattle.std.proofs.lemmas.Bool.Decides.{nat_tests}
 use Rattle.store_model.proofs.LawfulGiven.{TakesNone}
 
@@ -47,16 +47,16 @@ passes fixed clusters m none =
     none_first (Some x) os none = absurd (cc none)
 
 -- a blob that isn't thin has no empty slot
-pub thick_full : (m : Meta) (s : Super) (head : ℕ) → IsLoadable s head m → is_thin m.flags ≡ false
+pub thick_full : (m : Meta) (s : Super) (head : ℕ) → IsSteady s head m → is_thin m.flags ≡ false
     → position is_none m.map ≡ None
 thick_full m s head one thick =
     let full = (passes (region_of s).fixed (region_of s).clusters m one.stored.faultless).full in
     none_of_map faults.HoleInThick (position is_none m.map) (subst (λ b.
     (if b then None else option_map faults.HoleInThick (position is_none m.map)) ≡ None) thick full)
 
--- so many slots: all that a load asks, but that none of a thick blob is empty
-pub resized_but : (m : Meta) (slots : ℕ) (s : Super) (head : ℕ) → slots ≤ 2 ^ 20 → IsLoadable s head m
-    → IsLoadableBut s head (resized_meta m slots)
+-- so many slots: all that is asked of it, but that none of a thick blob is empty
+pub resized_but : (m : Meta) (slots : ℕ) (s : Super) (head : ℕ) → slots ≤ 2 ^ 20 → IsSteady s head m
+    → IsSteadyBut s head (resized_meta m slots)
 resized_but m slots s head few old =
     let was = passes (region_of s).fixed (region_of s).clusters m old.stored.faultless in
     record {
@@ -74,11 +74,7 @@ resized_but m slots s head few old =
           let below = x.below in
           grind (arith, nat_tests, behind, below);
       marks = was.marks;
-      alone = record {
-        no_parent = old.alone.no_parent;
-        not_made = old.alone.not_made;
-        not_removed = old.alone.not_removed;
-      };
+      unmarked = old.unmarked;
     }
 
 -- it takes no cluster and no parent

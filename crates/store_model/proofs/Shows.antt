@@ -21,26 +21,23 @@ use Rattle.store_model.specs.Device.{Device}
 use Rattle.store_model.specs.StoreState.{StoreState, shown}
 use Rattle.store_model.specs.Cases.{read_after}
 use Rattle.store_model.specs.Agreeing.{AgreeOn}
-use Rattle.store_model.specs.Loadable.{AreLoadable, StandsAlone}
+use Rattle.store_model.specs.Steady.{AreSteady}
 use Rattle.store_model.proofs.Contents.{HasParents, same_content}
 use Rattle.store_model.proofs.Inside.{inside_slot}
 
 abbrev pub or_empty : Option Xattrs → Xattrs
 or_empty o = option_map_or (λ xs. xs) o []
 
--- ---- metadata without marks is resolved
-
-no_mark : (m : Meta) → StandsAlone m → mark_of m ≡ None
-no_mark m alone = rw alone.not_removed alone.not_made
+-- ---- metadata without marks is resolved as it is
 
 unmarked : (metas : Metas) (head : ℕ) (o : Option Meta) → metas head ≡ o → ((m : Meta) → o ≡ Some m → mark_of m ≡ None)
     → resolved metas head ≡ o
 unmarked metas head None is none = rw is refl
 unmarked metas head (Some m) is none = rw (is, none m refl) refl
 
-pub alone_resolved : (s : Super) (metas : Metas) → AreLoadable s metas → resolved metas ≡ metas
-alone_resolved s metas loadable =
-    fun_ext (λ head. unmarked metas head (metas head) refl (λ m is. no_mark m (loadable head m is).alone))
+pub steady_resolved : (s : Super) (metas : Metas) → AreSteady s metas → resolved metas ≡ metas
+steady_resolved s metas steady =
+    fun_ext (λ head. unmarked metas head (metas head) refl (λ m is. (steady head m is).unmarked))
 
 -- ---- two images that agree at each page of a cluster that some slot has
 
@@ -75,9 +72,9 @@ abbrev pub AreFaultless : Super → Metas → Type 0
 AreFaultless s metas =
     (head : ℕ) (m : Meta) → metas head ≡ Some m → meta_fault (region_of s).fixed (region_of s).clusters m ≡ None
 
-pub resolved_faultless : (s : Super) (metas : Metas) → AreLoadable s metas → AreFaultless s (resolved metas)
-resolved_faultless s metas loadable head m is =
-    (loadable head m (subst (λ (x : Metas). x head ≡ Some m) (alone_resolved s metas loadable) is)).stored.faultless
+pub resolved_faultless : (s : Super) (metas : Metas) → AreSteady s metas → AreFaultless s (resolved metas)
+resolved_faultless s metas steady head m is =
+    (steady head m (subst (λ (x : Metas). x head ≡ Some m) (steady_resolved s metas steady) is)).stored.faultless
 
 module _ (s : Super) (metas : Metas) (parents : HasParents metas) (faultless : AreFaultless s metas)
     (image other : Image)
@@ -107,9 +104,9 @@ behind_region true s image place page placed low q behind =
 behind_region false s image place page placed low q behind = refl
 
 pub shown_written : (told : Bool) (s : Super) (p : StoreState) (d : Device) (place : ℕ) (page : List ℕ) → p.super ≡ s
-    → AreLoadable s p.base → IsLawful s.md_len (resolved p.base) → IsPlaced s → place < s.md_len
+    → AreSteady s p.base → IsLawful s.md_len (resolved p.base) → IsPlaced s → place < s.md_len
     → d.reads ≡ read_after told p.device.reads (s.md_start + place) page → shown (record p { device = d }) ≡ shown p
-shown_written told s p d place page super loadable lawful placed low reads =
-    rw super (shown_same s (resolved p.base) lawful.parents (resolved_faultless s p.base loadable)
+shown_written told s p d place page super steady lawful placed low reads =
+    rw super (shown_same s (resolved p.base) lawful.parents (resolved_faultless s p.base steady)
     p.device.reads d.reads
     (λ q behind. rw reads (behind_region told s p.device.reads place page placed low q behind)) p.live)

@@ -39,14 +39,14 @@ use Rattle.store_model.specs.Maps.{Metas, with_entry}
 use Rattle.store_model.specs.Shown.{content, fixed_of, volume_of}
 use Rattle.store_model.specs.StoreState.{live_of, shown, StoreState}
 use Rattle.store_model.specs.Jobs.{shown_of}
-use Rattle.store_model.specs.Loadable.{AreLoadable}
+use Rattle.store_model.specs.Steady.{AreSteady}
 use Rattle.store_model.proofs.NewBlob.{empty_slot}
 use Rattle.store_model.proofs.Ranges.{all_one}
 use Rattle.store_model.proofs.Shows.{or_empty}
-use Rattle.store_model.proofs.ShowsGiven.{by, none_childless, shown_given}
+use Rattle.store_model.proofs.ShowsGiven.{by, childless_given, none_childless, shown_given}
 use Rattle.md_chain.specs.Chain.{is_among}
 use Rattle.store_model.proofs.ZeroedBlob.{volume_zeroed, IsZeroed}
-use Rattle.store_model.proofs.WithEntry.{given_here}
+use Rattle.store_model.proofs.WithEntry.{given_here, given_elsewhere}
 
 -- ---- its volume
 
@@ -101,10 +101,10 @@ module _ (f : Fixed) (v : Volumes) (image : Image) (others : Metas) (head : ℕ)
 
 -- ---- all volumes
 
-module _ (p : StoreState) (loadable : AreLoadable p.super p.base) (lawful : IsLawful p.super.md_len p.base) (head : ℕ)
+module _ (p : StoreState) (steady : AreSteady p.super p.base) (lawful : IsLawful p.super.md_len p.base) (head : ℕ)
     (none : p.base head ≡ None) (name : Text) (slots : ℕ) (thick : Bool) (uuid : Option (List ℕ)) (xattrs : Xattrs)
     (are : two_xattrs (fixed_of p.super) (shown p) name uuid ≡ xattrs) (later : Meta)
-    (new_loadable : AreLoadable p.super (with_entry p.base head later)) where
+    (new_steady : AreSteady p.super (with_entry p.base head later)) where
   abbrev f : Fixed
   f = fixed_of p.super
 
@@ -134,13 +134,16 @@ module _ (p : StoreState) (loadable : AreLoadable p.super p.base) (lawful : IsLa
       → ((page cluster : ℕ) → is_among cluster claimed ≡ true
       → p.device.reads (cluster * f.cluster_pages + page % f.cluster_pages) ≡ zero_page)
       → shown_of p.super all (live_of w) p.device.reads ≡ w
-  shown_made claimed zeroed zeros = shown_given p loadable head later
-      (none_childless p.base head lawful.parents none) new_loadable w
+  shown_made claimed zeroed zeros = shown_given p steady head later
+      (none_childless p.base head lawful.parents none) new_steady w
       w_elsewhere
-      (ap (λ o. Some (by p loadable all (or_empty o) head later)) live_here
+      (ap (λ o. Some (by p steady all (or_empty o) head later)) live_here
       ∙ ap (λ (x : Volume). Some x) (volume_zeroed f.cluster_pages p.device.reads f.md_len made later claimed zeroed
-      refl
-      zeros bare all head (given_here p.base head made head refl) (given_here p.base head later head refl) xattrs
+      zeros bare all head (given_here p.base head made head refl) (given_here p.base head later head refl)
+      (λ h ne. given_elsewhere p.base head later h ne ∙ sym (given_elsewhere p.base head made h ne))
+      (childless_given p.base head made (none_childless p.base head lawful.parents none) (λ q of. absurd (cc of)))
+      (λ q _. page_zero f (shown p) p.device.reads bare head name slots thick uuid xattrs are
+      (given_here p.base head made head refl) f.md_len q) xattrs
       ∙ volume_new f (shown p) p.device.reads bare head name slots thick uuid xattrs are
       (given_here p.base head made head refl))
       ∙ sym w_here)

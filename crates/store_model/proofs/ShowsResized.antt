@@ -93,6 +93,11 @@ module _ (k : ℕ) (some : 0 < k) (metas : Metas) (head : ℕ) (old : Meta) (the
       by_parent None of = refl
       by_parent (Some p) of = by_blob p of (metas p) refl
 
+  -- so a page of a slot that is added shows zeros
+  pub page_added : IsNoLonger metas old len → (q : ℕ) → len ≤ q / k → q / k < slots → now q ≡ zero_page
+  page_added short q behind lt =
+      page_kept q lt ∙ page_behind short q (subst (λ m. m ≤ q) (mul_comm len k) ((le-div_iff_mul-le some).0 behind))
+
   -- ---- all its pages
 
   pages_now : map now (range_with_len 0 (k * length next.map)) ≡ map was (range_with_len 0 (k * slots))

@@ -12,7 +12,7 @@ use Rattle.store_model.proofs.Moved.{all_writable, live_writable}
 use Rattle.store_model.specs.Phases.{Replacing, replaced}
 use Rattle.store_model.specs.Phases.{Committing}
 use Rattle.volume_model.specs.declared.reply.Reply.TheVariants as r_
-use Rattle.store_model.specs.Loadable.{AreLoadable, IsLoadable, CanBeWritten}
+use Rattle.store_model.specs.Steady.{AreSteady, IsSteady, CanBeWritten}
 use Rattle.page_disk.specs.Disk.{Image}
 use Rattle.blob_meta.specs.Resolving.{slots_together}
 use Rattle.blob_meta.specs.declared.meta.Meta.{Meta}
@@ -21,15 +21,15 @@ use Rattle.store_model.proofs.StateKept.{May, asks_may}
 use Rattle.store_model.specs.Maps.{Metas, with_entry}
 use Rattle.volume_model.specs.Volumes.{Volumes, Volume}
 use Rattle.store_model.proofs.Meanwhile.{asks_reading, reading}
-use Rattle.store_model.proofs.Replaced.{new_loadable, slots_same, synced_written, takes_none}
+use Rattle.store_model.proofs.Replaced.{new_steady, slots_same, synced_written, takes_none}
 use Rattle.volume_model.specs.Steps.{change}
 use Rattle.store_model.specs.Shown.{fixed_of}
 use Rattle.store_model.proofs.OneReplacement.{
   lawful_still,
-  all_loadable,
+  all_steady,
   base_is,
   base_lawful,
-  base_loadable,
+  base_steady,
   IsReady,
   ready_by,
 }
@@ -60,14 +60,14 @@ module _ (known : Known) where
     abbrev commit : Committing
     commit = sync_commit new
 
-    one_loadable : IsLoadable p.super head new
-    one_loadable = new_loadable p.super head asks.old new asks.after.synced
-        (base_loadable known head asks.old asks.there)
+    one_steady : IsSteady p.super head new
+    one_steady = new_steady p.super head asks.old new asks.after.synced
+        (base_steady known head asks.old asks.there)
         asks.new_is (synced_written (fixed_of p.super) (shown p) command head asks.after
         (all_writable first p well) asks.syncing asks.asked asks.found asks.step)
 
     base_now : replaced p.base r ≡ with_entry p.base head new
-    base_now = base_is known head new one_loadable r head_is new_is
+    base_now = base_is known head new one_steady r head_is new_is
 
     few : slots_together p.super.md_len (with_entry p.base head new) ≤ 2 ^ 24
     few = subst (λ n. n ≤ 2 ^ 24)
@@ -92,8 +92,8 @@ module _ (known : Known) where
       shows_new : shown_of p.super (replaced p.base r) (live_of w) image ≡ w
       shows_new =
           ap (λ (m : Metas). shown_of p.super m (live_of w) image) base_now
-          ∙ shown_synced p.super here refl (base_loadable known) command head new asks_here
-          (all_loadable known head new one_loadable)
+          ∙ shown_synced p.super here refl (base_steady known) command head new asks_here
+          (all_steady known head new one_steady)
 
       writable_new : AllWritable w
       writable_new h v is = elim (cases_eq h head) [
@@ -124,14 +124,14 @@ module _ (known : Known) where
       renews = tt;
       numbers = λ makes. absurd (false≢true (sym there ∙ makes));
       leaves = λ h _.
-          leaves_resolved p.super p.base (replaced p.base r) Any h (base_loadable known)
-          (subst (AreLoadable p.super) (sym base_now) (all_loadable known head new one_loadable))
+          leaves_resolved p.super p.base (replaced p.base r) Any h (base_steady known)
+          (subst (AreSteady p.super) (sym base_now) (all_steady known head new one_steady))
           (subst (λ (m : Metas). LeavesEmpty p.super p.base m Any h) (sym base_now)
           (leaves_alike p.super p.base (with_entry p.base head new)
           (alike_synced p.base head asks.old new asks.after.synced asks.there asks.new_is) h));
     }
 
     pub sync_ready : IsReady p [] command commit new r
-    sync_ready = ready_by known head new one_loadable r head_is new_is [] command commit
+    sync_ready = ready_by known head new one_steady r head_is new_is [] command commit
         (lawful_still known head new (takes_none p.base head asks.old new asks.after.synced asks.there asks.new_is) few)
         few step

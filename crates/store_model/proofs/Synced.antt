@@ -22,10 +22,10 @@ use Rattle.store_model.specs.StoreState.{StoreState, shown}
 use Rattle.store_model.specs.Jobs.{shown_of}
 use Rattle.store_model.specs.Asking.{AsksFor, IsSyncing}
 use Rattle.store_model.specs.Cases.{live_of}
-use Rattle.store_model.specs.Loadable.{AreLoadable}
+use Rattle.store_model.specs.Steady.{AreSteady}
 use Rattle.store_model.proofs.WithEntry.{given_here, given_elsewhere}
 use Rattle.store_model.proofs.SameMaps.{IsPlacedAlike, content_alike}
-use Rattle.store_model.proofs.Shows.{or_empty, alone_resolved}
+use Rattle.store_model.proofs.Shows.{or_empty, steady_resolved}
 
 module _ (f : Fixed) (v : Volumes) (o : Option ℕ) (edit : Volume → Volume) (head : ℕ) (is : o ≡ Some head) where
   pub edited_here : edited_at f v o edit head ≡ option_map edit (v head)
@@ -103,9 +103,9 @@ alike_synced metas head old new xattrs there is h = elim (cases_eq h head) [
     itself None = tt
     itself (Some m) = (refl, refl)
 
-module _ (s : Super) (p : StoreState) (super : p.super ≡ s) (loadable : AreLoadable s p.base) (command : Command)
+module _ (s : Super) (p : StoreState) (super : p.super ≡ s) (steady : AreSteady s p.base) (command : Command)
     (head : ℕ) (new : Meta) (asks : AsksFor p command head new)
-    (new_loadable : AreLoadable s (with_entry p.base head new)) where
+    (new_steady : AreSteady s (with_entry p.base head new)) where
   abbrev k : ℕ
   k = cluster_pages_of s
 
@@ -125,7 +125,7 @@ module _ (s : Super) (p : StoreState) (super : p.super ≡ s) (loadable : AreLoa
   shown_is : (h : ℕ) → shown p h ≡ option_map (by p.base (or_empty (p.live h)) h) (p.base h)
   shown_is h =
       ap (λ (x : Super). shown_by (fixed_of x) p.device.reads (resolved p.base) p.live h) super
-      ∙ ap (λ (m : Metas). shown_by (fixed_of s) p.device.reads m p.live h) (alone_resolved s p.base loadable)
+      ∙ ap (λ (m : Metas). shown_by (fixed_of s) p.device.reads m p.live h) (steady_resolved s p.base steady)
 
   here : Some (by (with_entry p.base head new) asks.after.live head new) ≡ w head
   here =
@@ -161,7 +161,7 @@ module _ (s : Super) (p : StoreState) (super : p.super ≡ s) (loadable : AreLoa
   -- once the head is written, what is shown is the step's
   pub shown_synced : shown_of s (with_entry p.base head new) (live_of w) p.device.reads ≡ w
   shown_synced = fun_ext (λ h. ap (λ (m : Metas). shown_by (fixed_of s) p.device.reads m (live_of w) h)
-      (alone_resolved s (with_entry p.base head new) new_loadable) ∙ at h)
+      (steady_resolved s (with_entry p.base head new) new_steady) ∙ at h)
     where
       at : (h : ℕ)
           → option_map (by (with_entry p.base head new) (or_empty (live_of w h)) h) (with_entry p.base head new h)

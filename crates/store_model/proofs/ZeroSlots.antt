@@ -13,7 +13,7 @@ use Rattle.store_model.specs.Jobs.{with_clusters}
 use Rattle.store_model.specs.Places.{AreDistinct}
 use Rattle.store_model.proofs.Inserted.{get_set_here}
 use Rattle.store_model.proofs.Ranges.{get_set_other}
-use Rattle.store_model.proofs.Sets.{among_either, among_first, among_later}
+use Rattle.store_model.proofs.Sets.{among_either, among_first, among_later, not_first}
 
 -- ---- one slot
 
@@ -122,6 +122,15 @@ one_slot m (p ∷ ps) (x ∷ cs) distinct empty once none i j c among a b = elim
           let e : y.cluster ≡ x = let both = sym y.at ∙ at in cc both in
           absurd (both_ways (is_among x cs) once.0 (subst (λ n. is_among n cs ≡ true) e y.among))
     ]
+
+-- a slot that gets none is as it was
+pub other_slot : (m : Meta) (slots claimed : List ℕ) (i : ℕ) → is_among i slots ≡ false
+    → slot (with_clusters m slots claimed) i ≡ slot m i
+other_slot m [] claimed i out = refl
+other_slot m (p ∷ ps) [] i out = refl
+other_slot m (p ∷ ps) (c ∷ cs) i out =
+    let apart = not_first i p ps out in
+    other_slot (with_slot m p c) ps cs i apart.1 ∙ set_other m p c i apart.0
 
 -- a slot that gets one is filled
 pub filled_slot : (m : Meta) (slots claimed : List ℕ) → AreDistinct slots → AreEmpty m slots

@@ -1,7 +1,8 @@
--- A blob with claimed clusters in slots that were empty: a load takes it, all metadata is lawful with it, and it shows
--- what it showed where the clusters read as zeros.
+-- A blob with claimed clusters in slots that were empty: it is steady, all metadata is lawful with it, and it shows what
+-- it showed where the clusters read as zeros and so did the slots.
 use Rattle.std.proofs.Common.{
   ◌≡◌,
+  ◌≢◌,
   ◌⊎◌,
   ℕ,
   zero,
@@ -36,7 +37,7 @@ use Rattle.blob_meta.specs.Faults.{bad_mark, clusters_of, hole_in_thick, is_outs
 use Rattle.blob_meta.specs.Says.{without_bit_1}
 use Rattle.md_chain.specs.Chain.{blob_id}
 use Rattle.store_model.specs.Regions.{region_of}
-use Rattle.store_model.specs.Loadable.{CanBeWritten, IsLoadable, StandsAlone}
+use Rattle.store_model.specs.Steady.{CanBeWritten, IsSteady, IsUnmarked}
 use Rattle.store_model.proofs.NewBlob.{all_pass, clear_flags, empty_slot, few_pass, known_flags}
 use Rattle.blob_meta.specs.Jobs.{new_meta}
 use Rattle.std.proofs.lemmas.List.{length-replicate}
@@ -47,6 +48,7 @@ use Rattle.store_model.specs.Maps.{Metas, with_entry}
 use Rattle.store_model.specs.Places.{IsMapped}
 use Rattle.store_model.specs.Shown.{content, content_by, volume_of}
 use Rattle.store_model.proofs.Cut.{all_full, slot_in}
+use Rattle.store_model.proofs.Elsewhere.{IsChildless, same_elsewhere, through}
 use Rattle.store_model.proofs.WithEntry.{given_here, given_elsewhere}
 use Rattle.store_model.proofs.ZeroSlots.{IsZeroedAt}
 
@@ -61,46 +63,49 @@ pub record IsZeroed (m later : Meta) (claimed : List ℕ) : Type 0 where
 -- ---- what it shows
 
 module _ (k : ℕ) (image : Image) (md_len : ℕ) (m later : Meta) (claimed : List ℕ) (is : IsZeroed m later claimed)
-    (alone : parent_of m ≡ None)
     (zeros : (page cluster : ℕ) → is_among cluster claimed ≡ true → image (cluster * k + page % k) ≡ zero_page)
-    (metas others : Metas) (head : ℕ) (there : metas head ≡ Some m) (now : others head ≡ Some later) where
-  -- a page of a blob without a parent
-  by_slot : (all : Metas) (n : Meta) → parent_of n ≡ None → (q : ℕ) (o : Option ℕ) → slot n (q / k) ≡ o
-      → content_by k image all (λ p r. content k image all md_len p r) q n
-      ≡ option_map_or (λ cluster. image (cluster * k + q % k)) o zero_page
-  by_slot all n no_parent q None e = rw (e, no_parent) refl
-  by_slot all n no_parent q (Some cluster) e = rw e refl
+    (metas others : Metas) (head : ℕ) (there : metas head ≡ Some m) (now : others head ≡ Some later)
+    (elsewhere : (h : ℕ) → h ≢ head → others h ≡ metas h) (childless : IsChildless metas head)
+    (were_zeros : (q : ℕ) → IsZeroedAt m later claimed (q / k) → content k image metas (suc md_len) head q ≡ zero_page)
+  where
+    parent_same : parent_of later ≡ parent_of m
+    parent_same = ap (λ (n : Meta). parent_of n) is.rest
 
-  later_alone : parent_of later ≡ None
-  later_alone = ap (λ (n : Meta). parent_of n) is.rest ∙ alone
+    -- a page of a slot that stays
+    by_slot : (q : ℕ) (o : Option ℕ) → slot m (q / k) ≡ o → slot later (q / k) ≡ o
+        → content_by k image others (λ p r. content k image others md_len p r) q later
+        ≡ content_by k image metas (λ p r. content k image metas md_len p r) q m
+    by_slot q None e f = rw (e, f, parent_same)
+        (through k metas others head elsewhere childless image image (λ _ _ _ _ _ _ _. refl) md_len head q m
+        (same_elsewhere k metas others head elsewhere childless image image (λ _ _ _ _ _ _ _. refl) md_len q) there
+        (parent_of m) refl)
+    by_slot q (Some cluster) e f = rw (e, f) refl
 
-  shows_at : (all : Metas) (n : Meta) → all head ≡ Some n → parent_of n ≡ None → (q : ℕ)
-      → content k image all (suc md_len) head q
-      ≡ option_map_or (λ cluster. image (cluster * k + q % k)) (slot n (q / k)) zero_page
-  shows_at all n at no_parent q =
-      ap (λ o. option_map_or (content_by k image all (λ p r. content k image all md_len p r) q) o zero_page) at
-      ∙ by_slot all n no_parent q (slot n (q / k)) refl
+    -- a page of a slot that gets a cluster
+    by_cluster : (q cluster : ℕ) → slot later (q / k) ≡ Some cluster
+        → content_by k image others (λ p r. content k image others md_len p r) q later ≡ image (cluster * k + q % k)
+    by_cluster q cluster at = rw at refl
 
-  same_page : (q : ℕ) → content k image others (suc md_len) head q ≡ content k image metas (suc md_len) head q
-  same_page q =
-      shows_at others later now later_alone q
-      ∙ elim (is.each (q / k)) [
-        | inl same ↦ ap (λ o. option_map_or (λ cluster. image (cluster * k + q % k)) o zero_page) same
-        | inr x ↦ ap (λ o. option_map_or (λ cluster. image (cluster * k + q % k)) o zero_page) x.at
-            ∙ zeros q x.cluster x.among
-            ∙ sym (ap (λ o. option_map_or (λ cluster. image (cluster * k + q % k)) o zero_page) x.empty)
-      ]
-      ∙ sym (shows_at metas m there alone q)
+    same_page : (q : ℕ) → content k image others (suc md_len) head q ≡ content k image metas (suc md_len) head q
+    same_page q =
+        ap (λ o. option_map_or (content_by k image others (λ p r. content k image others md_len p r) q) o zero_page) now
+        ∙ elim (is.each (q / k)) [
+          | inl same ↦ by_slot q (slot m (q / k)) refl same
+              ∙ sym (ap
+              (λ o. option_map_or (content_by k image metas (λ p r. content k image metas md_len p r) q) o zero_page)
+              there)
+          | inr x ↦ by_cluster q x.cluster x.at ∙ zeros q x.cluster x.among ∙ sym (were_zeros q x)
+        ]
 
-  pub volume_zeroed : (live : Xattrs)
-      → volume_of k image others md_len live head later ≡ volume_of k image metas md_len live head m
-  volume_zeroed live =
-      ap (λ (n : Meta). record (volume_of k image others md_len live head n) {
-        pages = map (content k image others (suc md_len) head) (range_with_len 0 (k * length later.map));
-      }) is.rest
-      ∙ ap (λ (pages : List Page). record (volume_of k image metas md_len live head m) { pages = pages })
-      (ap (λ n. map (content k image others (suc md_len) head) (range_with_len 0 (k * n))) is.long
-      ∙ ap (λ (g : ℕ → Page). map g (range_with_len 0 (k * length m.map))) (fun_ext same_page))
+    pub volume_zeroed : (live : Xattrs)
+        → volume_of k image others md_len live head later ≡ volume_of k image metas md_len live head m
+    volume_zeroed live =
+        ap (λ (n : Meta). record (volume_of k image others md_len live head n) {
+          pages = map (content k image others (suc md_len) head) (range_with_len 0 (k * length later.map));
+        }) is.rest
+        ∙ ap (λ (pages : List Page). record (volume_of k image metas md_len live head m) { pages = pages })
+        (ap (λ n. map (content k image others (suc md_len) head) (range_with_len 0 (k * n))) is.long
+        ∙ ap (λ (g : ℕ → Page). map g (range_with_len 0 (k * length m.map))) (fun_ext same_page))
 
 -- ---- with it all metadata is lawful
 
@@ -237,10 +242,10 @@ slot_filled map none i lt = some_of (slot_in map i) (ap is_none (slot_get map i)
     some_of None is = absurd (cc is)
     some_of (Some x) is = refl
 
--- ---- a load takes it
+-- ---- it is steady
 
--- all that a load asks but that no slot of a thick blob is empty
-pub record IsLoadableBut (s : Super) (head : ℕ) (m : Meta) : Type 0 where
+-- all that is asked of it, but that no slot of a thick blob is empty
+pub record IsSteadyBut (s : Super) (head : ℕ) (m : Meta) : Type 0 where
   pub low : head < s.md_len
   pub id : m.id ≡ blob_id head
   pub clear : without_bit_1 m.flags.invalid ≡ m.flags.invalid
@@ -250,14 +255,14 @@ pub record IsLoadableBut (s : Super) (head : ℕ) (m : Meta) : Type 0 where
   pub few : length m.map ≤ 2 ^ 20
   pub inside : (i c : ℕ) → slot m i ≡ Some c → is_outside (region_of s).fixed (region_of s).clusters c ≡ false
   pub marks : bad_mark m.internal ≡ None
-  pub alone : StandsAlone m
+  pub unmarked : IsUnmarked m
 
-pub zeroed_loadable : (s : Super) (head : ℕ) (m later : Meta) (claimed : List ℕ) → IsZeroed m later claimed
-    → IsLoadableBut s head m
+pub zeroed_steady : (s : Super) (head : ℕ) (m later : Meta) (claimed : List ℕ) → IsZeroed m later claimed
+    → IsSteadyBut s head m
     → ((c : ℕ) → is_among c claimed ≡ true → is_outside (region_of s).fixed (region_of s).clusters c ≡ false)
-    → hole_in_thick m.flags later.map ≡ None → IsLoadable s head later
-zeroed_loadable s head m later claimed is but inside full =
-    subst (IsLoadable s head) (sym is.rest) (record {
+    → hole_in_thick m.flags later.map ≡ None → IsSteady s head later
+zeroed_steady s head m later claimed is but inside full =
+    subst (IsSteady s head) (sym is.rest) (record {
       stored = record {
         low = but.low;
         id = but.id;
@@ -266,11 +271,7 @@ zeroed_loadable s head m later claimed is but inside full =
         internal = but.internal;
         faultless = all_pass _ _ _ _ but.flags map_passes full but.marks;
       };
-      alone = record {
-        no_parent = but.alone.no_parent;
-        not_made = but.alone.not_made;
-        not_removed = but.alone.not_removed;
-      };
+      unmarked = but.unmarked;
     })
   where
     slot_inside : (i c : ℕ) → slot_in later.map i ≡ Some c
@@ -293,7 +294,7 @@ zeroed_loadable s head m later claimed is but inside full =
 
 -- a new blob's, before its slots get clusters
 pub new_but : (s : Super) (head : ℕ) (xattrs : Xattrs) (thick : Bool) (slots : ℕ) → head < s.md_len
-    → CanBeWritten xattrs → slots ≤ 2 ^ 20 → IsLoadableBut s head (new_meta head xattrs thick slots)
+    → CanBeWritten xattrs → slots ≤ 2 ^ 20 → IsSteadyBut s head (new_meta head xattrs thick slots)
 new_but s head xattrs thick slots low can few = record {
   low = low;
   id = refl;
@@ -304,5 +305,5 @@ new_but s head xattrs thick slots low can few = record {
   few = omega (arith, few, length-replicate {A = Option ℕ} slots None);
   inside = λ i c at. absurd (let bad = sym (empty_slot slots i) ∙ at in cc bad);
   marks = refl;
-  alone = record { no_parent = refl; not_made = refl; not_removed = refl };
+  unmarked = refl;
 }

@@ -46,7 +46,7 @@ use Rattle.store_model.specs.Scans.{MetaAt}
 use Rattle.store_model.specs.Shown.{fixed_of, shown_by}
 use Rattle.store_model.specs.Recovers.{IsChangeDone}
 use Rattle.store_model.specs.Rows.{InJob, IsForMetadata, OpenClaim, Rows}
-use Rattle.store_model.specs.Loadable.{CanBeWritten, IsLoadable}
+use Rattle.store_model.specs.Steady.{CanBeWritten, IsSteady}
 use Rattle.store_model.specs.Inserting.{with_slot}
 use Rattle.store_model.specs.Copying.{IsWanted, LeavesEmpty}
 use Rattle.store_model.specs.Places.{all_set, AreDistinct, AreLeastClear, IsMapped}
@@ -192,7 +192,7 @@ pub record CanReplace (s : Super) (base : Metas) (chains : Chains) (claimed writ
   pub all : written ≡ r.fresh
   pub places : places_of r.planned ≡ r.head ∷ r.fresh
   pub says : (m : Meta) → r.new ≡ Some m → MetaAt (page_in r.planned) (region_of s) r.head m (r.head ∷ r.fresh)
-  pub loadable : (m : Meta) → r.new ≡ Some m → IsLoadable s r.head m
+  pub steady : (m : Meta) → r.new ≡ Some m → IsSteady s r.head m
   pub gone : r.new ≡ None → r.fresh ≡ []
   pub chain : chains r.head ≡ chain_before r
   pub unerased : r.makes ≡ true → r.old ≡ []

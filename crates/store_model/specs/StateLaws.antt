@@ -44,14 +44,14 @@ use Rattle.store_model.specs.Jobs.{with_clusters}
 use Rattle.store_model.specs.Places.{AreLeastClear, Unclaimed, UsedClusters, UsedPages}
 use Rattle.store_model.specs.Asking.{IsJobFor}
 use Rattle.store_model.specs.Cases.{Kind, Run, Turn}
-use Rattle.store_model.specs.RunInvariant.{AreLoadable, RunInvariant, HaveChains, IsLoadable}
+use Rattle.store_model.specs.RunInvariant.{AreSteady, RunInvariant, HaveChains, IsSteady}
 use Rattle.store_model.specs.Recovers.{HasStore, Recovers}
 
 -- what a store is loaded with: nothing of a job, each attribute live as it is synced, and each blob with a generation
 -- of its own
 pub record IsLoadedWith (s : Super) (p : StoreState) : Type 0 where
   pub super : p.super ≡ s
-  pub loadable : AreLoadable s p.base
+  pub steady : AreSteady s p.base
   pub few : slots_together s.md_len p.base ≤ 2 ^ 24
   pub lawful : IsLawful s.md_len (resolved p.base)
   pub chains : HaveChains s p.base p.chains
@@ -80,7 +80,7 @@ pub record StateLaws : Type 0 where
       (changes : Changes) (commit : Committing) → IsPlaced s → RunInvariant s first script p → p.stopped ≡ None
       → IsJobFor p command changes commit → (claimed : List ℕ) → AreLeastClear p.clusters claimed
       → length claimed ≡ length changes.zero → (x : Replacement) (new : Meta) → changes.list ≡ x ∷ []
-      → x.new ≡ Some new → x.head < s.md_len → IsLoadable s x.head (with_clusters new changes.zero claimed)
+      → x.new ≡ Some new → x.head < s.md_len → IsSteady s x.head (with_clusters new changes.zero claimed)
   -- On a device that tells, an image with this store, which says the metadata that the store has, recovers the whole
   -- log.
   pub recovers : (s : Super) (first : Volumes) (script : ℕ → List Command) (p : StoreState) (image : Image) → IsPlaced s

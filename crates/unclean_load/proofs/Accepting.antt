@@ -18,14 +18,14 @@ use Rattle.super_block.specs.Faults.{first_fault, fault_of, tests, super_fault, 
 use Rattle.volume_model.specs.declared.text.Xattr.{Xattr}
 use Rattle.volume_model.specs.Xattrs.{value_of}
 use Rattle.blob_meta.specs.declared.meta.Meta.{Meta}
-use Rattle.blob_meta.specs.Faults.{is_mark}
+use Rattle.blob_meta.specs.Parents.{parent_of}
 use Rattle.blob_meta.specs.Resolving.{IsLawful}
 use Rattle.store_model.specs.Maps.{Metas, Chains}
 use Rattle.store_model.specs.Regions.{region_of}
 use Rattle.store_model.specs.Scans.{Says}
-use Rattle.store_model.specs.RunInvariant.{AreLoadable, IsLoadable}
+use Rattle.store_model.specs.RunInvariant.{AreSteady, IsSteady}
 use Rattle.unclean_load.specs.Accepted.{IsAccepted}
-use Rattle.unclean_load.specs.Heads.{has_mark}
+use Rattle.unclean_load.specs.Heads.{has_mark, AreParentless}
 use Rattle.unclean_load.proofs.Slots.{one_copy}
 
 -- ---- the super block
@@ -50,44 +50,20 @@ some_pages s placed =
     let device = placed.on_device in
     omega (arith, more, pages, device)
 
--- ---- no mark
+-- ---- no parent and no mark
 
-other_first : (name : List ℕ) (x : Xattr) (xs : List Xattr) → value_of (x ∷ xs) name ≡ None
-    → (bytes_eq x.key name ≡ false) × (value_of xs name ≡ None)
-other_first name x xs none = elim (cases_Bool (bytes_eq x.key name)) [
-  | inl same ↦
-      absurd (let e = subst
-      (λ (b : Bool). option_map (λ (y : Xattr). y.value)
-      (cond b (Some x) (find (λ (y : Xattr). bytes_eq y.key name) xs)) ≡ None) same none in cc e)
-  | inr other ↦ (
-    other,
-    subst
-        (λ (b : Bool). option_map (λ (y : Xattr). y.value)
-        (cond b (Some x) (find (λ (y : Xattr). bytes_eq y.key name) xs)) ≡ None) other none,
-  )
-]
-
-none_marked : (xs : List Xattr) → value_of xs (codes "SNAP") ≡ None → value_of xs (codes "SNAPTMP") ≡ None
-    → value_of xs (codes "SNAPRM") ≡ None → list_any (λ (x : Xattr). is_mark x.key) xs ≡ false
-none_marked [] a b c = refl
-none_marked (x ∷ xs) a b c =
-    let p = other_first (codes "SNAP") x xs a in
-    let q = other_first (codes "SNAPTMP") x xs b in
-    let r = other_first (codes "SNAPRM") x xs c in
-    or_from (is_mark x.key) _ (or_from _ _ (or_from _ _ p.0 q.0) r.0) (none_marked xs p.1 q.1 r.1)
-
-unmarked : (s : Super) (head : ℕ) (m : Meta) → IsLoadable s head m → has_mark m ≡ false
-unmarked s head m taken = none_marked m.internal taken.alone.no_parent taken.alone.not_made taken.alone.not_removed
+unmarked : (s : Super) (head : ℕ) (m : Meta) → IsSteady s head m → parent_of m ≡ None → has_mark m ≡ false
+unmarked s head m steady none = rw (none, steady.unmarked) refl
 
 -- ---- the image
 
--- an image that says lawful metadata which a load takes is accepted
+-- an image that says lawful metadata of steady blobs without parents is accepted
 pub accepted : ((s : Super) → IsFaultless s → IsPlaced s)
     → (s : Super) (image : Image) (metas : Metas) (chains : Chains) → super_fault (image 0) s.device_pages ≡ None
     → s ≡ super_of (image 0) s.device_pages
-    → Says (region_of s) metas chains image → AreLoadable s metas → IsLawful s.md_len metas
+    → Says (region_of s) metas chains image → AreSteady s metas → AreParentless metas → IsLawful s.md_len metas
     → IsAccepted s.device_pages image
-accepted placed s image metas chains none is says all lawful =
+accepted placed s image metas chains none is says all parentless lawful =
     let fine : fault_of (is_sound (image 0)) s ≡ None = ap (λ (t : Super). fault_of (is_sound (image 0)) t) is ∙ none in
     record {
       sup = s;
@@ -101,7 +77,7 @@ accepted placed s image metas chains none is says all lawful =
       metas = metas;
       chains = chains;
       whole =
-          record { says = says; few = lawful.few; unmarked = λ head m there. unmarked s head m (all head m there) };
+          record { says = says; few = lawful.few; unmarked = λ head m there. unmarked s head m (all head m there) (parentless head m there) };
       alone =
           λ cluster. one_copy metas cluster (λ h k i j m n a b x y. lawful.alone h k i j cluster m n a b x y) s.md_len;
     }

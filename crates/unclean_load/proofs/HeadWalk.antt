@@ -10,6 +10,7 @@ use Rattle.page_disk.specs.Disk.{Image}
 use Rattle.page_disk.specs.declared.disk.PageDisk.{Ghosts}
 use Rattle.super_block.specs.declared.page.Super.{Super}
 use Rattle.blob_meta.specs.declared.meta.Meta.{Meta}
+use Rattle.blob_meta.specs.Parents.{parent_of}
 use Rattle.blob_meta.specs.Resolving.{slots_together}
 use Rattle.md_chain.specs.Chain.{Look}
 use Rattle.md_chain.specs.Reading.{OnlyRead, region_look}
@@ -17,7 +18,7 @@ use Rattle.md_chain.proofs.DeviceWalk.{no_read, read_on}
 use Rattle.store_model.specs.Maps.{Metas, Chains, with_entry}
 use Rattle.store_model.specs.Regions.{MdRegion, region_of}
 use Rattle.store_model.specs.Scans.{is_head, MetaAt, BlobAt}
-use Rattle.store_model.specs.RunInvariant.{IsLoadable}
+use Rattle.store_model.specs.RunInvariant.{IsSteady}
 use Rattle.store_model.proofs.WithEntry.{given_here, given_elsewhere}
 use Rattle.store_model.proofs.Scanning.{is_at}
 use Rattle.unclean_load.specs.declared.fault.LoadFault.{LoadFault}
@@ -27,7 +28,7 @@ use Rattle.unclean_load.specs.Heads.{has_mark, AreWholeBelow, Shows, ShowsFirst,
 use Rattle.unclean_load.specs.Reading.{SaysAt, IsBlobFault, IsPlaceFault, AreRead, HasNoneFrom, IsChainOf}
 use Rattle.unclean_load.specs.Reading.{IsBlobRefused, meta_in, chain_in, IsFaultCounted}
 use Rattle.running_store.proofs.Maps.{insert_given}
-use Rattle.unclean_load.proofs.Taken.{loadable, chain_of_region}
+use Rattle.unclean_load.proofs.Taken.{no_parent, steady, chain_of_region}
 use Rattle.unclean_load.proofs.Sums.{sum_more, sum_same}
 
 -- what is known of the blobs read so far, at the heads below a place
@@ -83,7 +84,8 @@ module _ {D : Type 0} (d : Ghosts D) (s : Super) (first : D) where
               (omega (arith, lt));
         };
     read = record {
-      loadable = λ k m there. let no = none k in absurd (cc (no, there));
+      steady = λ k m there. let no = none k in absurd (cc (no, there));
+      parentless = λ k m there. let no = none k in absurd (cc (no, there));
       chain = λ k m there. let no = none k in absurd (cc (no, there));
       none = λ k _. no_chain k;
     };
@@ -186,12 +188,17 @@ module _ {D : Type 0} (d : Ghosts D) (s : Super) (first : D) where
 
         read_now : AreRead s metas_now chains_now
         read_now = record {
-          loadable = λ k m there. elim (cases_eq k place) [
+          steady = λ k m there. elim (cases_eq k place) [
             | inl here ↦
-                subst (λ (n : Meta). IsLoadable s k n) (same_meta k m here there)
-                (subst (λ (n : ℕ). IsLoadable s n blob.meta) (sym here)
-                (loadable x.look s place blob.meta blob.pages says unmarked))
-            | inr other ↦ w.read.loadable k m (sym (given_elsewhere metas place blob.meta k other) ∙ there)
+                subst (λ (n : Meta). IsSteady s k n) (same_meta k m here there)
+                (subst (λ (n : ℕ). IsSteady s n blob.meta) (sym here)
+                (steady x.look s place blob.meta blob.pages says unmarked))
+            | inr other ↦ w.read.steady k m (sym (given_elsewhere metas place blob.meta k other) ∙ there)
+          ];
+          parentless = λ k m there. elim (cases_eq k place) [
+            | inl here ↦ ap (λ (n : Meta). parent_of n) (sym (same_meta k m here there))
+                ∙ no_parent x.look s place blob.meta blob.pages says unmarked
+            | inr other ↦ w.read.parentless k m (sym (given_elsewhere metas place blob.meta k other) ∙ there)
           ];
           chain = λ k m there. elim (cases_eq k place) [
             | inl here ↦ (

@@ -13,14 +13,13 @@ use Rattle.md_chain.specs.declared.fault.ChainFault.{ChainFault}
 use Rattle.md_chain.specs.declared.fault.ChainFault.TheVariants as chain
 use Rattle.store_model.specs.Maps.{Metas, Chains}
 use Rattle.store_model.specs.Regions.{MdRegion, region_of, look_of}
-use Rattle.store_model.specs.RunInvariant.{AreLoadable}
+use Rattle.store_model.specs.RunInvariant.{AreSteady}
 use Rattle.store_model.proofs.Scanning.{apart}
-use Rattle.blob_meta.specs.Parents.{parent_of}
 use Rattle.unclean_load.specs.declared.fault.LoadFault.{LoadFault}
 use Rattle.unclean_load.specs.declared.fault.LoadFault.TheVariants as fault
 use Rattle.unclean_load.specs.Accepted.{SuperAt, IsFaultOf}
 use Rattle.unclean_load.specs.Claiming.{AreChains, IsInTwo, IsTwice, IsMaskFault}
-use Rattle.unclean_load.specs.Heads.{AreWhole, AreWholeBelow, IsHeadsFault}
+use Rattle.unclean_load.specs.Heads.{AreParentless, AreWhole, AreWholeBelow, IsHeadsFault}
 use Rattle.unclean_load.specs.Reading.{AreRead, HasNoneFrom, IsChainOf}
 use Rattle.unclean_load.specs.Sharing.{copies}
 use Rattle.unclean_load.proofs.Slots.{one_slot}
@@ -34,7 +33,7 @@ module _ (s : Super) (metas : Metas) (chains : Chains) (read : AreRead s metas c
   one_chain head pages (Some m) is there =
       let x = read.chain head m is in
       let same : x.0 ≡ pages = let both = sym x.1 ∙ there in cc both in
-      ((read.loadable head m is).stored.low, subst (λ (ps : List ℕ). IsChainOf s.md_len head ps) same x.2)
+      ((read.steady head m is).stored.low, subst (λ (ps : List ℕ). IsChainOf s.md_len head ps) same x.2)
 
   -- the chains that were read are chains of the region
   pub read_chains : AreChains s.md_len chains
@@ -42,19 +41,19 @@ module _ (s : Super) (metas : Metas) (chains : Chains) (read : AreRead s metas c
 
 -- ---- the metadata is lawful
 
--- what a load takes, with no shared cluster and few slots, is lawful
-pub lawful : (s : Super) (metas : Metas) → AreLoadable s metas → slots_together s.md_len metas ≤ 2 ^ 24
+-- steady blobs without parents, with no shared cluster and few slots, are lawful
+pub lawful : (s : Super) (metas : Metas) → AreSteady s metas → AreParentless metas → slots_together s.md_len metas ≤ 2 ^ 24
     → ((cluster : ℕ) → copies s.md_len metas cluster ≤ 1) → IsLawful s.md_len metas
-lawful s metas all few most = record {
+lawful s metas all none few most = record {
   alone =
       λ h k i j cluster m n a b x y. one_slot metas cluster s.md_len
       (λ head meta there. (all head meta there).stored.low)
       (most cluster) h k i j m n a b x y;
   parents = λ h p m there is.
-      let none : parent_of m ≡ None = rw (all h m there).alone.no_parent refl in absurd (cc (none, is));
+      let no = none h m there in absurd (cc (no, is));
   rank = λ _. 0;
   falls = λ h p m there is.
-      let none : parent_of m ≡ None = rw (all h m there).alone.no_parent refl in absurd (cc (none, is));
+      let no = none h m there in absurd (cc (no, is));
   few = few;
 }
 

@@ -11,7 +11,7 @@ use Rattle.blob_meta.specs.declared.meta.Meta.{Meta}
 use Rattle.blob_meta.specs.Parents.{slot}
 use Rattle.store_model.specs.Maps.{Metas}
 use Rattle.store_model.specs.Places.{IsMapped}
-use Rattle.store_model.specs.RunInvariant.{AreLoadable}
+use Rattle.store_model.specs.RunInvariant.{AreSteady}
 use Rattle.store_model.proofs.Inside.{inside_slot}
 use Rattle.unclean_load.specs.Sharing.{holds, copies_in, copies, AreAllInside}
 use Rattle.unclean_load.proofs.Counts.{copies_none, copies_some, copies_grow}
@@ -126,8 +126,8 @@ in_map m i c at = filled (slice_get m.map i) at
 in_slot : (m : Meta) (i c : ℕ) → HasAt m.map i c → slot m i ≡ Some c
 in_slot m i c at = rw at refl
 
--- the clusters of blobs that a load takes are inside of the device
-pub all_inside : (s : Super) (metas : Metas) → AreLoadable s metas → AreAllInside s metas
+-- the clusters of steady blobs are inside of the device
+pub all_inside : (s : Super) (metas : Metas) → AreSteady s metas → AreAllInside s metas
 all_inside s metas all head m there c some =
     let x = find_copy c m.map some in
     let y =

@@ -1,49 +1,35 @@
--- A load takes a blob that was read from a chain and stands alone; its chain is one of the region.
-use Rattle.std.proofs.Common.{◌≡◌, ℕ, suc, true, false, List, [], ◌∷◌, None, refl, sym, subst, inl, inr, arith}
-use Rattle.std.specs.Prelude.{codes, ◌||◌, ◌==◌}
-use Rattle.std.specs.List.{list_any}
-use Rattle.std.specs.Str.{bytes_eq}
+-- A blob that was read from a chain, and has no parent and no mark, is steady; its chain is one of the region.
+use Rattle.std.proofs.Common.{◌≡◌, ℕ, suc, true, false, List, [], ◌∷◌, Option, Some, None, is_some, refl, sym, subst, inl, inr}
+use Rattle.std.proofs.Common.{arith}
+use Rattle.std.specs.Prelude.{◌||◌, ◌==◌}
 use Rattle.std.proofs.lemmas.Bool.{cases_Bool, or_left, or_right, or_parts, both_ways, eq-eqb}
 use Rattle.super_block.specs.declared.page.Super.{Super}
-use Rattle.volume_model.specs.declared.text.Xattr.{Xattr}
-use Rattle.volume_model.specs.Xattrs.{value_of}
 use Rattle.descriptors.specs.declared.item.Item.{Item}
 use Rattle.blob_meta.specs.declared.meta.Meta.{Meta}
 use Rattle.blob_meta.specs.Says.{without_bit_1, meta_of}
-use Rattle.blob_meta.specs.Faults.{is_mark, meta_fault}
+use Rattle.blob_meta.specs.Faults.{meta_fault}
+use Rattle.blob_meta.specs.Parents.{parent_of}
+use Rattle.blob_meta.specs.Resolving.{mark_of}
 use Rattle.md_chain.specs.Chain.{Look, Links, last, more, is_among}
 use Rattle.md_chain.proofs.Links.{passes, first, linked}
 use Rattle.store_model.specs.Regions.{region_of}
 use Rattle.store_model.specs.Scans.{MetaAt}
 use Rattle.store_model.specs.Places.{AreDistinct}
-use Rattle.store_model.specs.RunInvariant.{IsLoadable}
+use Rattle.store_model.specs.Steady.{IsSteady, IsUnmarked}
 use Rattle.unclean_load.specs.Heads.{has_mark}
 use Rattle.unclean_load.specs.Reading.{IsChainOf}
 use Rattle.unclean_load.proofs.Attributes.{xattrs_written, internal_written}
 
--- ---- no mark
+-- ---- no parent and no mark
 
-none_named : (name : List ℕ) → ((key : List ℕ) → bytes_eq key name ≡ true → is_mark key ≡ true) → (xs : List Xattr)
-    → list_any (λ (x : Xattr). is_mark x.key) xs ≡ false → value_of xs name ≡ None
-none_named name is [] none = refl
-none_named name is (x ∷ xs) none =
-    let parts = or_parts (is_mark x.key) (list_any (λ (x : Xattr). is_mark x.key) xs) none in
-    elim (cases_Bool (bytes_eq x.key name)) [
-      | inl same ↦ absurd (both_ways (is_mark x.key) parts.0 (is x.key same))
-      | inr other ↦ rw other (none_named name is xs parts.1)
-    ]
+none_by : {X : Type 0} (o : Option X) → is_some o ≡ false → o ≡ None
+none_by None none = refl
+none_by (Some x) none = absurd (cc none)
 
-is_snap : (key : List ℕ) → bytes_eq key (codes "SNAP") ≡ true → is_mark key ≡ true
-is_snap key e = rw e refl
-
-is_snaptmp : (key : List ℕ) → bytes_eq key (codes "SNAPTMP") ≡ true → is_mark key ≡ true
-is_snaptmp key e =
-    or_left (bytes_eq key (codes "SNAP") || bytes_eq key (codes "SNAPTMP")) (bytes_eq key (codes "SNAPRM"))
-    (or_right (bytes_eq key (codes "SNAP")) (bytes_eq key (codes "SNAPTMP")) e)
-
-is_snaprm : (key : List ℕ) → bytes_eq key (codes "SNAPRM") ≡ true → is_mark key ≡ true
-is_snaprm key e =
-    or_right (bytes_eq key (codes "SNAP") || bytes_eq key (codes "SNAPTMP")) (bytes_eq key (codes "SNAPRM")) e
+parts_of : (m : Meta) → has_mark m ≡ false → (parent_of m ≡ None) × IsUnmarked m
+parts_of m none =
+    let parts = or_parts (is_some (parent_of m)) (is_some (mark_of m)) none in
+    (none_by (parent_of m) parts.0, none_by (mark_of m) parts.1)
 
 clear_twice : (n : ℕ) → without_bit_1 (without_bit_1 n) ≡ without_bit_1 n
 clear_twice n = omega arith
@@ -96,8 +82,8 @@ module _ (look : Look) (s : Super) (head : ℕ) (m : Meta) (pages : List ℕ)
     differ = distinct look s.md_len head 0 [] head head says.items pages says.chain;
   }
 
-  said_loadable : has_mark (meta_of head says.items) ≡ false → IsLoadable s head (meta_of head says.items)
-  said_loadable none = record {
+  said_steady : has_mark (meta_of head says.items) ≡ false → IsSteady s head (meta_of head says.items)
+  said_steady none = record {
     stored = record {
       low = (first look s.md_len head 0 [] head head says.items pages says.chain).low;
       id = refl;
@@ -108,15 +94,14 @@ module _ (look : Look) (s : Super) (head : ℕ) (m : Meta) (pages : List ℕ)
           subst (λ (n : Meta). meta_fault (region_of s).fixed
           (region_of s).clusters n ≡ None) says.meta_is says.faultless;
     };
-    alone = record {
-      no_parent = none_named (codes "SNAP") is_snap (meta_of head says.items).internal none;
-      not_made = none_named (codes "SNAPTMP") is_snaptmp (meta_of head says.items).internal none;
-      not_removed = none_named (codes "SNAPRM") is_snaprm (meta_of head says.items).internal none;
-    };
+    unmarked = (parts_of (meta_of head says.items) none).1;
   }
 
-  -- a load takes a blob that was read and stands alone
-  pub loadable : has_mark m ≡ false → IsLoadable s head m
-  loadable none =
-      subst (λ (n : Meta). IsLoadable s head n) (sym says.meta_is)
-      (said_loadable (subst (λ (n : Meta). has_mark n ≡ false) says.meta_is none))
+  pub no_parent : has_mark m ≡ false → parent_of m ≡ None
+  no_parent none = (parts_of m none).0
+
+  -- a blob that was read is steady
+  pub steady : has_mark m ≡ false → IsSteady s head m
+  steady none =
+      subst (λ (n : Meta). IsSteady s head n) (sym says.meta_is)
+      (said_steady (subst (λ (n : Meta). has_mark n ≡ false) says.meta_is none))

@@ -9,11 +9,11 @@ use Rattle.super_block.specs.Faults.{super_fault}
 use Rattle.store_model.specs.Maps.{Metas, Chains}
 use Rattle.store_model.specs.Regions.{region_of, look_of}
 use Rattle.store_model.specs.Scans.{Says}
-use Rattle.store_model.specs.RunInvariant.{AreLoadable}
+use Rattle.store_model.specs.RunInvariant.{AreSteady}
 use Rattle.blob_meta.specs.Resolving.{IsLawful}
 use Rattle.unclean_load.specs.declared.fault.LoadFault.{LoadFault}
 use Rattle.unclean_load.specs.declared.fault.LoadFault.TheVariants as fault
-use Rattle.unclean_load.specs.Heads.{AreWhole, ShowsFirst}
+use Rattle.unclean_load.specs.Heads.{AreParentless, AreWhole, ShowsFirst}
 use Rattle.unclean_load.specs.Sharing.{copies, IsShared}
 
 -- the super block of a device with so many pages, without fault
@@ -81,5 +81,5 @@ abbrev pub StoresAreAccepted : Type 0
 StoresAreAccepted =
     (s : Super) (image : Image) (metas : Metas) (chains : Chains) → super_fault (image 0) s.device_pages ≡ None
     → s ≡ super_of (image 0) s.device_pages
-    → Says (region_of s) metas chains image → AreLoadable s metas → IsLawful s.md_len metas
+    → Says (region_of s) metas chains image → AreSteady s metas → AreParentless metas → IsLawful s.md_len metas
     → IsAccepted s.device_pages image

@@ -1,13 +1,12 @@
 -- What the heads of a metadata region say, from the first place upwards, and the first head that shows a fault.
-use Rattle.std.specs.Prelude.{◌≡◌, ℕ, ◌+◌, ◌^◌, ◌<◌, ◌≤◌, Bool, true, false, List, length, Some}
-use Rattle.std.specs.List.{list_any}
-use Rattle.volume_model.specs.declared.text.Xattr.{Xattr}
+use Rattle.std.specs.Prelude.{◌≡◌, ℕ, ◌+◌, ◌^◌, ◌<◌, ◌≤◌, Bool, true, false, List, length, Some, None, is_some, ◌||◌}
 use Rattle.descriptors.specs.declared.item.Item.{Item}
 use Rattle.blob_meta.specs.declared.meta.Meta.{Meta}
 use Rattle.blob_meta.specs.declared.fault.MetaFault.{MetaFault}
 use Rattle.blob_meta.specs.Says.{meta_of}
-use Rattle.blob_meta.specs.Faults.{meta_fault, is_mark}
-use Rattle.blob_meta.specs.Resolving.{slots_together}
+use Rattle.blob_meta.specs.Faults.{meta_fault}
+use Rattle.blob_meta.specs.Parents.{parent_of}
+use Rattle.blob_meta.specs.Resolving.{mark_of, slots_together}
 use Rattle.md_chain.specs.Chain.{Look, Chain, IsBroken}
 use Rattle.store_model.specs.Maps.{Metas, Chains}
 use Rattle.store_model.specs.Regions.{MdRegion}
@@ -17,7 +16,11 @@ use Rattle.unclean_load.specs.declared.fault.LoadFault.TheVariants as fault
 
 -- the blob has a parent, or is a snapshot that was being made or removed
 abbrev pub has_mark : Meta → Bool
-has_mark m = list_any (λ (x : Xattr). is_mark x.key) m.internal
+has_mark m = is_some (parent_of m) || is_some (mark_of m)
+
+-- no blob has a parent
+abbrev pub AreParentless : Metas → Type 0
+AreParentless metas = (head : ℕ) (m : Meta) → metas head ≡ Some m → parent_of m ≡ None
 
 -- Each head below a place has its chain and metadata without fault; their maps have at most 2^24 slots together; and
 -- none has a mark.

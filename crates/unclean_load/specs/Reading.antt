@@ -13,12 +13,12 @@ use Rattle.md_chain.specs.Reading.{WasSeen}
 use Rattle.store_model.specs.Maps.{Metas, Chains}
 use Rattle.store_model.specs.Regions.{MdRegion, region_of}
 use Rattle.store_model.specs.Scans.{is_head, BlobAt}
-use Rattle.store_model.specs.RunInvariant.{AreLoadable}
+use Rattle.store_model.specs.RunInvariant.{AreSteady}
 use Rattle.store_model.specs.Places.{AreDistinct}
 use Rattle.unclean_load.specs.declared.heads.Blob.{Blob}
 use Rattle.unclean_load.specs.declared.fault.LoadFault.{LoadFault}
 use Rattle.unclean_load.specs.declared.fault.LoadFault.TheVariants as fault
-use Rattle.unclean_load.specs.Heads.{has_mark, Shows}
+use Rattle.unclean_load.specs.Heads.{has_mark, AreParentless, Shows}
 
 -- whether the page that the device gave at a place is a head
 pub record GaveHead {D : Type 0} (d : Ghosts D) (s : Super) (disk : D) (place : ℕ) (is : Bool) : Type 0 where
@@ -79,9 +79,10 @@ pub record IsChainOf (md_len head : ℕ) (pages : List ℕ) : Type 0 where
   pub low : (place : ℕ) → is_among place pages ≡ true → place < md_len
   pub differ : AreDistinct pages
 
--- The metadata is what a load takes, and each blob has a chain.
+-- The blobs are steady, none has a parent, and each has a chain.
 pub record AreRead (s : Super) (metas : Metas) (chains : Chains) : Type 0 where
-  pub loadable : AreLoadable s metas
+  pub steady : AreSteady s metas
+  pub parentless : AreParentless metas
   pub chain : (head : ℕ) (m : Meta) → metas head ≡ Some m → (pages : List ℕ) × (chains head ≡ Some pages)
       × IsChainOf s.md_len head pages
   pub none : (head : ℕ) → metas head ≡ None → chains head ≡ None

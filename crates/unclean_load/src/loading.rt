@@ -7,12 +7,12 @@ ghost use Rattle.md_chain.specs.Reading.{OnlyRead};
 ghost use Rattle.running_store.specs.LoadedWhole.{AreMasks, IsWhole};
 ghost use Rattle.store_model.specs.Regions.{region_of, look_of};
 ghost use Rattle.store_model.specs.Scans.{Says};
-ghost use Rattle.store_model.specs.RunInvariant.{AreLoadable, HaveChains};
+ghost use Rattle.store_model.specs.RunInvariant.{AreSteady, HaveChains};
 ghost use Rattle.super_block.specs.Faults.{IsFaultless};
 ghost use Rattle.super_block.specs.Page.{super_of};
 ghost use Rattle.unclean_load.specs.Accepted.{IsAccepted, IsFaultOf, IsImageFault, SuperAt};
 ghost use Rattle.unclean_load.specs.Claiming.{IsMaskFault};
-ghost use Rattle.unclean_load.specs.Heads.{AreWhole};
+ghost use Rattle.unclean_load.specs.Heads.{AreParentless, AreWhole};
 ghost use Rattle.unclean_load.specs.Reading.{AreRead, IsFaultCounted};
 ghost use Rattle.unclean_load.specs.Sharing.{copies};
 
@@ -67,7 +67,8 @@ fn read_store<D: PageDisk>(alloc: Global, disk: &mut D) -> Result<Store, LoadFau
     ensures faultless { IfOk result (λ s. IsFaultless s.sup) }
     ensures device { IfOk result (λ s. s.sup.device_pages ≡ D.pages disk.old) }
     ensures inside { IfOk result (λ s. s.sup.md_start + s.sup.md_len ≤ D.pages disk.old) }
-    ensures loadable { IfOk result (λ s. AreLoadable s.sup (map.get s.metas)) }
+    ensures steady { IfOk result (λ s. AreSteady s.sup (map.get s.metas)) }
+    ensures parentless { IfOk result (λ s. AreParentless (map.get s.metas)) }
     ensures few { IfOk result (λ s. slots_together s.sup.md_len (map.get s.metas) ≤ 2 ^ 24) }
     ensures alone { IfOk result (λ s. (cluster : ℕ) → copies s.sup.md_len (map.get s.metas) cluster ≤ 1) }
     ensures chains { IfOk result (λ s. HaveChains s.sup (map.get s.metas) (map.get s.chains)) }
@@ -105,8 +106,9 @@ pub fn load<D: PageDisk>(alloc: Global, disk: D) -> Result<Loaded<D>, (D, LoadFa
     ensures super_block { IsTrue D.tells → IfOk result (λ l. l.sup ≡ super_of (D.now disk 0) (D.pages disk)) }
     ensures accepted { IsTrue D.tells → IfOk result (λ _. IsAccepted (D.pages disk) (D.now disk)) }
 
-    // Whatever the device tells, the store is whole.
+    // Whatever the device tells, the store is whole, and no blob of it has a parent.
     ensures whole { IfOk result IsWhole }
+    ensures parentless { IfOk result (λ l. AreParentless (map.get l.metas)) }
     ensures faultless { IfOk result (λ l. IsFaultless l.sup) }
     ensures device_pages { IfOk result (λ l. l.sup.device_pages ≡ D.pages l.disk) }
     ensures inside { IfOk result (λ l. l.sup.md_start + l.sup.md_len ≤ D.pages l.disk) }

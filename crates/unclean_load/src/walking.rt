@@ -1,9 +1,8 @@
 //! The blobs of a metadata region, by their heads from the first place upwards.
 
-ghost use Rattle.std.specs.Prelude.{◌≡◌, ◌≤◌, ◌+◌, ◌^◌, false, length, IsTrue, OnOk, IfOk, IfErr};
+ghost use Rattle.std.specs.Prelude.{◌≡◌, ◌≤◌, ◌+◌, ◌^◌, false, is_some, length, IsTrue, OnOk, IfOk, IfErr};
 ghost use Rattle.std.specs.FinMap as map;
-ghost use Rattle.blob_meta.specs.Faults.{is_mark as is_mark_said};
-ghost use Rattle.blob_meta.specs.Resolving.{slots_together};
+ghost use Rattle.blob_meta.specs.Resolving.{mark_of, slots_together};
 ghost use Rattle.md_chain.specs.Reading.{OnlyRead, region_look};
 ghost use Rattle.store_model.specs.Regions.{region_of};
 ghost use Rattle.super_block.specs.Faults.{IsFaultless};
@@ -12,7 +11,7 @@ ghost use Rattle.unclean_load.specs.Reading.{AreRead, HasNoneFrom, IsFaultCounte
 
 use crate::fault::LoadFault;
 use crate::heads::{Blob, blob_at};
-use blob_meta::{Chains, Meta, Metas};
+use blob_meta::{Chains, Meta, Metas, parent_of};
 use page_disk::PageDisk;
 use std::alloc::Global;
 use super_block::Super;
@@ -28,21 +27,18 @@ pub struct Blobs {
     slots: u64,
 }
 
-/// Whether a name is one of the three marks.
-fn is_mark(key: &[u8]) -> bool
-    ensures { result ≡ is_mark_said key.now }
+/// Whether a blob is a snapshot that was being made or removed.
+fn is_unfinished(meta: &Meta) -> bool
+    ensures { result ≡ is_some (mark_of meta.now) }
 {
-    key == b"SNAP".as_slice() || key == b"SNAPTMP".as_slice() || key == b"SNAPRM".as_slice()
+    meta.internal.value_of(b"SNAPRM").is_some() || meta.internal.value_of(b"SNAPTMP").is_some()
 }
 
 /// Whether a blob has a parent, or is a snapshot that was being made or removed.
 fn has_mark(meta: &Meta) -> bool
     ensures { result ≡ has_mark_said meta.now }
 {
-    meta.internal
-        .as_slice()
-        .iter()
-        .any(|x| is_mark(x.key.bytes()))
+    parent_of(meta).is_some() || is_unfinished(meta)
 }
 
 impl Blobs {

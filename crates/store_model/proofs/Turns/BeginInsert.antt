@@ -29,7 +29,7 @@ use Rattle.blob_meta.specs.Resolving.{IsLawful, resolved, slots_together}
 use Rattle.store_model.specs.Copying.{HasCopied}
 use Rattle.store_model.specs.Inserting.{with_slot}
 use Rattle.store_model.specs.Jobs.{CanReplace, gained_by, InsertStands, IsPlannedFor, JobStands, Lays, PutsClaim}
-use Rattle.store_model.specs.Loadable.{AreLoadable, IsLoadable}
+use Rattle.store_model.specs.Steady.{AreSteady, IsSteady}
 use Rattle.store_model.specs.Maps.{Metas, with_entry}
 use Rattle.store_model.specs.Phases.{
   erasing,
@@ -56,11 +56,11 @@ use Rattle.store_model.proofs.Copies.{copied_same, row_no_more}
 use Rattle.store_model.proofs.Guarding.{claims_drawn_still, guarded_begun}
 use Rattle.store_model.proofs.Heads.{replaced_is}
 use Rattle.store_model.proofs.Inside.{IsInside}
-use Rattle.store_model.proofs.InsertedBlob.{inserted_loadable, lawful_inserted, slots_inserted}
+use Rattle.store_model.proofs.InsertedBlob.{inserted_steady, lawful_inserted, slots_inserted}
 use Rattle.store_model.proofs.Known.{Known}
 use Rattle.std.specs.Prelude.{◌/◌}
 use Rattle.store_model.proofs.LeftToDo.{no_place, chain_new}
-use Rattle.store_model.proofs.OneReplacement.{all_loadable, base_lawful, base_loadable, base_resolved}
+use Rattle.store_model.proofs.OneReplacement.{all_steady, base_lawful, base_steady, base_resolved}
 use Rattle.store_model.proofs.Over.{Effect, nothing, stays, TurnLaw}
 use Rattle.store_model.proofs.Phases.{held_behind, held_clearing, lays_behind, lays_clearing, old_pages, none_taken}
 use Rattle.store_model.proofs.Phases.{puts_behind}
@@ -68,7 +68,7 @@ use Rattle.store_model.proofs.RowsKept.{row_here, row_other, way_kept}
 use Rattle.store_model.proofs.Sets.{are_distinct}
 use Rattle.store_model.proofs.Shaped.{holding_may, none_without, Serves, shaped_with}
 use Rattle.store_model.proofs.Shapes.{Idles, silent, untouched_images}
-use Rattle.store_model.proofs.Shows.{alone_resolved}
+use Rattle.store_model.proofs.Shows.{steady_resolved}
 use Rattle.store_model.proofs.Used.{used_begun, within}
 
 module _ (known : Known) where
@@ -102,12 +102,12 @@ module _ (known : Known) where
           below = omega (arith, low, well.clusters.count);
         }
 
-    old_loadable : IsLoadable p.super claim.head t.meta
-    old_loadable = base_loadable known claim.head t.meta t.can.there
+    old_steady : IsSteady p.super claim.head t.meta
+    old_steady = base_steady known claim.head t.meta t.can.there
 
-    one_loadable : IsLoadable p.super claim.head new
-    one_loadable = inserted_loadable t.meta claim.slot claim.cluster t.can.within t.can.empty p.super claim.head inside
-        old_loadable
+    one_steady : IsSteady p.super claim.head new
+    one_steady = inserted_steady t.meta claim.slot claim.cluster t.can.within t.can.empty p.super claim.head inside
+        old_steady
 
     abbrev all : Metas
     all = with_entry p.base claim.head new
@@ -115,17 +115,17 @@ module _ (known : Known) where
     base_now : replaced p.base r ≡ all
     base_now = replaced_is p.base r new t.laid.new ∙ ap (λ h. with_entry p.base h new) t.laid.head
 
-    all_are : AreLoadable p.super all
-    all_are = all_loadable known claim.head new one_loadable
+    all_are : AreSteady p.super all
+    all_are = all_steady known claim.head new one_steady
 
     lawful : IsLawful p.super.md_len all
     lawful = lawful_inserted t.meta claim.slot claim.cluster t.can.within t.can.empty p.base claim.head t.can.there
-        p.super.md_len old_loadable.stored.low (well.clusters.apart claim.cluster claimed).1 (base_lawful known)
+        p.super.md_len old_steady.stored.low (well.clusters.apart claim.cluster claimed).1 (base_lawful known)
 
     few : slots_together p.super.md_len all ≤ 2 ^ 24
     few =
         let same = slots_inserted t.meta claim.slot claim.cluster t.can.within t.can.empty p.base claim.head
-        t.can.there p.super.md_len old_loadable.stored.low in
+        t.can.there p.super.md_len old_steady.stored.low in
         let was = (base_lawful known).few in
         omega (arith, same, was)
 
@@ -149,15 +149,15 @@ module _ (known : Known) where
       says = λ m is. let e : new ≡ m = let both = sym t.laid.new ∙ is in cc both in
           subst (λ (n : Meta). MetaAt (page_in r.planned) (region_of p.super) r.head n (r.head ∷ r.fresh)) e
           planned.says;
-      loadable = λ m is. let e : new ≡ m = let both = sym t.laid.new ∙ is in cc both in
-          subst (λ (n : Meta). IsLoadable p.super r.head n) e
-          (subst (λ h. IsLoadable p.super h new) (sym t.laid.head) one_loadable);
+      steady = λ m is. let e : new ≡ m = let both = sym t.laid.new ∙ is in cc both in
+          subst (λ (n : Meta). IsSteady p.super r.head n) e
+          (subst (λ h. IsSteady p.super h new) (sym t.laid.head) one_steady);
       gone = λ none. absurd (let bad = sym t.laid.new ∙ none in cc bad);
       chain = t.laid.chain;
       unerased = t.laid.unerased;
       few = subst (λ (m : Metas). slots_together p.super.md_len m ≤ 2 ^ 24) (sym base_now) few;
       lawful = subst (λ (m : Metas). IsLawful p.super.md_len (resolved m)) (sym base_now)
-          (subst (IsLawful p.super.md_len) (sym (alone_resolved p.super all all_are)) lawful);
+          (subst (IsLawful p.super.md_len) (sym (steady_resolved p.super all all_are)) lawful);
       clusters = t.laid.clusters;
     }
 
@@ -243,7 +243,7 @@ module _ (known : Known) where
         let done : RunInvariant s first script now =
         record {
           super = facts.super;
-          loadable = facts.loadable;
+          steady = facts.steady;
           few = facts.few;
           lawful = facts.lawful;
           legal = facts.legal;

@@ -37,7 +37,7 @@ module _ (known : Known) (j : JobState) (is : known.p.job ≡ Some j) (at : ℕ)
         let done : RunInvariant s first script now =
         record {
           super = facts.super;
-          loadable = facts.loadable;
+          steady = facts.steady;
           few = facts.few;
           lawful = facts.lawful;
           legal = kept.legal;
@@ -63,7 +63,7 @@ module _ (known : Known) (j : JobState) (is : known.p.job ≡ Some j) (at : ℕ)
       let done : RunInvariant s first script now =
       record {
         super = facts.super;
-        loadable = facts.loadable;
+        steady = facts.steady;
         few = facts.few;
         lawful = facts.lawful;
         legal = facts.legal;

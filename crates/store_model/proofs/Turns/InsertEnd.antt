@@ -135,7 +135,7 @@ module _ (known : Known) where
         let done : RunInvariant s first script now =
         record {
           super = facts.super;
-          loadable = facts.loadable;
+          steady = facts.steady;
           few = facts.few;
           lawful = facts.lawful;
           legal = facts.legal;

@@ -21,7 +21,7 @@ use Rattle.running_store.specs.declared.job.RunningJob.{RunningJob}
 use Rattle.metadata_turns.specs.declared.preparing.Prepared.{Prepared}
 use Rattle.running_store.proofs.Counting.{left_same}
 use Rattle.metadata_turns.proofs.InsertBegun.{begun, posted_with, row_is, some_left, unprepared}
-use Rattle.metadata_turns.proofs.InsertReady.{has_chain, loadable}
+use Rattle.metadata_turns.proofs.InsertReady.{has_chain, steady}
 use Rattle.metadata_turns.proofs.JobAsked.{all_fit}
 use Rattle.metadata_turns.proofs.inserting.start.Goals as goal
 
@@ -32,13 +32,13 @@ prepare-requires-clause-there g c = λ _.
 
 pub prepare-requires-clause-xattrs : goal.prepare-requires-clause-xattrs
 prepare-requires-clause-xattrs g c =
-    let known = loadable (state_of g.D.PageDisk (view_of c.args.running.now)) c.requires.running c.requires.runs
+    let known = steady (state_of g.D.PageDisk (view_of c.args.running.now)) c.requires.running c.requires.runs
     c.args.channel (claim_seen c.args.claim) c.requires.claimed c.requires.fills.0 c.requires.fills.1 in
     all_fit c.args.new.xattrs (subst (λ (m : Meta). CanBeWritten m.xattrs) (sym c.requires.fills.2) known.stored.xattrs)
 
 pub prepare-requires-clause-internal : goal.prepare-requires-clause-internal
 prepare-requires-clause-internal g c =
-    let known = loadable (state_of g.D.PageDisk (view_of c.args.running.now)) c.requires.running c.requires.runs
+    let known = steady (state_of g.D.PageDisk (view_of c.args.running.now)) c.requires.running c.requires.runs
     c.args.channel (claim_seen c.args.claim) c.requires.claimed c.requires.fills.0 c.requires.fills.1 in
     all_fit c.args.new.internal
     (subst (λ (m : Meta). CanBeWritten m.internal) (sym c.requires.fills.2) known.stored.internal)

@@ -15,8 +15,8 @@ returns-clause-whole g c =
     let e = c.in-Ok.ensures in
     let store = c.in-Ok.store in
     record {
-      loadable = e.loadable;
-      lawful = lawful store.sup (map.get store.metas) e.loadable e.few e.alone;
+      steady = e.steady;
+      lawful = lawful store.sup (map.get store.metas) e.steady e.parentless e.few e.alone;
       chains = e.chains;
       masks = e.masks;
       none_removed = c.new.ensures;

@@ -4,15 +4,15 @@ use Rattle.super_block.specs.declared.page.Super.{Super}
 use Rattle.super_block.specs.Numbers.{clusters_of, fixed_clusters_of}
 use Rattle.store_model.specs.Maps.{Metas}
 use Rattle.store_model.specs.Places.{Unclaimed, UsedClusters}
-use Rattle.store_model.specs.RunInvariant.{AreLoadable}
+use Rattle.store_model.specs.RunInvariant.{AreSteady}
 use Rattle.unclean_load.specs.Sharing.{copies, AreCounted}
 use Rattle.unclean_load.proofs.Slots.{all_inside, mapped_copy, find_mapped}
 use Rattle.unclean_load.proofs.sharing.used_clusters.Goals as goal
 
 pub claims_of-requires-clause-inside : goal.claims_of-requires-clause-inside
-claims_of-requires-clause-inside c = all_inside c.args.sup.now (map.get c.args.metas.now) c.requires.loadable
+claims_of-requires-clause-inside c = all_inside c.args.sup.now (map.get c.args.metas.now) c.requires.steady
 
-counted_used : (s : Super) (metas : Metas) (bits : List Bool) (twice : Option ℕ) → AreLoadable s metas
+counted_used : (s : Super) (metas : Metas) (bits : List Bool) (twice : Option ℕ) → AreSteady s metas
     → length bits ≡ clusters_of s → AreCounted (fixed_clusters_of s) (copies s.md_len metas) bits twice
     → UsedClusters s bits metas Unclaimed
 counted_used s metas bits twice all count x = record {
@@ -31,5 +31,5 @@ pub returns-in_default-clause-used : goal.returns-in_default-clause-used
 returns-in_default-clause-used c =
     let claims = c.in_ok-claims.claims in
     counted_used c.args.sup.now
-    (map.get c.args.metas.now) claims.clusters claims.twice c.requires.loadable c.in_ok-claims.ensures.count
+    (map.get c.args.metas.now) claims.clusters claims.twice c.requires.steady c.in_ok-claims.ensures.count
     c.in_ok-claims.ensures.counted

@@ -9,7 +9,7 @@ use Rattle.store_core.proofs.Starts.{is_loaded_with, it_opens, none_past}
 use Rattle.store_core.proofs.plant.Plant.start.Goals as goal
 
 pub parts_at_start-requires : goal.parts_at_start-requires
-parts_at_start-requires g c = none_past c.args.loaded.sup (map.get c.args.loaded.metas) c.requires.whole.loadable
+parts_at_start-requires g c = none_past c.args.loaded.sup (map.get c.args.loaded.metas) c.requires.whole.steady
 
 pub invariant_of-result : goal.invariant_of-result
 invariant_of-result g c =

@@ -1,12 +1,13 @@
--- Which metadata the store can hold, and a load takes.
-use Rattle.std.specs.Prelude.{◌≡◌, ℕ, ◌+◌, ◌<◌, ◌≤◌, length, Some, None, codes}
+-- Which metadata the store can hold, and a running one has.
+use Rattle.std.specs.Prelude.{◌≡◌, ℕ, ◌+◌, ◌<◌, ◌≤◌, length, Some, None}
 use Rattle.std.specs.List.{AllByRecursion}
-use Rattle.volume_model.specs.Xattrs.{Xattrs, value_of}
+use Rattle.volume_model.specs.Xattrs.{Xattrs}
 use Rattle.volume_model.specs.declared.text.Xattr.{Xattr}
 use Rattle.super_block.specs.declared.page.Super.{Super}
 use Rattle.blob_meta.specs.declared.meta.Meta.{Meta}
 use Rattle.blob_meta.specs.Says.{without_bit_1}
 use Rattle.blob_meta.specs.Faults.{meta_fault}
+use Rattle.blob_meta.specs.Resolving.{mark_of}
 use Rattle.blob_meta.specs.Items.{HasDistinctNames}
 use Rattle.md_chain.specs.Chain.{blob_id}
 use Rattle.store_model.specs.Maps.{Metas}
@@ -26,17 +27,16 @@ pub record IsStored (s : Super) (head : ℕ) (m : Meta) : Type 0 where
   pub internal : CanBeWritten m.internal
   pub faultless : meta_fault (region_of s).fixed (region_of s).clusters m ≡ None
 
--- a blob that has no parent, and no mark of a snapshot that is being made or removed
-pub record StandsAlone (m : Meta) : Type 0 where
-  pub no_parent : value_of m.internal (codes "SNAP") ≡ None
-  pub not_made : value_of m.internal (codes "SNAPTMP") ≡ None
-  pub not_removed : value_of m.internal (codes "SNAPRM") ≡ None
+-- a blob that is no snapshot which is being made or removed
+abbrev pub IsUnmarked : Meta → Type 0
+IsUnmarked m = mark_of m ≡ None
 
--- What a load takes: the metadata of a blob that the store can hold and that stands alone. Snapshots and clones are
--- answered with `NotYet`.
-pub record IsLoadable (s : Super) (head : ℕ) (m : Meta) : Type 0 where
+-- A blob is steady if the store can hold it, and it isn't being made or removed. (Marks come with recovery: a store that
+-- runs has none so far.)
+pub record IsSteady (s : Super) (head : ℕ) (m : Meta) : Type 0 where
   pub stored : IsStored s head m
-  pub alone : StandsAlone m
+  pub unmarked : IsUnmarked m
 
-abbrev pub AreLoadable : Super → Metas → Type 0
-AreLoadable s metas = (head : ℕ) (m : Meta) → metas head ≡ Some m → IsLoadable s head m
+-- each blob is steady: then the metadata is resolved as it is
+abbrev pub AreSteady : Super → Metas → Type 0
+AreSteady s metas = (head : ℕ) (m : Meta) → metas head ≡ Some m → IsSteady s head m
