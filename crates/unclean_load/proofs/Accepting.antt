@@ -53,7 +53,7 @@ some_pages s placed =
 -- ---- no parent and no mark
 
 unmarked : (s : Super) (head : ℕ) (m : Meta) → IsSteady s head m → parent_of m ≡ None → has_mark m ≡ false
-unmarked s head m steady none = rw (none, steady.unmarked) refl
+unmarked s head m steady none = rw (steady.named, none, steady.unmarked) refl
 
 -- ---- the image
 
