@@ -3,8 +3,11 @@
 #![tactic(auto)]
 
 ghost use Rattle.run_moves.specs.ChannelTurns.{ChannelTurnLaws};
+ghost use Rattle.run_moves.specs.DriverLaws.{DriverLaws, PlainRowLaws};
 ghost use Rattle.run_moves.specs.JobTurns.{JobTurnLaws};
 ghost use Rattle.run_moves.specs.ServingTurns.{ServingTurnLaws};
+
+use run_work::moves_keep_facts;
 
 /// Each turn of a channel is a move of it.
 pub fn channels_move()
@@ -20,3 +23,16 @@ pub fn messages_move()
 pub fn jobs_move()
     ensures { JobTurnLaws }
 {}
+
+/// Whatever turns are made of a store, from its opening on, rows with a claim and those of inserts have a write first.
+pub fn rows_stay_plain()
+    ensures { PlainRowLaws }
+{}
+
+/// Each step of a driver, over a store and its messages, is a step of the run; a driver can start at whatever stages the
+/// rows are; and a channel that makes a turn can move.
+pub fn steps_are_moves()
+    ensures { DriverLaws }
+{
+    moves_keep_facts();
+}
