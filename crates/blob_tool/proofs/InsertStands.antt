@@ -33,7 +33,7 @@ use Rattle.store_model.proofs.Shows.{steady_resolved}
 use Rattle.store_model.proofs.WithEntry.{given_here}
 use Rattle.std.specs.Option.{option_and_then}
 use Rattle.blob_tool.specs.Writing.{HasSlot, InsertRuns, InsertStandsAt, IsAimed, IsAt, logged, put, puts, won}
-use Rattle.blob_tool.proofs.WriteStands.{aimed_still, LooksAlike, slot_still}
+use Rattle.blob_tool.proofs.AimStands.{aimed_still, LooksAlike, slot_still}
 
 module _ (volume : VolumeRef) (page : ℕ) (word : PageWord) (rest : List Command) where
   -- as it is said of this write

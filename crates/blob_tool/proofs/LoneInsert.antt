@@ -31,7 +31,7 @@ use Rattle.channel_turns.specs.declared.settling.SettleTurn.TheVariants as settl
 use Rattle.thin_write.specs.Turns.{OthersStay}
 use Rattle.blob_tool.specs.Writing.{FindsFilled, InsertsWrite, InsertStandsAt, IsSentBy, logged, put, puts, won}
 use Rattle.blob_tool.proofs.InsertTurns.{job_goes_on}
-use Rattle.blob_tool.proofs.WriteStands.{aimed_still, changes_here, LooksAlike, slot_still}
+use Rattle.blob_tool.proofs.AimStands.{aimed_still, changes_here, LooksAlike, slot_still}
 
 -- ---- it begins, or not
 

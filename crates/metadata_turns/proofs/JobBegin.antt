@@ -211,7 +211,8 @@ module _ {D : Type 0} (d : Ghosts D) (p : StoreView D) (channel : ℕ) (low : ch
               ∙ ap (λ (l : List ℕ). with_job rows_then (todo_with l) pages clusters)
               (from_start (cluster_pages_of p.super) claimed)
               ∙ ap (with_job rows_then (todo_with (pages_of (cluster_pages_of p.super) claimed)) pages) set
-              ∙ ap (λ (bits : List Bool). with_job rows_then (todo_with (pages_of (cluster_pages_of p.super) claimed)) bits (all_set p.clusters claimed true))
+              ∙ ap (λ (bits : List Bool). with_job rows_then (todo_with (pages_of (cluster_pages_of p.super) claimed)) bits
+              (all_set p.clusters claimed true))
               (is.taken ∙ ap (λ l. all_set p.pages l true)
               (sym (append-nil (taken_for makes planned.head (drop 1 planned.chain)))));
         }
