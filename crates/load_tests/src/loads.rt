@@ -15,6 +15,9 @@ const NAME: &[u8] = b"\x02\x0a\0\0\0\x04\0\x02\0namea\0";
 
 const SNAP: &[u8] = b"\x04\x10\0\0\0\x04\0\x08\0SNAP\x01\0\0\0\x01\0\0\0";
 
+/// A mark SNAP whose id is no blob's, being below 2^32.
+const SNAP_OF_NO_HEAD: &[u8] = b"\x04\x10\0\0\0\x04\0\x08\0SNAP\x01\0\0\0\0\0\0\0";
+
 /// Runs of 2^20 empty slots, and of one.
 const MILLION: &[u8] = b"\x01\x08\0\0\0\0\0\0\0\0\0\x10\0";
 
@@ -26,7 +29,7 @@ struct Case {
     text: &'static str,
 }
 
-const CASES: [Case; 14] = [
+const CASES: [Case; 15] = [
     Case {
         pages: &[],
         text: "loaded",
@@ -71,6 +74,10 @@ const CASES: [Case; 14] = [
     },
     Case {
         pages: &[(6, 6, 0, LAST, &[THICK, SNAP])],
+        text: "blob at page 6: snapshots and clones are not loaded so far",
+    },
+    Case {
+        pages: &[(6, 6, 0, LAST, &[THICK, SNAP_OF_NO_HEAD])],
         text: "blob at page 6: snapshots and clones are not loaded so far",
     },
     Case {

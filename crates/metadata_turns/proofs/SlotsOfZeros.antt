@@ -19,7 +19,7 @@ use Rattle.store_model.proofs.Cut.{length_cut, slot_kept, slot_past, slot_was}
 use Rattle.store_model.proofs.InARow.{among_range, range_differs}
 use Rattle.store_model.proofs.JobReady.{new_of, zeros_of}
 use Rattle.store_model.proofs.NewBlob.{empty_slot}
-use Rattle.store_model.proofs.ResizeStep.{added_zeros}
+use Rattle.store_model.proofs.ResizeAsked.{added_zeros}
 use Rattle.store_model.proofs.ZeroSlots.{AreEmpty}
 
 -- They are empty slots of the metadata, each once, and its clusters are of maps that there are.

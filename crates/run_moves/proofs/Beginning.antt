@@ -25,6 +25,7 @@ use Rattle.run_work.specs.Reading.{frozen_set, logged_at, row_at}
 use Rattle.run_work.specs.RunState.{AtInJob, MetadataCommand}
 use Rattle.run_work.specs.ChannelMoves.{moved_row}
 use Rattle.run_work.specs.ServingMoves.{BeginInsertMove, BeginJobMove, for_message, LoseInsertMove}
+use Rattle.run_work.specs.Steps.{begin_step, served_step}
 use Rattle.run_work.specs.Work.{replacements_in}
 use Rattle.run_moves.specs.Projection.{claim_in_run, command_in_run, job_in_run}
 use Rattle.run_moves.specs.Projection.{phase_in_run, phases_in_run, row_in_run, run_state_of, RunMessages, stage_in_run}
@@ -123,23 +124,42 @@ module _ (p q : StoreState) (d : RunMessages) (held : Option Msg) (waiting : Lis
   abbrev e : RunMessages
   e = with_taken d held waiting
 
-  loses_insert_moves : (t : LosesInsert p q) → ServesRow p q d held waiting t.posted.row
-      → LoseInsertMove (sizes_of p.super) (run_state_of p d) t.posted.row (run_state_of q e)
-  loses_insert_moves t serves = record {
-    lost = claim_in_run t.posted.claim;
-    serial = t.serial;
-    stage = ap (λ (r : Row). stage_in_run r.stage) t.posted.is;
-    claim = ap (λ (r : Row). option_map claim_in_run r.claim) t.posted.is;
-    doomed = doomed_claim p t.posted.claim t.cannot;
-    held = held;
-    waiting = waiting;
-    serves = serves;
-    next = changes_row p q e t.posted.row p.device.reads _ _ p.job p.frozen refl (ap (λ v. run_state_of v e) t.next);
-  }
+  -- an insert is lost, and its row served in this step
+  abbrev pub LosesSo : (ch : ℕ) → ServesRow p q d held waiting ch → Type 0
+  LosesSo ch serves = (move : LoseInsertMove (sizes_of p.super) (run_state_of p d) ch (run_state_of q e))
+      × (served_step move.serves ≡ served_step serves)
 
-  begins_insert_moves : IsMeasured p → (t : BeginsInsert p q) → ServesRow p q d held waiting t.posted.row
-      → BeginInsertMove (sizes_of p.super) (run_state_of p d) t.posted.row (run_state_of q e)
-  begins_insert_moves measured t serves =
+  -- or begins
+  abbrev pub BeginsInsertSo : (ch : ℕ) → ServesRow p q d held waiting ch → Type 0
+  BeginsInsertSo ch serves = (move : BeginInsertMove (sizes_of p.super) (run_state_of p d) ch (run_state_of q e))
+      × (served_step move.serves ≡ served_step serves)
+
+  -- or the job of a command does
+  abbrev pub BeginsSo : (ch : ℕ) → ServesRow p q d held waiting ch → Type 0
+  BeginsSo ch serves = (move : BeginJobMove (sizes_of p.super) (run_state_of p d) ch (run_state_of q e))
+      × (begin_step move.begins ≡ served_step serves)
+
+  -- as the turns do
+  pub loses_insert_so : (t : LosesInsert p q) (serves : ServesRow p q d held waiting t.posted.row)
+      → LosesSo t.posted.row serves
+  loses_insert_so t serves = (
+    record {
+      lost = claim_in_run t.posted.claim;
+      serial = t.serial;
+      stage = ap (λ (r : Row). stage_in_run r.stage) t.posted.is;
+      claim = ap (λ (r : Row). option_map claim_in_run r.claim) t.posted.is;
+      doomed = doomed_claim p t.posted.claim t.cannot;
+      held = held;
+      waiting = waiting;
+      serves = serves;
+      next = changes_row p q e t.posted.row p.device.reads _ _ p.job p.frozen refl (ap (λ v. run_state_of v e) t.next);
+    },
+    refl,
+  )
+
+  pub begins_insert_so : IsMeasured p → (t : BeginsInsert p q)
+      → (serves : ServesRow p q d held waiting t.posted.row) → BeginsInsertSo t.posted.row serves
+  begins_insert_so measured t serves =
       let todo = phases_of t.replacing None [] in
       let job : JobState = record {
         serves = ForInsert t.posted.row;
@@ -149,27 +169,29 @@ module _ (p q : StoreState) (d : RunMessages) (held : Option Msg) (waiting : Lis
         todo = todo;
       } in
       let short = replacement_short p measured _ _ t.replacing t.laid None in
-      let long = length-map todo (phase_in_run (ForInsert t.posted.row)) in
-      record {
-        won = claim_in_run t.posted.claim;
-        serial = t.serial;
-        stage = ap (λ (r : Row). stage_in_run r.stage) t.posted.is;
-        claim = ap (λ (r : Row). option_map claim_in_run r.claim) t.posted.is;
-        idle = ap (option_map job_in_run) t.no_job;
-        held = held;
-        waiting = waiting;
-        serves = serves;
-        job = job_in_run job;
-        waits = refl;
-        thaws = refl;
-        short = subst (λ n. n ≤ replacement_turns p.super) (sym long) short;
-        plain = phases.replacements_writing (ForInsert t.posted.row) t.replacing.fresh _
-            ∙ phases.replacements_erasing (ForInsert t.posted.row) t.replacing.old t.replacing.old;
-        inserts = phases.decision_writing (ForInsert t.posted.row) t.replacing.fresh _;
-        next = changes_row p q e t.posted.row p.device.reads _ _ (Some job) p.frozen
-            (ap (λ (r : Row). row_at (row_in_run p.super r) AtInJob) (sym t.posted.is))
-            (ap (λ v. run_state_of v e) t.next);
-      }
+      let long = length-map todo (phase_in_run (ForInsert t.posted.row)) in (
+        record {
+          won = claim_in_run t.posted.claim;
+          serial = t.serial;
+          stage = ap (λ (r : Row). stage_in_run r.stage) t.posted.is;
+          claim = ap (λ (r : Row). option_map claim_in_run r.claim) t.posted.is;
+          idle = ap (option_map job_in_run) t.no_job;
+          held = held;
+          waiting = waiting;
+          serves = serves;
+          job = job_in_run job;
+          waits = refl;
+          thaws = refl;
+          short = subst (λ n. n ≤ replacement_turns p.super) (sym long) short;
+          plain = phases.replacements_writing (ForInsert t.posted.row) t.replacing.fresh _
+              ∙ phases.replacements_erasing (ForInsert t.posted.row) t.replacing.old t.replacing.old;
+          inserts = phases.decision_writing (ForInsert t.posted.row) t.replacing.fresh _;
+          next = changes_row p q e t.posted.row p.device.reads _ _ (Some job) p.frozen
+              (ap (λ (r : Row). row_at (row_in_run p.super r) AtInJob) (sym t.posted.is))
+              (ap (λ v. run_state_of v e) t.next);
+        },
+        refl,
+      )
 
   module _ (measured : IsMeasured p) (t : Begins p q) where
     abbrev commit_phases : List Replacing → ℕ → List Phase
@@ -230,45 +252,46 @@ module _ (p q : StoreState) (d : RunMessages) (held : Option Msg) (waiting : Lis
         (subst (λ l. AreLaid p.super p.base p.chains p.pages t.claimed (with_zeroed l t.changes.zero t.claimed) t.list)
         one.list t.laid))
 
-    begins_moves : ServesRow p q d held waiting t.posted.channel
-        → BeginJobMove (sizes_of p.super) (run_state_of p d) t.posted.channel (run_state_of q e)
-    begins_moves serves =
+    pub begins_so : (serves : ServesRow p q d held waiting t.posted.channel) → BeginsSo t.posted.channel serves
+    begins_so serves =
         let todo = commit_phases t.list t.changes.commit in
-        let asks = job_asks p t.posted.command t.changes t.commit t.asked in
-        record {
-          commands = map (command_in_run p.super) t.posted.rest;
-          left = ap (λ (r : Row). map (command_in_run p.super) r.left) t.posted.row
-              ∙ ap (λ x. x ∷ map (command_in_run p.super) t.posted.rest) asks;
-          serial = t.posted.serial;
-          stage = ap (λ (r : Row). stage_in_run r.stage) t.posted.row;
-          idle = ap (option_map job_in_run) t.no_job;
-          held = held;
-          waiting = waiting;
-          fill = d.fill;
-          begins = for_message refl serves;
-          job = job_in_run (seen_job todo);
-          waits = ap (λ b. if b then Some t.posted.channel else None) counted.committed;
-          short = subst (λ n. n ≤ clusters_of p.super * cluster_pages_of p.super + replacement_turns p.super)
-              (sym (length-map todo (phase_in_run (ForCommand t.posted.channel)))) counted.short;
-          few = counted.few;
-          next = changes_row p q e t.posted.channel p.device.reads _ _ (Some (seen_job todo))
-              (freezing p.frozen t.changes.freeze)
-              (ap (λ x. record {
-                left = x ∷ map (command_in_run p.super) t.posted.rest;
-                stage = AtInJob;
-                claim = None;
-              }) asks) (ap (λ v. run_state_of v e) t.next)
-              ∙ ap (λ f. record (moved_row (run_state_of p e) t.posted.channel
-              (logged_at (MetadataCommand ∷ map (command_in_run p.super) t.posted.rest) AtInJob)) {
-                job = Some (job_in_run (seen_job todo));
-                frozen = f;
-              }) (frozen_same p.frozen t.changes.freeze);
-        }
+        let asks = job_asks p t.posted.command t.changes t.commit t.asked in (
+          record {
+            commands = map (command_in_run p.super) t.posted.rest;
+            left = ap (λ (r : Row). map (command_in_run p.super) r.left) t.posted.row
+                ∙ ap (λ x. x ∷ map (command_in_run p.super) t.posted.rest) asks;
+            serial = t.posted.serial;
+            stage = ap (λ (r : Row). stage_in_run r.stage) t.posted.row;
+            idle = ap (option_map job_in_run) t.no_job;
+            held = held;
+            waiting = waiting;
+            fill = d.fill;
+            begins = for_message refl serves;
+            job = job_in_run (seen_job todo);
+            waits = ap (λ b. if b then Some t.posted.channel else None) counted.committed;
+            short = subst (λ n. n ≤ clusters_of p.super * cluster_pages_of p.super + replacement_turns p.super)
+                (sym (length-map todo (phase_in_run (ForCommand t.posted.channel)))) counted.short;
+            few = counted.few;
+            next = changes_row p q e t.posted.channel p.device.reads _ _ (Some (seen_job todo))
+                (freezing p.frozen t.changes.freeze)
+                (ap (λ x. record {
+                  left = x ∷ map (command_in_run p.super) t.posted.rest;
+                  stage = AtInJob;
+                  claim = None;
+                }) asks) (ap (λ v. run_state_of v e) t.next)
+                ∙ ap (λ f. record (moved_row (run_state_of p e) t.posted.channel
+                (logged_at (MetadataCommand ∷ map (command_in_run p.super) t.posted.rest) AtInJob)) {
+                  job = Some (job_in_run (seen_job todo));
+                  frozen = f;
+                }) (frozen_same p.frozen t.changes.freeze);
+          },
+          refl,
+        )
 
   -- all of them
   pub beginning_turns : BeginningTurns p q d held waiting
   beginning_turns = record {
-    loses_insert = loses_insert_moves;
-    begins_insert = begins_insert_moves;
-    begins = begins_moves;
+    loses_insert = λ t serves. (loses_insert_so t serves).0;
+    begins_insert = λ measured t serves. (begins_insert_so measured t serves).0;
+    begins = λ measured t serves. (begins_so measured t serves).0;
   }

@@ -9,3 +9,9 @@ pub mod Beginning
 pub mod JobTurning
 pub mod CommitTurns
 pub mod Replacing
+pub mod PlainRows
+pub mod PlainTurns
+pub mod CanMove
+pub mod ChannelSteps
+pub mod MetadataSteps
+pub mod DriverMoves

@@ -3,3 +3,7 @@ pub mod Sizes
 pub mod ChannelTurns
 pub mod ServingTurns
 pub mod JobTurns
+pub mod DrivenStore
+pub mod DriverSteps
+pub mod PlainRows
+pub mod DriverLaws

@@ -146,6 +146,7 @@ module _ (old : Meta) (i cluster : ℕ) (within : i < length old.map) (empty : s
       internal = was.stored.internal;
       faultless = still_passes (region_of s).fixed (region_of s).clusters inside was.stored.faultless;
     };
+    named = was.named;
     unmarked = was.unmarked;
   }
 

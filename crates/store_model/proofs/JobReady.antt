@@ -44,7 +44,8 @@ use Rattle.store_model.proofs.CreateStep.{create_ready, new_zeros}
 use Rattle.store_model.proofs.Known.{Known}
 use Rattle.store_model.proofs.LeftToDo.{chain_new, chain_there}
 use Rattle.store_model.proofs.OneReplacement.{IsReady}
-use Rattle.store_model.proofs.ResizeStep.{added_zeros, resize_ready}
+use Rattle.store_model.proofs.ResizeAsked.{added_zeros}
+use Rattle.store_model.proofs.ResizeStep.{resize_ready}
 use Rattle.store_model.proofs.SyncStep.{sync_ready}
 
 -- ---- the one replacement

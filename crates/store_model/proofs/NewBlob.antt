@@ -94,6 +94,7 @@ new_steady s head xattrs thick slots low can few thin = record {
     faultless = all_pass _ _ _ _ (known_flags thick)
         (new_passes (region_of s).fixed (region_of s).clusters slots few) (no_hole thick slots thin) refl;
   };
+  named = refl;
   unmarked = refl;
 }
 

@@ -61,6 +61,7 @@ new_steady s head old new xattrs old_one is can =
         internal = old_one.stored.internal;
         faultless = old_one.stored.faultless;
       };
+      named = old_one.named;
       unmarked = old_one.unmarked;
     } in
     subst (IsSteady s head) (sym is) made

@@ -1,17 +1,18 @@
 -- What a resize asks for: steady metadata, and what each image shows with it.
-use Rattle.std.proofs.Common.{◌≡◌, ◌≢◌, ℕ, suc, ◌+◌, ◌/◌, ◌-◌, ◌<◌, ◌≤◌, ◌^◌, ◌&&◌, Bool, true, false, List, [], ◌∷◌, length}
+use Rattle.std.proofs.Common.{◌≡◌, ◌≢◌, ℕ, suc, ◌+◌, ◌/◌, ◌-◌, ◌<◌, ◌≤◌, ◌^◌, ◌&&◌, Bool, true, false, List, [], ◌∷◌}
+use Rattle.std.proofs.Common.{length}
 use Rattle.std.proofs.Common.{Option, Some, None, refl, sym, ap, ◌∙◌, subst, inl, inr, arith}
 use Rattle.std.specs.List.{position}
 use Rattle.std.specs.Prelude.{is_none, if◌then◌else◌, is_some, IsSome, nat_lt}
-use Rattle.std.specs.List.{AllByRecursion, range_with_len}
+use Rattle.std.specs.List.{AllByRecursion}
 use Rattle.std.specs.Option.{option_map, option_map_or}
 use Rattle.std.proofs.lemmas.Bool.{cases_Bool, cases_eq, cases_lt, false≢true, lt-ltb, ltb-false}
 use Rattle.std.proofs.lemmas.Bool.Decides.{nat_tests}
 use Rattle.std.proofs.Math.Path.{fun_ext}
 use Rattle.page_disk.specs.Disk.{Image}
-use Rattle.volume_model.specs.Volumes.{all_slots, Fixed, head_of, is_super, resized, slots_at, slots_of, Volume, zero_page}
+use Rattle.volume_model.specs.Volumes.{all_slots, Fixed, head_of, resized, slots_at, slots_of, Volume, zero_page}
 use Rattle.volume_model.specs.Volumes.{Volumes}
-use Rattle.volume_model.specs.Refusals.{has_longer_parent, is_too_large, refusal}
+use Rattle.volume_model.specs.Refusals.{has_longer_parent, refusal}
 use Rattle.volume_model.specs.Steps.{Allowed, change, named_head}
 use Rattle.volume_model.specs.declared.command.Command.{Command}
 use Rattle.volume_model.specs.declared.command.Command.TheVariants as c
@@ -36,72 +37,34 @@ use Rattle.store_model.specs.Steady.{AreSteady, CanBeWritten, IsSteady}
 use Rattle.store_model.specs.RunInvariant.{RunsWell}
 use Rattle.store_model.proofs.Cut.{length_cut, slot_kept, slot_past, slot_was}
 use Rattle.store_model.proofs.ClaimedZeros.{claimed_inside, zeroed_fresh, zeroed_is, zeros_read}
-use Rattle.store_model.proofs.InARow.{among_range, range_among, range_differs}
+use Rattle.store_model.proofs.InARow.{range_among}
 use Rattle.store_model.proofs.ZeroSlots.{filled_slot, other_slot, AreEmpty, IsZeroedAt}
-use Rattle.store_model.proofs.ZeroedBlob.{
-  all_filled,
-  lawful_zeroed,
-  slot_filled,
-  volume_zeroed,
-  zeroed_steady,
-  IsZeroed,
-}
+use Rattle.store_model.proofs.ZeroedBlob.{all_filled, lawful_zeroed, slot_filled, volume_zeroed, zeroed_steady}
+use Rattle.store_model.proofs.ZeroedBlob.{IsZeroed}
 use Rattle.blob_meta.specs.declared.fault.MetaFault.TheVariants.{HoleInThick}
 use Rattle.blob_meta.specs.Faults.{hole_in_thick}
 use Rattle.blob_meta.specs.Parents.{parent_of, slot}
 use Rattle.md_chain.specs.Chain.{is_among}
-use Rattle.store_model.specs.Places.{AreDistinct, AreLeastClear, IsMapped}
+use Rattle.store_model.specs.Places.{AreLeastClear, IsMapped}
 use Rattle.store_model.proofs.Elsewhere.{IsChildless}
 use Rattle.store_model.proofs.Known.{Known}
 use Rattle.store_model.proofs.Meanwhile.{blank_reading, reading}
 use Rattle.store_model.proofs.Moved.{live_shown, live_writable}
 use Rattle.store_model.proofs.OneReplacement.{all_steady, base_is, base_lawful, base_steady, base_resolved, IsReady}
 use Rattle.store_model.proofs.OneReplacement.{lawful_still, ready_by, some_pages}
+use Rattle.store_model.proofs.ResizeAsked.{added_zeros, can_resize, zeros_differ, zeros_lie, CanResize}
 use Rattle.store_model.proofs.ResizedBlob.{resized_but, resized_takes_none, thick_full}
 use Rattle.store_model.proofs.Shows.{or_empty}
 use Rattle.store_model.proofs.ShowsGiven.{by, childless_given, shown_given, shown_is, writable_childless}
 use Rattle.store_model.proofs.ShowsResized.{IsNoLonger, page_added, volume_resized}
 use Rattle.store_model.proofs.SlotSums.{all_shown, slots_at_shown, slots_given, slots_in, slots_shown}
 use Rattle.store_model.proofs.Synced.{edited_here, edited_there}
-use Rattle.store_model.proofs.Writable.{AllWritable, none_holds}
+use Rattle.store_model.proofs.Writable.{AllWritable}
 use Rattle.store_model.proofs.WithEntry.{given_here, given_elsewhere}
-
--- the slots that get clusters of zeros: those that are added to a blob that isn't thin
-abbrev pub added_zeros : Bool → ℕ → ℕ → List ℕ
-added_zeros thin len slots = if thin then [] else range_with_len len (slots - len)
-
-zeros_differ : (thin : Bool) (len slots : ℕ) → AreDistinct (added_zeros thin len slots)
-zeros_differ true len slots = tt
-zeros_differ false len slots = range_differs len (slots - len)
-
-zeros_lie : (thin : Bool) (len slots i : ℕ) → is_among i (added_zeros thin len slots) ≡ true → (len ≤ i) × (i < slots)
-zeros_lie true len slots i among = absurd (cc among)
-zeros_lie false len slots i among =
-    let x = among_range len (slots - len) i among in
-    let le = x.0 in
-    let lt = x.1 in
-    (le, omega (arith, le, lt))
 
 no_some : (o : Option ℕ) → o ≡ None → IsSome o → ⊥
 no_some None none some = cc some
 no_some (Some x) none some = cc none
-
--- ---- a resize that nothing refuses
-
-record CanResize (f : Fixed) (v : Volumes) (slots : ℕ) (x : Volume) : Type 0 where
-  writable : x.read_only ≡ false
-  short : (nat_lt (slots_of f x) slots && has_longer_parent f v x (slots_of f x)) ≡ false
-  large : is_too_large f v slots (all_slots f v - slots_of f x) ≡ false
-
-can_resize : (f : Fixed) (v : Volumes) (volume : VolumeRef) (slots head : ℕ) (x : Volume)
-    → head_of f v volume ≡ Some head → v head ≡ Some x → refusal f v (c.Resize volume slots) ≡ None
-    → CanResize f v slots x
-can_resize f v volume slots head x found there asked =
-    let none = none_holds
-    ((is_super f head, r_.Reserved) ∷ (x.read_only, r_.ReadOnly)
-    ∷ (nat_lt (slots_of f x) slots && has_longer_parent f v x (slots_of f x), r_.Short)
-    ∷ (is_too_large f v slots (all_slots f v - slots_of f x), r_.TooLarge) ∷ []) (rw (found, there) at asked) in
-    record { writable = none.1.0; short = none.1.1.0; large = none.1.1.1.0 }
 
 module _ (known : Known) where
   open known use {first, p, facts}

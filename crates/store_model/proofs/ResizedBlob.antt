@@ -74,6 +74,7 @@ resized_but m slots s head few old =
           let below = x.below in
           grind (arith, nat_tests, behind, below);
       marks = was.marks;
+      named = old.named;
       unmarked = old.unmarked;
     }
 

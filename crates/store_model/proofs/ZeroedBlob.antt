@@ -1,5 +1,5 @@
--- A blob with claimed clusters in slots that were empty: it is steady, all metadata is lawful with it, and it shows what
--- it showed where the clusters read as zeros and so did the slots.
+-- A blob with claimed clusters in slots that were empty: it is steady, all metadata is lawful with it, and it shows
+-- what it showed where the clusters read as zeros and so did the slots.
 use Rattle.std.proofs.Common.{
   ◌≡◌,
   ◌≢◌,
@@ -37,7 +37,7 @@ use Rattle.blob_meta.specs.Faults.{bad_mark, clusters_of, hole_in_thick, is_outs
 use Rattle.blob_meta.specs.Says.{without_bit_1}
 use Rattle.md_chain.specs.Chain.{blob_id}
 use Rattle.store_model.specs.Regions.{region_of}
-use Rattle.store_model.specs.Steady.{CanBeWritten, IsSteady, IsUnmarked}
+use Rattle.store_model.specs.Steady.{CanBeWritten, IsSteady, IsUnmarked, NamesHead}
 use Rattle.store_model.proofs.NewBlob.{all_pass, clear_flags, empty_slot, few_pass, known_flags}
 use Rattle.blob_meta.specs.Jobs.{new_meta}
 use Rattle.std.proofs.lemmas.List.{length-replicate}
@@ -255,6 +255,7 @@ pub record IsSteadyBut (s : Super) (head : ℕ) (m : Meta) : Type 0 where
   pub few : length m.map ≤ 2 ^ 20
   pub inside : (i c : ℕ) → slot m i ≡ Some c → is_outside (region_of s).fixed (region_of s).clusters c ≡ false
   pub marks : bad_mark m.internal ≡ None
+  pub named : NamesHead m
   pub unmarked : IsUnmarked m
 
 pub zeroed_steady : (s : Super) (head : ℕ) (m later : Meta) (claimed : List ℕ) → IsZeroed m later claimed
@@ -271,6 +272,7 @@ zeroed_steady s head m later claimed is but inside full =
         internal = but.internal;
         faultless = all_pass _ _ _ _ but.flags map_passes full but.marks;
       };
+      named = but.named;
       unmarked = but.unmarked;
     })
   where
@@ -305,5 +307,6 @@ new_but s head xattrs thick slots low can few = record {
   few = omega (arith, few, length-replicate {A = Option ℕ} slots None);
   inside = λ i c at. absurd (let bad = sym (empty_slot slots i) ∙ at in cc bad);
   marks = refl;
+  named = refl;
   unmarked = refl;
 }

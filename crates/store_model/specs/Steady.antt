@@ -1,12 +1,13 @@
 -- Which metadata the store can hold, and a running one has.
-use Rattle.std.specs.Prelude.{◌≡◌, ℕ, ◌+◌, ◌<◌, ◌≤◌, length, Some, None}
+use Rattle.std.specs.Prelude.{◌≡◌, ℕ, ◌+◌, ◌<◌, ◌≤◌, length, codes, is_some, Some, None}
 use Rattle.std.specs.List.{AllByRecursion}
-use Rattle.volume_model.specs.Xattrs.{Xattrs}
+use Rattle.volume_model.specs.Xattrs.{Xattrs, value_of}
 use Rattle.volume_model.specs.declared.text.Xattr.{Xattr}
 use Rattle.super_block.specs.declared.page.Super.{Super}
 use Rattle.blob_meta.specs.declared.meta.Meta.{Meta}
 use Rattle.blob_meta.specs.Says.{without_bit_1}
 use Rattle.blob_meta.specs.Faults.{meta_fault}
+use Rattle.blob_meta.specs.Parents.{parent_of}
 use Rattle.blob_meta.specs.Resolving.{mark_of}
 use Rattle.blob_meta.specs.Items.{HasDistinctNames}
 use Rattle.md_chain.specs.Chain.{blob_id}
@@ -27,14 +28,19 @@ pub record IsStored (s : Super) (head : ℕ) (m : Meta) : Type 0 where
   pub internal : CanBeWritten m.internal
   pub faultless : meta_fault (region_of s).fixed (region_of s).clusters m ≡ None
 
+-- an attribute SNAP, where the blob has one, names a head
+abbrev pub NamesHead : Meta → Type 0
+NamesHead m = is_some (value_of m.internal (codes "SNAP")) ≡ is_some (parent_of m)
+
 -- a blob that is no snapshot which is being made or removed
 abbrev pub IsUnmarked : Meta → Type 0
 IsUnmarked m = mark_of m ≡ None
 
--- A blob is steady if the store can hold it, and it isn't being made or removed. (Marks come with recovery: a store that
--- runs has none so far.)
+-- A blob is steady if the store can hold it, its SNAP names a head, and it isn't being made or removed. (Marks come
+-- with recovery: a store that runs has none so far.)
 pub record IsSteady (s : Super) (head : ℕ) (m : Meta) : Type 0 where
   pub stored : IsStored s head m
+  pub named : NamesHead m
   pub unmarked : IsUnmarked m
 
 -- each blob is steady: then the metadata is resolved as it is

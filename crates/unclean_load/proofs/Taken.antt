@@ -1,35 +1,40 @@
--- A blob that was read from a chain, and has no parent and no mark, is steady; its chain is one of the region.
-use Rattle.std.proofs.Common.{◌≡◌, ℕ, suc, true, false, List, [], ◌∷◌, Option, Some, None, is_some, refl, sym, subst, inl, inr}
-use Rattle.std.proofs.Common.{arith}
-use Rattle.std.specs.Prelude.{◌||◌, ◌==◌}
+-- A blob that was read from a chain, and has no SNAP and no mark, is steady; its chain is one of the region.
+use Rattle.std.proofs.Common.{◌≡◌, ℕ, suc, true, false, List, [], ◌∷◌, Option, Some, None, is_some, refl, sym, ap}
+use Rattle.std.proofs.Common.{subst, inl, inr, arith}
+use Rattle.std.specs.Prelude.{◌||◌, ◌==◌, codes}
+use Rattle.std.specs.Option.{option_and_then}
 use Rattle.std.proofs.lemmas.Bool.{cases_Bool, or_left, or_right, or_parts, both_ways, eq-eqb}
 use Rattle.super_block.specs.declared.page.Super.{Super}
+use Rattle.volume_model.specs.Xattrs.{value_of}
 use Rattle.descriptors.specs.declared.item.Item.{Item}
 use Rattle.blob_meta.specs.declared.meta.Meta.{Meta}
 use Rattle.blob_meta.specs.Says.{without_bit_1, meta_of}
 use Rattle.blob_meta.specs.Faults.{meta_fault}
-use Rattle.blob_meta.specs.Parents.{parent_of}
+use Rattle.blob_meta.specs.Parents.{named_in, parent_of}
 use Rattle.blob_meta.specs.Resolving.{mark_of}
 use Rattle.md_chain.specs.Chain.{Look, Links, last, more, is_among}
 use Rattle.md_chain.proofs.Links.{passes, first, linked}
 use Rattle.store_model.specs.Regions.{region_of}
 use Rattle.store_model.specs.Scans.{MetaAt}
 use Rattle.store_model.specs.Places.{AreDistinct}
-use Rattle.store_model.specs.Steady.{IsSteady, IsUnmarked}
+use Rattle.store_model.specs.Steady.{IsSteady, IsUnmarked, NamesHead}
 use Rattle.unclean_load.specs.Heads.{has_mark}
 use Rattle.unclean_load.specs.Reading.{IsChainOf}
 use Rattle.unclean_load.proofs.Attributes.{xattrs_written, internal_written}
 
--- ---- no parent and no mark
+-- ---- no SNAP and no mark
 
 none_by : {X : Type 0} (o : Option X) → is_some o ≡ false → o ≡ None
 none_by None none = refl
 none_by (Some x) none = absurd (cc none)
 
-parts_of : (m : Meta) → has_mark m ≡ false → (parent_of m ≡ None) × IsUnmarked m
+parts_of : (m : Meta) → has_mark m ≡ false → (value_of m.internal (codes "SNAP") ≡ None) × IsUnmarked m
 parts_of m none =
-    let parts = or_parts (is_some (parent_of m)) (is_some (mark_of m)) none in
-    (none_by (parent_of m) parts.0, none_by (mark_of m) parts.1)
+    let parts = or_parts (is_some (value_of m.internal (codes "SNAP"))) (is_some (mark_of m)) none in
+    (none_by (value_of m.internal (codes "SNAP")) parts.0, none_by (mark_of m) parts.1)
+
+none_names : (m : Meta) → value_of m.internal (codes "SNAP") ≡ None → NamesHead m
+none_names m none = rw none refl
 
 clear_twice : (n : ℕ) → without_bit_1 (without_bit_1 n) ≡ without_bit_1 n
 clear_twice n = omega arith
@@ -94,11 +99,12 @@ module _ (look : Look) (s : Super) (head : ℕ) (m : Meta) (pages : List ℕ)
           subst (λ (n : Meta). meta_fault (region_of s).fixed
           (region_of s).clusters n ≡ None) says.meta_is says.faultless;
     };
+    named = none_names (meta_of head says.items) (parts_of (meta_of head says.items) none).0;
     unmarked = (parts_of (meta_of head says.items) none).1;
   }
 
   pub no_parent : has_mark m ≡ false → parent_of m ≡ None
-  no_parent none = (parts_of m none).0
+  no_parent none = ap (λ o. option_and_then named_in o) (parts_of m none).0
 
   -- a blob that was read is steady
   pub steady : has_mark m ≡ false → IsSteady s head m

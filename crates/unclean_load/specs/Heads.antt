@@ -1,5 +1,7 @@
 -- What the heads of a metadata region say, from the first place upwards, and the first head that shows a fault.
-use Rattle.std.specs.Prelude.{◌≡◌, ℕ, ◌+◌, ◌^◌, ◌<◌, ◌≤◌, Bool, true, false, List, length, Some, None, is_some, ◌||◌}
+use Rattle.std.specs.Prelude.{◌≡◌, ℕ, ◌+◌, ◌^◌, ◌<◌, ◌≤◌, Bool, true, false, List, length, Some, None, codes, is_some}
+use Rattle.std.specs.Prelude.{◌||◌}
+use Rattle.volume_model.specs.Xattrs.{value_of}
 use Rattle.descriptors.specs.declared.item.Item.{Item}
 use Rattle.blob_meta.specs.declared.meta.Meta.{Meta}
 use Rattle.blob_meta.specs.declared.fault.MetaFault.{MetaFault}
@@ -14,9 +16,9 @@ use Rattle.store_model.specs.Scans.{is_head, MetaAt, BlobAt, Scanned}
 use Rattle.unclean_load.specs.declared.fault.LoadFault.{LoadFault}
 use Rattle.unclean_load.specs.declared.fault.LoadFault.TheVariants as fault
 
--- the blob has a parent, or is a snapshot that was being made or removed
+-- the blob has an attribute SNAP, whatever it names, or is a snapshot that was being made or removed
 abbrev pub has_mark : Meta → Bool
-has_mark m = is_some (parent_of m) || is_some (mark_of m)
+has_mark m = is_some (value_of m.internal (codes "SNAP")) || is_some (mark_of m)
 
 -- no blob has a parent
 abbrev pub AreParentless : Metas → Type 0

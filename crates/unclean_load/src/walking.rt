@@ -11,7 +11,7 @@ ghost use Rattle.unclean_load.specs.Reading.{AreRead, HasNoneFrom, IsFaultCounte
 
 use crate::fault::LoadFault;
 use crate::heads::{Blob, blob_at};
-use blob_meta::{Chains, Meta, Metas, parent_of};
+use blob_meta::{Chains, Meta, Metas};
 use page_disk::PageDisk;
 use std::alloc::Global;
 use super_block::Super;
@@ -34,11 +34,11 @@ fn is_unfinished(meta: &Meta) -> bool
     meta.internal.value_of(b"SNAPRM").is_some() || meta.internal.value_of(b"SNAPTMP").is_some()
 }
 
-/// Whether a blob has a parent, or is a snapshot that was being made or removed.
+/// Whether a blob has the attribute that names a parent, or is a snapshot that was being made or removed.
 fn has_mark(meta: &Meta) -> bool
     ensures { result ≡ has_mark_said meta.now }
 {
-    parent_of(meta).is_some() || is_unfinished(meta)
+    meta.internal.value_of(b"SNAP").is_some() || is_unfinished(meta)
 }
 
 impl Blobs {
