@@ -11,6 +11,8 @@ mod fixtures;
 #[cfg(test)]
 mod metadata;
 #[cfg(test)]
+mod recovery;
+#[cfg(test)]
 mod refusals;
 #[cfg(test)]
 mod slot_commands;
