@@ -11,8 +11,6 @@ mod fixtures;
 #[cfg(test)]
 mod metadata;
 #[cfg(test)]
-mod recovery;
-#[cfg(test)]
 mod refusals;
 #[cfg(test)]
 mod slot_commands;
