@@ -1,5 +1,8 @@
 //! Cuts the power off in a run: runs the script from standard input on the store in an image file, over a disk in
 //! memory that stops after so many calls, prints the log, and writes to the file what a crash leaves of the disk.
+//!
+//! The image of its stored run, `data/store.img`, is what `blobtool format store.img --cluster 4096 --md-pages 2` makes
+//! of 16 pages.
 #![tactic(auto)]
 
 mod cut;
