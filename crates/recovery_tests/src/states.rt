@@ -6,11 +6,12 @@ use std::alloc::Global;
 use std::test::Fail;
 use volume_model::{Memory, XattrList};
 
-/// A blob of one slot, its flag `data_ro`, and the heads that SNAP, SNAPTMP and SNAPRM name.
+/// A blob of one slot, whether it has cluster 7 there, its flag `data_ro`, and the heads that SNAP, SNAPTMP and SNAPRM
+/// name.
 struct Blob {
     head: u32,
     data_ro: u64,
-    cluster: Option<u32>,
+    has_cluster: bool,
     snap: Option<u32>,
     tmp: Option<u32>,
     rm: Option<u32>,
@@ -20,7 +21,7 @@ struct Blob {
 const PLAIN: Blob = Blob {
     head: 5,
     data_ro: 0,
-    cluster: Some(7),
+    has_cluster: true,
     snap: None,
     tmp: None,
     rm: None,
@@ -28,7 +29,7 @@ const PLAIN: Blob = Blob {
 
 /// A blob whose parent is at head 3, and that has no cluster of its own.
 const CHILD: Blob = Blob {
-    cluster: None,
+    has_cluster: false,
     snap: Some(3),
     ..PLAIN
 };
@@ -50,7 +51,7 @@ fn with_id(
 
 fn meta_of(alloc: Global, blob: &Blob) -> Result<Meta, Memory> {
     let mut map = SlotMap::new(alloc);
-    map.push_run(blob.cluster, 1)?;
+    map.push_run(if blob.has_cluster { Some(7) } else { None }, 1)?;
     let internal = with_id(alloc, XattrList::new(alloc), b"SNAP", blob.snap)?;
     let internal = with_id(alloc, internal, b"SNAPTMP", blob.tmp)?;
     let internal = with_id(alloc, internal, b"SNAPRM", blob.rm)?;
@@ -130,7 +131,7 @@ const CASES: [Case; 10] = [
         found: &[
             Blob {
                 head: 3,
-                cluster: None,
+                has_cluster: false,
                 tmp: Some(5),
                 ..PLAIN
             },
