@@ -1,0 +1,6 @@
+pub mod RowSteps
+pub mod OwnTurns
+pub mod Stages
+pub mod HeldUp
+pub mod NextSteps
+pub mod Held

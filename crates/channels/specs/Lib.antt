@@ -1,0 +1,2 @@
+pub mod ChannelState
+pub mod ChannelSteps
