@@ -4,3 +4,5 @@ pub mod Stages
 pub mod HeldUp
 pub mod NextSteps
 pub mod Held
+pub mod Runs
+pub mod Schedules

@@ -1,7 +1,7 @@
 -- What a channel has, by what its next step is made on.
 use Rattle.std.proofs.Common.{◌≡◌, ℕ, Option, Some, None, Bool, true, false, refl}
 use Rattle.channels.specs.ChannelState.{ChannelState, next_at, next_of}
-use Rattle.channels.specs.declared.turns.Next.TheVariants as next
+use Rattle.md_thread.specs.declared.state.Next.TheVariants as next
 
 nothing_by : (unsent : Option ℕ) (ended : Bool) → next_at unsent ended ≡ next.Plant → unsent ≡ None
 nothing_by (Some serial) ended is = absurd (cc is)

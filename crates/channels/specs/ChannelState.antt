@@ -4,8 +4,8 @@ use Rattle.std.specs.Option.{option_map}
 use Rattle.volume_model.specs.declared.reply.Msg.{Msg}
 use Rattle.running_store.specs.declared.rows.RowStage.{RowStage}
 use Rattle.running_store.specs.declared.rows.RowStage.TheVariants as waits
-use Rattle.channels.specs.declared.turns.Next.{Next}
-use Rattle.channels.specs.declared.turns.Next.TheVariants as next
+use Rattle.md_thread.specs.declared.state.Next.{Next}
+use Rattle.md_thread.specs.declared.state.Next.TheVariants as next
 
 -- its number, the serial of the message that it has still to send, and whether it has ended
 pub record ChannelState : Type 0 where

@@ -1,7 +1,7 @@
 //! A channel, and the message that it has still to send.
 
 use crate::own_turn::own_turn;
-use crate::turns::{Next, Turn};
+use md_thread::{Next, Turn};
 use data_path::Stage;
 use md_queue::Outbox;
 use page_disk::PageDisk;
@@ -30,8 +30,8 @@ impl Model for Channel {
 
 impl Channel {
     ghost use Rattle.std.specs.Prelude.{◌≡◌, ◌↔◌, ℕ, ◌++◌, ◌∷◌, [], Some, None};
-    ghost use Rattle.channels.specs.declared.turns.Next.TheVariants as next;
-    ghost use Rattle.channels.specs.declared.turns.Turn.TheVariants.{Idle, Moved};
+    ghost use Rattle.md_thread.specs.declared.state.Next.TheVariants as next;
+    ghost use Rattle.md_thread.specs.declared.state.Turn.TheVariants.{Idle, Moved};
     ghost use Rattle.channels.specs.ChannelState.{channel_at, has_ended_at, message_of, next_of};
     ghost use Rattle.channels.specs.ChannelSteps.{IsHeldUp, TurnsOrPosts};
     ghost use Rattle.running_store.specs.Stages.{is_stage};

@@ -11,7 +11,6 @@ use Rattle.volume_model.specs.declared.reply.Msg.{Msg}
 use Rattle.store_model.specs.Claiming.{fill, own, Works}
 use Rattle.store_model.specs.RunInvariant.{RunInvariant}
 use Rattle.store_model.specs.StoreState.{StoreState}
-use Rattle.store_model.specs.Rows.{IsForMetadata}
 use Rattle.run_work.specs.JobMoves.{FailMove}
 use Rattle.run_work.specs.Reading.{asks_metadata}
 use Rattle.run_work.specs.RunState.{CommandInRun, RunSizes, RunState}
@@ -22,7 +21,7 @@ use Rattle.run_moves.specs.DriverLaws.{IsOfChannels}
 use Rattle.run_moves.specs.DriverSteps.{JobTurn, ServingTurn}
 use Rattle.run_moves.specs.DriverSteps as turn
 use Rattle.run_moves.specs.JobTurns.{IsJobMoveOf}
-use Rattle.run_moves.specs.PlainRows.{BeginsPlainly, HasPlainRows}
+use Rattle.run_moves.specs.PlainRows.{BeginsWithWrite, HasPlainRows}
 use Rattle.run_moves.specs.Projection.{command_in_run, run_state_of, RunMessages}
 use Rattle.run_moves.specs.ServingTurns.{IsMeasured, ServesRow, with_taken}
 use Rattle.run_moves.specs.Sizes.{sizes_of}
@@ -36,17 +35,12 @@ pub record MovesIn (z : RunSizes) (w v : RunState) (kind : MoveKind) : Type 0 wh
   pub move : OneMove z w v
   pub due : kind_of z move ≡ kind
 
-plain_command : (s : Super) (command : Command) (commands : List CommandInRun) → (IsForMetadata command → ⊥)
-    → asks_metadata (command_in_run s command ∷ commands) ≡ false
-plain_command s (c.Read volume page) commands plain = refl
-plain_command s (c.Write volume page word) commands plain = refl
-plain_command s c.Flush commands plain = refl
-plain_command s _ commands plain = absurd (plain tt)
-
-plain_row : (s : Super) (row : ℕ) (l : List Command) → BeginsPlainly row l
+-- a row with a write first asks for nothing
+write_first : (s : Super) (row : ℕ) (l : List Command) → BeginsWithWrite row l
     → asks_metadata (map (command_in_run s) l) ≡ false
-plain_row s row [] plain = refl
-plain_row s row (command ∷ commands) plain = plain_command s command (map (command_in_run s) commands) plain
+write_first s row [] begins = refl
+write_first s row (c.Write volume page word ∷ commands) begins = refl
+write_first s row _ begins = absurd begins
 
 none_behind : (made left : List Command) → made ++ left ≡ [] → left ≡ []
 none_behind [] left is = is
@@ -70,9 +64,9 @@ module _ (s : Super) (first : Volumes) (script : ℕ → List Command) (channels
   ]
 
   -- one with a claim, or in an insert, is a channel's or the metadata thread's own
-  plain_low : (row : ℕ) (l : List Command) → (p.rows row).left ≡ l → BeginsPlainly row l → row < 17
-  plain_low row [] left plain = let is : row ≡ 16 = plain in omega (arith, is)
-  plain_low row (command ∷ commands) left plain =
+  writing_low : (row : ℕ) (l : List Command) → (p.rows row).left ≡ l → BeginsWithWrite row l → row < 17
+  writing_low row [] left begins = let is : row ≡ 16 = begins in omega (arith, is)
+  writing_low row (command ∷ commands) left begins =
       let low = left_low row (command_in_run p.super command) (map (command_in_run p.super) commands)
       (ap (map (command_in_run p.super)) left) in
       omega (arith, low)
@@ -133,18 +127,18 @@ module _ (s : Super) (first : Volumes) (script : ℕ → List Command) (channels
       job_moves (turn.inserts t) =
           let begins = (plain.inserting t.running.job t.inserting.row t.running.is t.inserting.serves).1 in
           record {
-            move = by_insert t.inserting.row (plain_low t.inserting.row _ refl begins)
+            move = by_insert t.inserting.row (writing_low t.inserting.row _ refl begins)
                 ((replacing_turns p q d).inserts first (has.well t.running.runs)
                 (later.well (ap (λ (v : StoreState). v.stopped) t.next ∙ t.running.runs)) told t
-                (plain_row p.super t.inserting.row _ begins));
+                (write_first p.super t.inserting.row _ begins));
             due = refl;
           }
       job_moves (turn.insert_ends t) =
           let begins = (plain.inserting t.running.job t.inserting.row t.running.is t.inserting.serves).1 in
           record {
-            move = by_win t.inserting.row (plain_low t.inserting.row _ refl begins)
+            move = by_win t.inserting.row (writing_low t.inserting.row _ refl begins)
                 ((replacing_turns p q d).insert_ends first (has.well t.running.runs) told t
-                (plain_row p.super t.inserting.row _ begins));
+                (write_first p.super t.inserting.row _ begins));
             due = refl;
           }
       job_moves (turn.insert_fails t) = failed t.inserting.row ((failing_turns p q d).insert_fails t)

@@ -7,12 +7,12 @@ use Rattle.store_model.specs.Phases.{Phase}
 use Rattle.store_model.specs.Rows.{InJob, OpenClaim, Row, Rows, Stage, with_row}
 use Rattle.store_model.specs.StoreState.{ForInsert, going_on, JobState, StoreState}
 use Rattle.store_model.proofs.RowsKept.{row_here, row_other}
-use Rattle.run_moves.specs.PlainRows.{BeginsPlainly, HasPlainRows}
+use Rattle.run_moves.specs.PlainRows.{BeginsWithWrite, HasPlainRows}
 
 -- each row that the job inserts for waits in the job, and has no command for the metadata thread first
 abbrev pub InsertsPlainly : StoreState → Type 0
 InsertsPlainly p = (job : JobState) (row : ℕ) → p.job ≡ Some job → job.serves ≡ ForInsert row
-    → ((p.rows row).stage ≡ InJob) × BeginsPlainly row (p.rows row).left
+    → ((p.rows row).stage ≡ InJob) × BeginsWithWrite row (p.rows row).left
 
 -- what a turn leaves
 pub rows_then : {p q : StoreState} → p ≡ q → p.rows ≡ q.rows
@@ -53,14 +53,14 @@ module _ (p q : StoreState) (plain : HasPlainRows p) where
     there c ne = ap (λ (r : Rows). r c) rows ∙ row_other p.rows channel row c ne
 
     -- and maybe the job too
-    pub plain_with : ((claim : OpenClaim) → row.claim ≡ Some claim → BeginsPlainly channel row.left)
+    pub plain_with : ((claim : OpenClaim) → row.claim ≡ Some claim → BeginsWithWrite channel row.left)
         → InsertsPlainly q → HasPlainRows q
     plain_with claimed inserting = record {
       claimed = λ c claim is. elim (cases_eq c channel) [
-        | inl e ↦ subst (λ (r : Row). BeginsPlainly c r.left) (sym (here c e))
-            (subst (λ k. BeginsPlainly k row.left) (sym e)
+        | inl e ↦ subst (λ (r : Row). BeginsWithWrite c r.left) (sym (here c e))
+            (subst (λ k. BeginsWithWrite k row.left) (sym e)
             (claimed claim (sym (ap (λ (r : Row). r.claim) (here c e)) ∙ is)))
-        | inr ne ↦ subst (λ (r : Row). BeginsPlainly c r.left) (sym (there c ne))
+        | inr ne ↦ subst (λ (r : Row). BeginsWithWrite c r.left) (sym (there c ne))
             (plain.claimed c claim (sym (ap (λ (r : Row). r.claim) (there c ne)) ∙ is))
       ];
       inserting = inserting;
@@ -71,16 +71,16 @@ module _ (p q : StoreState) (plain : HasPlainRows p) where
     inserts_still free same job c is serves =
         let x = plain.inserting job c (sym same ∙ is) serves in
         let apart : c ≢ channel = λ e. free (ap (λ k. (p.rows k).stage) (sym e) ∙ x.0) in
-        subst (λ (r : Row). (r.stage ≡ InJob) × BeginsPlainly c r.left) (sym (there c apart)) x
+        subst (λ (r : Row). (r.stage ≡ InJob) × BeginsWithWrite c r.left) (sym (there c apart)) x
 
     -- a row that isn't the job's changes
-    pub plain_outside : ((claim : OpenClaim) → row.claim ≡ Some claim → BeginsPlainly channel row.left)
+    pub plain_outside : ((claim : OpenClaim) → row.claim ≡ Some claim → BeginsWithWrite channel row.left)
         → ((p.rows channel).stage ≡ InJob → ⊥) → q.job ≡ p.job → HasPlainRows q
     plain_outside claimed free same = plain_with claimed (inserts_still free same)
 
   module _ (channel : ℕ) (left : List Command) (after : Stage)
       (rows : q.rows ≡ with_row p.rows channel (record { left = left; stage = after; claim = None })) where
-    unclaimed : (claim : OpenClaim) → None ≡ Some claim → BeginsPlainly channel left
+    unclaimed : (claim : OpenClaim) → None ≡ Some claim → BeginsWithWrite channel left
     unclaimed claim bad = absurd (cc bad)
 
     -- a row that isn't the job's goes on without a claim
@@ -95,7 +95,7 @@ module _ (p q : StoreState) (plain : HasPlainRows p) where
 
   rows_kept : q.rows ≡ p.rows → InsertsPlainly q → HasPlainRows q
   rows_kept rows inserting = record {
-    claimed = λ c claim is. subst (λ (r : Rows). BeginsPlainly c (r c).left) (sym rows)
+    claimed = λ c claim is. subst (λ (r : Rows). BeginsWithWrite c (r c).left) (sym rows)
         (plain.claimed c claim (sym (ap (λ (r : Rows). (r c).claim) rows) ∙ is));
     inserting = inserting;
   }
@@ -108,5 +108,5 @@ module _ (p q : StoreState) (plain : HasPlainRows p) where
   pub plain_on : q.rows ≡ p.rows → (old : JobState) → p.job ≡ Some old
       → ((job : JobState) → q.job ≡ Some job → job.serves ≡ old.serves) → HasPlainRows q
   plain_on rows old was same = rows_kept rows (λ job c is serves.
-      subst (λ (r : Rows). ((r c).stage ≡ InJob) × BeginsPlainly c (r c).left) (sym rows)
+      subst (λ (r : Rows). ((r c).stage ≡ InJob) × BeginsWithWrite c (r c).left) (sym rows)
       (plain.inserting old c was (sym (same job is) ∙ serves)))

@@ -17,7 +17,7 @@ use Rattle.store_model.specs.Claiming.{LogsOwn, stage_behind}
 use Rattle.store_model.specs.Device.{Device}
 use Rattle.store_model.specs.Rows.{Answered, Decided, Idle, InJob, OpenClaim, Row, Stage, with_row}
 use Rattle.store_model.specs.StoreState.{ForCommand, ForInsert, JobState, Opens, StoreState}
-use Rattle.run_moves.specs.PlainRows.{BeginsPlainly, HasPlainRows}
+use Rattle.run_moves.specs.PlainRows.{BeginsWithWrite, HasPlainRows}
 use Rattle.run_moves.proofs.Moved.{row_twice}
 use Rattle.run_moves.proofs.PlainRows.{job_then, none_inserts, now_there, plain_dropped, plain_on, plain_outside}
 use Rattle.run_moves.proofs.PlainRows.{plain_served, plain_unclaimed, plain_with, rows_then, serves_on, waits_on}
@@ -54,12 +54,12 @@ module _ (p q : StoreState) (plain : HasPlainRows p) where
   -- ---- claims
 
   same_left : (channel : ℕ) (left : List Command) (stage : Stage) (claim : OpenClaim)
-      → p.rows channel ≡ record { left = left; stage = stage; claim = Some claim } → BeginsPlainly channel left
-  same_left channel left stage claim row = subst (λ (r : Row). BeginsPlainly channel r.left) row
+      → p.rows channel ≡ record { left = left; stage = stage; claim = Some claim } → BeginsWithWrite channel left
+  same_left channel left stage claim row = subst (λ (r : Row). BeginsWithWrite channel r.left) row
       (plain.claimed channel claim (ap (λ (r : Row). r.claim) row))
 
   claims_plain : Claims p q → HasPlainRows q
-  claims_plain t = plain_outside p q plain t.write.channel _ (rows_then t.next) (λ claim is metadata. metadata)
+  claims_plain t = plain_outside p q plain t.write.channel _ (rows_then t.next) (λ claim is. tt)
       (free p t.write.channel _ t.write.row (λ bad. cc bad)) (job_then t.next)
 
   copies_plain : (told : Bool) → Copies told p q → HasPlainRows q
@@ -95,8 +95,8 @@ module _ (p q : StoreState) (plain : HasPlainRows p) where
       let serves : ForInsert t.posted.row ≡ job.serves = cc same in
       let both : ForInsert t.posted.row ≡ ForInsert c = serves ∙ inserts in
       let here : t.posted.row ≡ c = cc both in
-      subst (λ n. ((q.rows n).stage ≡ InJob) × BeginsPlainly n (q.rows n).left) here
-      (subst (λ (r : Row). (r.stage ≡ InJob) × BeginsPlainly t.posted.row r.left)
+      subst (λ n. ((q.rows n).stage ≡ InJob) × BeginsWithWrite n (q.rows n).left) here
+      (subst (λ (r : Row). (r.stage ≡ InJob) × BeginsWithWrite t.posted.row r.left)
       (sym (now_there p q plain t.posted.row _ rows)) (refl, left)))
 
   inserts_plain : (told : Bool) → Inserts told p q → HasPlainRows q
@@ -110,8 +110,8 @@ module _ (p q : StoreState) (plain : HasPlainRows p) where
       let both : ForInsert t.inserting.row ≡ ForInsert c =
       sym t.inserting.serves ∙ sym (serves_on old job [] t.running.rest on) ∙ inserts in
       let here : t.inserting.row ≡ c = cc both in
-      subst (λ n. ((q.rows n).stage ≡ InJob) × BeginsPlainly n (q.rows n).left) here
-      (subst (λ (r : Row). (r.stage ≡ InJob) × BeginsPlainly t.inserting.row r.left)
+      subst (λ n. ((q.rows n).stage ≡ InJob) × BeginsWithWrite n (q.rows n).left) here
+      (subst (λ (r : Row). (r.stage ≡ InJob) × BeginsWithWrite t.inserting.row r.left)
       (sym (now_there p q plain t.inserting.row _ rows)) (waits_on old job [] t.running.rest on, was.1)))
 
   -- ---- jobs

@@ -17,7 +17,7 @@ use Rattle.run_moves.specs.Projection.{RunMessages, run_state_of}
 use Rattle.run_moves.specs.Sizes.{sizes_of}
 
 pub record PlainRowLaws : Type 0 where
-  -- whatever turns were made of a store, from its opening on, rows with claims and inserts have a write first
+  -- whatever turns were made of a store, from its opening on, rows with a claim and those of inserts have a write first
   pub opens : (p : StoreState) → Opens p → HasPlainRows p
   pub turn : (told : Bool) (kind : Kind) (p q : StoreState) → Turn told p kind q → HasPlainRows p → HasPlainRows q
   pub run : (told : Bool) (kinds : List Kind) (p q : StoreState) → Run told p kinds q → HasPlainRows p → HasPlainRows q

@@ -1,5 +1,6 @@
 //! Why every run of a store ends: each turn of a store is a move of its run, seen as a state of a run with the messages
-//! of the driver. Definitions, and laws as contracts of functions that do nothing.
+//! of the driver, and each step of a driver is a step of it. Definitions, and laws as contracts of functions that do
+//! nothing.
 #![tactic(auto)]
 
 ghost use Rattle.run_moves.specs.ChannelTurns.{ChannelTurnLaws};
@@ -24,7 +25,8 @@ pub fn jobs_move()
     ensures { JobTurnLaws }
 {}
 
-/// Whatever turns are made of a store, from its opening on, rows with a claim and those of inserts have a write first.
+/// Whatever turns are made of a store, from its opening on, a row with a claim has a write first, and so has one whose
+/// insert's job runs.
 pub fn rows_stay_plain()
     ensures { PlainRowLaws }
 {}

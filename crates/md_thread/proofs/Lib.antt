@@ -1,0 +1,4 @@
+pub mod Planned
+mod PlannedAttributes
+pub mod PlannedSlots
+mod MessageTurns
