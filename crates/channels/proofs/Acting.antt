@@ -1,6 +1,6 @@
 -- What actors do, as steps of a driver over a store and its messages.
-use Rattle.std.proofs.Common.{◌≡◌, ◌≢◌, ◌⊎◌, inl, inr, ℕ, ◌<◌, nat_lt, Option, Some, None, Bool, true, false, ◌&&◌, ◌||◌}
-use Rattle.std.proofs.Common.{not, if◌then◌else◌, List, [], ◌∷◌, ◌++◌, length, refl, sym, ◌∙◌, ap, subst, arith}
+use Rattle.std.proofs.Common.{◌≡◌, ◌≢◌, inl, inr, ℕ, ◌<◌, nat_lt, Option, Some, None, Bool, true, false, ◌&&◌, ◌||◌}
+use Rattle.std.proofs.Common.{not, if◌then◌else◌, List, [], ◌∷◌, refl, sym, ◌∙◌, ap, subst, arith}
 use Rattle.std.specs.Prelude.{◌==◌, slice_get, slice_set}
 use Rattle.std.specs.Option.{option_and_then, option_map}
 use Rattle.std.proofs.Math.Path.{fun_ext}
@@ -22,15 +22,14 @@ use Rattle.run_work.specs.Reading.{has_any, is_in_use, is_there}
 use Rattle.run_work.specs.RunFacts.{not_sent, RunFacts}
 use Rattle.run_work.specs.RunState.{AtPosted, StageInRun}
 use Rattle.run_work.specs.ServingMoves.{the_held}
-use Rattle.run_work.specs.Steps.{can_metadata, due, due_in, has_to_wait, holds_command, JobStep, MessageStep, TakeStep}
-use Rattle.run_moves.specs.ChannelTurns.{with_sent, with_unsent}
+use Rattle.run_work.specs.Steps.{due, has_to_wait, holds_command}
 use Rattle.run_moves.specs.DrivenStore.{DrivenStore, run_of}
 use Rattle.run_moves.specs.DriverLaws.{DriverLawsOf}
 use Rattle.run_moves.specs.DriverSteps.{behind_others, by_job, by_message, by_posting, by_sending, by_taking, by_turn}
 use Rattle.run_moves.specs.DriverSteps.{driven_at_turn, DriverStep, JobTurn, MetadataActsOn, ServingTurn}
-use Rattle.run_moves.specs.Projection.{job_in_run, RunMessages, stage_in_run}
+use Rattle.run_moves.specs.Projection.{job_in_run, stage_in_run}
 use Rattle.channels.specs.ChannelState.{ChannelState}
-use Rattle.channels.specs.ChannelSteps.{by_end, IsHeldUp, posted, turned, TurnsOrPosts}
+use Rattle.channels.specs.ChannelSteps.{IsHeldUp, posted, turned, TurnsOrPosts}
 use Rattle.channels.specs.Driving.{messages_of, unsent_of}
 use Rattle.channels.proofs.HeldUp.{full, held_up, sends}
 

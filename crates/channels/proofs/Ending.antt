@@ -1,7 +1,7 @@
 -- Whether all have ended.
-use Rattle.std.proofs.Common.{◌≡◌, ◌↔◌, ◌⊎◌, inl, inr, ℕ, zero, suc, ◌<◌, Option, Some, None, Bool, true, false, ◌&&◌, ◌||◌}
-use Rattle.std.proofs.Common.{not, ◌≤◌, List, [], ◌∷◌, length, refl, sym, ◌∙◌, ap, subst, arith}
-use Rattle.std.specs.Prelude.{is_some, IsTrue}
+use Rattle.std.proofs.Common.{◌≡◌, ◌⊎◌, inl, inr, ℕ, zero, suc, ◌<◌, Option, Some, None, Bool, true, false, ◌&&◌, ◌||◌}
+use Rattle.std.proofs.Common.{not, List, [], ◌∷◌, length, refl, sym, ◌∙◌, ap, subst, arith}
+use Rattle.std.specs.Prelude.{is_some}
 use Rattle.std.specs.Option.{option_map}
 use Rattle.std.proofs.lemmas.Bool.{cases_lt}
 use Rattle.super_block.specs.declared.page.Super.{Super}
@@ -24,7 +24,7 @@ use Rattle.run_moves.specs.Projection.{job_in_run, rows_in_run, stage_in_run}
 use Rattle.channels.specs.ChannelState.{ChannelState}
 use Rattle.channels.specs.RunEnds.{ended_row}
 use Rattle.channels.proofs.Acting.{with_messages}
-use Rattle.channels.proofs.Keeping.{above, unused}
+use Rattle.channels.proofs.Keeping.{above}
 
 -- ---- rows
 
@@ -112,10 +112,10 @@ module _ {D : Type 0} (d : Ghosts D) (p : WithOpening D) (channels : List Channe
   -- every channel has ended, and whether a job runs decides
   pub ended_by_job : HaveEnded p.at.rows → (not (is_some p.at.job)) ≡ all
   ended_by_job ended = sym (
-    ap (λ b. b && not (can_metadata (run_of (with_messages (state_of d p.at) channels queue held))))
-        (all_below p.at.super p.at.rows 16 ended)
-        ∙ ap not (can_by ended)
-  )
+      ap (λ b. b && not (can_metadata (run_of (with_messages (state_of d p.at) channels queue held))))
+      (all_below p.at.super p.at.rows 16 ended)
+      ∙ ap not (can_by ended)
+      )
 
   -- some channel has not
   pub not_ended : (HaveEnded p.at.rows → ⊥) → false ≡ all
@@ -154,9 +154,9 @@ module _ {D : Type 0} (d : Ghosts D) (p : WithOpening D) (kept : StoreInvariant 
       by : (o : Option JobState) → p.at.job ≡ o → o ≡ None
       by None is = refl
       by (Some j) is = absurd (
-        let can : can_metadata (run_of (with_messages (state_of d p.at) channels queue held)) ≡ true =
-        ap (λ (o : Option JobState). is_there (option_map job_in_run o) || is_there held || has_any queue
-            || has_any {X = Msg} [] || is_there {X = Msg} None
-            || is_in_use (stage_in_run (rows_of p.at.rows 16).stage)) is in
-        let bad = sym (ap not can) ∙ parts.1 in cc bad
-      )
+          let can : can_metadata (run_of (with_messages (state_of d p.at) channels queue held)) ≡ true =
+          ap (λ (o : Option JobState). is_there (option_map job_in_run o) || is_there held || has_any queue
+          || has_any {X = Msg} [] || is_there {X = Msg} None
+          || is_in_use (stage_in_run (rows_of p.at.rows 16).stage)) is in
+          let bad = sym (ap not can) ∙ parts.1 in cc bad
+          )

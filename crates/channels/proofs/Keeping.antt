@@ -1,19 +1,18 @@
 -- What a driver keeps over steps: what its rows have left, which of them have ended, and that row 16 is unused.
-use Rattle.std.proofs.Common.{◌≡◌, ◌⊎◌, inl, inr, ℕ, ◌<◌, ◌≤◌, Bool, true, false, List, [], ◌∷◌, length, Option, Some, None}
-use Rattle.std.proofs.Common.{refl, sym, ◌∙◌, ap, subst, arith}
+use Rattle.std.proofs.Common.{◌≡◌, inl, inr, ℕ, ◌≤◌, Bool, false, List, [], ◌∷◌, length, None}
+use Rattle.std.proofs.Common.{sym, ◌∙◌, ap, subst, arith}
 use Rattle.std.specs.List.{AllByRecursion}
-use Rattle.std.specs.Prelude.{slice_get}
 use Rattle.std.proofs.Math.ListN.{get_or-eq_default}
 use Rattle.page_disk.specs.declared.disk.PageDisk.{Ghosts}
 use Rattle.volume_model.specs.declared.command.Command.{Command}
 use Rattle.volume_model.specs.declared.reply.Msg.{Msg}
 use Rattle.store_model.specs.Cases as kind
 use Rattle.store_model.specs.Cases.{Kind, Turn}
-use Rattle.store_model.specs.Rows.{Ended, Posted, Row, Rows, Stage}
+use Rattle.store_model.specs.Rows.{Ended, Posted, Row, Stage}
 use Rattle.store_model.specs.StoreState.{StoreState}
 use Rattle.running_store.specs.Requests.{IsPostedBy}
 use Rattle.running_store.specs.StoreInvariant.{opening_script, StoreInvariant}
-use Rattle.running_store.specs.StoreView.{rows_of, state_of, StoreView, WithOpening}
+use Rattle.running_store.specs.StoreView.{rows_of, state_of, WithOpening}
 use Rattle.run_work.specs.Following.{ActorInRun, ChannelActs, MetadataActs}
 use Rattle.run_work.specs.Reading.{is_in_use}
 use Rattle.run_moves.specs.DrivenStore.{DrivenStore}

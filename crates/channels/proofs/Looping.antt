@@ -1,10 +1,9 @@
 -- A driver's loops: what was followed so far, and one step more.
-use Rattle.std.proofs.Common.{◌≡◌, ℕ, zero, suc, ◌+◌, ◌<◌, Bool, false, true, List, [], ◌∷◌, ◌++◌, refl, sym, ◌∙◌, ap, subst, arith}
+use Rattle.std.proofs.Common.{◌≡◌, ℕ, suc, ◌+◌, ◌<◌, false, true, List, [], ◌∷◌, ◌++◌, refl, sym, ap, subst, arith}
 use Rattle.page_disk.specs.declared.disk.PageDisk.{Ghosts}
 use Rattle.super_block.specs.declared.page.Super.{Super}
 use Rattle.running_store.specs.StoreView.{StoreView}
-use Rattle.run_work.specs.Following.{ActorInRun, ChannelActs, Follows, MetadataActs, Passes, Round, Rounds, Scheduled}
-use Rattle.run_work.specs.RunFacts.{RunFacts}
+use Rattle.run_work.specs.Following.{ActorInRun, ChannelActs, MetadataActs, Passes, Round, Rounds, Scheduled}
 use Rattle.run_work.specs.RunLaws.{EndLaws}
 use Rattle.run_work.specs.Steps.{all_ended, StepOf}
 use Rattle.run_work.specs.Work.{work}
@@ -13,7 +12,7 @@ use Rattle.run_moves.specs.DriverSteps.{DriverStep, has_all_ended, StoreFollows}
 use Rattle.run_moves.specs.Sizes.{sizes_of}
 use Rattle.channels.specs.Driving.{driven, IsDriven, IsSameStore, Steps}
 use Rattle.channels.specs.declared.driver.Driver.{Driver}
-use Rattle.channels.proofs.Runs.{follows_as, joined, one_more, round_as}
+use Rattle.channels.proofs.Runs.{follows_as, joined, round_as}
 use Rattle.channels.proofs.Stepping.{same_then}
 
 module _ {D : Type 0} (d : Ghosts D) (first : Driver D) where
@@ -122,8 +121,17 @@ module _ {D : Type 0} (d : Ghosts D) (first : Driver D) where
     mid = so.mid;
     run = so.run;
     count = suc so.count;
-    rounds = (driven d w, (so.rounds, (live, subst (λ (s : Super).
-        Round (Steps d.tells s) has_all_ended (driven d w) (driven d v)) (same_super w so.store) round)));
+    rounds = (
+      driven d w,
+      (
+        so.rounds,
+        (
+          live,
+          subst (λ (s : Super).
+              Round (Steps d.tells s) has_all_ended (driven d w) (driven d v)) (same_super w so.store) round,
+        ),
+      ),
+    );
   }
 
   -- all have ended then

@@ -1,5 +1,5 @@
 -- The step of the metadata thread, by what its calls answer.
-use Rattle.std.proofs.Common.{◌≡◌, ◌≢◌, ◌⊎◌, ℕ, Option, Some, None, Bool, false, List, [], ◌∷◌, refl, sym, ◌∙◌, ap, subst}
+use Rattle.std.proofs.Common.{◌≡◌, ◌≢◌, Option, Some, None, false, List, refl, sym, ◌∙◌, subst}
 use Rattle.std.specs.Prelude.{IfSome, IsSome}
 use Rattle.page_disk.specs.declared.disk.PageDisk.{Ghosts}
 use Rattle.volume_model.specs.declared.reply.Msg.{Msg}

@@ -1,5 +1,5 @@
 -- How a driver starts.
-use Rattle.std.proofs.Common.{◌≡◌, ◌⊎◌, inl, inr, ℕ, ◌<◌, ◌≤◌, nat_lt, Option, Some, None, Bool, true, false, List, [], ◌∷◌}
+use Rattle.std.proofs.Common.{◌≡◌, inl, inr, ℕ, ◌<◌, nat_lt, Option, Some, None, true, false, List, [], ◌∷◌}
 use Rattle.std.proofs.Common.{if◌then◌else◌, length, refl, sym, ◌∙◌, ap, subst, arith}
 use Rattle.std.specs.Prelude.{slice_get, slice_set, ◌+◌}
 use Rattle.store_model.proofs.Inserted.{get_set_here}
@@ -16,7 +16,7 @@ use Rattle.volume_model.specs.declared.command.Command.TheVariants as c
 use Rattle.store_model.specs.Rows.{Claiming, Copying, Decided, Ended, Idle, InJob, OpenClaim, Posted, Ready, Row, Stage}
 use Rattle.running_store.specs.Stages.{is_stage, waits_for}
 use Rattle.running_store.specs.StoreInvariant.{StoreInvariant}
-use Rattle.running_store.specs.StoreView.{rows_of, state_of, WithOpening}
+use Rattle.running_store.specs.StoreView.{rows_of, state_of}
 use Rattle.run_work.specs.RunFacts.{RunFacts}
 use Rattle.run_moves.specs.DrivenStore.{driven_at_start, DrivenStore, run_of, serial_in}
 use Rattle.run_moves.specs.DriverLaws.{DriverLaws}
@@ -24,7 +24,6 @@ use Rattle.channels.specs.ChannelState.{channel_at, ChannelState, serial_at}
 use Rattle.channels.specs.Driving.{AreChannelsOf, AreStarting, driven, IsChannelOf, IsDriven, unsent_of}
 use Rattle.channels.specs.Served.{AreServed}
 use Rattle.channels.specs.declared.driver.Driver.{Driver}
-use Rattle.channels.proofs.Acting.{with_messages}
 use Rattle.channels.proofs.StepsMade.{ended_stage}
 
 none_posted : (command : Command) → serial_at (waits_for command) ≡ None

@@ -1,11 +1,10 @@
 -- A step of a driver as one of its run, and what the driver keeps.
-use Rattle.std.proofs.Common.{◌≡◌, ◌⊎◌, inl, inr, ℕ, ◌<◌, Bool, List, length, Option, Some, None, refl, sym, ◌∙◌, ap, subst, arith, get_or}
+use Rattle.std.proofs.Common.{◌≡◌, inl, inr, ℕ, ◌<◌, List, length, Option, Some, sym, ◌∙◌, ap, subst, arith, get_or}
 use Rattle.std.specs.Prelude.{slice_get, slice_set}
 use Rattle.std.proofs.lemmas.Bool.{cases_eq}
 use Rattle.std.proofs.lemmas.Option.{slice_get-get_or, slice_get_within}
 use Rattle.std.proofs.lemmas.List.{length-set}
 use Rattle.page_disk.specs.declared.disk.PageDisk.{Ghosts}
-use Rattle.super_block.specs.declared.page.Super.{Super}
 use Rattle.volume_model.specs.declared.reply.Msg.{Msg}
 use Rattle.md_queue.specs.Queue.{Appends}
 use Rattle.store_model.specs.Rows.{Row}
@@ -19,7 +18,7 @@ use Rattle.run_work.specs.Following.{ActorInRun, ChannelActs}
 use Rattle.run_work.specs.RunFacts.{RunFacts}
 use Rattle.run_work.specs.RunLaws.{FactLaws}
 use Rattle.run_work.specs.Steps.{StepOf}
-use Rattle.run_moves.specs.DrivenStore.{DrivenStore, run_of}
+use Rattle.run_moves.specs.DrivenStore.{run_of}
 use Rattle.run_moves.specs.DriverLaws.{DriverLaws, PlainRowLaws}
 use Rattle.run_moves.specs.DriverSteps.{DriverStep}
 use Rattle.run_moves.specs.Sizes.{sizes_of}

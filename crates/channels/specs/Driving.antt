@@ -6,7 +6,7 @@ use Rattle.super_block.specs.declared.page.Super.{Super}
 use Rattle.volume_model.specs.declared.reply.Msg.{Msg}
 use Rattle.store_model.specs.Rows.{Ended, Row}
 use Rattle.running_store.specs.Stages.{is_stage}
-use Rattle.running_store.specs.StoreView.{rows_of, state_of, StoreView}
+use Rattle.running_store.specs.StoreView.{rows_of, state_of}
 use Rattle.run_work.specs.Following.{ActorInRun}
 use Rattle.run_work.specs.RunFacts.{RunFacts}
 use Rattle.run_work.specs.Steps.{StepOf}

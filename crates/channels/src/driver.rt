@@ -110,7 +110,10 @@ impl<D: PageDisk> Driver<D> {
     {
         moves_keep_facts();
         self.plant.keeps();
-        if let Turn::Idle = self.metadata.md_turn(alloc, &mut self.right, &mut self.plant) {
+        if let Turn::Idle = self
+            .metadata
+            .md_turn(alloc, &mut self.right, &mut self.plant)
+        {
             self.metadata.md_take(&mut self.queue);
         }
     }

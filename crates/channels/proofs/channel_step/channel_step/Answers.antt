@@ -1,4 +1,4 @@
-use Rattle.std.proofs.Common.{◌≡◌, refl, sym, ◌∙◌}
+use Rattle.std.proofs.Common.{refl, sym, ◌∙◌}
 use Rattle.channels.proofs.StepsMade.{by_ending, by_send, by_turn, sent_own, turned_own}
 use Rattle.channels.proofs.channel_step.channel_step.Goals as goal
 

@@ -1,8 +1,8 @@
-use Rattle.std.proofs.Common.{◌≡◌, ℕ, None, length, sym, ◌∙◌, ap, subst}
+use Rattle.std.proofs.Common.{◌≡◌, ℕ, length, sym, ◌∙◌, ap, subst}
 use Rattle.running_store.specs.StoreInvariant.{StoreInvariant}
-use Rattle.running_store.specs.StoreView.{rows_of, StoreView, WithOpening}
+use Rattle.running_store.specs.StoreView.{rows_of, WithOpening}
 use Rattle.channels.specs.RunEnds.{ended_row}
-use Rattle.channels.proofs.Ending.{job_over, row_over}
+use Rattle.channels.proofs.Ending.{row_over}
 use Rattle.channels.proofs.stepwise.run_stepwise.Goals as goal
 
 pub returns-clause-ended : goal.returns-clause-ended

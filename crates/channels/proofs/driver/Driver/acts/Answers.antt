@@ -1,8 +1,7 @@
-use Rattle.std.proofs.Common.{◌≡◌, refl, sym, ◌∙◌, ap, subst}
-use Rattle.run_work.specs.Following.{ActorInRun, MetadataActs}
+use Rattle.std.proofs.Common.{sym, subst}
+use Rattle.run_work.specs.Following.{MetadataActs}
 use Rattle.run_moves.specs.DriverSteps.{DriverStep}
 use Rattle.channels.specs.Actors.{actor_in_run}
-use Rattle.channels.specs.ChannelState.{ChannelState}
 use Rattle.channels.specs.Driving.{AreChannelsOf, driven}
 use Rattle.channels.proofs.Keeping.{rows_step, still_channels}
 use Rattle.channels.proofs.driver.Driver.acts.Goals as goal

@@ -1,9 +1,7 @@
-use Rattle.std.proofs.Common.{◌≡◌, ◌<◌, Some, get_or, refl, sym, ◌∙◌, ap, subst}
-use Rattle.std.specs.Prelude.{slice_get, slice_set}
-use Rattle.std.proofs.lemmas.Option.{slice_get-get_or}
+use Rattle.std.proofs.Common.{get_or, sym, subst}
+use Rattle.std.specs.Prelude.{slice_set}
 use Rattle.run_work.specs.Following.{ChannelActs}
 use Rattle.run_moves.specs.DriverSteps.{DriverStep}
-use Rattle.channels.specs.ChannelState.{ChannelState}
 use Rattle.channels.specs.Driving.{AreChannelsOf, IsChannelOf}
 use Rattle.channels.proofs.Acting.{with_messages}
 use Rattle.channels.proofs.Keeping.{rows_step}

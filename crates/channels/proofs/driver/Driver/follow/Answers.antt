@@ -1,4 +1,4 @@
-use Rattle.std.proofs.Common.{rules, ◌≡◌, ◌+◌, ◌<◌, ◌++◌, take, length, sym, ◌∙◌, ap, subst}
+use Rattle.std.proofs.Common.{rules, ◌+◌, ◌<◌, ◌++◌, take, length, sym, ◌∙◌, ap, subst}
 use Rattle.channels.specs.Actors.{actors_in_run}
 use Rattle.script_lang.specs.Schedules.{repeated, written_out}
 use Rattle.script_lang.specs.declared.schedule.Part.{Part}

@@ -1,4 +1,4 @@
-use Rattle.std.proofs.Common.{◌≡◌, not, sym, ◌∙◌, ap}
+use Rattle.std.proofs.Common.{not, sym, ◌∙◌, ap}
 use Rattle.channels.proofs.Ending.{ended_by_job, not_ended}
 use Rattle.channels.proofs.Keeping.{unused}
 use Rattle.channels.proofs.driver.Driver.have_ended.Goals as goal

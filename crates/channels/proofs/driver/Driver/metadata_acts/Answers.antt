@@ -1,4 +1,3 @@
-use Rattle.std.proofs.Common.{◌≡◌, refl, sym, ◌∙◌}
 use Rattle.channels.proofs.Keeping.{asks_served, unused}
 use Rattle.channels.proofs.MetadataActing.{moves, takes}
 use Rattle.channels.proofs.driver.Driver.metadata_acts.Goals as goal

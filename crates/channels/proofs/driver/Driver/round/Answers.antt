@@ -1,4 +1,4 @@
-use Rattle.std.proofs.Common.{rules, ◌≡◌, refl, sym, ◌∙◌}
+use Rattle.std.proofs.Common.{rules, ◌≡◌}
 use Rattle.channels.proofs.Looping.{none_passed, passed_more, round_made}
 use Rattle.channels.proofs.Stepping.{same_then}
 use Rattle.channels.proofs.driver.Driver.round.Goals as goal

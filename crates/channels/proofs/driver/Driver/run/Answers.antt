@@ -1,4 +1,4 @@
-use Rattle.std.proofs.Common.{◌≡◌, sym, ◌∙◌}
+use Rattle.std.proofs.Common.{sym, ◌∙◌}
 use Rattle.channels.specs.Actors.{actors_in_run}
 use Rattle.channels.proofs.Looping.{none_rounded, round_lowers, rounded_more, rounded_over}
 use Rattle.channels.proofs.driver.Driver.run.Goals as goal

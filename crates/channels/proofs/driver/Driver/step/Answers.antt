@@ -1,4 +1,3 @@
-use Rattle.std.proofs.Common.{◌≡◌}
 use Rattle.channels.specs.Actors.{actor_in_run}
 use Rattle.channels.proofs.Stepping.{steps, still_driven}
 use Rattle.channels.proofs.driver.Driver.step.Goals as goal
