@@ -22,12 +22,7 @@ fn is_clone_of(metas: &Metas, clone: u32, head: u32) -> bool
 }
 
 /// Appends a head, if it is that of a clone. `Memory` also where a reply couldn't count that many.
-fn add_clone(
-    clones: &mut PlaceList,
-    metas: &Metas,
-    clone: u32,
-    head: u32,
-) -> Result<(), Memory>
+fn add_clone(clones: &mut PlaceList, metas: &Metas, clone: u32, head: u32) -> Result<(), Memory>
     requires { length clones.old < 2 ^ 32 }
     ensures added { OnOk result (clones.new ≡ clones.old
         ++ (if is_clone (map.get metas.now) head clone then clone ∷ [] else [])) }

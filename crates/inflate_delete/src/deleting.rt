@@ -33,13 +33,7 @@ fn erase_job(alloc: Global, head: u32) -> Result<Job, Memory>
 }
 
 /// The job that erases the blob at a head after its one clone has taken over from it.
-fn delete_job(
-    alloc: Global,
-    head: u32,
-    old: &Meta,
-    clone: u32,
-    heir: &Meta,
-) -> Result<Job, Memory>
+fn delete_job(alloc: Global, head: u32, old: &Meta, clone: u32, heir: &Meta) -> Result<Job, Memory>
     ensures { IfOk result (λ job. job ≡ j.delete_job head old.now clone heir.now) }
 {
     let going = going_blob(alloc, old, clone)?;
@@ -91,12 +85,7 @@ fn delete(
 /// Plans a delete of the blob at the head `volume`. One without clones is erased. One with one clone hands on to it the
 /// clusters of the slots that the clone hasn't filled, and the parent, and then it is erased. `Err` is the first cause
 /// for which the delete is refused, or `Memory`.
-pub fn plan_delete(
-    alloc: Global,
-    metas: &Metas,
-    sup: &Super,
-    volume: u32,
-) -> Result<Job, Reply>
+pub fn plan_delete(alloc: Global, metas: &Metas, sup: &Super, volume: u32) -> Result<Job, Reply>
     requires { IsSome (map.get metas.now volume) }
     ensures job { IfOk result (IsDeleteJob metas.now volume) }
     ensures unrefused { IfOk result

@@ -18,7 +18,7 @@ returns-then-next-clause-there c =
 pub loop-next-preserved : goal.loop-next-preserved
 loop-next-preserved c = (
   clones_more c.args.metas.now c.args.head c.loop-next.from c.in-Some.next c.loop-next.clones
-  c.add_clone.new.clones c.in-Some.ensures.some c.loop-next.invariant.0 c.in_ok-add_clone.ensures.added,
+      c.add_clone.new.clones c.in-Some.ensures.some c.loop-next.invariant.0 c.in_ok-add_clone.ensures.added,
   c.in_ok-add_clone.ensures.few,
 )
 
