@@ -1,0 +1,3 @@
+mod Cloned
+mod DeleteRefused
+mod SlotsOver

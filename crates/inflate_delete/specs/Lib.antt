@@ -1,0 +1,4 @@
+pub mod Clones
+pub mod DeleteCauses
+pub mod DeleteJobs
+pub mod DeletePlans
