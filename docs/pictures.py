@@ -48,27 +48,28 @@ class Picture:
 COLUMNS_WIDE, COLUMN, ROW, LEFT, TOP = 6, 150, 70, 170, 20
 # name: first column, last column, row; a crate stands on crates of lower rows alone
 CRATES = {
-    "blobtool": (1, 6, 0), "blob_tool": (1, 6, 1),
-    "script_lang": (1, 1, 2), "store_format": (5, 5, 2), "streams": (6, 6, 2),
-    "lvol_store": (3, 3, 3), "thin_write": (5, 5, 3), "blob_report": (6, 6, 3),
-    "unclean_load": (2, 2, 4), "data_path": (5, 5, 4), "store_core": (4, 4, 5), "run_moves": (6, 6, 5),
-    "channel_turns": (3, 3, 6), "metadata_turns": (4, 4, 6), "running_store": (3, 4, 7),
-    "md_queue": (1, 1, 8), "io_freeze": (3, 3, 8), "store_model": (4, 4, 8),
-    "md_chain": (2, 2, 9), "pools": (4, 4, 9), "blob_meta": (1, 1, 10), "md_page": (3, 3, 10),
-    "descriptors": (1, 1, 11), "run_work": (2, 2, 11), "super_block": (3, 3, 11),
-    "volume_model": (1, 1, 12), "page_fields": (3, 3, 12), "bit_array": (4, 4, 12),
-    "page_disk": (2, 6, 13), "out_of_memory": (1, 2, 14), "crc32c": (3, 6, 14),
+    "blobtool": (1, 6, 0), "blob_tool": (1, 6, 1), "channels": (3, 5, 2),
+    "script_lang": (1, 1, 3), "md_thread": (3, 4, 3), "streams": (6, 6, 3),
+    "lvol_store": (3, 3, 4), "thin_write": (5, 5, 4), "store_format": (1, 1, 4),
+    "unclean_load": (2, 2, 5), "data_path": (5, 5, 5), "blob_report": (6, 6, 5),
+    "store_core": (4, 4, 6), "run_moves": (6, 6, 6),
+    "channel_turns": (3, 3, 7), "metadata_turns": (4, 4, 7), "running_store": (3, 4, 8),
+    "md_queue": (1, 1, 9), "io_freeze": (3, 3, 9), "store_model": (4, 4, 9), "inflate_delete": (6, 6, 9),
+    "md_chain": (2, 2, 10), "pools": (4, 4, 10), "snapshots": (6, 6, 10), "blob_meta": (1, 1, 11), "md_page": (3, 3, 11),
+    "descriptors": (1, 1, 12), "run_work": (2, 2, 12), "super_block": (3, 3, 12),
+    "volume_model": (1, 1, 13), "page_fields": (3, 3, 13), "bit_array": (4, 4, 13),
+    "page_disk": (2, 6, 14), "out_of_memory": (1, 2, 15), "crc32c": (3, 6, 15),
 }
 BANDS = [
-    (0, 1, "the program"), (2, 3, "scripts, plans,|texts, writes,|a new store"), (4, 8, "the running|store"),
-    (9, 11, "metadata and|places"), (12, 12, "volumes, fields,|sets"), (13, 14, "the device and|the bottom"),
+    (0, 1, "the program"), (2, 4, "a run's actors,|scripts, plans,|a new store"), (5, 9, "the running|store"),
+    (10, 12, "metadata and|places"), (13, 13, "volumes, fields,|sets"), (14, 15, "the device and|the bottom"),
 ]
 STEPS = [
     "1  main opens the image, and hands over words, source, sink and device",
     "2  the source is read to its end, and the text becomes each channel's commands",
     "3  the store of the image is loaded: super block, heads, chains; the device is only read",
-    "4  the driver posts a command; a put, sync, create or resize is planned from what the store shows",
-    "5  the store makes its turns: read, write or flush; or post, answer or refuse, or a job's; then settle",
+    "4  channels and the metadata thread take turns; a put, sync, create or resize is planned from what the store shows",
+    "5  each step is one turn of the store: read, write, flush, post or settle; answer, refuse, or one of a job's",
     "6  a turn of a job writes and flushes; its entry is logged, with the clock as its mark",
     "7  the log is printed, an entry a line",
 ]
@@ -114,11 +115,14 @@ def crates():
     down(2, 1, "blob_tool", "script_lang")
     down(7, 6, "blob_tool", "streams")
     picture.arrow([(middle(6), bottom("streams")), (middle(6), top("blob_report"))])
-    down(4, 3, "blob_tool", "lvol_store")
+    down(4, 4, "blob_tool", "channels")
+    picture.arrow([(middle(4), bottom("channels")), (middle(4), top("md_thread"))])
+    picture.arrow([(middle(3), bottom("md_thread")), (middle(3), top("lvol_store"))])
+    picture.arrow([(middle(5), bottom("channels")), (middle(5), top("thin_write"))])
     down(3, 2, "blob_tool", "unclean_load")
     picture.arrow([(middle(2), bottom("unclean_load")), (middle(2), top("md_chain"))])
     picture.arrow([(middle(2), bottom("md_chain")), (middle(2), top("page_disk"))])
-    down(5, 4, "blob_tool", "store_core")
+    down(5, 4, "md_thread", "store_core")
     x, y, w, h = place("store_core")
     picture.arrow([(x + w, y + h // 2), (middle(5), y + h // 2), (middle(5), top("page_disk"))])
     picture.badge(middle(5) + 22, y + h // 2 + 16, 6)
