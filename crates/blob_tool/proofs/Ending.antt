@@ -42,6 +42,7 @@ use Rattle.blob_tool.specs.Runs.{Ended, EndedFrom, IsLoaded, Played}
 use Rattle.blob_tool.specs.Closing.{Closes}
 use Rattle.blob_tool.specs.Surviving.{IsLasting}
 use Rattle.store_model.specs.StoreState.{shown}
+use Rattle.script_lang.specs.declared.schedule.Actor.{Actor}
 use Rattle.blob_tool.specs.Outcome.{HasScript, NothingWritten, Outcome, RanTo, ReadsScript}
 
 -- a device that was only read has one image still
@@ -55,17 +56,17 @@ still_one d before after same one = (
   ),
 )
 
-module _ {D : Type 0} (d : disk.Ghosts D) (script : List (List Command)) {K : Type 0} (k : sink.Ghosts K)
-    (out out_now : K) (back : D) (first : StoreView D) where
+module _ {D : Type 0} (d : disk.Ghosts D) (script : List (List Command)) (schedule : List Actor) {K : Type 0}
+    (k : sink.Ghosts K) (out out_now : K) (back : D) (first : StoreView D) where
   -- how a run ended, by where it stopped or was closed and how much was printed
-  pub ends : (p : Played d script k out out_now back first) (stopped ended : Option ℕ)
+  pub ends : (p : Played d script schedule k out out_now back first) (stopped ended : Option ℕ)
       (printed : Result (Unit {0}) PrintFault) → p.last.stopped ≡ stopped
       → Closes d p.last.disk back (length p.last.log) stopped ended
       → ((IsTrue d.tells → Only (d.now back) (d.images back)) → p.last.stopped ≡ None → HasOneImage d first.disk
       → IsLasting d first.super (shown (state_of d first)) p.last back)
       → (IsTrue k.tells → OnOk printed (k.written out_now ≡ k.written out ++ log_text p.last.log))
       → (printed ≡ Err printing.Sink → Rose (k.faults out) (k.faults out_now))
-      → Ended d script k out out_now back first (of_run ended printed)
+      → Ended d script schedule k out out_now back first (of_run ended printed)
   ends p stopped ended (Err printing.Memory) is closes lasts whole rose = p
   ends p None None (Err printing.Sink) is closes lasts whole rose = (p, (is, lasts closes.lasting is), rose refl)
   ends p None None (Ok done) is closes lasts whole rose = (p, (is, lasts closes.lasting is), whole)
@@ -79,10 +80,10 @@ module _ {D : Type 0} (d : disk.Ghosts D) (script : List (List Command)) {K : Ty
       (p, inl (is ∙ sym closes.0, closes.1), inl whole)
 
 module _ {S : Type 0} (s : source.Ghosts S) (script script_now : S) {D : Type 0} (d : disk.Ghosts D) {K : Type 0}
-    (k : sink.Ghosts K) (out out_now : K) (before back : D) where
+    (k : sink.Ghosts K) (out out_now : K) (before back : D) (schedule : List Actor) where
   -- what a run came to is the outcome of the call
-  ran_to : (st : Status) → RanTo s script script_now d k out out_now before back st
-      → Outcome s script script_now d k out out_now before back st
+  ran_to : (st : Status) → RanTo s script script_now d k out out_now before back schedule st
+      → Outcome s script script_now d k out out_now before back schedule st
   ran_to status.Good ran = ran
   ran_to status.OutWrite ran = ran
   ran_to (status.Device at) ran = inl ran
@@ -97,7 +98,7 @@ module _ {S : Type 0} (s : source.Ghosts S) (script script_now : S) {D : Type 0}
       → ReadsScript s script script_now commands
       → ((first : StoreView D) → IsOpened d loaded commands first → IsLoaded d commands before loaded first)
       → OnlyRead d before loaded.disk
-      → EndedFrom d commands k out out_now back loaded st → Outcome s script script_now d k out out_now before back st
+      → EndedFrom d commands schedule k out out_now back loaded st → Outcome s script script_now d k out out_now before back schedule st
   of_a_run commands loaded st reads opens same (inl x) =
       ran_to st (record {
         commands = commands;
@@ -106,7 +107,7 @@ module _ {S : Type 0} (s : source.Ghosts S) (script script_now : S) {D : Type 0}
         ended = x.2;
       })
   of_a_run commands loaded st reads opens same (inr x) =
-      subst (Outcome s script script_now d k out out_now before back) (sym x.0)
+      subst (Outcome s script script_now d k out out_now before back schedule) (sym x.0)
       (inr (record { quiet = x.1; device = subst (OnlyRead d before) (sym x.2) same }))
 
   -- a store that wasn't loaded
@@ -115,7 +116,7 @@ module _ {S : Type 0} (s : source.Ghosts S) (script script_now : S) {D : Type 0}
       → IsFaultCounted (d.read_faults before) (d.read_faults back) fault
       → (IsTrue d.tells → IsFaultOf (d.pages before) (d.now before) fault)
       → (IsTrue d.tells → IsImageFault fault → IsAccepted (d.pages before) (d.now before) → ⊥)
-      → Outcome s script script_now d k out out_now before back (of_loading fault)
+      → Outcome s script script_now d k out out_now before back schedule (of_loading fault)
   of_a_fault loading.ReadFault stays script counted cause refused = inr (stays, script, refl, counted)
   of_a_fault loading.Memory stays script counted cause refused = inr stays
   of_a_fault (loading.Super why) stays script counted cause refused =

@@ -5,6 +5,4 @@ pub mod Closing
 pub mod Runs
 pub mod Outcome
 pub mod FormatOutcome
-pub mod Driving
-pub mod Serving
-pub mod Writing
+pub mod RunWords

@@ -1,8 +1,5 @@
 -- What a call of the program did, by its status.
-use Rattle.std.specs.Prelude.{◌≡◌, ◌⊎◌, ℕ, ◌<◌, ◌≤◌, ◌^◌, List, [], ◌∷◌, length, Some, None, Bool, false, IsTrue, codes}
-use Rattle.std.specs.Prelude.{String, string_bytes}
-use Rattle.std.specs.Str.{bytes_eq}
-use Rattle.std.specs.declared.alloc.Global.{Global}
+use Rattle.std.specs.Prelude.{◌≡◌, ◌⊎◌, ℕ, ◌<◌, ◌≤◌, ◌^◌, List, [], length, Some, None, IsTrue}
 use Rattle.page_disk.specs.Disk.{Rose}
 use Rattle.page_disk.specs.declared.disk.PageDisk as disk
 use Rattle.volume_model.specs.declared.command.Command.{Command}
@@ -10,6 +7,7 @@ use Rattle.md_chain.specs.Reading.{OnlyRead}
 use Rattle.script_lang.specs.Script.{reads, IsFirstBad}
 use Rattle.script_lang.specs.declared.grammar.Grammar.TheVariants.{Served}
 use Rattle.script_lang.specs.declared.fault.LineKind.{LineKind}
+use Rattle.script_lang.specs.declared.schedule.Actor.{Actor}
 use Rattle.running_store.specs.declared.loaded.Loaded.{Loaded}
 use Rattle.running_store.specs.StoreView.{StoreView}
 use Rattle.unclean_load.specs.Accepted.{IsAccepted, IsFaultOf, IsImageFault}
@@ -19,11 +17,6 @@ use Rattle.streams.specs.declared.sink.Sink as sink
 use Rattle.blob_tool.specs.declared.status.Status.{Status}
 use Rattle.blob_tool.specs.declared.status.Status.TheVariants as status
 use Rattle.blob_tool.specs.Runs.{Ended, IsLoaded}
-
--- the words are `run` and an image
-abbrev pub is_run : List (String Global) → Bool
-is_run (verb ∷ image ∷ []) = bytes_eq (string_bytes verb) (codes "run")
-is_run _ = false
 
 -- nothing is printed, and the device that is handed back is the one that was handed in
 pub record NothingDone {D K : Type 0} (out out_now : K) (before back : D) : Type 0 where
@@ -69,12 +62,12 @@ module _ {S : Type 0} (s : source.Ghosts S) (script script_now : S) where
       pub loaded : Loaded D
       pub as_found : IsLoaded d commands before loaded first
 
-    -- a run, and what it came to
-    pub record RanTo (status : Status) : Type 0 where
+    -- a run by a schedule, and what it came to
+    pub record RanTo (schedule : List Actor) (status : Status) : Type 0 where
       pub commands : List (List Command)
       pub first : StoreView D
       pub started : Started commands first
-      pub ended : Ended d commands k out out_now back first status
+      pub ended : Ended d commands schedule k out out_now back first status
 
     -- nothing is printed, and the device was read at most
     pub record NothingWritten : Type 0 where
@@ -105,16 +98,16 @@ module _ {S : Type 0} (s : source.Ghosts S) (script script_now : S) where
     abbrev pub IsUnloaded : ℕ → Type 0
     IsUnloaded at = NothingWritten × HasScript × (at ≡ 0) × Rose (d.read_faults before) (d.read_faults back)
 
-    -- what each status says
-    abbrev pub Outcome : Status → Type 0
-    Outcome status.Good = RanTo status.Good
-    Outcome status.Usage = NothingDone out out_now before back × (script_now ≡ script)
-    Outcome (status.Script line kind) = IsBadScript line kind
-    Outcome (status.Image fault) = IsBadImage fault
-    Outcome status.ScriptRead = IsUnread
-    Outcome status.OutWrite = RanTo status.OutWrite
-    Outcome (status.Device at) = RanTo (status.Device at) ⊎ IsUnloaded at
-    Outcome status.Memory = RanTo status.Memory ⊎ NothingWritten
+    -- what each status says of a run that was asked for by a schedule
+    abbrev pub Outcome : List Actor → Status → Type 0
+    Outcome schedule status.Good = RanTo schedule status.Good
+    Outcome schedule status.Usage = NothingDone out out_now before back × (script_now ≡ script)
+    Outcome schedule (status.Script line kind) = IsBadScript line kind
+    Outcome schedule (status.Image fault) = IsBadImage fault
+    Outcome schedule status.ScriptRead = IsUnread
+    Outcome schedule status.OutWrite = RanTo schedule status.OutWrite
+    Outcome schedule (status.Device at) = RanTo schedule (status.Device at) ⊎ IsUnloaded at
+    Outcome schedule status.Memory = RanTo schedule status.Memory ⊎ NothingWritten
 
     -- the source has a script and nothing else, the image is accepted, and no count of faults rose in the call
     pub record NothingFails : Type 0 where

@@ -27,32 +27,13 @@ use Rattle.blob_report.specs.Text.{log_text}
 use Rattle.streams.specs.declared.sink.Sink as sink
 use Rattle.blob_tool.specs.declared.status.Status.{Status}
 use Rattle.blob_tool.specs.declared.status.Status.TheVariants as status
-use Rattle.blob_tool.specs.Driving.{ended_row}
+use Rattle.script_lang.specs.declared.schedule.Actor.{Actor}
+use Rattle.channels.specs.Scheduled.{ended_row, FollowsSchedule}
 use Rattle.streams.specs.Printing.{IsPartOf}
 use Rattle.blob_tool.specs.Closing.{AddsNoImage}
 use Rattle.blob_tool.specs.Surviving.{IsLasting, RunSurvives}
 
 module _ {D : Type 0} (d : disk.Ghosts D) (script : List (List Command)) where
-  -- A run leads from one state of the store to another, in which every channel has ended and no job runs. Its log is a
-  -- legal one of the script's commands, and the volumes shown at the end are its replay, unless the store stopped. Of
-  -- a device that doesn't tell what it holds both are said but for what pages hold (`seen`).
-  pub record IsRun (first last : StoreView D) : Type 0 where
-    pub opens : Opens (state_of d first)
-    pub turns : (kinds : List Kind) × Run d.tells (state_of d first) kinds (state_of d last)
-    pub over : (channel : ℕ) → rows_of last.rows channel ≡ ended_row
-    pub no_job : last.job ≡ None
-    pub interleaves : Interleaves last.log script
-    pub legal : IsLegal (fixed_of first.super) (shown (state_of d first)) (seen d.tells last.log)
-    -- a store that stopped has counted a failed write or flush, and its fault, if it has one, stands where it stopped;
-    -- else it has counted none, and no entry is a fault or stopped
-    pub counted : (at : ℕ) → last.stopped ≡ Some at → Rose (d.write_faults first.disk) (d.write_faults last.disk)
-    pub uncounted : last.stopped ≡ None → d.write_faults last.disk ≡ d.write_faults first.disk
-    pub fault_at : (k : ℕ) (e : Entry) → slice_get last.log k ≡ Some e → e.reply ≡ r.Fault → last.stopped ≡ Some k
-    pub quiet : last.stopped ≡ None → All (λ e. IsQuiet e.reply) last.log
-    pub replayed : last.stopped ≡ None
-        → shown (state_of d last)
-        ≡ replay (fixed_of first.super) (shown (state_of d first)) (seen d.tells last.log)
-
   -- A store as the device says it, whole in itself: its masks are what its chains and maps claim. It is opened with the
   -- script.
   pub record IsLoaded (before : D) (loaded : Loaded D) (first : StoreView D) : Type 0 where
@@ -65,44 +46,67 @@ module _ {D : Type 0} (d : disk.Ghosts D) (script : List (List Command)) where
     pub one_image : HasOneImage d before → HasOneImage d loaded.disk
     pub opened : IsOpened d loaded script first
 
-  module _ {K : Type 0} (k : sink.Ghosts K) (out out_now : K) (back : D) where
-    -- a run from this state, whose device was flushed at most behind it and is handed back, and of the text of its log
-    -- as much as was printed
-    pub record Played (first : StoreView D) : Type 0 where
-      pub last : StoreView D
-      pub run : IsRun first last
-      pub device : AddsNoImage d last.disk back
-      -- power may fail at any moment, of a device that had one image
-      pub survives : HasOneImage d first.disk → RunSurvives d first.super (shown (state_of d first)) last back
-      pub printed : IsTrue k.tells → IsPartOf (k.written out) (k.written out_now) (log_text last.log)
+  module _ (schedule : List Actor) where
+    -- A run leads from one state of the store to another, in which every channel has ended and no job runs. Its turns are
+    -- those of the steps of its schedule, and then of rounds of the channels and the metadata thread. Its log is a legal
+    -- one of the script's commands, and the volumes shown at the end are its replay, unless the store stopped. Of a
+    -- device that doesn't tell what it holds both are said but for what pages hold (`seen`).
+    pub record IsRun (first last : StoreView D) : Type 0 where
+      pub opens : Opens (state_of d first)
+      pub follows : FollowsSchedule d schedule first last
+      pub turns : (kinds : List Kind) × Run d.tells (state_of d first) kinds (state_of d last)
+      pub over : (channel : ℕ) → rows_of last.rows channel ≡ ended_row
+      pub no_job : last.job ≡ None
+      pub interleaves : Interleaves last.log script
+      pub legal : IsLegal (fixed_of first.super) (shown (state_of d first)) (seen d.tells last.log)
+      -- a store that stopped has counted a failed write or flush, and its fault, if it has one, stands where it stopped;
+      -- else it has counted none, and no entry is a fault or stopped
+      pub counted : (at : ℕ) → last.stopped ≡ Some at → Rose (d.write_faults first.disk) (d.write_faults last.disk)
+      pub uncounted : last.stopped ≡ None → d.write_faults last.disk ≡ d.write_faults first.disk
+      pub fault_at : (k : ℕ) (e : Entry) → slice_get last.log k ≡ Some e → e.reply ≡ r.Fault → last.stopped ≡ Some k
+      pub quiet : last.stopped ≡ None → All (λ e. IsQuiet e.reply) last.log
+      pub replayed : last.stopped ≡ None
+          → shown (state_of d last)
+          ≡ replay (fixed_of first.super) (shown (state_of d first)) (seen d.tells last.log)
 
-    -- the whole log's text was printed
-    abbrev pub IsPrinted : {first : StoreView D} → Played first → Type 0
-    IsPrinted p = IsTrue k.tells → k.written out_now ≡ k.written out ++ log_text p.last.log
+    module _ {K : Type 0} (k : sink.Ghosts K) (out out_now : K) (back : D) where
+      -- a run from this state, whose device was flushed at most behind it and is handed back, and of the text of its log
+      -- as much as was printed
+      pub record Played (first : StoreView D) : Type 0 where
+        pub last : StoreView D
+        pub run : IsRun first last
+        pub device : AddsNoImage d last.disk back
+        -- power may fail at any moment, of a device that had one image
+        pub survives : HasOneImage d first.disk → RunSurvives d first.super (shown (state_of d first)) last back
+        pub printed : IsTrue k.tells → IsPartOf (k.written out) (k.written out_now) (log_text last.log)
 
-    -- the store didn't stop, and all that was written is lasting
-    abbrev pub IsWhole : {first : StoreView D} → Played first → Type 0
-    IsWhole {first} p = (p.last.stopped ≡ None)
-        × (HasOneImage d first.disk → IsLasting d first.super (shown (state_of d first)) p.last back)
+      -- the whole log's text was printed
+      abbrev pub IsPrinted : {first : StoreView D} → Played first → Type 0
+      IsPrinted p = IsTrue k.tells → k.written out_now ≡ k.written out ++ log_text p.last.log
 
-    -- The store stopped there, and the device was left alone from then on; or, behind all entries, the flush that
-    -- closes the run failed.
-    abbrev pub EndsAt : {first : StoreView D} → Played first → ℕ → Type 0
-    EndsAt p at = ((p.last.stopped ≡ Some at) × (back ≡ p.last.disk))
-        ⊎ ((p.last.stopped ≡ None) × (at ≡ length p.last.log)
-        × Rose (d.write_faults p.last.disk) (d.write_faults back))
+      -- the store didn't stop, and all that was written is lasting
+      abbrev pub IsWhole : {first : StoreView D} → Played first → Type 0
+      IsWhole {first} p = (p.last.stopped ≡ None)
+          × (HasOneImage d first.disk → IsLasting d first.super (shown (state_of d first)) p.last back)
 
-    -- what a run came to: it was printed whole, or the sink failed; the device failed; or memory ran out
-    abbrev pub Ended : StoreView D → Status → Type 0
-    Ended first status.Good = (p : Played first) × IsWhole p × IsPrinted p
-    Ended first status.OutWrite = (p : Played first) × IsWhole p × Rose (k.faults out) (k.faults out_now)
-    Ended first (status.Device at) =
-        (p : Played first) × EndsAt p at × (IsPrinted p ⊎ Rose (k.faults out) (k.faults out_now))
-    Ended first status.Memory = Played first
-    Ended first _ = ⊥
+      -- The store stopped there, and the device was left alone from then on; or, behind all entries, the flush that
+      -- closes the run failed.
+      abbrev pub EndsAt : {first : StoreView D} → Played first → ℕ → Type 0
+      EndsAt p at = ((p.last.stopped ≡ Some at) × (back ≡ p.last.disk))
+          ⊎ ((p.last.stopped ≡ None) × (at ≡ length p.last.log)
+          × Rose (d.write_faults p.last.disk) (d.write_faults back))
 
-    -- it began, or memory ran out before: then nothing was printed, and the device is the one that was loaded
-    abbrev pub EndedFrom : Loaded D → Status → Type 0
-    EndedFrom loaded s =
-        ((first : StoreView D) × IsOpened d loaded script first × Ended first s)
-        ⊎ ((s ≡ status.Memory) × (out_now ≡ out) × (back ≡ loaded.disk))
+      -- what a run came to: it was printed whole, or the sink failed; the device failed; or memory ran out
+      abbrev pub Ended : StoreView D → Status → Type 0
+      Ended first status.Good = (p : Played first) × IsWhole p × IsPrinted p
+      Ended first status.OutWrite = (p : Played first) × IsWhole p × Rose (k.faults out) (k.faults out_now)
+      Ended first (status.Device at) =
+          (p : Played first) × EndsAt p at × (IsPrinted p ⊎ Rose (k.faults out) (k.faults out_now))
+      Ended first status.Memory = Played first
+      Ended first _ = ⊥
+
+      -- it began, or memory ran out before: then nothing was printed, and the device is the one that was loaded
+      abbrev pub EndedFrom : Loaded D → Status → Type 0
+      EndedFrom loaded s =
+          ((first : StoreView D) × IsOpened d loaded script first × Ended first s)
+          ⊎ ((s ≡ status.Memory) × (out_now ≡ out) × (back ≡ loaded.disk))

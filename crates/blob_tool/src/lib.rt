@@ -2,12 +2,10 @@
 #![tactic(auto)]
 
 mod closing;
-mod driver;
 mod format_words;
-mod serving;
+mod run_words;
 mod status;
 mod top;
-mod writing;
 
 pub use script_lang::LineKind;
 pub use status::Status;

@@ -1,5 +1,6 @@
 //! Tests of the program's calls over a device in memory: the verbs on attributes, new volumes, volumes that are thick
-//! or get another number of slots, pages that are read and written, new stores, and each status.
+//! or get another number of slots, pages that are read and written, channels that take turns, new
+//! stores, and each status.
 #![tactic(auto)]
 
 #[cfg(test)]
@@ -10,6 +11,8 @@ mod formats;
 mod page_faults;
 #[cfg(test)]
 mod pages;
+#[cfg(test)]
+mod schedules;
 #[cfg(test)]
 mod slots;
 #[cfg(test)]

@@ -9,7 +9,7 @@ returns-in-Ok-load-clause-outcome g c =
     let d = g.D.PageDisk in
     let loaded = c.in-Ok-load.loaded in
     of_a_run g.S.Source c.args.script.now c.script_of.new.source d g.K.Sink c.args.out.now c.play.new.out c.args.disk
-    c.play.result.1 c.in-Ok.commands loaded c.play.result.0 c.in-Ok.ensures.text
+    c.play.result.1 c.args.schedule.now c.in-Ok.commands loaded c.play.result.0 c.in-Ok.ensures.text
     (λ first opened. record {
       super = c.in-Ok-load.ensures.super_block;
       says = c.in-Ok-load.ensures.found;
@@ -24,9 +24,9 @@ pub returns-in-Err-load-clause-outcome : goal.returns-in-Err-load-clause-outcome
 returns-in-Err-load-clause-outcome g c =
     let d = g.D.PageDisk in
     subst (λ (st : Status). Outcome g.S.Source c.args.script.now c.script_of.new.source d g.K.Sink c.args.out.now
-    c.args.out.now c.args.disk c.in-Err-load.disk st) (sym c.from.ensures)
+    c.args.out.now c.args.disk c.in-Err-load.disk c.args.schedule.now st) (sym c.from.ensures)
     (of_a_fault g.S.Source c.args.script.now c.script_of.new.source d g.K.Sink c.args.out.now c.args.out.now c.args.disk
-    c.in-Err-load.disk c.in-Err-load.fault
+    c.in-Err-load.disk c.args.schedule.now c.in-Err-load.fault
     (record { quiet = refl; device = c.in-Err-load.ensures.same })
     (record { commands = c.in-Ok.commands; script_is = c.in-Ok.ensures.text })
     c.in-Err-load.ensures.counted c.in-Err-load.ensures.cause c.in-Err-load.ensures.refused)
