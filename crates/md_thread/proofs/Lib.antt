@@ -1,0 +1,6 @@
+pub mod Planned
+mod PlannedAttributes
+pub mod PlannedSlots
+mod MessageTurns
+mod JobMoves
+mod RowsEnded

@@ -1,0 +1,53 @@
+-- What a store is as a plan finds it, and what a planned job is for its command.
+use Rattle.std.proofs.Common.{◌≡◌, ℕ, Bool, List, Option, refl, inl, inr}
+use Rattle.page_disk.specs.declared.disk.PageDisk.{Ghosts}
+use Rattle.volume_model.specs.Xattrs.{Text}
+use Rattle.volume_model.specs.declared.command.VolumeRef.{VolumeRef}
+use Rattle.volume_model.specs.declared.command.Command.{Command}
+use Rattle.volume_model.specs.declared.command.Command.TheVariants as c
+use Rattle.blob_meta.specs.declared.job.Job.{Job}
+use Rattle.metadata_turns.specs.Answering.{IsAnswerable}
+use Rattle.metadata_turns.specs.Begins.{IsJobOf, ReplacesOne}
+use Rattle.running_store.specs.StoreInvariant.{IsRunning, StoreInvariant}
+use Rattle.running_store.specs.StoreView.{StoreView, WithOpening, state_of}
+use Rattle.md_thread.specs.Served.{IsServedByMetadata}
+
+-- a store has what every state of a run has
+pub is_running : {D : Type 0} (d : Ghosts D) (b : WithOpening D) → StoreInvariant d b → IsRunning (state_of d b.at)
+is_running d b kept =
+    record {
+      store = b.opening.super;
+      first = _;
+      script = _;
+      placed = kept.placed;
+      named = kept.named;
+      facts = kept.facts;
+    }
+
+-- what a job is for the command that it was planned for
+abbrev pub IsFor : {D : Type 0} → Ghosts D → StoreView D → Command → Job → Type 0
+IsFor d p command job = ReplacesOne job × IsJobOf (state_of d p) command job
+
+-- what a command asks for is one replacement
+pub is_for : {D : Type 0} (d : Ghosts D) (p : StoreView D) (command : Command) (job : Job)
+    → IsJobOf (state_of d p) command job → IsFor d p command job
+is_for d p command job asks = (
+  record { head = asks.head; new = asks.new; zeros = asks.zeros; is = asks.is },
+  asks,
+)
+
+-- what is served without a job is answered in memory
+pub answerable : (command : Command) → IsServedByMetadata command
+    → ((name : Text) (slots : ℕ) (thick : Bool) (uuid : Option (List ℕ)) → command ≡ c.Create name slots thick uuid → ⊥)
+    → ((volume : VolumeRef) (key value : Text) → command ≡ c.Put volume key value → ⊥)
+    → ((volume : VolumeRef) → command ≡ c.Sync volume → ⊥)
+    → ((volume : VolumeRef) (slots : ℕ) → command ≡ c.Resize volume slots → ⊥) → IsAnswerable command
+answerable (c.SetX volume key value) is create put sync resize = inl (tt, tt)
+answerable (c.DelX volume key) is create put sync resize = inl (tt, tt)
+answerable (c.GetX volume key) is create put sync resize = inl (tt, tt)
+answerable c.Df is create put sync resize = inr refl
+answerable (c.Create name slots thick uuid) is create put sync resize = absurd (create name slots thick uuid refl)
+answerable (c.Put volume key value) is create put sync resize = absurd (put volume key value refl)
+answerable (c.Sync volume) is create put sync resize = absurd (sync volume refl)
+answerable (c.Resize volume slots) is create put sync resize = absurd (resize volume slots refl)
+answerable _ is create put sync resize = absurd is

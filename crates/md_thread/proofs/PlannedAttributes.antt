@@ -1,0 +1,204 @@
+-- What is planned for a command that brings attributes to the disk is what the command asks for.
+use Rattle.std.proofs.Common.{◌≡◌, ℕ, Bool, true, false, Option, Some, None, [], Result, Ok, Err, refl}
+use Rattle.std.proofs.Common.{sym, subst, ◌∙◌, inl, inr}
+use Rattle.std.proofs.Common.{ap, arith}
+use Rattle.std.proofs.lemmas.Bool.{cases_lt}
+use Rattle.std.specs.Prelude.{IfOk, IfErr}
+use Rattle.std.specs.Ordering.{nat_cmp}
+use Rattle.std.specs.FinMap as map
+use Rattle.page_disk.specs.declared.disk.PageDisk.{Ghosts}
+use Rattle.volume_model.specs.Xattrs.{Text, Xattrs, with_value}
+use Rattle.volume_model.specs.Refusals.{refusal}
+use Rattle.volume_model.specs.declared.command.VolumeRef.{VolumeRef}
+use Rattle.volume_model.specs.declared.command.Command.{Command}
+use Rattle.volume_model.specs.declared.command.Command.TheVariants as c
+use Rattle.volume_model.specs.declared.reply.Reply.{Reply}
+use Rattle.volume_model.specs.declared.reply.Reply.TheVariants as r
+use Rattle.super_block.specs.declared.page.Super.{Super}
+use Rattle.blob_meta.specs.declared.meta.Meta.{Meta}
+use Rattle.blob_meta.specs.declared.job.Job.{Job}
+use Rattle.blob_meta.specs.Find.{is_meant, IsLeast}
+use Rattle.blob_meta.specs.ShownBy.{IsHeadMeant}
+use Rattle.blob_meta.specs.Asked.{IsAttributeCause, IsFirstCause, IsLiveOf}
+use Rattle.lvol_store.specs.Plans.{PlansPut, PlansSync, RefusesPlan}
+use Rattle.store_model.specs.Shown.{fixed_of}
+use Rattle.store_model.specs.StoreState.{StoreState, shown}
+use Rattle.store_model.specs.Asking.{AsksFor, IsSyncing, syncs}
+use Rattle.store_model.specs.Cases.{IsRefusedBy}
+use Rattle.metadata_turns.specs.Answering.{IsFound}
+use Rattle.metadata_turns.specs.Begins.{AsksToWrite}
+use Rattle.running_store.specs.StoreInvariant.{IsRunning}
+use Rattle.store_core.specs.Planning.{HasBlob, PlanLaws}
+use Rattle.running_store.specs.StoreView.{StoreView, state_of}
+use Rattle.md_thread.specs.Tasks.{IsPlanOf}
+use Rattle.md_thread.proofs.Planned.{IsFor}
+
+-- what a verb that syncs asks for is to be written
+to_write : (p : StoreState) (command : Command) (head : ℕ) (new : Meta) → AsksFor p command head new
+    → AsksToWrite p command head new []
+to_write p command head new asks =
+    record {
+      commit = record { reply = r.Ok; live = Some new.xattrs; renews = [] };
+      asked = syncs (record { head = head; new = new; is = refl; asks = asks; commit_is = refl });
+      next = λ none. let e : None ≡ Some asks.old = sym none ∙ asks.there in absurd (cc e);
+    }
+
+-- a test has one least head that passes
+same_least : (test : ℕ → Bool) (h k : ℕ) → IsLeast test h → IsLeast test k → h ≡ k
+same_least test h k a b = elim (cases_lt h k) [
+  | inl below ↦ let e : true ≡ false = sym a.passes ∙ b.none_below h below in absurd (cc e)
+  | inr from ↦ elim (cases_lt k h) [
+    | inl above ↦ let e : true ≡ false = sym b.passes ∙ a.none_below k above in absurd (cc e)
+    | inr to ↦ omega (arith, from, to)
+  ]
+]
+
+module _ {D : Type 0} (d : Ghosts D) (laws : PlanLaws d) (p : StoreView D) (running : IsRunning (state_of d p))
+    (runs : p.stopped ≡ None) where
+  -- the blob of a plan is the one that is found
+  at_plan : {command : Command} {volume : VolumeRef} (head : Option ℕ) (live : Xattrs) (at : ℕ) (old : Meta)
+      → (found : IsFound p.metas p.super p.live command head (Some live)) → found.volume ≡ volume
+      → IsLeast (is_meant p.super.super_blob p.metas volume) at → map.get p.metas at ≡ Some old
+      → HasBlob p at old live × IsHeadMeant p.metas p.super volume (Some at)
+  at_plan None live at old found asked least there = let e = found.live_is in absurd (cc e)
+  at_plan {volume = volume} (Some h) live at old found asked least there =
+      let same : h ≡ at =
+      same_least (is_meant p.super.super_blob p.metas volume) h at
+      (subst (λ v. IsLeast (is_meant p.super.super_blob p.metas v) h) asked found.there) least in (
+        record { there = there; is_live = ap (λ k. map.get p.live k) (sym same) ∙ sym found.live_is },
+        subst (λ k. IsHeadMeant p.metas p.super volume (Some k)) same
+            (subst (λ v. IsHeadMeant p.metas p.super v (Some h)) asked found.meant),
+      )
+
+  -- the job that is planned for a put is what the put asks for
+  put_job : (volume : VolumeRef) (key value : Text) (head : Option ℕ) (o : Option Xattrs) (job : Job)
+      → IsFound p.metas p.super p.live (c.Put volume key value) head o
+      → PlansPut p.metas p.super o (c.Put volume key value) job
+      → IsFirstCause p.metas p.super o (c.Put volume key value) None → IsFor d p (c.Put volume key value) job
+  put_job volume key value head (Some live) job found plan cause =
+      let new = record plan.old { xattrs = with_value live key value } in
+      let asked : found.volume ≡ volume = let e = found.asked in cc e in
+      let at = at_plan head live plan.head plan.old found asked plan.meant plan.there in (
+        record { head = plan.head; new = new; zeros = []; is = plan.job_is },
+        record {
+          head = plan.head;
+          new = new;
+          zeros = [];
+          is = plan.job_is;
+          asks =
+              to_write (state_of d p) (c.Put volume key value) plan.head _
+              (laws.put p volume plan.head key value plan.old live running runs at.0 at.1 cause);
+        },
+      )
+  put_job volume key value head None job found plan cause = absurd plan
+
+  -- the job that is planned for a sync is what the sync asks for
+  sync_job : (volume : VolumeRef) (head : Option ℕ) (o : Option Xattrs) (job : Job)
+      → IsFound p.metas p.super p.live (c.Sync volume) head o → PlansSync p.metas p.super o (c.Sync volume) job
+      → IsFirstCause p.metas p.super o (c.Sync volume) None → IsFor d p (c.Sync volume) job
+  sync_job volume head (Some live) job found plan cause =
+      let new = record plan.old { xattrs = live } in
+      let asked : found.volume ≡ volume = let e = found.asked in cc e in
+      let at = at_plan head live plan.head plan.old found asked plan.meant plan.there in (
+        record { head = plan.head; new = new; zeros = []; is = plan.job_is },
+        record {
+          head = plan.head;
+          new = new;
+          zeros = [];
+          is = plan.job_is;
+          asks =
+              to_write (state_of d p) (c.Sync volume) plan.head _
+              (laws.sync p volume plan.head plan.old live running runs at.0 at.1 cause);
+        },
+      )
+  sync_job volume head None job found plan cause = absurd plan
+
+  lacks_memory : (command : Command) → IsSyncing command → IsRefusedBy (state_of d p) command r.Memory
+  lacks_memory (c.Put volume key value) is = tt
+  lacks_memory (c.Sync volume) is = tt
+  lacks_memory _ is = absurd is
+
+  by_cause : (command : Command) (reply : Reply) → IsAttributeCause reply
+      → refusal (fixed_of p.super) (shown (state_of d p)) command ≡ Some reply
+      → IsRefusedBy (state_of d p) command reply
+  by_cause command r.NoVolume cause is = (tt, is)
+  by_cause command r.Reserved cause is = (tt, is)
+  by_cause command r.ReadOnly cause is = (tt, is)
+  by_cause command r.TooLong cause is = (tt, is)
+  by_cause command r.NoValue cause is = (tt, is)
+  by_cause command _ cause is = absurd cause
+
+  -- a command that the plan refuses is refused for its first cause, or for want of memory
+  refused : (command : Command) (head : Option ℕ) (o : Option Xattrs) (reply : Reply) → IsSyncing command
+      → IsFound p.metas p.super p.live command head o → RefusesPlan p.metas p.super o command reply
+      → IsRefusedBy (state_of d p) command reply
+  refused command head o reply syncing found (inl memory) =
+      subst (λ (x : Reply). IsRefusedBy (state_of d p) command x) (sym memory) (lacks_memory command syncing)
+  refused command head o reply syncing found (inr x) =
+      by_cause command reply x.0
+      (x.1 (fixed_of p.super) (shown (state_of d p)) (laws.shows p command head o running runs found))
+  -- what is planned for a put
+  put_at : (volume : VolumeRef) (key value : Text) (head : Option ℕ) (o : Option Xattrs)
+      → IsFound p.metas p.super p.live (c.Put volume key value) head o → (planned : Result Job Reply)
+      → IfOk planned (PlansPut p.metas p.super o (c.Put volume key value))
+      → IfOk planned (λ job. IsFirstCause p.metas p.super o (c.Put volume key value) None)
+      → IfErr planned (RefusesPlan p.metas p.super o (c.Put volume key value))
+      → IsPlanOf d p (c.Put volume key value) (Some planned)
+  put_at volume key value head o found (Ok job) plan cause refuses =
+      put_job volume key value head o job found plan cause
+  put_at volume key value head o found (Err reply) plan cause refuses =
+      refused (c.Put volume key value) head o reply tt found refuses
+
+  -- what is planned for a sync
+  sync_at : (volume : VolumeRef) (head : Option ℕ) (o : Option Xattrs)
+      → IsFound p.metas p.super p.live (c.Sync volume) head o → (planned : Result Job Reply)
+      → IfOk planned (PlansSync p.metas p.super o (c.Sync volume))
+      → IfOk planned (λ job. IsFirstCause p.metas p.super o (c.Sync volume) None)
+      → IfErr planned (RefusesPlan p.metas p.super o (c.Sync volume)) → IsPlanOf d p (c.Sync volume) (Some planned)
+  sync_at volume head o found (Ok job) plan cause refuses = sync_job volume head o job found plan cause
+  sync_at volume head o found (Err reply) plan cause refuses = refused (c.Sync volume) head o reply tt found refuses
+
+  -- from what is given of the store
+  module _ (metas : map.FinMap nat_cmp Meta) (sup : Super) (o : Option Xattrs) (m : metas ≡ p.metas)
+      (s : sup ≡ p.super) where
+    of_store : (P : map.FinMap nat_cmp Meta → Super → Type 0) → P metas sup → P p.metas p.super
+    of_store P x =
+        subst (λ (sup : Super). P p.metas sup) s (subst (λ (metas : map.FinMap nat_cmp Meta). P metas sup) m x)
+
+    -- live attributes are given exactly where what is planned on is there
+    pub live_given : (command : Command) (head : Option ℕ) → IsFound p.metas p.super p.live command head o
+        → IsLiveOf metas sup o command
+    live_given command head found =
+        subst (λ (sup : Super). IsLiveOf metas sup o command) (sym s)
+        (subst (λ (metas : map.FinMap nat_cmp Meta). IsLiveOf metas p.super o command) (sym m)
+        (laws.live p command head o running runs found))
+
+    pub put_plan : (command : Command) (volume : VolumeRef) (key value : Text) → command ≡ c.Put volume key value
+        → (head : Option ℕ) → IsFound p.metas p.super p.live command head o → (planned : Result Job Reply)
+        → IfOk planned (PlansPut metas sup o command) → IfOk planned (λ job. IsFirstCause metas sup o command None)
+        → IfErr planned (RefusesPlan metas sup o command) → IsPlanOf d p command (Some planned)
+    put_plan command volume key value e head found planned plan cause refuses =
+        subst
+        (λ (command : Command). IsFound p.metas p.super p.live command head o
+        → IfOk planned (PlansPut p.metas p.super o command)
+        → IfOk planned (λ job. IsFirstCause p.metas p.super o command None)
+        → IfErr planned (RefusesPlan p.metas p.super o command) → IsPlanOf d p command (Some planned)) (sym e)
+        (λ found. put_at volume key value head o found planned) found
+        (of_store (λ metas sup. IfOk planned (PlansPut metas sup o command)) plan)
+        (of_store (λ metas sup. IfOk planned (λ job. IsFirstCause metas sup o command None)) cause)
+        (of_store (λ metas sup. IfErr planned (RefusesPlan metas sup o command)) refuses)
+
+    pub sync_plan : (command : Command) (volume : VolumeRef) → command ≡ c.Sync volume → (head : Option ℕ)
+        → IsFound p.metas p.super p.live command head o → (planned : Result Job Reply)
+        → IfOk planned (PlansSync metas sup o command) → IfOk planned (λ job. IsFirstCause metas sup o command None)
+        → IfErr planned (RefusesPlan metas sup o command) → IsPlanOf d p command (Some planned)
+    sync_plan command volume e head found planned plan cause refuses =
+        subst
+        (λ (command : Command). IsFound p.metas p.super p.live command head o
+        → IfOk planned (PlansSync p.metas p.super o command)
+        → IfOk planned (λ job. IsFirstCause p.metas p.super o command None)
+        → IfErr planned (RefusesPlan p.metas p.super o command) → IsPlanOf d p command (Some planned)) (sym e)
+        (λ found. sync_at volume head o found planned) found
+        (of_store (λ metas sup. IfOk planned (PlansSync metas sup o command)) plan)
+        (of_store (λ metas sup. IfOk planned (λ job. IsFirstCause metas sup o command None)) cause)
+        (of_store (λ metas sup. IfErr planned (RefusesPlan metas sup o command)) refuses)

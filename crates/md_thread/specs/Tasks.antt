@@ -1,0 +1,34 @@
+-- What is to be done for a message.
+use Rattle.std.specs.Prelude.{◌≡◌, ◌≢◌, Option, None, Some, Result, Ok, Err}
+use Rattle.volume_model.specs.declared.command.Command.{Command}
+use Rattle.volume_model.specs.declared.reply.Msg.{Msg}
+use Rattle.volume_model.specs.declared.reply.Reply.{Reply}
+use Rattle.blob_meta.specs.declared.job.Job.{Job}
+use Rattle.page_disk.specs.declared.disk.PageDisk.{Ghosts}
+use Rattle.store_model.specs.Cases.{IsRefusedBy}
+use Rattle.store_model.specs.Rows.{Posted}
+use Rattle.metadata_turns.specs.Answering.{IsAnswerable}
+use Rattle.metadata_turns.specs.Begins.{IsJobOf, ReplacesOne}
+use Rattle.running_store.specs.Requests.{IsInsertPosted, IsPostedBy}
+use Rattle.running_store.specs.StoreView.{rows_of, StoreView, state_of}
+use Rattle.running_store.specs.Steps.{Asks}
+use Rattle.md_thread.specs.declared.tasks.Task.{Task}
+use Rattle.md_thread.specs.declared.tasks.Task.TheVariants as task
+
+-- What is planned for a command of a store that runs: nothing, if it is answered in memory; else its job, or a refusal
+-- for its first cause or for want of memory.
+abbrev pub IsPlanOf : {D : Type 0} → Ghosts D → StoreView D → Command → Option (Result Job Reply) → Type 0
+IsPlanOf d p command None = IsAnswerable command
+IsPlanOf d p command (Some (Ok job)) = ReplacesOne job × IsJobOf (state_of d p) command job
+IsPlanOf d p command (Some (Err reply)) = IsRefusedBy (state_of d p) command reply
+
+-- A message that is out of date asks for nothing, one of a row with a claim for its insert. A command in memory is
+-- answered; another is refused for a cause, or has its job. What a stopped store is asked to do doesn't count.
+abbrev pub IsTaskOf : {D : Type 0} → Ghosts D → StoreView D → Msg → Task → Type 0
+IsTaskOf d p msg task.Nothing = (rows_of p.rows msg.channel).stage ≢ Posted msg.serial
+IsTaskOf d p msg task.Insert = IsInsertPosted p.rows msg
+IsTaskOf d p msg task.Answer = IsPostedBy p.rows msg × Asks p msg.channel IsAnswerable
+IsTaskOf d p msg (task.Refuse reply) = IsPostedBy p.rows msg
+    × (p.stopped ≡ None → Asks p msg.channel (λ command. IsRefusedBy (state_of d p) command reply))
+IsTaskOf d p msg (task.Begin job) = IsPostedBy p.rows msg × ReplacesOne job
+    × (p.stopped ≡ None → Asks p msg.channel (λ command. IsJobOf (state_of d p) command job))

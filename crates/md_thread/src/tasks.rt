@@ -1,0 +1,84 @@
+//! What is to be done for a message.
+
+ghost use Rattle.std.specs.Prelude.{◌≡◌, None};
+ghost use Rattle.md_thread.specs.Served.{IsServedByMetadata};
+ghost use Rattle.md_thread.specs.Tasks.{IsPlanOf, IsTaskOf};
+ghost use Rattle.running_store.specs.Requests.{IsPostedBy};
+ghost use Rattle.running_store.specs.Steps.{Asks};
+
+use blob_meta::{Job, least_heads_are_meant};
+use lvol_store::{plan_create, plan_put, plan_resize, plan_sync};
+use page_disk::PageDisk;
+use std::alloc::Global;
+use store_core::{MdRight, Plant, Request, plans};
+use volume_model::{Command, Msg, Reply};
+
+/// What is to be done for a message.
+#[derive(Drop)]
+pub(crate) enum Task {
+    /// Nothing: its row isn't posted under its number any more.
+    Nothing,
+    /// The insert that it asks for is begun.
+    Insert,
+    /// Its command is answered in memory.
+    Answer,
+    /// Its command is refused so.
+    Refuse(Reply),
+    /// This job is begun for its command.
+    Begin(Job),
+}
+
+/// The job that is planned for a command, or why it is refused; `None` for a command that is answered in memory.
+fn planned<D: PageDisk>(
+    alloc: Global,
+    plant: &Plant<D>,
+    command: &Command,
+) -> Option<Result<Job, Reply>>
+    requires served { IsServedByMetadata command.now }
+    requires runs { plant.now.at.stopped ≡ None }
+    ensures { IsPlanOf D.PageDisk plant.now.at command.now result }
+{
+    plans::<D>();
+    least_heads_are_meant();
+    plant.keeps();
+    let (metas, sup, new) = (plant.metas(), plant.sup(), plant.next_head());
+    match command {
+        Command::Put { .. } => {
+            let live = plant.live_of(command);
+            Some(plan_put(alloc, metas, sup, command, new, live))
+        }
+        Command::Sync { .. } => {
+            let live = plant.live_of(command);
+            Some(plan_sync(alloc, metas, sup, command, new, live))
+        }
+        Command::Create { .. } => Some(plan_create(alloc, metas, sup, command, new)),
+        Command::Resize { .. } => Some(plan_resize(alloc, metas, sup, command, new)),
+        _ => None,
+    }
+}
+
+/// What is to be done for a message. On a stopped store its command is refused as that.
+pub(crate) fn task_of<D: PageDisk>(
+    alloc: Global,
+    plant: &Plant<D>,
+    right: &MdRight,
+    msg: Msg,
+) -> Task
+    requires right { right.now ≡ plant.now.right }
+    requires served { IsPostedBy plant.now.at.rows msg → Asks plant.now.at msg.channel IsServedByMetadata }
+    ensures { IsTaskOf D.PageDisk plant.now.at msg result }
+{
+    let command = match plant.request(right, msg) {
+        Ok(Request::Meta(command)) => command,
+        Ok(Request::Insert) => return Task::Insert,
+        Err(_) => return Task::Nothing,
+    };
+    if let Some(at) = plant.stopped() {
+        return Task::Refuse(Reply::Stopped(at));
+    }
+    match planned(alloc, plant, command) {
+        None => Task::Answer,
+        Some(Ok(job)) => Task::Begin(job),
+        Some(Err(reply)) => Task::Refuse(reply),
+    }
+}
