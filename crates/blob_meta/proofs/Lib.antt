@@ -9,3 +9,11 @@ pub mod EntriesInOrder
 pub mod MapOfEntries
 pub mod NextHead
 pub mod PlacesRead
+pub mod MarksLifted
+pub mod Fates
+pub mod Midway
+pub mod HeadsListed
+pub mod MapEdits
+pub mod RepairsInTurn
+pub mod ResolvedBlobs
+pub mod ResolvedInSteps

@@ -5,6 +5,7 @@ pub mod Items
 pub mod Find
 pub mod Parents
 pub mod Resolving
+pub mod Repairs
 pub mod Jobs
 pub mod Asked
 pub mod ShownBy

@@ -2,7 +2,7 @@
 
 ghost use Rattle.std.specs.Prelude.{◌≡◌, slice_index};
 ghost use Rattle.page_fields.specs.Fields.{number};
-ghost use Rattle.blob_meta.specs.Parents.{parent_of as parent_said};
+ghost use Rattle.blob_meta.specs.Parents.{named_in as named_said, parent_of as parent_said};
 
 use crate::meta::Meta;
 use page_fields::u64_of;
@@ -34,13 +34,20 @@ fn number_in(bytes: &[u8]) -> u64
     ])
 }
 
+/// The head that an internal attribute names, by an id; `None` exactly where it names none.
+pub(crate) fn named_in(bytes: &[u8]) -> Option<u64>
+    ensures { result ≡ named_said bytes.now }
+{
+    number_in(bytes).checked_sub(1 << 32)
+}
+
 /// The head of the parent, which the internal attribute SNAP names by its id; `None` exactly where the blob has none. A
 /// blob that was read may name a head that no blob can have.
 pub fn parent_of(meta: &Meta) -> Option<u64>
     ensures { result ≡ parent_said meta.now }
 {
     match meta.internal.value_of(b"SNAP") {
-        Some(id) => number_in(id.bytes()).checked_sub(1 << 32),
+        Some(id) => named_in(id.bytes()),
         None => None,
     }
 }

@@ -2,5 +2,3 @@ pub mod Planned
 mod PlannedAttributes
 pub mod PlannedSlots
 mod MessageTurns
-mod JobMoves
-mod RowsEnded

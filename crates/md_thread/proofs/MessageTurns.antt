@@ -1,5 +1,5 @@
 -- A turn that serves a message is one of the message's channel: it alone has another row then.
-use Rattle.std.proofs.Common.{◌≡◌, ◌≢◌, ℕ, suc, List, ◌∷◌, length, Option, None, Some, refl, sym, ap, ◌∙◌, inl, inr, arith}
+use Rattle.std.proofs.Common.{◌≡◌, ℕ, suc, List, ◌∷◌, length, Option, None, Some, refl, sym, ap, ◌∙◌, inl, inr, arith}
 use Rattle.std.specs.Prelude.{IsSome}
 use Rattle.std.proofs.lemmas.Bool.{cases_eq, eq-eqb}
 use Rattle.page_disk.specs.declared.disk.PageDisk.{Ghosts}
@@ -12,7 +12,7 @@ use Rattle.store_model.specs.Cases.LackMemoryForInsert.{LacksMemoryForInsert}
 use Rattle.store_model.specs.Cases.LoseInsert.{LosesInsert}
 use Rattle.store_model.specs.Cases.Halt.{stage_after}
 use Rattle.store_model.specs.Claiming.{given_back}
-use Rattle.store_model.specs.Rows.{Answered, Decided, InJob, Lost, Posted, Row, Rows, Stage, with_row}
+use Rattle.store_model.specs.Rows.{Answered, Decided, InJob, Lost, Posted, Row, Rows, with_row}
 use Rattle.store_model.specs.StoreState.{StoreState}
 use Rattle.metadata_turns.specs.Begins.{BeginsOrNot}
 use Rattle.metadata_turns.specs.Inserts.{InsertsOrNot, IsLack}
@@ -24,7 +24,7 @@ use Rattle.run_moves.specs.DriverSteps.{ServingTurn}
 use Rattle.run_moves.specs.DriverSteps as serving
 use Rattle.running_store.specs.Steps.{OnlyRow}
 use Rattle.running_store.specs.StoreView.{rows_of, state_of, StoreView}
-use Rattle.running_store.specs.TurnMade.{TurnMade, TurnsAs}
+use Rattle.running_store.specs.TurnMade.{TurnMade}
 
 row_here : (rows : Rows) (channel : ℕ) (row : Row) → with_row rows channel row channel ≡ row
 row_here rows channel row = rw (eq-eqb channel channel refl) refl

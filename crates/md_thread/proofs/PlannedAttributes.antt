@@ -137,6 +137,7 @@ module _ {D : Type 0} (d : Ghosts D) (laws : PlanLaws d) (p : StoreView D) (runn
   refused command head o reply syncing found (inr x) =
       by_cause command reply x.0
       (x.1 (fixed_of p.super) (shown (state_of d p)) (laws.shows p command head o running runs found))
+
   -- what is planned for a put
   put_at : (volume : VolumeRef) (key value : Text) (head : Option ℕ) (o : Option Xattrs)
       → IsFound p.metas p.super p.live (c.Put volume key value) head o → (planned : Result Job Reply)

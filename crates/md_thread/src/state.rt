@@ -1,8 +1,10 @@
 //! The steps of the metadata thread, and what it keeps between them.
 
-ghost use Rattle.std.specs.Prelude.{◌↔◌, IsTrue};
+ghost use Rattle.std.specs.Prelude.{◌≡◌, ◌↔◌, IsTrue};
 ghost use Rattle.md_thread.specs.declared.state.Turn.TheVariants.{Idle};
 ghost use Rattle.md_thread.specs.Holding.{HaveEnded, IsNextAfter};
+ghost use Rattle.running_store.specs.StoreView.{rows_of};
+ghost use Rattle.store_model.specs.Rows.{Ended};
 
 use crate::serving::serve;
 use md_queue::Inbox;
@@ -157,9 +159,16 @@ fn have_ended<D: PageDisk>(plant: &Plant<D>) -> bool
     ensures { IsTrue result ↔ HaveEnded plant.now.at.rows }
 {
     for channel in 0..16 {
-        if !matches!(plant.stage(channel), RowStage::Ended) {
+        if !has_ended(plant, channel) {
             return false;
         }
     }
     true
+}
+
+/// Whether a channel has ended.
+fn has_ended<D: PageDisk>(plant: &Plant<D>, channel: u8) -> bool
+    ensures { IsTrue result ↔ (rows_of plant.now.at.rows channel).stage ≡ Ended }
+{
+    matches!(plant.stage(channel), RowStage::Ended)
 }

@@ -1,11 +1,10 @@
 -- What is known of a job that a command asks for, before it begins.
 use Rattle.std.proofs.Common.{◌≡◌, ℕ, ◌<◌, ◌^◌, Bool, true, false, List, [], ◌∷◌, length, get_or, drop}
 use Rattle.std.proofs.Common.{All, Option, Some, None, refl, sym, ◌∙◌, ap, subst, arith, inl, inr}
-use Rattle.std.specs.Prelude.{◌||◌, if◌then◌else◌, is_some, nat_lt, not}
+use Rattle.std.specs.Prelude.{if◌then◌else◌, is_some, nat_lt, not}
 use Rattle.std.specs.Ordering.{nat_cmp}
 use Rattle.std.specs.FinMap as map
-use Rattle.std.proofs.lemmas.Bool.{cases_Bool, both_ways, cases_eq}
-use Rattle.std.proofs.lemmas.List.Elements.{All-from_recursion}
+use Rattle.std.proofs.lemmas.Bool.{cases_Bool, both_ways}
 use Rattle.std.proofs.lemmas.List.{take_all}
 use Rattle.std.proofs.lemmas.Bool.Decides.{nat_tests}
 use Rattle.bit_array.specs.Bits.{is_in}
@@ -19,25 +18,22 @@ use Rattle.volume_model.specs.declared.command.Command.TheVariants as c
 use Rattle.volume_model.specs.declared.reply.Reply.TheVariants as r
 use Rattle.blob_meta.specs.declared.meta.Meta.{Meta}
 use Rattle.blob_meta.specs.declared.job.Job.{Job}
-use Rattle.blob_meta.specs.declared.job.Replacement.{Replacement}
 use Rattle.blob_meta.specs.Jobs.{create_job, job_of_one, new_meta, resize_job, resized_meta}
 use Rattle.blob_meta.specs.Faults.{clusters_of}
 use Rattle.blob_meta.specs.Parents.{slot}
 use Rattle.blob_meta.specs.Says.{meta_of}
 use Rattle.blob_meta.proofs.Inverse.{says}
 use Rattle.md_chain.specs.Chain.{is_among}
-use Rattle.md_chain.specs.Packing.{parts_of, FitsPage}
+use Rattle.md_chain.specs.Packing.{parts_of}
 use Rattle.md_chain.specs.Planned.{written_items}
 use Rattle.md_chain.specs.declared.plan.PlannedPage.{PlannedPage}
 use Rattle.md_chain.proofs.Saying.{written_say}
-use Rattle.store_model.specs.Maps.{Metas, with_entry}
-use Rattle.store_model.specs.Regions.{region_of}
-use Rattle.store_model.specs.Scans.{MetaAt}
+use Rattle.store_model.specs.Maps.{with_entry}
 use Rattle.store_model.specs.Shown.{fixed_of}
-use Rattle.store_model.specs.Phases.{Committing, page_in}
+use Rattle.store_model.specs.Phases.{page_in}
 use Rattle.store_model.specs.StoreState.{StoreState, shown}
-use Rattle.store_model.specs.Places.{all_set, held_by, AreDistinct, AreLeastClear, IsLinked, UsedPages}
-use Rattle.store_model.specs.Jobs.{places_of, with_clusters, IsPacked, MovesClusters, Needs}
+use Rattle.store_model.specs.Places.{held_by, AreDistinct, AreLeastClear, IsLinked, UsedPages}
+use Rattle.store_model.specs.Jobs.{places_of, with_clusters, MovesClusters}
 use Rattle.store_model.specs.Asking.{AsksFor, creates, IsJobFor, IsSyncing, resizes, syncs}
 use Rattle.store_model.specs.RunInvariant.{CanBeWritten, IsSteady, RunsWell}
 use Rattle.store_model.proofs.ClaimedZeros.{claimed_free, zeroed_is}
@@ -48,9 +44,8 @@ use Rattle.store_model.proofs.Known.{Known}
 use Rattle.store_model.proofs.NewBlob.{empty_slot, two_written}
 use Rattle.store_model.proofs.Sets.{among_either, among_first, are_distinct, were_clear}
 use Rattle.store_model.proofs.ZeroSlots.{each_claimed}
-use Rattle.store_model.proofs.WithEntry.{given_here, given_elsewhere}
 use Rattle.metadata_turns.specs.Begins.{job_with_zeros, taken_for, AsksToWrite, IsPrepared, IsTaken}
-use Rattle.running_store.specs.Effects.{cut_clusters, is_cut, is_live_kept, live_behind, numbered_by}
+use Rattle.running_store.specs.Effects.{cut_clusters, is_cut, is_live_kept, live_behind}
 use Rattle.running_store.specs.StoreInvariant.{IsRunning}
 use Rattle.metadata_turns.specs.declared.preparing.Prepared.{Prepared}
 use Rattle.metadata_turns.proofs.AtWork.{page_of}
@@ -60,76 +55,7 @@ use Rattle.metadata_turns.proofs.CutClusters.{cut_moves, cut_once}
 use Rattle.metadata_turns.proofs.FilledMoves.{filled_moves}
 use Rattle.metadata_turns.proofs.JobPlaces.{once_each, places_from}
 use Rattle.metadata_turns.proofs.SlotsOfZeros.{can_be_filled, with_none, CanBeFilled}
-
-pub all_fit : (xattrs : Xattrs) → CanBeWritten xattrs → All FitsPage xattrs
-all_fit xattrs can = All-from_recursion FitsPage xattrs can.short
-
--- one replacement is that of another job, which is the same
-record IsSameOne (head other : ℕ) (new meta : Meta) : Type 0 where
-  head_is : head ≡ other
-  new_is : new ≡ meta
-
-same_one : (head other : ℕ) (new meta : Meta) (zeros : List ℕ) (changes : Job)
-    → job_with_zeros head new zeros ≡ changes → changes.list ≡ record { head = other; new = Some meta } ∷ []
-    → IsSameOne head other new meta
-same_one head other new meta zeros changes is list =
-    let lists = ap (λ (j : Job). j.list) is ∙ list in
-    let one : record { head = head; new = Some new } ≡ record { head = other; new = Some meta } = cc lists in
-    let metas : Some new ≡ Some meta = ap (λ (x : Replacement). x.new) one in
-    record { head_is = ap (λ (x : Replacement). x.head) one; new_is = cc metas }
-
--- what the commit makes of a blob that is there, of which slots are cut or not, or of a new one
-abbrev pub commit_by : Bool → ℕ → Bool → Option Xattrs → Committing
-commit_by there head cut live = record {
-  reply = if there then r.Ok else r.Made head;
-  live = live;
-  renews = numbered_by (not there || cut) head;
-}
-
--- what is taken and planned is what a job begins with
-pub record IsReady (p : StoreState) (head : ℕ) (new : Meta) (makes : Bool) (after : List Bool)
-    (plan : List PlannedPage) (fresh : List ℕ) : Type 0 where
-  pub needs : Needs new (length fresh)
-  pub least : AreLeastClear p.pages (taken_for makes head fresh)
-  pub taken : after ≡ all_set p.pages (taken_for makes head fresh) true
-  pub packed : IsPacked new head fresh plan
-  pub planned : MetaAt (page_in plan) (region_of p.super) head new (head ∷ fresh)
-  pub places : places_of plan ≡ head ∷ fresh
-
--- ---- clusters stay as they are
-
--- a blob that is made has none
-moves_made : (s : Super) (base : Metas) (head : ℕ) (new : Meta) → base head ≡ None → ((i : ℕ) → slot new i ≡ None)
-    → MovesClusters s base (with_entry base head new) [] []
-moves_made s base head new none empty = record {
-  kept = λ c x. elim (cases_eq x.head head) [
-    | inl e ↦ absurd (let bad = sym (ap base e ∙ none) ∙ x.there in cc bad)
-    | inr ne ↦ inl (record {
-      head = x.head;
-      meta = x.meta;
-      there = given_elsewhere base head new x.head ne ∙ x.there;
-      place = x.place;
-      in_slot = x.in_slot;
-    })
-  ];
-  let_go = λ c bad. absurd (cc bad);
-  gained = λ c x. elim (cases_eq x.head head) [
-    | inl e ↦
-        let one : new ≡ x.meta = let both = sym (given_here base head new x.head e) ∙ x.there in cc both in
-        absurd (let bad = sym (empty x.place) ∙ subst (λ (m : Meta). slot m x.place ≡ Some c) (sym one) x.in_slot in
-        cc bad)
-    | inr ne ↦ inl (record {
-      head = x.head;
-      meta = x.meta;
-      there = sym (given_elsewhere base head new x.head ne) ∙ x.there;
-      place = x.place;
-      in_slot = x.in_slot;
-    })
-  ];
-  filled = λ c bad. absurd (cc bad);
-}
-
--- ---- what is asked
+use Rattle.metadata_turns.proofs.JobPlanned.{commit_by, moves_made, same_one, IsReady}
 
 -- a map of all its slots
 whole_cut : (map : List (Option ℕ)) → cut map (length map) None ≡ map

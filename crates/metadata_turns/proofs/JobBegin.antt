@@ -29,7 +29,8 @@ use Rattle.running_store.specs.Zeroing.{pages_of}
 use Rattle.running_store.specs.Steps.{logged_at, IsPostedAt}
 use Rattle.running_store.specs.declared.job.Planned.{Planned}
 use Rattle.running_store.proofs.Entered.{disk_same, entered}
-use Rattle.metadata_turns.proofs.JobAsked.{asked, commit_by, moves_filled, there_is, IsAsked, IsReady}
+use Rattle.metadata_turns.proofs.JobAsked.{asked, moves_filled, there_is, IsAsked}
+use Rattle.metadata_turns.proofs.JobPlanned.{commit_by, IsReady}
 use Rattle.running_store.proofs.Rowing.{rows_set}
 use Rattle.running_store.proofs.ZeroPages.{from_start}
 
@@ -210,7 +211,8 @@ module _ {D : Type 0} (d : Ghosts D) (p : StoreView D) (channel : ℕ) (low : ch
               ∙ ap (λ (l : List ℕ). with_job rows_then (todo_with l) pages clusters)
               (from_start (cluster_pages_of p.super) claimed)
               ∙ ap (with_job rows_then (todo_with (pages_of (cluster_pages_of p.super) claimed)) pages) set
-              ∙ ap (λ (bits : List Bool). with_job rows_then (todo_with (pages_of (cluster_pages_of p.super) claimed)) bits (all_set p.clusters claimed true))
+              ∙ ap (λ (bits : List Bool). with_job rows_then (todo_with (pages_of (cluster_pages_of p.super) claimed)) bits
+              (all_set p.clusters claimed true))
               (is.taken ∙ ap (λ l. all_set p.pages l true)
               (sym (append-nil (taken_for makes planned.head (drop 1 planned.chain)))));
         }

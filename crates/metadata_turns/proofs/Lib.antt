@@ -4,6 +4,7 @@ pub mod JobPlaces
 pub mod CutClusters
 pub mod FilledMoves
 pub mod SlotsOfZeros
+pub mod JobPlanned
 pub mod JobAsked
 pub mod JobBegin
 pub mod JobTaken
@@ -12,6 +13,7 @@ pub mod SlotsFilled
 pub mod Needed
 pub mod InsertFailed
 pub mod JobTurned
+pub mod JobErased
 pub mod HeadReplaced
 pub mod JobCommitted
 pub mod JobInserted

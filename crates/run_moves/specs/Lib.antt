@@ -5,3 +5,5 @@ pub mod ServingTurns
 pub mod JobTurns
 pub mod DrivenStore
 pub mod DriverSteps
+pub mod PlainRows
+pub mod DriverLaws

@@ -1,5 +1,5 @@
--- In lawful metadata following parents ends before the number of metadata pages: any ranks of blobs give ranks up to that
--- number.
+-- In lawful metadata following parents ends before the number of metadata pages: any ranks of blobs give ranks up to
+-- that number.
 use Rattle.std.proofs.Common.{◌≡◌, ℕ, zero, suc, ◌+◌, ◌<◌, ◌≤◌, Bool, true, false, Some, refl, ap, inl, inr}
 use Rattle.std.proofs.Common.{arith}
 use Rattle.std.specs.Prelude.{if◌then◌else◌, nat_lt}

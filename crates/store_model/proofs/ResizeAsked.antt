@@ -24,7 +24,8 @@ zeros_differ true len slots = tt
 zeros_differ false len slots = range_differs len (slots - len)
 
 -- they lie behind the slots that were there
-pub zeros_lie : (thin : Bool) (len slots i : ℕ) → is_among i (added_zeros thin len slots) ≡ true → (len ≤ i) × (i < slots)
+pub zeros_lie : (thin : Bool) (len slots i : ℕ) → is_among i (added_zeros thin len slots) ≡ true
+    → (len ≤ i) × (i < slots)
 zeros_lie true len slots i among = absurd (cc among)
 zeros_lie false len slots i among =
     let x = among_range len (slots - len) i among in

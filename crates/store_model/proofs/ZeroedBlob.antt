@@ -1,5 +1,5 @@
--- A blob with claimed clusters in slots that were empty: it is steady, all metadata is lawful with it, and it shows what
--- it showed where the clusters read as zeros and so did the slots.
+-- A blob with claimed clusters in slots that were empty: it is steady, all metadata is lawful with it, and it shows
+-- what it showed where the clusters read as zeros and so did the slots.
 use Rattle.std.proofs.Common.{
   ◌≡◌,
   ◌≢◌,

@@ -36,8 +36,8 @@ NamesHead m = is_some (value_of m.internal (codes "SNAP")) ≡ is_some (parent_o
 abbrev pub IsUnmarked : Meta → Type 0
 IsUnmarked m = mark_of m ≡ None
 
--- A blob is steady if the store can hold it, its SNAP names a head, and it isn't being made or removed. (Marks come with
--- recovery: a store that runs has none so far.)
+-- A blob is steady if the store can hold it, its SNAP names a head, and it isn't being made or removed. (Marks come
+-- with recovery: a store that runs has none so far.)
 pub record IsSteady (s : Super) (head : ℕ) (m : Meta) : Type 0 where
   pub stored : IsStored s head m
   pub named : NamesHead m

@@ -77,7 +77,11 @@ accepted placed s image metas chains none is says all parentless lawful =
       metas = metas;
       chains = chains;
       whole =
-          record { says = says; few = lawful.few; unmarked = λ head m there. unmarked s head m (all head m there) (parentless head m there) };
+          record {
+            says = says;
+            few = lawful.few;
+            unmarked = λ head m there. unmarked s head m (all head m there) (parentless head m there);
+          };
       alone =
           λ cluster. one_copy metas cluster (λ h k i j m n a b x y. lawful.alone h k i j cluster m n a b x y) s.md_len;
     }

@@ -42,8 +42,8 @@ module _ (s : Super) (metas : Metas) (chains : Chains) (read : AreRead s metas c
 -- ---- the metadata is lawful
 
 -- steady blobs without parents, with no shared cluster and few slots, are lawful
-pub lawful : (s : Super) (metas : Metas) → AreSteady s metas → AreParentless metas → slots_together s.md_len metas ≤ 2 ^ 24
-    → ((cluster : ℕ) → copies s.md_len metas cluster ≤ 1) → IsLawful s.md_len metas
+pub lawful : (s : Super) (metas : Metas) → AreSteady s metas → AreParentless metas
+    → slots_together s.md_len metas ≤ 2 ^ 24 → ((cluster : ℕ) → copies s.md_len metas cluster ≤ 1) → IsLawful s.md_len metas
 lawful s metas all none few most = record {
   alone =
       λ h k i j cluster m n a b x y. one_slot metas cluster s.md_len

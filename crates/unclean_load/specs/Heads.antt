@@ -1,5 +1,6 @@
 -- What the heads of a metadata region say, from the first place upwards, and the first head that shows a fault.
-use Rattle.std.specs.Prelude.{◌≡◌, ℕ, ◌+◌, ◌^◌, ◌<◌, ◌≤◌, Bool, true, false, List, length, Some, None, codes, is_some, ◌||◌}
+use Rattle.std.specs.Prelude.{◌≡◌, ℕ, ◌+◌, ◌^◌, ◌<◌, ◌≤◌, Bool, true, false, List, length, Some, None, codes, is_some}
+use Rattle.std.specs.Prelude.{◌||◌}
 use Rattle.volume_model.specs.Xattrs.{value_of}
 use Rattle.descriptors.specs.declared.item.Item.{Item}
 use Rattle.blob_meta.specs.declared.meta.Meta.{Meta}

@@ -22,7 +22,7 @@ use Rattle.metadata_turns.specs.declared.preparing.Prepared.{Prepared}
 use Rattle.running_store.proofs.Counting.{left_same}
 use Rattle.metadata_turns.proofs.InsertBegun.{begun, posted_with, row_is, some_left, unprepared}
 use Rattle.metadata_turns.proofs.InsertReady.{has_chain, steady}
-use Rattle.metadata_turns.proofs.JobAsked.{all_fit}
+use Rattle.metadata_turns.proofs.JobPlanned.{all_fit}
 use Rattle.metadata_turns.proofs.inserting.start.Goals as goal
 
 pub prepare-requires-clause-there : goal.prepare-requires-clause-there

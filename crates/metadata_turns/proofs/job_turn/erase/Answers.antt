@@ -5,7 +5,7 @@ use Rattle.page_disk.specs.declared.disk.WriteKind.TheVariants.{Plain}
 use Rattle.store_model.specs.Cases.{WritesOnePage}
 use Rattle.running_store.specs.Running.{view_of}
 use Rattle.running_store.specs.StoreView.{device_of}
-use Rattle.metadata_turns.proofs.JobTurned.{broke_off, erased_one, insert_row, more_left, old_below}
+use Rattle.metadata_turns.proofs.JobErased.{broke_off, erased_one, insert_row, more_left, old_below}
 use Rattle.running_store.proofs.PlainFacts.{got, on_err, on_ok, zeros}
 use Rattle.store_model.specs.Phases.{Erases}
 use Rattle.metadata_turns.proofs.job_turn.erase.Goals as goal

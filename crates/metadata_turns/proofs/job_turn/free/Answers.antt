@@ -5,10 +5,10 @@ use Rattle.page_disk.specs.declared.disk.WriteKind.TheVariants.{Plain}
 use Rattle.store_model.specs.Cases.{WritesOnePage}
 use Rattle.running_store.specs.Running.{view_of}
 use Rattle.running_store.specs.StoreView.{device_of}
-use Rattle.metadata_turns.proofs.JobTurned.{broke_off, freed_all, insert_row, last_left, old_below, old_used}
+use Rattle.metadata_turns.proofs.JobErased.{broke_off, freed_all, insert_row, last_left, old_below, old_used}
 use Rattle.running_store.proofs.PlainFacts.{got, on_err, on_ok, zeros}
 use Rattle.store_model.specs.Phases.{Frees}
-use Rattle.metadata_turns.proofs.JobTurned.{old_differ}
+use Rattle.metadata_turns.proofs.JobErased.{old_differ}
 use Rattle.metadata_turns.proofs.job_turn.free.Goals as goal
 
 pub write_last-requires : goal.write_last-requires

@@ -1,0 +1,97 @@
+-- A job of one replacement: what its commit makes, and what is taken and planned for it.
+use Rattle.std.proofs.Common.{◌≡◌, ℕ, Bool, true, List, [], ◌∷◌, length}
+use Rattle.std.proofs.Common.{All, Option, Some, None, sym, ◌∙◌, ap, subst, inl, inr}
+use Rattle.std.specs.Prelude.{◌||◌, if◌then◌else◌, not}
+use Rattle.std.proofs.lemmas.Bool.{cases_eq}
+use Rattle.std.proofs.lemmas.List.Elements.{All-from_recursion}
+use Rattle.super_block.specs.declared.page.Super.{Super}
+use Rattle.volume_model.specs.Xattrs.{Xattrs}
+use Rattle.volume_model.specs.declared.reply.Reply.TheVariants as r
+use Rattle.blob_meta.specs.declared.meta.Meta.{Meta}
+use Rattle.blob_meta.specs.declared.job.Job.{Job}
+use Rattle.blob_meta.specs.declared.job.Replacement.{Replacement}
+use Rattle.blob_meta.specs.Parents.{slot}
+use Rattle.md_chain.specs.Packing.{FitsPage}
+use Rattle.md_chain.specs.declared.plan.PlannedPage.{PlannedPage}
+use Rattle.store_model.specs.Maps.{Metas, with_entry}
+use Rattle.store_model.specs.Regions.{region_of}
+use Rattle.store_model.specs.Scans.{MetaAt}
+use Rattle.store_model.specs.Phases.{Committing, page_in}
+use Rattle.store_model.specs.StoreState.{StoreState}
+use Rattle.store_model.specs.Places.{all_set, AreLeastClear}
+use Rattle.store_model.specs.Jobs.{places_of, IsPacked, MovesClusters, Needs}
+use Rattle.store_model.specs.RunInvariant.{CanBeWritten}
+use Rattle.store_model.proofs.Cut.{cut}
+use Rattle.store_model.proofs.WithEntry.{given_here, given_elsewhere}
+use Rattle.metadata_turns.specs.Begins.{job_with_zeros, taken_for}
+use Rattle.running_store.specs.Effects.{numbered_by}
+
+-- attributes that can be written fit pages
+pub all_fit : (xattrs : Xattrs) → CanBeWritten xattrs → All FitsPage xattrs
+all_fit xattrs can = All-from_recursion FitsPage xattrs can.short
+
+-- one replacement is that of another job, which is the same
+pub record IsSameOne (head other : ℕ) (new meta : Meta) : Type 0 where
+  pub head_is : head ≡ other
+  pub new_is : new ≡ meta
+
+-- so the head and the metadata are the same
+pub same_one : (head other : ℕ) (new meta : Meta) (zeros : List ℕ) (changes : Job)
+    → job_with_zeros head new zeros ≡ changes → changes.list ≡ record { head = other; new = Some meta } ∷ []
+    → IsSameOne head other new meta
+same_one head other new meta zeros changes is list =
+    let lists = ap (λ (j : Job). j.list) is ∙ list in
+    let one : record { head = head; new = Some new } ≡ record { head = other; new = Some meta } = cc lists in
+    let metas : Some new ≡ Some meta = ap (λ (x : Replacement). x.new) one in
+    record { head_is = ap (λ (x : Replacement). x.head) one; new_is = cc metas }
+
+-- what the commit makes of a blob that is there, of which slots are cut or not, or of a new one
+abbrev pub commit_by : Bool → ℕ → Bool → Option Xattrs → Committing
+commit_by there head cut live = record {
+  reply = if there then r.Ok else r.Made head;
+  live = live;
+  renews = numbered_by (not there || cut) head;
+}
+
+-- what is taken and planned is what a job begins with
+pub record IsReady (p : StoreState) (head : ℕ) (new : Meta) (makes : Bool) (after : List Bool)
+    (plan : List PlannedPage) (fresh : List ℕ) : Type 0 where
+  pub needs : Needs new (length fresh)
+  pub least : AreLeastClear p.pages (taken_for makes head fresh)
+  pub taken : after ≡ all_set p.pages (taken_for makes head fresh) true
+  pub packed : IsPacked new head fresh plan
+  pub planned : MetaAt (page_in plan) (region_of p.super) head new (head ∷ fresh)
+  pub places : places_of plan ≡ head ∷ fresh
+
+-- ---- clusters stay as they are
+
+-- a blob that is made has none
+pub moves_made : (s : Super) (base : Metas) (head : ℕ) (new : Meta) → base head ≡ None → ((i : ℕ) → slot new i ≡ None)
+    → MovesClusters s base (with_entry base head new) [] []
+moves_made s base head new none empty = record {
+  kept = λ c x. elim (cases_eq x.head head) [
+    | inl e ↦ absurd (let bad = sym (ap base e ∙ none) ∙ x.there in cc bad)
+    | inr ne ↦ inl (record {
+      head = x.head;
+      meta = x.meta;
+      there = given_elsewhere base head new x.head ne ∙ x.there;
+      place = x.place;
+      in_slot = x.in_slot;
+    })
+  ];
+  let_go = λ c bad. absurd (cc bad);
+  gained = λ c x. elim (cases_eq x.head head) [
+    | inl e ↦
+        let one : new ≡ x.meta = let both = sym (given_here base head new x.head e) ∙ x.there in cc both in
+        absurd (let bad = sym (empty x.place) ∙ subst (λ (m : Meta). slot m x.place ≡ Some c) (sym one) x.in_slot in
+        cc bad)
+    | inr ne ↦ inl (record {
+      head = x.head;
+      meta = x.meta;
+      there = sym (given_elsewhere base head new x.head ne) ∙ x.there;
+      place = x.place;
+      in_slot = x.in_slot;
+    })
+  ];
+  filled = λ c bad. absurd (cc bad);
+}

@@ -1,0 +1,4 @@
+pub mod Marks
+pub mod RefusedAt
+pub mod SnapshotJobs
+pub mod SnapshotPlans
