@@ -1,0 +1,296 @@
+-- What every turn leaves of each row: one that has ended stays, commands only leave it, and what is posted without a
+-- claim is a command for the metadata thread.
+use Rattle.std.proofs.Common.{◌≡◌, ◌≢◌, ◌⊎◌, inl, inr, ℕ, zero, suc, Bool, List, [], ◌∷◌, Option, Some, None, refl}
+use Rattle.std.proofs.Common.{sym, ◌∙◌, ap, subst}
+use Rattle.std.proofs.lemmas.Bool.{cases_eq}
+use Rattle.super_block.specs.Numbers.{cluster_pages_of}
+use Rattle.volume_model.specs.declared.command.Command.{Command}
+use Rattle.volume_model.specs.declared.command.Command.TheVariants as c
+use Rattle.volume_model.specs.declared.reply.Reply.{Reply}
+use Rattle.store_model.specs.Cases as kind
+use Rattle.store_model.specs.Cases.{Kind, Run, Turn}
+use Rattle.store_model.specs.Cases.BreakDown.{BreaksDown}
+use Rattle.store_model.specs.Cases.CopyFail as tried
+use Rattle.store_model.specs.Cases.Copy.{stage_left}
+use Rattle.store_model.specs.Cases.Halt.{MayLog, stage_after}
+use Rattle.store_model.specs.Claiming.{given_back, LogsOwn, stage_behind}
+use Rattle.store_model.specs.Device.{Device}
+use Rattle.store_model.specs.Phases.{Phase}
+use Rattle.store_model.specs.Rows.{Answered, Claiming, Copying, Decided, Decision, Ended, Idle, InJob, IsForMetadata, Lost}
+use Rattle.store_model.specs.Rows.{OpenClaim, Posted, Ready, Row, Rows, Stage, with_row, Won}
+use Rattle.store_model.specs.StoreState.{Opens, StoreState}
+use Rattle.store_model.specs.Turning.{stopped_now}
+use Rattle.store_model.proofs.RowsKept.{row_here, row_other}
+
+-- ---- rows
+
+-- a command for the metadata thread comes first
+pub record HasMetadata (left : List Command) : Type 0 where
+  pub command : Command
+  pub rest : List Command
+  pub is : left ≡ command ∷ rest
+  pub for : IsForMetadata command
+
+-- a row without a claim asks for a command of the metadata thread's
+abbrev pub AsksUnclaimed : List Command → Option OpenClaim → Type 0
+AsksUnclaimed left None = HasMetadata left
+AsksUnclaimed left (Some claim) = Unit {0}
+
+abbrev pub IsAskedAt : List Command → Option OpenClaim → Stage → Type 0
+IsAskedAt left claim (Posted serial) = AsksUnclaimed left claim
+IsAskedAt left claim _ = Unit {0}
+
+abbrev pub IsAsked : Row → Type 0
+IsAsked row = IsAskedAt row.left row.claim row.stage
+
+-- all commands are left, or all but the first
+abbrev pub IsLeftOf : List Command → List Command → Type 0
+IsLeftOf old new = (new ≡ old) ⊎ ((command : Command) × (old ≡ command ∷ new))
+
+pub record RowStep (old new : Row) : Type 0 where
+  pub ended : old.stage ≡ Ended → new ≡ old
+  pub left : IsLeftOf old.left new.left
+  pub asked : IsAsked old → IsAsked new
+
+stays : (row : Row) → RowStep row row
+stays row = record { ended = λ e. refl; left = inl refl; asked = λ is. is }
+
+-- the stages of a row that hasn't ended
+abbrev IsLive : Stage → Type 0
+IsLive Ended = ⊥
+IsLive _ = Unit {0}
+
+live : (row : Row) (stage : Stage) → row.stage ≡ stage → IsLive stage → row.stage ≡ Ended → ⊥
+live row stage is alive e = subst IsLive (sym is ∙ e) alive
+
+-- the first command is logged
+logged : (row : Row) (command : Command) (rest : List Command) (next : Stage) → row.left ≡ command ∷ rest
+    → (row.stage ≡ Ended → ⊥) → IsAskedAt rest None next
+    → RowStep row (record { left = rest; stage = next; claim = None })
+logged row command rest next left alive asked = record {
+  ended = λ e. absurd (alive e);
+  left = inr (command, left);
+  asked = λ is. asked;
+}
+
+-- it is at another stage
+goes : (row : Row) (left : List Command) (next : Stage) (claim : Option OpenClaim) → left ≡ row.left
+    → (row.stage ≡ Ended → ⊥) → IsAskedAt left claim next
+    → RowStep row (record { left = left; stage = next; claim = claim })
+goes row left next claim same alive asked = record {
+  ended = λ e. absurd (alive e);
+  left = inl same;
+  asked = λ is. asked;
+}
+
+-- a stage at which nothing is posted
+abbrev IsUnposted : Stage → Type 0
+IsUnposted stage = (left : List Command) (claim : Option OpenClaim) → IsAskedAt left claim stage
+
+idle : IsUnposted Idle
+idle left claim = tt
+
+told : (outcome : Decision) → IsUnposted (Decided outcome)
+told outcome left claim = tt
+
+after : (stage : Stage) → IsUnposted (stage_after stage)
+after Idle left claim = tt
+after Claiming left claim = tt
+after (Copying count) left claim = tt
+after Ready left claim = tt
+after (Posted serial) left claim = tt
+after InJob left claim = tt
+after (Decided outcome) left claim = tt
+after Ended left claim = tt
+
+behind : (rest : List Phase) → IsUnposted (stage_behind rest)
+behind [] left claim = tt
+behind (x ∷ xs) left claim = tt
+
+copied : (count : ℕ) → IsUnposted (stage_left count)
+copied zero left claim = tt
+copied (suc n) left claim = tt
+
+-- ---- turns
+
+module _ (p q : StoreState) where
+  -- each row takes a step
+  abbrev pub RowsStep : Type 0
+  RowsStep = (k : ℕ) → RowStep (p.rows k) (q.rows k)
+
+  no_row : (next : StoreState) → q ≡ next → next.rows ≡ p.rows → RowsStep
+  no_row next is rows k =
+      subst (λ (r : Rows). RowStep (p.rows k) (r k)) (sym (ap (λ (s : StoreState). s.rows) is ∙ rows)) (stays (p.rows k))
+
+  -- one row changes, of rows of which the others are as before
+  changed : (channel : ℕ) (rows : Rows) (now : Row) → ((k : ℕ) → k ≢ channel → rows k ≡ p.rows k)
+      → q.rows ≡ with_row rows channel now → RowStep (p.rows channel) now → RowsStep
+  changed channel rows now others is step k = elim (cases_eq k channel) [
+    | inl e ↦
+        let here : q.rows k ≡ now = ap (λ (r : Rows). r k) is ∙ row_here rows channel now k e in
+        subst (λ (r : Row). RowStep (p.rows k) r) (sym here) (subst (λ j. RowStep (p.rows j) now) (sym e) step)
+    | inr ne ↦
+        let there : q.rows k ≡ p.rows k =
+        ap (λ (r : Rows). r k) is ∙ row_other rows channel now k ne ∙ others k ne in
+        subst (λ (r : Row). RowStep (p.rows k) r) (sym there) (stays (p.rows k))
+  ]
+
+  one_row : (next : StoreState) → q ≡ next → (channel : ℕ) (now : Row) → next.rows ≡ with_row p.rows channel now
+      → RowStep (p.rows channel) now → RowsStep
+  one_row next is channel now rows step =
+      changed channel p.rows now (λ k ne. refl) (ap (λ (s : StoreState). s.rows) is ∙ rows) step
+
+  -- a claim is given back, and the write logged
+  logged_own : (mid : StoreState) → mid.rows ≡ p.rows → (row : ℕ) (stage next : Stage) (reply : Reply) (device : Device)
+      → LogsOwn mid row next reply device q → (p.rows row).stage ≡ stage → IsLive stage → IsUnposted next → RowsStep
+  logged_own mid rows row stage next reply device logs at alive plain =
+      let left : (p.rows row).left ≡ c.Write logs.volume logs.page logs.word ∷ logs.rest =
+      ap (λ (r : Rows). (r row).left) (sym rows) ∙ logs.left in
+      changed row (given_back mid row next).rows (record { left = logs.rest; stage = next; claim = None })
+      (λ k ne. row_other mid.rows row (record { left = (mid.rows row).left; stage = next; claim = None }) k ne
+      ∙ ap (λ (r : Rows). r k) rows)
+      (ap (λ (s : StoreState). s.rows) logs.next)
+      (logged (p.rows row) (c.Write logs.volume logs.page logs.word) logs.rest next left
+      (live (p.rows row) stage at alive) (plain logs.rest None))
+
+module _ (tells : Bool) (p q : StoreState) where
+  -- a row that is known
+  was : (channel : ℕ) (command : Command) (rest : List Command) (stage : Stage) (claim : Option OpenClaim) (next : Stage)
+      → p.rows channel ≡ record { left = command ∷ rest; stage = stage; claim = claim } → IsLive stage
+      → IsUnposted next → RowStep (p.rows channel) (record { left = rest; stage = next; claim = None })
+  was channel command rest stage claim next row alive plain =
+      logged (p.rows channel) command rest next (ap (λ (r : Row). r.left) row)
+      (live (p.rows channel) stage (ap (λ (r : Row). r.stage) row) alive) (plain rest None)
+
+  on : (channel : ℕ) (left : List Command) (stage : Stage) (claim : Option OpenClaim) (next : Stage)
+      (given : Option OpenClaim) → p.rows channel ≡ record { left = left; stage = stage; claim = claim } → IsLive stage
+      → IsAskedAt left given next → RowStep (p.rows channel) (record { left = left; stage = next; claim = given })
+  on channel left stage claim next given row alive asked =
+      goes (p.rows channel) left next given (sym (ap (λ (r : Row). r.left) row))
+      (live (p.rows channel) stage (ap (λ (r : Row). r.stage) row) alive) asked
+
+  at : (channel : ℕ) (stage next : Stage) → (p.rows channel).stage ≡ stage → IsLive stage → IsUnposted next
+      → RowStep (p.rows channel) (record { left = (p.rows channel).left; stage = next; claim = None })
+  at channel stage next is alive plain =
+      goes (p.rows channel) (p.rows channel).left next None refl (live (p.rows channel) stage is alive)
+      (plain (p.rows channel).left None)
+
+  halted : (t : kind.Halts p q) → RowsStep p q
+  halted t = one_row p q _ t.next t.channel _ refl
+      (logged (p.rows t.channel) t.command t.rest (stage_after t.stage) (ap (λ (r : Row). r.left) t.row)
+      (λ e. subst MayLog (sym (ap (λ (r : Row). r.stage) t.row) ∙ e) t.may) (after t.stage t.rest None))
+
+  broken_down : (t : BreaksDown p q) → RowsStep p q
+  broken_down t = elim t.ends [
+    | inl x ↦ one_row p q _ x.next x.served.channel _ refl
+        (was x.served.channel x.served.command x.served.rest InJob None (Decided Answered) x.served.row tt
+        (told Answered))
+    | inr x ↦ no_row p q _ x.next refl
+  ]
+
+  -- each kind of turn
+  pub row_steps : (k : Kind) → Turn tells p k q → RowsStep p q
+  row_steps kind.posts t = one_row p q _ t.next t.channel _ refl
+      (on t.channel (t.command ∷ t.rest) Idle None (Posted p.serial) None t.row tt
+      (record { command = t.command; rest = t.rest; is = refl; for = t.is_meta }))
+  row_steps kind.answers t = let x = t.posted in one_row p q _ t.next x.channel _ refl
+      (was x.channel x.command x.rest (Posted x.serial) None (Decided Answered) x.row tt (told Answered))
+  row_steps kind.refuses t = let x = t.posted in one_row p q _ t.next x.channel _ refl
+      (was x.channel x.command x.rest (Posted x.serial) None (Decided Answered) x.row tt (told Answered))
+  row_steps kind.halts t = halted t
+  row_steps kind.settles t = one_row p q _ t.next t.channel _ refl
+      (at t.channel (Decided t.outcome) Idle t.decided tt idle)
+  row_steps kind.ends t = one_row p q _ t.next t.channel _ refl (on t.channel [] Idle None Ended None t.over tt tt)
+  row_steps kind.begins t = let x = t.posted in one_row p q _ t.next x.channel _ refl
+      (on x.channel (x.command ∷ x.rest) (Posted x.serial) None InJob None x.row tt tt)
+  row_steps kind.zeroes t = no_row p q _ t.next refl
+  row_steps kind.writes t = no_row p q _ t.next refl
+  row_steps kind.commits t = let x = t.served in one_row p q _ t.next x.channel _ refl
+      (was x.channel x.command x.rest InJob None (Decided Answered) x.row tt (told Answered))
+  row_steps kind.erases t = no_row p q _ t.next refl
+  row_steps kind.frees t = no_row p q _ t.next refl
+  row_steps kind.fails t = let x = t.served in one_row p q _ t.next x.channel _ refl
+      (was x.channel x.command x.rest InJob None (Decided Answered) x.row tt (told Answered))
+  row_steps kind.breaks_off t = no_row p q _ t.next refl
+  row_steps kind.breaks_down t = broken_down t
+  row_steps kind.flushes t = one_row p q _ t.next t.channel _ refl (was t.channel _ t.rest Idle None Idle t.row tt idle)
+  row_steps kind.flush_fails t =
+      one_row p q _ t.next t.channel _ refl (was t.channel _ t.rest Idle None Idle t.row tt idle)
+  row_steps kind.reads t = one_row p q _ t.next t.channel _ refl (was t.channel _ t.rest Idle None Idle t.row tt idle)
+  row_steps kind.refuses_write t =
+      one_row p q _ t.next t.channel _ refl (was t.channel _ t.rest Idle None Idle t.row tt idle)
+  row_steps kind.writes_page t = let x = t.at in
+      one_row p q _ t.next x.channel _ refl (was x.channel _ x.rest Idle None Idle x.row tt idle)
+  row_steps kind.fails_to_write t = let x = t.at in
+      one_row p q _ t.next x.channel _ refl (was x.channel _ x.rest Idle None Idle x.row tt idle)
+  row_steps kind.finds_empty t = let w = t.write in one_row p q _ t.next w.channel _ refl
+      (on w.channel (c.Write w.volume w.page w.word ∷ w.rest) Idle None Claiming None w.row tt tt)
+  row_steps kind.finds_filled t = let w = t.write in one_row p q _ t.next w.channel _ refl
+      (on w.channel (c.Write w.volume w.page w.word ∷ w.rest) Claiming None Idle None w.row tt tt)
+  row_steps kind.claims t = let w = t.write in one_row p q _ t.next w.channel _ refl
+      (on w.channel (c.Write w.volume w.page w.word ∷ w.rest) Claiming None (Copying (cluster_pages_of p.super)) _ w.row
+      tt tt)
+  row_steps kind.refuses_claim t = let w = t.write in
+      one_row p q _ t.next w.channel _ refl (was w.channel _ w.rest Claiming None Idle w.row tt idle)
+  row_steps kind.copies t = let x = t.copying in one_row p q _ t.next x.row _ refl
+      (on x.row x.left (Copying (suc t.left)) (Some x.claim) (stage_left t.left) (Some x.claim) x.is tt
+      (copied t.left x.left (Some x.claim)))
+  row_steps kind.loses_copy t = let x = t.copying in one_row p q _ t.next x.row _ refl
+      (at x.row (Copying (suc t.left)) Idle (ap (λ (r : Row). r.stage) x.is) tt idle)
+  row_steps kind.copy_not_read t = let x = t.copying in
+      logged_own p q p refl x.row (Copying (suc t.left)) Idle _ _ t.logs (ap (λ (r : Row). r.stage) x.is) tt idle
+  row_steps kind.copy_fails t = let x = t.copying in
+      logged_own p q (stopped_now p) refl x.row t.stage Idle _ _ t.logs (ap (λ (r : Row). r.stage) x.is)
+      (tried_live x.claim t.stage t.tried) idle
+    where
+      tried_live : (claim : OpenClaim) (stage : Stage) → tried.TriedCopy p claim stage → IsLive stage
+      tried_live claim stage (tried.copy left page content is current next) = subst IsLive (sym is) tt
+      tried_live claim stage (tried.flush is) = subst IsLive (sym is) tt
+  row_steps kind.sends t = let x = t.copying in one_row p q _ t.next x.row _ refl
+      (on x.row x.left Ready (Some x.claim) (Posted p.serial) (Some x.claim) x.is tt tt)
+  row_steps kind.loses_insert t = let x = t.posted in one_row p q _ t.next x.row _ refl
+      (at x.row (Posted t.serial) (Decided Lost) (ap (λ (r : Row). r.stage) x.is) tt (told Lost))
+  row_steps kind.lacks_for_insert t = let x = t.posted in
+      logged_own p q p refl x.row (Posted t.serial) (Decided Answered) _ _ t.logs (ap (λ (r : Row). r.stage) x.is) tt
+      (told Answered)
+  row_steps kind.lacks_memory_for_insert t = let x = t.posted in
+      logged_own p q p refl x.row (Posted t.serial) (Decided Answered) _ _ t.logs (ap (λ (r : Row). r.stage) x.is) tt
+      (told Answered)
+  row_steps kind.begins_insert t = let x = t.posted in one_row p q _ t.next x.row _ refl
+      (on x.row x.left (Posted t.serial) (Some x.claim) InJob (Some x.claim) x.is tt tt)
+  row_steps kind.inserts t = let x = t.inserting in one_row p q _ t.next x.row _ refl
+      (at x.row InJob (stage_behind t.running.rest) x.waits tt (behind t.running.rest))
+  row_steps kind.insert_ends t = let x = t.inserting in one_row p q _ t.next x.row _ refl
+      (at x.row InJob (Decided Won) x.waits tt (told Won))
+  row_steps kind.insert_fails t = let x = t.inserting in
+      logged_own p q (record (stopped_now p) { job = None }) refl x.row InJob (Decided Answered) _ _ t.logs x.waits tt
+      (told Answered)
+  row_steps kind.insert_breaks_down t = let x = t.inserting in
+      logged_own p q (record p { job = None }) refl x.row InJob (Decided Answered) _ _ t.logs x.waits tt (told Answered)
+
+-- ---- a run
+
+along : (tells : Bool) (p : StoreState) (kinds : List Kind) (q : StoreState) → Run tells p kinds q
+    → ((k : ℕ) → IsAsked (p.rows k)) → (k : ℕ) → IsAsked (q.rows k)
+along tells p [] q is asked = λ k. subst (λ (s : StoreState). IsAsked (s.rows k)) (sym is) (asked k)
+along tells p (x ∷ kinds) q run asked =
+    along tells run.0 kinds q run.2 (λ k. (row_steps tells p run.0 x run.1 k).asked (asked k))
+
+-- a row that has ended stays so
+pub ended_along : (tells : Bool) (p : StoreState) (kinds : List Kind) (q : StoreState) → Run tells p kinds q → (k : ℕ)
+    → (p.rows k).stage ≡ Ended → q.rows k ≡ p.rows k
+ended_along tells p [] q is k ended = ap (λ (s : StoreState). s.rows k) is
+ended_along tells p (x ∷ kinds) q run k ended =
+    let first = (row_steps tells p run.0 x run.1 k).ended ended in
+    ended_along tells run.0 kinds q run.2 k (ap (λ (r : Row). r.stage) first ∙ ended) ∙ first
+
+at_first : (p : StoreState) → Opens p → (k : ℕ) → IsAsked (p.rows k)
+at_first p opens k = elim (opens.waits k) [
+  | inl waits ↦ subst (IsAskedAt (p.rows k).left (p.rows k).claim) (sym waits) tt
+  | inr over ↦ subst IsAsked (sym over) tt
+]
+
+-- what is posted without a claim is a command for the metadata thread, in each state that turns lead to
+pub asked_along : (tells : Bool) (p : StoreState) (kinds : List Kind) (q : StoreState) → Opens p → Run tells p kinds q
+    → (k : ℕ) → IsAsked (q.rows k)
+asked_along tells p kinds q opens run = along tells p kinds q run (at_first p opens)

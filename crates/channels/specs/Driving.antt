@@ -1,0 +1,73 @@
+-- The driver of a run as a store with its messages, and what it keeps.
+use Rattle.std.specs.Prelude.{◌≡◌, ℕ, ◌<◌, Option, Some, None, Bool, true, List, [], length, slice_get}
+use Rattle.std.specs.Option.{option_and_then}
+use Rattle.page_disk.specs.declared.disk.PageDisk.{Ghosts}
+use Rattle.super_block.specs.declared.page.Super.{Super}
+use Rattle.store_model.specs.Rows.{Ended, Row}
+use Rattle.running_store.specs.Stages.{is_stage}
+use Rattle.running_store.specs.StoreView.{rows_of, state_of, StoreView}
+use Rattle.run_work.specs.Following.{ActorInRun}
+use Rattle.run_work.specs.RunFacts.{RunFacts}
+use Rattle.run_work.specs.Steps.{StepOf}
+use Rattle.run_moves.specs.DrivenStore.{DrivenStore, run_of}
+use Rattle.run_moves.specs.DriverSteps.{DriverStep}
+use Rattle.run_moves.specs.Sizes.{sizes_of}
+use Rattle.channels.specs.ChannelState.{channel_at, ChannelState}
+use Rattle.channels.specs.Served.{AreServed}
+use Rattle.channels.specs.declared.driver.Driver.{Driver}
+
+-- the serial of the message that each channel has still to send
+abbrev pub unsent_of : List ChannelState → ℕ → Option ℕ
+unsent_of channels k = option_and_then (λ (c : ChannelState). c.unsent) (slice_get channels k)
+
+-- the store with the messages on their way
+abbrev pub driven : {D : Type 0} → Ghosts D → Driver D → DrivenStore
+driven d w = record {
+  store = state_of d w.plant.at;
+  messages = record {
+    unsent = unsent_of w.channels;
+    queue = w.queue;
+    held = w.metadata.held;
+    waiting = [];
+    fill = None;
+  };
+}
+
+-- ---- channels
+
+-- A channel stands at its number, and where it has ended so has its row.
+pub record IsChannelOf (rows : List Row) (k : ℕ) (c : ChannelState) : Type 0 where
+  pub number : c.channel ≡ k
+  pub ended : c.ended ≡ true → (rows_of rows k).stage ≡ Ended
+
+abbrev pub AreChannelsOf : List Row → List ChannelState → Type 0
+AreChannelsOf rows channels = (k : ℕ) (c : ChannelState) → slice_get channels k ≡ Some c → IsChannelOf rows k c
+
+-- sixteen channels, each at the stage of its row
+abbrev pub AreStarting : List Row → List ChannelState → Type 0
+AreStarting rows channels =
+    (k : ℕ) → k < 16 → slice_get channels k ≡ Some (channel_at k (is_stage (rows_of rows k) k))
+
+-- ---- the driver
+
+-- What it keeps: the right is the store's, of which sixteen rows began; each command that is left is served; and the
+-- store with its messages has what every state of a run has.
+pub record IsDriven {D : Type 0} (d : Ghosts D) (w : Driver D) : Type 0 where
+  pub right : w.right ≡ w.plant.right
+  pub sixteen : length w.plant.opening.rows ≡ 16
+  pub served : AreServed w.plant.at.rows
+  pub channels : AreChannelsOf w.plant.at.rows w.channels
+  pub run : RunFacts (run_of (driven d w))
+
+-- it is the same store, with the same right to change it
+pub record IsSameStore {D : Type 0} (w v : Driver D) : Type 0 where
+  pub opening : v.plant.opening ≡ w.plant.opening
+  pub right : v.right ≡ w.right
+  pub name : v.plant.right ≡ w.plant.right
+
+-- ---- steps
+
+-- a step of the driver's, which is a step of the run
+pub record Steps (told : Bool) (s : Super) (actor : ActorInRun) (w v : DrivenStore) : Type 0 where
+  pub driver : DriverStep told actor w v
+  pub run : StepOf (sizes_of s) actor (run_of w) (run_of v)

@@ -1,0 +1,6 @@
+pub mod Actors
+pub mod ChannelState
+pub mod ChannelSteps
+pub mod Driving
+pub mod RunEnds
+pub mod Served

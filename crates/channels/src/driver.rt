@@ -1,0 +1,237 @@
+//! The driver of a stepwise run: the store, its channels and the metadata thread, and the queue between them.
+
+ghost use Rattle.std.specs.Prelude.{◌≡◌, ◌↔◌, ◌<◌, IsTrue, length};
+ghost use Rattle.md_thread.specs.Holding.{HaveEnded};
+ghost use Rattle.running_store.specs.StoreView.{rows_of, state_of};
+ghost use Rattle.run_work.specs.Following.{ChannelActs, MetadataActs, Round, Scheduled};
+ghost use Rattle.run_moves.specs.DrivenStore.{driven_at_start};
+ghost use Rattle.run_moves.specs.DriverSteps.{has_all_ended, DriverStep, StoreFollows};
+ghost use Rattle.channels.specs.Actors.{actor_in_run, actors_in_run};
+ghost use Rattle.channels.specs.Driving.{driven, AreChannelsOf, AreStarting, IsDriven, IsSameStore, Steps};
+ghost use Rattle.channels.specs.Served.{AreServed};
+ghost use Rattle.script_lang.specs.Schedules.{repeated};
+
+use crate::channel::Channel;
+use md_queue::ListQueue;
+use md_thread::{MdState, Next, Turn};
+use page_disk::PageDisk;
+use run_moves::{rows_stay_plain, steps_are_moves};
+use run_work::{moves_keep_facts, rounds_end};
+use script_lang::{Actor, Part, Schedule};
+use std::alloc::Global;
+use store_core::{MdRight, Plant, RowStage};
+
+/// A running store and what drives it.
+pub(crate) struct Driver<D: PageDisk> {
+    plant: Plant<D>,
+    right: MdRight,
+    channels: [Channel; 16],
+    metadata: MdState,
+    queue: ListQueue,
+}
+
+/// The channels of a store, each at the stage of its row.
+fn channels_of<D: PageDisk>(plant: &Plant<D>) -> [Channel; 16]
+    ensures { AreStarting plant.now.at.rows result.entry }
+{
+    let mut channels = [Channel::new(0, plant.stage(0)); 16];
+    for channel in 1..16 {
+        channels[usize::from(channel)] = Channel::new(channel, plant.stage(channel));
+    }
+    channels
+}
+
+/// Whether every channel has ended.
+fn rows_ended<D: PageDisk>(plant: &Plant<D>) -> bool
+    ensures { IsTrue result ↔ HaveEnded plant.now.at.rows }
+{
+    for channel in 0..16 {
+        if !matches!(plant.stage(channel), RowStage::Ended) {
+            return false;
+        }
+    }
+    true
+}
+
+impl<D: PageDisk> Driver<D> {
+    /// A driver that begins on a store, at whatever stages its rows are.
+    pub(crate) fn new(plant: Plant<D>, right: MdRight) -> Driver<D>
+        requires right { right ≡ plant.right }
+        requires sixteen { length plant.opening.rows ≡ 16 }
+        requires served { AreServed plant.at.rows }
+        ensures starts { driven D.PageDisk result ≡ driven_at_start (state_of D.PageDisk plant.at) }
+        ensures driven { IsDriven D.PageDisk result }
+        ensures opening { result.plant.opening ≡ plant.opening }
+        ensures right { (result.right ≡ right) × (result.plant.right ≡ plant.right) }
+    {
+        steps_are_moves();
+        plant.keeps();
+        let channels = channels_of(&plant);
+        Driver {
+            plant,
+            right,
+            channels,
+            metadata: MdState::new(),
+            queue: ListQueue::new(),
+        }
+    }
+
+    /// A channel sends the message that it has, or makes its turn.
+    fn channel_acts(&mut self, channel: u8)
+        requires driven { IsDriven D.PageDisk self.old }
+        requires low { channel < 16 }
+        ensures step { DriverStep D.tells (ChannelActs channel) (driven D.PageDisk self.old) (driven D.PageDisk self.new) }
+        ensures channels { AreChannelsOf self.new.plant.at.rows self.new.channels }
+        ensures store { IsSameStore self.old self.new }
+    {
+        steps_are_moves();
+        self.plant.keeps();
+        let at = usize::from(channel);
+        let mut own = self.channels[at];
+        match own.next() {
+            Next::Queue => own.send(&mut self.queue),
+            Next::Plant => own.turn(&mut self.plant),
+            Next::Ended => Turn::Idle,
+        };
+        self.channels[at] = own;
+    }
+
+    /// The metadata thread makes a turn of the store, or, where none is to be made, takes a message.
+    fn metadata_acts(&mut self, alloc: Global)
+        requires driven { IsDriven D.PageDisk self.old }
+        ensures step { DriverStep D.tells MetadataActs (driven D.PageDisk self.old) (driven D.PageDisk self.new) }
+        ensures channels { self.new.channels ≡ self.old.channels }
+        ensures store { IsSameStore self.old self.new }
+    {
+        moves_keep_facts();
+        self.plant.keeps();
+        if let Turn::Idle = self.metadata.md_turn(alloc, &mut self.right, &mut self.plant) {
+            self.metadata.md_take(&mut self.queue);
+        }
+    }
+
+    /// An actor acts, if it is one.
+    fn acts(&mut self, alloc: Global, actor: Actor)
+        requires driven { IsDriven D.PageDisk self.old }
+        ensures step { DriverStep D.tells (actor_in_run actor) (driven D.PageDisk self.old) (driven D.PageDisk self.new) }
+        ensures channels { AreChannelsOf self.new.plant.at.rows self.new.channels }
+        ensures store { IsSameStore self.old self.new }
+    {
+        match actor {
+            Actor::Channel(channel) => {
+                if channel < 16 {
+                    self.channel_acts(channel);
+                }
+            }
+            Actor::Metadata => self.metadata_acts(alloc),
+        }
+    }
+
+    /// The step of an actor. A number that is no channel makes none.
+    fn step(&mut self, alloc: Global, actor: Actor)
+        requires driven { IsDriven D.PageDisk self.old }
+        ensures step { Steps D.tells self.old.plant.opening.super (actor_in_run actor) (driven D.PageDisk self.old)
+            (driven D.PageDisk self.new) }
+        ensures driven { IsDriven D.PageDisk self.new }
+        ensures store { IsSameStore self.old self.new }
+    {
+        steps_are_moves();
+        rows_stay_plain();
+        moves_keep_facts();
+        self.plant.keeps();
+        self.acts(alloc, actor);
+        self.plant.keeps();
+    }
+
+    /// Channels 0 to 15, and then the metadata thread.
+    fn round(&mut self, alloc: Global)
+        requires driven { IsDriven D.PageDisk self.old }
+        ensures round { Round (Steps D.tells self.old.plant.opening.super) has_all_ended (driven D.PageDisk self.old)
+            (driven D.PageDisk self.new) }
+        ensures driven { IsDriven D.PageDisk self.new }
+        ensures store { IsSameStore self.old self.new }
+    {
+        for channel in 0..16 {
+            self.step(alloc, Actor::Channel(channel));
+        }
+        self.step(alloc, Actor::Metadata);
+    }
+
+    /// The steps of actors, in order.
+    fn follow_actors(&mut self, alloc: Global, actors: &[Actor])
+        requires driven { IsDriven D.PageDisk self.old }
+        ensures scheduled { Scheduled (Steps D.tells self.old.plant.opening.super) has_all_ended
+            (actors_in_run actors.now) (driven D.PageDisk self.old) (driven D.PageDisk self.new) }
+        ensures driven { IsDriven D.PageDisk self.new }
+        ensures store { IsSameStore self.old self.new }
+    {
+        for actor in actors {
+            self.step(alloc, *actor);
+        }
+    }
+
+    /// The steps of a part of a schedule.
+    fn follow_part(&mut self, alloc: Global, part: &Part)
+        requires driven { IsDriven D.PageDisk self.old }
+        ensures scheduled { Scheduled (Steps D.tells self.old.plant.opening.super) has_all_ended
+            (actors_in_run (repeated part.now.count part.now.actors)) (driven D.PageDisk self.old)
+            (driven D.PageDisk self.new) }
+        ensures driven { IsDriven D.PageDisk self.new }
+        ensures store { IsSameStore self.old self.new }
+    {
+        for _ in 0..part.count {
+            self.follow_actors(alloc, part.actors.as_slice());
+        }
+    }
+
+    /// The steps of a schedule.
+    fn follow(&mut self, alloc: Global, schedule: &Schedule)
+        requires driven { IsDriven D.PageDisk self.old }
+        ensures scheduled { Scheduled (Steps D.tells self.old.plant.opening.super) has_all_ended
+            (actors_in_run schedule.now) (driven D.PageDisk self.old) (driven D.PageDisk self.new) }
+        ensures driven { IsDriven D.PageDisk self.new }
+        ensures store { IsSameStore self.old self.new }
+    {
+        for part in schedule.parts() {
+            self.follow_part(alloc, part);
+        }
+    }
+
+    /// Whether all have ended: every channel, and no job runs.
+    fn have_ended(&self) -> bool
+        requires driven { IsDriven D.PageDisk self.now }
+        ensures { result ≡ has_all_ended (driven D.PageDisk self.now) }
+    {
+        moves_keep_facts();
+        self.plant.keeps();
+        rows_ended(&self.plant) && !self.plant.job_runs()
+    }
+
+    /// The steps of a schedule, and then rounds until all have ended.
+    pub(crate) fn run(&mut self, alloc: Global, schedule: &Schedule)
+        requires driven { IsDriven D.PageDisk self.old }
+        ensures follows { StoreFollows D.tells (actors_in_run schedule.now) (driven D.PageDisk self.old)
+            (driven D.PageDisk self.new) }
+        ensures store { IsSameStore self.old self.new }
+    {
+        rounds_end();
+        self.follow(alloc, schedule);
+        while !self.have_ended() {
+            self.round(alloc);
+        }
+    }
+
+    /// The store and the right to change it.
+    pub(crate) fn into_parts(self) -> (Plant<D>, MdRight)
+        ensures { (result.0 ≡ self.plant) × (result.1 ≡ self.right) }
+    {
+        let Driver {
+            plant,
+            right,
+            channels: _,
+            metadata: _,
+            queue: _,
+        } = self;
+        (plant, right)
+    }
+}

@@ -1,0 +1,53 @@
+//! A run by a schedule, a step at a time.
+
+ghost use Rattle.std.specs.Prelude.{◌≡◌, ℕ, None, length};
+ghost use Rattle.running_store.specs.StoreView.{rows_of, state_of};
+ghost use Rattle.run_moves.specs.DrivenStore.{driven_at_start, DrivenStore};
+ghost use Rattle.run_moves.specs.DriverSteps.{StoreFollows};
+ghost use Rattle.channels.specs.Actors.{actors_in_run};
+ghost use Rattle.channels.specs.RunEnds.{end_of, ended_row};
+ghost use Rattle.channels.specs.Served.{AreServed};
+
+use crate::driver::Driver;
+use page_disk::PageDisk;
+use script_lang::Schedule;
+use std::alloc::Global;
+use store_core::{MdRight, Plant};
+
+/// How a run ended: all channels have, each with all its commands answered.
+#[derive(Clone, Copy, Debug, PartialEq, Eq)]
+pub enum RunEnd {
+    /// No write or flush failed.
+    Ended,
+    /// One failed, in the turn behind so many entries; commands behind it were answered that the store has stopped.
+    Stopped(u32),
+}
+
+/// Runs a store to its end: the steps of a schedule, and then rounds of channels 0 to 15 and the metadata thread until
+/// all have ended. Rows may be at any stage. `alloc` serves the jobs of commands alone.
+pub fn run_stepwise<D: PageDisk>(
+    alloc: Global,
+    plant: Plant<D>,
+    right: MdRight,
+    schedule: &Schedule,
+) -> (Plant<D>, MdRight, RunEnd)
+    requires right { right ≡ plant.right }
+    requires sixteen { length plant.opening.rows ≡ 16 }
+    requires served { AreServed plant.at.rows }
+    ensures follows { (w : DrivenStore) × (w.store ≡ state_of D.PageDisk result.0.at)
+        × StoreFollows D.tells (actors_in_run schedule.now) (driven_at_start (state_of D.PageDisk plant.at)) w }
+    ensures ended { (channel : ℕ) → rows_of result.0.at.rows channel ≡ ended_row }
+    ensures no_job { result.0.at.job ≡ None }
+    ensures end { result.2 ≡ end_of result.0.at.stopped }
+    ensures opening { result.0.opening ≡ plant.opening }
+    ensures right { (result.1 ≡ right) × (result.0.right ≡ plant.right) }
+{
+    let mut driver = Driver::new(plant, right);
+    driver.run(alloc, schedule);
+    let (plant, right) = driver.into_parts();
+    let end = match plant.stopped() {
+        Some(at) => RunEnd::Stopped(at),
+        None => RunEnd::Ended,
+    };
+    (plant, right, end)
+}
