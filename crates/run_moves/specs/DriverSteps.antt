@@ -53,8 +53,6 @@ use Rattle.run_moves.specs.DrivenStore.{DrivenStore, run_of}
 use Rattle.run_moves.specs.Projection.{RunMessages, stage_in_run}
 use Rattle.run_moves.specs.ServingTurns.{with_taken}
 
-<<<<<<< HEAD
-=======
 -- a command that is held and has to wait stands behind the others that wait
 abbrev pub behind_others : RunMessages → Option Msg → RunMessages
 behind_others d None = d
@@ -71,7 +69,6 @@ driven_at_turn w = record w { messages = messages_at_turn w }
 abbrev pub has_all_ended : DrivenStore → Bool
 has_all_ended w = all_ended (run_of w)
 
->>>>>>> 94167089310e4ce306f7d1e8283e7279212db0ee
 module _ (told : Bool) where
   -- ---- turns
 
@@ -139,21 +136,6 @@ module _ (told : Bool) where
     by_sending : (serial : ℕ) → w.messages.unsent channel ≡ Some serial → length w.messages.queue < 8
         → v ≡ record w { messages = with_sent w.messages channel serial } → ChannelActsOn w channel v
 
-<<<<<<< HEAD
-  -- a command that is held and has to wait stands behind the others that wait
-  abbrev pub behind_others : RunMessages → Option Msg → RunMessages
-  behind_others d None = d
-  behind_others d (Some message) = record d { held = None; waiting = d.waiting ++ message ∷ [] }
-
-  abbrev pub messages_at_turn : DrivenStore → RunMessages
-  messages_at_turn w = if has_to_wait (run_of w) then behind_others w.messages w.messages.held else w.messages
-
-  -- the store with its messages once a command that has to wait does
-  abbrev pub driven_at_turn : DrivenStore → DrivenStore
-  driven_at_turn w = record w { messages = messages_at_turn w }
-
-=======
->>>>>>> 94167089310e4ce306f7d1e8283e7279212db0ee
   -- What the metadata thread does: a turn of the running job, the turn that serves a message, or it takes the front
   -- message, whichever is due.
   pub data MetadataActsOn (w v : DrivenStore) : Type 0 where
@@ -173,13 +155,6 @@ module _ (told : Bool) where
   DriverStep actor w v =
       ((can_move (run_of w) actor ≡ true) × ActsOn actor w v) ⊎ ((can_move (run_of w) actor ≡ false) × (v ≡ w))
 
-<<<<<<< HEAD
-  -- every channel has ended, and there is nothing to do for the metadata thread
-  abbrev pub has_all_ended : DrivenStore → Bool
-  has_all_ended w = all_ended (run_of w)
-
-=======
->>>>>>> 94167089310e4ce306f7d1e8283e7279212db0ee
   -- a run over a store that follows a schedule, and then makes rounds until all have ended
   abbrev pub StoreFollows : List ActorInRun → DrivenStore → DrivenStore → Type 0
   StoreFollows = following.Follows DriverStep has_all_ended

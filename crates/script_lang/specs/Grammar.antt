@@ -23,4 +23,4 @@ serves g.Served verb = false
 -- how many channels there are
 abbrev pub channels_of : Grammar → ℕ
 channels_of g.Whole = 16
-channels_of g.Served = 1
+channels_of g.Served = 16

@@ -43,7 +43,7 @@ impl Grammar {
     {
         match self {
             Grammar::Whole => 16,
-            Grammar::Served => 1,
+            Grammar::Served => 16,
         }
     }
 }
