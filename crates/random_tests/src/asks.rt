@@ -23,8 +23,8 @@ pub enum Ask {
 }
 
 impl Ask {
-    /// The volume that is meant or made, if it is one.
-    pub fn name(&self) -> Option<u8> {
+    /// Where the name stands of the volume that is meant or made, if it is one.
+    fn name_place(&mut self) -> Option<&mut u8> {
         match self {
             Ask::Create { name, .. }
             | Ask::Resize { name, .. }
@@ -34,25 +34,25 @@ impl Ask {
             | Ask::Put { name, .. }
             | Ask::Remove { name, .. }
             | Ask::Get { name, .. }
-            | Ask::Sync { name } => Some(*name),
+            | Ask::Sync { name } => Some(name),
             Ask::Flush | Ask::Df => None,
+        }
+    }
+
+    /// The volume that is meant or made, if it is one.
+    pub fn name(&self) -> Option<u8> {
+        let mut ask = *self;
+        match ask.name_place() {
+            Some(name) => Some(*name),
+            None => None,
         }
     }
 
     /// The same of another volume.
     pub fn of(self, other: u8) -> Ask {
         let mut ask = self;
-        match &mut ask {
-            Ask::Create { name, .. }
-            | Ask::Resize { name, .. }
-            | Ask::Write { name, .. }
-            | Ask::Read { name, .. }
-            | Ask::Set { name, .. }
-            | Ask::Put { name, .. }
-            | Ask::Remove { name, .. }
-            | Ask::Get { name, .. }
-            | Ask::Sync { name } => *name = other,
-            Ask::Flush | Ask::Df => {}
+        if let Some(name) = ask.name_place() {
+            *name = other;
         }
         ask
     }

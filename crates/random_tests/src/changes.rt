@@ -21,13 +21,7 @@ fn with_slots(pages: &mut Vec<PageState>, slots: u64) -> Result<(), Fail> {
 }
 
 /// A volume whose slots are empty and whose pages are zeros, with a chain of one page.
-fn new_volume(
-    alloc: Global,
-    name: u8,
-    slots: u64,
-    thick: bool,
-    head: u32,
-) -> Result<Volume, Fail> {
+fn new_volume(alloc: Global, name: u8, slots: u64, thick: bool, head: u32) -> Result<Volume, Fail> {
     let mut pages = Vec::new(alloc);
     with_slots(&mut pages, slots)?;
     Ok(Volume {
@@ -45,11 +39,7 @@ fn new_volume(
 fn settles(ask: &Ask) -> bool {
     matches!(
         ask,
-        Ask::Create { .. }
-            | Ask::Resize { .. }
-            | Ask::Put { .. }
-            | Ask::Sync { .. }
-            | Ask::Flush
+        Ask::Create { .. } | Ask::Resize { .. } | Ask::Put { .. } | Ask::Sync { .. } | Ask::Flush
     )
 }
 
@@ -86,9 +76,7 @@ impl State {
             self.volumes
                 .push(new_volume(alloc, name, slots, thick, head)?)?;
         } else if let Some(name) = ask.name() {
-            self.find_mut(name)
-                .ok_or("no volume")?
-                .change(alloc, ask)?;
+            self.find_mut(name).ok_or("no volume")?.change(alloc, ask)?;
         }
         if settles(ask) {
             self.settle();

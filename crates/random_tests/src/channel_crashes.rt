@@ -1,7 +1,7 @@
 //! Random scripts on many channels, and power that fails at each call of the device.
 
-use crate::channel_plays::{ChannelPlay, stopped_number};
-use crate::crashes::expect_left;
+use crate::channel_plays::ChannelPlay;
+use crate::crashes::{expect_left, number_at};
 use crate::scripts::new_stores;
 use blob_tool::Status;
 use page_disk::{FaultDisk, PageDisk};
@@ -36,7 +36,7 @@ fn expect_all(rt: HostRuntime, places: (u64, u64)) -> Result<(), Fail> {
     let (from, end) = places;
     let stores = new_stores(alloc)?;
     for place in from..end {
-        let play = ChannelPlay::drawn(alloc, stopped_number(place), &stores)?;
+        let play = ChannelPlay::drawn(alloc, number_at(place), &stores)?;
         if let Err(why) = expect_stops(alloc, &play) {
             if let Some(told) = play.told(alloc) {
                 let _printed = println!(rt; "{told}");

@@ -1,6 +1,7 @@
 //! Stores, and random scripts that run on them on many channels.
 
 use crate::channel_scripts::{ChannelScript, drawn_making, drawn_script, small};
+use crate::crashes::number_at;
 use crate::draws::Draws;
 use crate::replays::Replay;
 use crate::schedules::drawn_schedule;
@@ -42,40 +43,48 @@ fn drawn_run(alloc: Global, draws: &mut Draws, creates: u64, lines: u64) -> Resu
     Ok((Some(schedule), true, script))
 }
 
-/// The number of the play with this place among those that are stopped, one of ten: stores of each size are among them.
-pub fn stopped_number(place: u64) -> u64 {
-    place.wrapping_mul(10).wrapping_add(place % 4)
-}
-
 /// How many lines are drawn for the play of a number: few where it is stopped.
 fn drawn_length(draws: &mut Draws, number: u64) -> u64 {
-    if number == stopped_number(number / 10) {
+    if number == number_at(number / 8) {
         draws.below(4).wrapping_add(3)
     } else {
-        draws.below(25).wrapping_add(6)
+        draws.below(20).wrapping_add(4)
     }
 }
 
+/// The store behind a script that makes volumes, and what that printed.
+fn made_store(
+    alloc: Global,
+    making: &ChannelScript,
+    store: MemDisk,
+) -> Result<(MemDisk, Vec<u8>), Fail> {
+    if making.text.is_empty() {
+        return Ok((store, Vec::new(alloc)));
+    }
+    let Ran {
+        status: _,
+        out,
+        disk,
+    } = run(alloc, &making.text, store)?;
+    Ok((disk.crash(0)?, Vec::from_slice(alloc, out.bytes())?))
+}
+
 impl ChannelPlay {
-    /// The play of a number. The volumes of every other one are made by a script of their own.
+    /// The play of a number. In half of them the volumes are made by a script of their own.
     pub fn drawn(alloc: Global, number: u64, stores: &[MemDisk]) -> Result<ChannelPlay, Fail> {
         let mut draws = Draws::new(number);
         let creates = draws.below(3).wrapping_add(1);
         let are_made = draws.is_zero(2);
         let making = drawn_making(alloc, &mut draws, if are_made { creates } else { 0 })?;
-        let Ran {
-            status: _,
-            out,
-            disk,
-        } = run(alloc, &making.text, store_for(number, stores)?)?;
+        let (store, made) = made_store(alloc, &making, store_for(number, stores)?)?;
         let lines = drawn_length(&mut draws, number);
         let left = if are_made { 0 } else { creates };
         let (schedule, ends_with_df, script) = drawn_run(alloc, &mut draws, left, lines)?;
         Ok(ChannelPlay {
             number,
-            store: disk.crash(0)?,
+            store,
             making,
-            made: Vec::from_slice(alloc, out.bytes())?,
+            made,
             script,
             schedule,
             ends_with_df,

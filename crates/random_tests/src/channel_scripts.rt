@@ -100,7 +100,10 @@ impl ChannelScript {
         self.text
             .extend_from_slice(format!(in alloc; "{channel} ")?.as_bytes())?;
         push_words(alloc, &mut self.text, &ask, volume.as_str(), count)?;
-        let list = self.lists.get_mut(usize::from(channel)).ok_or("no channel")?;
+        let list = self
+            .lists
+            .get_mut(usize::from(channel))
+            .ok_or("no channel")?;
         for at in 0..count {
             list.push(Request {
                 ask: ask.nth(at),

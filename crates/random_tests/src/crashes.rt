@@ -109,7 +109,7 @@ fn expect_crashes(alloc: Global, place: u64) -> Result<(), Fail> {
 }
 
 /// The number of a script that is stopped: its store has four metadata pages, or three.
-fn number_at(place: u64) -> u64 {
+pub fn number_at(place: u64) -> u64 {
     place
         .wrapping_mul(8)
         .wrapping_add(2)

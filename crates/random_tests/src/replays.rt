@@ -160,10 +160,7 @@ impl Replay {
         let mut wanted = Vec::new(alloc);
         render_entry(&entry, &mut wanted)?;
         if wanted.strip_suffix(b"\n") != Some(line) {
-            return Err(Fail::new(format_args!(
-                "{channel} {index} {ask:?}: {:?}",
-                entry.reply
-            )));
+            return Err(Fail::new(format_args!("{channel} {index} {ask:?}: {:?}", entry.reply)));
         }
         self.entries = self.entries.wrapping_add(1);
         Ok(())

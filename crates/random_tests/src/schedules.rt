@@ -30,7 +30,7 @@ fn push_rounds(alloc: Global, channels: u64, list: &mut String) -> Result<(), Fa
     for channel in 0..channels {
         list.push_str(format!(in alloc; "{channel}+")?.as_str())?;
     }
-    list.push_str("m*1500")?;
+    list.push_str("m*700")?;
     Ok(())
 }
 

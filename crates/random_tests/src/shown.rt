@@ -173,7 +173,11 @@ impl Shown {
 
     /// Expects that so much is free.
     pub fn expect_free(&self, space: &Df) -> Result<(), Fail> {
-        let Masks { pages, clusters, .. } = &self.masks;
+        let Masks {
+            pages,
+            clusters,
+            ..
+        } = &self.masks;
         let found = Df {
             free_clusters: clusters.len().saturating_sub(clusters.count()),
             clusters: clusters.len(),

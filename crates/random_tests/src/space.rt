@@ -93,13 +93,7 @@ fn taken_pages(alloc: Global, state: &mut State, count: usize) -> Result<Vec<u32
     Ok(places)
 }
 
-fn create(
-    alloc: Global,
-    next: State,
-    ask: &Ask,
-    slots: u64,
-    thick: bool,
-) -> Result<Outcome, Fail> {
+fn create(alloc: Global, next: State, ask: &Ask, slots: u64, thick: bool) -> Result<Outcome, Fail> {
     let mut next = next;
     let (map, has_room) = added_slots(alloc, &mut next, thick, slots)?;
     let length = chain_length(&[], &map);
