@@ -38,9 +38,7 @@ fn expect_all(rt: HostRuntime, places: (u64, u64)) -> Result<(), Fail> {
     for place in from..end {
         let play = ChannelPlay::drawn(alloc, number_at(place), &stores)?;
         if let Err(why) = expect_stops(alloc, &play) {
-            if let Some(told) = play.told(alloc) {
-                let _printed = println!(rt; "{told}");
-            }
+            play.tell(rt);
             return Err(why);
         }
     }

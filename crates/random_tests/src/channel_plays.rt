@@ -9,7 +9,7 @@ use crate::scripts::{size_of, store_for};
 use crate::worlds::World;
 use blob_tool::Status;
 use page_disk::{MemDisk, PageDisk};
-use std::alloc::{AllocError, Global};
+use std::alloc::Global;
 use std::test::Fail;
 use test_runs::{Call, Ran, perform, run};
 
@@ -46,7 +46,7 @@ fn drawn_run(alloc: Global, draws: &mut Draws, creates: u64, lines: u64) -> Resu
 /// How many lines are drawn for the play of a number: few where it is stopped.
 fn drawn_length(draws: &mut Draws, number: u64) -> u64 {
     if number == number_at(number / 8) {
-        draws.below(4).wrapping_add(3)
+        draws.below(3).wrapping_add(2)
     } else {
         draws.below(20).wrapping_add(4)
     }
@@ -97,11 +97,11 @@ impl ChannelPlay {
     }
 
     /// The words of the call.
-    fn line(&self, alloc: Global) -> Result<String, AllocError> {
-        match &self.schedule {
-            Some(schedule) => format!(in alloc; "run store.img --schedule {schedule}"),
-            None => format!(in alloc; "run store.img"),
-        }
+    fn line(&self, alloc: Global) -> Result<String, Fail> {
+        Ok(match &self.schedule {
+            Some(schedule) => format!(in alloc; "run store.img --schedule {schedule}")?,
+            None => format!(in alloc; "run store.img")?,
+        })
     }
 
     /// What comes of the script on a device.
@@ -149,11 +149,14 @@ impl ChannelPlay {
         Ok(replay)
     }
 
-    /// What a reader needs to see why a play failed: the scripts and the words of the call.
-    pub fn told(&self, alloc: Global) -> Option<String> {
+    /// Prints what a reader needs to see why a play failed: the scripts and the words of the call.
+    pub fn tell(&self, rt: HostRuntime) {
         let making = str::from_utf8(&self.making.text).unwrap_or("");
         let script = str::from_utf8(&self.script.text).unwrap_or("");
-        let line = self.line(alloc).ok()?;
-        format!(in alloc; "{}:\n{making}---\n{script}---\n{line}", self.number).ok()
+        let schedule = match &self.schedule {
+            Some(schedule) => schedule.as_str(),
+            None => "",
+        };
+        let _printed = println!(rt; "{}:\n{making}---\n{script}---\n{schedule}", self.number);
     }
 }

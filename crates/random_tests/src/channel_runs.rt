@@ -12,7 +12,8 @@ use std::test::Fail;
 fn expect_run(alloc: Global, play: &ChannelPlay, endings: &mut Endings) -> Result<(), Fail> {
     let ran = play.run(alloc, play.store.crash(0)?)?;
     endings.note(ran.out.bytes());
-    let replay = play.replayed(alloc, &ran, false)?;
+    let mut replay = play.replayed(alloc, &ran, false)?;
+    replay.world.expect_pages(alloc)?;
     let shown = expect_volumes(alloc, &replay.world.state, play.fixed(), ran.disk.crash(1)?)?;
     match &replay.last_space {
         Some(space) => shown.expect_free(space),
@@ -30,9 +31,7 @@ fn expect_all(rt: HostRuntime, numbers: (u64, u64)) -> Result<(), Fail> {
     for number in from..end {
         let play = ChannelPlay::drawn(alloc, number, &stores)?;
         if let Err(why) = expect_run(alloc, &play, &mut endings) {
-            if let Some(told) = play.told(alloc) {
-                let _printed = println!(rt; "{told}");
-            }
+            play.tell(rt);
             return Err(why);
         }
     }

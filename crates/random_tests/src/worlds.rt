@@ -2,11 +2,11 @@
 
 use crate::asks::{Ask, command_of};
 use crate::space::{Outcome, is_done, outcome_of};
-use crate::states::State;
+use crate::states::{State, Volume};
 use script_lang::number_below;
 use std::alloc::Global;
 use std::test::Fail;
-use volume_model::{Df, Reply, Volumes};
+use volume_model::{Df, PageWord, Reply, Volumes, page_of};
 
 /// The plain machine, which refuses for every cause but want of room, and a state that counts what is clear.
 #[derive(Drop)]
@@ -77,6 +77,14 @@ impl World {
         }
     }
 
+    /// Expects that the volumes of the machine have the pages of the state.
+    pub fn expect_pages(&mut self, alloc: Global) -> Result<(), Fail> {
+        for volume in &self.state.volumes {
+            expect_pages_of(alloc, &mut self.machine, volume)?;
+        }
+        Ok(())
+    }
+
     /// Appends the states in which what is asked for is done, where plain volumes don't refuse it: a new volume may have
     /// any head that isn't in use.
     pub fn push_done(&self, alloc: Global, ask: &Ask, states: &mut Vec<State>) -> Result<(), Fail> {
@@ -116,6 +124,21 @@ impl World {
             ..self.state.df()
         })
     }
+}
+
+/// Expects that a volume of the machine has these pages.
+fn expect_pages_of(alloc: Global, machine: &mut Volumes, volume: &Volume) -> Result<(), Fail> {
+    for (at, page) in volume.pages.iter().enumerate() {
+        let ask = Ask::Read {
+            name: volume.name,
+            page: at as u64,
+        };
+        match machine.apply(alloc, &command_of(alloc, &ask)?) {
+            Reply::Content(found) if *found == page_of(&PageWord::Fill(page.word)) => {}
+            _ => return Err(Fail::new(format_args!("the machine has another page {at}"))),
+        }
+    }
+    Ok(())
 }
 
 /// A number of clusters or metadata pages.
