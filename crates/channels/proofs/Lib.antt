@@ -6,3 +6,11 @@ pub mod NextSteps
 pub mod Held
 pub mod Runs
 pub mod Schedules
+pub mod Acting
+pub mod StepsMade
+pub mod Keeping
+pub mod Stepping
+pub mod MetadataActing
+pub mod Ending
+pub mod Looping
+pub mod Starting

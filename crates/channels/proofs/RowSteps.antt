@@ -52,7 +52,7 @@ pub record RowStep (old new : Row) : Type 0 where
   pub left : IsLeftOf old.left new.left
   pub asked : IsAsked old → IsAsked new
 
-stays : (row : Row) → RowStep row row
+pub stays : (row : Row) → RowStep row row
 stays row = record { ended = λ e. refl; left = inl refl; asked = λ is. is }
 
 -- the stages of a row that hasn't ended

@@ -1,5 +1,5 @@
 -- Steps by a schedule put together, and steps seen as steps of another kind.
-use Rattle.std.proofs.Common.{◌≡◌, ℕ, zero, suc, Bool, false, true, List, [], ◌∷◌, ◌++◌, refl, sym, ◌∙◌, ap, subst}
+use Rattle.std.proofs.Common.{◌≡◌, ℕ, zero, suc, Bool, List, [], ◌∷◌, ◌++◌, refl, ◌∙◌, ap, subst}
 use Rattle.run_work.specs.Following.{ActorInRun, ChannelActs, Follows, MetadataActs, Passes, Round, Rounds, Scheduled}
 
 -- ---- one after the other

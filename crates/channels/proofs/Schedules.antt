@@ -15,6 +15,14 @@ repeated-end zero actors = sym (append-nil actors)
 repeated-end (suc n) actors =
     append_assoc actors (repeated n actors) actors ∙ ap (λ l. actors ++ l) (repeated-end n actors)
 
+pub none_repeated : (actors : List Actor) → repeated 0 actors ≡ []
+unfolding repeated
+none_repeated actors = refl
+
+pub none_written : written_out [] ≡ []
+unfolding written_out
+none_written = refl
+
 -- once more, as actors of a run
 pub repeated_more : (n : ℕ) (actors : List Actor)
     → actors_in_run (repeated n actors) ++ actors_in_run actors ≡ actors_in_run (repeated (suc n) actors)

@@ -7,7 +7,9 @@ use Rattle.volume_model.specs.declared.reply.Msg.{Msg}
 use Rattle.store_model.specs.Rows.{Claiming, Ended, Idle, InJob, Posted}
 use Rattle.store_model.specs.StoreState.{StoreState}
 use Rattle.channel_turns.specs.ChannelTurns.{IsFrozenFor}
-use Rattle.running_store.specs.StoreView.{state_of, StoreView}
+use Rattle.running_store.specs.StoreView.{state_of, StoreView, WithOpening}
+use Rattle.md_queue.specs.Queue.{Appends, IsFull}
+use Rattle.channels.specs.ChannelState.{ChannelState}
 use Rattle.run_moves.specs.DriverSteps.{ChannelTurn, PostingTurn}
 
 -- A turn that posts the row of a channel, by this message.
@@ -44,3 +46,19 @@ pub data IsHeldUp (p : StoreState) (channel : ℕ) : Type 0 where
   by_posting : (serial : ℕ) → (p.rows channel).stage ≡ Posted serial → IsHeldUp p channel
   by_job : (p.rows channel).stage ≡ InJob → IsHeldUp p channel
   by_end : (p.rows channel).stage ≡ Ended → IsHeldUp p channel
+
+-- ---- a step
+
+-- What a channel does in a step of a driver: a turn, or none where it is held up or has ended; or it sends its message,
+-- or keeps it where the queue is full.
+pub data MadeStep {D : Type 0} (d : Ghosts D) (p q : WithOpening D) (c e : ChannelState)
+    (queue later : List Msg) : Type 0 where
+  made_turn : c.unsent ≡ None
+      → TurnsOrPosts d.tells (state_of d p.at) (state_of d q.at) c.channel e.unsent → later ≡ queue
+      → MadeStep d p q c e queue later
+  was_held : c.unsent ≡ None → e.unsent ≡ None → IsHeldUp (state_of d p.at) c.channel → q ≡ p → later ≡ queue
+      → MadeStep d p q c e queue later
+  was_sent : (serial : ℕ) → c.unsent ≡ Some serial → e.unsent ≡ None
+      → Appends queue (record { channel = c.channel; serial = serial }) later → q ≡ p → MadeStep d p q c e queue later
+  was_kept : (serial : ℕ) → c.unsent ≡ Some serial → e.unsent ≡ c.unsent → IsFull queue → q ≡ p → later ≡ queue
+      → MadeStep d p q c e queue later

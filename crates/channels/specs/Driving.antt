@@ -3,14 +3,16 @@ use Rattle.std.specs.Prelude.{◌≡◌, ℕ, ◌<◌, Option, Some, None, Bool,
 use Rattle.std.specs.Option.{option_and_then}
 use Rattle.page_disk.specs.declared.disk.PageDisk.{Ghosts}
 use Rattle.super_block.specs.declared.page.Super.{Super}
+use Rattle.volume_model.specs.declared.reply.Msg.{Msg}
 use Rattle.store_model.specs.Rows.{Ended, Row}
 use Rattle.running_store.specs.Stages.{is_stage}
-use Rattle.running_store.specs.StoreView.{rows_of, state_of, StoreView}
+use Rattle.running_store.specs.StoreView.{rows_of, state_of}
 use Rattle.run_work.specs.Following.{ActorInRun}
 use Rattle.run_work.specs.RunFacts.{RunFacts}
 use Rattle.run_work.specs.Steps.{StepOf}
 use Rattle.run_moves.specs.DrivenStore.{DrivenStore, run_of}
 use Rattle.run_moves.specs.DriverSteps.{DriverStep}
+use Rattle.run_moves.specs.Projection.{RunMessages}
 use Rattle.run_moves.specs.Sizes.{sizes_of}
 use Rattle.channels.specs.ChannelState.{channel_at, ChannelState}
 use Rattle.channels.specs.Served.{AreServed}
@@ -20,18 +22,14 @@ use Rattle.channels.specs.declared.driver.Driver.{Driver}
 abbrev pub unsent_of : List ChannelState → ℕ → Option ℕ
 unsent_of channels k = option_and_then (λ (c : ChannelState). c.unsent) (slice_get channels k)
 
--- the store with the messages on their way
+-- the messages on their way; no command waits, since no fill is made
+abbrev pub messages_of : List ChannelState → List Msg → Option Msg → RunMessages
+messages_of channels queue held =
+    record { unsent = unsent_of channels; queue = queue; held = held; waiting = []; fill = None }
+
 abbrev pub driven : {D : Type 0} → Ghosts D → Driver D → DrivenStore
-driven d w = record {
-  store = state_of d w.plant.at;
-  messages = record {
-    unsent = unsent_of w.channels;
-    queue = w.queue;
-    held = w.metadata.held;
-    waiting = [];
-    fill = None;
-  };
-}
+driven d w =
+    record { store = state_of d w.plant.at; messages = messages_of w.channels w.queue w.metadata.held }
 
 -- ---- channels
 
@@ -40,13 +38,14 @@ pub record IsChannelOf (rows : List Row) (k : ℕ) (c : ChannelState) : Type 0 w
   pub number : c.channel ≡ k
   pub ended : c.ended ≡ true → (rows_of rows k).stage ≡ Ended
 
-abbrev pub AreChannelsOf : List Row → List ChannelState → Type 0
-AreChannelsOf rows channels = (k : ℕ) (c : ChannelState) → slice_get channels k ≡ Some c → IsChannelOf rows k c
+pub record AreChannelsOf (rows : List Row) (channels : List ChannelState) : Type 0 where
+  pub sixteen : length channels ≡ 16
+  pub each : (k : ℕ) (c : ChannelState) → slice_get channels k ≡ Some c → IsChannelOf rows k c
 
 -- sixteen channels, each at the stage of its row
-abbrev pub AreStarting : List Row → List ChannelState → Type 0
-AreStarting rows channels =
-    (k : ℕ) → k < 16 → slice_get channels k ≡ Some (channel_at k (is_stage (rows_of rows k) k))
+pub record AreStarting (rows : List Row) (channels : List ChannelState) : Type 0 where
+  pub sixteen : length channels ≡ 16
+  pub each : (k : ℕ) → k < 16 → slice_get channels k ≡ Some (channel_at k (is_stage (rows_of rows k) k))
 
 -- ---- the driver
 

@@ -1,9 +1,9 @@
 //! A channel, and the message that it has still to send.
 
 use crate::own_turn::own_turn;
-use md_thread::{Next, Turn};
 use data_path::Stage;
 use md_queue::Outbox;
+use md_thread::{Next, Turn};
 use page_disk::PageDisk;
 use std::marker::Model;
 use store_core::{Plant, RowStage};

@@ -3,6 +3,7 @@
 ghost use Rattle.std.specs.Prelude.{◌≡◌, ◌↔◌, ◌<◌, IsTrue, length};
 ghost use Rattle.md_thread.specs.Holding.{HaveEnded};
 ghost use Rattle.running_store.specs.StoreView.{rows_of, state_of};
+ghost use Rattle.store_model.specs.Rows.{Ended};
 ghost use Rattle.run_work.specs.Following.{ChannelActs, MetadataActs, Round, Scheduled};
 ghost use Rattle.run_moves.specs.DrivenStore.{driven_at_start};
 ghost use Rattle.run_moves.specs.DriverSteps.{has_all_ended, DriverStep, StoreFollows};
@@ -12,8 +13,9 @@ ghost use Rattle.channels.specs.Served.{AreServed};
 ghost use Rattle.script_lang.specs.Schedules.{repeated};
 
 use crate::channel::Channel;
+use crate::channel_step::channel_step;
 use md_queue::ListQueue;
-use md_thread::{MdState, Next, Turn};
+use md_thread::{MdState, Turn};
 use page_disk::PageDisk;
 use run_moves::{rows_stay_plain, steps_are_moves};
 use run_work::{moves_keep_facts, rounds_end};
@@ -32,10 +34,10 @@ pub(crate) struct Driver<D: PageDisk> {
 
 /// The channels of a store, each at the stage of its row.
 fn channels_of<D: PageDisk>(plant: &Plant<D>) -> [Channel; 16]
-    ensures { AreStarting plant.now.at.rows result.entry }
+    ensures { AreStarting plant.now.at.rows result }
 {
-    let mut channels = [Channel::new(0, plant.stage(0)); 16];
-    for channel in 1..16 {
+    let mut channels = [Channel::new(0, RowStage::Ended); 16];
+    for channel in 0..16 {
         channels[usize::from(channel)] = Channel::new(channel, plant.stage(channel));
     }
     channels
@@ -46,11 +48,18 @@ fn rows_ended<D: PageDisk>(plant: &Plant<D>) -> bool
     ensures { IsTrue result ↔ HaveEnded plant.now.at.rows }
 {
     for channel in 0..16 {
-        if !matches!(plant.stage(channel), RowStage::Ended) {
+        if !has_ended(plant, channel) {
             return false;
         }
     }
     true
+}
+
+/// Whether a channel has ended.
+fn has_ended<D: PageDisk>(plant: &Plant<D>, channel: u8) -> bool
+    ensures { IsTrue result ↔ (rows_of plant.now.at.rows channel).stage ≡ Ended }
+{
+    matches!(plant.stage(channel), RowStage::Ended)
 }
 
 impl<D: PageDisk> Driver<D> {
@@ -88,11 +97,7 @@ impl<D: PageDisk> Driver<D> {
         self.plant.keeps();
         let at = usize::from(channel);
         let mut own = self.channels[at];
-        match own.next() {
-            Next::Queue => own.send(&mut self.queue),
-            Next::Plant => own.turn(&mut self.plant),
-            Next::Ended => Turn::Idle,
-        };
+        channel_step(&mut own, &mut self.plant, &mut self.queue);
         self.channels[at] = own;
     }
 
@@ -105,7 +110,10 @@ impl<D: PageDisk> Driver<D> {
     {
         moves_keep_facts();
         self.plant.keeps();
-        if let Turn::Idle = self.metadata.md_turn(alloc, &mut self.right, &mut self.plant) {
+        if let Turn::Idle = self
+            .metadata
+            .md_turn(alloc, &mut self.right, &mut self.plant)
+        {
             self.metadata.md_take(&mut self.queue);
         }
     }

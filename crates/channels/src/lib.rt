@@ -3,6 +3,7 @@
 #![tactic(auto)]
 
 mod channel;
+mod channel_step;
 mod driver;
 mod own_turn;
 mod stepwise;

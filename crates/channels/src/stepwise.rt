@@ -45,6 +45,7 @@ pub fn run_stepwise<D: PageDisk>(
     let mut driver = Driver::new(plant, right);
     driver.run(alloc, schedule);
     let (plant, right) = driver.into_parts();
+    plant.keeps();
     let end = match plant.stopped() {
         Some(at) => RunEnd::Stopped(at),
         None => RunEnd::Ended,

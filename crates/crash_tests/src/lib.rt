@@ -8,6 +8,8 @@ mod creates;
 #[cfg(test)]
 mod cut_puts;
 #[cfg(test)]
+mod long_creates;
+#[cfg(test)]
 mod points;
 #[cfg(test)]
 mod power;

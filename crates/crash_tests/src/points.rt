@@ -72,12 +72,17 @@ fn expect_point(alloc: Global, cut: &Cut, calls: u64, disk: &MemDisk) -> Result<
     Ok(())
 }
 
-/// Expects that whenever power fails in a run of the script on a flushed device, the commands before are done, and the
-/// one that is cut off is done or not.
+/// Expects that where power fails after so many calls in a run of the script on a flushed device, the commands before
+/// are done, and the one that is cut off is done or not.
+pub fn expect_cut_after(alloc: Global, cut: &Cut, calls: u64, disk: &MemDisk) -> Result<(), Fail> {
+    let disk = stopped(alloc, cut, calls, disk.crash(0)?)?;
+    expect_point(alloc, cut, calls, &disk)
+}
+
+/// Expects it of each number of calls.
 pub fn expect_cut(alloc: Global, cut: &Cut, disk: &MemDisk) -> Result<(), Fail> {
     for calls in 0..cut.calls.saturating_add(1) {
-        let disk = stopped(alloc, cut, calls, disk.crash(0)?)?;
-        expect_point(alloc, cut, calls, &disk)?;
+        expect_cut_after(alloc, cut, calls, disk)?;
     }
     Ok(())
 }

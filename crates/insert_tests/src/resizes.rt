@@ -1,7 +1,7 @@
 //! The begin of a resize by the metadata thread.
 
 ghost use Rattle.std.specs.Prelude.{◌≡◌, IfSome, None, Some};
-ghost use Rattle.blob_tool.specs.Serving.{IsPlanOf};
+ghost use Rattle.md_thread.specs.Tasks.{IsPlanOf};
 
 use blob_meta::{Job, least_heads_are_meant};
 use lvol_store::plan_resize;

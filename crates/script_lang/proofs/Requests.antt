@@ -12,14 +12,12 @@ use Rattle.script_lang.specs.declared.fault.LineKind.{LineKind}
 use Rattle.script_lang.specs.declared.form.Value.{Value}
 use Rattle.script_lang.specs.declared.form.Value.TheVariants.{Volume, Number}
 use Rattle.script_lang.specs.declared.grammar.Grammar.{Grammar}
-use Rattle.script_lang.specs.declared.grammar.Grammar.TheVariants.{Served, Whole}
 use Rattle.script_lang.specs.declared.line.LineRequest.{LineRequest}
 use Rattle.script_lang.specs.declared.verb.Verb.{Verb}
 use Rattle.script_lang.specs.declared.verb.Verb.TheVariants as v
 use Rattle.script_lang.specs.Commands.{commands_of, command_of, alone, write_commands, read_commands, page_by_page}
 use Rattle.script_lang.specs.Commands.{write_at, read_at, is_page, pages_of}
 use Rattle.script_lang.specs.Forms.{says_values}
-use Rattle.script_lang.specs.Grammar.{channels_of}
 use Rattle.script_lang.specs.Lines.{says, says_words, says_verb, commands_said, in_channel, channel_in, is_skipped}
 use Rattle.script_lang.specs.Lines.{is_printable, is_spaced, words}
 use Rattle.script_lang.specs.Verbs.{verb_in, forms_of, takes}
@@ -42,7 +40,7 @@ module _ (grammar : Grammar) (Q : List Command → Type 0) (none : Q [])
   words_have : (words : List (List ℕ)) → IfOk (says_words grammar words) (λ request. Q request.commands)
   words_have [] = tt
   words_have (channel ∷ []) = tt
-  words_have (channel ∷ verb ∷ more) = in_channel_has (channel_in grammar channel)
+  words_have (channel ∷ verb ∷ more) = in_channel_has (channel_in channel)
       (says_verb (verb_in grammar verb) more) (of_verb verb more)
 
   pub says_has : (line : List ℕ) → IfOk (says grammar line) (λ request. Q request.commands)
@@ -116,10 +114,6 @@ is_channel : (b : Bool) (v limit : ℕ) → limit ≤ 16 → IfSome (cond (b && 
 is_channel true v limit few = below_limit v limit (nat_lt v limit) refl few
 is_channel false v limit few = tt
 
-few_channels : (grammar : Grammar) → channels_of grammar ≤ 16
-few_channels Whole = omega arith
-few_channels Served = omega arith
-
 in_channel_below : (c : Option ℕ) (r : Result (List Command) LineKind) → IfSome c (λ n. n < 16)
     → IfOk (in_channel c r) (λ request. request.channel < 16)
 in_channel_below (Some c) (Ok commands) lt = lt
@@ -132,9 +126,8 @@ words_below : (grammar : Grammar) (words : List (List ℕ))
 words_below grammar [] = tt
 words_below grammar (channel ∷ []) = tt
 words_below grammar (channel ∷ verb ∷ more) =
-    in_channel_below (channel_in grammar channel) (says_verb (verb_in grammar verb) more)
-    (is_channel (bytes_eq (decimal (digits_value 10 channel)) channel) (digits_value 10 channel) (channels_of grammar)
-    (few_channels grammar))
+    in_channel_below (channel_in channel) (says_verb (verb_in grammar verb) more)
+    (is_channel (bytes_eq (decimal (digits_value 10 channel)) channel) (digits_value 10 channel) 16 (omega arith))
 
 -- a line's channel is one of sixteen
 pub says_channel : (grammar : Grammar) (line : List ℕ) → IfOk (says grammar line) (λ request. request.channel < 16)

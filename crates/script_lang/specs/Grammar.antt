@@ -1,5 +1,5 @@
 -- What is read of the grammar: the whole, or what the program serves so far.
-use Rattle.std.specs.Prelude.{ℕ, Bool, true, false}
+use Rattle.std.specs.Prelude.{Bool, true, false}
 use Rattle.script_lang.specs.declared.grammar.Grammar.{Grammar}
 use Rattle.script_lang.specs.declared.grammar.Grammar.TheVariants as g
 use Rattle.script_lang.specs.declared.verb.Verb.{Verb}
@@ -19,8 +19,3 @@ serves g.Served v.Sync = true
 serves g.Served v.Resize = true
 serves g.Served v.Df = true
 serves g.Served verb = false
-
--- how many channels there are
-abbrev pub channels_of : Grammar → ℕ
-channels_of g.Whole = 16
-channels_of g.Served = 16

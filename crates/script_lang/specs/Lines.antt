@@ -11,7 +11,6 @@ use Rattle.script_lang.specs.declared.line.LineRequest.{LineRequest}
 use Rattle.script_lang.specs.declared.verb.Verb.{Verb}
 use Rattle.script_lang.specs.Commands.{commands_of}
 use Rattle.script_lang.specs.Forms.{says_values, worse}
-use Rattle.script_lang.specs.Grammar.{channels_of}
 use Rattle.script_lang.specs.Parts.{parts}
 use Rattle.script_lang.specs.Verbs.{verb_in, forms_of, takes}
 use Rattle.script_lang.specs.Words.{number_below}
@@ -52,13 +51,14 @@ in_channel (Some channel) (Err kind) = Err kind
 in_channel None (Ok commands) = Err kind.Channel
 in_channel None (Err later) = Err (worse kind.Channel later)
 
-abbrev pub channel_in : Grammar → List ℕ → Option ℕ
-channel_in grammar word = number_below (channels_of grammar) word
+-- one of sixteen channels
+abbrev pub channel_in : List ℕ → Option ℕ
+channel_in word = number_below 16 word
 
 -- a channel, a verb and the words of this verb
 abbrev pub says_words : Grammar → List (List ℕ) → Result LineRequest LineKind
 says_words grammar (channel ∷ verb ∷ words) =
-    in_channel (channel_in grammar channel) (says_verb (verb_in grammar verb) words)
+    in_channel (channel_in channel) (says_verb (verb_in grammar verb) words)
 says_words grammar _ = Err kind.Form
 
 abbrev pub no_request : LineRequest

@@ -1,7 +1,7 @@
 //! What is read of the grammar.
 
-ghost use Rattle.std.specs.Prelude.{◌≡◌, ◌≤◌};
-ghost use Rattle.script_lang.specs.Grammar.{serves as serves_said, channels_of};
+ghost use Rattle.std.specs.Prelude.{◌≡◌};
+ghost use Rattle.script_lang.specs.Grammar.{serves as serves_said};
 
 use crate::verb::Verb;
 
@@ -33,17 +33,6 @@ impl Grammar {
                     | Verb::Resize
                     | Verb::Df
             ),
-        }
-    }
-
-    /// How many channels there are.
-    pub fn channels(self) -> u8
-        ensures channels { result ≡ channels_of self }
-        ensures few { result ≤ 16 }
-    {
-        match self {
-            Grammar::Whole => 16,
-            Grammar::Served => 16,
         }
     }
 }

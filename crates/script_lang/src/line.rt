@@ -8,7 +8,6 @@ ghost use Rattle.script_lang.specs.Lines.{is_skipped as skipped_said, says, says
 ghost use Rattle.script_lang.specs.Parts.{parts};
 ghost use Rattle.script_lang.specs.Verbs.{verb_in};
 ghost use Rattle.script_lang.specs.Words.{number_below as number_said};
-ghost use Rattle.script_lang.specs.Grammar.{channels_of};
 
 use crate::commands::commands;
 use crate::fault::{LineFault, LineKind};
@@ -57,10 +56,10 @@ fn is_skipped(line: &[u8]) -> bool
 }
 
 /// The channel that a word is.
-fn channel(grammar: Grammar, word: &[u8]) -> Option<u8>
-    ensures { result ≡ number_said (channels_of grammar) word.now }
+fn channel(word: &[u8]) -> Option<u8>
+    ensures { result ≡ number_said 16 word.now }
 {
-    match number_below(u64::from(grammar.channels()), word) {
+    match number_below(16, word) {
         Some(channel) => Some(channel as u8),
         None => None,
     }
@@ -106,7 +105,7 @@ pub fn read_line(alloc: Global, grammar: Grammar, line: &[u8]) -> Result<LineReq
     let Some(verb) = words.next_part() else {
         return Err(LineFault::Bad(LineKind::Form));
     };
-    let channel = channel(grammar, first);
+    let channel = channel(first);
     match commands_in(alloc, grammar, verb, words) {
         Ok(commands) => match channel {
             Some(channel) => Ok(LineRequest { channel, commands }),

@@ -1,4 +1,5 @@
-use Rattle.blob_tool.proofs.Planned.{is_running, resize_plan}
+use Rattle.md_thread.proofs.Planned.{is_running}
+use Rattle.md_thread.proofs.PlannedSlots.{resize_plan}
 use Rattle.insert_tests.proofs.resizes.planned.Goals as goal
 
 pub returns-in-Resize : goal.returns-in-Resize
@@ -6,9 +7,8 @@ returns-in-Resize g c =
     let d = g.D.PageDisk in
     let p = c.args.plant.now.at in
     let running = is_running d c.args.plant.now c.keeps.ensures in
-    resize_plan d c.plans.ensures p running c.requires.runs c.metas-metas.result.now c.sup-sup.result.now
-    c.metas-metas.ensures c.sup-sup.ensures (c.plans.ensures.shows_all p running c.requires.runs)
-    c.least_heads_are_meant.ensures
+    resize_plan d p c.metas-metas.result.now c.sup-sup.result.now c.metas-metas.ensures c.sup-sup.ensures
+    (c.plans.ensures.shows_all p running c.requires.runs) c.least_heads_are_meant.ensures
     (λ volume slots head old job. c.plans.ensures.resize p volume slots head old job running c.requires.runs)
     c.args.command.now c.in-Resize.volume c.in-Resize.slots c.in-Resize.is
     c.plan_resize.result c.plan_resize.ensures.job c.plan_resize.ensures.unrefused c.plan_resize.ensures.refused

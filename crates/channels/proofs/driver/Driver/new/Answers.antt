@@ -1,0 +1,30 @@
+use Rattle.std.proofs.Common.{ap}
+use Rattle.md_thread.specs.Holding.{MetadataState}
+use Rattle.channels.specs.declared.driver.Driver.{Driver}
+use Rattle.channels.proofs.Starting.{starts_as, starts_driven}
+use Rattle.channels.proofs.driver.Driver.new.Goals as goal
+
+pub returns-clause-starts : goal.returns-clause-starts
+returns-clause-starts g c =
+    let w : Driver g.row.D.Denot = record {
+      plant = c.args.plant;
+      right = c.args.right;
+      channels = c.channels_of-channels.result;
+      metadata = c.new.result;
+      queue = c.new-2.result;
+    } in
+    starts_as g.D.PageDisk c.steps_are_moves.ensures w c.keeps.ensures c.channels_of-channels.ensures c.new-2.ensures
+    (ap (λ (s : MetadataState). s.held) c.new.ensures)
+
+pub returns-clause-driven : goal.returns-clause-driven
+returns-clause-driven g c =
+    let w : Driver g.row.D.Denot = record {
+      plant = c.args.plant;
+      right = c.args.right;
+      channels = c.channels_of-channels.result;
+      metadata = c.new.result;
+      queue = c.new-2.result;
+    } in
+    starts_driven g.D.PageDisk c.steps_are_moves.ensures w c.keeps.ensures c.channels_of-channels.ensures
+    c.new-2.ensures (ap (λ (s : MetadataState). s.held) c.new.ensures) c.requires.right c.requires.sixteen
+    c.requires.served

@@ -1,0 +1,5 @@
+//! Tests of what `blob_meta` makes of blobs that are marked.
+#![tactic(auto)]
+
+#[cfg(test)]
+mod states;
