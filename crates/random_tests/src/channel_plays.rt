@@ -13,8 +13,8 @@ use std::alloc::Global;
 use std::test::Fail;
 use test_runs::{Call, Ran, perform, run};
 
-/// A store, the script that made its volumes and what that printed, a script that is to run on it, by a schedule if there
-/// is one, and whether the run ends with a `df`.
+/// A store, the script that made its volumes and what that printed, a script that is to run on it, by a schedule if
+/// there is one, and whether the run ends with a `df`.
 #[derive(Drop)]
 pub struct ChannelPlay {
     number: u64,

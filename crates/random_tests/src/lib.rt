@@ -1,6 +1,6 @@
-//! Random scripts of the verbs that the program serves, on one channel, whose answers are those of plain volumes and of
-//! counts of what is clear, and on many channels by random schedules, whose answers are those of plain volumes along the
-//! log; and power that fails at each call of the device.
+//! Random scripts of the verbs that the program serves: on one channel, whose answers are those of plain volumes and of
+//! counts of what is clear; and on many channels by random schedules, whose answers are those of plain volumes along
+//! the log. And power that fails at each call of the device.
 #![tactic(auto)]
 
 #[cfg(test)]

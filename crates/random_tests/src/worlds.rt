@@ -85,8 +85,8 @@ impl World {
         Ok(())
     }
 
-    /// Appends the states in which what is asked for is done, where plain volumes don't refuse it: a new volume may have
-    /// any head that isn't in use.
+    /// Appends the states in which what is asked for is done, where plain volumes don't refuse it: a new volume may
+    /// have any head that isn't in use.
     pub fn push_done(&self, alloc: Global, ask: &Ask, states: &mut Vec<State>) -> Result<(), Fail> {
         if !is_done(&self.state, ask) {
             return Ok(());
