@@ -1,7 +1,6 @@
 //! Random scripts on many channels that are run whole, by random schedules.
 
 use crate::channel_plays::ChannelPlay;
-use crate::endings::Endings;
 use crate::scripts::new_stores;
 use crate::shown::expect_volumes;
 use page_disk::PageDisk;
@@ -9,9 +8,8 @@ use std::alloc::Global;
 use std::test::Fail;
 
 /// Expects each answer of a play, and that its volumes are left and no claim: as much is clear as a last `df` told.
-fn expect_run(alloc: Global, play: &ChannelPlay, endings: &mut Endings) -> Result<(), Fail> {
+fn expect_run(alloc: Global, play: &ChannelPlay) -> Result<(), Fail> {
     let ran = play.run(alloc, play.store.crash(0)?)?;
-    endings.note(ran.out.bytes());
     let mut replay = play.replayed(alloc, &ran, false)?;
     replay.world.expect_pages(alloc)?;
     let shown = expect_volumes(alloc, &replay.world.state, play.fixed(), ran.disk.crash(1)?)?;
@@ -22,20 +20,19 @@ fn expect_run(alloc: Global, play: &ChannelPlay, endings: &mut Endings) -> Resul
     }
 }
 
-/// Runs the plays of these numbers, and expects that they meet each ending.
+/// Runs the plays of these numbers.
 fn expect_all(rt: HostRuntime, numbers: (u64, u64)) -> Result<(), Fail> {
     let alloc = rt.alloc();
     let (from, end) = numbers;
     let stores = new_stores(alloc)?;
-    let mut endings = Endings::new();
     for number in from..end {
         let play = ChannelPlay::drawn(alloc, number, &stores)?;
-        if let Err(why) = expect_run(alloc, &play, &mut endings) {
+        if let Err(why) = expect_run(alloc, &play) {
             play.tell(rt);
             return Err(why);
         }
     }
-    endings.expect_all()
+    Ok(())
 }
 
 #[test]
