@@ -98,7 +98,8 @@ module _ {S : Type 0} (s : source.Ghosts S) (script script_now : S) {D : Type 0}
       → ReadsScript s script script_now commands
       → ((first : StoreView D) → IsOpened d loaded commands first → IsLoaded d commands before loaded first)
       → OnlyRead d before loaded.disk
-      → EndedFrom d commands schedule k out out_now back loaded st → Outcome s script script_now d k out out_now before back schedule st
+      → EndedFrom d commands schedule k out out_now back loaded st → Outcome s script script_now d k out out_now
+          before back schedule st
   of_a_run commands loaded st reads opens same (inl x) =
       ran_to st (record {
         commands = commands;

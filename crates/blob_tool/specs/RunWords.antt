@@ -35,5 +35,6 @@ AskForNoRun words = (steps : List Actor) → AsksToRun words steps → ⊥
 
 -- the one schedule that a text says, or none
 abbrev pub FindsSchedule : Option (Option (List ℕ)) → Option (List Actor) → Type 0
-FindsSchedule text (Some schedule) = AreSteps text schedule × ((steps : List Actor) → AreSteps text steps → steps ≡ schedule)
+FindsSchedule text (Some schedule) =
+    AreSteps text schedule × ((steps : List Actor) → AreSteps text steps → steps ≡ schedule)
 FindsSchedule text None = (steps : List Actor) → AreSteps text steps → ⊥

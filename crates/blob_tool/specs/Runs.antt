@@ -57,10 +57,10 @@ module _ {D : Type 0} (d : disk.Ghosts D) (script : List (List Command)) where
     pub opened : IsOpened d loaded script first
 
   module _ (schedule : List Actor) where
-    -- A run leads from one state of the store to another, in which every channel has ended and no job runs. Its turns are
-    -- those of the steps of its schedule, and then of rounds of the channels and the metadata thread. Its log is a legal
-    -- one of the script's commands, and the volumes shown at the end are its replay, unless the store stopped. Of a
-    -- device that doesn't tell what it holds both are said but for what pages hold (`seen`).
+    -- A run leads from one state of the store to another, in which every channel has ended and no job runs. Its turns
+    -- are those of the steps of its schedule, and then of rounds of the channels and the metadata thread. Its log is a
+    -- legal one of the script's commands, and the volumes shown at the end are its replay, unless the store stopped. Of
+    -- a device that doesn't tell what it holds both are said but for what pages hold (`seen`).
     pub record IsRun (first last : StoreView D) : Type 0 where
       pub opens : Opens (state_of d first)
       pub follows : FollowsSchedule d schedule first last
@@ -69,8 +69,8 @@ module _ {D : Type 0} (d : disk.Ghosts D) (script : List (List Command)) where
       pub no_job : last.job ≡ None
       pub interleaves : Interleaves last.log script
       pub legal : IsLegal (fixed_of first.super) (shown (state_of d first)) (seen d.tells last.log)
-      -- a store that stopped has counted a failed write or flush, and its fault, if it has one, stands where it stopped;
-      -- else it has counted none, and no entry is a fault or stopped
+      -- a store that stopped has counted a failed write or flush, and its fault, if it has one, stands where it
+      -- stopped; else it has counted none, and no entry is a fault or stopped
       pub counted : (at : ℕ) → last.stopped ≡ Some at → Rose (d.write_faults first.disk) (d.write_faults last.disk)
       pub uncounted : last.stopped ≡ None → d.write_faults last.disk ≡ d.write_faults first.disk
       pub fault_at : (k : ℕ) (e : Entry) → slice_get last.log k ≡ Some e → e.reply ≡ r.Fault → last.stopped ≡ Some k
@@ -80,8 +80,8 @@ module _ {D : Type 0} (d : disk.Ghosts D) (script : List (List Command)) where
           ≡ replay (fixed_of first.super) (shown (state_of d first)) (seen d.tells last.log)
 
     module _ {K : Type 0} (k : sink.Ghosts K) (out out_now : K) (back : D) where
-      -- a run from this state, whose device was flushed at most behind it and is handed back, and of the text of its log
-      -- as much as was printed
+      -- a run from this state, whose device was flushed at most behind it and is handed back, and of the text of its
+      -- log as much as was printed
       pub record Played (first : StoreView D) : Type 0 where
         pub last : StoreView D
         pub run : IsRun first last

@@ -124,7 +124,8 @@ module _ (told : Bool) (s : Super) (first : Volumes) (script : ℕ → List Comm
   stays : e.unsent ≡ c.unsent
       → with_messages p (slice_set channels k e) queue held ≡ with_messages p channels queue held
   stays same = ap
-      (λ u. record { store = p; messages = record { unsent = u; queue = queue; held = held; waiting = []; fill = None } })
+      (λ u. record { store = p; messages = record { unsent = u; queue = queue; held = held;
+          waiting = []; fill = None } })
       (unsent_same channels k c at e same)
 
   -- none, where it is held up
@@ -144,7 +145,8 @@ module _ (told : Bool) (s : Super) (first : Volumes) (script : ℕ → List Comm
         (facts.current (record { channel = k; serial = serial }) (not_sent waits))
 
     -- it sends its message
-    pub sending_acts : (later : List Msg) → e.unsent ≡ None → Appends queue (record { channel = k; serial = serial }) later
+    pub sending_acts : (later : List Msg) → e.unsent ≡ None → Appends queue (record { channel = k; serial = serial })
+        later
         → Acts p later
     sending_acts later none x = inl (
       sends p (messages_of channels queue held) k serial serial low is_posted waits x.room,
@@ -179,7 +181,8 @@ module _ (told : Bool) (p : StoreState) (channels : List ChannelState) (queue : 
   w = with_messages p channels queue held
 
   none_waits : has_to_wait (run_of w) ≡ false
-  none_waits = all_false (not (is_there (run_of w).job)) (is_there (run_of w).fill || not (is_in_use ((run_of w).rows 16).stage))
+  none_waits = all_false (not (is_there (run_of w).job)) (is_there (run_of w).fill || not
+      (is_in_use ((run_of w).rows 16).stage))
       (holds_command (run_of w) held)
 
   at_turn : driven_at_turn w ≡ w
@@ -195,7 +198,8 @@ module _ (told : Bool) (p : StoreState) (channels : List ChannelState) (queue : 
   pub job_acts : (q : StoreState) (job : JobState) → p.job ≡ Some job → JobTurn told p q
       → Steps (with_messages q channels queue held)
   job_acts q job is turn = inl (
-    ap (λ (o : Option JobState). is_there (option_map job_in_run o) || is_there held || has_any queue || has_any {X = Msg} []
+    ap (λ (o : Option JobState). is_there (option_map job_in_run o) || is_there held || has_any queue || has_any
+        {X = Msg} []
         || is_there {X = Msg} None || is_in_use (stage_in_run (p.rows 16).stage)) is,
     acts (with_messages q channels queue held) (by_job
         (ap (λ (o : Option JobState). due (is_there (option_map job_in_run o)) held None
@@ -206,7 +210,8 @@ module _ (told : Bool) (p : StoreState) (channels : List ChannelState) (queue : 
   pub message_acts : (q : StoreState) (message : Msg) → p.job ≡ None → held ≡ Some message
       → ServingTurn told p q message.channel → Steps (with_messages q channels queue None)
   message_acts q message none is turn = inl (
-    ap (λ (o : Option JobState). is_there (option_map job_in_run o) || is_there held || has_any queue || has_any {X = Msg} []
+    ap (λ (o : Option JobState). is_there (option_map job_in_run o) || is_there held || has_any queue || has_any
+        {X = Msg} []
         || is_there {X = Msg} None || is_in_use (stage_in_run (p.rows 16).stage)) none
         ∙ ap (λ (o : Option Msg). is_there o || has_any queue || has_any {X = Msg} [] || is_there {X = Msg} None
         || is_in_use (stage_in_run (p.rows 16).stage)) is,
@@ -222,7 +227,8 @@ module _ (told : Bool) (p : StoreState) (channels : List ChannelState) (queue : 
   pub taking_acts : (front : Msg) (rest : List Msg) → p.job ≡ None → held ≡ None → queue ≡ front ∷ rest
       → Steps (with_messages p channels rest (Some front))
   taking_acts front rest none free is = inl (
-    ap (λ (o : Option JobState). is_there (option_map job_in_run o) || is_there held || has_any queue || has_any {X = Msg} []
+    ap (λ (o : Option JobState). is_there (option_map job_in_run o) || is_there held || has_any queue || has_any
+        {X = Msg} []
         || is_there {X = Msg} None || is_in_use (stage_in_run (p.rows 16).stage)) none
         ∙ ap (λ (o : Option Msg). is_there o || has_any queue || has_any {X = Msg} [] || is_there {X = Msg} None
         || is_in_use (stage_in_run (p.rows 16).stage)) free
@@ -239,7 +245,8 @@ module _ (told : Bool) (p : StoreState) (channels : List ChannelState) (queue : 
   -- nothing is to be done
   pub idle_acts : p.job ≡ None → held ≡ None → queue ≡ [] → Steps w
   idle_acts none free is = inr (
-    ap (λ (o : Option JobState). is_there (option_map job_in_run o) || is_there held || has_any queue || has_any {X = Msg} []
+    ap (λ (o : Option JobState). is_there (option_map job_in_run o) || is_there held || has_any queue || has_any
+        {X = Msg} []
         || is_there {X = Msg} None || is_in_use (stage_in_run (p.rows 16).stage)) none
         ∙ ap (λ (o : Option Msg). is_there o || has_any queue || has_any {X = Msg} [] || is_there {X = Msg} None
         || is_in_use (stage_in_run (p.rows 16).stage)) free

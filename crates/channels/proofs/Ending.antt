@@ -95,7 +95,8 @@ module _ {D : Type 0} (d : Ghosts D) (p : WithOpening D) (channels : List Channe
           → can_metadata (run_of (with_messages (state_of d p.at) channels queue held)) ≡ is_some p.at.job
       by None is =
           ap (λ (o : Option JobState). is_there (option_map job_in_run o) || is_there held || has_any queue
-          || has_any {X = Msg} [] || is_there {X = Msg} None || is_in_use (stage_in_run (rows_of p.at.rows 16).stage)) is
+          || has_any {X = Msg} [] || is_there {X = Msg} None || is_in_use (stage_in_run (rows_of p.at.rows 16).stage))
+              is
           ∙ ap (λ (o : Option Msg). is_there o || has_any queue || has_any {X = Msg} [] || is_there {X = Msg} None
           || is_in_use (stage_in_run (rows_of p.at.rows 16).stage)) (none_held ended held refl)
           ∙ ap (λ (l : List Msg). has_any l || has_any {X = Msg} [] || is_there {X = Msg} None
@@ -103,7 +104,8 @@ module _ {D : Type 0} (d : Ghosts D) (p : WithOpening D) (channels : List Channe
           ∙ free ∙ sym (ap (λ (o : Option JobState). is_some o) is)
       by (Some j) is =
           ap (λ (o : Option JobState). is_there (option_map job_in_run o) || is_there held || has_any queue
-          || has_any {X = Msg} [] || is_there {X = Msg} None || is_in_use (stage_in_run (rows_of p.at.rows 16).stage)) is
+          || has_any {X = Msg} [] || is_there {X = Msg} None || is_in_use (stage_in_run (rows_of p.at.rows 16).stage))
+              is
           ∙ sym (ap (λ (o : Option JobState). is_some o) is)
 
   abbrev all : Bool

@@ -91,7 +91,8 @@ same_step p q is k = subst (λ (s : StoreState). RowStep (p.rows k) (s.rows k)) 
 
 module _ (told : Bool) (w v : DrivenStore) where
   by_channel : (channel : ℕ) → ChannelActsOn told w channel v → RowsStep w.store v.store
-  by_channel channel (turns.by_turn turn is) = some_step told w.store v.store (channel_kind told w.store v.store channel turn)
+  by_channel channel (turns.by_turn turn is) = some_step told w.store v.store
+      (channel_kind told w.store v.store channel turn)
   by_channel channel (turns.by_posting turn is) =
       some_step told w.store v.store (posting_kind told w.store v.store channel turn)
   by_channel channel (turns.by_sending serial waits room is) =

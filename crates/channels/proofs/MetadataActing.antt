@@ -22,7 +22,8 @@ module _ {D : Type 0} (d : Ghosts D) (p q : WithOpening D) (channels : List Chan
     (held mid : Option Msg) (unused : is_in_use (stage_in_run (rows_of p.at.rows 16).stage) ≡ false)
     (facts : RunFacts (run_of (with_messages (state_of d p.at) channels queue held))) (turn : Turn)
     (job : IsSome p.at.job → (turn ≡ Moved) × JobTurn d.tells (state_of d p.at) (state_of d q.at) × (mid ≡ held))
-    (message : p.at.job ≡ None → (msg : Msg) → held ≡ Some msg → (rows_of p.at.rows msg.channel).stage ≡ Posted msg.serial
+    (message : p.at.job ≡ None → (msg : Msg) → held ≡ Some msg → (rows_of p.at.rows msg.channel).stage ≡ Posted
+        msg.serial
     → (turn ≡ Moved) × ServingTurn d.tells (state_of d p.at) (state_of d q.at) msg.channel × (mid ≡ None))
     (idle : p.at.job ≡ None → held ≡ None → (turn ≡ Idle) × (q ≡ p) × (mid ≡ None)) where
   abbrev Acts : WithOpening D → List Msg → Option Msg → Type 0
@@ -55,7 +56,8 @@ module _ {D : Type 0} (d : Ghosts D) (p q : WithOpening D) (channels : List Chan
   module _ (later : List Msg) (after : Option Msg) (still : turn ≡ Idle)
       (taken : IfSome after (λ msg. GivesOldest queue msg later)) (empty : after ≡ None → IsEmpty queue)
       (unchanged : after ≡ None → later ≡ queue) where
-    by_taking : p.at.job ≡ None → held ≡ None → (o : Option Msg) → after ≡ o → IfSome o (λ msg. GivesOldest queue msg later)
+    by_taking : p.at.job ≡ None → held ≡ None → (o : Option Msg) → after ≡ o → IfSome o
+        (λ msg. GivesOldest queue msg later)
         → Acts p later o
     by_taking none free None is gives =
         subst (λ l. Acts p l None) (sym (unchanged is))

@@ -1,4 +1,5 @@
--- The turns that a channel makes, as turns of that channel: the other rows stay, so that its own is the one that changes.
+-- The turns that a channel makes, as turns of that channel: the other rows stay, so that its own is the one that
+-- changes.
 use Rattle.std.proofs.Common.{◌≡◌, inl, inr, ℕ, zero, suc, true, List, ◌∷◌, None, refl}
 use Rattle.std.proofs.Common.{length, sym, ◌∙◌, ap, subst, arith}
 use Rattle.std.proofs.lemmas.Bool.{cases_eq}
@@ -132,7 +133,8 @@ module _ {D : Type 0} (d : Ghosts D) (p q : StoreView D) (channel : ℕ)
   halted : LogsItself channel → (t : kind.Halts (state_of d p) (state_of d q)) → Own
   halted itself t =
       let e = logs _ t.next t.channel (rows_of p.rows) t.command t.rest _ refl (ap (λ (r : Row). r.left) t.row) in
-      turns.halts t e (sym (ap (λ (r : Row). logs_itself (stage_in_run r.stage)) t.row) ∙ subst LogsItself (sym e) itself)
+      turns.halts t e (sym (ap (λ (r : Row). logs_itself (stage_in_run r.stage)) t.row) ∙ subst LogsItself (sym e)
+          itself)
 
   -- such a turn is one of the channel's
   pub own : LogsItself channel → (k : Kind) → IsOwn k → TurnMade d p q k → Own
@@ -159,7 +161,8 @@ module _ {D : Type 0} (d : Ghosts D) (p q : StoreView D) (channel : ℕ)
       (logs _ t.next t.write.channel (rows_of p.rows) _ t.write.rest _ refl (ap (λ (r : Row). r.left) t.write.row))
   own itself kind.copies is made = let t = made.0 in
       turns.copies t
-      (goes _ t.next t.copying.row _ refl (Copying (suc t.left)) (ap (λ (r : Row). r.stage) t.copying.is) (copied t.left))
+      (goes _ t.next t.copying.row _ refl (Copying (suc t.left)) (ap (λ (r : Row). r.stage) t.copying.is)
+          (copied t.left))
   own itself kind.loses_copy is made = let t = made.0 in
       turns.loses_copy t
       (goes _ t.next t.copying.row _ refl (Copying (suc t.left)) (ap (λ (r : Row). r.stage) t.copying.is) (λ e. cc e))
@@ -169,7 +172,8 @@ module _ {D : Type 0} (d : Ghosts D) (p q : StoreView D) (channel : ℕ)
       t.logs.left)
   own itself kind.copy_fails is made = let t = made.0 in
       turns.copy_fails t
-      (logs _ t.logs.next t.copying.row (given_back (stopped_now (state_of d p)) t.copying.row Idle).rows _ t.logs.rest _
+      (logs _ t.logs.next t.copying.row (given_back (stopped_now (state_of d p)) t.copying.row Idle).rows _
+          t.logs.rest _
       refl t.logs.left)
   own itself kind.flushes is made = let t = made.0 in
       turns.flushes t (logs _ t.next t.channel (rows_of p.rows) _ t.rest _ refl (ap (λ (r : Row). r.left) t.row))

@@ -16,7 +16,8 @@ use Rattle.store_model.specs.Cases.Halt.{MayLog, stage_after}
 use Rattle.store_model.specs.Claiming.{given_back, LogsOwn, stage_behind}
 use Rattle.store_model.specs.Device.{Device}
 use Rattle.store_model.specs.Phases.{Phase}
-use Rattle.store_model.specs.Rows.{Answered, Claiming, Copying, Decided, Decision, Ended, Idle, InJob, IsForMetadata, Lost}
+use Rattle.store_model.specs.Rows.{Answered, Claiming, Copying, Decided, Decision, Ended, Idle, InJob, IsForMetadata}
+use Rattle.store_model.specs.Rows.{Lost}
 use Rattle.store_model.specs.Rows.{OpenClaim, Posted, Ready, Row, Rows, Stage, with_row, Won}
 use Rattle.store_model.specs.StoreState.{Opens, StoreState}
 use Rattle.store_model.specs.Turning.{stopped_now}
@@ -120,7 +121,8 @@ module _ (p q : StoreState) where
 
   no_row : (next : StoreState) → q ≡ next → next.rows ≡ p.rows → RowsStep
   no_row next is rows k =
-      subst (λ (r : Rows). RowStep (p.rows k) (r k)) (sym (ap (λ (s : StoreState). s.rows) is ∙ rows)) (stays (p.rows k))
+      subst (λ (r : Rows). RowStep (p.rows k) (r k)) (sym (ap (λ (s : StoreState). s.rows) is ∙ rows))
+          (stays (p.rows k))
 
   -- one row changes, of rows of which the others are as before
   changed : (channel : ℕ) (rows : Rows) (now : Row) → ((k : ℕ) → k ≢ channel → rows k ≡ p.rows k)
@@ -155,7 +157,8 @@ module _ (p q : StoreState) where
 
 module _ (tells : Bool) (p q : StoreState) where
   -- a row that is known
-  was : (channel : ℕ) (command : Command) (rest : List Command) (stage : Stage) (claim : Option OpenClaim) (next : Stage)
+  was : (channel : ℕ) (command : Command) (rest : List Command) (stage : Stage) (claim : Option OpenClaim)
+      (next : Stage)
       → p.rows channel ≡ record { left = command ∷ rest; stage = stage; claim = claim } → IsLive stage
       → IsUnposted next → RowStep (p.rows channel) (record { left = rest; stage = next; claim = None })
   was channel command rest stage claim next row alive plain =

@@ -38,8 +38,8 @@ pub record MeetsFrozen (p : StoreState) (channel : ℕ) : Type 0 where
   pub page : IsOfPage command
   pub frozen : IsFrozenFor p command
 
--- Why a channel can make no turn: its blob is frozen where it would be read or written, or a cluster claimed for it; its
--- request is posted; the running job serves it; or it has ended.
+-- Why a channel can make no turn: its blob is frozen where it would be read or written, or a cluster claimed for it;
+-- its request is posted; the running job serves it; or it has ended.
 pub data IsHeldUp (p : StoreState) (channel : ℕ) : Type 0 where
   by_frozen : MeetsFrozen p channel → ((p.rows channel).stage ≡ Idle) ⊎ ((p.rows channel).stage ≡ Claiming)
       → IsHeldUp p channel

@@ -53,7 +53,8 @@ impl Channel {
         }
     }
 
-    /// What its next step is made on: the queue, where it has a message to send, and else the store, until it has ended.
+    /// What its next step is made on: the queue, where it has a message to send, and else the store, until it has
+    /// ended.
     pub fn next(&self) -> Next
         ensures { result ≡ next_of self.now }
     {
@@ -72,7 +73,8 @@ impl Channel {
             (state_of D.PageDisk plant.new.at) self.old.channel self.new.unsent }
         ensures idle { result ≡ Idle → IsHeldUp (state_of D.PageDisk plant.old.at) self.old.channel }
         ensures unchanged { result ≡ Idle → (plant.new ≡ plant.old) × (self.new.unsent ≡ None) }
-        ensures ended { self.new.ended ≡ has_ended_at (is_stage (rows_of plant.new.at.rows self.old.channel) self.old.channel) }
+        ensures ended { self.new.ended ≡ has_ended_at (is_stage (rows_of plant.new.at.rows self.old.channel)
+            self.old.channel) }
         ensures channel { self.new.channel ≡ self.old.channel }
         ensures opening { plant.new.opening ≡ plant.old.opening }
         ensures right { plant.new.right ≡ plant.old.right }
@@ -89,8 +91,8 @@ impl Channel {
         turn
     }
 
-    /// Sends its message. `Idle` comes only where the queue was full at some moment of the call: the message is kept, to
-    /// be sent by a later step.
+    /// Sends its message. `Idle` comes only where the queue was full at some moment of the call: the message is kept,
+    /// to be sent by a later step.
     pub fn send<O: Outbox>(&mut self, out: &mut O) -> Turn
         requires next { next_of self.old ≡ next.Queue }
         requires serves { O.serves out.old self.old.channel }

@@ -89,7 +89,8 @@ impl<D: PageDisk> Driver<D> {
     fn channel_acts(&mut self, channel: u8)
         requires driven { IsDriven D.PageDisk self.old }
         requires low { channel < 16 }
-        ensures step { DriverStep D.tells (ChannelActs channel) (driven D.PageDisk self.old) (driven D.PageDisk self.new) }
+        ensures step { DriverStep D.tells (ChannelActs channel) (driven D.PageDisk self.old)
+            (driven D.PageDisk self.new) }
         ensures channels { AreChannelsOf self.new.plant.at.rows self.new.channels }
         ensures store { IsSameStore self.old self.new }
     {
@@ -121,7 +122,8 @@ impl<D: PageDisk> Driver<D> {
     /// An actor acts, if it is one.
     fn acts(&mut self, alloc: Global, actor: Actor)
         requires driven { IsDriven D.PageDisk self.old }
-        ensures step { DriverStep D.tells (actor_in_run actor) (driven D.PageDisk self.old) (driven D.PageDisk self.new) }
+        ensures step { DriverStep D.tells (actor_in_run actor) (driven D.PageDisk self.old)
+            (driven D.PageDisk self.new) }
         ensures channels { AreChannelsOf self.new.plant.at.rows self.new.channels }
         ensures store { IsSameStore self.old self.new }
     {

@@ -13,7 +13,8 @@ pub channel_step-requires : goal.channel_step-requires
 channel_step-requires g c =
     let w = c.args.self.now in
     record {
-      channel = is_its w.plant.at.rows w.channels c.requires.driven.channels c.args.channel c.requires.low c.from-at.result
+      channel = is_its w.plant.at.rows w.channels c.requires.driven.channels c.args.channel c.requires.low
+          c.from-at.result
           c.index-self-at.result c.from-at.ensures;
     }
 
