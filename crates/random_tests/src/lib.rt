@@ -12,8 +12,6 @@ mod changes;
 #[cfg(test)]
 mod channel_crashes;
 #[cfg(test)]
-mod channel_ends;
-#[cfg(test)]
 mod channel_plays;
 #[cfg(test)]
 mod channel_runs;

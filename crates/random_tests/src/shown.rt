@@ -190,13 +190,6 @@ impl Shown {
         Ok(())
     }
 
-    /// Expects that these are the masks.
-    pub fn expect_masks(&self, masks: &Masks) -> Result<(), Fail> {
-        expect_same(&self.masks.pages, &masks.pages)?;
-        expect_same(&self.masks.clusters, &masks.clusters)?;
-        expect_same(&self.masks.blobs, &masks.blobs)
-    }
-
     /// Expects that each metadata page and each cluster is in use exactly where it is so in a state.
     pub fn expect_in_use(&self, state: &State) -> Result<(), Fail> {
         expect_marks(&self.masks.pages, &state.used_pages)?;
@@ -224,19 +217,6 @@ fn expect_marks(mask: &Bits, marks: &[bool]) -> Result<(), Fail> {
     for (place, is_set) in (0..mask.len()).zip(marks.iter()) {
         if (place < mask.len() && mask.get(place)) != *is_set {
             return Err(Fail::new(format_args!("place {place} is in use: {}", !is_set)));
-        }
-    }
-    Ok(())
-}
-
-/// Expects that two masks are the same.
-fn expect_same(found: &Bits, wanted: &Bits) -> Result<(), Fail> {
-    if found.len() != wanted.len() {
-        return Err(Fail::new("another length of a mask"));
-    }
-    for place in 0..found.len() {
-        if found.get(place) != wanted.get(place) {
-            return Err(Fail::new(format_args!("place {place} is in use: {}", found.get(place))));
         }
     }
     Ok(())
