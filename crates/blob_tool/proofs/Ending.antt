@@ -99,7 +99,7 @@ module _ {S : Type 0} (s : source.Ghosts S) (script script_now : S) {D : Type 0}
       → ((first : StoreView D) → IsOpened d loaded commands first → IsLoaded d commands before loaded first)
       → OnlyRead d before loaded.disk
       → EndedFrom d commands schedule k out out_now back loaded st → Outcome s script script_now d k out out_now
-          before back schedule st
+      before back schedule st
   of_a_run commands loaded st reads opens same (inl x) =
       ran_to st (record {
         commands = commands;

@@ -29,9 +29,8 @@ pub(crate) fn schedule_in(alloc: Global, words: &[String]) -> Result<Option<Sche
 {
     match words {
         [verb, _image] if verb.as_str() == "run" => schedule_of(alloc, None),
-        [verb, _image, option, list] if verb.as_str() == "run" && option.as_str() == "--schedule" => {
-            schedule_of(alloc, Some(list.as_str()))
-        }
+        [verb, _image, option, list] if verb.as_str() == "run" && option.as_str() == "--schedule" =>
+            { schedule_of(alloc, Some(list.as_str())) }
         _ => Ok(None),
     }
 }

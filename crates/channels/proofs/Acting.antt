@@ -124,8 +124,16 @@ module _ (told : Bool) (s : Super) (first : Volumes) (script : ℕ → List Comm
   stays : e.unsent ≡ c.unsent
       → with_messages p (slice_set channels k e) queue held ≡ with_messages p channels queue held
   stays same = ap
-      (λ u. record { store = p; messages = record { unsent = u; queue = queue; held = held;
-          waiting = []; fill = None } })
+      (λ u. record {
+        store = p;
+        messages = record {
+          unsent = u;
+          queue = queue;
+          held = held;
+          waiting = [];
+          fill = None;
+        };
+      })
       (unsent_same channels k c at e same)
 
   -- none, where it is held up

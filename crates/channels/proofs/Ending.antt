@@ -96,7 +96,7 @@ module _ {D : Type 0} (d : Ghosts D) (p : WithOpening D) (channels : List Channe
       by None is =
           ap (λ (o : Option JobState). is_there (option_map job_in_run o) || is_there held || has_any queue
           || has_any {X = Msg} [] || is_there {X = Msg} None || is_in_use (stage_in_run (rows_of p.at.rows 16).stage))
-              is
+          is
           ∙ ap (λ (o : Option Msg). is_there o || has_any queue || has_any {X = Msg} [] || is_there {X = Msg} None
           || is_in_use (stage_in_run (rows_of p.at.rows 16).stage)) (none_held ended held refl)
           ∙ ap (λ (l : List Msg). has_any l || has_any {X = Msg} [] || is_there {X = Msg} None
@@ -105,7 +105,7 @@ module _ {D : Type 0} (d : Ghosts D) (p : WithOpening D) (channels : List Channe
       by (Some j) is =
           ap (λ (o : Option JobState). is_there (option_map job_in_run o) || is_there held || has_any queue
           || has_any {X = Msg} [] || is_there {X = Msg} None || is_in_use (stage_in_run (rows_of p.at.rows 16).stage))
-              is
+          is
           ∙ sym (ap (λ (o : Option JobState). is_some o) is)
 
   abbrev all : Bool

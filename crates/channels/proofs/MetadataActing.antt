@@ -23,7 +23,7 @@ module _ {D : Type 0} (d : Ghosts D) (p q : WithOpening D) (channels : List Chan
     (facts : RunFacts (run_of (with_messages (state_of d p.at) channels queue held))) (turn : Turn)
     (job : IsSome p.at.job → (turn ≡ Moved) × JobTurn d.tells (state_of d p.at) (state_of d q.at) × (mid ≡ held))
     (message : p.at.job ≡ None → (msg : Msg) → held ≡ Some msg → (rows_of p.at.rows msg.channel).stage ≡ Posted
-        msg.serial
+    msg.serial
     → (turn ≡ Moved) × ServingTurn d.tells (state_of d p.at) (state_of d q.at) msg.channel × (mid ≡ None))
     (idle : p.at.job ≡ None → held ≡ None → (turn ≡ Idle) × (q ≡ p) × (mid ≡ None)) where
   abbrev Acts : WithOpening D → List Msg → Option Msg → Type 0

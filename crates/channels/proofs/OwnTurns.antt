@@ -134,7 +134,7 @@ module _ {D : Type 0} (d : Ghosts D) (p q : StoreView D) (channel : ℕ)
   halted itself t =
       let e = logs _ t.next t.channel (rows_of p.rows) t.command t.rest _ refl (ap (λ (r : Row). r.left) t.row) in
       turns.halts t e (sym (ap (λ (r : Row). logs_itself (stage_in_run r.stage)) t.row) ∙ subst LogsItself (sym e)
-          itself)
+      itself)
 
   -- such a turn is one of the channel's
   pub own : LogsItself channel → (k : Kind) → IsOwn k → TurnMade d p q k → Own
@@ -162,7 +162,7 @@ module _ {D : Type 0} (d : Ghosts D) (p q : StoreView D) (channel : ℕ)
   own itself kind.copies is made = let t = made.0 in
       turns.copies t
       (goes _ t.next t.copying.row _ refl (Copying (suc t.left)) (ap (λ (r : Row). r.stage) t.copying.is)
-          (copied t.left))
+      (copied t.left))
   own itself kind.loses_copy is made = let t = made.0 in
       turns.loses_copy t
       (goes _ t.next t.copying.row _ refl (Copying (suc t.left)) (ap (λ (r : Row). r.stage) t.copying.is) (λ e. cc e))
@@ -173,7 +173,7 @@ module _ {D : Type 0} (d : Ghosts D) (p q : StoreView D) (channel : ℕ)
   own itself kind.copy_fails is made = let t = made.0 in
       turns.copy_fails t
       (logs _ t.logs.next t.copying.row (given_back (stopped_now (state_of d p)) t.copying.row Idle).rows _
-          t.logs.rest _
+      t.logs.rest _
       refl t.logs.left)
   own itself kind.flushes is made = let t = made.0 in
       turns.flushes t (logs _ t.next t.channel (rows_of p.rows) _ t.rest _ refl (ap (λ (r : Row). r.left) t.row))

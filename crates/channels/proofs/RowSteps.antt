@@ -122,7 +122,7 @@ module _ (p q : StoreState) where
   no_row : (next : StoreState) → q ≡ next → next.rows ≡ p.rows → RowsStep
   no_row next is rows k =
       subst (λ (r : Rows). RowStep (p.rows k) (r k)) (sym (ap (λ (s : StoreState). s.rows) is ∙ rows))
-          (stays (p.rows k))
+      (stays (p.rows k))
 
   -- one row changes, of rows of which the others are as before
   changed : (channel : ℕ) (rows : Rows) (now : Row) → ((k : ℕ) → k ≢ channel → rows k ≡ p.rows k)

@@ -15,7 +15,8 @@ type Case = (
     (&'static [u8], &'static [u8]),
 );
 
-const NINE_SETS: &[u8] = b"0 setx v k t:0\n1 setx v k t:1\n2 setx v k t:2\n3 setx v k t:3\n4 setx v k t:4\n\
+const NINE_SETS: &[u8] =
+    b"0 setx v k t:0\n1 setx v k t:1\n2 setx v k t:2\n3 setx v k t:3\n4 setx v k t:4\n\
     5 setx v k t:5\n6 setx v k t:6\n7 setx v k t:7\n8 setx v k t:8\n8 getx v k\n";
 
 const NINE_ANSWERS: &[u8] =
@@ -44,10 +45,7 @@ const CASES: [Case; 9] = [
             b"0 write v 4 1 1\n1 resize v 1\n",
             b"1 0 ok\n0 0 out of range\n",
         ),
-        (
-            b"0 df\n",
-            b"0 0 df clusters 11 of 16 pages 15 of 16\n",
-        ),
+        (b"0 df\n", b"0 0 df clusters 11 of 16 pages 15 of 16\n"),
     ),
     // Nine channels post, and eight messages fill the queue. The ninth is sent once there is room.
     (
@@ -113,10 +111,7 @@ const CASES: [Case; 9] = [
     (
         (b"0 create v 1 thin\n", b"0 0 ok @0\n"),
         ("run store.img --schedule 0+m*9", b"", b""),
-        (
-            b"0 df\n",
-            b"0 0 df clusters 11 of 16 pages 15 of 16\n",
-        ),
+        (b"0 df\n", b"0 0 df clusters 11 of 16 pages 15 of 16\n"),
     ),
 ];
 

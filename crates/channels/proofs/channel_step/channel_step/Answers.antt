@@ -5,7 +5,7 @@ use Rattle.channels.proofs.channel_step.channel_step.Goals as goal
 pub returns-in-Queue-clause-step : goal.returns-in-Queue-clause-step
 returns-in-Queue-clause-step g c =
     by_send g.D.PageDisk c.args.plant.now c.args.plant.now c.args.own.now c.send.new.self c.args.queue.now
-        c.send.new.out
+    c.send.new.out
     (sym c.next.ensures ∙ c.in-Queue.is) refl c.send.result c.send.ensures.sent c.send.ensures.emptied
     c.send.ensures.full c.send.ensures.unchanged
 

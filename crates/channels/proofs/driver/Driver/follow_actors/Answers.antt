@@ -17,6 +17,6 @@ loop-actor-preserved g c =
     let test = c.loop-actor-test.true in
     let low : n < length actors = search (rules, test) in
     followed_step g.D.PageDisk c.args.self.now (actors_in_run (take n actors)) _
-        (actor_in_run (get_or actors n (Channel 0)))
+    (actor_in_run (get_or actors n (Channel 0)))
     c.loop-actor.self c.step.new.self c.loop-actor.invariant (actors_next actors n (Channel 0) low) c.step.ensures.step
     c.step.ensures.driven c.step.ensures.store
