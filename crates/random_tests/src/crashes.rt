@@ -2,6 +2,7 @@
 
 use crate::scripts::{Play, new_store, play_of, size_of};
 use crate::shown::shown_of;
+use crate::states::State;
 use page_disk::{FaultDisk, MemDisk, PageDisk};
 use std::alloc::Global;
 use std::test::Fail;
@@ -53,38 +54,37 @@ fn stopped(
     }
 }
 
-/// Expects that a crash leaves the state with so many commands done, or with one more.
-fn expect_state(
-    alloc: Global,
-    done: &Play,
-    count: usize,
-    fixed: u32,
-    disk: MemDisk,
-) -> Result<(), Fail> {
+/// Expects that a crash leaves one of some states.
+fn expect_state(alloc: Global, states: &[State], fixed: u32, disk: MemDisk) -> Result<(), Fail> {
     let mut shown = shown_of(alloc, disk)?;
     let mut is_known = false;
-    for state in done.states.iter().skip(count).take(2) {
+    for state in states {
         shown.expect_claimed(state, fixed)?;
         is_known = is_known || shown.is(alloc, state, false)?;
     }
     if !is_known {
-        return Err(Fail::new(format_args!("no state after {count} commands is left")));
+        return Err(Fail::new("another state is left"));
     }
     Ok(())
 }
 
-/// Expects that what each crash leaves of a device is a state with so many commands done, or with one more.
-fn expect_left(
+/// Expects that what each crash leaves of a device is one of some states.
+pub fn expect_left(
     alloc: Global,
-    done: &Play,
-    count: usize,
+    states: &[State],
     fixed: u32,
     disk: &MemDisk,
 ) -> Result<(), Fail> {
     for pick in 0..4 {
-        expect_state(alloc, done, count, fixed, disk.crash(pick)?)?;
+        expect_state(alloc, states, fixed, disk.crash(pick)?)?;
     }
     Ok(())
+}
+
+/// The states with so many commands of a play done, and with one more.
+fn states_at(done: &Play, count: usize) -> Result<&[State], Fail> {
+    let rest = done.states.get(count..).ok_or("no state")?;
+    Ok(rest.get(..2).unwrap_or(rest))
 }
 
 /// Expects that whenever power fails in a run of a script on a store of few metadata pages, each command that was
@@ -98,7 +98,7 @@ fn expect_crashes(alloc: Global, place: u64) -> Result<(), Fail> {
     for calls in 0..1000 {
         let (count, disk) = stopped(alloc, &done, calls, store.crash(0)?)?;
         if before != Some((count, disk.clock())) {
-            expect_left(alloc, &done, count, fixed, &disk)?;
+            expect_left(alloc, states_at(&done, count)?, fixed, &disk)?;
         }
         before = Some((count, disk.clock()));
         if count == done.lines.len() {
@@ -109,7 +109,7 @@ fn expect_crashes(alloc: Global, place: u64) -> Result<(), Fail> {
 }
 
 /// The number of a script that is stopped: its store has four metadata pages, or three.
-fn number_at(place: u64) -> u64 {
+pub fn number_at(place: u64) -> u64 {
     place
         .wrapping_mul(8)
         .wrapping_add(2)

@@ -1,6 +1,7 @@
 //! Random scripts, and what they are to print.
 
-use crate::asks::{Ask, command_of, drawn, push_line};
+use crate::asks::{Ask, command_of, push_words};
+use crate::drawn_asks::{drawn, drawn_count};
 use crate::draws::Draws;
 use crate::states::State;
 use crate::worlds::World;
@@ -47,6 +48,22 @@ pub fn new_store(alloc: Global, md_pages: u32) -> Result<MemDisk, Fail> {
     Ok(disk.crash(0)?)
 }
 
+/// A new store of each size.
+pub fn new_stores(alloc: Global) -> Result<Vec<MemDisk>, Fail> {
+    let mut stores = Vec::new(alloc);
+    for number in 0..4 {
+        let (md_pages, _) = size_of(number);
+        stores.push(new_store(alloc, md_pages)?)?;
+    }
+    Ok(stores)
+}
+
+/// A copy of the store for a script with this number.
+pub fn store_for(number: u64, stores: &[MemDisk]) -> Result<MemDisk, Fail> {
+    let store = stores.get((number % 4) as usize).ok_or("no store")?;
+    Ok(store.crash(0)?)
+}
+
 /// The line that a command is to print.
 fn line_of(alloc: Global, world: &mut World, ask: &Ask, index: usize) -> Result<Vec<u8>, Fail> {
     let entry = Entry {
@@ -76,14 +93,6 @@ fn volume_word(alloc: Global, draws: &mut Draws, state: &State, ask: &Ask) -> Re
     }
 }
 
-/// How many pages a line asks for, if it is a read or a write.
-fn drawn_count(draws: &mut Draws, ask: &Ask) -> u64 {
-    match ask {
-        Ask::Read { .. } | Ask::Write { .. } if draws.is_zero(3) => draws.below(5).wrapping_add(1),
-        _ => 1,
-    }
-}
-
 /// Appends a line, and what each of its commands is to print and to leave.
 fn push_ask(
     alloc: Global,
@@ -94,7 +103,8 @@ fn push_ask(
 ) -> Result<(), Fail> {
     let volume = volume_word(alloc, draws, &world.state, ask)?;
     let count = drawn_count(draws, ask);
-    push_line(alloc, &mut play.script, ask, volume.as_str(), count)?;
+    play.script.extend_from_slice(b"0 ")?;
+    push_words(alloc, &mut play.script, ask, volume.as_str(), count)?;
     for at in 0..count {
         let line = line_of(alloc, world, &ask.nth(at), play.lines.len())?;
         play.lines.push(line)?;

@@ -2,6 +2,7 @@
 
 use crate::attributes::{Attribute, key_text, value_of};
 use crate::states::{CLUSTER_PAGES, PageState, State, Volume};
+use bit_array::Bits;
 use blob_meta::{Chains, Meta, Metas};
 use page_disk::{MemDisk, PageDisk};
 use std::alloc::Global;
@@ -9,7 +10,7 @@ use std::test::Fail;
 use store_core::Loaded;
 use super_block::Masks;
 use unclean_load::load;
-use volume_model::{PageWord, Xattr, page_of};
+use volume_model::{Df, PageWord, Xattr, page_of};
 
 /// What is loaded of a device.
 #[derive(Drop)]
@@ -20,29 +21,48 @@ pub struct Shown {
     masks: Masks,
 }
 
+/// What is shown of a loaded store.
+pub fn shown_in(loaded: Loaded<MemDisk>) -> Shown {
+    let Loaded {
+        disk,
+        sup: _,
+        metas,
+        removed: _,
+        chains,
+        repairs: _,
+        masks,
+        quick: _,
+    } = loaded;
+    Shown {
+        disk,
+        metas,
+        chains,
+        masks,
+    }
+}
+
 /// Loads a store, or fails.
 pub fn shown_of(alloc: Global, disk: MemDisk) -> Result<Shown, Fail> {
     match load(alloc, disk) {
-        Ok(loaded) => {
-            let Loaded {
-                disk,
-                sup: _,
-                metas,
-                removed: _,
-                chains,
-                repairs: _,
-                masks,
-                quick: _,
-            } = loaded;
-            Ok(Shown {
-                disk,
-                metas,
-                chains,
-                masks,
-            })
-        }
+        Ok(loaded) => Ok(shown_in(loaded)),
         Err((_, fault)) => Err(Fail::new(fault)),
     }
+}
+
+/// Loads a store, and expects that it has these volumes, with each page, and that nothing is in use but what they claim
+/// and so many clusters that the store takes itself.
+pub fn expect_volumes(
+    alloc: Global,
+    state: &State,
+    fixed: u32,
+    disk: MemDisk,
+) -> Result<Shown, Fail> {
+    let mut shown = shown_of(alloc, disk)?;
+    if !shown.is(alloc, state, true)? {
+        return Err(Fail::new("other volumes are loaded"));
+    }
+    shown.expect_claimed(state, fixed)?;
+    Ok(shown)
 }
 
 /// Whether an attribute of a blob is this one.
@@ -151,6 +171,25 @@ impl Shown {
         Ok(())
     }
 
+    /// Expects that so much is free.
+    pub fn expect_free(&self, space: &Df) -> Result<(), Fail> {
+        let Masks {
+            pages,
+            clusters,
+            ..
+        } = &self.masks;
+        let found = Df {
+            free_clusters: clusters.len().saturating_sub(clusters.count()),
+            clusters: clusters.len(),
+            free_pages: pages.len().saturating_sub(pages.count()),
+            pages: pages.len(),
+        };
+        if found != *space {
+            return Err(Fail::new(format_args!("{found:?} is found, and {space:?} was told")));
+        }
+        Ok(())
+    }
+
     /// Expects that each metadata page and each cluster is in use exactly where it is so in a state.
     pub fn expect_in_use(&self, state: &State) -> Result<(), Fail> {
         expect_marks(&self.masks.pages, &state.used_pages)?;
@@ -174,7 +213,7 @@ impl Shown {
 }
 
 /// Expects that the marks are those of a mask.
-fn expect_marks(mask: &bit_array::Bits, marks: &[bool]) -> Result<(), Fail> {
+fn expect_marks(mask: &Bits, marks: &[bool]) -> Result<(), Fail> {
     for (place, is_set) in (0..mask.len()).zip(marks.iter()) {
         if (place < mask.len() && mask.get(place)) != *is_set {
             return Err(Fail::new(format_args!("place {place} is in use: {}", !is_set)));

@@ -1,8 +1,8 @@
 //! What is clear: which commands find too little of it, and what the others take.
 
 use crate::asks::Ask;
-use crate::attributes::{Attribute, has, set, without};
-use crate::states::{CLUSTER_PAGES, PageState, State, Volume, clear_count, give_back, take_least};
+use crate::attributes::{Attribute, has};
+use crate::states::{CLUSTER_PAGES, State, clear_count, give_back, take_least};
 use std::alloc::Global;
 use std::test::Fail;
 use volume_model::Reply;
@@ -84,20 +84,6 @@ fn added_slots(
     Ok((slots, has_room))
 }
 
-/// Appends pages of zeros, or cuts, so that these are the pages of so many slots.
-fn with_slots(pages: &mut Vec<PageState>, slots: usize) -> Result<(), Fail> {
-    let wanted = slots.saturating_mul(CLUSTER_PAGES);
-    pages.truncate(wanted);
-    let zeros = PageState {
-        word: 0,
-        is_settled: true,
-    };
-    for _ in pages.len()..wanted {
-        pages.push(zeros)?;
-    }
-    Ok(())
-}
-
 /// The least clear metadata pages, so many.
 fn taken_pages(alloc: Global, state: &mut State, count: usize) -> Result<Vec<u32>, Fail> {
     let mut places = Vec::new(alloc);
@@ -107,14 +93,8 @@ fn taken_pages(alloc: Global, state: &mut State, count: usize) -> Result<Vec<u32
     Ok(places)
 }
 
-fn create(
-    alloc: Global,
-    state: &State,
-    name: u8,
-    slots: u64,
-    thick: bool,
-) -> Result<Outcome, Fail> {
-    let mut next = state.copy(alloc)?;
+fn create(alloc: Global, next: State, ask: &Ask, slots: u64, thick: bool) -> Result<Outcome, Fail> {
+    let mut next = next;
     let (map, has_room) = added_slots(alloc, &mut next, thick, slots)?;
     let length = chain_length(&[], &map);
     if clear_count(&next.used_pages) < length {
@@ -124,18 +104,10 @@ fn create(
         return Ok(Outcome::Lacks(Reply::Full));
     }
     let chain = taken_pages(alloc, &mut next, length)?;
-    let mut pages = Vec::new(alloc);
-    with_slots(&mut pages, map.len())?;
-    next.volumes.push(Volume {
-        name,
-        thick,
-        live: Vec::new(alloc),
-        synced: Vec::new(alloc),
-        map,
-        chain,
-        pages,
-    })?;
-    next.settle();
+    next.change(alloc, ask, *chain.first().ok_or("no head")?)?;
+    let made = next.volumes.last_mut().ok_or("no volume")?;
+    made.map = map;
+    made.chain = chain;
     Ok(Outcome::Next(next))
 }
 
@@ -159,7 +131,7 @@ fn replace_chain(alloc: Global, next: &mut State, name: u8) -> Result<bool, Fail
     Ok(true)
 }
 
-/// The state where a volume's chain is written anew and all that was written lasts, or that too little is clear.
+/// The state where a volume's chain is written anew, or that too little is clear.
 fn replaced(alloc: Global, next: State, name: u8, has_room: bool) -> Result<Outcome, Fail> {
     let mut next = next;
     if !replace_chain(alloc, &mut next, name)? {
@@ -168,12 +140,12 @@ fn replaced(alloc: Global, next: State, name: u8, has_room: bool) -> Result<Outc
     if !has_room {
         return Ok(Outcome::Lacks(Reply::Full));
     }
-    next.settle();
     Ok(Outcome::Next(next))
 }
 
-fn resize(alloc: Global, state: &State, name: u8, slots: u64) -> Result<Outcome, Fail> {
-    let mut next = state.copy(alloc)?;
+/// A resize: a thick volume's new slots hold the least clear clusters, and those of the slots that are cut are clear.
+fn resize(alloc: Global, next: State, ask: &Ask, name: u8, slots: u64) -> Result<Outcome, Fail> {
+    let mut next = next;
     let old = next.find(name).ok_or("no volume")?;
     let (thick, had) = (old.thick, old.map.len());
     let more = slots.saturating_sub(had as u64);
@@ -183,32 +155,16 @@ fn resize(alloc: Global, state: &State, name: u8, slots: u64) -> Result<Outcome,
     volume.map.truncate(slots as usize);
     volume.map.extend_from_slice(&added)?;
     let has = volume.map.len();
-    with_slots(&mut volume.pages, has)?;
     for cluster in cut.iter().skip(has).flatten() {
         give_back(&mut next.used_clusters, *cluster);
     }
+    next.change(alloc, ask, 0)?;
     replaced(alloc, next, name, has_room)
 }
 
-/// A put of an attribute, or a sync where there is none.
-fn sync(
-    alloc: Global,
-    state: &State,
-    name: u8,
-    attribute: Option<Attribute>,
-) -> Result<Outcome, Fail> {
-    let mut next = state.copy(alloc)?;
-    let volume = next.find_mut(name).ok_or("no volume")?;
-    if let Some(attribute) = attribute {
-        set(&mut volume.live, attribute)?;
-    }
-    volume.synced = Vec::from_slice(alloc, &volume.live)?;
-    replaced(alloc, next, name, true)
-}
-
 /// A write: where its slot is empty, the least clear cluster comes there first.
-fn write(alloc: Global, state: &State, name: u8, page: usize, word: u64) -> Result<Outcome, Fail> {
-    let mut next = state.copy(alloc)?;
+fn write(alloc: Global, next: State, ask: &Ask, name: u8, page: usize) -> Result<Outcome, Fail> {
+    let mut next = next;
     let slot = page / CLUSTER_PAGES;
     let volume = next.find(name).ok_or("no volume")?;
     if volume.map.get(slot) == Some(&None) {
@@ -222,25 +178,7 @@ fn write(alloc: Global, state: &State, name: u8, page: usize, word: u64) -> Resu
             return Ok(Outcome::Lacks(Reply::NoPage));
         }
     }
-    let volume = next.find_mut(name).ok_or("no volume")?;
-    *volume.pages.get_mut(page).ok_or("no page")? = PageState {
-        word,
-        is_settled: false,
-    };
-    Ok(Outcome::Next(next))
-}
-
-fn set_live(alloc: Global, state: &State, name: u8, attribute: Attribute) -> Result<Outcome, Fail> {
-    let mut next = state.copy(alloc)?;
-    let volume = next.find_mut(name).ok_or("no volume")?;
-    set(&mut volume.live, attribute)?;
-    Ok(Outcome::Next(next))
-}
-
-fn remove_live(alloc: Global, state: &State, name: u8, key: u8) -> Result<Outcome, Fail> {
-    let mut next = state.copy(alloc)?;
-    let volume = next.find_mut(name).ok_or("no volume")?;
-    volume.live = without(alloc, &volume.live, key)?;
+    next.change(alloc, ask, 0)?;
     Ok(Outcome::Next(next))
 }
 
@@ -250,7 +188,7 @@ fn may_set(attribute: Attribute) -> bool {
 }
 
 /// Whether what is asked for changes something, as far as not too little is clear.
-fn is_done(state: &State, ask: &Ask) -> bool {
+pub fn is_done(state: &State, ask: &Ask) -> bool {
     let meant = match ask.name() {
         Some(name) => state.find(name),
         None => return matches!(ask, Ask::Flush),
@@ -271,19 +209,18 @@ pub fn outcome_of(alloc: Global, state: &State, ask: &Ask) -> Result<Outcome, Fa
     if !is_done(state, ask) {
         return Ok(Outcome::Same);
     }
+    let mut next = state.copy(alloc)?;
     match *ask {
-        Ask::Create { name, slots, thick } => create(alloc, state, name, slots, thick),
-        Ask::Resize { name, slots } => resize(alloc, state, name, slots),
-        Ask::Write { name, page, word } => write(alloc, state, name, page as usize, word),
-        Ask::Set { name, attribute } => set_live(alloc, state, name, attribute),
-        Ask::Put { name, attribute } => sync(alloc, state, name, Some(attribute)),
-        Ask::Remove { name, key } => remove_live(alloc, state, name, key),
-        Ask::Sync { name } => sync(alloc, state, name, None),
-        Ask::Flush => {
-            let mut next = state.copy(alloc)?;
-            next.settle();
+        Ask::Create { slots, thick, .. } => create(alloc, next, ask, slots, thick),
+        Ask::Resize { name, slots } => resize(alloc, next, ask, name, slots),
+        Ask::Write { name, page, .. } => write(alloc, next, ask, name, page as usize),
+        Ask::Put { name, .. } | Ask::Sync { name } => {
+            next.change(alloc, ask, 0)?;
+            replaced(alloc, next, name, true)
+        }
+        _ => {
+            next.change(alloc, ask, 0)?;
             Ok(Outcome::Next(next))
         }
-        Ask::Read { .. } | Ask::Get { .. } | Ask::Df => Ok(Outcome::Same),
     }
 }

@@ -124,6 +124,27 @@ impl State {
         self.volumes.iter_mut().find(|volume| volume.name == name)
     }
 
+    /// The letter of the volume at a head; another letter where there is none.
+    pub fn name_at(&self, head: u32) -> u8 {
+        match self
+            .volumes
+            .iter()
+            .find(|volume| volume.head() == Some(head))
+        {
+            Some(volume) => volume.name,
+            None => b'z',
+        }
+    }
+
+    /// Whether a new volume may have this head: there is such a metadata page, and no volume is at it.
+    pub fn is_free_head(&self, head: u32) -> bool {
+        (head as usize) < self.used_pages.len()
+            && self
+                .volumes
+                .iter()
+                .all(|volume| volume.head() != Some(head))
+    }
+
     /// Each page outlasts a crash from now on.
     pub fn settle(&mut self) {
         for volume in self.volumes.iter_mut() {

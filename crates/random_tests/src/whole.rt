@@ -1,7 +1,8 @@
 //! Random scripts that are run whole.
 
-use crate::scripts::{Play, new_store, play_of, size_of};
-use crate::shown::shown_of;
+use crate::endings::Endings;
+use crate::scripts::{Play, new_stores, play_of, size_of, store_for};
+use crate::shown::expect_volumes;
 use page_disk::MemDisk;
 use std::alloc::Global;
 use std::test::Fail;
@@ -19,11 +20,7 @@ fn printed_of(alloc: Global, lines: &[Vec<u8>]) -> Result<Vec<u8>, Fail> {
 /// Expects that what a run left is loaded as its last state, with each page, and that nothing else is in use.
 fn expect_last(alloc: Global, done: &Play, fixed: u32, disk: MemDisk) -> Result<(), Fail> {
     let last = done.states.last().ok_or("no state")?;
-    let mut shown = shown_of(alloc, disk)?;
-    if !shown.is(alloc, last, true)? {
-        return Err(Fail::new("other volumes are loaded"));
-    }
-    shown.expect_claimed(last, fixed)?;
+    let shown = expect_volumes(alloc, last, fixed, disk)?;
     shown.expect_chains(last)?;
     shown.expect_in_use(last)
 }
@@ -34,62 +31,25 @@ fn expect_whole(
     alloc: Global,
     number: u64,
     stores: &[MemDisk],
-    found: &mut [bool],
+    endings: &mut Endings,
 ) -> Result<(), Fail> {
     let done = play_of(alloc, number, (number % 15).wrapping_add(6))?;
     let (_, fixed) = size_of(number);
-    let store = stores.get((number % 4) as usize).ok_or("no store")?;
     let printed = printed_of(alloc, &done.lines)?;
-    let disk = play(alloc, &done.script, &printed, store.crash(0)?)?;
-    note_endings(&done.lines, found);
+    let disk = play(alloc, &done.script, &printed, store_for(number, stores)?)?;
+    endings.note(&printed);
     expect_last(alloc, &done, fixed, disk.crash(1)?)
-}
-
-/// A new store of each size.
-fn new_stores(alloc: Global) -> Result<Vec<MemDisk>, Fail> {
-    let mut stores = Vec::new(alloc);
-    for number in 0..4 {
-        let (md_pages, _) = size_of(number);
-        stores.push(new_store(alloc, md_pages)?)?;
-    }
-    Ok(stores)
-}
-
-/// The ways in which a line may end that the scripts are to meet.
-const ENDINGS: [&[u8]; 10] = [
-    b" ok\n",
-    b" full\n",
-    b" no page\n",
-    b" out of range\n",
-    b" name taken\n",
-    b" too large\n",
-    b" too long\n",
-    b" no value\n",
-    b" no volume\n",
-    b" reserved\n",
-];
-
-/// Notes which of the endings some line has.
-fn note_endings(lines: &[Vec<u8>], found: &mut [bool]) {
-    for (ending, is_found) in ENDINGS.iter().zip(found.iter_mut()) {
-        if lines.iter().any(|line| line.ends_with(ending)) {
-            *is_found = true;
-        }
-    }
 }
 
 /// Runs the scripts of these numbers, and expects that they meet each ending.
 fn expect_all(alloc: Global, numbers: (u64, u64)) -> Result<(), Fail> {
     let (from, end) = numbers;
     let stores = new_stores(alloc)?;
-    let mut found = [false; 10];
+    let mut endings = Endings::new();
     for number in from..end {
-        expect_whole(alloc, number, &stores, &mut found)?;
+        expect_whole(alloc, number, &stores, &mut endings)?;
     }
-    if found.contains(&false) {
-        return Err(Fail::new(format_args!("an ending is missing: {found:?}")));
-    }
-    Ok(())
+    endings.expect_all()
 }
 
 #[test]

@@ -1,11 +1,12 @@
 //! The plain machine, and beside it what is clear.
 
 use crate::asks::{Ask, command_of};
-use crate::space::{Outcome, outcome_of};
-use crate::states::State;
+use crate::space::{Outcome, is_done, outcome_of};
+use crate::states::{State, Volume};
+use script_lang::number_below;
 use std::alloc::Global;
 use std::test::Fail;
-use volume_model::{Reply, Volumes};
+use volume_model::{Df, PageWord, Reply, Volumes, page_of};
 
 /// The plain machine, which refuses for every cause but want of room, and a state that counts what is clear.
 #[derive(Drop)]
@@ -51,5 +52,111 @@ impl World {
     fn last_head(&self) -> Result<u32, Fail> {
         let volume = self.state.volumes.last().ok_or("no volume")?;
         Ok(volume.head().ok_or("no head")?)
+    }
+
+    /// Does what is asked for, and gives the reply that a line may tell: where plain volumes don't refuse it too little
+    /// may be clear, and then nothing is done; a new volume may have any head that isn't in use; and any numbers may be
+    /// free.
+    pub fn follow(&mut self, alloc: Global, ask: &Ask, told: &[u8]) -> Result<Reply, Fail> {
+        match lack_told(ask, told) {
+            Some(lack) if is_done(&self.state, ask) => return Ok(lack),
+            _ => {}
+        }
+        match self.machine.apply(alloc, &command_of(alloc, ask)?) {
+            Reply::Ok => {
+                self.state.change(alloc, ask, 0)?;
+                Ok(Reply::Ok)
+            }
+            Reply::Made(_) => {
+                let head = self.head_told(told)?;
+                self.state.change(alloc, ask, head)?;
+                Ok(Reply::Made(head))
+            }
+            Reply::Df(_) => Ok(Reply::Df(self.df_told(told)?)),
+            reply => Ok(reply),
+        }
+    }
+
+    /// Expects that the volumes of the machine have the pages of the state.
+    pub fn expect_pages(&mut self, alloc: Global) -> Result<(), Fail> {
+        for volume in &self.state.volumes {
+            expect_pages_of(alloc, &mut self.machine, volume)?;
+        }
+        Ok(())
+    }
+
+    /// Appends the states in which what is asked for is done, where plain volumes don't refuse it: a new volume may
+    /// have any head that isn't in use.
+    pub fn push_done(&self, alloc: Global, ask: &Ask, states: &mut Vec<State>) -> Result<(), Fail> {
+        if !is_done(&self.state, ask) {
+            return Ok(());
+        }
+        let makes = matches!(ask, Ask::Create { .. });
+        let heads = if makes { self.state.df().pages } else { 1 };
+        for head in 0..heads {
+            if !makes || self.state.is_free_head(head) {
+                let mut state = self.state.copy(alloc)?;
+                state.change(alloc, ask, head)?;
+                states.push(state)?;
+            }
+        }
+        Ok(())
+    }
+
+    /// The head that a line tells of a new volume: a metadata page at which no volume is.
+    fn head_told(&self, told: &[u8]) -> Result<u32, Fail> {
+        let digits = told.strip_prefix(b"ok @").ok_or("no new volume")?;
+        let head = number_told(digits)?;
+        if !self.state.is_free_head(head) {
+            return Err(Fail::new(format_args!("{head} is no head of a new volume")));
+        }
+        Ok(head)
+    }
+
+    /// The space that a line tells: as much as is there, of which any numbers may be free.
+    fn df_told(&self, told: &[u8]) -> Result<Df, Fail> {
+        let mut words = told.split(|byte| *byte == b' ');
+        let free_clusters = number_told(words.nth(2).ok_or("no number")?)?;
+        let free_pages = number_told(words.nth(3).ok_or("no number")?)?;
+        Ok(Df {
+            free_clusters,
+            free_pages,
+            ..self.state.df()
+        })
+    }
+}
+
+/// Expects that a volume of the machine has these pages.
+fn expect_pages_of(alloc: Global, machine: &mut Volumes, volume: &Volume) -> Result<(), Fail> {
+    for (at, page) in volume.pages.iter().enumerate() {
+        let ask = Ask::Read {
+            name: volume.name,
+            page: at as u64,
+        };
+        match machine.apply(alloc, &command_of(alloc, &ask)?) {
+            Reply::Content(found) if *found == page_of(&PageWord::Fill(page.word)) => {}
+            _ => return Err(Fail::new(format_args!("the machine has another page {at}"))),
+        }
+    }
+    Ok(())
+}
+
+/// A number of clusters or metadata pages.
+fn number_told(digits: &[u8]) -> Result<u32, Fail> {
+    let number = number_below(1 << 20, digits).ok_or("no number")?;
+    Ok(u32::try_from(number).unwrap_or(u32::MAX))
+}
+
+/// The lack that a line tells, if what is asked for may meet it.
+fn lack_told(ask: &Ask, told: &[u8]) -> Option<Reply> {
+    let takes_clusters = matches!(
+        ask,
+        Ask::Create { .. } | Ask::Resize { .. } | Ask::Write { .. }
+    );
+    let takes_pages = takes_clusters || matches!(ask, Ask::Put { .. } | Ask::Sync { .. });
+    match told {
+        b"full" if takes_clusters => Some(Reply::Full),
+        b"no page" if takes_pages => Some(Reply::NoPage),
+        _ => None,
     }
 }
