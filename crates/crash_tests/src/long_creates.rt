@@ -15,13 +15,8 @@ const LONG_MAP: Cut = Cut {
     calls: 515,
 };
 
-/// Loading reads the super block, eight metadata pages, and a chain of two pages.
-const LOADING: u64 = 11;
-
-/// The pages that are zeroed, one a slot.
-const ZEROED: u64 = 500;
-
-/// The create zeroes its pages, writes a fresh page, flushes, writes the head, and flushes: 11 + 500 + 1 + 3.
+/// Loading reads the super block, eight metadata pages, and a chain of two pages. The create zeroes 500 pages, one a
+/// slot, writes a fresh page, flushes, writes the head, and flushes: 11 + 500 + 1 + 3.
 const POINTS: &[Point] = &[
     Point {
         calls: 0,
@@ -110,19 +105,12 @@ fn expect_made(alloc: Global, disk: MemDisk) -> Result<(), Fail> {
     Ok(())
 }
 
-/// Whether the create is cut off after so many calls: each from the fresh page on, and every fiftieth before it, where
-/// the calls are alike, since all of them take minutes.
-fn is_cut(calls: u64) -> bool {
-    calls >= LOADING + ZEROED || calls % 50 == 0
-}
-
-/// The volume is there whole or not at all.
+/// The create is cut off after each call of the device: the volume is there whole or not at all.
 #[test]
 fn each_crash_leaves_the_long_map_whole_or_not_at_all(rt: HostRuntime) -> Result<(), Fail> {
     let alloc = rt.alloc();
     let disk = half_full(alloc)?;
-    let all = 0..LONG_MAP.calls.saturating_add(1);
-    for calls in all.filter(|calls| is_cut(*calls)) {
+    for calls in 0..LONG_MAP.calls.saturating_add(1) {
         expect_cut_after(alloc, &LONG_MAP, calls, &disk)?;
     }
     let made = play(alloc, LONG_MAP.script, b"0 0 ok @2\n", disk)?;
