@@ -126,16 +126,27 @@ impl World {
     }
 }
 
+/// Whether a reply is a page that is filled with a word.
+fn is_filled_with(reply: &Reply, word: u64) -> bool {
+    match reply {
+        Reply::Content(found) => **found == page_of(&PageWord::Fill(word)),
+        _ => false,
+    }
+}
+
 /// Expects that a volume of the machine has these pages.
 fn expect_pages_of(alloc: Global, machine: &mut Volumes, volume: &Volume) -> Result<(), Fail> {
     for (at, page) in volume.pages.iter().enumerate() {
-        let ask = Ask::Read {
-            name: volume.name,
-            page: at as u64,
-        };
-        match machine.apply(alloc, &command_of(alloc, &ask)?) {
-            Reply::Content(found) if *found == page_of(&PageWord::Fill(page.word)) => {}
-            _ => return Err(Fail::new(format_args!("the machine has another page {at}"))),
+        let command = command_of(
+            alloc,
+            &Ask::Read {
+                name: volume.name,
+                page: at as u64,
+            },
+        )?;
+        let reply = machine.apply(alloc, &command);
+        if !is_filled_with(&reply, page.word) {
+            return Err(Fail::new(format_args!("the machine has another page {at}")));
         }
     }
     Ok(())
