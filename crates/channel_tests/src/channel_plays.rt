@@ -1,14 +1,11 @@
 //! Stores, and random scripts that run on them on many channels.
 
 use crate::channel_scripts::{ChannelScript, drawn_making, drawn_script, small};
-use crate::crashes::number_at;
-use crate::draws::Draws;
 use crate::replays::Replay;
 use crate::schedules::drawn_schedule;
-use crate::scripts::{size_of, store_for};
-use crate::worlds::World;
 use blob_tool::Status;
 use page_disk::{MemDisk, PageDisk};
+use random_worlds::{Draws, World, number_at, size_of, store_for};
 use std::alloc::Global;
 use std::test::Fail;
 use test_runs::{Call, Ran, perform, run};

@@ -1,6 +1,6 @@
 //! Random schedules.
 
-use crate::draws::Draws;
+use random_worlds::Draws;
 use std::alloc::Global;
 use std::test::Fail;
 

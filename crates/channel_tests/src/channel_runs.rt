@@ -1,9 +1,8 @@
 //! Random scripts on many channels that are run whole, by random schedules.
 
 use crate::channel_plays::ChannelPlay;
-use crate::scripts::new_stores;
-use crate::shown::expect_volumes;
 use page_disk::PageDisk;
+use random_worlds::{expect_volumes, new_stores};
 use std::alloc::Global;
 use std::test::Fail;
 

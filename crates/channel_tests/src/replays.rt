@@ -1,10 +1,8 @@
 //! The log of a run on many channels, replayed on plain volumes.
 
-use crate::asks::{Ask, command_of};
 use crate::channel_scripts::{ChannelScript, Request};
-use crate::states::State;
-use crate::worlds::World;
 use blob_report::render_entry;
+use random_worlds::{Ask, State, World, command_of};
 use script_lang::number_below;
 use std::alloc::Global;
 use std::test::Fail;

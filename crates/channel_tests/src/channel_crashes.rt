@@ -1,10 +1,9 @@
 //! Random scripts on many channels, and power that fails at each call of the device.
 
 use crate::channel_plays::ChannelPlay;
-use crate::crashes::{expect_left, number_at};
-use crate::scripts::new_stores;
 use blob_tool::Status;
 use page_disk::{FaultDisk, PageDisk};
+use random_worlds::{expect_left, new_stores, number_at};
 use std::alloc::Global;
 use std::test::Fail;
 use test_runs::Ran;

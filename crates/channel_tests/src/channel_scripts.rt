@@ -1,8 +1,6 @@
 //! Random scripts on many channels.
 
-use crate::asks::{Ask, push_words};
-use crate::drawn_asks::{drawn, drawn_count};
-use crate::draws::Draws;
+use random_worlds::{Ask, Draws, drawn, drawn_count, push_words};
 use std::alloc::Global;
 use std::test::Fail;
 
