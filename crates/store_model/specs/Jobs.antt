@@ -53,7 +53,7 @@ use Rattle.store_model.specs.Copying.{IsWanted, LeavesEmpty}
 use Rattle.store_model.specs.Places.{all_set, AreDistinct, AreLeastClear, IsMapped}
 use Rattle.store_model.specs.Phases.{Phase, Committing, with_live, Marks, Zeros, Writes, Replaces, Erases, Frees}
 use Rattle.store_model.specs.Phases.{Replacing, page_in, held_in, taken_by, taken_in, has_commit, replaced, rechained}
-use Rattle.store_model.specs.Phases.{behind, chain_before, MakeNoMarks}
+use Rattle.store_model.specs.Phases.{behind, chain_before, OnlyMend}
 use Rattle.store_model.specs.StoreState.{ForCommand, ForInsert, ForRepair, JobState, live_of, Service, StoreState}
 
 -- ---- how changes are laid on pages
@@ -327,7 +327,7 @@ pub record InsertStands (p : StoreState) (j : JobState) (row : ℕ) : Type 0 whe
 -- What is left of a running job can be done, on places that differ; its command waits for the commit, and behind that,
 -- or where it serves none, the volumes are shown as they are. Behind an insert they are so by what its cluster holds.
 -- The clusters that it has claimed read as zeros, but for the pages that are still to be overwritten. A job of a
--- command or an insert leaves no blob marked, and a repair marks none.
+-- command or an insert leaves no blob marked, and a repair commits nothing and marks none.
 pub record JobStands (p : StoreState) (j : JobState) : Type 0 where
   pub lays : Lays p.super p.base p.chains (gained_by p.rows j) j.written j.todo
   pub distinct : AreDistinct (held_in j.todo)
@@ -336,6 +336,6 @@ pub record JobStands (p : StoreState) (j : JobState) : Type 0 where
   pub keeps : has_commit j.todo ≡ false → ((row : ℕ) → j.serves ≢ ForInsert row)
       → Keeps p.base j.todo
   pub settles : j.serves ≢ ForRepair → HasNoMarks (behind p.base j.todo)
-  pub mends : j.serves ≡ ForRepair → MakeNoMarks j.todo
+  pub mends : j.serves ≡ ForRepair → OnlyMend j.todo
   pub zeroed : AreZeroed p.super j.claimed (zeros_in j.todo) p.device.reads
   pub inserts : (row : ℕ) → j.serves ≡ ForInsert row → InsertStands p j row

@@ -121,11 +121,12 @@ behind base [] = base
 behind base (Replaces r commit ∷ rest) = behind (replaced base r) rest
 behind base (_ ∷ rest) = behind base rest
 
--- no replacement of these phases gives a blob a mark
-abbrev pub MakeNoMarks : List Phase → Type 0
-MakeNoMarks [] = Unit {0}
-MakeNoMarks (Replaces r commit ∷ rest) = ((m : Meta) → r.new ≡ Some m → mark_of m ≡ None) × MakeNoMarks rest
-MakeNoMarks (_ ∷ rest) = MakeNoMarks rest
+-- no replacement of these phases is a commit, or gives a blob a mark
+abbrev pub OnlyMend : List Phase → Type 0
+OnlyMend [] = Unit {0}
+OnlyMend (Replaces r None ∷ rest) = ((m : Meta) → r.new ≡ Some m → mark_of m ≡ None) × OnlyMend rest
+OnlyMend (Replaces r (Some commit) ∷ rest) = ⊥
+OnlyMend (_ ∷ rest) = OnlyMend rest
 
 -- the attributes as they are read behind a commit
 abbrev pub with_live : Map Xattrs → ℕ → Option Xattrs → Map Xattrs
