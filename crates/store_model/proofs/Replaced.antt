@@ -20,7 +20,7 @@ use Rattle.store_model.specs.Maps.{Metas, with_entry}
 use Rattle.store_model.specs.Places.{IsMapped}
 use Rattle.store_model.specs.Asking.{IsSyncing}
 use Rattle.store_model.specs.RunInvariant.{CanBeWritten, IsSteady, AreSteady}
-use Rattle.store_model.proofs.WithEntry.{given_here, given_elsewhere}
+use Rattle.store_model.proofs.WithEntry.{given_all, given_here, given_elsewhere}
 use Rattle.store_model.proofs.LawfulGiven.{TakesNone}
 use Rattle.store_model.proofs.Synced.{edited_here}
 use Rattle.store_model.proofs.Writable.{AllWritable, written_with, put_within}
@@ -70,12 +70,7 @@ new_steady s head old new xattrs old_one is can =
 
 pub steady_given : (s : Super) (metas : Metas) (head : ℕ) (new : Meta) → AreSteady s metas → IsSteady s head new
     → AreSteady s (with_entry metas head new)
-steady_given s metas head new all one_new h m is = elim (cases_eq h head) [
-  | inl e ↦
-      let one : new ≡ m = let both = sym (given_here metas head new h e) ∙ is in cc both in
-      subst (λ (k : ℕ). IsSteady s k m) (sym e) (subst (IsSteady s head) one one_new)
-  | inr ne ↦ all h m (sym (given_elsewhere metas head new h ne) ∙ is)
-]
+steady_given s metas head new = given_all metas head new (IsSteady s)
 
 module _ (metas : Metas) (head : ℕ) (old new : Meta) (xattrs : Xattrs) (there : metas head ≡ Some old)
     (is : new ≡ record old { xattrs = xattrs }) where

@@ -25,7 +25,8 @@ use Rattle.store_model.specs.Cases.{live_of}
 use Rattle.store_model.specs.Steady.{AreSteady}
 use Rattle.store_model.proofs.WithEntry.{given_here, given_elsewhere}
 use Rattle.store_model.proofs.SameMaps.{IsPlacedAlike, content_alike}
-use Rattle.store_model.proofs.Shows.{or_empty, steady_resolved}
+use Rattle.store_model.proofs.Resolved.{steady_resolved}
+use Rattle.store_model.proofs.Shows.{or_empty}
 
 module _ (f : Fixed) (v : Volumes) (o : Option ℕ) (edit : Volume → Volume) (head : ℕ) (is : o ≡ Some head) where
   pub edited_here : edited_at f v o edit head ≡ option_map edit (v head)
