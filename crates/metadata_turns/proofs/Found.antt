@@ -34,6 +34,7 @@ named_asked f v (c.DelX mine key) volume is = let e : mine ≡ volume = cc is in
 named_asked f v (c.GetX mine key) volume is = let e : mine ≡ volume = cc is in ap (λ x. head_of f v x) e
 named_asked f v (c.Put mine key value) volume is = let e : mine ≡ volume = cc is in ap (λ x. head_of f v x) e
 named_asked f v (c.Sync mine) volume is = let e : mine ≡ volume = cc is in ap (λ x. head_of f v x) e
+named_asked f v (c.ReadOnly mine) volume is = let e : mine ≡ volume = cc is in ap (λ x. head_of f v x) e
 named_asked f v (c.Resize mine slots) volume is = let e : mine ≡ volume = cc is in ap (λ x. head_of f v x) e
 named_asked f v _ volume is = absurd (cc is)
 
@@ -44,6 +45,7 @@ asks_volume (c.DelX volume key) is = refl
 asks_volume (c.GetX volume key) is = refl
 asks_volume (c.Put volume key value) is = refl
 asks_volume (c.Sync volume) is = refl
+asks_volume (c.ReadOnly volume) is = refl
 asks_volume _ is = absurd is
 
 module _ (p : StoreState) (running : IsRunning p) (runs : p.stopped ≡ None) (metas : map.FinMap nat_cmp Meta)

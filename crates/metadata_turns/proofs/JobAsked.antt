@@ -112,6 +112,7 @@ module _ (p : StoreState) (running : IsRunning p) (runs : p.stopped ≡ None) (c
       by : (k : Command) → IsSyncing k → MayLackMemory (fixed_of p.super) (shown p) k
       by (c.Put volume key value) is = tt
       by (c.Sync volume) is = tt
+      by (c.ReadOnly volume) is = tt
       by _ is = absurd is
 
   -- a verb that syncs makes its attributes read
@@ -121,6 +122,7 @@ module _ (p : StoreState) (running : IsRunning p) (runs : p.stopped ≡ None) (c
       by : (k : Command) → IsSyncing k → live_behind (is_live_kept k) new ≡ Some new.xattrs
       by (c.Put volume key value) is = refl
       by (c.Sync volume) is = refl
+      by (c.ReadOnly volume) is = refl
       by _ is = absurd is
 
   -- of a blob that is there, with its slots cut or others added

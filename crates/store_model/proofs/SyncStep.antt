@@ -5,7 +5,7 @@ use Rattle.std.proofs.lemmas.Bool.{cases_eq, false≢true}
 use Rattle.store_model.specs.StoreState.{StoreState, live_of, shown}
 use Rattle.store_model.specs.RunInvariant.{RunsWell}
 use Rattle.store_model.specs.Jobs.{IsStep, ReadsZeros, shown_of}
-use Rattle.store_model.specs.Asking.{AsksFor, IsSyncing}
+use Rattle.store_model.specs.Asking.{AsksFor, flags_after, IsSyncing}
 use Rattle.store_model.specs.Rows.{IsForMetadata}
 use Rattle.store_model.proofs.Known.{Known}
 use Rattle.store_model.proofs.Moved.{all_writable, live_writable}
@@ -48,6 +48,7 @@ sync_commit new = record { reply = r_.Ok; live = Some new.xattrs; renews = [] }
 syncs_metadata : (command : Command) → IsSyncing command → IsForMetadata command
 syncs_metadata (c.Put volume key value) is = tt
 syncs_metadata (c.Sync volume) is = tt
+syncs_metadata (c.ReadOnly volume) is = tt
 syncs_metadata _ is = absurd is
 
 module _ (known : Known) (unmarked : HasNoMarks known.p.base) where
@@ -62,7 +63,7 @@ module _ (known : Known) (unmarked : HasNoMarks known.p.base) where
     commit = sync_commit new
 
     one_steady : IsSteady p.super head new
-    one_steady = new_steady p.super head asks.old new asks.after.synced
+    one_steady = new_steady p.super command head asks.old new asks.after.synced
         (base_steady known unmarked head asks.old asks.there)
         asks.new_is (synced_written (fixed_of p.super) (shown p) command head asks.after
         (all_writable first p well) asks.syncing asks.asked asks.found asks.step)
@@ -72,7 +73,7 @@ module _ (known : Known) (unmarked : HasNoMarks known.p.base) where
 
     few : slots_together p.super.md_len (with_entry p.base head new) ≤ 2 ^ 24
     few = subst (λ n. n ≤ 2 ^ 24)
-        (sym (slots_same p.base head asks.old new asks.after.synced asks.there asks.new_is p.super.md_len))
+        (sym (slots_same p.base command head asks.old new asks.after.synced asks.there asks.new_is p.super.md_len))
         (base_lawful known unmarked).few
 
     -- ---- what every image shows
@@ -129,10 +130,12 @@ module _ (known : Known) (unmarked : HasNoMarks known.p.base) where
           (subst (AreSteady p.super) (sym base_now) (all_steady known unmarked head new one_steady))
           (subst (λ (m : Metas). LeavesEmpty p.super p.base m Any h) (sym base_now)
           (leaves_alike p.super p.base (with_entry p.base head new)
-          (alike_synced p.base head asks.old new asks.after.synced asks.there asks.new_is) h));
+          (alike_synced p.base head asks.old new asks.after.synced (flags_after command asks.old.flags)
+          asks.there asks.new_is) h));
     }
 
     pub sync_ready : IsReady p [] command commit new r
     sync_ready = ready_by known unmarked head new one_steady r head_is new_is [] command commit
-        (lawful_still known unmarked head new (takes_none p.base head asks.old new asks.after.synced asks.there asks.new_is) few)
+        (lawful_still known unmarked head new
+        (takes_none p.base command head asks.old new asks.after.synced asks.there asks.new_is) few)
         few step
