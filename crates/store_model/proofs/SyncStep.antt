@@ -134,5 +134,6 @@ module _ (known : Known) (unmarked : HasNoMarks known.p.base) where
 
     pub sync_ready : IsReady p [] command commit new r
     sync_ready = ready_by known unmarked head new one_steady r head_is new_is [] command commit
-        (lawful_still known unmarked head new (takes_none p.base head asks.old new asks.after.synced asks.there asks.new_is) few)
+        (lawful_still known unmarked head new
+        (takes_none p.base head asks.old new asks.after.synced asks.there asks.new_is) few)
         few step
