@@ -201,16 +201,16 @@ module _ (known : Known) (unmarked : HasNoMarks known.p.base) where
 
       shows_new : ReadsZeros p.super claimed image → shown_of p.super (replaced p.base r) (live_of w) image ≡ w
       shows_new holds = ap (λ (m : Metas). shown_of p.super m (live_of w) image) base_now
-          ∙ shown_made there (base_steady known unmarked) (base_lawful known unmarked) head none name slots thick uuid xattrs
-          same_two new steady claimed zeroed (zeros_read known claimed image holds)
+          ∙ shown_made there (base_steady known unmarked) (base_lawful known unmarked) head none name slots thick uuid
+          xattrs same_two new steady claimed zeroed (zeros_read known claimed image holds)
 
       live_at : live_of w head ≡ Some xattrs
-      live_at = live_here there (base_steady known unmarked) (base_lawful known unmarked) head none name slots thick uuid xattrs
-          same_two new steady
+      live_at = live_here there (base_steady known unmarked) (base_lawful known unmarked) head none name slots thick
+          uuid xattrs same_two new steady
 
       others : (h : ℕ) → (h ≡ head → ⊥) → w h ≡ shown there h
-      others = w_elsewhere there (base_steady known unmarked) (base_lawful known unmarked) head none name slots thick uuid xattrs
-          same_two new steady
+      others = w_elsewhere there (base_steady known unmarked) (base_lawful known unmarked) head none name slots thick
+          uuid xattrs same_two new steady
 
       lives : live_of w ≡ with_entry p.live r.head xattrs
       lives = fun_ext (λ h. elim (cases_eq h head) [
@@ -245,8 +245,8 @@ module _ (known : Known) (unmarked : HasNoMarks known.p.base) where
           leaves_resolved p.super p.base (replaced p.base r) Any h (base_steady known unmarked)
           (subst (AreSteady p.super) (sym base_now) steady)
           (subst (λ (m : Metas). LeavesEmpty p.super p.base m Any h) (sym base_now)
-          (leaves_elsewhere p.super p.base head new (none_childless p.base head (base_lawful known unmarked).parents none) h
-          (not_first h head [] out).0));
+          (leaves_elsewhere p.super p.base head new
+          (none_childless p.base head (base_lawful known unmarked).parents none) h (not_first h head [] out).0));
     }
 
     pub ready : IsReady p claimed (c.Create name slots thick uuid) commit new r

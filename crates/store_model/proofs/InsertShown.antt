@@ -122,7 +122,8 @@ module _ (known : Known) where
     resolved_all = unmarked_resolved now.base now_unmarked ∙ base_all
 
     ranks : Levels p.super.md_len p.base
-    ranks = levels p.super.md_len p.base (base_lawful known inserts.unmarked) (λ h m is. (base_steady known inserts.unmarked h m is).stored.low)
+    ranks = levels p.super.md_len p.base (base_lawful known inserts.unmarked)
+        (λ h m is. (base_steady known inserts.unmarked h m is).stored.low)
 
     pub low : r.head < s.md_len
     low = subst (λ (x : Super). r.head < x.md_len) facts.super new_stored.low
@@ -160,13 +161,15 @@ module _ (known : Known) where
         ap (λ (m : Metas). shown_by (fixed_of p.super) t.device.reads m p.live) resolved_all
         ∙ shown_same p.super (some_pages known) p.base claim.head old there ranks claim.slot claim.cluster
         put.within put.wanted.empty t.device.reads holds p.live
-        ∙ ap (λ (m : Metas). shown_by (fixed_of p.super) t.device.reads m p.live) (sym (base_resolved known inserts.unmarked))
+        ∙ ap (λ (m : Metas). shown_by (fixed_of p.super) t.device.reads m p.live)
+        (sym (base_resolved known inserts.unmarked))
         ∙ same
 
     pub copied : AreCopied now
     copied = copied_committed mid now read [] refl refl refl well.claims_drawn
         (row_unclaimed (cluster_pages_of p.super) p.rows row next refl) (some_pages known) Held holds
-        (λ h out. subst (λ (m : Metas). LeavesEmpty p.super m (resolved now.base) Held h) (sym (base_resolved known inserts.unmarked))
+        (λ h out. subst (λ (m : Metas). LeavesEmpty p.super m (resolved now.base) Held h)
+        (sym (base_resolved known inserts.unmarked))
         (subst (λ (m : Metas). LeavesEmpty p.super p.base m Held h) (sym resolved_all)
         (leaves_inserted p.super (some_pages known) p.base claim.head old there ranks claim.slot claim.cluster
         put.within put.wanted.empty h)))

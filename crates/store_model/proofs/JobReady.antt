@@ -149,8 +149,8 @@ module _ (known : Known) where
       (there_not_made runs claimed r _ laid y.old (ap p.base laid.head ∙ y.there))
 
   -- the metadata that it asks for can be written, before it is laid on pages
-  pub job_writable : HasNoMarks p.base → p.stopped ≡ None → (command : Command) (changes : Changes) (commit : Committing)
-      → IsJobFor p command changes commit → (claimed : List ℕ) → AreLeastClear p.clusters claimed
+  pub job_writable : HasNoMarks p.base → p.stopped ≡ None → (command : Command) (changes : Changes)
+      (commit : Committing) → IsJobFor p command changes commit → (claimed : List ℕ) → AreLeastClear p.clusters claimed
       → length claimed ≡ length changes.zero → (x : Replacement) (new : Meta)
       → changes.list ≡ x ∷ [] → x.new ≡ Some new → x.head < s.md_len
       → IsSteady s x.head (with_clusters new changes.zero claimed)
@@ -193,7 +193,8 @@ module _ (known : Known) where
           → IsSteady p.super (head_of p command changes commit asked)
           (with_claimed p command changes commit asked claimed)
       by (syncs y) long low =
-          (sync_ready known unmarked runs command y.head y.new y.asks (bare_at y.head y.new false) refl refl refl).steady
+          (sync_ready known unmarked runs command y.head y.new y.asks (bare_at y.head y.new false) refl refl
+          refl).steady
       by (creates y) long low = (create_ready known unmarked runs command changes commit y claimed least long low
           (bare_at y.head (with_claimed p command changes commit (creates y) claimed) true) refl refl).steady
       by (resizes y) long low = (resize_ready known unmarked runs command changes commit y claimed least long

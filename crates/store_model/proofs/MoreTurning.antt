@@ -1,5 +1,6 @@
 -- The turn replaces_more keeps what every state has.
-use Rattle.std.proofs.Common.{◌≡◌, ◌⊎◌, ◌/◌, ◌+◌, ◌<◌, ◌≤◌, ◌^◌, ◌++◌, ℕ, Bool, List, [], ◌∷◌, length, Option, None, Some}
+use Rattle.std.proofs.Common.{◌≡◌, ◌⊎◌, ◌/◌, ◌+◌, ◌<◌, ◌≤◌, ◌^◌, ◌++◌, ℕ, Bool, List, [], ◌∷◌, length, Option, None}
+use Rattle.std.proofs.Common.{Some}
 use Rattle.std.proofs.Common.{true, false, refl, sym, ap, ◌∙◌, subst, inl, inr, arith}
 use Rattle.std.specs.Prelude.{if◌then◌else◌, is_some, IsSome, slice_set}
 use Rattle.std.specs.List.{AllByRecursion}
@@ -15,7 +16,8 @@ use Rattle.md_chain.specs.Chain.{is_among}
 use Rattle.store_model.specs.Cases.ReplaceMore.{made_by, ReplacesMore, with_replaced}
 use Rattle.store_model.specs.Copying.{AreCopied, IsUpToDate}
 use Rattle.store_model.specs.Guarding.{all_renewed, AreGenerations, frozen_behind}
-use Rattle.store_model.specs.Jobs.{CanReplace, Does, gained_by, inserted_by, IsUnseen, JobStands, Keeps, Lays, MovesClusters}
+use Rattle.store_model.specs.Jobs.{CanReplace, Does, gained_by, inserted_by, IsUnseen, JobStands, Keeps, Lays}
+use Rattle.store_model.specs.Jobs.{MovesClusters}
 use Rattle.store_model.specs.Jobs.{ReadsZeros, shown_of}
 use Rattle.store_model.specs.Maps.{Metas, with_entry, with_option, without_entry}
 use Rattle.store_model.specs.Phases.{behind, has_commit, held_in, OnlyMend, page_in, Replaces}
@@ -25,7 +27,8 @@ use Rattle.store_model.specs.Rows.{OpenClaim}
 use Rattle.store_model.specs.RunInvariant.{HaveChains, RunInvariant, RunsWell}
 use Rattle.store_model.specs.Shown.{fixed_of, shown_by}
 use Rattle.store_model.specs.Steady.{IsStored}
-use Rattle.store_model.specs.StoreState.{ForCommand, ForInsert, ForRepair, going_on, JobState, Service, shown, StoreState}
+use Rattle.store_model.specs.StoreState.{ForCommand, ForInsert, ForRepair, going_on, JobState, Service, shown}
+use Rattle.store_model.specs.StoreState.{StoreState}
 use Rattle.store_model.specs.Turning.{read_after}
 use Rattle.store_model.proofs.ClustersMoved.{clusters_moved, differ_committed}
 use Rattle.store_model.proofs.Copies.{copied_unseen, renewed}
@@ -34,7 +37,8 @@ use Rattle.store_model.proofs.GoesOn.{served_still, serves_still, unfinished_sti
 use Rattle.store_model.proofs.Guarding.{claims_drawn_still, generations_renewed, guarded_behind}
 use Rattle.store_model.proofs.JobKept.{copied_put, held_is, held_low}
 use Rattle.store_model.proofs.Known.{Known}
-use Rattle.store_model.proofs.LeftToDo.{among_left, among_taken, chain_there, distinct_left, goes_on_as, held_after, no_place}
+use Rattle.store_model.proofs.LeftToDo.{among_left, among_taken, chain_there, distinct_left, goes_on_as, held_after}
+use Rattle.store_model.proofs.LeftToDo.{no_place}
 use Rattle.store_model.proofs.LeftToDo.{none_claimed_after}
 use Rattle.store_model.proofs.Moved.{inserted_none}
 use Rattle.store_model.proofs.Phases.{does_anywhere, mends_no_commit}
@@ -182,7 +186,8 @@ module _ (known : Known) where
         there new false = tt
 
         by : (o : Option Meta) → r.new ≡ o → AreGenerations (with_option p.base r.head o)
-            (option_map_or (λ new. all_renewed p.generations p.drawn (made_by r)) o (without_entry p.generations r.head))
+            (option_map_or (λ new. all_renewed p.generations p.drawn (made_by r)) o
+            (without_entry p.generations r.head))
             (p.drawn + length (made_by r))
         by None none =
             generations_erased p.base r.head p.generations p.drawn (p.drawn + length (made_by r)) (omega arith)
@@ -303,7 +308,8 @@ module _ (known : Known) where
               now refl facts.shaped)
               (served_still p j t.running.is (Replaces r None) t.running.rest t.running.next refl t.no_insert other refl
               now refl facts.shaped);
-          guarded = guarded_behind p now facts.guarded j other t.running.is refl t.running.runs t.running.rest refl refl;
+          guarded = guarded_behind p now facts.guarded j other t.running.is refl t.running.runs t.running.rest refl
+              refl;
           counted = facts.counted;
           past = All-weaker (λ n. n ≤ p.device.clock) (λ n. n ≤ t.device.clock) (λ n le. omega (arith, le, clock))
               p.marks facts.past;

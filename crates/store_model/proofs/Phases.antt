@@ -1,5 +1,6 @@
 -- The phases of one replacement, before any is made.
-use Rattle.std.proofs.Common.{◌≡◌, ℕ, ◌++◌, true, false, List, [], ◌∷◌, None, Some, refl, sym, subst, ap, ◌∙◌, append_assoc}
+use Rattle.std.proofs.Common.{◌≡◌, ℕ, ◌++◌, true, false, List, [], ◌∷◌, None, Some, refl, sym, subst, ap, ◌∙◌}
+use Rattle.std.proofs.Common.{append_assoc}
 use Rattle.std.proofs.lemmas.List.{append-nil}
 use Rattle.store_model.specs.Phases.{Erases, Frees, Marks, Replaces, Writes, Zeros}
 use Rattle.store_model.specs.Phases.{Phase, has_commit, held_in, taken_in, erasing, writing, planned_in}
@@ -31,11 +32,13 @@ pub does_behind : (Holds : Image → Type 0) (s : Super) (base : Metas) (live : 
 does_behind Holds s base live command [] rest does = does
 does_behind Holds s base live command (p ∷ ps) rest does = does_behind Holds s base live command ps rest does
 
-pub leads_behind : (base : Metas) (fresh : List ℕ) (rest : List Phase) → behind base (writing fresh rest) ≡ behind base rest
+pub leads_behind : (base : Metas) (fresh : List ℕ) (rest : List Phase)
+    → behind base (writing fresh rest) ≡ behind base rest
 leads_behind base [] rest = refl
 leads_behind base (p ∷ ps) rest = leads_behind base ps rest
 
-pub keeps_behind : (base : Metas) (fresh : List ℕ) (rest : List Phase) → Keeps base rest → Keeps base (writing fresh rest)
+pub keeps_behind : (base : Metas) (fresh : List ℕ) (rest : List Phase) → Keeps base rest
+    → Keeps base (writing fresh rest)
 keeps_behind base [] rest keeps = keeps
 keeps_behind base (p ∷ ps) rest keeps = keeps_behind base ps rest keeps
 
@@ -156,7 +159,8 @@ does_anywhere Holds s base live command (Replaces r (Some commit) ∷ rest) does
   does.2,
 )
 does_anywhere Holds s base live command (Erases place ∷ rest) does = does_anywhere Holds s base live command rest does
-does_anywhere Holds s base live command (Frees place old ∷ rest) does = does_anywhere Holds s base live command rest does
+does_anywhere Holds s base live command (Frees place old ∷ rest) does =
+    does_anywhere Holds s base live command rest does
 
 pub planned_behind : (fresh : List ℕ) (rest : List Phase) (place : ℕ)
     → planned_in (writing fresh rest) place ≡ planned_in rest place

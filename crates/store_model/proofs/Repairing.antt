@@ -118,7 +118,8 @@ module _ (told : Bool) (s : Super) (first : Volumes) (script : ℕ → List Comm
 
   insert_ends : RunInvariant s first script p → InsertEnds told p q → IsRepaired q
   insert_ends facts t = unmarked (subst HasNoMarks (sym (ap (λ (v : StoreState). v.base) t.next))
-      (((facts.well t.running.runs).job t.running.job t.running.is).inserts t.inserting.row t.inserting.serves).unmarked)
+      (((facts.well t.running.runs).job t.running.job t.running.is).inserts t.inserting.row
+      t.inserting.serves).unmarked)
 
   begins_repair : BeginsRepair p q → IsRepaired p → IsRepaired q
   begins_repair t (unmarked none) = unmarked (subst HasNoMarks (sym (ap (λ (v : StoreState). v.base) t.next)) none)
@@ -175,4 +176,5 @@ module _ (told : Bool) (s : Super) (first : Volumes) (script : ℕ → List Comm
   repaired_stays k.inserts facts t r = inserts facts t r
   repaired_stays k.insert_ends facts t r = insert_ends facts t
   repaired_stays k.insert_fails facts t r = stops (length p.log) t.logs.next refl
-  repaired_stays k.insert_breaks_down facts t r = halted t.at (ap (λ (v : StoreState). v.stopped) t.logs.next ∙ t.stands)
+  repaired_stays k.insert_breaks_down facts t r =
+      halted t.at (ap (λ (v : StoreState). v.stopped) t.logs.next ∙ t.stands)

@@ -170,7 +170,8 @@ module _ (known : Known) (unmarked : HasNoMarks known.p.base) where
         kept None thick i lt at = absurd (elim (cases_lt i (length old.map)) [
           | inl below ↦
               let was : IsSome (slot old i) =
-              slot_filled old.map (thick_full old p.super head (base_steady known unmarked head old there) thick) i below in
+              slot_filled old.map (thick_full old p.super head (base_steady known unmarked head old there) thick) i
+              below in
               let in_bare : slot bare i ≡ slot old i =
               slot_kept old.map slots i (omega (arith, lt, zeroed.long, length_cut {X = Option ℕ} old.map slots None))
               in
@@ -348,9 +349,8 @@ module _ (known : Known) (unmarked : HasNoMarks known.p.base) where
     }
 
     pub ready : IsReady p claimed (c.Resize volume slots) commit new r
-    ready = ready_by known unmarked head new one_steady r head_is new_is claimed (c.Resize volume slots) commit all_lawful
-        all_few
-        step
+    ready = ready_by known unmarked head new one_steady r head_is new_is claimed (c.Resize volume slots) commit
+        all_lawful all_few step
 
   -- what a resize asks for is ready, with the clusters that are claimed for it
   pub resize_ready : p.stopped ≡ None → (command : Command) (changes : Changes) (commit : Committing)

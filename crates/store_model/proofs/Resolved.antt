@@ -1,6 +1,7 @@
 -- The metadata that is shown, by that which the device says: each blob is one that is there, as it is or without its
 -- marks, so that the store can hold it where it can hold all that is there.
-use Rattle.std.proofs.Common.{◌≡◌, ◌⊎◌, ℕ, ◌+◌, ◌-◌, ◌^◌, ◌≤◌, Bool, true, false, List, [], ◌∷◌, length, Option, Some, None, refl}
+use Rattle.std.proofs.Common.{◌≡◌, ◌⊎◌, ℕ, ◌+◌, ◌-◌, ◌^◌, ◌≤◌, Bool, true, false, List, [], ◌∷◌, length, Option, Some}
+use Rattle.std.proofs.Common.{None, refl}
 use Rattle.std.proofs.Common.{sym, ◌∙◌, ap, subst, inl, inr}
 use Rattle.std.specs.Prelude.{codes, filter, find, if◌then◌else◌, not}
 use Rattle.std.specs.List.{AllByRecursion}
@@ -15,7 +16,8 @@ use Rattle.blob_meta.specs.declared.fault.MetaFault.{MetaFault}
 use Rattle.blob_meta.specs.declared.fault.MetaFault.TheVariants as faults
 use Rattle.descriptors.specs.Runs.{at_most}
 use Rattle.blob_meta.specs.declared.meta.Meta.{Meta}
-use Rattle.blob_meta.specs.Faults.{bad_mark, first_some, hole_in_thick, is_bad_mark, map_fault, meta_fault, unknown_flag}
+use Rattle.blob_meta.specs.Faults.{bad_mark, first_some, hole_in_thick, is_bad_mark, map_fault, meta_fault}
+use Rattle.blob_meta.specs.Faults.{unknown_flag}
 use Rattle.blob_meta.specs.Items.{HasDistinctNames}
 use Rattle.blob_meta.specs.Parents.{slot}
 use Rattle.blob_meta.specs.Repairs.{HasNoMarks}
@@ -122,7 +124,8 @@ module _ (test : Xattr → Bool) where
     | inl is_bad ↦ absurd (let found : find bad (x ∷ xs) ≡ Some x = rw is_bad refl in
         let e = sym none ∙ found in cc e)
     | inr fine ↦
-        let later : find bad xs ≡ None = let skips : find bad (x ∷ xs) ≡ find bad xs = rw fine refl in sym skips ∙ none in
+        let skips : find bad (x ∷ xs) ≡ find bad xs = rw fine refl in
+        let later : find bad xs ≡ None = sym skips ∙ none in
         elim (cases_Bool (test x)) [
           | inl passes ↦ rw passes (rw fine (none_filtered bad xs later))
           | inr fails ↦ rw fails (none_filtered bad xs later)

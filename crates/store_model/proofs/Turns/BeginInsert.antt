@@ -121,7 +121,8 @@ module _ (known : Known) where
 
     lawful : IsLawful p.super.md_len all
     lawful = lawful_inserted t.meta claim.slot claim.cluster t.can.within t.can.empty p.base claim.head t.can.there
-        p.super.md_len old_steady.stored.low (well.clusters.apart claim.cluster claimed).1 (base_lawful known t.repaired)
+        p.super.md_len old_steady.stored.low (well.clusters.apart claim.cluster claimed).1
+        (base_lawful known t.repaired)
 
     few : slots_together p.super.md_len all ≤ 2 ^ 24
     few =

@@ -1,5 +1,6 @@
 -- The turn begins_repair.
-use Rattle.std.proofs.Common.{◌≡◌, ◌≢◌, ◌/◌, ◌++◌, ℕ, List, [], ◌∷◌, Option, Some, None, true, refl, sym, ap, ◌∙◌, subst}
+use Rattle.std.proofs.Common.{◌≡◌, ◌≢◌, ◌/◌, ◌++◌, ℕ, List, [], ◌∷◌, Option, Some, None, true, refl, sym, ap, ◌∙◌}
+use Rattle.std.proofs.Common.{subst}
 use Rattle.std.proofs.Common.{inr}
 use Rattle.std.specs.Option.{option_map_or}
 use Rattle.std.proofs.lemmas.List.{append-nil}
@@ -7,7 +8,8 @@ use Rattle.super_block.specs.Numbers.{cluster_pages_of}
 use Rattle.store_model.specs.Cases.BeginRepair as case
 use Rattle.store_model.specs.Cases.BeginRepair.{BeginsRepair}
 use Rattle.store_model.specs.Jobs.{JobStands}
-use Rattle.store_model.specs.Phases.{erasing, held_in, Phase, rechained, replaced, Replaces, Replacing, taken_by, writing}
+use Rattle.store_model.specs.Phases.{erasing, held_in, Phase, rechained, replaced, Replaces, Replacing, taken_by}
+use Rattle.store_model.specs.Phases.{writing}
 use Rattle.store_model.specs.Places.{all_set, AreDistinct, claimed_by, held_by, UsedPages}
 use Rattle.store_model.specs.RunInvariant.{RunInvariant, RunsWell}
 use Rattle.store_model.specs.StoreState.{ForRepair, JobState, StoreState}
@@ -18,7 +20,8 @@ use Rattle.store_model.proofs.Known.{Known}
 use Rattle.store_model.proofs.LawsBelow.{RepairLaws}
 use Rattle.store_model.proofs.LeftToDo.{no_place}
 use Rattle.store_model.proofs.Over.{Effect, nothing, stays, TurnLaw}
-use Rattle.store_model.proofs.Phases.{held_behind, held_clearing, keeps_behind, keeps_clearing, lays_behind, lays_clearing}
+use Rattle.store_model.proofs.Phases.{held_behind, held_clearing, keeps_behind, keeps_clearing, lays_behind}
+use Rattle.store_model.proofs.Phases.{lays_clearing}
 use Rattle.store_model.proofs.Phases.{mends_behind, mends_clearing, none_taken}
 use Rattle.store_model.proofs.RepairBegun.{can, new_unmarked, planned, unseen}
 use Rattle.store_model.proofs.RowsKept.{way_kept}

@@ -103,7 +103,14 @@ module _ (known : Known) (told : Bool) (q : StoreState) (t : Zeroes told known.p
       (inserted_none p.rows j.serves no_insert) lays.0
 
   passed : IsPassed p j.claimed (Zeros t.page) t.running.rest
-  passed = record { commit = refl; does = λ c x. x; keeps = λ x. x; leads = refl; mends = λ x. x; puts = λ row bad. absurd bad }
+  passed = record {
+    commit = refl;
+    does = λ c x. x;
+    keeps = λ x. x;
+    leads = refl;
+    mends = λ x. x;
+    puts = λ row bad. absurd bad;
+  }
 
   stands : JobStands now later
   stands = record {

@@ -19,6 +19,7 @@ pub record MoreBreaksOff (p q : StoreState) : Type 0 where
 abbrev pub kind : TurnKind
 kind = record {
   Case = λ told p q. MoreBreaksOff p q;
-  touch = λ told p q t. replaces (page_of_place p t.replacing.head) (page_in t.replacing.planned t.replacing.head) false;
+  touch = λ told p q t. replaces (page_of_place p t.replacing.head)
+      (page_in t.replacing.planned t.replacing.head) false;
   OfJob = Unit {0};
 }

@@ -7,8 +7,8 @@ use Rattle.store_model.specs.StoreState.{logged, StoreState}
 use Rattle.store_model.specs.Touches.{replaces, TurnKind}
 use Rattle.store_model.specs.Turning.{FailsToReplace, IsServedNow, page_of_place, Runs, stopped_now}
 
--- A write or a flush of a replacement before the commit failed: the store stops, the command is logged as failed, no job
--- runs any more, and no blob is frozen.
+-- A write or a flush of a replacement before the commit failed: the store stops, the command is logged as failed, no
+-- job runs any more, and no blob is frozen.
 pub record MoreFails (p q : StoreState) : Type 0 where
   pub replacing : Replacing
   pub running : Runs p (Replaces replacing None)
@@ -22,6 +22,7 @@ pub record MoreFails (p q : StoreState) : Type 0 where
 abbrev pub kind : TurnKind
 kind = record {
   Case = λ told p q. MoreFails p q;
-  touch = λ told p q t. replaces (page_of_place p t.replacing.head) (page_in t.replacing.planned t.replacing.head) false;
+  touch = λ told p q t. replaces (page_of_place p t.replacing.head)
+      (page_in t.replacing.planned t.replacing.head) false;
   OfJob = Unit {0};
 }

@@ -1,5 +1,6 @@
 -- The turn replaces_more.
-use Rattle.std.specs.Prelude.{◌≡◌, ◌≢◌, ℕ, ◌+◌, if◌then◌else◌, Bool, true, false, List, [], ◌∷◌, length, slice_set, None}
+use Rattle.std.specs.Prelude.{◌≡◌, ◌≢◌, ℕ, ◌+◌, if◌then◌else◌, Bool, true, false, List, [], ◌∷◌, length, slice_set}
+use Rattle.std.specs.Prelude.{None}
 use Rattle.std.specs.Option.{option_map_or}
 use Rattle.store_model.specs.Device.{Device}
 use Rattle.store_model.specs.Guarding.{all_renewed, frozen_behind}
@@ -23,8 +24,8 @@ generations_with generations drawn r =
 abbrev pub pages_with : List Bool → Replacing → List Bool
 pages_with pages r = option_map_or (λ new. pages) r.new (slice_set pages r.head false)
 
--- What a replacement makes of the store: the blob's metadata and chain are the new ones, and the clusters are clear that
--- no map has any more. The attributes of the volumes are read as they were.
+-- What a replacement makes of the store: the blob's metadata and chain are the new ones, and the clusters are clear
+-- that no map has any more. The attributes of the volumes are read as they were.
 abbrev pub with_replaced : StoreState → Replacing → StoreState
 with_replaced p r = record p {
   base = replaced p.base r;
@@ -35,8 +36,8 @@ with_replaced p r = record p {
   drawn = p.drawn + length (made_by r);
 }
 
--- A replacement that is no commit, of a command's job or a repair's: the head's page is replaced, by a flush, a write and
--- a flush, and the volumes are shown as they were. (That of an insert decides its row, which is another case.)
+-- A replacement that is no commit, of a command's job or a repair's: the head's page is replaced, by a flush, a write
+-- and a flush, and the volumes are shown as they were. (That of an insert decides its row, which is another case.)
 pub record ReplacesMore (told : Bool) (p q : StoreState) : Type 0 where
   pub replacing : Replacing
   pub running : Runs p (Replaces replacing None)

@@ -18,7 +18,8 @@ returns c = record {
   });
   go_on = run_more;
   repaired_stays = λ told s first script p q kind facts t r. repaired_stays told s first script p q kind facts t r;
-  writable = λ s first script p command changes commit placed facts runs unmarked asked claimed least one_each x new list is low.
+  writable = λ s first script p command changes commit placed facts runs unmarked asked claimed least one_each x new
+      list is low.
       job_writable (record { s = s; placed = placed; first = first; script = script; p = p; facts = facts })
       unmarked runs command
       changes commit asked claimed least one_each x new list is low;
