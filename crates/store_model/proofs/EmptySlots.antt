@@ -38,7 +38,7 @@ use Rattle.store_model.proofs.Cut.{slot_kept, slot_past}
 use Rattle.store_model.proofs.Elsewhere.{IsChildless, same_elsewhere, through}
 use Rattle.store_model.proofs.SameMaps.{content_alike, IsPlacedAlike}
 use Rattle.store_model.proofs.Shows.{steady_resolved}
-use Rattle.store_model.proofs.WithEntry.{given_elsewhere, given_here}
+use Rattle.shown_volumes.proofs.WithEntry.{given_elsewhere, given_here}
 
 -- whatever an image holds
 abbrev pub Any : Image → Type 0

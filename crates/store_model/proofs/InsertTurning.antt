@@ -46,7 +46,7 @@ use Rattle.store_model.proofs.Shaped.{MayBe, shaped_with}
 use Rattle.store_model.proofs.Shows.{steady_resolved}
 use Rattle.store_model.proofs.StateKept.{runs_here}
 use Rattle.store_model.proofs.UsedCommitted.{chains_committed, old_distinct, used_committed}
-use Rattle.store_model.proofs.WithEntry.{given_elsewhere, given_here}
+use Rattle.shown_volumes.proofs.WithEntry.{given_elsewhere, given_here}
 
 module _ (known : Known) where
   open known use {s, placed, first, script, p, facts}

@@ -20,7 +20,7 @@ use Rattle.store_model.specs.Maps.{Metas, with_entry}
 use Rattle.store_model.specs.Places.{IsMapped}
 use Rattle.store_model.specs.Asking.{IsSyncing}
 use Rattle.store_model.specs.RunInvariant.{CanBeWritten, IsSteady, AreSteady}
-use Rattle.store_model.proofs.WithEntry.{given_here, given_elsewhere}
+use Rattle.shown_volumes.proofs.WithEntry.{given_here, given_elsewhere}
 use Rattle.store_model.proofs.LawfulGiven.{TakesNone}
 use Rattle.store_model.proofs.Synced.{edited_here}
 use Rattle.store_model.proofs.Writable.{AllWritable, written_with, put_within}

@@ -25,8 +25,7 @@ use Rattle.store_model.specs.Steady.{AreSteady}
 use Rattle.store_model.proofs.Contents.{HasParents, same_content}
 use Rattle.store_model.proofs.Inside.{inside_slot}
 
-abbrev pub or_empty : Option Xattrs → Xattrs
-or_empty o = option_map_or (λ xs. xs) o []
+pub use Rattle.shown_volumes.specs.Shown.{or_empty}
 
 -- ---- metadata without marks is resolved as it is
 

@@ -15,7 +15,7 @@ use Rattle.store_model.specs.Steady.{AreSteady}
 use Rattle.store_model.proofs.Contents.{HasParents}
 use Rattle.store_model.proofs.Elsewhere.{IsChildless, volume_elsewhere}
 use Rattle.store_model.proofs.Shows.{steady_resolved, or_empty}
-use Rattle.store_model.proofs.WithEntry.{given_here, given_elsewhere}
+use Rattle.shown_volumes.proofs.WithEntry.{given_here, given_elsewhere}
 
 -- a blob that isn't there is nobody's parent
 pub none_childless : (metas : Metas) (head : ℕ) → HasParents metas → metas head ≡ None → IsChildless metas head

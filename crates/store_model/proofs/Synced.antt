@@ -23,7 +23,7 @@ use Rattle.store_model.specs.Jobs.{shown_of}
 use Rattle.store_model.specs.Asking.{AsksFor, IsSyncing}
 use Rattle.store_model.specs.Cases.{live_of}
 use Rattle.store_model.specs.Steady.{AreSteady}
-use Rattle.store_model.proofs.WithEntry.{given_here, given_elsewhere}
+use Rattle.shown_volumes.proofs.WithEntry.{given_here, given_elsewhere}
 use Rattle.store_model.proofs.SameMaps.{IsPlacedAlike, content_alike}
 use Rattle.store_model.proofs.Shows.{or_empty, steady_resolved}
 

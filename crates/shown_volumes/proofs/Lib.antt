@@ -1,0 +1,16 @@
+pub mod WithEntry
+pub mod Ranks
+pub mod Fuel
+pub mod SlotSums
+pub mod Ranges
+pub mod Fitting
+pub mod Valued
+pub mod Marked
+pub mod Parts
+pub mod EmptyMaps
+pub mod SnapshotParts
+pub mod SnapshotLawful
+pub mod Blanked
+pub mod Passing
+pub mod SnapshotShows
+pub mod Snapshots

@@ -1,0 +1,76 @@
+-- A snapshot's job shows the volumes as they were, and from its commit on those of the step.
+use Rattle.std.proofs.Common.{◌≡◌, ℕ, ◌+◌, ◌^◌, ◌≤◌, Option, Some, None, length, sym, ap, ◌∙◌, subst, arith}
+use Rattle.std.specs.Option.{option_map}
+use Rattle.page_disk.specs.Disk.{Image}
+use Rattle.volume_model.specs.Volumes.{Fixed, head_of, two_xattrs, Volume, Volumes}
+use Rattle.volume_model.specs.Xattrs.{Text, Xattrs}
+use Rattle.volume_model.specs.declared.command.Command.TheVariants as c
+use Rattle.volume_model.specs.declared.command.VolumeRef.{VolumeRef}
+use Rattle.volume_model.specs.declared.reply.Reply.TheVariants as r
+use Rattle.volume_model.proofs.Blank.{same_named}
+use Rattle.blob_meta.specs.declared.meta.Meta.{Meta}
+use Rattle.blob_meta.specs.Resolving.{slots_together}
+use Rattle.snapshots.specs.SnapshotJobs.{snapshot_job}
+use Rattle.shown_volumes.specs.JobLaws.{IsClear, ShowsSnapshot}
+use Rattle.shown_volumes.specs.Maps.{Map, Metas}
+use Rattle.shown_volumes.specs.Shown.{or_empty, shown_by, volume_of}
+use Rattle.shown_volumes.specs.ShowsStep.{IsAskedOf, IsAtRest, ShowsStep}
+use Rattle.shown_volumes.proofs.Blanked.{blank_shown, two_same}
+use Rattle.shown_volumes.proofs.Parts.{rest_resolved, shows_step}
+use Rattle.shown_volumes.proofs.Passing.{HasRoom, snapshot_room}
+use Rattle.shown_volumes.proofs.SlotSums.{all_shown, slots_shown}
+use Rattle.shown_volumes.proofs.SnapshotParts as parts
+use Rattle.shown_volumes.proofs.SnapshotShows as shows
+
+module _ (f : Fixed) (base : Metas) (rest : IsAtRest f base) (live : Map Xattrs) (image : Image) where
+  abbrev v : Volumes
+  v = shown_by f image base live
+
+  abbrev volume_at : ℕ → Meta → Volume
+  volume_at h m = volume_of f.cluster_pages image base f.md_len (or_empty (live h)) h m
+
+  -- the volume of a blob that is there
+  pub shows_blob : (h : ℕ) (m : Meta) → base h ≡ Some m → v h ≡ Some (volume_at h m)
+  shows_blob h m is = ap (λ o. option_map (λ n. volume_at h n) o) is
+
+  -- the room that a new volume as long as another has is room for the blob's slots
+  pub slots_fit : (volume : VolumeRef) (name : Text) (h : ℕ) (m : Meta) (found : head_of f v volume ≡ Some h)
+      (is : base h ≡ Some m) → HasRoom f v volume name h (volume_at h m) found (shows_blob h m is)
+      → slots_together f.md_len base + length m.map ≤ 2 ^ 24
+  slots_fit volume name h m found is room =
+      let all = all_shown f image base rest.some_pages live in
+      let own = slots_shown f image base rest.some_pages (or_empty (live h)) h m in
+      omega (arith, all, own, room)
+
+module _ (f : Fixed) (base : Metas) (live : Map Xattrs) (image : Image) (volume : VolumeRef) (name : Text)
+    (of head : ℕ) (old : Meta) (rest : IsAtRest f base) (clear : IsClear f base head)
+    (asked : IsAskedOf f (shown_by f image base live) base (c.Snapshot volume name) of old) where
+  abbrev two : Xattrs
+  two = two_xattrs f (shown_by f image base live) name None
+
+  room : slots_together f.md_len base + length old.map ≤ 2 ^ 24
+  room = slots_fit f base rest live image volume name of old asked.found asked.there
+      (snapshot_room f (shown_by f image base live) volume name of (volume_at f base rest live image of old) asked.found
+      (shows_blob f base rest live image of old asked.there) asked.passed)
+
+  step : ShowsStep f base live (c.Snapshot volume name) (r.Made head) (snapshot_job of old head two)
+  step = shows_step f base live (c.Snapshot volume name) (r.Made head) (snapshot_job of old head two)
+      (parts.next f base rest of head old two asked.there clear) rest
+      (parts.early f base rest of head old two asked.there clear)
+      (parts.late f base rest of head old two asked.there clear)
+      (shows.lawful f base rest of head old two asked.there clear room)
+      (λ other. shows.shown_next f base rest of head old two asked.there clear room other live volume name
+      (same_named f (shown_by f other base live) (shown_by f image base live) (blank_shown f base live other image)
+      (c.Snapshot volume name) ∙ asked.found)
+      (two_same f (shown_by f other base live) (shown_by f image base live) (blank_shown f base live other image) name
+      None))
+
+-- the law
+pub snapshot_shows : (f : Fixed) (base : Metas) (live : Map Xattrs) (image : Image) (volume : VolumeRef) (name : Text)
+    (of head : ℕ) (old : Meta) → ShowsSnapshot f base live image volume name of head old
+snapshot_shows f base live image volume name of head old rest clear =
+    subst (λ (m : Metas). IsAskedOf f (shown_by f image m live) base (c.Snapshot volume name) of old
+    → ShowsStep f base live (c.Snapshot volume name) (r.Made head)
+    (snapshot_job of old head (two_xattrs f (shown_by f image m live) name None)))
+    (sym (rest_resolved f base rest))
+    (λ asked. step f base live image volume name of head old rest clear asked)
