@@ -14,3 +14,6 @@ pub mod Blanked
 pub mod Passing
 pub mod SnapshotShows
 pub mod Snapshots
+pub mod CloneLawful
+pub mod Clones
+pub mod BlobsShown

@@ -3,4 +3,4 @@
 
 mod laws;
 
-pub use laws::{snapshots_show};
+pub use laws::{clones_show, snapshots_show};
