@@ -49,7 +49,7 @@ use Rattle.store_model.proofs.PageWritten.{other_page, same_place}
 use Rattle.store_model.proofs.RowsKept.{row_here, row_other}
 use Rattle.store_model.proofs.Sets.{among_either}
 use Rattle.store_model.proofs.Shows.{agree, AreFaultless}
-use Rattle.store_model.proofs.WithEntry.{given_elsewhere, given_here}
+use Rattle.shown_volumes.proofs.WithEntry.{given_elsewhere, given_here}
 
 -- this page was copied for the row's claim
 pub record IsCopiedFor (pages : ℕ) (rows : Rows) (row : ℕ) (claim : OpenClaim) (page : ℕ) : Type 0 where

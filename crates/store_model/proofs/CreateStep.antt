@@ -52,9 +52,11 @@ use Rattle.store_model.specs.Places.{AreDistinct, AreLeastClear, IsMapped}
 use Rattle.store_model.proofs.OneReplacement.{all_steady, base_is, base_lawful, base_steady, base_resolved, IsReady}
 use Rattle.store_model.proofs.OneReplacement.{lawful_still, ready_by, some_pages}
 use Rattle.store_model.proofs.ShowsNew.{live_here, shown_made, w_elsewhere}
-use Rattle.store_model.proofs.SlotSums.{all_shown, slots_given, slots_in}
-use Rattle.store_model.proofs.Writable.{AllWritable, none_holds}
-use Rattle.store_model.proofs.WithEntry.{given_here, given_elsewhere}
+use Rattle.shown_volumes.proofs.SlotSums.{all_shown, slots_given, slots_in}
+use Rattle.shown_volumes.proofs.Blanked.{two_same}
+use Rattle.shown_volumes.proofs.Passing.{none_holds}
+use Rattle.store_model.proofs.Writable.{AllWritable}
+use Rattle.shown_volumes.proofs.WithEntry.{given_here, given_elsewhere}
 use Rattle.store_model.proofs.Sets.{among_first, not_first}
 
 -- the slots of a new blob that get clusters of zeros
@@ -73,15 +75,6 @@ fits f v name slots thick uuid asked =
     ∷ (is_too_large f v slots (all_slots f v), r_.TooLarge) ∷ []) asked in
     let large : is_too_large f v slots (all_slots f v) ≡ false = none.1.0 in
     record { alone = grind (arith, nat_tests, large); together = grind (arith, nat_tests, large) }
-
--- the attributes of a new volume don't depend on the content of pages
-two_same : (f : Fixed) (v w : Volumes) → ((h : ℕ) → blanked v h ≡ blanked w h) → (name : Text)
-    (uuid : Option (List ℕ)) → two_xattrs f v name uuid ≡ two_xattrs f w name uuid
-two_same f v w same name uuid =
-    let x : Some (two_xattrs f v name uuid) ≡ Some (two_xattrs f w name uuid) =
-    ap (λ o. option_map (λ (x : Volume). x.live) o)
-    (same_change f v w same (c.Create name 0 false uuid) (r_.Made 0) 0) in
-    cc x
 
 module _ (known : Known) (unmarked : HasNoMarks known.p.base) where
   open known use {first, p, facts}

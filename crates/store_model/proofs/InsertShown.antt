@@ -28,7 +28,7 @@ use Rattle.store_model.proofs.InsertedContent.{Holds, leaves_inserted, shown_sam
 use Rattle.store_model.proofs.JobKept.{copied_put}
 use Rattle.store_model.proofs.Known.{Known}
 use Rattle.store_model.proofs.OneReplacement.{base_lawful, base_steady, base_resolved, some_pages}
-use Rattle.store_model.proofs.Ranks.{levels, Levels}
+use Rattle.shown_volumes.proofs.Ranks.{levels, Levels}
 use Rattle.store_model.proofs.WithEntry.{given_all}
 use Rattle.store_model.proofs.Resolved.{unmarked_resolved}
 use Rattle.store_model.proofs.Shows.{shown_written}

@@ -22,6 +22,8 @@ use Rattle.store_model.specs.Regions.{region_of}
 use Rattle.store_model.specs.Steady.{CanBeWritten, IsSteady}
 use Rattle.store_model.proofs.LawfulGiven.{TakesNone}
 
+pub use Rattle.shown_volumes.proofs.EmptyMaps.{none_in, empty_slot}
+
 -- ---- its attributes
 
 pub two_written : (f : Fixed) (v : Volumes) (name : Text) (uuid : Option (List ℕ)) → IsName name
@@ -38,15 +40,6 @@ two_written f v name uuid named = record {
     bytes = option_map_or (λ bytes. bytes) uuid (default_uuid (store_uuid f v) name)
 
 -- ---- its map
-
-pub none_in : (n : ℕ) → clusters_of (replicate n None) ≡ []
-none_in zero = refl
-none_in (suc n) = none_in n
-
-pub empty_slot : (n i : ℕ) → option_and_then (λ (s : Option ℕ). s) (slice_get (replicate n None) i) ≡ None
-empty_slot zero i = refl
-empty_slot (suc n) zero = refl
-empty_slot (suc n) (suc i) = empty_slot n i
 
 -- no test of metadata fails
 pub all_pass : (a b c d : Option MetaFault) → a ≡ None → b ≡ None → c ≡ None → d ≡ None

@@ -58,10 +58,10 @@ use Rattle.store_model.proofs.ResizedBlob.{resized_but, resized_takes_none, thic
 use Rattle.store_model.proofs.Shows.{or_empty}
 use Rattle.store_model.proofs.ShowsGiven.{by, childless_given, shown_given, shown_is, writable_childless}
 use Rattle.store_model.proofs.ShowsResized.{IsNoLonger, page_added, volume_resized}
-use Rattle.store_model.proofs.SlotSums.{all_shown, slots_at_shown, slots_given, slots_in, slots_shown}
+use Rattle.shown_volumes.proofs.SlotSums.{all_shown, slots_at_shown, slots_given, slots_in, slots_shown}
 use Rattle.store_model.proofs.Synced.{edited_here, edited_there}
 use Rattle.store_model.proofs.Writable.{AllWritable}
-use Rattle.store_model.proofs.WithEntry.{given_here, given_elsewhere}
+use Rattle.shown_volumes.proofs.WithEntry.{given_here, given_elsewhere}
 
 no_some : (o : Option ℕ) → o ≡ None → IsSome o → ⊥
 no_some None none some = cc some

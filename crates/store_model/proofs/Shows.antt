@@ -26,8 +26,7 @@ use Rattle.store_model.proofs.Contents.{HasParents, same_content}
 use Rattle.store_model.proofs.Inside.{inside_slot}
 use Rattle.store_model.proofs.Resolved.{resolved_stored}
 
-abbrev pub or_empty : Option Xattrs → Xattrs
-or_empty o = option_map_or (λ xs. xs) o []
+pub use Rattle.shown_volumes.specs.Shown.{or_empty}
 
 -- ---- two images that agree at each page of a cluster that some slot has
 

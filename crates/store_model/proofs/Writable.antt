@@ -85,12 +85,7 @@ written_without xs key can =
 
 -- ---- what a cause says that doesn't hold
 
-pub none_holds : (causes : Causes)
-    → option_map (λ (cause : Bool × Reply). cause.1) (find (λ (cause : Bool × Reply). cause.0) causes) ≡ None
-    → AllByRecursion (λ (cause : Bool × Reply). cause.0 ≡ false) causes
-none_holds [] none = tt
-none_holds ((true, reply) ∷ causes) none = absurd (cc none)
-none_holds ((false, reply) ∷ causes) none = (refl, none_holds causes none)
+pub use Rattle.shown_volumes.proofs.Passing.{none_holds}
 
 none_third : (a b c : Bool) (x y z : Reply)
     → option_map (λ (cause : Bool × Reply). cause.1) (find (λ cause. cause.0) ((a, x) ∷ (b, y) ∷ (c, z) ∷ [])) ≡ None

@@ -10,7 +10,7 @@ use Rattle.std.proofs.lemmas.List.Sums.{sum_by-cons}
 use Rattle.blob_meta.specs.declared.meta.Meta.{Meta}
 use Rattle.blob_meta.specs.Parents.{parent_of}
 use Rattle.blob_meta.specs.Resolving.{IsLawful}
-use Rattle.store_model.specs.Maps.{Metas}
+use Rattle.shown_volumes.specs.Maps.{Metas}
 
 -- ---- sums of which one is the less
 

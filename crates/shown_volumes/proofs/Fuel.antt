@@ -6,9 +6,9 @@ use Rattle.page_disk.specs.Disk.{Image}
 use Rattle.volume_model.specs.Volumes.{Page, zero_page}
 use Rattle.blob_meta.specs.declared.meta.Meta.{Meta}
 use Rattle.blob_meta.specs.Parents.{parent_of, slot}
-use Rattle.store_model.specs.Maps.{Metas}
-use Rattle.store_model.specs.Shown.{content, content_by}
-use Rattle.store_model.proofs.Ranks.{Levels}
+use Rattle.shown_volumes.specs.Maps.{Metas}
+use Rattle.shown_volumes.specs.Shown.{content, content_by}
+use Rattle.shown_volumes.proofs.Ranks.{Levels}
 
 module _ (k : ℕ) (image : Image) (md_len : ℕ) (metas : Metas) (levels : Levels md_len metas) (page : ℕ) where
   abbrev IsSameAfter : ℕ → ℕ → Type 0
