@@ -45,7 +45,7 @@ empties_few [] = omega arith
 empties_few (None ∷ l) = let e = empties_few l in omega (arith, e)
 empties_few (Some x ∷ l) = let e = empties_few l in omega (arith, e)
 
-empties_by : (o : Option ℕ) (m : Meta) → empty_in (option_map (blob_in_run m) o) ≤ length m.map
+pub empties_by : (o : Option ℕ) (m : Meta) → empty_in (option_map (blob_in_run m) o) ≤ length m.map
 empties_by None m = omega arith
 empties_by (Some n) m = empties_few m.map
 
@@ -67,7 +67,7 @@ short_map l true is none = grind (arith, nat_tests, is)
 short_map l false is none = absurd (never_none _ _ is none)
 
 -- a map that a load takes has no more slots than a blob may have
-few_slots : (s : Super) (head : ℕ) (m : Meta) → IsStored s head m → length m.map ≤ 2 ^ 20
+pub few_slots : (s : Super) (head : ℕ) (m : Meta) → IsStored s head m → length m.map ≤ 2 ^ 20
 few_slots s head m stored =
     let in_map = none_first (map_fault (region_of s).fixed (region_of s).clusters m.map) _
     (none_next (unknown_flag m.flags) _ stored.faultless) in
@@ -76,7 +76,7 @@ few_slots s head m stored =
 -- ---- blobs with generations
 
 -- how many slots are empty doesn't depend on the generation
-abbrev empties_of : Option Meta → ℕ
+abbrev pub empties_of : Option Meta → ℕ
 empties_of None = 0
 empties_of (Some m) = empty_slots (map is_some m.map)
 
@@ -87,7 +87,7 @@ module _ (base : Metas) (generations : Map ℕ) (drawn : ℕ) (are : AreGenerati
   by_both (Some m) (Some n) same = refl
   by_both (Some m) None same = absurd (cc same)
 
-  empties_are : (head : ℕ) → empty_in (blobs_in_run base generations head) ≡ empties_of (base head)
+  pub empties_are : (head : ℕ) → empty_in (blobs_in_run base generations head) ≡ empties_of (base head)
   empties_are head = by_both (base head) (generations head) (are.each head)
 
 -- ---- the turn
