@@ -10,7 +10,8 @@ use Rattle.store_model.specs.Jobs.{CanReplace, gained_by, Lays}
 use Rattle.store_model.specs.Maps.{Map, Metas}
 use Rattle.store_model.specs.Phases.{replaced, Replaces, Replacing}
 use Rattle.store_model.specs.RunInvariant.{RunsWell}
-use Rattle.store_model.specs.StoreState.{ForCommand, ForInsert, ForRepair, going_on, JobState, Service, StoreState, waiting}
+use Rattle.store_model.specs.StoreState.{ForCommand, ForInsert, ForRepair, going_on, JobState, Service, StoreState}
+use Rattle.store_model.specs.StoreState.{waiting}
 use Rattle.store_model.proofs.LeftToDo.{chain_there}
 use Rattle.store_model.proofs.Sets.{among_first}
 use Rattle.store_model.proofs.WithEntry.{option_elsewhere, option_here}
