@@ -146,7 +146,8 @@ written_without xs key = written_filtered (λ x. not (bytes_eq x.key key)) xs
 
 marks_fine : (xs : List Xattr) (test : Xattr → Bool) → bad_mark xs ≡ None → bad_mark (filter test xs) ≡ None
 marks_fine xs test none =
-    ap (λ o. option_map fault_of o) (none_filtered test is_bad_mark xs (none_of_map fault_of (find is_bad_mark xs) none))
+    ap (λ o. option_map fault_of o)
+    (none_filtered test is_bad_mark xs (none_of_map fault_of (find is_bad_mark xs) none))
   where
     fault_of : Xattr → MetaFault
     fault_of x = faults.BadMark x.key (at_most (2 ^ 32 - 1) (length x.value))

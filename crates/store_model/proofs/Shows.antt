@@ -25,6 +25,7 @@ use Rattle.store_model.specs.Steady.{AreStored}
 use Rattle.store_model.proofs.Contents.{HasParents, same_content}
 use Rattle.store_model.proofs.Inside.{inside_slot}
 use Rattle.store_model.proofs.Resolved.{resolved_stored}
+pub use Rattle.store_model.proofs.Resolved.{steady_resolved}
 
 abbrev pub or_empty : Option Xattrs → Xattrs
 or_empty o = option_map_or (λ xs. xs) o []
