@@ -25,7 +25,6 @@ use Rattle.store_model.proofs.Contents.{HasParents, same_content}
 use Rattle.store_model.proofs.PageWritten.{other_page, same_place}
 use Rattle.store_model.proofs.RowsKept.{row_here, row_other}
 use Rattle.store_model.proofs.Shows.{agree, AreFaultless}
-use Rattle.shown_volumes.proofs.WithEntry.{given_elsewhere, given_here}
 
 -- this page was copied for the row's claim
 pub record IsCopiedFor (pages : ℕ) (rows : Rows) (row : ℕ) (claim : OpenClaim) (page : ℕ) : Type 0 where

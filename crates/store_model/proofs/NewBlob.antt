@@ -12,7 +12,7 @@ use Rattle.volume_model.specs.Uuids.{default_uuid, uuid_text}
 use Rattle.volume_model.specs.Volumes.{Fixed, store_uuid, two_xattrs, Volumes}
 use Rattle.volume_model.specs.Xattrs.{Text, Xattrs}
 use Rattle.blob_meta.specs.declared.meta.Flags.{Flags}
-use Rattle.blob_meta.specs.Faults.{clusters_of, hole_in_thick, map_fault}
+use Rattle.blob_meta.specs.Faults.{hole_in_thick, map_fault}
 use Rattle.blob_meta.specs.Faults.{too_large, unknown_flag}
 use Rattle.blob_meta.specs.Jobs.{new_meta}
 use Rattle.blob_meta.specs.Says.{without_bit_1}

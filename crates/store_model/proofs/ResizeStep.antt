@@ -47,7 +47,6 @@ use Rattle.store_model.proofs.ResizeAsked.{added_zeros, zeros_lie, CanResize}
 use Rattle.store_model.proofs.Shows.{or_empty}
 use Rattle.store_model.proofs.ShowsGiven.{by, childless_given, shown_given, shown_is}
 use Rattle.store_model.proofs.ShowsResized.{IsNoLonger, page_added, volume_resized}
-use Rattle.shown_volumes.proofs.SlotSums.{all_shown, slots_at_shown, slots_given, slots_in, slots_shown}
 use Rattle.store_model.proofs.Synced.{edited_here, edited_there}
 use Rattle.store_model.proofs.Writable.{AllWritable}
 use Rattle.shown_volumes.proofs.WithEntry.{given_here, given_elsewhere}
