@@ -29,7 +29,7 @@ use Rattle.metadata_turns.specs.Answering.{IsFound}
 use Rattle.metadata_turns.specs.Begins.{AsksToWrite}
 use Rattle.running_store.specs.StoreInvariant.{IsRunning}
 use Rattle.store_core.specs.Planning.{HasBlob, PlanLaws}
-use Rattle.running_store.specs.StoreView.{StoreView, state_of}
+use Rattle.running_store.specs.StoreView.{AreResolved, StoreView, state_of}
 use Rattle.md_thread.specs.Tasks.{IsPlanOf}
 use Rattle.md_thread.proofs.Planned.{IsFor}
 
@@ -54,7 +54,7 @@ same_least test h k a b = elim (cases_lt h k) [
 ]
 
 module _ {D : Type 0} (d : Ghosts D) (laws : PlanLaws d) (p : StoreView D) (running : IsRunning (state_of d p))
-    (runs : p.stopped ≡ None) where
+    (runs : p.stopped ≡ None) (are : AreResolved p.metas p.marked) where
   -- the blob of a plan is the one that is found
   at_plan : {command : Command} {volume : VolumeRef} (head : Option ℕ) (live : Xattrs) (at : ℕ) (old : Meta)
       → (found : IsFound p.metas p.super p.live command head (Some live)) → found.volume ≡ volume
@@ -87,7 +87,7 @@ module _ {D : Type 0} (d : Ghosts D) (laws : PlanLaws d) (p : StoreView D) (runn
           is = plan.job_is;
           asks =
               to_write (state_of d p) (c.Put volume key value) plan.head _
-              (laws.put p volume plan.head key value plan.old live running runs at.0 at.1 cause);
+              (laws.put p volume plan.head key value plan.old live running runs are at.0 at.1 cause);
         },
       )
   put_job volume key value head None job found plan cause = absurd plan
@@ -108,7 +108,7 @@ module _ {D : Type 0} (d : Ghosts D) (laws : PlanLaws d) (p : StoreView D) (runn
           is = plan.job_is;
           asks =
               to_write (state_of d p) (c.Sync volume) plan.head _
-              (laws.sync p volume plan.head plan.old live running runs at.0 at.1 cause);
+              (laws.sync p volume plan.head plan.old live running runs are at.0 at.1 cause);
         },
       )
   sync_job volume head None job found plan cause = absurd plan
@@ -136,7 +136,7 @@ module _ {D : Type 0} (d : Ghosts D) (laws : PlanLaws d) (p : StoreView D) (runn
       subst (λ (x : Reply). IsRefusedBy (state_of d p) command x) (sym memory) (lacks_memory command syncing)
   refused command head o reply syncing found (inr x) =
       by_cause command reply x.0
-      (x.1 (fixed_of p.super) (shown (state_of d p)) (laws.shows p command head o running runs found))
+      (x.1 (fixed_of p.super) (shown (state_of d p)) (laws.shows p command head o running runs are found))
 
   -- what is planned for a put
   put_at : (volume : VolumeRef) (key value : Text) (head : Option ℕ) (o : Option Xattrs)
@@ -172,7 +172,7 @@ module _ {D : Type 0} (d : Ghosts D) (laws : PlanLaws d) (p : StoreView D) (runn
     live_given command head found =
         subst (λ (sup : Super). IsLiveOf metas sup o command) (sym s)
         (subst (λ (metas : map.FinMap nat_cmp Meta). IsLiveOf metas p.super o command) (sym m)
-        (laws.live p command head o running runs found))
+        (laws.live p command head o running runs are found))
 
     pub put_plan : (command : Command) (volume : VolumeRef) (key value : Text) → command ≡ c.Put volume key value
         → (head : Option ℕ) → IsFound p.metas p.super p.live command head o → (planned : Result Job Reply)

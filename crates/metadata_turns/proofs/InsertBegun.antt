@@ -1,5 +1,5 @@
 -- The begin of an insert, as a case: the job begins, the claim is lost, or its write is logged.
-use Rattle.std.proofs.Common.{◌≡◌, ℕ, ◌<◌, Bool, true, false, List, [], ◌∷◌, length, drop, Option, Some, None}
+use Rattle.std.proofs.Common.{◌≡◌, ℕ, ◌<◌, Bool, true, false, List, [], length, Option, Some, None}
 use Rattle.std.proofs.Common.{refl, sym, ◌∙◌, ap, arith, subst}
 use Rattle.std.specs.Prelude.{is_some, slice_index_or, slice_set}
 use Rattle.std.proofs.lemmas.List.{get_or_default}
@@ -14,7 +14,7 @@ use Rattle.store_model.specs.Claiming.{CanInsert, given_back, IsCopying, LogsOwn
 use Rattle.store_model.specs.Claiming as claiming
 use Rattle.store_model.specs.Inserting.{with_slot}
 use Rattle.store_model.specs.Jobs.{LacksPages}
-use Rattle.store_model.specs.Places.{all_set, without_claim}
+use Rattle.store_model.specs.Places.{without_claim}
 use Rattle.store_model.specs.Rows.{Answered, Decided, Ended, InJob, Lost, OpenClaim, Posted, Row, Rows, with_row}
 use Rattle.store_model.specs.StoreState.{logged, StoreState}
 use Rattle.metadata_turns.specs.Inserts.{no_effects, HoldsPosted, IsLack}

@@ -1,7 +1,7 @@
 -- What is known of an insert before its job begins: the metadata that is to be written, and the pages on which it is
 -- laid.
-use Rattle.std.proofs.Common.{◌≡◌, ◌≢◌, ◌⊎◌, ℕ, ◌<◌, ◌^◌, true, false, All, List, [], ◌∷◌, length, get_or}
-use Rattle.std.proofs.Common.{drop, Some, None, Option, refl, sym, ◌∙◌, ap, subst, arith, inl, inr, Bool}
+use Rattle.std.proofs.Common.{◌≡◌, ◌⊎◌, ℕ, ◌<◌, ◌^◌, true, false, All, List, [], ◌∷◌, get_or}
+use Rattle.std.proofs.Common.{drop, Some, None, refl, sym, ◌∙◌, ap, subst, arith, inl, inr, Bool}
 use Rattle.std.specs.Ordering.{nat_cmp}
 use Rattle.std.specs.FinMap as map
 use Rattle.std.proofs.lemmas.Bool.{both_ways, cases_Bool}
@@ -19,11 +19,11 @@ use Rattle.md_chain.proofs.Saying.{written_say}
 use Rattle.store_model.specs.Claiming.{CanInsert}
 use Rattle.store_model.specs.Inserting.{with_slot}
 use Rattle.store_model.specs.Jobs.{places_of, MovesClusters}
-use Rattle.store_model.specs.Maps.{Metas, with_entry}
+use Rattle.store_model.specs.Maps.{with_entry}
 use Rattle.store_model.specs.Phases.{page_in}
-use Rattle.store_model.specs.Places.{AreDistinct, AreLeastClear, HasClaim, held_by, IsLinked, IsMapped, UsedPages}
+use Rattle.store_model.specs.Places.{AreDistinct, HasClaim, held_by, IsLinked, IsMapped, UsedPages}
 use Rattle.store_model.specs.Regions.{region_of}
-use Rattle.store_model.specs.Rows.{OpenClaim, Row}
+use Rattle.store_model.specs.Rows.{OpenClaim}
 use Rattle.store_model.specs.RunInvariant.{IsSteady, RunsWell}
 use Rattle.store_model.specs.StoreState.{StoreState}
 use Rattle.store_model.proofs.InsertedBlob.{inserted_steady, inserted_mapped, mapped_still, mapped_then}

@@ -21,6 +21,7 @@ use Rattle.blob_meta.specs.declared.job.Job.{Job}
 use Rattle.blob_meta.specs.Jobs.{create_job, job_of_one, new_meta, resize_job, resized_meta}
 use Rattle.blob_meta.specs.Faults.{clusters_of}
 use Rattle.blob_meta.specs.Parents.{slot}
+use Rattle.blob_meta.specs.Resolving.{mark_of}
 use Rattle.blob_meta.specs.Says.{meta_of}
 use Rattle.blob_meta.proofs.Inverse.{says}
 use Rattle.md_chain.specs.Chain.{is_among}
@@ -356,6 +357,10 @@ module _ (p : StoreState) (running : IsRunning p) (runs : p.stopped ≡ None) (c
 
       whole : IsSteady p.super head later
       whole = steady claimed least one_each (head_low t.fresh t.least)
+
+      -- and has no mark
+      pub unmarked : mark_of later ≡ None
+      unmarked = whole.unmarked
 
       says_new : later ≡ meta_of head (written_items is.items)
       says_new = sym (written_say head is.items is.plannable

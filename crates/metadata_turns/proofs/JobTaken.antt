@@ -2,7 +2,6 @@
 use Rattle.std.proofs.Common.{◌≡◌, ℕ, ◌<◌, ◌≤◌, All, Bool, true, false, List, [], length, Option, Some, None}
 use Rattle.std.proofs.Common.{IfSome, IfNone, refl, sym, ap, ◌∙◌, subst, arith, inl, inr}
 use Rattle.std.specs.Prelude.{is_some, not, slice_set, IsSome}
-use Rattle.std.specs.FinMap as map
 use Rattle.page_disk.specs.declared.disk.PageDisk.{Ghosts}
 use Rattle.bit_array.specs.Bits.{is_in}
 use Rattle.pools.specs.Pool.{clear_in}
@@ -11,10 +10,12 @@ use Rattle.volume_model.specs.declared.command.Command.{Command}
 use Rattle.volume_model.specs.declared.reply.Reply.{Reply}
 use Rattle.volume_model.specs.declared.reply.Reply.TheVariants.{Memory}
 use Rattle.blob_meta.specs.declared.meta.Meta.{Meta}
+use Rattle.blob_meta.specs.Resolving.{mark_of}
 use Rattle.md_chain.specs.Packing.{FitsPage}
 use Rattle.store_model.specs.Cases.{Begins, IsRefusedAtBegin}
 use Rattle.store_model.specs.Jobs.{with_clusters, AreForZeros}
 use Rattle.store_model.specs.Steady.{CanBeWritten}
+use Rattle.store_model.specs.Maps.{Metas}
 use Rattle.store_model.specs.Places.{all_set, AreDistinct}
 use Rattle.store_model.specs.Rows.{InJob, Row}
 use Rattle.store_model.specs.StoreState.{JobState, StoreState}
@@ -24,16 +25,18 @@ use Rattle.metadata_turns.specs.Begins.{planned_with, with_begun, AsksToWrite, H
 use Rattle.metadata_turns.specs.Begins.{IsUnprepared}
 use Rattle.running_store.specs.Effects.{cut_clusters, is_live_kept, live_behind, AreEffects}
 use Rattle.running_store.specs.StoreInvariant.{IsRunning}
-use Rattle.running_store.specs.StoreView.{StoreView, rows_of, state_of}
+use Rattle.running_store.specs.Running.{WillResolve}
+use Rattle.running_store.specs.StoreView.{AreResolved, StoreView, rows_of, state_of}
 use Rattle.running_store.specs.Steps.{Asks, IsPostedAt}
 use Rattle.running_store.specs.declared.effects.Effects.{Effects}
 use Rattle.running_store.specs.declared.job.Rooms.{Rooms}
 use Rattle.running_store.specs.declared.job.RunningJob.{RunningJob}
 use Rattle.metadata_turns.specs.declared.preparing.Prepared.{Prepared}
-use Rattle.metadata_turns.proofs.JobAsked.{asked, first_in_use, has_chain, ready, there_is, zeros_within, IsAsked}
+use Rattle.metadata_turns.proofs.JobAsked.{asked, first_in_use, has_chain, ready, there_is, unmarked, zeros_within, IsAsked}
 use Rattle.metadata_turns.proofs.JobPlanned.{all_fit}
 use Rattle.metadata_turns.proofs.JobBegin.{begun, why_unprepared}
 use Rattle.metadata_turns.proofs.SlotsOfZeros.{with_none}
+use Rattle.running_store.proofs.Resolved.{base_is, no_marks, will_resolve}
 
 -- where room is taken no blob is there
 not_there : (rooms : Option Rooms) (chain : Option (List ℕ)) → IfNone rooms (IsSome chain)
@@ -137,6 +140,25 @@ module _ {D : Type 0} (d : Ghosts D) (p : StoreView D) (channel : ℕ) (posted :
           why_unprepared s running runs no_job k head new zeros (asks_it k ks left) claimed claims false
           (λ bad. absurd (cc bad)) reply
           (subst (λ (m : Meta). IsUnprepared false (is_some (s.chains head)) m p.pages reply) is x)
+
+      -- once its metadata is written the device says what the store has in memory then
+      pub job_resolves : length zeros ≤ length claimed → (e : Effects) → IfNone e.rooms (IsSome (s.chains head))
+          → IfSome e.rooms (λ _. s.chains head ≡ None) → (pages : List Bool) → (x : Prepared)
+          → IsPrepared p.chains head later (is_some e.rooms) p.pages pages x → AreResolved p.metas p.marked
+          → WillResolve p.metas p.marked (planned_with x head later (record e { claimed = claimed }))
+      job_resolves all e some none pages x prepared are =
+          let there = was e.rooms some none in
+          let with_its : IsPrepared p.chains head (with_clusters new zeros claimed) (is_some e.rooms) p.pages pages x =
+          subst (λ (m : Meta). IsPrepared p.chains head m (is_some e.rooms) p.pages pages x) is prepared in
+          let no_mark = unmarked s running runs command head new zeros asks no_job (is_some e.rooms) there claimed
+          claims.least (as_many all) p.chains pages x with_its in
+          record {
+            there = λ no_room. subst (λ (m : Metas). is_some (m head) ≡ true)
+                (base_is d p running are)
+                (there_is s running runs command head new zeros asks ∙ there ∙ ap (λ o. not (is_some o)) no_room);
+            resolves = will_resolve p.metas p.marked head later are (no_marks s running)
+                (subst (λ (m : Meta). mark_of m ≡ None) (sym is) no_mark);
+          }
 
       -- the job begins, once all that it needs is taken
       pub job_begins : channel < length p.rows → length zeros ≤ length claimed → (e : Effects) (kept : Bool)

@@ -1,7 +1,7 @@
 -- The turns of the running job: which cases they are, what they start from, and what they answer.
 use Rattle.std.specs.Prelude.{◌≡◌, ℕ, Option, Some, None, length}
 use Rattle.page_disk.specs.declared.disk.PageDisk.{Ghosts}
-use Rattle.store_model.specs.StoreState.{JobState, waiting}
+use Rattle.store_model.specs.StoreState.{JobState}
 use Rattle.store_model.specs.Cases.{Kind, the}
 use Rattle.store_model.specs.Cases as kind
 use Rattle.metadata_turns.specs.declared.job_turn.JobTurn.{JobTurn}

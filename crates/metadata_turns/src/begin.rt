@@ -10,7 +10,7 @@ ghost use Rattle.metadata_turns.specs.Begins.{ReplacesOne};
 ghost use Rattle.running_store.specs.Jobs.{IsHeaded};
 ghost use Rattle.running_store.specs.StoreInvariant.{IsRunning};
 ghost use Rattle.running_store.specs.TurnMade.{TurnMade};
-ghost use Rattle.running_store.specs.Running.{view_of, InOrder, IsRoomy};
+ghost use Rattle.running_store.specs.Running.{view_of, InOrder, IsRoomy, WillResolveBy};
 ghost use Rattle.running_store.specs.StoreView.{rows_of, state_of};
 ghost use Rattle.running_store.specs.Steps.{Asks, IsPostedAt, OnlyRow};
 
@@ -95,6 +95,7 @@ fn job_for<D: PageDisk>(
     ensures headed { IfOk result IsHeaded }
     ensures roomy { IfOk result
         (IsRoomy running.new.metas running.new.chains running.new.live running.new.guards) }
+    ensures will_resolve { IfOk result (WillResolveBy running.new.metas running.new.marked) }
     ensures lack { IfErr result (λ reply. Asks (view_of running.old) channel
         (λ command. IsRefusedAtBegin (state_of D.PageDisk (view_of running.old)) command reply)) }
     ensures same { OnErr result (running.new ≡ running.old) }

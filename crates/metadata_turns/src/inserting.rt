@@ -15,7 +15,7 @@ ghost use Rattle.running_store.specs.Running.{view_of, InOrder};
 ghost use Rattle.running_store.specs.Stages.{claim_seen};
 ghost use Rattle.running_store.specs.Steps.{decided, OnlyRow};
 ghost use Rattle.running_store.specs.StoreInvariant.{IsRunning};
-ghost use Rattle.running_store.specs.StoreView.{rows_of, state_of};
+ghost use Rattle.running_store.specs.StoreView.{base_of, rows_of, state_of};
 ghost use Rattle.running_store.specs.TurnMade.{TurnMade};
 
 use crate::preparing::{Prepared, prepare};
@@ -86,7 +86,8 @@ fn claim_of(rows: &[Row], channel: u8) -> OpenClaim
 /// The metadata of a claim's blob with the cluster in its slot, as it was last synced otherwise; `None` where the claim
 /// is lost.
 fn filled<D: PageDisk>(running: &Running<D>, claim: OpenClaim) -> Option<Result<Meta, Memory>>
-    requires { 0 < claim.cluster }
+    requires cluster { 0 < claim.cluster }
+    requires unmarked { base_of running.now.metas running.now.marked ≡ map.get running.now.metas }
     ensures lost { IfNone result ((meta : AMeta)
         → CanInsert (state_of D.PageDisk (view_of running.now)) (claim_seen claim) meta → ⊥) }
     ensures fills { IfSome result (Fills (state_of D.PageDisk (view_of running.now)) (claim_seen claim)) }

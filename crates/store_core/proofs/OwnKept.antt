@@ -10,7 +10,7 @@ use Rattle.store_model.specs.Cases as kind
 use Rattle.store_model.specs.Cases.BreakDown.{IsUnlogged, WasLogged}
 use Rattle.store_model.specs.Cases.CopyFail as tried
 use Rattle.store_model.specs.Cases.CopyFail.{TriedCopy}
-use Rattle.store_model.specs.Cases.Halt.{MayLog, stage_after}
+use Rattle.store_model.specs.Cases.Halt.{MayLog}
 use Rattle.store_model.specs.Claiming.{stage_behind, LogsOwn}
 use Rattle.store_model.specs.Device.{Device}
 use Rattle.store_model.specs.Phases.{Phase}

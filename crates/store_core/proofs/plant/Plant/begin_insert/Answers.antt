@@ -1,4 +1,4 @@
-use Rattle.std.proofs.Common.{◌≡◌, None, subst, sym}
+use Rattle.std.proofs.Common.{subst, sym}
 use Rattle.running_store.specs.Running.{view_of, with_opening}
 use Rattle.running_store.specs.Requests.{IsInsertPosted}
 use Rattle.running_store.specs.StoreView.{WithOpening}
