@@ -7,7 +7,7 @@ use Rattle.page_disk.specs.declared.disk.PageDisk.{Ghosts}
 use Rattle.super_block.specs.declared.page.Super.{Super}
 use Rattle.volume_model.specs.Volumes.{Volumes}
 use Rattle.store_model.specs.Recovers.{Recovers, RecoversAt, RecoversFrom}
-use Rattle.running_store.specs.StoreView.{StoreView}
+use Rattle.running_store.specs.StoreView.{base_of, StoreView}
 use Rattle.running_store.specs.Surviving.{HoldsMetadata}
 use Rattle.unclean_load.specs.Accepted.{IsAccepted}
 
@@ -29,7 +29,7 @@ module _ {D : Type 0} (d : Ghosts D) (s : Super) (first : Volumes) (p : StoreVie
     pub stopped : (at : ℕ) → p.stopped ≡ Some at → (image : Image) → d.images back image
         → IsAccepted s.device_pages image × RecoversAt s first p.log at image
 
-  -- The device has one image, which holds just the metadata that the store has in memory.
+  -- The device has one image, which holds just the metadata that the store has of it in memory, marks and all.
   pub record IsLasting : Type 0 where
     pub one_image : Only (d.now back) (d.images back)
-    pub holds : HoldsMetadata s (map.get p.metas) (map.get p.chains) (d.now back)
+    pub holds : HoldsMetadata s (base_of p.metas p.marked) (map.get p.chains) (d.now back)

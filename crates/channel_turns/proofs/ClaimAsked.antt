@@ -24,21 +24,23 @@ use Rattle.store_model.specs.Cases as kind
 use Rattle.store_model.specs.Claiming.{MeansSlot}
 use Rattle.store_model.specs.Rows.{Claiming, Copying, Idle, OpenClaim, Row, Rows, with_row}
 use Rattle.store_model.specs.Shown.{fixed_of}
+use Rattle.store_model.specs.Maps.{Metas}
 use Rattle.store_model.specs.StoreState.{shown, StoreState}
 use Rattle.store_model.specs.Turning.{IsNotFrozen}
 use Rattle.running_store.specs.TurnMade.{TurnMade, TurnsAs}
 use Rattle.channel_turns.specs.ChannelTurns.{WaitsToWrite}
 use Rattle.channel_turns.specs.ClaimTurns.{ClaimsNow, IsOfClaim, writing}
 use Rattle.running_store.specs.StoreInvariant.{IsRunning}
-use Rattle.running_store.specs.StoreView.{rows_of, state_of, StoreView}
+use Rattle.running_store.specs.StoreView.{AreResolved, rows_of, state_of, StoreView}
 use Rattle.running_store.specs.Steps.{logged_on, OnlyRow, with_row_at}
 use Rattle.running_store.proofs.Entered.{disk_same_then, entered_then}
+use Rattle.store_model.proofs.Resolved.{resolved_of}
 use Rattle.running_store.proofs.Rowing.{only_row, rows_set, state_with_row}
 use Rattle.channel_turns.proofs.WriteMeant.{free, has_empty, has_place, HasEmpty, HasPlace, means_at, page_cause, place_by}
 use Rattle.channel_turns.proofs.WriteMeant.{refused_so, slot_low, unfilled}
 
 module _ {D : Type 0} (d : Ghosts D) (p : StoreView D) (channel : ℕ) (running : IsRunning (state_of d p))
-    (runs : p.stopped ≡ None) (w : WaitsToWrite p channel Claiming) (head : Option ℕ)
+    (runs : p.stopped ≡ None) (are : AreResolved p.metas p.marked) (w : WaitsToWrite p channel Claiming) (head : Option ℕ)
     (meant : IsHeadMeant p.metas p.super w.volume head)
     (thawed : option_map_or (set.contains p.guards.frozen) head false ≡ false) where
   abbrev s : StoreState
@@ -61,7 +63,7 @@ module _ {D : Type 0} (d : Ghosts D) (p : StoreView D) (channel : ℕ) (running 
           write = writing d p channel Claiming w;
           runs = runs;
           cluster = x.cluster;
-          means = means_at d p channel Claiming running runs w head meant thawed x.at x.head_is x.meta x.there
+          means = means_at d p channel Claiming running runs are w head meant thawed x.at x.head_is x.meta x.there
               (Some x.cluster) x.in_slot;
           next = state_with_row d p channel row (record { left = command ∷ w.rest; stage = Idle; claim = None })
               (is ∙ ap (λ (r : Row). record r { stage = Idle }) w.row) low;
@@ -85,12 +87,12 @@ module _ {D : Type 0} (d : Ghosts D) (p : StoreView D) (channel : ℕ) (running 
             record {
               write = writing d p channel Claiming w;
               runs = runs;
-              free = free d p channel Claiming running runs w head meant thawed;
-              unfilled = unfilled d p channel Claiming running runs w head meant thawed none;
+              free = free d p channel Claiming running runs are w head meant thawed;
+              unfilled = unfilled d p channel Claiming running runs are w head meant thawed none;
               reply = reply;
               why = inl (
                 page_cause reply caused,
-                refused_so d p channel Claiming running runs w head meant (Some reply) first,
+                refused_so d p channel Claiming running runs are w head meant (Some reply) first,
               );
               next = entered_then Idle d p q channel command w.rest reply low is;
             },
@@ -102,7 +104,7 @@ module _ {D : Type 0} (d : Ghosts D) (p : StoreView D) (channel : ℕ) (running 
     module _ (first : IsFirstOnPages p.metas p.super command None) (h : ℕ) (is : head ≡ Some h)
         (there : IfSome head (λ h. IsSome (map.get p.metas h))) where
       asked : refusal (fixed_of p.super) (shown s) command ≡ None
-      asked = refused_so d p channel Claiming running runs w head meant None first
+      asked = refused_so d p channel Claiming running runs are w head meant None first
 
       abbrev x : HasEmpty (map.get p.metas) k h w.page
       x = has_empty (map.get p.metas) k h w.page
@@ -110,7 +112,7 @@ module _ {D : Type 0} (d : Ghosts D) (p : StoreView D) (channel : ℕ) (running 
           (sym (ap (place_by (map.get p.metas) k w.page) is) ∙ none)
 
       pub slot_fits : w.page / k < 2 ^ 32
-      slot_fits = slot_low d p channel Claiming running runs w head meant h is x.meta x.there asked
+      slot_fits = slot_low d p channel Claiming running runs are w head meant h is x.meta x.there asked
 
       generation : (o : Option ℕ) → map.get p.guards.generations h ≡ o → is_some o ≡ true
           → (number : ℕ) × (map.get p.guards.generations h ≡ Some number)
@@ -120,12 +122,13 @@ module _ {D : Type 0} (d : Ghosts D) (p : StoreView D) (channel : ℕ) (running 
       pub claims_now : (slot : ℕ) → slot ≡ w.page / k → ClaimsNow d p channel h slot
       claims_now slot slot_is =
           let each = (running.facts.well runs).generations.each h in
-          let number = generation (map.get p.guards.generations h) refl (each ∙ ap is_some x.there) in
+          let before = resolved_of s.base h x.meta (ap (λ (b : Metas). b h) are.resolves ∙ x.there) in
+          let number = generation (map.get p.guards.generations h) refl (each ∙ ap is_some before.there) in
           record {
             waits = w;
             runs = runs;
             asked = asked;
-            means = means_at d p channel Claiming running runs w head meant thawed h is x.meta x.there None x.empty;
+            means = means_at d p channel Claiming running runs are w head meant thawed h is x.meta x.there None x.empty;
             head_is = refl;
             slot_is = sym slot_is;
             generation = number.0;

@@ -1,19 +1,17 @@
 -- What a channel's copy of a page comes to.
-use Rattle.std.proofs.Common.{◌≡◌, ◌≢◌, ◌⊎◌, ℕ, zero, suc, ◌+◌, ◌-◌, ◌*◌, ◌<◌, ◌≤◌, Bool, true, false, List, ◌∷◌}
-use Rattle.std.proofs.Common.{Option, Some, None, Result, Ok, Err, length, refl, sym, ◌∙◌, ap, subst, arith, inl, inr}
-use Rattle.std.proofs.Common.{◌^◌, add-one, IsTrue, not}
+use Rattle.std.proofs.Common.{◌≡◌, ◌≢◌, ◌⊎◌, ℕ, zero, suc, ◌+◌, ◌*◌, ◌<◌, ◌≤◌, Bool, true, false, List, ◌∷◌}
+use Rattle.std.proofs.Common.{Option, Some, None, length, refl, sym, ◌∙◌, ap, subst, arith, inl}
+use Rattle.std.proofs.Common.{add-one, IsTrue}
 use Rattle.std.specs.Prelude.{◌↔◌}
 use Rattle.std.specs.Ordering.{nat_cmp}
 use Rattle.blob_meta.specs.declared.meta.Meta.{Meta}
 use Rattle.super_block.specs.declared.page.Super.{Super}
-use Rattle.std.specs.Prelude.{if◌then◌else◌, IfSome, IsSome, OnErr, OnOk, slice_set}
+use Rattle.std.specs.Prelude.{if◌then◌else◌, IfSome}
 use Rattle.std.specs.Option.{option_map_or}
-use Rattle.std.specs.Result.{is_err}
 use Rattle.std.specs.FinMap as map
 use Rattle.std.proofs.Math.Nat.{mul-le-mul_right}
 use Rattle.page_disk.specs.Disk.{Image, Rose, RoseByOne, Telling, Written}
 use Rattle.page_disk.specs.Moments.{CallsLeaveOnly}
-use Rattle.page_disk.specs.declared.disk.DiskFault.{DiskFault}
 use Rattle.page_disk.specs.declared.disk.PageDisk.{Ghosts}
 use Rattle.page_disk.specs.declared.disk.WriteKind.TheVariants.{Plain}
 use Rattle.page_disk.proofs.Moments.{joined, kept_before}
@@ -25,33 +23,29 @@ use Rattle.volume_model.specs.declared.command.Command.TheVariants as c
 use Rattle.volume_model.specs.declared.reply.Reply.TheVariants as r
 use Rattle.blob_meta.specs.Pages.{place_read}
 use Rattle.blob_meta.specs.Resolving.{resolved}
-use Rattle.blob_meta.specs.SlotCounts.{HeadsFit}
 use Rattle.store_model.specs.Cases as kind
 use Rattle.store_model.specs.Cases.{FailsToReplace, WritesOnePage}
 use Rattle.store_model.specs.Cases.Copy.{stage_left}
-use Rattle.store_model.specs.Cases.CopyFail.{copy, FailsToCopy}
+use Rattle.store_model.specs.Cases.CopyFail.{copy}
 use Rattle.store_model.specs.Cases.Read.{IsRead}
-use Rattle.store_model.specs.Claiming.{given_back}
-use Rattle.store_model.specs.Copying.{IsUpToDate, page_of_claim, shown_in_slot}
-use Rattle.store_model.specs.Device.{Device}
+use Rattle.store_model.specs.Copying.{page_of_claim, shown_in_slot}
 use Rattle.store_model.specs.Maps.{Metas}
-use Rattle.store_model.specs.Rows.{Copying, Idle, OpenClaim, Row, Rows, Stage}
-use Rattle.store_model.specs.StoreState.{logged_here, StoreState}
+use Rattle.store_model.specs.Rows.{Copying, Idle, OpenClaim, Row}
+use Rattle.store_model.specs.StoreState.{StoreState}
 use Rattle.store_model.specs.Touches.{no_new, puts, Touched}
 use Rattle.store_model.specs.Turning.{read_after}
 use Rattle.store_model.proofs.Used.{within}
-use Rattle.running_store.specs.DeviceCalls.{IsReadSo}
 use Rattle.running_store.specs.Steps.{logged_on, stopped_here, with_row_at}
 use Rattle.running_store.specs.TurnMade.{TurnMade, TurnsAs}
 use Rattle.channel_turns.specs.ClaimTurns.{CopiesNow, HoldsClaim, IsOfCopy, WaitsToCopy}
 use Rattle.running_store.specs.GivingBack.{row_given_back}
 use Rattle.running_store.specs.Stages.{to_copy_in}
 use Rattle.running_store.specs.StoreInvariant.{IsRunning}
-use Rattle.running_store.specs.StoreView.{device_of, read_now, rows_of, state_of, StoreView}
+use Rattle.running_store.specs.StoreView.{AreResolved, device_of, read_now, rows_of, state_of, StoreView}
 use Rattle.channel_turns.proofs.GivenUp.{copying, disk_failed, logs_failed}
 use Rattle.running_store.proofs.GivenBack.{given_up, state_given_back}
-use Rattle.channel_turns.proofs.PagesShown.{read_content, read_low, resolved_is}
-use Rattle.channel_turns.proofs.ReadAsked.{content_seen, failed_so}
+use Rattle.channel_turns.proofs.PagesShown.{read_content, read_low}
+use Rattle.channel_turns.proofs.ReadAsked.{content_seen}
 use Rattle.running_store.proofs.Rowing.{state_with_row}
 use Rattle.channel_turns.proofs.Written.{blank}
 
@@ -90,17 +84,6 @@ pub late : (b : Bool) (F : Type 0) → (IsTrue b ↔ F) → b ≡ false → F �
 late true F both is holds = absurd (cc is)
 late false F both is holds = let bad = both.1 holds in cc bad
 
--- each head is a number of 32 bits
-pub all_fit : {D : Type 0} (d : Ghosts D) (p : StoreView D) → IsRunning (state_of d p) → HeadsFit p.metas
-all_fit d p running h high = by (map.get p.metas h) refl
-  where
-    by : (o : Option Meta) → map.get p.metas h ≡ o → map.get p.metas h ≡ None
-    by None is = is
-    by (Some m) is =
-        let few = running.placed.few_md_pages in
-        let low = (running.facts.steady h m is).stored.low in
-        absurd (omega (arith, few, low, high))
-
 -- where the page is read, by the pages of a cluster
 pub from_is : (metas : map.FinMap nat_cmp Meta) (sup : Super) (head slot page k : ℕ) → k ≡ cluster_pages_of sup
     → (n : ℕ) → n ≡ slot * k + page
@@ -113,7 +96,7 @@ from_is metas sup head slot page k pages n is =
 -- ---- where a page is copied from and to
 
 module _ {D : Type 0} (d : Ghosts D) (p : StoreView D) (channel : ℕ) (running : IsRunning (state_of d p))
-    (runs : p.stopped ≡ None) (w : WaitsToCopy p channel)
+    (runs : p.stopped ≡ None) (are : AreResolved p.metas p.marked) (w : WaitsToCopy p channel)
     (current : map.get p.guards.generations w.holds.claim.head ≡ Some w.holds.claim.generation) where
   abbrev s : StoreState
   s = state_of d p
@@ -132,7 +115,7 @@ module _ {D : Type 0} (d : Ghosts D) (p : StoreView D) (channel : ℕ) (running 
         let n = claim.slot * k + page in
         read_content k s.device.reads (resolved s.base) (suc p.super.md_len) n claim.head
         ∙ ap (λ (b : Metas). option_map_or s.device.reads (place_read k b (suc p.super.md_len) claim.head n) zero_page)
-        (resolved_is s running runs p.metas refl)
+        are.resolves
         ∙ ap (λ t. option_map_or s.device.reads (place_read k (map.get p.metas) t claim.head n) zero_page)
         (sym (add-one p.super.md_len))
         ∙ ap (λ (o : Option ℕ). option_map_or s.device.reads o zero_page) (sym from_is)
@@ -157,7 +140,7 @@ module _ {D : Type 0} (d : Ghosts D) (p : StoreView D) (channel : ℕ) (running 
             → IfSome o (λ n. n < bound)
         by None is = tt
         by (Some n) is =
-            let low = read_low s running runs p.metas refl (p.super.md_len + 1) (claim.slot * k + page) claim.head n
+            let low = read_low s running runs p.metas are.resolves (p.super.md_len + 1) (claim.slot * k + page) claim.head n
             (sym is) in
             omega (arith, low, le)
 

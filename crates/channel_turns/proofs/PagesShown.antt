@@ -28,17 +28,19 @@ use Rattle.descriptors.specs.Runs.{at_most}
 use Rattle.blob_meta.specs.Pages.{parent_with, place_by, place_read, ShowsPages}
 use Rattle.blob_meta.specs.Parents.{is_read_only, parent_of, slot}
 use Rattle.blob_meta.specs.Resolving.{resolved}
+use Rattle.blob_meta.specs.SlotCounts.{HeadsFit}
 use Rattle.blob_meta.proofs.Refused.{at_volume}
 use Rattle.store_model.specs.Maps.{Metas}
 use Rattle.store_model.specs.Shown.{content, content_by, fixed_of, volume_of}
 use Rattle.store_model.specs.StoreState.{shown, StoreState}
-use Rattle.store_model.proofs.Shows.{steady_resolved, or_empty}
+use Rattle.store_model.proofs.Shows.{or_empty, resolved_faultless}
 use Rattle.store_model.proofs.SlotSums.{slots_shown}
 use Rattle.store_model.proofs.Inside.{none_second}
 use Rattle.store_model.specs.Regions.{region_of}
 use Rattle.store_model.proofs.Used.{within}
 use Rattle.running_store.specs.StoreInvariant.{IsRunning}
 use Rattle.running_store.proofs.PlainFacts.{got}
+use Rattle.store_model.proofs.Resolved.{resolved_mapped, resolved_stored}
 use Rattle.running_store.proofs.Showing.{shows_metas}
 
 -- where the cause of a read doesn't hold, the page is there
@@ -123,7 +125,7 @@ none_first None rest none = refl
 none_first (Some x) rest none = absurd (cc none)
 
 module _ (p : StoreState) (running : IsRunning p) (runs : p.stopped ≡ None) (metas : map.FinMap nat_cmp Meta)
-    (base : p.base ≡ map.get metas) where
+    (resolves : resolved p.base ≡ map.get metas) where
   abbrev k : ℕ
   k = cluster_pages_of p.super
 
@@ -133,15 +135,12 @@ module _ (p : StoreState) (running : IsRunning p) (runs : p.stopped ≡ None) (m
   placed : IsPlaced p.super
   placed = subst IsPlaced (sym running.facts.super) running.placed
 
-  pub resolved_is : resolved p.base ≡ map.get metas
-  resolved_is = steady_resolved running.store p.base running.facts.steady ∙ base
-
   pub pages_long : (h : ℕ) (m : Meta) → length (as_volume h m).pages ≡ k * length m.map
   pages_long h m = length-map-range_with_len (content k p.device.reads (resolved p.base) (suc p.super.md_len) h) 0
       (k * length m.map)
 
   pub volume_shown : (h : ℕ) (m : Meta) → map.get metas h ≡ Some m → shown p h ≡ Some (as_volume h m)
-  volume_shown h m there = ap (option_map (as_volume h)) (ap (λ (b : Metas). b h) resolved_is ∙ there)
+  volume_shown h m there = ap (option_map (as_volume h)) (ap (λ (b : Metas). b h) resolves ∙ there)
 
   whole_of : (h : ℕ) (m : Meta) → length (as_volume h m).pages ≡ k * slots_of (fixed_of p.super) (as_volume h m)
   whole_of h m = pages_long h m ∙ ap (λ n. k * n) (sym
@@ -150,7 +149,7 @@ module _ (p : StoreState) (running : IsRunning p) (runs : p.stopped ≡ None) (m
   -- all volumes that are shown show the pages of its metadata
   pub shows_pages : ShowsPages (fixed_of p.super) p.super metas (shown p)
   shows_pages = record {
-    shows = shows_metas p running runs metas base;
+    shows = shows_metas p running runs metas resolves;
     cluster_pages_are = refl;
     whole = λ h x is. by h x (resolved p.base h) is;
   }
@@ -184,7 +183,8 @@ module _ (p : StoreState) (running : IsRunning p) (runs : p.stopped ≡ None) (m
   pub few_slots : (h : ℕ) (m : Meta) → map.get metas h ≡ Some m → length m.map ≤ 2 ^ 20
   few_slots h m there =
       let region = region_of running.store in
-      let fine = (running.facts.steady h m (ap (λ (b : Metas). b h) base ∙ there)).stored.faultless in
+      let fine = resolved_faultless running.store p.base running.facts.stored h m
+      (ap (λ (b : Metas). b h) resolves ∙ there) in
       let in_map : map_fault region.fixed region.clusters m.map ≡ None =
       none_second (unknown_flag m.flags) (map_fault region.fixed region.clusters m.map)
       (hole_in_thick m.flags m.map ∷ bad_mark m.internal ∷ []) fine in
@@ -203,13 +203,14 @@ module _ (p : StoreState) (running : IsRunning p) (runs : p.stopped ≡ None) (m
       → cluster * k + page % k < p.super.device_pages
   page_low h m i cluster page there is =
       let used = (running.facts.well runs).clusters in
-      let low = within p.clusters cluster (used.mapped cluster (record {
+      let mapped = resolved_mapped p.base cluster (record {
         head = h;
         meta = m;
-        there = ap (λ (b : Metas). b h) base ∙ there;
+        there = ap (λ (b : Metas). b h) resolves ∙ there;
         place = i;
         in_slot = is;
-      })) in
+      }) in
+      let low = within p.clusters cluster (used.mapped cluster mapped) in
       let count = used.count in
       let le : (cluster + 1) * k ≤ clusters_of p.super * k = mul-le-mul_right k (omega (arith, low, count)) in
       let rest = mod-lt page placed.some_pages in
@@ -237,9 +238,21 @@ module _ (p : StoreState) (running : IsRunning p) (runs : p.stopped ≡ None) (m
       0 n page page [] lt (omega arith)
       ∙ read_content k p.device.reads (resolved p.base) (suc p.super.md_len) page h
       ∙ ap (λ (b : Metas). option_map_or p.device.reads (place_read k b (suc p.super.md_len) h page) zero_page)
-      resolved_is
+      resolves
       ∙ ap (λ t. option_map_or p.device.reads (place_read k (map.get metas) t h page) zero_page)
       (sym (add-one p.super.md_len)))
+
+  -- each head is a number of 32 bits
+  pub heads_fit : HeadsFit metas
+  heads_fit h high = by (map.get metas h) refl
+    where
+      by : (o : Option Meta) → map.get metas h ≡ o → map.get metas h ≡ None
+      by None is = is
+      by (Some m) is =
+          let there : resolved p.base h ≡ Some m = ap (λ (b : Metas). b h) resolves ∙ is in
+          let few = running.placed.few_md_pages in
+          let low = (resolved_stored running.store p.base running.facts.stored h m there).low in
+          absurd (omega (arith, few, low, high))
 
   -- so many steps through parents
   abbrev IsLowAfter : ℕ → ℕ → Type 0

@@ -23,7 +23,6 @@ use Rattle.volume_model.specs.declared.reply.Reply.TheVariants as r
 use Rattle.blob_meta.specs.declared.meta.Meta.{Meta}
 use Rattle.blob_meta.specs.Pages.{IsFirstOnPages, IsPageCause, place_read}
 use Rattle.blob_meta.specs.ShownBy.{IsHeadMeant}
-use Rattle.blob_meta.specs.SlotCounts.{HeadsFit}
 use Rattle.blob_meta.proofs.Refused.{none_meant}
 use Rattle.store_model.specs.Cases as kind
 use Rattle.store_model.specs.Cases.Read.{IsRead}
@@ -38,7 +37,7 @@ use Rattle.running_store.specs.DeviceCalls.{IsReadSo}
 use Rattle.running_store.specs.TurnMade.{TurnsAs}
 use Rattle.running_store.specs.Reserved.{is_read, IsContent}
 use Rattle.running_store.specs.StoreInvariant.{IsRunning}
-use Rattle.running_store.specs.StoreView.{device_of, read_now, rows_of, state_of, StoreView}
+use Rattle.running_store.specs.StoreView.{AreResolved, device_of, read_now, rows_of, state_of, StoreView}
 use Rattle.running_store.specs.Steps.{logged_on}
 use Rattle.running_store.proofs.Entered.{disk_same_then, entered_then}
 use Rattle.running_store.proofs.Moving.{not_read}
@@ -97,7 +96,7 @@ failed_so old new (Err e) is so = so
 -- ---- what is found of the blob
 
 module _ {D : Type 0} (d : Ghosts D) (p : StoreView D) (channel : ℕ) (running : IsRunning (state_of d p))
-    (runs : p.stopped ≡ None) (w : WaitsToRead p channel) (head : Option ℕ)
+    (runs : p.stopped ≡ None) (are : AreResolved p.metas p.marked) (w : WaitsToRead p channel) (head : Option ℕ)
     (meant : IsHeadMeant p.metas p.super w.volume head) where
   abbrev s : StoreState
   s = state_of d p
@@ -109,7 +108,7 @@ module _ {D : Type 0} (d : Ghosts D) (p : StoreView D) (channel : ℕ) (running 
   command = c.Read w.volume w.page
 
   head_is : head_of (fixed_of p.super) (shown s) w.volume ≡ head
-  head_is = meant (fixed_of p.super) (shown s) (shows_pages s running runs p.metas refl).shows
+  head_is = meant (fixed_of p.super) (shown s) (shows_pages s running runs p.metas are.resolves).shows
 
   module _ (thawed : option_map_or (set.contains p.guards.frozen) head false ≡ false) where
     free : IsNotFrozen s w.volume
@@ -126,7 +125,7 @@ module _ {D : Type 0} (d : Ghosts D) (p : StoreView D) (channel : ℕ) (running 
     read_refused reply caused first low q logged none =
         let is = logged command w.rest (ap (λ (x : Row). x.left) w.row) in
         let x = caused_step s w.volume w.page reply caused
-        (first (fixed_of p.super) (shown s) (shows_pages s running runs p.metas refl)) in
+        (first (fixed_of p.super) (shown s) (shows_pages s running runs p.metas are.resolves)) in
         record {
           kind = kind.reads;
           is = tt;
@@ -154,7 +153,7 @@ module _ {D : Type 0} (d : Ghosts D) (p : StoreView D) (channel : ℕ) (running 
 
     module _ (first : IsFirstOnPages p.metas p.super command None) where
       abbrev asked : refusal (fixed_of p.super) (shown s) command ≡ None
-      asked = first (fixed_of p.super) (shown s) (shows_pages s running runs p.metas refl)
+      asked = first (fixed_of p.super) (shown s) (shows_pages s running runs p.metas are.resolves)
 
       abbrev place_for : Option ℕ → Option ℕ
       place_for o = option_and_then (λ h. place_read k (map.get p.metas) (p.super.md_len + 1) h w.page) o
@@ -181,9 +180,9 @@ module _ {D : Type 0} (d : Ghosts D) (p : StoreView D) (channel : ℕ) (running 
               ap (λ o. option_and_then (λ (x : Volume). slice_get x.pages w.page) (option_and_then (shown s) o))
               (head_is ∙ is)
               ∙ ap (λ o. option_and_then (λ (x : Volume). slice_get x.pages w.page) o)
-              (volume_shown s running runs p.metas refl h m at)
-              ∙ page_shown s running runs p.metas refl h m w.page
-              (in_range s running runs p.metas refl w.volume w.page h m (head_is ∙ is) at asked)
+              (volume_shown s running runs p.metas are.resolves h m at)
+              ∙ page_shown s running runs p.metas are.resolves h m w.page
+              (in_range s running runs p.metas are.resolves w.volume w.page h m (head_is ∙ is) at asked)
 
           by : (o : Option ℕ) → head ≡ o → IfSome o (λ h. IsSome (map.get p.metas h))
               → option_and_then (λ (x : Volume). slice_get x.pages w.page)
@@ -203,17 +202,7 @@ module _ {D : Type 0} (d : Ghosts D) (p : StoreView D) (channel : ℕ) (running 
         where
           by : (o : Option ℕ) → place_for o ≡ Some n → n < p.super.device_pages
           by None is = absurd (cc is)
-          by (Some h) is = read_low s running runs p.metas refl (p.super.md_len + 1) w.page h n is
-
-  pub heads_fit : HeadsFit p.metas
-  heads_fit h high = by (map.get p.metas h) refl
-    where
-      by : (o : Option Meta) → map.get p.metas h ≡ o → map.get p.metas h ≡ None
-      by None is = is
-      by (Some m) is =
-          let few = running.placed.few_md_pages in
-          let low = (running.facts.steady h m is).stored.low in
-          absurd (omega (arith, few, low, high))
+          by (Some h) is = read_low s running runs p.metas are.resolves (p.super.md_len + 1) w.page h n is
 
 -- ---- the read itself
 

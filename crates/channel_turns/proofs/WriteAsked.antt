@@ -24,15 +24,15 @@ use Rattle.channel_turns.specs.ChannelTurns.{IsOfWrite, WaitsToWrite, WritesNow}
 use Rattle.running_store.specs.TurnMade.{TurnMade, TurnsAs}
 use Rattle.channel_turns.specs.ClaimTurns.{writing}
 use Rattle.running_store.specs.StoreInvariant.{IsRunning}
-use Rattle.running_store.specs.StoreView.{rows_of, state_of, StoreView}
+use Rattle.running_store.specs.StoreView.{AreResolved, rows_of, state_of, StoreView}
 use Rattle.running_store.specs.Steps.{logged_on, with_row_at}
 use Rattle.running_store.proofs.Entered.{disk_same_then, entered_then}
-use Rattle.channel_turns.proofs.PagesShown.{page_low, resolved_is, writable}
+use Rattle.channel_turns.proofs.PagesShown.{page_low, writable}
 use Rattle.running_store.proofs.Rowing.{state_with_row}
 use Rattle.channel_turns.proofs.WriteMeant.{free, has_place, HasPlace, head_is, means_none, page_cause, place_by, refused_so}
 
 module _ {D : Type 0} (d : Ghosts D) (p : StoreView D) (channel : ℕ) (running : IsRunning (state_of d p))
-    (runs : p.stopped ≡ None) (w : WaitsToWrite p channel Idle) (head : Option ℕ)
+    (runs : p.stopped ≡ None) (are : AreResolved p.metas p.marked) (w : WaitsToWrite p channel Idle) (head : Option ℕ)
     (meant : IsHeadMeant p.metas p.super w.volume head)
     (thawed : option_map_or (set.contains p.guards.frozen) head false ≡ false) where
   abbrev s : StoreState
@@ -64,10 +64,10 @@ module _ {D : Type 0} (d : Ghosts D) (p : StoreView D) (channel : ℕ) (running 
             rest = w.rest;
             row = w.row;
             runs = runs;
-            free = free d p channel Idle running runs w head meant thawed;
+            free = free d p channel Idle running runs are w head meant thawed;
             reply = reply;
             caused = page_cause reply caused;
-            cause = refused_so d p channel Idle running runs w head meant (Some reply) first;
+            cause = refused_so d p channel Idle running runs are w head meant (Some reply) first;
             next = entered_then Idle d p q channel command w.rest reply low is;
           },
           disk_same_then Idle d p q channel command w.rest reply low is,
@@ -76,7 +76,7 @@ module _ {D : Type 0} (d : Ghosts D) (p : StoreView D) (channel : ℕ) (running 
 
   module _ (first : IsFirstOnPages p.metas p.super command None) where
     asked : refusal (fixed_of p.super) (shown s) command ≡ None
-    asked = refused_so d p channel Idle running runs w head meant None first
+    asked = refused_so d p channel Idle running runs are w head meant None first
 
     -- its slot has a cluster
     module _ (place : ℕ) (found : place_by (map.get p.metas) k w.page head ≡ Some place) where
@@ -85,7 +85,7 @@ module _ {D : Type 0} (d : Ghosts D) (p : StoreView D) (channel : ℕ) (running 
 
       abbrev writes_at : WritesAt s
       writes_at =
-          let is = head_is d p channel Idle running runs w head meant ∙ x.head_is in
+          let is = head_is d p channel Idle running runs are w head meant ∙ x.head_is in
           record {
             channel = channel;
             volume = w.volume;
@@ -94,16 +94,16 @@ module _ {D : Type 0} (d : Ghosts D) (p : StoreView D) (channel : ℕ) (running 
             rest = w.rest;
             row = w.row;
             runs = runs;
-            free = free d p channel Idle running runs w head meant thawed;
+            free = free d p channel Idle running runs are w head meant thawed;
             asked = asked;
             head = x.at;
             found = is;
             place = place;
             lies = record {
               meta = x.meta;
-              there = ap (λ (b : Metas). b x.at) (resolved_is s running runs p.metas refl) ∙ x.there;
+              there = ap (λ (b : Metas). b x.at) are.resolves ∙ x.there;
               writable =
-                  writable s running runs p.metas refl w.volume w.page w.word x.at x.meta is x.there asked;
+                  writable s running runs p.metas are.resolves w.volume w.page w.word x.at x.meta is x.there asked;
               cluster = x.cluster;
               in_slot = x.in_slot;
               place_is = x.place_is;
@@ -115,7 +115,7 @@ module _ {D : Type 0} (d : Ghosts D) (p : StoreView D) (channel : ℕ) (running 
 
       pub place_low : place < p.super.device_pages
       place_low = subst (λ n. n < p.super.device_pages) (sym x.place_is)
-          (page_low s running runs p.metas refl x.at x.meta (w.page / k) x.cluster w.page x.there x.in_slot)
+          (page_low s running runs p.metas are.resolves x.at x.meta (w.page / k) x.cluster w.page x.there x.in_slot)
 
     -- its slot is empty
     pub found_empty : place_by (map.get p.metas) k w.page head ≡ None → IfSome head (λ h. IsSome (map.get p.metas h))
@@ -126,7 +126,7 @@ module _ {D : Type 0} (d : Ghosts D) (p : StoreView D) (channel : ℕ) (running 
         write = writing d p channel Idle w;
         runs = runs;
         asked = asked;
-        means = means_none d p channel Idle running runs w head meant thawed asked none there;
+        means = means_none d p channel Idle running runs are w head meant thawed asked none there;
         next = state_with_row d p channel row (record { left = command ∷ w.rest; stage = Claiming; claim = None })
             (is ∙ ap (λ (r : Row). record r { stage = Claiming }) w.row) low;
       },

@@ -1,7 +1,7 @@
 -- What a channel's write of a page means, at whichever stage it is, by what was found of its blob.
-use Rattle.std.proofs.Common.{◌≡◌, ℕ, ◌+◌, ◌*◌, ◌/◌, ◌%◌, ◌^◌, ◌<◌, ◌≤◌, ◌∷◌, false, List, Option, Some, None, length}
+use Rattle.std.proofs.Common.{◌≡◌, ℕ, ◌+◌, ◌*◌, ◌/◌, ◌%◌, ◌^◌, ◌<◌, ◌∷◌, false, List, Option, Some, None, length}
 use Rattle.std.proofs.Common.{arith, refl, sym, ap, subst, ◌∙◌}
-use Rattle.std.specs.Prelude.{IfSome, IsSome, slice_index_or}
+use Rattle.std.specs.Prelude.{IfSome, IsSome}
 use Rattle.std.specs.Option.{option_and_then, option_map, option_map_or}
 use Rattle.std.specs.Ordering.{nat_cmp}
 use Rattle.std.specs.FinMap as map
@@ -37,8 +37,8 @@ use Rattle.store_model.proofs.Inside.{none_of_map}
 use Rattle.channel_turns.specs.ChannelTurns.{WaitsToWrite}
 use Rattle.channel_turns.specs.ClaimTurns.{writing}
 use Rattle.running_store.specs.StoreInvariant.{IsRunning}
-use Rattle.running_store.specs.StoreView.{rows_of, state_of, StoreView}
-use Rattle.channel_turns.proofs.PagesShown.{few_slots, page_within, resolved_is, shows_pages}
+use Rattle.running_store.specs.StoreView.{AreResolved, rows_of, state_of, StoreView}
+use Rattle.channel_turns.proofs.PagesShown.{few_slots, page_within, shows_pages}
 
 -- a head that is found is that of a blob
 pub found_there : (metas : map.FinMap nat_cmp Meta) (sup : Super) (volume : VolumeRef) (o : Option ℕ)
@@ -126,7 +126,7 @@ has_empty metas k h page some is = at (metas h) refl some is
     }
 
 module _ {D : Type 0} (d : Ghosts D) (p : StoreView D) (channel : ℕ) (stage : Stage)
-    (running : IsRunning (state_of d p)) (runs : p.stopped ≡ None) (w : WaitsToWrite p channel stage)
+    (running : IsRunning (state_of d p)) (runs : p.stopped ≡ None) (are : AreResolved p.metas p.marked) (w : WaitsToWrite p channel stage)
     (head : Option ℕ) (meant : IsHeadMeant p.metas p.super w.volume head) where
   abbrev s : StoreState
   s = state_of d p
@@ -138,12 +138,12 @@ module _ {D : Type 0} (d : Ghosts D) (p : StoreView D) (channel : ℕ) (stage : 
   command = c.Write w.volume w.page w.word
 
   pub head_is : head_of (fixed_of p.super) (shown s) w.volume ≡ head
-  head_is = meant (fixed_of p.super) (shown s) (shows_pages s running runs p.metas refl).shows
+  head_is = meant (fixed_of p.super) (shown s) (shows_pages s running runs p.metas are.resolves).shows
 
   -- what refuses it
   pub refused_so : (first : Option Reply) → IsFirstOnPages p.metas p.super command first
       → refusal (fixed_of p.super) (shown s) command ≡ first
-  refused_so first is = is (fixed_of p.super) (shown s) (shows_pages s running runs p.metas refl)
+  refused_so first is = is (fixed_of p.super) (shown s) (shows_pages s running runs p.metas are.resolves)
 
   -- a write that nothing refuses means a blob
   pub some_meant : refusal (fixed_of p.super) (shown s) command ≡ None → head ≡ None → ⊥
@@ -163,7 +163,7 @@ module _ {D : Type 0} (d : Ghosts D) (p : StoreView D) (channel : ℕ) (stage : 
       found = head_is ∙ is;
       free = free h (head_is ∙ is);
       meta = m;
-      there = ap (λ (b : Metas). b h) (resolved_is s running runs p.metas refl) ∙ there;
+      there = ap (λ (b : Metas). b h) are.resolves ∙ there;
       is = at;
     }
 
@@ -187,7 +187,7 @@ module _ {D : Type 0} (d : Ghosts D) (p : StoreView D) (channel : ℕ) (stage : 
     unfilled none cluster m =
         let is : head ≡ Some m.head = sym head_is ∙ m.found in
         let there : map.get p.metas m.head ≡ Some m.meta =
-        sym (ap (λ (b : Metas). b m.head) (resolved_is s running runs p.metas refl)) ∙ m.there in
+        sym (ap (λ (b : Metas). b m.head) are.resolves) ∙ m.there in
         let some : place_by (map.get p.metas) k w.page head ≡ Some (cluster * k + w.page % k) =
         ap (place_by (map.get p.metas) k w.page) is
         ∙ ap (option_and_then (λ (m : Meta). own_place k m w.page)) there
@@ -199,8 +199,8 @@ module _ {D : Type 0} (d : Ghosts D) (p : StoreView D) (channel : ℕ) (stage : 
   pub slot_low : (h : ℕ) → head ≡ Some h → (m : Meta) → map.get p.metas h ≡ Some m
       → refusal (fixed_of p.super) (shown s) command ≡ None → w.page / k < 2 ^ 32
   slot_low h is m there asked =
-      let within = page_within s running runs p.metas refl w.volume w.page w.word h m (head_is ∙ is) there asked in
-      let few = few_slots s running runs p.metas refl h m there in
+      let within = page_within s running runs p.metas are.resolves w.volume w.page w.word h m (head_is ∙ is) there asked in
+      let few = few_slots s running runs p.metas are.resolves h m there in
       let some = running.placed.some_pages in
       let low : w.page / k < length m.map = div_below w.page k (length m.map)
       (subst (λ (sup : Super). 0 < cluster_pages_of sup) (sym running.facts.super) some)

@@ -1,21 +1,5 @@
 -- The turns of a channel that touch the device: which cases they are, and what they start from.
-use Rattle.std.specs.Prelude.{
-  None,
-  Some,
-  true,
-  false,
-  length,
-  ◌≡◌,
-  ◌≢◌,
-  Result,
-  Ok,
-  Err,
-  ℕ,
-  List,
-  ◌∷◌,
-  Option,
-  slice_get,
-}
+use Rattle.std.specs.Prelude.{None, Some, true, ◌≡◌, ℕ, List, ◌∷◌, Option, slice_get}
 use Rattle.std.specs.Option.{option_and_then, option_map_or}
 use Rattle.page_disk.specs.declared.disk.PageDisk.{Ghosts}
 use Rattle.volume_model.specs.Refusals.{refusal}
@@ -27,12 +11,7 @@ use Rattle.volume_model.specs.declared.command.PageWord.{PageWord}
 use Rattle.volume_model.specs.declared.command.VolumeRef.{VolumeRef}
 use Rattle.store_model.specs.Cases.{Kind}
 use Rattle.store_model.specs.Cases as kind
-use Rattle.page_disk.specs.declared.disk.DiskFault.{DiskFault}
-use Rattle.volume_model.specs.declared.reply.Reply.{Reply}
-use Rattle.volume_model.specs.declared.reply.Reply.TheVariants as r
-use Rattle.store_model.specs.Cases.Read.{IsRead}
 use Rattle.store_model.specs.Cases.WritePage.{WritesAt}
-use Rattle.store_model.specs.Device.{Device}
 use Rattle.store_model.specs.Rows.{Claiming, Idle, Row, Stage}
 use Rattle.store_model.specs.Shown.{fixed_of}
 use Rattle.store_model.specs.StoreState.{shown, StoreState}
@@ -41,7 +20,6 @@ use Rattle.channel_turns.specs.declared.page_writing.WriteTurn.{WriteTurn}
 use Rattle.channel_turns.specs.declared.page_writing.WriteTurn.TheVariants as write
 use Rattle.running_store.specs.Steps.{gone_on}
 use Rattle.running_store.specs.StoreView.{read_now, rows_of, state_of, StoreView}
-use Rattle.running_store.specs.TurnMade.{TurnMade}
 
 -- a flush is done, or it fails; or the store had stopped
 abbrev pub IsOfFlush : Kind → Type 0

@@ -1,5 +1,5 @@
 -- The turns of a write that has found its slot empty: which cases they are, and what they start from.
-use Rattle.std.specs.Prelude.{None, Some, ◌≡◌, ℕ, suc, ◌+◌, ◌/◌, ◌<◌, ◌≤◌, List, ◌∷◌, Option, slice_set}
+use Rattle.std.specs.Prelude.{None, Some, ◌≡◌, ℕ, suc, ◌+◌, ◌/◌, ◌≤◌, List, ◌∷◌, Option, slice_set}
 use Rattle.std.specs.Option.{option_map_or}
 use Rattle.std.specs.FinMap as map
 use Rattle.page_disk.specs.declared.disk.PageDisk.{Ghosts}
@@ -14,8 +14,7 @@ use Rattle.volume_model.specs.Volumes.{zero_page}
 use Rattle.store_model.specs.Cases.Copy.{stage_left}
 use Rattle.store_model.specs.Copying.{IsUpToDate, page_of_claim, shown_in_slot}
 use Rattle.store_model.specs.Claiming.{IsWriting, MeansSlot, refused_by}
-use Rattle.store_model.specs.Places.{without_claim}
-use Rattle.store_model.specs.Rows.{Answered, Claiming, Copying, Decided, Decision, Idle, Lost, OpenClaim, Posted, Ready}
+use Rattle.store_model.specs.Rows.{Answered, Claiming, Copying, Decision, Idle, Lost, OpenClaim, Posted}
 use Rattle.store_model.specs.Rows.{Row, Stage, Won}
 use Rattle.store_model.specs.StoreState.{next_serial}
 use Rattle.channel_turns.specs.declared.claiming.ClaimTurn.{ClaimTurn}

@@ -22,6 +22,7 @@ fn planned<D: PageDisk>(
     plans::<D>();
     least_heads_are_meant();
     plant.keeps();
+    plant.resolves();
     let (metas, sup, new) = (plant.metas(), plant.sup(), plant.next_head());
     match command {
         Command::Resize { .. } => Some(plan_resize(alloc, metas, sup, command, new)),

@@ -155,6 +155,7 @@ fn parts_of<D: Drop>(loaded: Loaded<D>) -> (Metas, Chains, Masks, bool) {
         sup: _sup,
         metas,
         removed: _removed,
+        marked: _marked,
         chains,
         repairs: _repairs,
         masks,

@@ -30,7 +30,8 @@ use Rattle.metadata_turns.specs.Answering.{IsFound}
 use Rattle.metadata_turns.specs.Begins.{AsksToWrite}
 use Rattle.running_store.specs.StoreInvariant.{IsRunning}
 use Rattle.store_core.specs.Planning.{HasBlob, PlanLaws}
-use Rattle.running_store.specs.StoreView.{StoreView, state_of}
+use Rattle.blob_meta.specs.Repairs.{HasNoMarks}
+use Rattle.running_store.specs.StoreView.{base_of, AreResolved, StoreView, state_of}
 use Rattle.md_thread.specs.Tasks.{IsPlanOf}
 use Rattle.md_thread.proofs.Planned.{IsFor}
 
@@ -55,7 +56,7 @@ same_least test h k a b = elim (cases_lt h k) [
 ]
 
 module _ {D : Type 0} (d : Ghosts D) (laws : PlanLaws d) (p : StoreView D) (running : IsRunning (state_of d p))
-    (runs : p.stopped ≡ None) where
+    (runs : p.stopped ≡ None) (are : AreResolved p.metas p.marked) (clean : HasNoMarks (base_of p.metas p.marked)) where
   -- the blob of a plan is the one that is found
   at_plan : {command : Command} {volume : VolumeRef} (head : Option ℕ) (live : Xattrs) (at : ℕ) (old : Meta)
       → (found : IsFound p.metas p.super p.live command head (Some live)) → found.volume ≡ volume
@@ -97,7 +98,7 @@ module _ {D : Type 0} (d : Ghosts D) (laws : PlanLaws d) (p : StoreView D) (runn
   put_job volume key value head (Some live) job found plan cause =
       remade (c.Put volume key value) volume head live (λ old. record old { xattrs = with_value live key value }) job
       found (let e = found.asked in cc e) plan
-      (λ at old blob meant. laws.put p volume at key value old live running runs blob meant cause)
+      (λ at old blob meant. laws.put p volume at key value old live running runs are clean blob meant cause)
   put_job volume key value head None job found plan cause = absurd plan
 
   -- the job that is planned for a sync is what the sync asks for
@@ -107,7 +108,7 @@ module _ {D : Type 0} (d : Ghosts D) (laws : PlanLaws d) (p : StoreView D) (runn
   sync_job volume head (Some live) job found plan cause =
       remade (c.Sync volume) volume head live (λ old. record old { xattrs = live }) job found
       (let e = found.asked in cc e) plan
-      (λ at old blob meant. laws.sync p volume at old live running runs blob meant cause)
+      (λ at old blob meant. laws.sync p volume at old live running runs are clean blob meant cause)
   sync_job volume head None job found plan cause = absurd plan
 
   -- the job that is planned for a readonly is what it asks for
@@ -119,7 +120,7 @@ module _ {D : Type 0} (d : Ghosts D) (laws : PlanLaws d) (p : StoreView D) (runn
       remade (c.ReadOnly volume) volume head live
       (λ old. record old { xattrs = live; flags = read_only old.flags }) job found
       (let e = found.asked in cc e) plan
-      (λ at old blob meant. laws.read_only p volume at old live running runs blob meant cause)
+      (λ at old blob meant. laws.read_only p volume at old live running runs are clean blob meant cause)
   read_only_job volume head None job found plan cause = absurd plan
 
   lacks_memory : (command : Command) → IsSyncing command → IsRefusedBy (state_of d p) command r.Memory
@@ -146,7 +147,7 @@ module _ {D : Type 0} (d : Ghosts D) (laws : PlanLaws d) (p : StoreView D) (runn
       subst (λ (x : Reply). IsRefusedBy (state_of d p) command x) (sym memory) (lacks_memory command syncing)
   refused command head o reply syncing found (inr x) =
       by_cause command reply x.0
-      (x.1 (fixed_of p.super) (shown (state_of d p)) (laws.shows p command head o running runs found))
+      (x.1 (fixed_of p.super) (shown (state_of d p)) (laws.shows p command head o running runs are found))
 
   -- what is planned for a verb that syncs: its job, or the refusal
   planned_at : (command : Command) (head : Option ℕ) (o : Option Xattrs) (Plans : Job → Type 0) → IsSyncing command
@@ -171,7 +172,7 @@ module _ {D : Type 0} (d : Ghosts D) (laws : PlanLaws d) (p : StoreView D) (runn
     live_given command head found =
         subst (λ (sup : Super). IsLiveOf metas sup o command) (sym s)
         (subst (λ (metas : map.FinMap nat_cmp Meta). IsLiveOf metas p.super o command) (sym m)
-        (laws.live p command head o running runs found))
+        (laws.live p command head o running runs are found))
 
     -- of a verb, by the plan and by the job that it makes of it
     planned_for : (Plans : map.FinMap nat_cmp Meta → Super → Option Xattrs → Command → Job → Type 0)

@@ -1,10 +1,13 @@
 //! What is to be done for a message.
 
 ghost use Rattle.std.specs.Prelude.{◌≡◌, None};
+ghost use Rattle.blob_meta.specs.Repairs.{HasNoMarks};
+ghost use Rattle.store_model.specs.Repairing.{IsRepaired};
 ghost use Rattle.md_thread.specs.Served.{IsServedByMetadata};
 ghost use Rattle.md_thread.specs.Tasks.{IsPlanOf, IsTaskOf};
 ghost use Rattle.running_store.specs.Requests.{IsPostedBy};
 ghost use Rattle.running_store.specs.Steps.{Asks};
+ghost use Rattle.running_store.specs.StoreView.{base_of, state_of};
 
 use blob_meta::{Job, least_heads_are_meant};
 use lvol_store::{plan_create, plan_put, plan_readonly, plan_resize, plan_sync};
@@ -36,11 +39,13 @@ fn planned<D: PageDisk>(
 ) -> Option<Result<Job, Reply>>
     requires served { IsServedByMetadata command.now }
     requires runs { plant.now.at.stopped ≡ None }
+    requires unmarked { HasNoMarks (base_of plant.now.at.metas plant.now.at.marked) }
     ensures { IsPlanOf D.PageDisk plant.now.at command.now result }
 {
     plans::<D>();
     least_heads_are_meant();
     plant.keeps();
+    plant.resolves();
     let (metas, sup, new) = (plant.metas(), plant.sup(), plant.next_head());
     match command {
         Command::Put { .. } => {
@@ -70,6 +75,8 @@ pub(crate) fn task_of<D: PageDisk>(
 ) -> Task
     requires right { right.now ≡ plant.now.right }
     requires served { IsPostedBy plant.now.at.rows msg → Asks plant.now.at msg.channel IsServedByMetadata }
+    requires no_job { plant.now.at.job ≡ None }
+    requires repaired { IsRepaired (state_of D.PageDisk plant.now.at) }
     ensures { IsTaskOf D.PageDisk plant.now.at msg result }
 {
     let command = match plant.request(right, msg) {

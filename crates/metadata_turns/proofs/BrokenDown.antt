@@ -11,15 +11,14 @@ use Rattle.store_model.specs.Claiming.{LogsOwn}
 use Rattle.store_model.specs.Phases.{has_commit}
 use Rattle.store_model.specs.Rows.{Answered, Decided, InJob, Row}
 use Rattle.store_model.specs.RunInvariant.{IsServedRow}
-use Rattle.store_model.specs.StoreState.{ForCommand, ForInsert, JobState, logged, Service, StoreState, waiting}
+use Rattle.store_model.specs.StoreState.{ForCommand, ForInsert, JobState, logged, Service, waiting}
 use Rattle.store_model.proofs.Shaped.{waits_for_commit, waits_no_more}
 use Rattle.running_store.specs.Jobs.{job_seen, service_of, waits_for_job}
 use Rattle.metadata_turns.specs.JobTurns.{TurnsJob}
-use Rattle.metadata_turns.specs.OwnWrites.{AreOwn, BeginsWithWrite, WaitsToInsert}
-use Rattle.running_store.specs.Steps.{logged_at}
+use Rattle.metadata_turns.specs.OwnWrites.{AreOwn, WaitsToInsert}
 use Rattle.running_store.specs.StoreInvariant.{IsRunning}
 use Rattle.running_store.specs.StoreView.{StoreView, device_of, rows_of, state_of}
-use Rattle.running_store.specs.GivingBack.{claim_cleared, IsGivenUp}
+use Rattle.running_store.specs.GivingBack.{IsGivenUp}
 use Rattle.running_store.specs.declared.job.RunningJob.{RunningJob}
 use Rattle.running_store.specs.declared.job.Serves.{Serves}
 use Rattle.running_store.specs.declared.job.Serves.TheVariants as whom

@@ -14,16 +14,17 @@ use Rattle.volume_model.specs.declared.command.Command.{Command}
 use Rattle.volume_model.specs.declared.command.Command.TheVariants as c
 use Rattle.blob_meta.specs.declared.meta.Meta.{Meta}
 use Rattle.blob_meta.specs.Asked.{asked_volume, IsLiveOf, IsOnAttributes, NamesThere, ShowsLive}
+use Rattle.blob_meta.specs.Resolving.{resolved}
 use Rattle.blob_meta.specs.ShownBy.{ShowsMetas}
 use Rattle.blob_meta.specs.Find.{is_meant, IsLeast, IsThere}
 use Rattle.blob_meta.proofs.Shown.{meant_there}
 use Rattle.store_model.specs.Maps.{Map}
 use Rattle.store_model.specs.Shown.{fixed_of}
 use Rattle.store_model.specs.StoreState.{StoreState, shown}
-use Rattle.store_model.proofs.Shows.{steady_resolved}
 use Rattle.metadata_turns.specs.Answering.{IsFound}
 use Rattle.running_store.specs.StoreInvariant.{IsRunning}
 use Rattle.metadata_turns.proofs.Answered.{live_same}
+use Rattle.store_model.proofs.Resolved.{resolved_stored}
 use Rattle.running_store.proofs.Showing.{shows_metas}
 
 -- a command names the volume that it asks for
@@ -49,7 +50,7 @@ asks_volume (c.ReadOnly volume) is = refl
 asks_volume _ is = absurd is
 
 module _ (p : StoreState) (running : IsRunning p) (runs : p.stopped ≡ None) (metas : map.FinMap nat_cmp Meta)
-    (base : p.base ≡ map.get metas) (live : map.FinMap nat_cmp Xattrs) (live_now : p.live ≡ map.get live)
+    (resolves : resolved p.base ≡ map.get metas) (live : map.FinMap nat_cmp Xattrs) (live_now : p.live ≡ map.get live)
     (command : Command) (head : Option ℕ) (xattrs : Option Xattrs)
     (found : IsFound metas p.super live command head xattrs) where
   -- the volume's live attributes are those that are found
@@ -60,7 +61,7 @@ module _ (p : StoreState) (running : IsRunning p) (runs : p.stopped ≡ None) (m
       f = fixed_of p.super
 
       shows : ShowsMetas f p.super metas (shown p)
-      shows = shows_metas p running runs metas base
+      shows = shows_metas p running runs metas resolves
 
       at_head : option_map (λ (x : Volume). x.live) (option_and_then (shown p) (named_head f (shown p) command))
           ≡ option_map (λ (x : Volume). x.live) (option_and_then (shown p) head)
@@ -99,12 +100,11 @@ module _ (p : StoreState) (running : IsRunning p) (runs : p.stopped ≡ None) (m
           → IsLiveOf metas p.super xattrs command
       of_meta h None there some meant is = absurd (cc some)
       of_meta h (Some m) there some meant is =
-          let in_base : p.base h ≡ Some m = ap (λ (x : Map Meta). x h) base ∙ there in
-          let low = (running.facts.steady h m in_base).stored.low in
+          let resolved_there : resolved p.base h ≡ Some m = ap (λ (x : Map Meta). x h) resolves ∙ there in
+          let low = (resolved_stored running.store p.base running.facts.stored h m resolved_there).low in
           let few = placed.few_md_pages in
           let super = running.facts.super in
-          let whole = steady_resolved running.store p.base running.facts.steady in
-          let mine = (running.facts.well runs).live h m (ap (λ (x : Map Meta). x h) whole ∙ in_base) in
+          let mine = (running.facts.well runs).live h m resolved_there in
           subst (λ xs. IsLiveOf metas p.super xs command)
           (sym (is ∙ ap (λ (x : Map Xattrs). x h) (sym live_now) ∙ mine.1))
           (names_it (h, omega (arith, subst (λ (s : Super). h < s.md_len) (sym super) low, few), meant))

@@ -16,14 +16,13 @@ use Rattle.store_model.specs.Phases.{erasing, page_in, Phase, Replaces, writing}
 use Rattle.store_model.specs.RunInvariant.{RunsWell}
 use Rattle.store_model.specs.Places.{all_set}
 use Rattle.store_model.specs.StoreState.{going_on, JobState, StoreState}
-use Rattle.store_model.proofs.Shows.{steady_resolved}
 use Rattle.io_freeze.specs.Guards.{renewed, GuardsState}
 use Rattle.metadata_turns.specs.declared.job_turn.JobTurn.TheVariants as turn
 use Rattle.running_store.specs.Effects.{is_numbered}
 use Rattle.metadata_turns.specs.JobTurns.{answer_of, with_job, IsAtWork}
 use Rattle.running_store.specs.Jobs.{commit_for, erasing_for, replacing_of, service_of, writing_for}
 use Rattle.running_store.specs.Running.{live_given}
-use Rattle.running_store.specs.StoreView.{StoreView, state_of}
+use Rattle.running_store.specs.StoreView.{base_of, AreResolved, StoreView, state_of}
 use Rattle.running_store.specs.declared.job.Planned.{Planned}
 use Rattle.running_store.specs.declared.job.Serves.{Serves}
 use Rattle.metadata_turns.proofs.AtWork.{can, drop_end, has_meta, head_low, head_page, well}
@@ -61,6 +60,7 @@ abbrev pub adopted_view : {D : Type 0} → StoreView D → Planned → D → Sto
 adopted_view p planned disk = record p {
   disk = disk;
   metas = map.insert p.metas planned.head planned.new;
+  marked = map.remove p.marked planned.head;
   chains = map.insert p.chains planned.head planned.chain;
   live = live_given p.live planned.head planned.effects.live;
   clusters = all_set p.clusters planned.effects.freed false;
@@ -102,17 +102,21 @@ module _ {D : Type 0} (d : Ghosts D) (p : StoreView D) (serves : Serves) (planne
   meta_is : makes ≡ false → (m : Meta) × (s.base planned.head ≡ Some m)
   meta_is not = has_meta s at_work.running at_work.not_stopped serves planned old written refl not
 
-  pub meta_there : makes ≡ false → IsSome (map.get p.metas planned.head)
-  meta_there not = subst (λ (o : Option Meta). IsSome o) (sym (meta_is not).1) refl
+  pub base_there : makes ≡ false → IsSome (base_of p.metas p.marked planned.head)
+  base_there not = subst (λ (o : Option Meta). IsSome o) (sym (meta_is not).1) refl
 
   pub chain_there : makes ≡ false → IsSome (map.get p.chains planned.head)
   chain_there not = subst (λ (o : Option (List ℕ)). IsSome o)
       (sym (chain_before s at_work.running at_work.not_stopped serves planned old written refl not)) refl
 
-  pub live_there : makes ≡ false → IsSome (map.get p.live planned.head)
-  live_there not = subst (λ (o : Option Xattrs). IsSome o) (sym (runs_well.live planned.head (meta_is not).0
-      (ap (λ (m : Metas). m planned.head) (steady_resolved at_work.running.store s.base at_work.running.facts.steady)
-      ∙ (meta_is not).1)).1) refl
+  pub live_there : AreResolved p.metas p.marked → IsSome (map.get p.metas planned.head)
+      → IsSome (map.get p.live planned.head)
+  live_there are there = by (map.get p.metas planned.head) refl there
+    where
+      by : (o : Option Meta) → map.get p.metas planned.head ≡ o → IsSome o → IsSome (map.get p.live planned.head)
+      by None is some = absurd (cc some)
+      by (Some m) is some = subst (λ (o : Option Xattrs). IsSome o)
+          (sym (runs_well.live planned.head m (ap (λ (x : Metas). x planned.head) are.resolves ∙ is)).1) refl
 
   pub guarded_there : makes ≡ false → IsSome (map.get p.guards.generations planned.head)
   guarded_there not = subst (λ (b : Bool). b ≡ true) (sym (runs_well.generations.each planned.head))

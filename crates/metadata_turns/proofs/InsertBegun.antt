@@ -1,5 +1,5 @@
 -- The begin of an insert, as a case: the job begins, the claim is lost, or its write is logged.
-use Rattle.std.proofs.Common.{◌≡◌, ℕ, ◌<◌, Bool, true, false, List, [], ◌∷◌, length, drop, Option, Some, None}
+use Rattle.std.proofs.Common.{◌≡◌, ℕ, ◌<◌, Bool, true, false, List, [], length, Option, Some, None}
 use Rattle.std.proofs.Common.{refl, sym, ◌∙◌, ap, arith, subst}
 use Rattle.std.specs.Prelude.{is_some, slice_index_or, slice_set}
 use Rattle.std.proofs.lemmas.List.{get_or_default}
@@ -7,6 +7,7 @@ use Rattle.page_disk.specs.declared.disk.PageDisk.{Ghosts}
 use Rattle.volume_model.specs.declared.command.Command.{Command}
 use Rattle.volume_model.specs.declared.reply.Reply.{Reply}
 use Rattle.volume_model.specs.declared.reply.Reply.TheVariants as r
+use Rattle.blob_meta.specs.Repairs.{HasNoMarks}
 use Rattle.blob_meta.specs.declared.meta.Meta.{Meta}
 use Rattle.store_model.specs.Cases as kind
 use Rattle.store_model.specs.Cases.BeginInsert.{BeginsInsert}
@@ -14,7 +15,7 @@ use Rattle.store_model.specs.Claiming.{CanInsert, given_back, IsCopying, LogsOwn
 use Rattle.store_model.specs.Claiming as claiming
 use Rattle.store_model.specs.Inserting.{with_slot}
 use Rattle.store_model.specs.Jobs.{LacksPages}
-use Rattle.store_model.specs.Places.{all_set, without_claim}
+use Rattle.store_model.specs.Places.{without_claim}
 use Rattle.store_model.specs.Rows.{Answered, Decided, Ended, InJob, Lost, OpenClaim, Posted, Row, Rows, with_row}
 use Rattle.store_model.specs.StoreState.{logged, StoreState}
 use Rattle.metadata_turns.specs.Inserts.{no_effects, HoldsPosted, IsLack}
@@ -183,8 +184,8 @@ module _ {D : Type 0} (d : Ghosts D) (p : StoreView D) (channel : ℕ) (x : Hold
 
   -- ---- the job begins
 
-  module _ (running : IsRunning s) (runs : p.stopped ≡ None) (no_job : p.job ≡ None) (meta : Meta)
-      (can : CanInsert s x.claim meta) where
+  module _ (running : IsRunning s) (runs : p.stopped ≡ None) (no_job : p.job ≡ None) (clean : HasNoMarks s.base)
+      (meta : Meta) (can : CanInsert s x.claim meta) where
     abbrev new : Meta
     new = with_slot meta x.claim.slot x.claim.cluster
 
@@ -203,13 +204,14 @@ module _ {D : Type 0} (d : Ghosts D) (p : StoreView D) (channel : ℕ) (x : Hold
           job = Some (writing_for (whom.Insert channel) (planned y) y.old 0);
         }))
     begun y after is row row_is =
-        let known = ready s running runs channel x.claim held meta can no_job p.chains after y is in
-        let chain = has_chain s running runs channel x.claim held meta can in
+        let known = ready s running runs channel x.claim held meta can clean no_job p.chains after y is in
+        let chain = has_chain s running runs channel x.claim held meta can clean in
         record {
           serial = x.serial;
           posted = copying;
           runs = runs;
           no_job = no_job;
+          repaired = clean;
           meta = meta;
           can = can;
           replacing = replacing_of (planned y) y.old;
@@ -225,7 +227,7 @@ module _ {D : Type 0} (d : Ghosts D) (p : StoreView D) (channel : ℕ) (x : Hold
               places = known.places;
               says = known.planned;
             };
-            clusters = moves s running runs channel x.claim held meta can;
+            clusters = moves s running runs channel x.claim held meta can clean;
           };
           next =
               ap (λ (g : Row). state_of d (record p {

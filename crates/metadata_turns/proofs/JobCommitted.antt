@@ -34,6 +34,7 @@ use Rattle.metadata_turns.proofs.AtWork.{step}
 use Rattle.metadata_turns.proofs.HeadReplaced.{adopted_view, after_none, after_some, numbered, planned_is, todo_is, touched}
 use Rattle.metadata_turns.proofs.JobTurned.{channel_low, command, entered, entry, fails_case, rest, row, row_left}
 use Rattle.running_store.proofs.Maps.{insert_given}
+use Rattle.running_store.proofs.Resolved.{base_given}
 use Rattle.running_store.proofs.Rowing.{state_logged}
 use Rattle.running_store.specs.declared.job.Planned.{Planned}
 use Rattle.store_model.specs.Phases.{erasing, Phase, Replaces, page_in, with_live}
@@ -184,7 +185,7 @@ module _ {D : Type 0} (d : Ghosts D) (p : StoreView D) (channel : ℕ) (planned 
           → state_of d (record (logged_at then_view channel c_now c_rest reply (d.clock disk)) { job = k })
           ≡ built base_new chains_new live_new generations_new drawn_new (frozen_behind s.frozen j others) done_job
       next k after =
-          let metas = insert_given p.metas planned.head planned.new in
+          let metas = base_given p.metas p.marked planned.head planned.new in
           let chains : chains_then ≡ chains_new = insert_given p.chains planned.head planned.chain
           ∙ ap (λ ps. with_entry s.chains planned.head ps) chain_is in
           let live : live_then ≡ live_new = given_live p.live planned.head planned.effects.live ∙ sym

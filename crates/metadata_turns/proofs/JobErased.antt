@@ -10,19 +10,17 @@ use Rattle.page_disk.specs.Moments.{CallsLeaveOnly}
 use Rattle.page_disk.specs.declared.disk.PageDisk.{Ghosts}
 use Rattle.page_disk.specs.declared.disk.WriteKind.TheVariants.{Plain}
 use Rattle.volume_model.specs.Volumes.{zero_page}
-use Rattle.volume_model.specs.declared.command.Command.{Command}
 use Rattle.store_model.specs.Rows.{Decided, Row, Rows, with_row, Won}
 use Rattle.store_model.specs.StoreState.{JobState, StoreState}
 use Rattle.store_model.specs.Places.{all_set, AreDistinct}
 use Rattle.store_model.specs.Cases.{WritesOnePage, put_by}
 use Rattle.store_model.specs.Cases as kind
-use Rattle.store_model.specs.Cases.Fail.{page}
 use Rattle.store_model.specs.Cases.InsertFail as insert
 use Rattle.store_model.specs.Cases.{FailsToReplace}
 use Rattle.running_store.specs.StoreView.{StoreView, device_of, rows_of, state_of}
 use Rattle.metadata_turns.specs.JobTurns.{with_job, IsAtWork, TurnsJob}
 use Rattle.metadata_turns.proofs.AtWork.{old_in_use, old_low}
-use Rattle.metadata_turns.proofs.AtWork.{last_one, old_distinct, one_more, waits}
+use Rattle.metadata_turns.proofs.AtWork.{last_one, old_distinct, one_more}
 use Rattle.metadata_turns.proofs.AtWork.{waits_for_none}
 use Rattle.metadata_turns.proofs.InsertFailed.{fails_insert, inserting, command as write_of}
 use Rattle.metadata_turns.proofs.InsertFailed.{waits as waits_to_insert}

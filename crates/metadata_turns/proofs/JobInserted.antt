@@ -17,7 +17,6 @@ use Rattle.store_model.specs.Phases.{erasing, page_in, Phase, Replaces}
 use Rattle.store_model.specs.Places.{all_set}
 use Rattle.store_model.specs.Rows.{Row, Rows, Stage, with_row}
 use Rattle.store_model.specs.StoreState.{going_on, JobState, StoreState}
-use Rattle.io_freeze.specs.Guards.{GuardsState}
 use Rattle.running_store.specs.Effects.{is_numbered}
 use Rattle.metadata_turns.specs.JobTurns.{with_job, IsAtWork, TurnsJob}
 use Rattle.running_store.specs.Jobs.{erasing_for, replacing_of, writing_for, AreNone}
@@ -31,6 +30,7 @@ use Rattle.metadata_turns.proofs.HeadReplaced.{adopted_view, after_none, after_s
 use Rattle.metadata_turns.proofs.InsertFailed.{fails_insert, inserting, waits, command as write_of}
 use Rattle.metadata_turns.proofs.JobTurned.{entered, first_low, first_waits}
 use Rattle.running_store.proofs.Maps.{insert_given}
+use Rattle.running_store.proofs.Resolved.{base_given}
 use Rattle.running_store.proofs.Rowing.{rows_set}
 
 module _ {D : Type 0} (d : Ghosts D) (p : StoreView D) (row : ℕ) (planned : Planned) (old : List ℕ)
@@ -83,6 +83,7 @@ module _ {D : Type 0} (d : Ghosts D) (p : StoreView D) (row : ℕ) (planned : Pl
     filled = record p {
       disk = disk;
       metas = map.insert p.metas planned.head planned.new;
+      marked = map.remove p.marked planned.head;
       chains = map.insert p.chains planned.head planned.chain;
     }
 
@@ -117,7 +118,7 @@ module _ {D : Type 0} (d : Ghosts D) (p : StoreView D) (row : ℕ) (planned : Pl
         → state_of d (record (let_go_at filled row stage) { job = k })
         ≡ built base_new chains_new (with_row s.rows row (row_then (stage_behind others))) (going_on j [] others)
     next k after stage behind =
-        let metas = insert_given p.metas planned.head planned.new in
+        let metas = base_given p.metas p.marked planned.head planned.new in
         let chains : map.get (map.insert p.chains planned.head planned.chain) ≡ chains_new =
         insert_given p.chains planned.head planned.chain ∙ ap (λ ps. with_entry s.chains planned.head ps) chain_is in
         ap (λ (b : Metas). built b (map.get (map.insert p.chains planned.head planned.chain))

@@ -19,12 +19,12 @@ use Rattle.volume_model.specs.declared.reply.Reply.{Reply}
 use Rattle.volume_model.specs.declared.reply.Reply.TheVariants as r
 use Rattle.blob_meta.specs.declared.job.Job.{Job}
 use Rattle.blob_meta.specs.Jobs.{job_of_one}
-use Rattle.store_model.specs.StoreState.{JobState, StoreState}
+use Rattle.store_model.specs.StoreState.{StoreState}
 use Rattle.store_model.specs.Cases as kind
 use Rattle.store_model.specs.Asking.{IsJobFor}
 pub use Rattle.store_model.specs.Jobs.{LacksPages}
 use Rattle.running_store.specs.TurnMade.{TurnMade}
-use Rattle.running_store.specs.Jobs.{job_seen, zeroing_job}
+use Rattle.running_store.specs.Jobs.{job_seen}
 use Rattle.running_store.specs.StoreView.{StoreView, rows_of}
 use Rattle.running_store.specs.Steps.{decided}
 use Rattle.store_model.specs.Rows.{Row, InJob}

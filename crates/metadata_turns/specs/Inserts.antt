@@ -1,5 +1,5 @@
 -- The begin of an insert: what it starts from, and what it comes to.
-use Rattle.std.specs.Prelude.{◌≡◌, ℕ, List, [], Option, None, Some, Result, IfOk, false}
+use Rattle.std.specs.Prelude.{◌≡◌, ℕ, List, [], None, Some, Result, IfOk, false}
 use Rattle.page_disk.specs.declared.disk.PageDisk.{Ghosts}
 use Rattle.volume_model.specs.declared.command.Command.{Command}
 use Rattle.blob_meta.specs.declared.meta.Meta.{Meta}

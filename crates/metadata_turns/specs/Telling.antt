@@ -1,15 +1,13 @@
 -- How whoever waits for a job is told.
-use Rattle.std.specs.Prelude.{None, ◌≡◌, ℕ, ◌<◌, List, ◌∷◌, length}
-use Rattle.volume_model.specs.declared.command.Command.{Command}
+use Rattle.std.specs.Prelude.{None, ◌≡◌, ℕ, ◌<◌, List, length}
 use Rattle.volume_model.specs.declared.reply.Reply.{Reply}
 use Rattle.volume_model.specs.declared.reply.Reply.TheVariants as r
-use Rattle.store_model.specs.Places.{without_claim}
 use Rattle.store_model.specs.Rows.{Decided, Row, Stage, Won}
 use Rattle.running_store.specs.declared.job.Serves.{Serves}
 use Rattle.running_store.specs.declared.job.Serves.TheVariants as whom
 use Rattle.metadata_turns.specs.JobTurns.{stopped_at}
 use Rattle.running_store.specs.GivingBack.{IsEntered, IsGivenUp}
-use Rattle.running_store.specs.Steps.{logged_at, with_row_at}
+use Rattle.running_store.specs.Steps.{with_row_at}
 use Rattle.running_store.specs.StoreView.{StoreView, rows_of}
 
 -- a row goes on at this stage, without a claim

@@ -10,8 +10,8 @@ use blob_meta::HeadMap;
 use out_of_memory::Memory;
 use running_store::{Effects, Planned, Running, clear_places};
 
-/// The blob has what was planned from now on: one that is there, or a new one. Clusters that no map has any more are
-/// clear.
+/// The blob has what was planned from now on, without a mark: one that is there, or a new one. Clusters that no map has
+/// any more are clear.
 pub(crate) fn adopt<D>(running: &mut Running<D>, planned: Planned)
     requires meta { planned.effects.rooms ≡ None → IsSome (map.get running.old.metas planned.head) }
     requires chain { planned.effects.rooms ≡ None → IsSome (map.get running.old.chains planned.head) }
@@ -41,6 +41,7 @@ pub(crate) fn adopt<D>(running: &mut Running<D>, planned: Planned)
         rooms,
     } = effects;
     clear_places(&mut running.clusters, &freed);
+    running.marked.remove(head);
     let Some(rooms) = rooms else {
         renew(&mut running.metas, head, new);
         renew(&mut running.chains, head, chain);

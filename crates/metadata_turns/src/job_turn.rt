@@ -6,7 +6,7 @@ ghost use Rattle.metadata_turns.specs.JobTurns.{answer_of, with_job, IsAtWork, T
 ghost use Rattle.metadata_turns.specs.OwnWrites.{AreOwn};
 ghost use Rattle.metadata_turns.specs.declared.job_turn.JobTurn.TheVariants.{Stopped};
 ghost use Rattle.running_store.specs.StoreInvariant.{IsRunning};
-ghost use Rattle.running_store.specs.Running.{view_of, HasRoom, InOrder};
+ghost use Rattle.running_store.specs.Running.{view_of, HasRoom, InOrder, WillResolve};
 ghost use Rattle.running_store.specs.StoreView.{state_of};
 
 use crate::adopting::adopt;
@@ -118,6 +118,7 @@ fn zero<D: PageDisk>(
     requires clusters { zeroed.clusters < length planned.effects.claimed }
     requires pages { zeroed.pages < zeroed.cluster_pages }
     requires roomy { HasRoom running.old.metas running.old.chains running.old.live running.old.guards planned.effects }
+    requires will_resolve { WillResolve running.old.metas running.old.marked planned }
     requires at_work { IsAtWork D.PageDisk (view_of running.old) (zeroing_job channel planned old zeroed) }
     ensures case { TurnsJob D.PageDisk (with_job (view_of running.old) (zeroing_job channel planned old zeroed))
         (view_of running.new) }
@@ -143,6 +144,7 @@ fn write_fresh<D: PageDisk>(
     requires order { InOrder D.PageDisk running.old }
     requires matched { IsMatchedFor serves planned }
     requires roomy { HasRoom running.old.metas running.old.chains running.old.live running.old.guards planned.effects }
+    requires will_resolve { WillResolve running.old.metas running.old.marked planned }
     requires at_work { IsAtWork D.PageDisk (view_of running.old) (writing_for serves planned old written) }
     requires left { written + 1 < length planned.pages }
     ensures case { TurnsJob D.PageDisk (with_job (view_of running.old) (writing_for serves planned old written))
@@ -176,6 +178,7 @@ fn replace_head<D: PageDisk>(
     requires order { InOrder D.PageDisk running.old }
     requires matched { IsMatchedFor serves planned }
     requires roomy { HasRoom running.old.metas running.old.chains running.old.live running.old.guards planned.effects }
+    requires will_resolve { WillResolve running.old.metas running.old.marked planned }
     requires at_work { IsAtWork D.PageDisk (view_of running.old)
         (writing_for serves planned old (length (drop 1 planned.chain))) }
     ensures case { TurnsJob D.PageDisk

@@ -50,7 +50,7 @@ impl Prepared {
     ghost use Rattle.running_store.specs.Jobs.{begun_job};
     ghost use Rattle.metadata_turns.specs.Begins.{planned_with};
     ghost use Rattle.running_store.specs.Jobs.{job_seen, IsHeaded};
-    ghost use Rattle.running_store.specs.Running.{HasRoom, IsRoomy};
+    ghost use Rattle.running_store.specs.Running.{HasRoom, IsRoomy, WillResolve, WillResolveBy};
 
     /// The job that writes the metadata, at its begin: clusters of so many pages each that it has claimed are to be
     /// overwritten with zeros first.
@@ -71,6 +71,8 @@ impl Prepared {
         ensures roomy { (metas : map.FinMap nat_cmp AMeta) (chains : map.FinMap nat_cmp (List ℕ))
             (live : map.FinMap nat_cmp Xattrs) (guards : GuardsState)
             → HasRoom metas chains live guards effects → IsRoomy metas chains live guards result }
+        ensures resolving { (metas : map.FinMap nat_cmp AMeta) (marked : map.FinMap nat_cmp AMeta)
+            → WillResolve metas marked (planned_with self head new effects) → WillResolveBy metas marked result }
     {
         let Prepared { laid, old } = self;
         let Laid { chain, pages } = laid;

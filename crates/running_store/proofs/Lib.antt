@@ -1,6 +1,7 @@
 pub mod Moving
 pub mod Counting
 pub mod Maps
+pub mod Resolved
 pub mod Rowing
 pub mod Entered
 pub mod GivenBack

@@ -1,5 +1,5 @@
 -- The volumes that a running store shows are those of its metadata: what is read of a name and a uuid is on the disk.
-use Rattle.std.proofs.Common.{◌≡◌, ℕ, ◌<◌, Option, Some, None, IsSome, refl, sym, ap, subst, ◌∙◌, arith}
+use Rattle.std.proofs.Common.{◌≡◌, ℕ, ◌<◌, Option, Some, None, IsSome, refl, sym, ap, subst, arith}
 use Rattle.std.specs.Option.{option_map}
 use Rattle.std.specs.Ordering.{nat_cmp}
 use Rattle.std.specs.FinMap as map
@@ -19,9 +19,10 @@ use Rattle.store_model.specs.Shown.{fixed_of, volume_of}
 use Rattle.store_model.specs.StateLaws.{IsLoadedWith}
 use Rattle.store_model.specs.StoreState.{StoreState, shown}
 use Rattle.store_model.specs.RunInvariant.{RunsWell}
-use Rattle.store_model.proofs.Shows.{steady_resolved, or_empty}
+use Rattle.store_model.proofs.Shows.{or_empty}
 use Rattle.store_model.proofs.SlotSums.{slots_shown}
 use Rattle.running_store.specs.StoreInvariant.{IsRunning}
+use Rattle.store_model.proofs.Resolved.{resolved_stored}
 
 -- what is shown of a blob
 abbrev as_volume : StoreState → ℕ → Meta → Volume
@@ -38,15 +39,12 @@ loaded_alike s p loaded h x is = by (resolved p.base h) refl is
         (same_Some (as_volume p h m) x some) (ap or_empty (loaded.live h m there)))
 
 module _ (p : StoreState) (running : IsRunning p) (runs : p.stopped ≡ None) (metas : map.FinMap nat_cmp Meta)
-    (base : p.base ≡ map.get metas) where
+    (resolves : resolved p.base ≡ map.get metas) where
   well : RunsWell running.first p
   well = running.facts.well runs
 
   placed : IsPlaced p.super
   placed = subst IsPlaced (sym running.facts.super) running.placed
-
-  resolved_is : resolved p.base ≡ map.get metas
-  resolved_is = steady_resolved running.store p.base running.facts.steady ∙ base
 
   alike : AreNamedAlike (shown p)
   alike = subst AreNamedAlike (sym well.replayed)
@@ -69,10 +67,11 @@ module _ (p : StoreState) (running : IsRunning p) (runs : p.stopped ≡ None) (m
         parent_is = refl;
       }
 
-  low : (h : ℕ) (o : Option Meta) → p.base h ≡ o → IsSome o → h < p.super.md_len
+  low : (h : ℕ) (o : Option Meta) → resolved p.base h ≡ o → IsSome o → h < p.super.md_len
   low h None is some = absurd (cc some)
-  low h (Some m) is some = subst (λ (s : Super). h < s.md_len) (sym running.facts.super)
-      (running.facts.steady h m is).stored.low
+  low h (Some m) is some =
+      subst (λ (s : Super). h < s.md_len) (sym running.facts.super)
+      (resolved_stored running.store p.base running.facts.stored h m is).low
 
   -- all volumes that are shown show its metadata
   pub shows_metas : ShowsMetas (fixed_of p.super) p.super metas (shown p)
@@ -80,8 +79,8 @@ module _ (p : StoreState) (running : IsRunning p) (runs : p.stopped ≡ None) (m
     super_is = refl;
     some_pages = placed.some_pages;
     few_heads = let few = placed.few_md_pages in omega (arith, few);
-    heads_below = λ h some. low h (map.get metas h) (ap (λ (m : Map Meta). m h) base) some;
+    heads_below = λ h some. low h (map.get metas h) (ap (λ (m : Map Meta). m h) resolves) some;
     shown = λ h.
-        subst (ShowsAt (fixed_of p.super) (shown p h)) (ap (λ (m : Map Meta). m h) resolved_is)
+        subst (ShowsAt (fixed_of p.super) (shown p h)) (ap (λ (m : Map Meta). m h) resolves)
         (one h (resolved p.base h) refl);
   }

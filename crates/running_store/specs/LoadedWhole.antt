@@ -23,13 +23,15 @@ abbrev pub without_first : List Bool → Rows → ℕ → List Bool
 without_first bits rows zero = bits
 without_first bits rows (suc count) = without_claim (without_first bits rows count) (rows count).claim
 
--- The blobs are steady, and the metadata is lawful; each blob has its chain; and nothing is left to recover.
+-- The blobs are steady, and the metadata is lawful; each blob has its chain; no blob was read with a mark, and nothing
+-- is left to recover.
 pub record IsWhole {D : Type 0} (loaded : Loaded D) : Type 0 where
   pub steady : AreSteady loaded.sup (map.get loaded.metas)
   pub lawful : IsLawful loaded.sup.md_len (map.get loaded.metas)
   pub chains : HaveChains loaded.sup (map.get loaded.metas) (map.get loaded.chains)
   pub masks : AreMasks loaded.sup (map.get loaded.metas) (map.get loaded.chains) loaded.masks
   pub none_removed : loaded.removed ≡ map.empty
+  pub none_marked : loaded.marked ≡ map.empty
   pub no_repairs : loaded.repairs ≡ []
   pub read_whole : loaded.quick ≡ false
 

@@ -4,7 +4,7 @@ use Rattle.std.specs.Prelude.{slice_index_or}
 use Rattle.std.specs.Prelude.{IfSome, IsSome, List, if◌then◌else◌, is_some, slice_set, false, None, Option, Some}
 use Rattle.std.specs.FinMap as map
 use Rattle.bit_array.specs.Bits.{is_in}
-use Rattle.store_model.specs.Maps.{Metas}
+use Rattle.store_model.specs.Maps.{Metas, with_entry}
 use Rattle.std.specs.List.{sum_by}
 use Rattle.std.specs.Option.{option_map}
 use Rattle.page_disk.specs.declared.disk.PageDisk.{Ghosts}
@@ -12,6 +12,7 @@ use Rattle.store_model.specs.Rows.{Row, entries_of}
 use Rattle.running_store.specs.Jobs.{AreRoomsOf, job_seen, IsHeaded}
 use Rattle.std.specs.Ordering.{nat_cmp}
 use Rattle.blob_meta.specs.declared.meta.Meta.{Meta}
+use Rattle.blob_meta.specs.Resolving.{resolved}
 use Rattle.volume_model.specs.Xattrs.{Xattrs}
 use Rattle.io_freeze.specs.Guards.{GuardsState, renewed}
 use Rattle.store_model.specs.Places.{all_set}
@@ -23,13 +24,14 @@ use Rattle.running_store.specs.declared.job.RunningJob.{RunningJob}
 use Rattle.running_store.specs.declared.job.Work.{Work}
 use Rattle.running_store.specs.declared.job.Work.TheVariants as work
 use Rattle.running_store.specs.declared.running.Running.{Running}
-use Rattle.running_store.specs.StoreView.{StoreView, WithOpening}
+use Rattle.running_store.specs.StoreView.{base_of, AreResolved, StoreView, WithOpening}
 
 abbrev pub view_of : {D : Type 0} → Running D → StoreView D
 view_of running = record {
   disk = running.disk;
   super = running.sup;
   metas = running.metas;
+  marked = running.marked;
   chains = running.chains;
   live = running.live;
   pages = running.pages.bits;
@@ -78,6 +80,22 @@ IsRoomy metas chains live guards j = by j.work
     by (work.Writing planned written) = HasRoom metas chains live guards planned.effects
     by (work.Erasing erased) = Unit {0}
 
+-- A blob that isn't new is in memory; and once it has what is planned, what the device says resolves to what the store
+-- has in memory with that.
+pub record WillResolve (metas marked : map.FinMap nat_cmp Meta) (p : Planned) : Type 0 where
+  pub there : p.effects.rooms ≡ None → IsSome (map.get metas p.head)
+  pub resolves : resolved (with_entry (base_of metas marked) p.head p.new)
+      ≡ map.get (map.insert metas p.head p.new)
+
+-- the same, of what a job is to write
+abbrev pub WillResolveBy : map.FinMap nat_cmp Meta → map.FinMap nat_cmp Meta → RunningJob → Type 0
+WillResolveBy metas marked j = by j.work
+  where
+    by : Work → Type 0
+    by (work.Zeroing planned zeroed) = WillResolve metas marked planned
+    by (work.Writing planned written) = WillResolve metas marked planned
+    by (work.Erasing erased) = Unit {0}
+
 -- the attributes of one blob, if they are given, in place of those that it had
 abbrev pub live_given : map.FinMap nat_cmp Xattrs → ℕ → Option Xattrs → map.FinMap nat_cmp Xattrs
 live_given live head None = live
@@ -87,6 +105,7 @@ live_given live head (Some xattrs) = map.insert live head xattrs
 abbrev pub adopted : {D : Type 0} → Running D → Planned → Running D
 adopted running p = record running {
   metas = map.insert running.metas p.head p.new;
+  marked = map.remove running.marked p.head;
   chains = map.insert running.chains p.head p.chain;
   live = live_given running.live p.head p.effects.live;
   clusters = record { bits = all_set running.clusters.bits p.effects.freed false; claims = [] };
@@ -96,7 +115,7 @@ adopted running p = record running {
 
 -- There are sixteen rows; the log and the marks have room for all that is left; the entries of each channel are
 -- counted; no place is claimed; the metadata region lies on the device, and so do all pages of the store; the heads
--- are set; and what the job makes has its room.
+-- are set; the metadata is resolved, and will be once the job has written its own; and what the job makes has its room.
 pub record InOrder {D : Type 0} (d : Ghosts D) (running : Running D) : Type 0 where
   pub inside : running.sup.md_start + running.sup.md_len ≤ d.pages running.disk
   pub device : running.sup.device_pages ≤ d.pages running.disk
@@ -110,5 +129,7 @@ pub record InOrder {D : Type 0} (d : Ghosts D) (running : Running D) : Type 0 wh
   pub no_page : running.pages.claims ≡ []
   pub no_cluster : running.clusters.claims ≡ []
   pub headed : IfSome running.job IsHeaded
-  pub heads : AreHeads running.sup.md_len (map.get running.metas) running.heads
+  pub heads : AreHeads running.sup.md_len (base_of running.metas running.marked) running.heads
+  pub resolves : AreResolved running.metas running.marked
+  pub will_resolve : IfSome running.job (WillResolveBy running.metas running.marked)
   pub roomy : IfSome running.job (IsRoomy running.metas running.chains running.live running.guards)

@@ -141,7 +141,7 @@ impl RunningJob {
     ghost use Rattle.volume_model.specs.Xattrs.{Xattrs};
     ghost use Rattle.blob_meta.specs.declared.meta.Meta.{Meta as AMeta};
     ghost use Rattle.running_store.specs.Jobs.{behind_zero, job_seen, zeroing_job, IsHeaded, IsMatched};
-    ghost use Rattle.running_store.specs.Running.{HasRoom, IsRoomy};
+    ghost use Rattle.running_store.specs.Running.{HasRoom, IsRoomy, WillResolve, WillResolveBy};
 
     /// The job behind a page of zeros: the next page of its clusters, or else its metadata, is to be written.
     pub fn behind_zeros(channel: u8, planned: Planned, zeroed: Zeroed, old: PlaceList) -> RunningJob
@@ -153,6 +153,8 @@ impl RunningJob {
         ensures roomy { (metas : map.FinMap nat_cmp AMeta) (chains : map.FinMap nat_cmp (List ℕ))
             (live : map.FinMap nat_cmp Xattrs) (guards : GuardsState)
             → HasRoom metas chains live guards planned.effects → IsRoomy metas chains live guards result }
+        ensures resolving { (metas : map.FinMap nat_cmp AMeta) (marked : map.FinMap nat_cmp AMeta)
+            → WillResolve metas marked planned → WillResolveBy metas marked result }
     {
         let serves = Serves::Command(channel);
         let Zeroed {

@@ -37,6 +37,7 @@ impl<D> Running<D> {
             disk,
             sup,
             metas: _,
+            marked: _,
             chains: _,
             live: _,
             pages,

@@ -14,14 +14,15 @@ pub struct Running<D> {
     pub alloc: Global,
     pub disk: D,
     pub sup: Super,
-    /// The metadata as the device says it, and the places of each blob's chain.
+    /// The metadata once it is resolved; the marked blobs, as the device says them; and the places of each blob's chain.
     pub metas: Metas,
+    pub marked: Metas,
     pub chains: Chains,
     /// The attributes as they are read.
     pub live: HeadMap<XattrList>,
     pub pages: PagePool,
     pub clusters: ClusterPool,
-    /// Which metadata pages are heads.
+    /// Which metadata pages are heads, those of marked blobs among them.
     pub heads: Bits,
     /// Which blobs are frozen, and the generation of each.
     pub guards: Guards,

@@ -17,14 +17,14 @@ use Rattle.running_store.proofs.Showing.{loaded_alike}
 use Rattle.metadata_turns.specs.JobTurns.{TurnsJob}
 use Rattle.running_store.specs.StoreInvariant.{StoreInvariant, opening_script}
 use Rattle.running_store.specs.TurnMade.{TurnMade}
-use Rattle.running_store.specs.StoreView.{StoreView, WithOpening, state_of}
+use Rattle.running_store.specs.StoreView.{StoreView, WithOpening, base_of, state_of}
 use Rattle.running_store.specs.Surviving.{HasOneImage, HoldsMetadata, OldOrNew}
 
 module _ {D : Type 0} (d : Ghosts D) (laws : CrashLaws)
     (law : IsTrue d.tells → Telling d.now d.images d.since d.clock) where
   pub kept_begins : (p : StoreView D) → IsLoadedWith p.super (state_of d p) → Opens (state_of d p) → IsFaultless p.super
       → IsPlaced p.super
-      → (IsTrue d.tells → HoldsMetadata p.super (map.get p.metas) (map.get p.chains) (d.now p.disk))
+      → (IsTrue d.tells → HoldsMetadata p.super (base_of p.metas p.marked) (map.get p.chains) (d.now p.disk))
       → (right : ℕ) → StoreInvariant d (record { at = p; opening = p; right = right })
   kept_begins p loaded opens faultless placed holds right =
       let facts : RunInvariant p.super (shown (state_of d p)) (opening_script p) (state_of d p) =
@@ -86,11 +86,11 @@ module _ {D : Type 0} (d : Ghosts D) (laws : CrashLaws)
 
     pub leaves_here : HasOneImage d p.opening.disk
         → p.at.stopped ≡ None → (job : JobState) → p.at.job ≡ Some job → CallsLeaveOnly d p.at.disk q.disk
-        (OldOrNew p.opening.super (map.get p.at.metas) (map.get p.at.chains) job.todo)
+        (OldOrNew p.opening.super (base_of p.at.metas p.at.marked) (map.get p.at.chains) job.todo)
     unfolding over
     leaves_here one runs job is _ = turns.leaves_old_or_new d (over one) kind made.0 made.1 runs job is
 
   pub leaves_old_or_new : (p : WithOpening D) (q : StoreView D) (job : JobState) → StoreInvariant d p
       → TurnsJob d p.at q → HasOneImage d p.opening.disk → p.at.stopped ≡ None → p.at.job ≡ Some job
-      → CallsLeaveOnly d p.at.disk q.disk (OldOrNew p.opening.super (map.get p.at.metas) (map.get p.at.chains) job.todo)
+      → CallsLeaveOnly d p.at.disk q.disk (OldOrNew p.opening.super (base_of p.at.metas p.at.marked) (map.get p.at.chains) job.todo)
   leaves_old_or_new p q job kept turn one runs is = leaves_here p q turn.kind kept turn.made one runs job is

@@ -14,6 +14,7 @@ use Rattle.volume_model.specs.declared.command.Command.TheVariants as c
 use Rattle.blob_meta.specs.Parents.{read_only}
 use Rattle.blob_meta.specs.declared.meta.Meta.{Meta}
 use Rattle.blob_meta.specs.Asked.{IsFirstCause}
+use Rattle.blob_meta.specs.Resolving.{resolved}
 use Rattle.blob_meta.specs.ShownBy.{IsFirstRefusal, IsHeadMeant, ShowsMetas}
 use Rattle.blob_meta.specs.declared.job.Job.{Job}
 use Rattle.blob_meta.specs.Jobs.{resize_job, resized_meta}
@@ -28,11 +29,12 @@ use Rattle.store_core.specs.Planning.{PlanLaws}
 use Rattle.running_store.specs.StoreView.{state_of}
 use Rattle.store_core.proofs.NextHead.{asks_create}
 use Rattle.running_store.proofs.Showing.{shows_metas}
+use Rattle.running_store.proofs.Resolved.{unmarked_base}
 use Rattle.metadata_turns.proofs.Answered.{found, live_same}
 use Rattle.metadata_turns.proofs.Found.{is_live_of, shows_live}
 
 module _ (p : StoreState) (running : IsRunning p) (runs : p.stopped ≡ None) (metas : map.FinMap nat_cmp Meta)
-    (base : p.base ≡ map.get metas) (volume : VolumeRef) (head : ℕ) (old : Meta) (live : Xattrs)
+    (resolves : resolved p.base ≡ map.get metas) (base : p.base ≡ map.get metas) (volume : VolumeRef) (head : ℕ) (old : Meta) (live : Xattrs)
     (there : map.get metas head ≡ Some old) (is_live : p.live head ≡ Some live)
     (meant : IsHeadMeant metas p.super volume (Some head)) where
   abbrev f : Fixed
@@ -42,7 +44,7 @@ module _ (p : StoreState) (running : IsRunning p) (runs : p.stopped ≡ None) (m
   v = shown p
 
   shows : ShowsMetas f p.super metas v
-  shows = shows_metas p running runs metas base
+  shows = shows_metas p running runs metas resolves
 
   meant_now : head_of f v volume ≡ Some head
   meant_now = meant f v shows
@@ -139,23 +141,25 @@ asks_resize p metas shows volume slots head old job there meant unrefused is =
 
 pub plan_laws : {D : Type 0} (d : Ghosts D) → PlanLaws d
 plan_laws d = record {
-  live = λ p command head xattrs running runs found.
-      is_live_of (state_of d p) running runs p.metas refl p.live refl command head xattrs found;
-  shows = λ p command head xattrs running runs found.
-      shows_live (state_of d p) running runs p.metas refl p.live refl command head xattrs found;
-  shows_all = λ p running runs. shows_metas (state_of d p) running runs p.metas refl;
-  put = λ p volume head key value old live running runs blob meant cause.
-      asks_put (state_of d p) running runs p.metas refl volume head old live blob.there blob.is_live meant key value
-      cause;
-  sync = λ p volume head old live running runs blob meant cause.
-      asks_sync (state_of d p) running runs p.metas refl volume head old live blob.there blob.is_live meant cause;
-  read_only = λ p volume head old live running runs blob meant cause.
-      asks_read_only (state_of d p) running runs p.metas refl volume head old live blob.there blob.is_live meant cause;
-  create = λ p name slots thick uuid head xattrs running runs is_name next unrefused named.
+  live = λ p command head xattrs running runs are found.
+      is_live_of (state_of d p) running runs p.metas are.resolves p.live refl command head xattrs found;
+  shows = λ p command head xattrs running runs are found.
+      shows_live (state_of d p) running runs p.metas are.resolves p.live refl command head xattrs found;
+  shows_all = λ p running runs are. shows_metas (state_of d p) running runs p.metas are.resolves;
+  put = λ p volume head key value old live running runs are clean blob meant cause.
+      asks_put (state_of d p) running runs p.metas are.resolves (unmarked_base p.metas p.marked are clean) volume head old live
+      blob.there blob.is_live meant key value cause;
+  sync = λ p volume head old live running runs are clean blob meant cause.
+      asks_sync (state_of d p) running runs p.metas are.resolves (unmarked_base p.metas p.marked are clean) volume head old live
+      blob.there blob.is_live meant cause;
+  read_only = λ p volume head old live running runs are clean blob meant cause.
+      asks_read_only (state_of d p) running runs p.metas are.resolves (unmarked_base p.metas p.marked are clean) volume head old live
+      blob.there blob.is_live meant cause;
+  create = λ p name slots thick uuid head xattrs running runs are is_name next unrefused named.
       asks_create running.store running.first running.script (state_of d p) running.facts (running.facts.well runs)
-      p.metas (shows_metas (state_of d p) running runs p.metas refl) name slots thick uuid head xattrs is_name next
-      unrefused named;
-  resize = λ p volume slots head old job running runs meant there unrefused is.
-      asks_resize (state_of d p) p.metas (shows_metas (state_of d p) running runs p.metas refl) volume slots head old
-      job there meant unrefused is;
+      p.metas (shows_metas (state_of d p) running runs p.metas are.resolves) name slots thick uuid head xattrs is_name
+      next unrefused named;
+  resize = λ p volume slots head old job running runs are clean meant there unrefused is.
+      asks_resize (state_of d p) p.metas (shows_metas (state_of d p) running runs p.metas are.resolves) volume slots head
+      old job (ap (λ (m : Map Meta). m head) (unmarked_base p.metas p.marked are clean) ∙ there) meant unrefused is;
 }

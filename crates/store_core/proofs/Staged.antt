@@ -12,7 +12,7 @@ use Rattle.volume_model.specs.declared.command.VolumeRef.{VolumeRef}
 use Rattle.volume_model.specs.declared.reply.Reply.{Reply}
 use Rattle.store_model.specs.Cases as kind
 use Rattle.store_model.specs.Cases.{Kind, Run, Turn}
-use Rattle.store_model.specs.Cases.BreakDown.{BreaksDown, IsUnlogged, WasLogged}
+use Rattle.store_model.specs.Cases.BreakDown.{BreaksDown}
 use Rattle.store_model.specs.Cases.Copy.{stage_left}
 use Rattle.store_model.specs.Cases.Halt.{stage_after}
 use Rattle.store_model.specs.Claiming.{given_back, LogsOwn, stage_behind}
@@ -24,7 +24,7 @@ use Rattle.store_model.specs.StoreState.{Opens, StoreState}
 use Rattle.store_model.specs.Turning.{stopped_now}
 use Rattle.store_model.proofs.RowsKept.{row_here, row_other}
 use Rattle.running_store.specs.StoreInvariant.{StoreInvariant}
-use Rattle.running_store.specs.StoreView.{rows_of, state_of, StoreView, WithOpening}
+use Rattle.running_store.specs.StoreView.{rows_of, state_of, WithOpening}
 
 -- a write of a page comes first
 pub record HasWrite (left : List Command) : Type 0 where
@@ -172,6 +172,11 @@ module _ (tells : Bool) (p q : StoreState) (are : AreStaged p) where
       one_row _ t.next refl t.served.channel t.served.rest (Decided Answered) None refl tt
   stays_staged kind.breaks_off t = no_row _ t.next refl refl
   stays_staged kind.breaks_down t = broken_down p q t are
+  stays_staged kind.begins_repair t = no_row _ t.next refl refl
+  stays_staged kind.replaces_more t = no_row _ t.next refl refl
+  stays_staged kind.more_fails t =
+      one_row _ t.next refl t.served.channel t.served.rest (Decided Answered) None refl tt
+  stays_staged kind.more_breaks_off t = no_row _ t.next refl refl
   stays_staged kind.flushes t = one_row _ t.next refl t.channel t.rest Idle None refl tt
   stays_staged kind.flush_fails t = one_row _ t.next refl t.channel t.rest Idle None refl tt
   stays_staged kind.reads t = one_row _ t.next refl t.channel t.rest Idle None refl tt

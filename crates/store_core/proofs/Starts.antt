@@ -1,5 +1,5 @@
 -- What the loops of a start have made so far.
-use Rattle.store_model.proofs.Shows.{steady_resolved}
+use Rattle.store_model.proofs.Resolved.{steady_resolved}
 use Rattle.blob_meta.specs.Resolving.{IsLawful, resolved}
 use Rattle.std.proofs.Common.{◌≡◌, ℕ, ◌+◌, ◌<◌, ◌≤◌, Bool, true, false, cond, List, [], ◌∷◌, ◌++◌, length, Option, Some}
 use Rattle.std.proofs.Common.{None, refl, sym, ◌∙◌, ap, subst, ◌⊎◌, arith, inl, inr, length-append, ◌≢◌}
@@ -22,15 +22,16 @@ use Rattle.blob_meta.specs.declared.meta.Meta.{Meta}
 use Rattle.io_freeze.specs.Guards.{GuardsState, no_guards, renewed}
 use Rattle.store_model.specs.Maps.{Map, Metas, with_entry}
 use Rattle.store_model.specs.StateLaws.{IsLoadedWith}
-use Rattle.store_model.specs.StoreState.{Opens}
-use Rattle.store_model.specs.RunInvariant.{AreSteady}
+use Rattle.store_model.specs.StoreState.{Opens, StoreState}
+use Rattle.store_model.specs.RunInvariant.{AreNamed, AreSteady}
 use Rattle.store_model.specs.Rows.{Row, Idle, Ended}
 use Rattle.store_model.proofs.WithEntry.{given_here, given_elsewhere}
 use Rattle.running_store.specs.declared.loaded.Loaded.{Loaded}
 use Rattle.store_core.specs.Opening.{AreGuardsAtStart, AreRows, IsLiveAtStart, opened_with, row_at_start}
-use Rattle.running_store.specs.StoreView.{rows_of, state_of}
+use Rattle.running_store.specs.StoreView.{base_of, rows_of, state_of, AreResolved}
 use Rattle.running_store.specs.LoadedWhole.{IsWhole}
 use Rattle.running_store.proofs.Maps.{insert_given}
+use Rattle.running_store.proofs.Resolved.{none_aside}
 
 -- the live attributes of the blobs whose heads are below this
 pub record LiveBelow (metas : map.FinMap nat_cmp Meta) (live : map.FinMap nat_cmp Xattrs) (end : ℕ) : Type 0 where
@@ -249,22 +250,40 @@ module _ {D : Type 0} (d : Ghosts D) (loaded : Loaded D) (live : map.FinMap nat_
   resolved_is : IsWhole loaded → resolved (map.get loaded.metas) ≡ map.get loaded.metas
   resolved_is whole = steady_resolved loaded.sup (map.get loaded.metas) whole.steady
 
+  -- no blob has a mark
+  pub base_at_start : IsWhole loaded → base_of loaded.metas loaded.marked ≡ map.get loaded.metas
+  base_at_start whole = none_aside loaded.metas loaded.marked whole.none_marked
+
+  pub resolved_at_start : IsWhole loaded → AreResolved loaded.metas loaded.marked
+  resolved_at_start whole = record {
+    marks = λ h m is. absurd (let none : map.get loaded.marked h ≡ None =
+        ap (λ (marked : map.FinMap nat_cmp Meta). map.get marked h) whole.none_marked ∙ map.get-empty nat_cmp h in
+        cc (none, is));
+    resolves = ap resolved (base_at_start whole) ∙ resolved_is whole;
+  }
+
+  -- the state at the start, where the device says this metadata
+  abbrev with_base : Metas → StoreState
+  with_base base = record (state_of d (opened_with d loaded live guards rows)) { base = base }
+
   pub is_loaded_with : IsWhole loaded → IsLiveAtStart loaded.metas live
       → IsLoadedWith loaded.sup (state_of d (opened_with d loaded live guards rows))
-  is_loaded_with whole is = record {
-    super = refl;
-    steady = whole.steady;
-    few = whole.lawful.few;
-    lawful = subst (IsLawful loaded.sup.md_len) (sym (resolved_is whole)) whole.lawful;
-    chains = whole.chains;
-    pages = whole.masks.pages;
-    clusters = whole.masks.clusters;
-    live = λ head m some. is head ∙ ap (option_map (λ (x : Meta). x.xattrs))
-        (sym (ap (λ (x : Map Meta). x head) (resolved_is whole)) ∙ some);
-    no_live = λ head none. is head ∙ ap (option_map (λ (x : Meta). x.xattrs))
-        (sym (ap (λ (x : Map Meta). x head) (resolved_is whole)) ∙ none);
-    generations = guarded.generations;
-  }
+  is_loaded_with whole is =
+      subst (λ (base : Metas). IsLoadedWith loaded.sup (with_base base)) (sym (base_at_start whole)) (record {
+        super = refl;
+        stored = λ head m there. (whole.steady head m there).stored;
+        named = subst AreNamed (sym (resolved_is whole)) (λ head m there. (whole.steady head m there).named);
+        few = whole.lawful.few;
+        lawful = subst (IsLawful loaded.sup.md_len) (sym (resolved_is whole)) whole.lawful;
+        chains = whole.chains;
+        pages = whole.masks.pages;
+        clusters = whole.masks.clusters;
+        live = λ head m some. is head ∙ ap (option_map (λ (x : Meta). x.xattrs))
+            (sym (ap (λ (x : Map Meta). x head) (resolved_is whole)) ∙ some);
+        no_live = λ head none. is head ∙ ap (option_map (λ (x : Meta). x.xattrs))
+            (sym (ap (λ (x : Map Meta). x head) (resolved_is whole)) ∙ none);
+        generations = guarded.generations;
+      })
 
   pub it_opens : (script : List (List Command)) → AreRows script rows
       → Opens (state_of d (opened_with d loaded live guards rows))

@@ -48,6 +48,7 @@ opened_with d loaded live guards rows = record {
   disk = loaded.disk;
   super = loaded.sup;
   metas = loaded.metas;
+  marked = loaded.marked;
   chains = loaded.chains;
   live = live;
   pages = loaded.masks.pages;

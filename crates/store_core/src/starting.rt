@@ -5,6 +5,7 @@ ghost use Rattle.std.specs.FinMap as map;
 ghost use Rattle.volume_model.specs.declared.command.Command.{Command as ACommand};
 ghost use Rattle.store_core.specs.Opening.{AreGuardsAtStart, AreRows, IsAtStart, IsLiveAtStart, opened_with};
 ghost use Rattle.running_store.specs.Running.{view_of, AreHeads, InOrder, left_in};
+ghost use Rattle.running_store.specs.StoreView.{base_of, AreResolved};
 
 use blob_meta::{HeadMap, Metas};
 use io_freeze::Guards;
@@ -64,7 +65,8 @@ pub(crate) fn running_at_start<D: PageDisk>(
     requires parts { (script : List (List ACommand)) × IsAtStart loaded.metas script (D.clock loaded.disk) parts }
     requires inside { loaded.sup.md_start + loaded.sup.md_len ≤ D.pages loaded.disk }
     requires device { loaded.sup.device_pages ≤ D.pages loaded.disk }
-    requires heads { AreHeads loaded.sup.md_len (map.get loaded.metas) loaded.masks.blobs }
+    requires heads { AreHeads loaded.sup.md_len (base_of loaded.metas loaded.marked) loaded.masks.blobs }
+    requires resolves { AreResolved loaded.metas loaded.marked }
     ensures at { view_of result ≡ opened_with D.PageDisk loaded parts.live parts.guards parts.rows.items }
     ensures order { InOrder D.PageDisk result }
 {
@@ -73,6 +75,7 @@ pub(crate) fn running_at_start<D: PageDisk>(
         sup,
         metas,
         removed: _,
+        marked,
         chains,
         repairs: _,
         masks,
@@ -95,6 +98,7 @@ pub(crate) fn running_at_start<D: PageDisk>(
         disk,
         sup,
         metas,
+        marked,
         chains,
         live,
         pages: PagePool::new(pages),

@@ -133,6 +133,7 @@ pub fn load<D: PageDisk>(alloc: Global, disk: D) -> Result<Loaded<D>, (D, LoadFa
         sup: store.sup,
         metas: store.metas,
         removed: Metas::new(alloc),
+        marked: Metas::new(alloc),
         chains: store.chains,
         repairs: ReplacementList::new(alloc),
         masks: store.masks,

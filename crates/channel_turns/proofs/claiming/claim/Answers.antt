@@ -18,7 +18,7 @@ returns-in-Some-clause-filled g c said =
     (λ k rest left. c.first_of.ensures k rest
     (ap (λ (l : List Row). (rows_of l c.args.channel).left) c.deref.ensures.value ∙ left)) c.in-Write.is in
     let low : c.args.channel < length p.rows = omega (arith, c.requires.channel, c.requires.order.sixteen) in
-    found_filled d p c.args.channel c.requires.running c.requires.runs w c.find-head.result
+    found_filled d p c.args.channel c.requires.running c.requires.runs c.requires.order.resolves w c.find-head.result
     c.find-head.ensures.meant (sym c.is_frozen.ensures ∙ c.if-is_frozen.false)
     c.in-Some.field-0 (sym c.place_in.ensures ∙ c.in-Some.is) low c.go_to.new.self
     (c.go_to.ensures ∙ ap (λ (r : Row). record r { stage = Idle })
@@ -34,7 +34,7 @@ returns-in-Some-refusal_of_write-clause-logged g c said =
     (ap (λ (l : List Row). (rows_of l c.args.channel).left) c.deref.ensures.value ∙ left)) c.in-Write.is in
     let none = sym c.place_in.ensures ∙ c.in_default-place_in.is in
     let low : c.args.channel < length p.rows = omega (arith, c.requires.channel, c.requires.order.sixteen) in
-    claim_refused d p c.args.channel c.requires.running c.requires.runs w c.find-head.result
+    claim_refused d p c.args.channel c.requires.running c.requires.runs c.requires.order.resolves w c.find-head.result
     c.find-head.ensures.meant (sym c.is_frozen.ensures ∙ c.if-is_frozen.false)
     none c.in-Some-refusal_of_write.reply c.in-Some-refusal_of_write.ensures.caused
     (c.in-Some-refusal_of_write.ensures.first c.in-Write.volume c.in-Write.word c.find-head.ensures.meant) low
@@ -52,9 +52,9 @@ unreachable-requires-in_default-head g c =
     (IsFirstOnPages p.metas p.super (command.Write c.in-Write.volume c.in-Write.page c.in-Write.word))
     c.in_default-refusal_of_write.is
     (c.refusal_of_write.ensures.first c.in-Write.volume c.in-Write.word c.find-head.ensures.meant) in
-    let asked = refused_so d p c.args.channel Claiming c.requires.running c.requires.runs w c.find-head.result
+    let asked = refused_so d p c.args.channel Claiming c.requires.running c.requires.runs c.requires.order.resolves w c.find-head.result
     c.find-head.ensures.meant _ first in
-    some_meant d p c.args.channel Claiming c.requires.running c.requires.runs w c.find-head.result
+    some_meant d p c.args.channel Claiming c.requires.running c.requires.runs c.requires.order.resolves w c.find-head.result
     c.find-head.ensures.meant asked c.in_default-head.is
 
 pub slot_of-slot-requires-clause-low : goal.slot_of-slot-requires-clause-low
@@ -70,7 +70,7 @@ slot_of-slot-requires-clause-low g c =
     (IsFirstOnPages p.metas p.super (command.Write c.in-Write.volume c.in-Write.page c.in-Write.word))
     c.in_default-refusal_of_write.is
     (c.refusal_of_write.ensures.first c.in-Write.volume c.in-Write.word c.find-head.ensures.meant) in
-    slot_fits d p c.args.channel c.requires.running c.requires.runs w c.find-head.result
+    slot_fits d p c.args.channel c.requires.running c.requires.runs c.requires.order.resolves w c.find-head.result
     c.find-head.ensures.meant (sym c.is_frozen.ensures ∙ c.if-is_frozen.false)
     none first c.in-Some-head.head c.in-Some-head.is
     (found_there p.metas p.super c.in-Write.volume c.find-head.result c.find-head.ensures.some)
@@ -88,7 +88,7 @@ claim_least-requires-clause-claims g c =
     (IsFirstOnPages p.metas p.super (command.Write c.in-Write.volume c.in-Write.page c.in-Write.word))
     c.in_default-refusal_of_write.is
     (c.refusal_of_write.ensures.first c.in-Write.volume c.in-Write.word c.find-head.ensures.meant) in
-    claims_now d p c.args.channel c.requires.running c.requires.runs w c.find-head.result
+    claims_now d p c.args.channel c.requires.running c.requires.runs c.requires.order.resolves w c.find-head.result
     c.find-head.ensures.meant (sym c.is_frozen.ensures ∙ c.if-is_frozen.false)
     none first c.in-Some-head.head c.in-Some-head.is
     (found_there p.metas p.super c.in-Write.volume c.find-head.result c.find-head.ensures.some) c.slot_of-slot.result

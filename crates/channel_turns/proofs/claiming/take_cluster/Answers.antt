@@ -1,7 +1,6 @@
 use Rattle.std.proofs.Common.{ℕ, List, refl, sym, ap, subst, arith}
 use Rattle.std.specs.Prelude.{Contains}
 use Rattle.pools.specs.Pool.{PoolState}
-use Rattle.channel_turns.proofs.ClaimAsked.{kept_bits, none_open}
 use Rattle.channel_turns.proofs.claiming.take_cluster.Goals as goal
 
 pub keep-requires : goal.keep-requires

@@ -1,12 +1,14 @@
-use Rattle.std.proofs.Common.{◌≡◌, ℕ, suc, ◌+◌, ◌-◌, ◌*◌, ◌<◌, length, sym, ◌∙◌, ap, subst, arith, Some}
+use Rattle.std.proofs.Common.{◌≡◌, ℕ, suc, ◌+◌, ◌-◌, ◌*◌, ◌<◌, length, sym, ◌∙◌, ap, subst, arith}
 use Rattle.std.specs.Option.{option_map}
 use Rattle.super_block.specs.Numbers.{cluster_pages_of}
 use Rattle.store_model.specs.Rows.{Row}
 use Rattle.channel_turns.specs.ClaimTurns.{CopiesNow}
 use Rattle.running_store.specs.Stages.{claim_seen, to_copy_in}
 use Rattle.running_store.specs.Running.{view_of}
-use Rattle.channel_turns.proofs.PagesCopied.{all_fit, copies_now, copy_lost, from_inside, from_is, late, left_read}
+use Rattle.running_store.specs.StoreView.{state_of}
+use Rattle.channel_turns.proofs.PagesCopied.{copies_now, copy_lost, from_inside, from_is, late, left_read}
 use Rattle.channel_turns.proofs.PagesCopied.{seen_copy, to_inside}
+use Rattle.channel_turns.proofs.PagesShown.{heads_fit}
 use Rattle.running_store.proofs.Rowing.{row_read}
 use Rattle.channel_turns.proofs.copying.copy_next.Goals as goal
 
@@ -36,13 +38,14 @@ copy_to-requires-clause-copies g c =
     omega (arith, left, pages, few) in
     let current = c.is_current.ensures.0 c.if-not-is_current.false in
     let page = c.cluster_pages-pages.result - c.in-Some-to_copy.left in
-    let place = c.place_read-from.ensures (all_fit g.D.PageDisk p c.requires.running) in
+    let place = c.place_read-from.ensures (heads_fit (state_of g.D.PageDisk p) c.requires.running c.requires.runs
+    p.metas c.requires.order.resolves.resolves) in
     let from = place ∙ from_is p.metas p.super c.in-Some.claim.head c.in-Some.claim.slot page
     c.cluster_pages-pages.result pages c.page_in.result c.page_in.ensures in
     let to = c.page_in-to.ensures ∙ ap (λ (k : ℕ). c.in-Some.claim.cluster * k + page) pages in
     let fewer : w.left ≡ c.in-Some-to_copy.left - 1 = omega (arith, left) in
     subst (CopiesNow g.D.PageDisk p c.args.channel c.place_read-from.result c.page_in-to.result) fewer
-    (copies_now g.D.PageDisk p c.args.channel c.requires.running c.requires.runs w current page next
+    (copies_now g.D.PageDisk p c.args.channel c.requires.running c.requires.runs c.requires.order.resolves w current page next
     c.place_read-from.result from c.page_in-to.result to)
 
 pub copy_to-requires-clause-from : goal.copy_to-requires-clause-from
@@ -60,11 +63,12 @@ copy_to-requires-clause-from g c =
     omega (arith, left, pages, few) in
     let current = c.is_current.ensures.0 c.if-not-is_current.false in
     let page = c.cluster_pages-pages.result - c.in-Some-to_copy.left in
-    let place = c.place_read-from.ensures (all_fit g.D.PageDisk p c.requires.running) in
+    let place = c.place_read-from.ensures (heads_fit (state_of g.D.PageDisk p) c.requires.running c.requires.runs
+    p.metas c.requires.order.resolves.resolves) in
     let from = place ∙ from_is p.metas p.super c.in-Some.claim.head c.in-Some.claim.slot page
     c.cluster_pages-pages.result pages c.page_in.result c.page_in.ensures in
     let to = c.page_in-to.ensures ∙ ap (λ (k : ℕ). c.in-Some.claim.cluster * k + page) pages in
-    from_inside g.D.PageDisk p c.args.channel c.requires.running c.requires.runs w current page next
+    from_inside g.D.PageDisk p c.args.channel c.requires.running c.requires.runs c.requires.order.resolves w current page next
     c.place_read-from.result from (g.D.PageDisk.pages p.disk) c.requires.order.device
 
 pub copy_to-requires-clause-to : goal.copy_to-requires-clause-to
@@ -82,11 +86,12 @@ copy_to-requires-clause-to g c =
     omega (arith, left, pages, few) in
     let current = c.is_current.ensures.0 c.if-not-is_current.false in
     let page = c.cluster_pages-pages.result - c.in-Some-to_copy.left in
-    let place = c.place_read-from.ensures (all_fit g.D.PageDisk p c.requires.running) in
+    let place = c.place_read-from.ensures (heads_fit (state_of g.D.PageDisk p) c.requires.running c.requires.runs
+    p.metas c.requires.order.resolves.resolves) in
     let from = place ∙ from_is p.metas p.super c.in-Some.claim.head c.in-Some.claim.slot page
     c.cluster_pages-pages.result pages c.page_in.result c.page_in.ensures in
     let to = c.page_in-to.ensures ∙ ap (λ (k : ℕ). c.in-Some.claim.cluster * k + page) pages in
-    let low_to = to_inside g.D.PageDisk p c.args.channel c.requires.running c.requires.runs w current page next
+    let low_to = to_inside g.D.PageDisk p c.args.channel c.requires.running c.requires.runs c.requires.order.resolves w current page next
     c.place_read-from.result from c.page_in-to.result to in
     let device = c.requires.order.device in
     omega (arith, low_to, device)

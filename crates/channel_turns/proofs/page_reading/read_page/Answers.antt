@@ -4,8 +4,9 @@ use Rattle.blob_meta.specs.Pages.{IsFirstOnPages}
 use Rattle.volume_model.specs.declared.command.Command.TheVariants as command
 use Rattle.store_model.specs.Rows.{Row}
 use Rattle.running_store.specs.Running.{view_of}
-use Rattle.running_store.specs.StoreView.{rows_of}
-use Rattle.channel_turns.proofs.ReadAsked.{heads_fit, read_inside, read_refused, reads_now, seen_read}
+use Rattle.running_store.specs.StoreView.{rows_of, state_of}
+use Rattle.channel_turns.proofs.PagesShown.{heads_fit}
+use Rattle.channel_turns.proofs.ReadAsked.{read_inside, read_refused, reads_now, seen_read}
 use Rattle.channel_turns.proofs.WriteMeant.{found_there}
 use Rattle.channel_turns.proofs.page_reading.read_page.Goals as goal
 
@@ -16,7 +17,7 @@ returns-in-Some-clause-logged g c said =
     let w = seen_read p c.args.channel c.requires.waits c.first_of.result.now c.in-Read.volume c.in-Read.page
     (λ k rest left. c.first_of.ensures k rest
     (ap (λ (l : List Row). (rows_of l c.args.channel).left) c.deref.ensures.value ∙ left)) c.in-Read.is in
-    read_refused d p c.args.channel c.requires.running c.requires.runs w c.find-head.result
+    read_refused d p c.args.channel c.requires.running c.requires.runs c.requires.order.resolves w c.find-head.result
     c.find-head.ensures.meant (sym c.is_frozen.ensures ∙ c.if-is_frozen.false) c.in-Some.reply c.in-Some.ensures.caused
     (c.in-Some.ensures.first c.in-Read.volume c.find-head.ensures.meant)
     (omega (arith, c.requires.channel, c.requires.order.sixteen)) (view_of c.log_here.new.running)
@@ -30,14 +31,14 @@ get_page-requires-clause-reads g c =
     let w = seen_read p c.args.channel c.requires.waits c.first_of.result.now c.in-Read.volume c.in-Read.page
     (λ k rest left. c.first_of.ensures k rest
     (ap (λ (l : List Row). (rows_of l c.args.channel).left) c.deref.ensures.value ∙ left)) c.in-Read.is in
-    reads_now d p c.args.channel c.requires.running c.requires.runs w c.find-head.result
+    reads_now d p c.args.channel c.requires.running c.requires.runs c.requires.order.resolves w c.find-head.result
     c.find-head.ensures.meant (sym c.is_frozen.ensures ∙ c.if-is_frozen.false)
     (subst (IsFirstOnPages p.metas p.super (command.Read c.in-Read.volume c.in-Read.page))
     c.in_default-refusal_of_read.is (c.refusal_of_read.ensures.first c.in-Read.volume c.find-head.ensures.meant))
     (found_there p.metas p.super c.in-Read.volume c.find-head.result c.find-head.ensures.some)
     c.place_for-place.result
-    (c.place_for-place.ensures (heads_fit d p c.args.channel c.requires.running c.requires.runs w c.find-head.result
-    c.find-head.ensures.meant))
+    (c.place_for-place.ensures (heads_fit (state_of d p) c.requires.running c.requires.runs p.metas
+    c.requires.order.resolves.resolves))
 
 pub get_page-requires-clause-inside : goal.get_page-requires-clause-inside
 get_page-requires-clause-inside g c =
@@ -46,10 +47,10 @@ get_page-requires-clause-inside g c =
     let w = seen_read p c.args.channel c.requires.waits c.first_of.result.now c.in-Read.volume c.in-Read.page
     (λ k rest left. c.first_of.ensures k rest
     (ap (λ (l : List Row). (rows_of l c.args.channel).left) c.deref.ensures.value ∙ left)) c.in-Read.is in
-    read_inside d p c.args.channel c.requires.running c.requires.runs w c.find-head.result
+    read_inside d p c.args.channel c.requires.running c.requires.runs c.requires.order.resolves w c.find-head.result
     c.find-head.ensures.meant (sym c.is_frozen.ensures ∙ c.if-is_frozen.false)
     (subst (IsFirstOnPages p.metas p.super (command.Read c.in-Read.volume c.in-Read.page))
     c.in_default-refusal_of_read.is (c.refusal_of_read.ensures.first c.in-Read.volume c.find-head.ensures.meant))
     (d.pages p.disk) c.requires.order.device c.place_for-place.result
-    (c.place_for-place.ensures (heads_fit d p c.args.channel c.requires.running c.requires.runs w c.find-head.result
-    c.find-head.ensures.meant))
+    (c.place_for-place.ensures (heads_fit (state_of d p) c.requires.running c.requires.runs p.metas
+    c.requires.order.resolves.resolves))

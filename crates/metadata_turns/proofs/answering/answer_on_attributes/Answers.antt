@@ -44,7 +44,8 @@ asked_volume-requires g c =
 pub effect_of-requires-clause-live : goal.effect_of-requires-clause-live
 effect_of-requires-clause-live g c =
     let old = c.args.running.now in
-    is_live_of (state_of g.D.PageDisk (view_of old)) c.requires.running c.requires.runs old.metas refl old.live refl
+    is_live_of (state_of g.D.PageDisk (view_of old)) c.requires.running c.requires.runs old.metas c.requires.order.resolves.resolves
+    old.live refl
     c.first_of-command.result.now c.find-head.result (option_copied c.live_at-live.result)
     (record {
       volume = c.asked_volume.result.now;
@@ -95,7 +96,8 @@ returns-in-Ok-clause-case g c =
       meant = c.find-head.ensures.meant;
       live_is = c.live_at-live.ensures;
     } in
-    let shows = shows_live p c.requires.running c.requires.runs old.metas refl old.live refl waits.command head o found
+    let shows = shows_live p c.requires.running c.requires.runs old.metas c.requires.order.resolves.resolves
+    old.live refl waits.command head o found
     in
     let meant = named_asked (fixed_of p.super) (shown p) waits.command found.volume found.asked
     ∙ found.meant (fixed_of p.super) (shown p) shows.shows in

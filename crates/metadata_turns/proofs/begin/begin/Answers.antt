@@ -46,6 +46,8 @@ returns-in-Ok-clause-order g c =
       no_cluster = order.no_cluster;
       headed = c.in-Ok.ensures.headed;
       heads = order.heads;
+      resolves = order.resolves;
+      will_resolve = c.in-Ok.ensures.will_resolve;
       roomy = c.in-Ok.ensures.roomy;
     }
 

@@ -1,4 +1,4 @@
-use Rattle.std.proofs.Common.{◌≡◌, ◌<◌, ◌≤◌, ◌∙◌, All, Bool, true, false, List, length, sym, ap, subst, arith, IfErr}
+use Rattle.std.proofs.Common.{◌≡◌, ◌<◌, ◌≤◌, ◌∙◌, All, Bool, true, false, List, [], length, sym, ap, subst, arith, IfErr}
 use Rattle.std.proofs.Common.{Result}
 use Rattle.std.specs.Prelude.{not}
 use Rattle.std.specs.Option.{option_map}
@@ -7,30 +7,32 @@ use Rattle.bit_array.specs.Bits.{is_in}
 use Rattle.pools.specs.Pool.{PoolState}
 use Rattle.volume_model.specs.declared.reply.Reply.{Reply}
 use Rattle.store_model.specs.Cases.{IsRefusedAtBegin}
+use Rattle.store_model.specs.Maps.{Metas}
 use Rattle.store_model.specs.Places.{all_set, AreDistinct}
 use Rattle.store_model.specs.Rows.{Row}
 use Rattle.store_model.proofs.Sets.{are_distinct}
 use Rattle.metadata_turns.specs.Begins.{IsPrepared}
-use Rattle.running_store.specs.Effects.{is_live_kept}
+use Rattle.running_store.specs.Effects.{cut_clusters, is_live_kept, AreEffects}
 use Rattle.running_store.specs.Jobs.{job_seen}
 use Rattle.running_store.specs.Running.{view_of}
 use Rattle.running_store.specs.StoreView.{rows_of, state_of}
 use Rattle.running_store.specs.Steps.{Asks}
 use Rattle.running_store.specs.declared.job.RunningJob.{RunningJob}
+use Rattle.running_store.proofs.Resolved.{unmarked_base}
 use Rattle.metadata_turns.proofs.JobPlaces.{clear_again, taken_in_use}
 use Rattle.metadata_turns.proofs.JobBegin.{same_pool}
-use Rattle.metadata_turns.proofs.JobTaken.{first_cluster, internal_fit, job_begins, lacks_clusters, lacks_pages, next_head, no_memory, once, slots_within, was, xattrs_fit}
+use Rattle.metadata_turns.proofs.JobTaken.{first_cluster, has_one, internal_fit, job_begins, job_resolves, lacks_clusters, lacks_pages, next_head, no_memory, once, slots_within, was, xattrs_fit}
 use Rattle.metadata_turns.proofs.begin.job_for.Goals as goal
 
 pub fill_slots-requires-clause-within : goal.fill_slots-requires-clause-within
 fill_slots-requires-clause-within g c =
     slots_within g.D.PageDisk (view_of c.args.running.now) c.args.channel c.requires.posted c.requires.running
-    c.requires.runs c.args.head c.args.new c.args.zeros.now c.requires.asks
+    c.requires.unmarked c.requires.runs c.args.head c.args.new c.args.zeros.now c.requires.asks
 
 pub fill_slots-requires-clause-first : goal.fill_slots-requires-clause-first
 fill_slots-requires-clause-first g c =
     first_cluster g.D.PageDisk (view_of c.args.running.now) c.args.channel c.requires.posted c.requires.running
-    c.requires.runs c.args.head c.args.new c.args.zeros.now c.requires.asks
+    c.requires.unmarked c.requires.runs c.args.head c.args.new c.args.zeros.now c.requires.asks
 
 pub returns-in_err-effects-clause-lack : goal.returns-in_err-effects-clause-lack
 returns-in_err-effects-clause-lack g c =
@@ -39,7 +41,7 @@ returns-in_err-effects-clause-lack g c =
     let e = err_from_is_err_and c.from_residual.result c.from_residual.ensures.1 in
     subst (λ (r : Result RunningJob Reply). IfErr r refused) (sym e.1)
     (subst refused (sym e.2) (no_memory g.D.PageDisk (view_of c.args.running.now) c.args.channel c.requires.posted c.requires.running
-    c.requires.runs c.args.head c.args.new c.args.zeros.now c.requires.asks))
+    c.requires.unmarked c.requires.runs c.args.head c.args.new c.args.zeros.now c.requires.asks))
 
 pub returns-in_err-effects-2-clause-lack : goal.returns-in_err-effects-2-clause-lack
 returns-in_err-effects-2-clause-lack g c =
@@ -49,33 +51,33 @@ returns-in_err-effects-2-clause-lack g c =
     let e = err_from_is_err_and result c.from_residual-in_err-effects-2.ensures.1 in
     subst (λ (r : Result RunningJob Reply). IfErr r refused) (sym e.1)
     (subst refused (sym e.2) (no_memory g.D.PageDisk (view_of c.args.running.now) c.args.channel c.requires.posted c.requires.running
-    c.requires.runs c.args.head c.args.new c.args.zeros.now c.requires.asks))
+    c.requires.unmarked c.requires.runs c.args.head c.args.new c.args.zeros.now c.requires.asks))
 
 pub lack_beside_clusters-requires-clause-xattrs : goal.lack_beside_clusters-requires-clause-xattrs
 lack_beside_clusters-requires-clause-xattrs g c =
     xattrs_fit g.D.PageDisk (view_of c.args.running.now) c.args.channel c.requires.posted c.requires.running
-    c.requires.runs c.args.head c.args.new c.args.zeros.now c.requires.asks
+    c.requires.unmarked c.requires.runs c.args.head c.args.new c.args.zeros.now c.requires.asks
     c.in_ok-effects-2.field-0 c.in_ok-effects-2.ensures.claimed
     c.fill_slots.new.new c.in_ok-effects-2.ensures.filled
 
 pub lack_beside_clusters-requires-clause-internal : goal.lack_beside_clusters-requires-clause-internal
 lack_beside_clusters-requires-clause-internal g c =
     internal_fit g.D.PageDisk (view_of c.args.running.now) c.args.channel c.requires.posted c.requires.running
-    c.requires.runs c.args.head c.args.new c.args.zeros.now c.requires.asks
+    c.requires.unmarked c.requires.runs c.args.head c.args.new c.args.zeros.now c.requires.asks
     c.in_ok-effects-2.field-0 c.in_ok-effects-2.ensures.claimed
     c.fill_slots.new.new c.in_ok-effects-2.ensures.filled
 
 pub prepare-requires-clause-xattrs : goal.prepare-requires-clause-xattrs
 prepare-requires-clause-xattrs g c =
     xattrs_fit g.D.PageDisk (view_of c.args.running.now) c.args.channel c.requires.posted c.requires.running
-    c.requires.runs c.args.head c.args.new c.args.zeros.now c.requires.asks
+    c.requires.unmarked c.requires.runs c.args.head c.args.new c.args.zeros.now c.requires.asks
     c.in_ok-effects-2.field-0 c.in_ok-effects-2.ensures.claimed
     c.fill_slots.new.new c.in_ok-effects-2.ensures.filled
 
 pub prepare-requires-clause-internal : goal.prepare-requires-clause-internal
 prepare-requires-clause-internal g c =
     internal_fit g.D.PageDisk (view_of c.args.running.now) c.args.channel c.requires.posted c.requires.running
-    c.requires.runs c.args.head c.args.new c.args.zeros.now c.requires.asks
+    c.requires.unmarked c.requires.runs c.args.head c.args.new c.args.zeros.now c.requires.asks
     c.in_ok-effects-2.field-0 c.in_ok-effects-2.ensures.claimed
     c.fill_slots.new.new c.in_ok-effects-2.ensures.filled
 
@@ -86,27 +88,36 @@ returns-then-len-clause-lack g c =
     let fewer = c.if-len.true in
     let less : length c.in_ok-effects-2.field-0 < length c.args.zeros.now = omega (arith, claimed, wanted, fewer) in
     let there = was g.D.PageDisk (view_of c.args.running.now) c.args.channel c.requires.posted c.requires.running
-    c.requires.runs c.args.head c.args.new c.args.zeros.now c.requires.asks
+    c.requires.unmarked c.requires.runs c.args.head c.args.new c.args.zeros.now c.requires.asks
     c.in_ok-effects.effects.rooms c.in_ok-effects.ensures.there
     c.in_ok-effects.ensures.new ∙ ap not (sym c.is_some-makes.ensures) in
     lacks_clusters g.D.PageDisk (view_of c.args.running.now) c.args.channel c.requires.posted c.requires.running
-    c.requires.runs c.args.head c.args.new c.args.zeros.now c.requires.asks
+    c.requires.unmarked c.requires.runs c.args.head c.args.new c.args.zeros.now c.requires.asks
     c.in_ok-effects-2.field-0 c.in_ok-effects-2.ensures.claimed
     c.fill_slots.new.new c.in_ok-effects-2.ensures.filled
     (ap (λ o. option_map job_seen o) c.requires.no_job) less (not c.is_some-makes.result) there
     c.lack_beside_clusters.result c.lack_beside_clusters.ensures
 
+pub prepare-requires-clause-there : goal.prepare-requires-clause-there
+prepare-requires-clause-there g c = λ stays.
+    has_one g.D.PageDisk (view_of c.args.running.now) c.args.channel c.requires.posted c.requires.running
+    c.requires.unmarked c.requires.runs c.args.head c.args.new c.args.zeros.now c.requires.asks
+    c.in_ok-effects.effects.rooms c.in_ok-effects.ensures.there
+    c.in_ok-effects.ensures.new (sym c.is_some-makes.ensures ∙ stays)
+
 pub prepare-requires-clause-next : goal.prepare-requires-clause-next
 prepare-requires-clause-next g c = λ makes.
     next_head g.D.PageDisk (view_of c.args.running.now) c.args.channel c.requires.posted c.requires.running
-    c.requires.runs c.args.head c.args.new c.args.zeros.now c.requires.asks
+    c.requires.unmarked c.requires.runs c.args.head c.args.new c.args.zeros.now c.requires.asks
     c.in_ok-effects.effects.rooms c.in_ok-effects.ensures.there
     c.in_ok-effects.ensures.new (sym c.is_some-makes.ensures ∙ makes)
 
 pub job-requires-clause-once : goal.job-requires-clause-once
 job-requires-clause-once g c = subst AreDistinct (sym c.in_ok-effects.ensures.are.freed)
+    (subst (λ (m : Metas). AreDistinct (cut_clusters (m c.args.head) c.args.new))
+    (unmarked_base c.args.running.now.metas c.args.running.now.marked c.requires.order.resolves c.requires.unmarked)
     (once g.D.PageDisk (view_of c.args.running.now) c.args.channel c.requires.posted c.requires.running
-    c.requires.runs c.args.head c.args.new c.args.zeros.now c.requires.asks)
+    c.requires.unmarked c.requires.runs c.args.head c.args.new c.args.zeros.now c.requires.asks))
 
 pub clear_places-requires-clause-distinct : goal.clear_places-requires-clause-distinct
 clear_places-requires-clause-distinct g c =
@@ -135,12 +146,15 @@ returns-in-Ok-clause-begins g c =
     let prepared = subst (λ (b : Bool). IsPrepared c.args.running.now.chains c.args.head c.fill_slots.new.new b
     c.args.running.now.pages.bits c.prepare.new.pages.bits c.in-Ok.prepared) c.is_some-makes.ensures
     c.in-Ok.ensures.prepared in
+    let are = subst (λ (m : Metas). AreEffects (m c.args.head) c.keeps_live-live_kept.result c.args.new []
+    c.in_ok-effects.effects)
+    (sym (unmarked_base p.metas p.marked c.requires.order.resolves c.requires.unmarked)) c.in_ok-effects.ensures.are in
     job_begins g.D.PageDisk (view_of c.args.running.now) c.args.channel c.requires.posted c.requires.running
-    c.requires.runs c.args.head c.args.new c.args.zeros.now c.requires.asks
+    c.requires.unmarked c.requires.runs c.args.head c.args.new c.args.zeros.now c.requires.asks
     c.in_ok-effects-2.field-0 c.in_ok-effects-2.ensures.claimed
     c.fill_slots.new.new c.in_ok-effects-2.ensures.filled
     (ap (λ o. option_map job_seen o) c.requires.no_job) low all c.in_ok-effects.effects
-    c.keeps_live-live_kept.result kept c.in_ok-effects.ensures.are c.in_ok-effects.ensures.there
+    c.keeps_live-live_kept.result kept are c.in_ok-effects.ensures.there
     c.in_ok-effects.ensures.new c.prepare.new.pages.bits c.fill_slots.new.clusters.bits
     c.in_ok-effects-2.ensures.bits c.in-Ok.prepared prepared c.cluster_pages-cluster_pages.result
     c.cluster_pages-cluster_pages.ensures.value c.job.result c.job.ensures.seen
@@ -151,10 +165,27 @@ returns-in-Ok-clause-roomy g c =
     c.job.ensures.roomy c.args.running.now.metas c.args.running.now.chains c.args.running.now.live
     c.args.running.now.guards (record { blob = room.blob; number = room.number })
 
+pub returns-in-Ok-clause-will_resolve : goal.returns-in-Ok-clause-will_resolve
+returns-in-Ok-clause-will_resolve g c =
+    let running = c.args.running.now in
+    let claimed = c.len.ensures in
+    let wanted = c.len-2.ensures in
+    let as_many = c.if-len.false in
+    let all : length c.args.zeros.now ≤ length c.in_ok-effects-2.field-0 = omega (arith, claimed, wanted, as_many) in
+    let prepared = subst (λ (b : Bool). IsPrepared running.chains c.args.head c.fill_slots.new.new b
+    running.pages.bits c.prepare.new.pages.bits c.in-Ok.prepared) c.is_some-makes.ensures c.in-Ok.ensures.prepared in
+    c.job.ensures.resolving running.metas running.marked
+    (job_resolves g.D.PageDisk (view_of running) c.args.channel c.requires.posted c.requires.running
+    c.requires.unmarked c.requires.runs c.args.head c.args.new c.args.zeros.now c.requires.asks
+    c.in_ok-effects-2.field-0 c.in_ok-effects-2.ensures.claimed
+    c.fill_slots.new.new c.in_ok-effects-2.ensures.filled
+    (ap (λ o. option_map job_seen o) c.requires.no_job) all c.in_ok-effects.effects c.in_ok-effects.ensures.there
+    c.in_ok-effects.ensures.new c.prepare.new.pages.bits c.in-Ok.prepared prepared c.requires.order.resolves)
+
 pub returns-in-Err-clause-lack : goal.returns-in-Err-clause-lack
 returns-in-Err-clause-lack g c =
     lacks_pages g.D.PageDisk (view_of c.args.running.now) c.args.channel c.requires.posted c.requires.running
-    c.requires.runs c.args.head c.args.new c.args.zeros.now c.requires.asks
+    c.requires.unmarked c.requires.runs c.args.head c.args.new c.args.zeros.now c.requires.asks
     c.in_ok-effects-2.field-0 c.in_ok-effects-2.ensures.claimed
     c.fill_slots.new.new c.in_ok-effects-2.ensures.filled
     (ap (λ o. option_map job_seen o) c.requires.no_job) c.in-Err.reply c.in-Err.ensures.lack

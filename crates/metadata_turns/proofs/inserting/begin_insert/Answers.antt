@@ -1,4 +1,4 @@
-use Rattle.std.proofs.Common.{◌≡◌, ◌<◌, ℕ, List, Some, ap, subst}
+use Rattle.std.proofs.Common.{◌≡◌, List, Some, ap, subst}
 use Rattle.std.specs.Option.{option_map}
 use Rattle.store_model.specs.Cases as kind
 use Rattle.store_model.specs.Rows.{Row}
@@ -6,12 +6,17 @@ use Rattle.running_store.specs.Jobs.{job_seen}
 use Rattle.running_store.specs.Running.{view_of}
 use Rattle.running_store.specs.Stages.{claim_seen}
 use Rattle.running_store.specs.StoreView.{rows_of, state_of}
+use Rattle.running_store.proofs.Resolved.{unmarked_base}
 use Rattle.metadata_turns.proofs.InsertBegun.{lacks_memory, lost, posted_with, some_left}
 use Rattle.metadata_turns.proofs.InsertReady.{some_cluster}
 use Rattle.metadata_turns.proofs.inserting.begin_insert.Goals as goal
 
-pub filled-requires : goal.filled-requires
-filled-requires g c = some_cluster (state_of g.D.PageDisk (view_of c.args.running.now)) c.requires.running
+pub filled-requires-clause-same : goal.filled-requires-clause-same
+filled-requires-clause-same g c = unmarked_base c.args.running.now.metas c.args.running.now.marked
+    c.requires.order.resolves c.requires.unmarked
+
+pub filled-requires-clause-cluster : goal.filled-requires-clause-cluster
+filled-requires-clause-cluster g c = some_cluster (state_of g.D.PageDisk (view_of c.args.running.now)) c.requires.running
     c.requires.runs c.args.channel (claim_seen c.claim_of-claim.result)
     (subst (λ (rows : List Row). (rows_of rows c.args.channel).claim ≡ Some (claim_seen c.claim_of-claim.result))
     c.as_slice.ensures.value c.claim_of-claim.ensures)

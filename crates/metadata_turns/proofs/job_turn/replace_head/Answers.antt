@@ -4,26 +4,26 @@ use Rattle.std.proofs.Common.{arith}
 use Rattle.page_disk.specs.Moments.{IsReplaced, CallsLeaveOnly}
 use Rattle.page_disk.specs.declared.disk.PageDisk.{Ghosts}
 use Rattle.md_chain.specs.declared.plan.PlannedPage.{PlannedPage}
-use Rattle.volume_model.specs.declared.reply.Reply.{Reply}
 use Rattle.store_model.specs.Cases.{WritesOnePage}
+use Rattle.store_model.specs.Maps.{Metas}
 use Rattle.store_model.specs.Rows.{Row}
-use Rattle.running_store.specs.Running.{view_of, InOrder}
+use Rattle.running_store.specs.Running.{view_of, AreHeads, InOrder}
 use Rattle.running_store.specs.Stages.{stage_seen}
-use Rattle.running_store.specs.StoreView.{device_of, rows_of, StoreView}
-use Rattle.metadata_turns.specs.Telling.{IsTold}
+use Rattle.running_store.specs.StoreView.{base_of, device_of, rows_of, StoreView}
 use Rattle.running_store.specs.declared.job.Planned.{Planned}
 use Rattle.running_store.specs.declared.job.RunningJob.{RunningJob}
 use Rattle.running_store.specs.declared.job.Serves.{Serves}
-use Rattle.std.specs.Prelude.{is_some, slice_get, IfSome}
+use Rattle.std.specs.Prelude.{if◌then◌else◌, is_some, slice_set, true, IfSome}
 use Rattle.std.specs.Option.{option_map}
-use Rattle.running_store.specs.Jobs.{job_seen, reply_of, row_of, writing_for, IsMatchedFor}
+use Rattle.running_store.specs.Jobs.{job_seen, row_of, writing_for, IsMatchedFor}
 use Rattle.metadata_turns.specs.JobTurns.{IsAtWork}
 use Rattle.running_store.proofs.PlainFacts.{got, on_err, on_ok}
-use Rattle.metadata_turns.proofs.HeadReplaced.{chain_there, freed_in_use, guarded_there, head_below, live_there, meta_there, unguarded}
+use Rattle.metadata_turns.proofs.HeadReplaced.{base_there, chain_there, freed_in_use, guarded_there, head_below, live_there, unguarded}
 use Rattle.metadata_turns.proofs.HeadTold.{done_answer, failed_head, head_done, head_more, made, matched, more_answer}
 use Rattle.metadata_turns.proofs.HeadTold.{ReplacesHead}
 use Rattle.metadata_turns.proofs.JobTurned.{entered, first_low, first_some, first_waits, planned_some}
 use Rattle.running_store.proofs.Maps.{heads_adopted}
+use Rattle.running_store.proofs.Resolved.{base_given, resolved_behind}
 use Rattle.metadata_turns.proofs.job_turn.replace_head.Goals as goal
 
 -- no job runs while its turn is made
@@ -94,9 +94,7 @@ returns-then-is_err-clause-case g c =
     (subst (λ n. entered g.D.PageDisk p n disk (view_of c.fail.new.running)) c.channel.ensures c.fail.ensures.logged)
 
 pub adopt-requires-clause-meta : goal.adopt-requires-clause-meta
-adopt-requires-clause-meta g c = λ none.
-    meta_there g.D.PageDisk (view_of c.args.running.now) c.args.serves c.args.planned c.args.old c.requires.at_work
-    (ap is_some none)
+adopt-requires-clause-meta g c = c.requires.will_resolve.there
 
 pub adopt-requires-clause-chain : goal.adopt-requires-clause-chain
 adopt-requires-clause-chain g c = λ none.
@@ -106,7 +104,7 @@ adopt-requires-clause-chain g c = λ none.
 pub adopt-requires-clause-live : goal.adopt-requires-clause-live
 adopt-requires-clause-live g c = λ none.
     live_there g.D.PageDisk (view_of c.args.running.now) c.args.serves c.args.planned c.args.old c.requires.at_work
-    (ap is_some none)
+    c.requires.order.resolves (c.requires.will_resolve.there none)
 
 pub adopt-requires-clause-held : goal.adopt-requires-clause-held
 adopt-requires-clause-held g c = λ none.
@@ -137,8 +135,10 @@ tell-requires-clause-order g c =
     let old = c.args.running.now in
     let below = head_below g.D.PageDisk
     (view_of c.args.running.now) c.args.serves c.args.planned c.args.old c.requires.at_work in
-    let there = meta_there g.D.PageDisk
+    let there = base_there g.D.PageDisk
     (view_of c.args.running.now) c.args.serves c.args.planned c.args.old c.requires.at_work in
+    let head = c.args.planned.head in
+    let new = c.args.planned.new in
     subst (InOrder g.D.PageDisk) (sym c.adopt.ensures) (record {
       inside = subst (λ (n : ℕ). old.sup.md_start + old.sup.md_len ≤ n) (sym c.replace.ensures.pages) order.inside;
       device = subst (λ (n : ℕ). old.sup.device_pages ≤ n) (sym c.replace.ensures.pages) order.device;
@@ -151,8 +151,13 @@ tell-requires-clause-order g c =
       no_page = order.no_page;
       no_cluster = refl;
       headed = order.headed;
-      heads = heads_adopted (is_some c.args.planned.effects.rooms) old.sup.md_len old.metas c.args.planned.head
-          c.args.planned.new old.heads there below order.heads;
+      heads = subst (λ (m : Metas). AreHeads old.sup.md_len m
+          (if is_some c.args.planned.effects.rooms then slice_set old.heads head true else old.heads))
+          (sym (base_given old.metas old.marked head new))
+          (heads_adopted (is_some c.args.planned.effects.rooms) old.sup.md_len (base_of old.metas old.marked) head new
+          old.heads there below order.heads);
+      resolves = resolved_behind old.metas old.marked head new order.resolves c.requires.will_resolve.resolves;
+      will_resolve = none_roomy old.job _ c.requires.at_work.taken;
       roomy = none_roomy old.job _ c.requires.at_work.taken;
     })
 

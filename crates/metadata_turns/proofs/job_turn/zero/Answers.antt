@@ -69,6 +69,9 @@ returns-clause-order g c =
       no_cluster = order.no_cluster;
       headed = c.behind_zeros.ensures.headed;
       heads = order.heads;
+      resolves = order.resolves;
+      will_resolve = c.behind_zeros.ensures.resolving c.args.running.now.metas c.args.running.now.marked
+          c.requires.will_resolve;
       roomy = c.behind_zeros.ensures.roomy c.args.running.now.metas c.args.running.now.chains c.args.running.now.live
           c.args.running.now.guards c.requires.roomy;
     }

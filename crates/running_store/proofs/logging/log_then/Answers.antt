@@ -55,6 +55,8 @@ returns-clause-order g c =
       no_cluster = order.no_cluster;
       headed = order.headed;
       heads = order.heads;
+      resolves = order.resolves;
+      will_resolve = order.will_resolve;
       roomy = order.roomy;
     }
 

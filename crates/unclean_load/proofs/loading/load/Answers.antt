@@ -20,6 +20,7 @@ returns-clause-whole g c =
       chains = e.chains;
       masks = e.masks;
       none_removed = c.new.ensures;
-      no_repairs = c.new-2.ensures;
+      none_marked = c.new-2.ensures;
+      no_repairs = c.new-3.ensures;
       read_whole = refl;
     }

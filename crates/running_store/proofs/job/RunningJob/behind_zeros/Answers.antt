@@ -14,6 +14,9 @@ returns-then-next_page-cluster_pages-clause-headed c =
 pub returns-then-next_page-cluster_pages-clause-roomy : goal.returns-then-next_page-cluster_pages-clause-roomy
 returns-then-next_page-cluster_pages-clause-roomy c = λ metas chains live guards room. room
 
+pub returns-then-next_page-cluster_pages-clause-resolving : goal.returns-then-next_page-cluster_pages-clause-resolving
+returns-then-next_page-cluster_pages-clause-resolving c = λ metas marked will. will
+
 pub returns-then-next_cluster-count-clause-seen : goal.returns-then-next_cluster-count-clause-seen
 returns-then-next_cluster-count-clause-seen c =
     let last = c.if-next_page-cluster_pages.false in
@@ -30,6 +33,9 @@ returns-then-next_cluster-count-clause-headed c =
 pub returns-then-next_cluster-count-clause-roomy : goal.returns-then-next_cluster-count-clause-roomy
 returns-then-next_cluster-count-clause-roomy c = λ metas chains live guards room. room
 
+pub returns-then-next_cluster-count-clause-resolving : goal.returns-then-next_cluster-count-clause-resolving
+returns-then-next_cluster-count-clause-resolving c = λ metas marked will. will
+
 pub returns-clause-seen : goal.returns-clause-seen
 returns-clause-seen c =
     let last = c.if-next_page-cluster_pages.false in
@@ -44,3 +50,6 @@ returns-clause-headed c = c.requires.matched
 
 pub returns-clause-roomy : goal.returns-clause-roomy
 returns-clause-roomy c = λ metas chains live guards room. room
+
+pub returns-clause-resolving : goal.returns-clause-resolving
+returns-clause-resolving c = λ metas marked will. will
