@@ -30,6 +30,7 @@ pub record IsWhole {D : Type 0} (loaded : Loaded D) : Type 0 where
   pub chains : HaveChains loaded.sup (map.get loaded.metas) (map.get loaded.chains)
   pub masks : AreMasks loaded.sup (map.get loaded.metas) (map.get loaded.chains) loaded.masks
   pub none_removed : loaded.removed ≡ map.empty
+  pub none_marked : loaded.marked ≡ map.empty
   pub no_repairs : loaded.repairs ≡ []
   pub read_whole : loaded.quick ≡ false
 

@@ -11,6 +11,8 @@ pub struct Loaded<D> {
     pub metas: Metas,
     /// The blobs that recovery removes, as they were read.
     pub removed: Metas,
+    /// The blobs with a mark, as they were read: those that recovery removes, and those that it keeps.
+    pub marked: Metas,
     /// The places of each blob's chain of metadata pages, the head first, as they were read.
     pub chains: Chains,
     /// The replacements by which recovery is made lasting, in order.

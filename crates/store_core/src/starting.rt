@@ -73,6 +73,7 @@ pub(crate) fn running_at_start<D: PageDisk>(
         sup,
         metas,
         removed: _,
+        marked: _,
         chains,
         repairs: _,
         masks,
