@@ -30,6 +30,7 @@ fn let_go(loaded: Loaded<MemDisk>) {
         sup: _,
         metas: _,
         removed: _,
+        marked: _,
         chains: _,
         repairs: _,
         masks: _,

@@ -28,6 +28,7 @@ pub fn shown_in(loaded: Loaded<MemDisk>) -> Shown {
         sup: _,
         metas,
         removed: _,
+        marked: _,
         chains,
         repairs: _,
         masks,

@@ -20,6 +20,7 @@ pub fn expect_chains(alloc: Global, disk: MemDisk, wanted: &[ChainRow<'_>]) -> R
         sup: _,
         metas: _,
         removed: _,
+        marked: _,
         chains,
         repairs: _,
         masks,
