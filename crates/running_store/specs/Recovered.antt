@@ -1,6 +1,6 @@
 -- What was read of a store, and what recovery makes of it, whatever the device tells.
 use Rattle.std.specs.Prelude.{◌≡◌, ℕ, ◌^◌, ◌≤◌, List, Option, Some}
-use Rattle.std.specs.Option.{option_and_then, option_map, option_or}
+use Rattle.std.specs.Option.{option_and_then, option_map}
 use Rattle.std.specs.Ordering.{nat_cmp}
 use Rattle.std.specs.FinMap as map
 use Rattle.super_block.specs.declared.page.Super.{Super}
@@ -11,13 +11,10 @@ use Rattle.blob_meta.specs.Repairs.{removed, repairs}
 use Rattle.blob_meta.specs.Resolving.{IsLawful, mark_of, resolved, slots_together}
 use Rattle.store_model.specs.Maps.{Metas, Chains}
 use Rattle.store_model.specs.RunInvariant.{HaveChains}
-use Rattle.store_model.specs.Steady.{IsStored, NamesHead}
+use Rattle.store_model.specs.Steady.{AreNamed, AreStored}
 use Rattle.running_store.specs.declared.loaded.Loaded.{Loaded}
 use Rattle.running_store.specs.LoadedWhole.{AreMasks}
-
--- the metadata as the device says it: marked blobs with their marks, all others as they are once it is resolved
-abbrev pub base_of : map.FinMap nat_cmp Meta → map.FinMap nat_cmp Meta → Metas
-base_of metas marked head = option_or (map.get marked head) (map.get metas head)
+pub use Rattle.running_store.specs.StoreView.{base_of}
 
 -- the blobs with a mark, as they are
 abbrev pub marked : Metas → Metas
@@ -32,14 +29,14 @@ chains_of metas chains head = option_and_then (λ _. chains head) (metas head)
 -- the blobs that stay claim.
 pub record IsRecovered (s : Super) (read : Metas) (links : Chains) (metas gone marked_too : map.FinMap nat_cmp Meta)
     (list : List Replacement) (used : Masks) : Type 0 where
-  pub stored : (head : ℕ) (m : Meta) → read head ≡ Some m → IsStored s head m
+  pub stored : AreStored s read
   pub chains : HaveChains s read links
   pub few : slots_together s.md_len read ≤ 2 ^ 24
   pub resolves : resolved read ≡ map.get metas
   pub removes : removed read ≡ map.get gone
   pub marks : marked read ≡ map.get marked_too
   pub repairs_are : list ≡ repairs s.md_len read
-  pub named : (head : ℕ) (m : Meta) → resolved read head ≡ Some m → NamesHead m
+  pub named : AreNamed (resolved read)
   pub lawful : IsLawful s.md_len (resolved read)
   pub masks : AreMasks s (resolved read) (chains_of (resolved read) links) used
 
