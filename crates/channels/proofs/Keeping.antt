@@ -1,5 +1,5 @@
 -- What a driver keeps over steps: what its rows have left, which of them have ended, and that row 16 is unused.
-use Rattle.std.proofs.Common.{◌≡◌, inl, inr, ℕ, ◌≤◌, Bool, false, List, [], ◌∷◌, length, None}
+use Rattle.std.proofs.Common.{◌≡◌, ◌⊎◌, inl, inr, ℕ, ◌≤◌, Bool, false, List, [], ◌∷◌, length, None}
 use Rattle.std.proofs.Common.{sym, ◌∙◌, ap, subst, arith}
 use Rattle.std.specs.List.{AllByRecursion}
 use Rattle.std.proofs.Math.ListN.{get_or-eq_default}
@@ -7,7 +7,6 @@ use Rattle.page_disk.specs.declared.disk.PageDisk.{Ghosts}
 use Rattle.volume_model.specs.declared.command.Command.{Command}
 use Rattle.volume_model.specs.declared.reply.Msg.{Msg}
 use Rattle.store_model.specs.Cases as kind
-use Rattle.store_model.specs.Cases.{Kind, Turn}
 use Rattle.store_model.specs.Rows.{Ended, Posted, Row, Stage}
 use Rattle.store_model.specs.StoreState.{StoreState}
 use Rattle.running_store.specs.Requests.{IsPostedBy}
@@ -18,10 +17,11 @@ use Rattle.run_work.specs.Reading.{is_in_use}
 use Rattle.run_moves.specs.DrivenStore.{DrivenStore}
 use Rattle.run_moves.specs.DriverLaws.{IsOfChannels}
 use Rattle.run_moves.specs.DriverSteps as turns
-use Rattle.run_moves.specs.DriverSteps.{ChannelActsOn, ChannelTurn, DriverStep, JobTurn, MetadataActsOn, PostingTurn}
-use Rattle.run_moves.specs.DriverSteps.{driven_at_turn, ServingTurn}
+use Rattle.run_moves.specs.DriverSteps.{ChannelActsOn, ChannelTurn, DriverStep, MetadataActsOn, PostingTurn}
+use Rattle.run_moves.specs.DriverSteps.{driven_at_turn}
 use Rattle.run_moves.specs.Projection.{stage_in_run}
 use Rattle.md_thread.specs.Served.{IsServedByMetadata}
+use Rattle.md_thread.proofs.TurnsRepaired.{job_kind, serving_kind, SomeTurn}
 use Rattle.channels.specs.ChannelState.{ChannelState}
 use Rattle.channels.specs.Driving.{AreChannelsOf, IsChannelOf}
 use Rattle.channels.specs.Served.{AreServed, IsServed}
@@ -29,9 +29,6 @@ use Rattle.channels.proofs.RowSteps.{AsksUnclaimed, asked_along, ended_along, Ha
 use Rattle.channels.proofs.RowSteps.{row_steps, RowsStep, RowStep, stays}
 
 -- ---- each turn is one of a kind
-
-abbrev SomeTurn : Bool → StoreState → StoreState → Type 0
-SomeTurn told p q = (k : Kind) × Turn told p k q
 
 module _ (told : Bool) (p q : StoreState) (channel : ℕ) where
   channel_kind : ChannelTurn told p q channel → SomeTurn told p q
@@ -57,30 +54,6 @@ module _ (told : Bool) (p q : StoreState) (channel : ℕ) where
   posting_kind (turns.posts t is) = (kind.posts, t)
   posting_kind (turns.sends t is) = (kind.sends, t)
 
-  serving_kind : ServingTurn told p q channel → SomeTurn told p q
-  serving_kind (turns.answers t is) = (kind.answers, t)
-  serving_kind (turns.refuses t is) = (kind.refuses, t)
-  serving_kind (turns.begins t is) = (kind.begins, t)
-  serving_kind (turns.loses_insert t is) = (kind.loses_insert, t)
-  serving_kind (turns.begins_insert t is) = (kind.begins_insert, t)
-  serving_kind (turns.lacks_for_insert t is) = (kind.lacks_for_insert, t)
-  serving_kind (turns.lacks_memory_for_insert t is) = (kind.lacks_memory_for_insert, t)
-  serving_kind (turns.halts serial t at is) = (kind.halts, t)
-
-job_kind : (told : Bool) (p q : StoreState) → JobTurn told p q → SomeTurn told p q
-job_kind told p q (turns.zeroes t) = (kind.zeroes, t)
-job_kind told p q (turns.writes t) = (kind.writes, t)
-job_kind told p q (turns.commits t) = (kind.commits, t)
-job_kind told p q (turns.erases t) = (kind.erases, t)
-job_kind told p q (turns.frees t) = (kind.frees, t)
-job_kind told p q (turns.fails t) = (kind.fails, t)
-job_kind told p q (turns.breaks_off t) = (kind.breaks_off, t)
-job_kind told p q (turns.breaks_down t) = (kind.breaks_down, t)
-job_kind told p q (turns.inserts t) = (kind.inserts, t)
-job_kind told p q (turns.insert_ends t) = (kind.insert_ends, t)
-job_kind told p q (turns.insert_fails t) = (kind.insert_fails, t)
-job_kind told p q (turns.insert_breaks_down t) = (kind.insert_breaks_down, t)
-
 -- ---- rows over a step
 
 some_step : (told : Bool) (p q : StoreState) → SomeTurn told p q → RowsStep p q
@@ -90,26 +63,32 @@ same_step : (p q : StoreState) → q ≡ p → RowsStep p q
 same_step p q is k = subst (λ (s : StoreState). RowStep (p.rows k) (s.rows k)) (sym is) (stays (p.rows k))
 
 module _ (told : Bool) (w v : DrivenStore) where
-  by_channel : (channel : ℕ) → ChannelActsOn told w channel v → RowsStep w.store v.store
-  by_channel channel (turns.by_turn turn is) = some_step told w.store v.store
-      (channel_kind told w.store v.store channel turn)
-  by_channel channel (turns.by_posting turn is) =
-      some_step told w.store v.store (posting_kind told w.store v.store channel turn)
-  by_channel channel (turns.by_sending serial waits room is) =
-      same_step w.store v.store (ap (λ (x : DrivenStore). x.store) is)
+  abbrev TurnOrNone : Type 0
+  TurnOrNone = SomeTurn told w.store v.store ⊎ (v.store ≡ w.store)
 
-  by_metadata : MetadataActsOn told (driven_at_turn w) v → RowsStep w.store v.store
-  by_metadata (turns.by_job due turn is) = some_step told w.store v.store (job_kind told w.store v.store turn)
+  by_channel : (channel : ℕ) → ChannelActsOn told w channel v → TurnOrNone
+  by_channel channel (turns.by_turn turn is) = inl (channel_kind told w.store v.store channel turn)
+  by_channel channel (turns.by_posting turn is) = inl (posting_kind told w.store v.store channel turn)
+  by_channel channel (turns.by_sending serial waits room is) = inr (ap (λ (x : DrivenStore). x.store) is)
+
+  by_metadata : MetadataActsOn told (driven_at_turn w) v → TurnOrNone
+  by_metadata (turns.by_job due turn is) = inl (job_kind told w.store v.store turn)
   by_metadata (turns.by_message message held waiting due takes turn is) =
-      some_step told w.store v.store (serving_kind told w.store v.store message.channel turn)
-  by_metadata (turns.by_taking front rest due queue is) =
-      same_step w.store v.store (ap (λ (x : DrivenStore). x.store) is)
+      inl (serving_kind told w.store v.store message.channel turn)
+  by_metadata (turns.by_taking front rest due queue is) = inr (ap (λ (x : DrivenStore). x.store) is)
+
+  -- a step makes a turn, or the store is as it was
+  pub turn_or_none : (actor : ActorInRun) → DriverStep told actor w v → TurnOrNone
+  turn_or_none (ChannelActs channel) (inl acts) = by_channel channel acts.1
+  turn_or_none MetadataActs (inl acts) = by_metadata acts.1
+  turn_or_none actor (inr none) = inr (ap (λ (x : DrivenStore). x.store) none.1)
 
   -- each row takes a step
   pub rows_step : (actor : ActorInRun) → DriverStep told actor w v → RowsStep w.store v.store
-  rows_step (ChannelActs channel) (inl acts) = by_channel channel acts.1
-  rows_step MetadataActs (inl acts) = by_metadata acts.1
-  rows_step actor (inr none) = same_step w.store v.store (ap (λ (x : DrivenStore). x.store) none.1)
+  rows_step actor step = elim (turn_or_none actor step) [
+    | inl turn ↦ some_step told w.store v.store turn
+    | inr same ↦ same_step w.store v.store same
+  ]
 
 -- ---- what is kept
 

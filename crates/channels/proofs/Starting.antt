@@ -13,6 +13,7 @@ use Rattle.std.proofs.lemmas.List.{length-set}
 use Rattle.page_disk.specs.declared.disk.PageDisk.{Ghosts}
 use Rattle.volume_model.specs.declared.command.Command.{Command}
 use Rattle.volume_model.specs.declared.command.Command.TheVariants as c
+use Rattle.store_model.specs.Repairing.{IsRepaired}
 use Rattle.store_model.specs.Rows.{Claiming, Copying, Decided, Ended, Idle, InJob, OpenClaim, Posted, Ready, Row, Stage}
 use Rattle.running_store.specs.Stages.{is_stage, waits_for}
 use Rattle.running_store.specs.StoreInvariant.{StoreInvariant}
@@ -90,12 +91,13 @@ module _ {D : Type 0} (d : Ghosts D) (laws : DriverLaws) (w : Driver D) (kept : 
   }
 
   pub starts_driven : w.right ≡ w.plant.right → length w.plant.opening.rows ≡ 16 → AreServed w.plant.at.rows
-      → IsDriven d w
-  starts_driven right sixteen served = record {
+      → IsRepaired (state_of d w.plant.at) → IsDriven d w
+  starts_driven right sixteen served repaired = record {
     right = right;
     sixteen = sixteen;
     served = served;
     channels = own_then w.plant.at.rows w.channels are;
+    repaired = repaired;
     run = subst (λ (x : DrivenStore). RunFacts (run_of x)) (sym starts_as)
         ((laws _ _ _).start (state_of d w.plant.at) kept.facts);
   }

@@ -7,8 +7,10 @@ use Rattle.std.proofs.lemmas.List.{length-set}
 use Rattle.page_disk.specs.declared.disk.PageDisk.{Ghosts}
 use Rattle.volume_model.specs.declared.reply.Msg.{Msg}
 use Rattle.md_queue.specs.Queue.{Appends}
+use Rattle.store_model.specs.Repairing.{IsRepaired}
 use Rattle.store_model.specs.Rows.{Row}
 use Rattle.store_model.specs.RunInvariant.{RunInvariant}
+use Rattle.store_model.specs.StateLaws.{StateLaws}
 use Rattle.store_model.specs.StoreState.{shown}
 use Rattle.store_model.proofs.Inserted.{get_set_here}
 use Rattle.store_model.proofs.Ranges.{get_set_other}
@@ -22,12 +24,13 @@ use Rattle.run_moves.specs.DrivenStore.{run_of}
 use Rattle.run_moves.specs.DriverLaws.{DriverLaws, PlainRowLaws}
 use Rattle.run_moves.specs.DriverSteps.{DriverStep}
 use Rattle.run_moves.specs.Sizes.{sizes_of}
+use Rattle.md_thread.proofs.TurnsRepaired.{turned}
 use Rattle.channels.specs.ChannelState.{ChannelState}
 use Rattle.channels.specs.ChannelSteps.{IsHeldUp, made_turn, MadeStep, TurnsOrPosts, was_held, was_kept, was_sent}
 use Rattle.channels.specs.Driving.{AreChannelsOf, driven, IsChannelOf, IsDriven, IsSameStore, Steps}
 use Rattle.channels.specs.declared.driver.Driver.{Driver}
 use Rattle.channels.proofs.Acting.{held_acts, keeping_acts, sending_acts, turn_acts, with_messages}
-use Rattle.channels.proofs.Keeping.{of_channels, rows_step, still_own, still_served}
+use Rattle.channels.proofs.Keeping.{of_channels, rows_step, still_own, still_served, turn_or_none}
 use Rattle.channels.proofs.RowSteps.{RowStep}
 
 -- ---- the same store
@@ -62,13 +65,17 @@ module _ {D : Type 0} (d : Ghosts D) (laws : DriverLaws) (plain : PlainRowLaws) 
   steps = record { driver = step; run = in_run }
 
   -- and what the driver keeps is kept
-  pub still_driven : AreChannelsOf v.plant.at.rows v.channels → IsDriven d v
-  still_driven channels = record {
+  pub still_driven : StateLaws → AreChannelsOf v.plant.at.rows v.channels → IsDriven d v
+  still_driven state channels = record {
     right = store.right ∙ is.right ∙ sym store.name;
     sixteen = ap (λ (o : StoreView D). length o.rows) store.opening ∙ is.sixteen;
     served = still_served w.plant.at.rows v.plant.at.rows
         (rows_step d.tells (driven d w) (driven d v) actor step) is.served;
     channels = channels;
+    repaired = elim (turn_or_none d.tells (driven d w) (driven d v) actor step) [
+      | inl turn ↦ turned d state w.plant v.plant kept turn is.repaired
+      | inr same ↦ subst IsRepaired (sym same) is.repaired
+    ];
     run = fact.step (sizes_of w.plant.opening.super) actor (run_of (driven d w)) (run_of (driven d v)) is.run in_run;
   }
 

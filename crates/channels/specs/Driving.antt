@@ -4,6 +4,7 @@ use Rattle.std.specs.Option.{option_and_then}
 use Rattle.page_disk.specs.declared.disk.PageDisk.{Ghosts}
 use Rattle.super_block.specs.declared.page.Super.{Super}
 use Rattle.volume_model.specs.declared.reply.Msg.{Msg}
+use Rattle.store_model.specs.Repairing.{IsRepaired}
 use Rattle.store_model.specs.Rows.{Ended, Row}
 use Rattle.running_store.specs.Stages.{is_stage}
 use Rattle.running_store.specs.StoreView.{rows_of, state_of}
@@ -49,13 +50,14 @@ pub record AreStarting (rows : List Row) (channels : List ChannelState) : Type 0
 
 -- ---- the driver
 
--- What it keeps: the right is the store's, of which sixteen rows began; each command that is left is served; and the
--- store with its messages has what every state of a run has.
+-- What it keeps: the right is the store's, of which sixteen rows began; each command that is left is served; nothing is
+-- left to repair; and the store with its messages has what every state of a run has.
 pub record IsDriven {D : Type 0} (d : Ghosts D) (w : Driver D) : Type 0 where
   pub right : w.right ≡ w.plant.right
   pub sixteen : length w.plant.opening.rows ≡ 16
   pub served : AreServed w.plant.at.rows
   pub channels : AreChannelsOf w.plant.at.rows w.channels
+  pub repaired : IsRepaired (state_of d w.plant.at)
   pub run : RunFacts (run_of (driven d w))
 
 -- it is the same store, with the same right to change it

@@ -3,6 +3,7 @@
 ghost use Rattle.std.specs.Prelude.{◌≡◌, ◌↔◌, ◌<◌, IsTrue, length};
 ghost use Rattle.md_thread.specs.Holding.{HaveEnded};
 ghost use Rattle.running_store.specs.StoreView.{rows_of, state_of};
+ghost use Rattle.store_model.specs.Repairing.{IsRepaired};
 ghost use Rattle.store_model.specs.Rows.{Ended};
 ghost use Rattle.run_work.specs.Following.{ChannelActs, MetadataActs, Round, Scheduled};
 ghost use Rattle.run_moves.specs.DrivenStore.{driven_at_start};
@@ -22,6 +23,7 @@ use run_work::{moves_keep_facts, rounds_end};
 use script_lang::{Actor, Part, Schedule};
 use std::alloc::Global;
 use store_core::{MdRight, Plant, RowStage};
+use store_model::state_turns;
 
 /// A running store and what drives it.
 pub(crate) struct Driver<D: PageDisk> {
@@ -68,6 +70,7 @@ impl<D: PageDisk> Driver<D> {
         requires right { right ≡ plant.right }
         requires sixteen { length plant.opening.rows ≡ 16 }
         requires served { AreServed plant.at.rows }
+        requires repaired { IsRepaired (state_of D.PageDisk plant.at) }
         ensures starts { driven D.PageDisk result ≡ driven_at_start (state_of D.PageDisk plant.at) }
         ensures driven { IsDriven D.PageDisk result }
         ensures opening { result.plant.opening ≡ plant.opening }
@@ -148,6 +151,7 @@ impl<D: PageDisk> Driver<D> {
         steps_are_moves();
         rows_stay_plain();
         moves_keep_facts();
+        state_turns();
         self.plant.keeps();
         self.acts(alloc, actor);
         self.plant.keeps();
@@ -222,6 +226,7 @@ impl<D: PageDisk> Driver<D> {
         requires driven { IsDriven D.PageDisk self.old }
         ensures follows { StoreFollows D.tells (actors_in_run schedule.now) (driven D.PageDisk self.old)
             (driven D.PageDisk self.new) }
+        ensures driven { IsDriven D.PageDisk self.new }
         ensures store { IsSameStore self.old self.new }
     {
         rounds_end();

@@ -1,6 +1,7 @@
 //! A run by a schedule, a step at a time.
 
 ghost use Rattle.std.specs.Prelude.{◌≡◌, ℕ, None, length};
+ghost use Rattle.store_model.specs.Repairing.{IsRepaired};
 ghost use Rattle.running_store.specs.StoreView.{rows_of, state_of};
 ghost use Rattle.run_moves.specs.DrivenStore.{driven_at_start, DrivenStore};
 ghost use Rattle.run_moves.specs.DriverSteps.{StoreFollows};
@@ -23,8 +24,9 @@ pub enum RunEnd {
     Stopped(u32),
 }
 
-/// Runs a store to its end: the steps of a schedule, and then rounds of channels 0 to 15 and the metadata thread until
-/// all have ended. Rows may be at any stage. `alloc` serves the jobs of commands alone.
+/// Runs a store, of which nothing is left to repair, to its end: the steps of a schedule, and then rounds of channels 0
+/// to 15 and the metadata thread until all have ended. Rows may be at any stage. `alloc` serves the jobs of commands
+/// alone.
 pub fn run_stepwise<D: PageDisk>(
     alloc: Global,
     plant: Plant<D>,
@@ -34,10 +36,12 @@ pub fn run_stepwise<D: PageDisk>(
     requires right { right ≡ plant.right }
     requires sixteen { length plant.opening.rows ≡ 16 }
     requires served { AreServed plant.at.rows }
+    requires repaired { IsRepaired (state_of D.PageDisk plant.at) }
     ensures follows { (w : DrivenStore) × (w.store ≡ state_of D.PageDisk result.0.at)
         × StoreFollows D.tells (actors_in_run schedule.now) (driven_at_start (state_of D.PageDisk plant.at)) w }
     ensures ended { (channel : ℕ) → rows_of result.0.at.rows channel ≡ ended_row }
     ensures no_job { result.0.at.job ≡ None }
+    ensures repaired { IsRepaired (state_of D.PageDisk result.0.at) }
     ensures end { result.2 ≡ end_of result.0.at.stopped }
     ensures opening { result.0.opening ≡ plant.opening }
     ensures right { (result.1 ≡ right) × (result.0.right ≡ plant.right) }

@@ -6,6 +6,7 @@ ghost use Rattle.run_moves.specs.DriverSteps.{ServingTurn};
 ghost use Rattle.running_store.specs.Requests.{IsPostedBy};
 ghost use Rattle.running_store.specs.Steps.{Asks};
 ghost use Rattle.running_store.specs.StoreView.{rows_of, state_of};
+ghost use Rattle.store_model.specs.Repairing.{IsRepaired};
 ghost use Rattle.store_model.specs.Rows.{Posted};
 
 use crate::tasks::{Task, task_of};
@@ -20,6 +21,7 @@ pub(crate) fn serve<D: PageDisk>(alloc: Global, plant: &mut Plant<D>, right: &mu
     requires right { right.old ≡ plant.old.right }
     requires served { IsPostedBy plant.old.at.rows msg → Asks plant.old.at msg.channel IsServedByMetadata }
     requires no_job { plant.old.at.job ≡ None }
+    requires repaired { IsRepaired (state_of D.PageDisk plant.old.at) }
     ensures turn { (rows_of plant.old.at.rows msg.channel).stage ≡ Posted msg.serial
         → ServingTurn D.tells (state_of D.PageDisk plant.old.at) (state_of D.PageDisk plant.new.at) msg.channel }
     ensures stale { (rows_of plant.old.at.rows msg.channel).stage ≢ Posted msg.serial → plant.new ≡ plant.old }

@@ -12,6 +12,7 @@ use page_disk::PageDisk;
 use std::alloc::Global;
 use std::marker::Model;
 use store_core::{MdRight, Plant, RowStage};
+use store_model::state_turns;
 use volume_model::Msg;
 
 /// What the next step of an actor is made on.
@@ -59,6 +60,7 @@ impl MdState {
     ghost use Rattle.running_store.specs.Requests.{IsPostedBy};
     ghost use Rattle.running_store.specs.Steps.{Asks};
     ghost use Rattle.running_store.specs.StoreView.{rows_of, state_of};
+    ghost use Rattle.store_model.specs.Repairing.{IsRepaired};
     ghost use Rattle.store_model.specs.Rows.{Posted};
     ghost use Rattle.volume_model.specs.declared.reply.Msg.{Msg as AMsg};
 
@@ -94,8 +96,8 @@ impl MdState {
         }
     }
 
-    /// Makes one turn of the store: the running job's next, or else the one that serves the message that is held.
-    /// `Idle` comes exactly where no job runs and nothing is held.
+    /// Makes one turn of the store, of which nothing is left to repair: the running job's next, or else the one that
+    /// serves the message that is held. `Idle` comes exactly where no job runs and nothing is held.
     pub fn md_turn<D: PageDisk>(
         &mut self,
         alloc: Global,
@@ -105,6 +107,7 @@ impl MdState {
         requires right { right.old ≡ plant.old.right }
         requires served { (msg : AMsg) → self.old.held ≡ Some msg → IsPostedBy plant.old.at.rows msg
             → Asks plant.old.at msg.channel IsServedByMetadata }
+        requires repaired { IsRepaired (state_of D.PageDisk plant.old.at) }
         // The running job makes its next turn, and what is held stays.
         ensures job { IsSome plant.old.at.job → (result ≡ Moved)
             × JobTurn D.tells (state_of D.PageDisk plant.old.at) (state_of D.PageDisk plant.new.at)
@@ -122,9 +125,12 @@ impl MdState {
         ensures idle { plant.old.at.job ≡ None → self.old.held ≡ None
             → (result ≡ Idle) × (plant.new ≡ plant.old) × (self.new.held ≡ None) }
         ensures next { IsNextAfter result plant.new.at.rows self.new.next }
+        ensures repaired { IsRepaired (state_of D.PageDisk plant.new.at) }
         ensures opening { plant.new.opening ≡ plant.old.opening }
         ensures right { (right.new ≡ right.old) × (plant.new.right ≡ plant.old.right) }
     {
+        state_turns();
+        plant.keeps();
         if plant.job_runs() {
             plant.job_turn(right);
             self.next = Next::Plant;

@@ -1,13 +1,16 @@
 //! What is to be done for a message.
 
 ghost use Rattle.std.specs.Prelude.{◌≡◌, None};
+ghost use Rattle.blob_meta.specs.Repairs.{HasNoMarks};
+ghost use Rattle.store_model.specs.Repairing.{IsRepaired};
 ghost use Rattle.md_thread.specs.Served.{IsServedByMetadata};
 ghost use Rattle.md_thread.specs.Tasks.{IsPlanOf, IsTaskOf};
 ghost use Rattle.running_store.specs.Requests.{IsPostedBy};
 ghost use Rattle.running_store.specs.Steps.{Asks};
+ghost use Rattle.running_store.specs.StoreView.{base_of, state_of};
 
 use blob_meta::{Job, least_heads_are_meant};
-use lvol_store::{plan_create, plan_put, plan_resize, plan_sync};
+use lvol_store::{plan_create, plan_put, plan_readonly, plan_resize, plan_sync};
 use page_disk::PageDisk;
 use std::alloc::Global;
 use store_core::{MdRight, Plant, Request, plans};
@@ -36,6 +39,7 @@ fn planned<D: PageDisk>(
 ) -> Option<Result<Job, Reply>>
     requires served { IsServedByMetadata command.now }
     requires runs { plant.now.at.stopped ≡ None }
+    requires unmarked { HasNoMarks (base_of plant.now.at.metas plant.now.at.marked) }
     ensures { IsPlanOf D.PageDisk plant.now.at command.now result }
 {
     plans::<D>();
@@ -52,6 +56,10 @@ fn planned<D: PageDisk>(
             let live = plant.live_of(command);
             Some(plan_sync(alloc, metas, sup, command, new, live))
         }
+        Command::ReadOnly { .. } => {
+            let live = plant.live_of(command);
+            Some(plan_readonly(alloc, metas, sup, command, new, live))
+        }
         Command::Create { .. } => Some(plan_create(alloc, metas, sup, command, new)),
         Command::Resize { .. } => Some(plan_resize(alloc, metas, sup, command, new)),
         _ => None,
@@ -67,6 +75,8 @@ pub(crate) fn task_of<D: PageDisk>(
 ) -> Task
     requires right { right.now ≡ plant.now.right }
     requires served { IsPostedBy plant.now.at.rows msg → Asks plant.now.at msg.channel IsServedByMetadata }
+    requires no_job { plant.now.at.job ≡ None }
+    requires repaired { IsRepaired (state_of D.PageDisk plant.now.at) }
     ensures { IsTaskOf D.PageDisk plant.now.at msg result }
 {
     let command = match plant.request(right, msg) {

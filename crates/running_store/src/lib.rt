@@ -8,6 +8,7 @@ mod giving_back;
 mod job;
 mod loaded;
 mod logging;
+mod marks;
 mod parts;
 mod refusing;
 mod requests;

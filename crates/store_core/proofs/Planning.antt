@@ -1,6 +1,6 @@
 -- What a plan made of what a running store has in memory is in the volumes that the store shows.
 use Rattle.running_store.specs.StoreInvariant.{IsRunning}
-use Rattle.std.proofs.Common.{◌≡◌, ℕ, [], ◌∷◌, length, Some, None, refl, sym, ap, ◌∙◌}
+use Rattle.std.proofs.Common.{◌≡◌, ℕ, [], ◌∷◌, length, Some, None, refl, sym, true, ap, ◌∙◌}
 use Rattle.std.specs.Prelude.{if◌then◌else◌, nat_lt}
 use Rattle.std.specs.Option.{option_map, option_and_then}
 use Rattle.std.specs.Ordering.{nat_cmp}
@@ -11,6 +11,7 @@ use Rattle.volume_model.specs.Xattrs.{Text, Xattrs, with_value}
 use Rattle.volume_model.specs.Steps.{edited_at}
 use Rattle.volume_model.specs.declared.command.VolumeRef.{VolumeRef}
 use Rattle.volume_model.specs.declared.command.Command.TheVariants as c
+use Rattle.blob_meta.specs.Parents.{read_only}
 use Rattle.blob_meta.specs.declared.meta.Meta.{Meta}
 use Rattle.blob_meta.specs.Asked.{IsFirstCause}
 use Rattle.blob_meta.specs.Resolving.{resolved}
@@ -28,7 +29,7 @@ use Rattle.store_core.specs.Planning.{PlanLaws}
 use Rattle.running_store.specs.StoreView.{state_of}
 use Rattle.store_core.proofs.NextHead.{asks_create}
 use Rattle.running_store.proofs.Showing.{shows_metas}
-use Rattle.running_store.proofs.Resolved.{base_is}
+use Rattle.running_store.proofs.Resolved.{unmarked_base}
 use Rattle.metadata_turns.proofs.Answered.{found, live_same}
 use Rattle.metadata_turns.proofs.Found.{is_live_of, shows_live}
 
@@ -89,6 +90,19 @@ module _ (p : StoreState) (running : IsRunning p) (runs : p.stopped ≡ None) (m
     new_is = ap (λ (xs : Xattrs). record old { xattrs = xs }) (sym here.2);
   }
 
+  pub asks_read_only : IsFirstCause metas p.super (Some live) (c.ReadOnly volume) None
+      → AsksFor p (c.ReadOnly volume) head (record old { xattrs = live; flags = read_only old.flags })
+  asks_read_only cause = record {
+    syncing = tt;
+    asked = cause f v (record { shows = shows; live_is = live_of_it });
+    found = meant_now;
+    old = old;
+    there = there_now;
+    after = record here.0 { synced = here.0.live; read_only = true };
+    step = edited_now (λ x. record x { synced = x.live; read_only = true });
+    new_is = ap (λ (xs : Xattrs). record old { xattrs = xs; flags = read_only old.flags }) (sym here.2);
+  }
+
 -- a resize of a blob that is there
 asks_resize : (p : StoreState) (metas : map.FinMap nat_cmp Meta) → ShowsMetas (fixed_of p.super) p.super metas (shown p)
     → (volume : VolumeRef) (slots head : ℕ) (old : Meta) (job : Job) → p.base head ≡ Some old
@@ -132,17 +146,20 @@ plan_laws d = record {
   shows = λ p command head xattrs running runs are found.
       shows_live (state_of d p) running runs p.metas are.resolves p.live refl command head xattrs found;
   shows_all = λ p running runs are. shows_metas (state_of d p) running runs p.metas are.resolves;
-  put = λ p volume head key value old live running runs are blob meant cause.
-      asks_put (state_of d p) running runs p.metas are.resolves (base_is d p running are) volume head old live
+  put = λ p volume head key value old live running runs are clean blob meant cause.
+      asks_put (state_of d p) running runs p.metas are.resolves (unmarked_base p.metas p.marked are clean) volume head old live
       blob.there blob.is_live meant key value cause;
-  sync = λ p volume head old live running runs are blob meant cause.
-      asks_sync (state_of d p) running runs p.metas are.resolves (base_is d p running are) volume head old live
+  sync = λ p volume head old live running runs are clean blob meant cause.
+      asks_sync (state_of d p) running runs p.metas are.resolves (unmarked_base p.metas p.marked are clean) volume head old live
+      blob.there blob.is_live meant cause;
+  read_only = λ p volume head old live running runs are clean blob meant cause.
+      asks_read_only (state_of d p) running runs p.metas are.resolves (unmarked_base p.metas p.marked are clean) volume head old live
       blob.there blob.is_live meant cause;
   create = λ p name slots thick uuid head xattrs running runs are is_name next unrefused named.
       asks_create running.store running.first running.script (state_of d p) running.facts (running.facts.well runs)
       p.metas (shows_metas (state_of d p) running runs p.metas are.resolves) name slots thick uuid head xattrs is_name
       next unrefused named;
-  resize = λ p volume slots head old job running runs are meant there unrefused is.
+  resize = λ p volume slots head old job running runs are clean meant there unrefused is.
       asks_resize (state_of d p) p.metas (shows_metas (state_of d p) running runs p.metas are.resolves) volume slots head
-      old job (ap (λ (m : Map Meta). m head) (base_is d p running are) ∙ there) meant unrefused is;
+      old job (ap (λ (m : Map Meta). m head) (unmarked_base p.metas p.marked are clean) ∙ there) meant unrefused is;
 }

@@ -8,10 +8,12 @@ use Rattle.volume_model.specs.Volumes.{Fixed, two_xattrs, Volumes}
 use Rattle.volume_model.specs.declared.command.VolumeRef.{VolumeRef}
 use Rattle.volume_model.specs.declared.command.Command.{Command}
 use Rattle.volume_model.specs.declared.command.Command.TheVariants as c
+use Rattle.blob_meta.specs.Parents.{read_only}
 use Rattle.blob_meta.specs.declared.meta.Meta.{Meta}
 use Rattle.blob_meta.specs.declared.job.Job.{Job}
 use Rattle.blob_meta.specs.Asked.{IsFirstCause, IsLiveOf, ShowsLive}
 use Rattle.blob_meta.specs.Jobs.{create_job, resize_job}
+use Rattle.blob_meta.specs.Repairs.{HasNoMarks}
 use Rattle.blob_meta.specs.ShownBy.{IsFirstRefusal, IsHeadMeant, ShowsMetas}
 use Rattle.store_model.specs.Shown.{fixed_of}
 use Rattle.store_model.specs.StoreState.{shown}
@@ -20,14 +22,15 @@ use Rattle.metadata_turns.specs.Answering.{IsFound}
 use Rattle.metadata_turns.specs.Begins.{IsJobOf}
 use Rattle.running_store.specs.LoadedWhole.{IsNextHead}
 use Rattle.running_store.specs.StoreInvariant.{IsRunning}
-use Rattle.running_store.specs.StoreView.{AreResolved, StoreView, state_of}
+use Rattle.running_store.specs.StoreView.{base_of, AreResolved, StoreView, state_of}
 
 -- A blob as a store has it in memory: its metadata, and its live attributes.
 pub record HasBlob {D : Type 0} (p : StoreView D) (head : ℕ) (old : Meta) (live : Xattrs) : Type 0 where
   pub there : map.get p.metas head ≡ Some old
   pub is_live : map.get p.live head ≡ Some live
 
--- a store that runs on such a device, whose metadata resolves to what it has in memory
+-- a store that runs on such a device, whose metadata resolves to what it has in memory; where a job is planned over
+-- blobs, none of them has a mark
 pub record PlanLaws {D : Type 0} (d : Ghosts D) : Type 0 where
   -- What is found of the volume that a command names has live attributes exactly where the volume is there,
   pub live : (p : StoreView D) (command : Command) (head : Option ℕ) (xattrs : Option Xattrs)
@@ -42,16 +45,22 @@ pub record PlanLaws {D : Type 0} (d : Ghosts D) : Type 0 where
       → ShowsMetas (fixed_of p.super) p.super p.metas (shown (state_of d p))
   -- a put that nothing refuses asks for the metadata with the live attributes, one of them set,
   pub put : (p : StoreView D) (volume : VolumeRef) (head : ℕ) (key value : Text) (old : Meta) (live : Xattrs)
-      → IsRunning (state_of d p) → p.stopped ≡ None → AreResolved p.metas p.marked → HasBlob p head old live
+      → IsRunning (state_of d p) → p.stopped ≡ None → AreResolved p.metas p.marked → HasNoMarks (base_of p.metas p.marked) → HasBlob p head old live
       → IsHeadMeant p.metas p.super volume (Some head)
       → IsFirstCause p.metas p.super (Some live) (c.Put volume key value) None
       → AsksFor (state_of d p) (c.Put volume key value) head (record old { xattrs = with_value live key value })
   -- and a sync for that with the live ones
   pub sync : (p : StoreView D) (volume : VolumeRef) (head : ℕ) (old : Meta) (live : Xattrs)
-      → IsRunning (state_of d p) → p.stopped ≡ None → AreResolved p.metas p.marked → HasBlob p head old live
+      → IsRunning (state_of d p) → p.stopped ≡ None → AreResolved p.metas p.marked → HasNoMarks (base_of p.metas p.marked) → HasBlob p head old live
       → IsHeadMeant p.metas p.super volume (Some head)
       → IsFirstCause p.metas p.super (Some live) (c.Sync volume) None
       → AsksFor (state_of d p) (c.Sync volume) head (record old { xattrs = live })
+  -- and one that makes the volume read-only for that with its flags besides.
+  pub read_only : (p : StoreView D) (volume : VolumeRef) (head : ℕ) (old : Meta) (live : Xattrs)
+      → IsRunning (state_of d p) → p.stopped ≡ None → AreResolved p.metas p.marked → HasNoMarks (base_of p.metas p.marked) → HasBlob p head old live
+      → IsHeadMeant p.metas p.super volume (Some head)
+      → IsFirstCause p.metas p.super (Some live) (c.ReadOnly volume) None
+      → AsksFor (state_of d p) (c.ReadOnly volume) head (record old { xattrs = live; flags = read_only old.flags })
   -- A create that nothing refuses asks for a blob at the head that is next, with the attributes that a new volume has
   -- beside those that are shown; where it is thick, each of its slots is to get a cluster of zeros.
   pub create : (p : StoreView D) (name : Text) (slots : ℕ) (thick : Bool) (uuid : Option (List ℕ)) (head : ℕ)
@@ -63,6 +72,6 @@ pub record PlanLaws {D : Type 0} (d : Ghosts D) : Type 0 where
   -- A resize that nothing refuses asks for the slots of the blob that is meant to be cut, or for empty ones behind them,
   -- each of which is to get a cluster of zeros where the blob isn't thin.
   pub resize : (p : StoreView D) (volume : VolumeRef) (slots head : ℕ) (old : Meta) (job : Job)
-      → IsRunning (state_of d p) → p.stopped ≡ None → AreResolved p.metas p.marked → IsHeadMeant p.metas p.super volume (Some head)
+      → IsRunning (state_of d p) → p.stopped ≡ None → AreResolved p.metas p.marked → HasNoMarks (base_of p.metas p.marked) → IsHeadMeant p.metas p.super volume (Some head)
       → map.get p.metas head ≡ Some old → IsFirstRefusal p.metas p.super (c.Resize volume slots) None
       → job ≡ resize_job head old slots → IsJobOf (state_of d p) (c.Resize volume slots) job

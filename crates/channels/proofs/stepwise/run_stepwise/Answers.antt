@@ -1,6 +1,7 @@
 use Rattle.std.proofs.Common.{◌≡◌, ℕ, length, sym, ◌∙◌, ap, subst}
+use Rattle.store_model.specs.Repairing.{IsRepaired}
 use Rattle.running_store.specs.StoreInvariant.{StoreInvariant}
-use Rattle.running_store.specs.StoreView.{rows_of, WithOpening}
+use Rattle.running_store.specs.StoreView.{rows_of, state_of, WithOpening}
 use Rattle.channels.specs.RunEnds.{ended_row}
 use Rattle.channels.proofs.Ending.{row_over}
 use Rattle.channels.proofs.stepwise.run_stepwise.Goals as goal
@@ -16,3 +17,8 @@ returns-clause-ended g c =
     subst (λ (p : WithOpening g.row.D.Denot). (channel : ℕ) → rows_of p.at.rows channel ≡ ended_row)
     (sym c.into_parts-plant.ensures.0)
     (row_over d v.plant kept sixteen v.channels v.queue v.metadata.held c.run.ensures.follows.ended_then)
+
+pub returns-clause-repaired : goal.returns-clause-repaired
+returns-clause-repaired g c =
+    subst (λ (p : WithOpening g.row.D.Denot). IsRepaired (state_of g.D.PageDisk p.at))
+    (sym c.into_parts-plant.ensures.0) c.run.ensures.driven.repaired

@@ -27,4 +27,4 @@ returns-clause-driven g c =
     } in
     starts_driven g.D.PageDisk c.steps_are_moves.ensures w c.keeps.ensures c.channels_of-channels.ensures
     c.new-2.ensures (ap (λ (s : MetadataState). s.held) c.new.ensures) c.requires.right c.requires.sixteen
-    c.requires.served
+    c.requires.served c.requires.repaired

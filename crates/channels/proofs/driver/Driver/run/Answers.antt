@@ -24,3 +24,6 @@ pub returns-clause-follows : goal.returns-clause-follows
 returns-clause-follows g c =
     rounded_over g.D.PageDisk c.args.self.now (actors_in_run c.args.schedule.now) c.loop-alloc.self
     c.loop-alloc.invariant (sym c.have_ended.ensures ∙ c.loop-alloc-test.false)
+
+pub returns-clause-driven : goal.returns-clause-driven
+returns-clause-driven g c = c.loop-alloc.invariant.is_driven

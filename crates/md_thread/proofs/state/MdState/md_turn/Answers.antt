@@ -4,6 +4,7 @@ use Rattle.store_model.specs.Rows.{Posted}
 use Rattle.run_moves.specs.DriverSteps.{ServingTurn}
 use Rattle.running_store.specs.StoreView.{rows_of, state_of}
 use Rattle.md_thread.specs.Holding.{MetadataState}
+use Rattle.md_thread.proofs.TurnsRepaired.{served, turned}
 use Rattle.md_thread.proofs.state.MdState.md_turn.Goals as goal
 
 -- what is served is the message that was held
@@ -21,3 +22,14 @@ returns-in-Some-clause-message g c = λ none msg held posted.
           posted,
       c.take.ensures.after,
     )
+
+pub returns-then-job_runs-clause-repaired : goal.returns-then-job_runs-clause-repaired
+returns-then-job_runs-clause-repaired g c =
+    let turn = c.job_turn.ensures.case in
+    turned g.D.PageDisk c.state_turns.ensures c.args.plant.now c.job_turn.new.self c.keeps.ensures
+    (turn.kind, turn.made.0) c.requires.repaired
+
+pub returns-in-Some-clause-repaired : goal.returns-in-Some-clause-repaired
+returns-in-Some-clause-repaired g c =
+    served g.D.PageDisk c.state_turns.ensures c.args.plant.now c.serve.new.plant c.in-Some.msg.channel
+    c.in-Some.msg.serial _ c.keeps.ensures c.serve.ensures.turn c.serve.ensures.stale c.requires.repaired

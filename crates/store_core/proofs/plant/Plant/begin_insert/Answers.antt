@@ -1,7 +1,8 @@
 use Rattle.std.proofs.Common.{subst, sym}
 use Rattle.running_store.specs.Running.{view_of, with_opening}
 use Rattle.running_store.specs.Requests.{IsInsertPosted}
-use Rattle.running_store.specs.StoreView.{WithOpening}
+use Rattle.store_model.specs.Repairing.{IsRepaired}
+use Rattle.running_store.specs.StoreView.{WithOpening, state_of}
 use Rattle.store_core.proofs.InsertKept.{holds_posted, inserting_or_not, posted_low}
 use Rattle.store_core.proofs.OwnKept.{own_kept}
 use Rattle.store_core.proofs.Posting.{kept_running}
@@ -12,6 +13,11 @@ begin_insert_or_halt-requires-clause-channel g c = posted_low (view_of c.self.in
     c.self.invariant.1.sixteen
     (subst (λ (b : WithOpening g.row.D.Denot). IsInsertPosted b.at.rows c.args.msg) (sym c.self.view_is)
     c.requires.posted)
+
+pub begin_insert_or_halt-requires-clause-repaired : goal.begin_insert_or_halt-requires-clause-repaired
+begin_insert_or_halt-requires-clause-repaired g c =
+    subst (λ (b : WithOpening g.row.D.Denot). IsRepaired (state_of g.D.PageDisk b.at)) (sym c.self.view_is)
+    c.requires.repaired
 
 pub begin_insert_or_halt-requires-clause-posted : goal.begin_insert_or_halt-requires-clause-posted
 begin_insert_or_halt-requires-clause-posted g c = holds_posted (view_of c.self.inside.running) c.args.msg

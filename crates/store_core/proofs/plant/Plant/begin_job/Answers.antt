@@ -1,11 +1,17 @@
 use Rattle.std.proofs.Common.{◌≡◌, None, subst, sym}
 use Rattle.running_store.specs.Running.{view_of, with_opening}
 use Rattle.metadata_turns.specs.Begins.{IsJobOf}
+use Rattle.store_model.specs.Repairing.{IsRepaired}
 use Rattle.running_store.specs.StoreView.{WithOpening, state_of}
 use Rattle.running_store.specs.Steps.{Asks}
 use Rattle.running_store.specs.Requests.{IsPostedBy}
 use Rattle.store_core.proofs.Posting.{begun_or_not, posted_at}
 use Rattle.store_core.proofs.plant.Plant.begin_job.Goals as goal
+
+pub begin_or_halt-requires-clause-repaired : goal.begin_or_halt-requires-clause-repaired
+begin_or_halt-requires-clause-repaired g c =
+    subst (λ (b : WithOpening g.row.D.Denot). IsRepaired (state_of g.D.PageDisk b.at)) (sym c.self.view_is)
+    c.requires.repaired
 
 pub begin_or_halt-requires-clause-posted : goal.begin_or_halt-requires-clause-posted
 begin_or_halt-requires-clause-posted g c = posted_at g.D.PageDisk
