@@ -9,7 +9,7 @@ use Rattle.super_block.specs.Faults.{super_fault}
 use Rattle.store_model.specs.Maps.{Metas, Chains}
 use Rattle.store_model.specs.Regions.{region_of, look_of}
 use Rattle.store_model.specs.Scans.{Says}
-use Rattle.store_model.specs.Steady.{NamesHead}
+use Rattle.store_model.specs.Steady.{AreNamed}
 use Rattle.blob_meta.specs.declared.meta.Meta.{Meta}
 use Rattle.blob_meta.specs.Resolving.{IsLawful, mark_of, resolved, slots_together}
 use Rattle.unclean_load.specs.declared.fault.LoadFault.{LoadFault}
@@ -32,7 +32,7 @@ pub record IsAccepted (pages : ℕ) (image : Image) : Type 0 where
   pub metas : Metas
   pub chains : Chains
   pub whole : AreWhole (look_of (region_of sup) image) (region_of sup) metas chains
-  pub named : (head : ℕ) (m : Meta) → resolved metas head ≡ Some m → NamesHead m
+  pub named : AreNamed (resolved metas)
   pub lawful : IsLawful sup.md_len (resolved metas)
 
 -- A device of so many pages is accepted, and of the blobs that it says the one at this head is the first with a mark.
@@ -107,5 +107,4 @@ StoresAreAccepted =
     (s : Super) (image : Image) (metas : Metas) (chains : Chains) → super_fault (image 0) s.device_pages ≡ None
     → s ≡ super_of (image 0) s.device_pages
     → Says (region_of s) metas chains image → slots_together s.md_len metas ≤ 2 ^ 24
-    → ((head : ℕ) (m : Meta) → resolved metas head ≡ Some m → NamesHead m) → IsLawful s.md_len (resolved metas)
-    → IsAccepted s.device_pages image
+    → AreNamed (resolved metas) → IsLawful s.md_len (resolved metas) → IsAccepted s.device_pages image
