@@ -10,13 +10,26 @@ use super_block::Masks;
 use test_stores::{LAST, PageRow, THICK, THIN, image};
 use unclean_load::{load, stores_are_accepted};
 
-/// An attribute `name` of value `a`, and a mark SNAP.
+/// An attribute `name` of value `a`.
 const NAME: &[u8] = b"\x02\x0a\0\0\0\x04\0\x02\0namea\0";
 
-const SNAP: &[u8] = b"\x04\x10\0\0\0\x04\0\x08\0SNAP\x01\0\0\0\x01\0\0\0";
+/// The flags of a thin blob that is read-only.
+const READ_ONLY: &[u8] = b"\x03\x18\0\0\0\x01\0\0\0\0\0\0\0\x01\0\0\0\0\0\0\0\0\0\0\0\0\0\0\0";
 
-/// A mark SNAP whose id is no blob's, being below 2^32.
+/// Attributes SNAP that name heads 0, 1 and 9.
+const SNAP_0: &[u8] = b"\x04\x10\0\0\0\x04\0\x08\0SNAP\0\0\0\0\x01\0\0\0";
+
+const SNAP_1: &[u8] = b"\x04\x10\0\0\0\x04\0\x08\0SNAP\x01\0\0\0\x01\0\0\0";
+
+const SNAP_9: &[u8] = b"\x04\x10\0\0\0\x04\0\x08\0SNAP\x09\0\0\0\x01\0\0\0";
+
+/// An attribute SNAP whose id is no blob's, being below 2^32.
 const SNAP_OF_NO_HEAD: &[u8] = b"\x04\x10\0\0\0\x04\0\x08\0SNAP\x01\0\0\0\0\0\0\0";
+
+/// Marks of a snapshot that was being made of head 1, and of one that was being removed, whose clone is head 1.
+const SNAPTMP_1: &[u8] = b"\x04\x13\0\0\0\x07\0\x08\0SNAPTMP\x01\0\0\0\x01\0\0\0";
+
+const SNAPRM_1: &[u8] = b"\x04\x12\0\0\0\x06\0\x08\0SNAPRM\x01\0\0\0\x01\0\0\0";
 
 /// Runs of 2^20 empty slots, and of one.
 const MILLION: &[u8] = b"\x01\x08\0\0\0\0\0\0\0\0\0\x10\0";
@@ -29,7 +42,7 @@ struct Case {
     text: &'static str,
 }
 
-const CASES: [Case; 15] = [
+const CASES: [Case; 20] = [
     Case {
         pages: &[],
         text: "loaded",
@@ -73,12 +86,47 @@ const CASES: [Case; 15] = [
         text: "blob at page 0: slot 0 of a thick blob is empty",
     },
     Case {
-        pages: &[(6, 6, 0, LAST, &[THICK, SNAP])],
-        text: "blob at page 6: snapshots and clones are not loaded so far",
+        pages: &[(0, 0, 0, LAST, &[THIN, SNAP_9])],
+        text: "blob at page 0: no blob has the id 0x100000009 of its parent",
     },
     Case {
         pages: &[(6, 6, 0, LAST, &[THICK, SNAP_OF_NO_HEAD])],
-        text: "blob at page 6: snapshots and clones are not loaded so far",
+        text: "blob at page 6: no blob has the id 0x1 of its parent",
+    },
+    Case {
+        pages: &[(0, 0, 0, LAST, &[THIN, SNAP_0])],
+        text: "blob at page 0: its parent at page 0 is not read-only",
+    },
+    Case {
+        pages: &[
+            (0, 0, 0, LAST, &[READ_ONLY, SNAP_1]),
+            (1, 1, 0, LAST, &[READ_ONLY, SNAP_0]),
+        ],
+        text: "blob at page 0: following parents comes back",
+    },
+    Case {
+        pages: &[
+            (0, 0, 0, LAST, &[READ_ONLY]),
+            (1, 1, 0, LAST, &[READ_ONLY, SNAP_0]),
+            (2, 2, 0, LAST, &[THIN, SNAP_1]),
+            (3, 3, 0, LAST, &[THIN, SNAP_1]),
+        ],
+        text: "loaded",
+    },
+    // What is removed is no parent, and what is kept is read-only.
+    Case {
+        pages: &[
+            (0, 0, 0, LAST, &[READ_ONLY, SNAPTMP_1]),
+            (2, 2, 0, LAST, &[THIN, SNAP_0]),
+        ],
+        text: "blob at page 2: no blob has the id 0x100000000 of its parent",
+    },
+    Case {
+        pages: &[
+            (0, 0, 0, LAST, &[THIN, SNAPTMP_1]),
+            (1, 1, 0, LAST, &[THIN, SNAP_0]),
+        ],
+        text: "loaded",
     },
     Case {
         pages: &[
@@ -112,10 +160,10 @@ const CASES: [Case; 15] = [
         )],
         text: "cluster 6 is in the map of the blob at page 2 and again in that at page 2",
     },
-    // The first head with a fault decides, and a head before clusters.
+    // A blob's own metadata comes before parents, and these before clusters.
     Case {
         pages: &[
-            (2, 2, 0, LAST, &[THICK, SNAP]),
+            (2, 2, 0, LAST, &[THIN, SNAP_9]),
             (
                 4,
                 4,
@@ -124,7 +172,7 @@ const CASES: [Case; 15] = [
                 &[THICK, b"\x01\x08\0\0\0\x04\0\0\0\x02\0\0\0"],
             ),
         ],
-        text: "blob at page 2: snapshots and clones are not loaded so far",
+        text: "blob at page 4: cluster 4 is not one that a blob may have",
     },
     Case {
         pages: &[
@@ -142,9 +190,9 @@ const CASES: [Case; 15] = [
                 LAST,
                 &[THICK, b"\x01\x08\0\0\0\x07\0\0\0\x04\0\0\0"],
             ),
-            (9, 9, 0, LAST, &[THICK, SNAP]),
+            (9, 9, 0, LAST, &[THIN, SNAP_1]),
         ],
-        text: "blob at page 9: snapshots and clones are not loaded so far",
+        text: "blob at page 9: its parent at page 1 is not read-only",
     },
 ];
 
@@ -300,4 +348,79 @@ fn the_masks_have_what_a_chain_of_three_pages_uses(rt: HostRuntime) -> Result<()
     }
     assert!(rt; !quick);
     Ok(())
+}
+
+/// The heads below 4 that a map has, as text.
+fn heads(alloc: Global, metas: &Metas) -> Result<String, TestFail> {
+    let mut all = Vec::new(alloc);
+    for head in 0..4 {
+        if metas.get(head).is_some() {
+            all.push(head)?;
+        }
+    }
+    Ok(format!(in alloc; "{all:?}")?)
+}
+
+/// Of what is loaded, the heads of the blobs that stay, of those that recovery removes, and of those with a mark; how
+/// many repairs there are; and the clusters and pages in use.
+fn recovered_line<D: Drop>(alloc: Global, loaded: Loaded<D>) -> Result<String, TestFail> {
+    let Loaded {
+        disk: _disk,
+        sup: _sup,
+        metas,
+        removed,
+        marked,
+        chains: _chains,
+        repairs,
+        masks,
+        quick: _quick,
+    } = loaded;
+    Ok(format!(in alloc;
+        "{} {} {} {} {} {}",
+        heads(alloc, &metas)?,
+        heads(alloc, &removed)?,
+        heads(alloc, &marked)?,
+        repairs.as_slice().len(),
+        members(alloc, &masks.clusters)?,
+        members(alloc, &masks.pages)?
+    )?)
+}
+
+/// Blobs at places 0 and 2 that are marked, of which that at 0 has the clone 1; each has a cluster.
+const MARKED: [PageRow; 3] = [
+    (
+        0,
+        0,
+        0,
+        LAST,
+        &[THIN, SNAPRM_1, b"\x01\x08\0\0\0\x06\0\0\0\x01\0\0\0"],
+    ),
+    (
+        1,
+        1,
+        0,
+        LAST,
+        &[THIN, SNAP_0, b"\x01\x08\0\0\0\x07\0\0\0\x01\0\0\0"],
+    ),
+    (
+        2,
+        2,
+        0,
+        LAST,
+        &[THIN, SNAPTMP_1, b"\x01\x08\0\0\0\x08\0\0\0\x01\0\0\0"],
+    ),
+];
+
+#[test]
+fn marked_blobs_are_kept_with_their_clones_or_removed(rt: HostRuntime) -> Result<(), TestFail> {
+    match load(rt.alloc(), image(rt.alloc(), (256, 16), &MARKED)?) {
+        Ok(loaded) => {
+            assert_eq!(rt;
+                recovered_line(rt.alloc(), loaded)?.as_str(),
+                "[0, 1] [2] [0, 2] 2 [0, 1, 2, 3, 4, 6, 7] [0, 1]"
+            );
+            Ok(())
+        }
+        Err((_, fault)) => Err(TestFail::new(fault)),
+    }
 }

@@ -1,4 +1,5 @@
 pub mod LoadedWhole
+pub mod Recovered
 pub mod Stages
 pub mod Effects
 pub mod Zeroing

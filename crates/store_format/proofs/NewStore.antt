@@ -1,5 +1,5 @@
 -- A new store is written, and what is loaded of it.
-use Rattle.std.proofs.Common.{◌≡◌, ◌≢◌, ℕ, ◌+◌, ◌<◌, false, List, [], ◌∷◌, length, None, refl, sym, ap, subst, ◌∙◌, inl}
+use Rattle.std.proofs.Common.{◌≡◌, ◌≢◌, ℕ, ◌+◌, ◌^◌, ◌<◌, ◌≤◌, false, List, [], ◌∷◌, length, None, refl, sym, ap, subst, ◌∙◌, inl}
 use Rattle.std.proofs.Common.{inr, arith, IsTrue}
 use Rattle.std.specs.Prelude.{nat_lt}
 use Rattle.std.specs.List.{range_with_len, sum_by}
@@ -19,7 +19,7 @@ use Rattle.super_block.specs.Placed.{IsLaidOut}
 use Rattle.super_block.specs.declared.layout.Layout.{Layout}
 use Rattle.super_block.specs.declared.page.Super.{Super}
 use Rattle.blob_meta.specs.declared.meta.Meta.{Meta}
-use Rattle.blob_meta.specs.Resolving.{IsLawful}
+use Rattle.blob_meta.specs.Resolving.{IsLawful, slots_together}
 use Rattle.store_model.specs.Laws.{ScanLaws}
 use Rattle.store_model.specs.Recovers.{IsSameStore}
 use Rattle.store_model.specs.Regions.{look_of, region_of}
@@ -128,13 +128,16 @@ none_together (head ∷ heads) =
     let rest = none_together heads in
     omega (arith, more, rest)
 
+none_few : (md_len : ℕ) → slots_together md_len no_blob ≤ 2 ^ 24
+none_few md_len = let none = none_together (range_with_len 0 md_len) in omega (arith, none)
+
 none_lawful : (md_len : ℕ) → IsLawful md_len no_blob
 none_lawful md_len = record {
   alone = λ h k i j cluster m n is. absurd (cc is);
   parents = λ h p m is. absurd (cc is);
   rank = λ head. 0;
   falls = λ h p m is. absurd (cc is);
-  few = let none = none_together (range_with_len 0 md_len) in omega (arith, none);
+  few = none_few md_len;
 }
 
 module _ (plan : Layout) (laid : IsLaidOut plan) (image : Image) (new : IsNewStore plan image) (sum : ℕ)
@@ -181,7 +184,7 @@ module _ (plan : Layout) (laid : IsLaidOut plan) (image : Image) (new : IsNewSto
     sum = sum;
     super_is = sup_is;
     accepted = subst (λ (n : ℕ). IsAccepted n image) same_pages
-        (accepts sup image no_blob no_chain faultless read_again says_nothing (λ head m is. absurd (cc is))
+        (accepts sup image no_blob no_chain faultless read_again says_nothing (none_few sup.md_len)
         (λ head m is. absurd (cc is)) (none_lawful sup.md_len));
     holds = record {
       store = record { faultless = faultless; same = subst (IsSameStore sup) read_again refl };

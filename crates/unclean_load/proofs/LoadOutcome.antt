@@ -1,28 +1,25 @@
 -- What was read of a store is whole.
-use Rattle.std.proofs.Common.{◌≡◌, ℕ, ◌^◌, ◌<◌, ◌≤◌, false, List, Option, Some, None, refl, sym, subst, ◌∙◌, inl, inr}
-use Rattle.std.proofs.Common.{arith}
+use Rattle.std.proofs.Common.{◌≡◌, ℕ, ◌<◌, false, List, Option, Some, None, refl, sym, subst, ◌∙◌, inl, inr, arith}
 use Rattle.std.specs.Prelude.{nat_lt}
 use Rattle.std.proofs.lemmas.Bool.{cases_lt}
 use Rattle.std.proofs.lemmas.Bool.Decides.{nat_tests}
 use Rattle.page_disk.specs.Disk.{Image}
 use Rattle.super_block.specs.declared.page.Super.{Super}
 use Rattle.blob_meta.specs.declared.meta.Meta.{Meta}
-use Rattle.blob_meta.specs.Resolving.{IsLawful, slots_together}
+use Rattle.blob_meta.specs.Resolving.{resolved}
 use Rattle.md_chain.specs.Chain.{Look}
 use Rattle.md_chain.specs.declared.fault.ChainFault.{ChainFault}
 use Rattle.md_chain.specs.declared.fault.ChainFault.TheVariants as chain
 use Rattle.store_model.specs.Maps.{Metas, Chains}
 use Rattle.store_model.specs.Regions.{MdRegion, region_of, look_of}
-use Rattle.store_model.specs.RunInvariant.{AreSteady}
 use Rattle.store_model.proofs.Scanning.{apart}
 use Rattle.unclean_load.specs.declared.fault.LoadFault.{LoadFault}
 use Rattle.unclean_load.specs.declared.fault.LoadFault.TheVariants as fault
-use Rattle.unclean_load.specs.Accepted.{SuperAt, IsFaultOf}
-use Rattle.unclean_load.specs.Claiming.{AreChains, IsInTwo, IsTwice, IsMaskFault}
-use Rattle.unclean_load.specs.Heads.{AreParentless, AreWhole, AreWholeBelow, IsHeadsFault}
+use Rattle.unclean_load.specs.Accepted.{SuperAt, IsFaultOf, ParentFails}
+use Rattle.unclean_load.specs.Claiming.{AreChains, IsInTwo, IsTwice, IsRecoveryFault}
+use Rattle.unclean_load.specs.Heads.{AreWhole, AreWholeBelow, IsHeadsFault}
+use Rattle.unclean_load.specs.Parents.{ShowsParentFirst}
 use Rattle.unclean_load.specs.Reading.{AreRead, HasNoneFrom, IsChainOf}
-use Rattle.unclean_load.specs.Sharing.{copies}
-use Rattle.unclean_load.proofs.Slots.{one_slot}
 
 -- ---- chains
 
@@ -33,29 +30,11 @@ module _ (s : Super) (metas : Metas) (chains : Chains) (read : AreRead s metas c
   one_chain head pages (Some m) is there =
       let x = read.chain head m is in
       let same : x.0 ≡ pages = let both = sym x.1 ∙ there in cc both in
-      ((read.steady head m is).stored.low, subst (λ (ps : List ℕ). IsChainOf s.md_len head ps) same x.2)
+      ((read.stored head m is).low, subst (λ (ps : List ℕ). IsChainOf s.md_len head ps) same x.2)
 
   -- the chains that were read are chains of the region
   pub read_chains : AreChains s.md_len chains
   read_chains head pages there = one_chain head pages (metas head) refl there
-
--- ---- the metadata is lawful
-
--- steady blobs without parents, with no shared cluster and few slots, are lawful
-pub lawful : (s : Super) (metas : Metas) → AreSteady s metas → AreParentless metas
-    → slots_together s.md_len metas ≤ 2 ^ 24 → ((cluster : ℕ) → copies s.md_len metas cluster ≤ 1) → IsLawful s.md_len metas
-lawful s metas all none few most = record {
-  alone =
-      λ h k i j cluster m n a b x y. one_slot metas cluster s.md_len
-      (λ head meta there. (all head meta there).stored.low)
-      (most cluster) h k i j m n a b x y;
-  parents = λ h p m there is.
-      let no = none h m there in absurd (cc (no, is));
-  rank = λ _. 0;
-  falls = λ h p m there is.
-      let no = none h m there in absurd (cc (no, is));
-  few = few;
-}
 
 -- ---- every head of the region
 
@@ -71,10 +50,6 @@ whole_region look r metas chains below none no_chain = record {
         inr (record { no_head = rw out refl; no_meta = none head ge; no_chain = no_chain head (none head ge) })
   ];
   few = below.few;
-  unmarked = λ head m there. elim (cases_lt head r.len) [
-    | inl lt ↦ below.unmarked head m lt there
-    | inr ge ↦ let no = none head ge in absurd (cc (no, there))
-  ];
 }
 
 -- ---- faults of an image
@@ -90,8 +65,11 @@ module _ (pages : ℕ) (image : Image) where
     heads_fail (fault.Chain head e) x = record { sup = s; super_at = at; shows = x }
     heads_fail (fault.Meta head e) x = record { sup = s; super_at = at; shows = x }
     heads_fail (fault.MapsTooLarge slots) x = record { sup = s; super_at = at; shows = x }
+    heads_fail (fault.NoParentBlob blob parent) x = absurd x.shows
+    heads_fail (fault.WritableParent blob parent) x = absurd x.shows
+    heads_fail (fault.ParentLoop blob) x = absurd x.shows
     heads_fail (fault.Shared cluster a b) x = absurd x.shows
-    heads_fail (fault.NotYet page) x = record { sup = s; super_at = at; shows = x }
+    heads_fail (fault.NotYet page) x = absurd x.shows
 
     module _ (metas : Metas) (chains : Chains)
         (whole : AreWhole (look_of (region_of s) image) (region_of s) metas chains) where
@@ -108,14 +86,28 @@ module _ (pages : ℕ) (image : Image) where
       not_twice head (chain.BadItem a b d) x = x
       not_twice head chain.Memory x = x
 
-      -- and so is a cluster in two slots, where all heads are whole
-      pub masks_fail : (why : LoadFault) → IsMaskFault s.md_len metas chains why → IsFaultOf pages image why
-      masks_fail (fault.Chain head why) x = absurd (not_twice head why x)
-      masks_fail (fault.Shared cluster a b) x =
-          record { sup = s; super_at = at; metas = metas; chains = chains; whole = whole; shared = x }
-      masks_fail fault.Memory x = tt
-      masks_fail fault.ReadFault x = absurd x
-      masks_fail (fault.Super e) x = absurd x
-      masks_fail (fault.Meta head e) x = absurd x
-      masks_fail (fault.MapsTooLarge slots) x = absurd x
-      masks_fail (fault.NotYet page) x = absurd x
+      parents_fail : (why : LoadFault) → ShowsParentFirst (resolved metas) why → ParentFails pages image why
+      parents_fail why x = record { sup = s; super_at = at; metas = metas; chains = chains; whole = whole; shows = x }
+
+      -- and so is a fault of what is resolved, where all heads are whole
+      pub recovery_fails : (why : LoadFault) → IsRecoveryFault s.md_len metas chains why → IsFaultOf pages image why
+      recovery_fails (fault.Chain head why) x = absurd (not_twice head why x)
+      recovery_fails (fault.NoParentBlob blob parent) x = parents_fail (fault.NoParentBlob blob parent) x
+      recovery_fails (fault.WritableParent blob parent) x = parents_fail (fault.WritableParent blob parent) x
+      recovery_fails (fault.ParentLoop blob) x = parents_fail (fault.ParentLoop blob) x
+      recovery_fails (fault.Shared cluster a b) x =
+          record {
+            sup = s;
+            super_at = at;
+            metas = metas;
+            chains = chains;
+            whole = whole;
+            parents = x.0;
+            shared = x.1;
+          }
+      recovery_fails fault.Memory x = tt
+      recovery_fails fault.ReadFault x = absurd x
+      recovery_fails (fault.Super e) x = absurd x
+      recovery_fails (fault.Meta head e) x = absurd x
+      recovery_fails (fault.MapsTooLarge slots) x = absurd x
+      recovery_fails (fault.NotYet page) x = absurd x

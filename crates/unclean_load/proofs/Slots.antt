@@ -11,7 +11,7 @@ use Rattle.blob_meta.specs.declared.meta.Meta.{Meta}
 use Rattle.blob_meta.specs.Parents.{slot}
 use Rattle.store_model.specs.Maps.{Metas}
 use Rattle.store_model.specs.Places.{IsMapped}
-use Rattle.store_model.specs.RunInvariant.{AreSteady}
+use Rattle.store_model.specs.Steady.{IsStored}
 use Rattle.store_model.proofs.Inside.{inside_slot}
 use Rattle.unclean_load.specs.Sharing.{holds, copies_in, copies, AreAllInside}
 use Rattle.unclean_load.proofs.Counts.{copies_none, copies_some, copies_grow}
@@ -126,12 +126,13 @@ in_map m i c at = filled (slice_get m.map i) at
 in_slot : (m : Meta) (i c : ℕ) → HasAt m.map i c → slot m i ≡ Some c
 in_slot m i c at = rw at refl
 
--- the clusters of steady blobs are inside of the device
-pub all_inside : (s : Super) (metas : Metas) → AreSteady s metas → AreAllInside s metas
+-- the clusters of stored blobs are inside of the device
+pub all_inside : (s : Super) (metas : Metas) → ((head : ℕ) (m : Meta) → metas head ≡ Some m → IsStored s head m)
+    → AreAllInside s metas
 all_inside s metas all head m there c some =
     let x = find_copy c m.map some in
     let y =
-    inside_slot (fixed_clusters_of s) (clusters_of s) m x.0 c (all head m there).stored.faultless
+    inside_slot (fixed_clusters_of s) (clusters_of s) m x.0 c (all head m there).faultless
     (in_slot m x.0 c x.1) in
     (y.behind, y.below)
 

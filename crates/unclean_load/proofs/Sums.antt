@@ -50,3 +50,17 @@ sum_grows f m (suc n) le = elim (cases_lt n m) [
   | inl all ↦ let e : m ≡ suc n = omega (arith, le, all) in rw e (omega arith)
   | inr less ↦ let x = sum_grows f m n less in let y = total_more f 0 n n (omega arith) in omega (arith, x, y)
 ]
+
+-- a sum of terms that are no greater is no greater
+pub sum_le : (f g : ℕ → ℕ) (n : ℕ) → ((k : ℕ) → f k ≤ g k)
+    → sum_by f (range_with_len 0 n) ≤ sum_by g (range_with_len 0 n)
+sum_le f g n le = total_le 0 n
+  where
+    total_le : (a n : ℕ) → total f a n ≤ total g a n
+    total_le a zero = omega arith
+    total_le a (suc n) =
+        let x = total_first f a n in
+        let y = total_first g a n in
+        let z = total_le (a + 1) n in
+        let h = le a in
+        omega (arith, x, y, z, h)

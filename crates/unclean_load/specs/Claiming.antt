@@ -1,6 +1,7 @@
 -- What the chains of a store claim of its metadata pages, and when a place is claimed twice.
 use Rattle.std.specs.Prelude.{◌≡◌, ◌≢◌, ℕ, ◌<◌, Bool, true, false, ◌||◌, List, Some}
 use Rattle.bit_array.specs.Bits.{is_in}
+use Rattle.blob_meta.specs.Resolving.{resolved}
 use Rattle.md_chain.specs.Chain.{is_among}
 use Rattle.md_chain.specs.declared.fault.ChainFault.{ChainFault}
 use Rattle.md_chain.specs.declared.fault.ChainFault.TheVariants as chain
@@ -8,6 +9,7 @@ use Rattle.store_model.specs.Maps.{Metas, Chains}
 use Rattle.unclean_load.specs.declared.fault.LoadFault.{LoadFault}
 use Rattle.unclean_load.specs.declared.fault.LoadFault.TheVariants as fault
 use Rattle.unclean_load.specs.Reading.{IsChainOf}
+use Rattle.unclean_load.specs.Parents.{HaveRightParents, ShowsParentFirst}
 use Rattle.unclean_load.specs.Sharing.{IsShared}
 
 -- each head and each chain is of the region
@@ -69,3 +71,19 @@ IsMaskFault md_len metas chains (fault.Chain head why) = IsTwice (IsInTwo chains
 IsMaskFault md_len metas chains (fault.Shared cluster a b) = IsShared md_len metas cluster a b
 IsMaskFault md_len metas chains fault.Memory = Unit {0}
 IsMaskFault md_len metas chains _ = ⊥
+
+-- ---- what recovery makes of the blobs
+
+-- a place in two chains; or, once the metadata is resolved, a fault of parents, or, where there is none, a cluster in
+-- two slots
+abbrev pub IsRecoveryFault : ℕ → Metas → Chains → LoadFault → Type 0
+IsRecoveryFault md_len read chains (fault.Chain head why) = IsTwice (IsInTwo chains) head why
+IsRecoveryFault md_len read chains (fault.NoParentBlob blob parent) =
+    ShowsParentFirst (resolved read) (fault.NoParentBlob blob parent)
+IsRecoveryFault md_len read chains (fault.WritableParent blob parent) =
+    ShowsParentFirst (resolved read) (fault.WritableParent blob parent)
+IsRecoveryFault md_len read chains (fault.ParentLoop blob) = ShowsParentFirst (resolved read) (fault.ParentLoop blob)
+IsRecoveryFault md_len read chains (fault.Shared cluster a b) =
+    HaveRightParents (resolved read) × IsShared md_len (resolved read) cluster a b
+IsRecoveryFault md_len read chains fault.Memory = Unit {0}
+IsRecoveryFault md_len read chains _ = ⊥

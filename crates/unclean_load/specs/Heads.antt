@@ -1,14 +1,11 @@
 -- What the heads of a metadata region say, from the first place upwards, and the first head that shows a fault.
-use Rattle.std.specs.Prelude.{◌≡◌, ℕ, ◌+◌, ◌^◌, ◌<◌, ◌≤◌, Bool, true, false, List, length, Some, None, codes, is_some}
-use Rattle.std.specs.Prelude.{◌||◌}
-use Rattle.volume_model.specs.Xattrs.{value_of}
+use Rattle.std.specs.Prelude.{◌≡◌, ℕ, ◌+◌, ◌^◌, ◌<◌, ◌≤◌, true, List, length, Some}
 use Rattle.descriptors.specs.declared.item.Item.{Item}
 use Rattle.blob_meta.specs.declared.meta.Meta.{Meta}
 use Rattle.blob_meta.specs.declared.fault.MetaFault.{MetaFault}
 use Rattle.blob_meta.specs.Says.{meta_of}
 use Rattle.blob_meta.specs.Faults.{meta_fault}
-use Rattle.blob_meta.specs.Parents.{parent_of}
-use Rattle.blob_meta.specs.Resolving.{mark_of, slots_together}
+use Rattle.blob_meta.specs.Resolving.{slots_together}
 use Rattle.md_chain.specs.Chain.{Look, Chain, IsBroken}
 use Rattle.store_model.specs.Maps.{Metas, Chains}
 use Rattle.store_model.specs.Regions.{MdRegion}
@@ -16,20 +13,10 @@ use Rattle.store_model.specs.Scans.{is_head, MetaAt, BlobAt, Scanned}
 use Rattle.unclean_load.specs.declared.fault.LoadFault.{LoadFault}
 use Rattle.unclean_load.specs.declared.fault.LoadFault.TheVariants as fault
 
--- the blob has an attribute SNAP, whatever it names, or is a snapshot that was being made or removed
-abbrev pub has_mark : Meta → Bool
-has_mark m = is_some (value_of m.internal (codes "SNAP")) || is_some (mark_of m)
-
--- no blob has a parent
-abbrev pub AreParentless : Metas → Type 0
-AreParentless metas = (head : ℕ) (m : Meta) → metas head ≡ Some m → parent_of m ≡ None
-
--- Each head below a place has its chain and metadata without fault; their maps have at most 2^24 slots together; and
--- none has a mark.
+-- Each head below a place has its chain and metadata without fault, and their maps have at most 2^24 slots together.
 pub record AreWholeBelow (look : Look) (r : MdRegion) (end : ℕ) (metas : Metas) (chains : Chains) : Type 0 where
   pub blobs : (head : ℕ) → head < end → BlobAt look r head (metas head) (chains head)
   pub few : slots_together end metas ≤ 2 ^ 24
-  pub unmarked : (head : ℕ) (m : Meta) → head < end → metas head ≡ Some m → has_mark m ≡ false
 
 -- The head has a chain, and the metadata that its items say has this fault.
 pub record SaysWrong (look : Look) (r : MdRegion) (head : ℕ) (why : MetaFault) : Type 0 where
@@ -46,20 +33,11 @@ pub record IsTooMuch (look : Look) (r : MdRegion) (before : Metas) (head slots :
   pub count : slots ≡ slots_together head before + length meta.map
   pub many : 2 ^ 24 < slots
 
--- The head has metadata without fault, and so far there are at most 2^24 slots, but it has a mark.
-pub record IsMarked (look : Look) (r : MdRegion) (before : Metas) (head : ℕ) : Type 0 where
-  pub meta : Meta
-  pub pages : List ℕ
-  pub says : MetaAt look r head meta pages
-  pub few : slots_together head before + length meta.map ≤ 2 ^ 24
-  pub marked : has_mark meta ≡ true
-
 -- The fault that a head shows, where the heads before it have this metadata.
 abbrev pub Shows : Look → MdRegion → Metas → ℕ → LoadFault → Type 0
 Shows look r before head (fault.Chain at why) = (at ≡ head) × IsBroken look r.len head why
 Shows look r before head (fault.Meta at why) = (at ≡ head) × SaysWrong look r head why
 Shows look r before head (fault.MapsTooLarge slots) = IsTooMuch look r before head slots
-Shows look r before head (fault.NotYet at) = (at ≡ head) × IsMarked look r before head
 Shows look r before head _ = ⊥
 
 -- The first head that shows a fault shows this one: all before it are whole.
@@ -78,8 +56,7 @@ IsHeadsFault look r fault.ReadFault = Unit {0}
 IsHeadsFault look r fault.Memory = Unit {0}
 IsHeadsFault look r why = ShowsFirst look r why
 
--- Every head of the region is whole: these are their metadata and chains.
+-- Every head of the region is whole: these are their metadata and chains, and they have at most 2^24 slots together.
 pub record AreWhole (look : Look) (r : MdRegion) (metas : Metas) (chains : Chains) : Type 0 where
   pub says : Scanned look r metas chains
   pub few : slots_together r.len metas ≤ 2 ^ 24
-  pub unmarked : (head : ℕ) (m : Meta) → metas head ≡ Some m → has_mark m ≡ false

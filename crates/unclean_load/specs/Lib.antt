@@ -2,4 +2,6 @@ pub mod Heads
 pub mod Reading
 pub mod Claiming
 pub mod Sharing
+pub mod Parents
+pub mod Walks
 pub mod Accepted

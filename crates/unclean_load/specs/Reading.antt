@@ -13,12 +13,12 @@ use Rattle.md_chain.specs.Reading.{WasSeen}
 use Rattle.store_model.specs.Maps.{Metas, Chains}
 use Rattle.store_model.specs.Regions.{MdRegion, region_of}
 use Rattle.store_model.specs.Scans.{is_head, BlobAt}
-use Rattle.store_model.specs.RunInvariant.{AreSteady}
+use Rattle.store_model.specs.Steady.{IsStored}
 use Rattle.store_model.specs.Places.{AreDistinct}
 use Rattle.unclean_load.specs.declared.heads.Blob.{Blob}
 use Rattle.unclean_load.specs.declared.fault.LoadFault.{LoadFault}
 use Rattle.unclean_load.specs.declared.fault.LoadFault.TheVariants as fault
-use Rattle.unclean_load.specs.Heads.{has_mark, AreParentless, Shows}
+use Rattle.unclean_load.specs.Heads.{Shows}
 
 -- whether the page that the device gave at a place is a head
 pub record GaveHead {D : Type 0} (d : Ghosts D) (s : Super) (disk : D) (place : ℕ) (is : Bool) : Type 0 where
@@ -65,9 +65,10 @@ IsItemsFault r head items (fault.Meta at why) =
     (at ≡ head) × (meta_fault r.fixed r.clusters (meta_of head items) ≡ Some why)
 IsItemsFault r head items _ = ⊥
 
--- a failed read, which was counted; or another fault, and no read has failed
+-- a failed read, which was counted; or another fault, and no read has failed. A load never answers `NotYet`
 abbrev pub IsFaultCounted : ℕ → ℕ → LoadFault → Type 0
 IsFaultCounted old new fault.ReadFault = Rose old new
+IsFaultCounted old new (fault.NotYet page) = ⊥
 IsFaultCounted old new _ = new ≡ old
 
 -- ---- the blobs of a region, whatever the device tells
@@ -79,10 +80,9 @@ pub record IsChainOf (md_len head : ℕ) (pages : List ℕ) : Type 0 where
   pub low : (place : ℕ) → is_among place pages ≡ true → place < md_len
   pub differ : AreDistinct pages
 
--- The blobs are steady, none has a parent, and each has a chain.
+-- The store can hold the blobs, and each has a chain.
 pub record AreRead (s : Super) (metas : Metas) (chains : Chains) : Type 0 where
-  pub steady : AreSteady s metas
-  pub parentless : AreParentless metas
+  pub stored : (head : ℕ) (m : Meta) → metas head ≡ Some m → IsStored s head m
   pub chain : (head : ℕ) (m : Meta) → metas head ≡ Some m → (pages : List ℕ) × (chains head ≡ Some pages)
       × IsChainOf s.md_len head pages
   pub none : (head : ℕ) → metas head ≡ None → chains head ≡ None
@@ -95,5 +95,4 @@ HasNoneFrom metas end = (head : ℕ) → end ≤ head → metas head ≡ None
 abbrev pub IsBlobRefused : ℕ → ℕ → Meta → LoadFault → Type 0
 IsBlobRefused before head m fault.Memory = Unit {0}
 IsBlobRefused before head m (fault.MapsTooLarge slots) = (slots ≡ before + length m.map) × (2 ^ 24 < slots)
-IsBlobRefused before head m (fault.NotYet at) = (at ≡ head) × (before + length m.map ≤ 2 ^ 24) × (has_mark m ≡ true)
 IsBlobRefused before head m _ = ⊥

@@ -21,6 +21,15 @@ pub enum LoadFault {
     /// The maps of the blobs up to the first with which they are too large have this many slots together.
     #[error("maps of {slots} slots together where at most 16777216 are possible")]
     MapsTooLarge { slots: u64 },
+    /// The blob at this head has an attribute SNAP with this number, which is the id of no blob that is there.
+    #[error("blob at page {blob}: no blob has the id {parent:#x} of its parent")]
+    NoParentBlob { blob: u32, parent: u64 },
+    /// The parent of the blob at this head isn't read-only.
+    #[error("blob at page {blob}: its parent at page {parent} is not read-only")]
+    WritableParent { blob: u32, parent: u32 },
+    /// Following parents from the blob at this head comes to some blob a second time.
+    #[error("blob at page {blob}: following parents comes back")]
+    ParentLoop { blob: u32 },
     /// The least cluster that stands in two slots, and the heads of its first two; they are the same where one blob has
     /// both.
     #[error("cluster {cluster} is in the map of the blob at page {a} and again in that at page {b}")]
@@ -28,8 +37,9 @@ pub enum LoadFault {
     /// The device failed a read.
     #[error("a page could not be read")]
     ReadFault,
-    /// The blob at this head has a parent, or is a snapshot that was being made or removed.
-    #[error("blob at page {page}: snapshots and clones are not loaded so far")]
+    /// The blob at this head, the least, is a snapshot that was being made or removed. A load never answers this; a run
+    /// does, since it makes no repairs so far.
+    #[error("blob at page {page}: a snapshot that was being made or removed is not repaired so far")]
     NotYet { page: u32 },
     /// Memory ran out.
     #[error("no memory")]

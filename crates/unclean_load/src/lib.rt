@@ -6,6 +6,8 @@ mod heads;
 mod laws;
 mod loading;
 mod masks;
+mod parents;
+mod recovering;
 mod sharing;
 mod super_page;
 mod walking;

@@ -1,9 +1,10 @@
-//! The masks of the metadata pages that the chains of a store have, and of its heads.
+//! The masks of the metadata pages that the chains of blobs have, and of their heads.
 
-ghost use Rattle.std.specs.Prelude.{◌≡◌, ◌<◌, ◌↔◌, ℕ, [], true, length, OnOk, IfOk, IfErr, IsSome};
+ghost use Rattle.std.specs.Prelude.{◌≡◌, ◌<◌, ◌↔◌, ℕ, [], true, length, OnOk, IfOk, IfErr, IsSome, option_copied};
 ghost use Rattle.std.specs.FinMap as map;
 ghost use Rattle.bit_array.specs.Bits.{is_in};
 ghost use Rattle.md_chain.specs.Chain.{is_among};
+ghost use Rattle.running_store.specs.Recovered.{chains_of};
 ghost use Rattle.store_model.specs.Places.{AreDistinct, UsedPages};
 ghost use Rattle.unclean_load.specs.Claiming.{AreAdded, ChainsAreApart, AreBelow, AreChains, AreNew, IsInTwo};
 ghost use Rattle.unclean_load.specs.Claiming.{IsPageFault};
@@ -40,17 +41,34 @@ fn mark_pages(bits: &mut Bits, head: u32, pages: &PlaceList) -> Result<(), LoadF
     Ok(())
 }
 
-/// The metadata pages that the chains have. Where the device gave a page of one chain as a page of another too, the
-/// later chain has the fault `Loop`.
-pub fn used_pages(alloc: Global, chains: &Chains, md_len: u32) -> Result<Bits, LoadFault>
+/// The chain at a head, where a blob is there.
+fn chain_of<'a>(metas: &Metas, chains: &'a Chains, head: u32) -> Option<&'a PlaceList>
+    ensures { option_copied result ≡ chains_of (map.get metas.now) (map.get chains.now) head }
+{
+    match metas.get(head) {
+        Some(_) => chains.get(head),
+        None => None,
+    }
+}
+
+/// The metadata pages that the chains of these blobs have. Where the device gave a page of one chain as a page of
+/// another too, the later chain has the fault `Loop`.
+pub fn used_pages(
+    alloc: Global,
+    metas: &Metas,
+    chains: &Chains,
+    md_len: u32,
+) -> Result<Bits, LoadFault>
     requires { AreChains md_len (map.get chains.now) }
-    ensures used { IfOk result (λ bits. UsedPages md_len bits (map.get chains.now) []) }
-    ensures apart { OnOk result (ChainsAreApart (map.get chains.now)) }
-    ensures fault { IfErr result (λ e. IsPageFault (IsInTwo (map.get chains.now)) e) }
+    ensures used { IfOk result
+        (λ bits. UsedPages md_len bits (chains_of (map.get metas.now) (map.get chains.now)) []) }
+    ensures apart { OnOk result (ChainsAreApart (chains_of (map.get metas.now) (map.get chains.now))) }
+    ensures fault { IfErr result
+        (λ e. IsPageFault (IsInTwo (chains_of (map.get metas.now) (map.get chains.now))) e) }
 {
     let mut bits = Bits::new(alloc, md_len)?;
     for head in 0..md_len {
-        if let Some(pages) = chains.get(head) {
+        if let Some(pages) = chain_of(metas, chains, head) {
             mark_pages(&mut bits, head, pages)?;
         }
     }

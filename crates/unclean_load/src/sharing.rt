@@ -2,8 +2,8 @@
 
 ghost use Rattle.std.specs.Prelude.{◌≡◌, ◌+◌, ◌^◌, ◌<◌, ◌≤◌, ◌∷◌, [], ℕ, Some, length, OnOk, IfOk, IfErr};
 ghost use Rattle.std.specs.FinMap as map;
+ghost use Rattle.blob_meta.specs.Repairs.{HasHeadsBelow};
 ghost use Rattle.store_model.specs.Places.{Unclaimed, UsedClusters};
-ghost use Rattle.store_model.specs.RunInvariant.{AreSteady};
 ghost use Rattle.super_block.specs.Faults.{IsFaultless};
 ghost use Rattle.super_block.specs.Numbers.{clusters_of, fixed_clusters_of};
 ghost use Rattle.unclean_load.specs.Claiming.{IsClusterFault};
@@ -130,7 +130,8 @@ fn holder(metas: &Metas, md_len: u32, cluster: u32, n: u32) -> u32
 /// The clusters that the maps have, and the fixed ones, unless one stands in two slots.
 pub fn used_clusters(alloc: Global, sup: &Super, metas: &Metas) -> Result<Bits, LoadFault>
     requires faultless { IsFaultless sup.now }
-    requires steady { AreSteady sup.now (map.get metas.now) }
+    requires below { HasHeadsBelow sup.now.md_len (map.get metas.now) }
+    requires inside { AreAllInside sup.now (map.get metas.now) }
     ensures used { IfOk result (λ bits. UsedClusters sup.now bits (map.get metas.now) Unclaimed) }
     ensures alone { OnOk result ((cluster : ℕ) → copies sup.now.md_len (map.get metas.now) cluster ≤ 1) }
     ensures fault { IfErr result (λ e. IsClusterFault sup.now.md_len (map.get metas.now) e) }

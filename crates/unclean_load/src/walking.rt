@@ -1,17 +1,17 @@
 //! The blobs of a metadata region, by their heads from the first place upwards.
 
-ghost use Rattle.std.specs.Prelude.{◌≡◌, ◌≤◌, ◌+◌, ◌^◌, false, is_some, length, IsTrue, OnOk, IfOk, IfErr};
+ghost use Rattle.std.specs.Prelude.{◌≡◌, ◌≤◌, ◌+◌, ◌^◌, length, IsTrue, OnOk, IfOk, IfErr};
 ghost use Rattle.std.specs.FinMap as map;
-ghost use Rattle.blob_meta.specs.Resolving.{mark_of, slots_together};
+ghost use Rattle.blob_meta.specs.Resolving.{slots_together};
 ghost use Rattle.md_chain.specs.Reading.{OnlyRead, region_look};
 ghost use Rattle.store_model.specs.Regions.{region_of};
 ghost use Rattle.super_block.specs.Faults.{IsFaultless};
-ghost use Rattle.unclean_load.specs.Heads.{has_mark as has_mark_said, AreWholeBelow, IsHeadsFault};
+ghost use Rattle.unclean_load.specs.Heads.{AreWholeBelow, IsHeadsFault};
 ghost use Rattle.unclean_load.specs.Reading.{AreRead, HasNoneFrom, IsFaultCounted, IsBlobRefused};
 
 use crate::fault::LoadFault;
 use crate::heads::{Blob, blob_at};
-use blob_meta::{Chains, Meta, Metas};
+use blob_meta::{Chains, Metas};
 use page_disk::PageDisk;
 use std::alloc::Global;
 use super_block::Super;
@@ -27,20 +27,6 @@ pub struct Blobs {
     slots: u64,
 }
 
-/// Whether a blob is a snapshot that was being made or removed.
-fn is_unfinished(meta: &Meta) -> bool
-    ensures { result ≡ is_some (mark_of meta.now) }
-{
-    meta.internal.value_of(b"SNAPRM").is_some() || meta.internal.value_of(b"SNAPTMP").is_some()
-}
-
-/// Whether a blob has the attribute that names a parent, or is a snapshot that was being made or removed.
-fn has_mark(meta: &Meta) -> bool
-    ensures { result ≡ has_mark_said meta.now }
-{
-    meta.internal.value_of(b"SNAP").is_some() || is_unfinished(meta)
-}
-
 impl Blobs {
     fn new(alloc: Global) -> Blobs
         ensures metas { result.metas ≡ map.empty }
@@ -54,22 +40,18 @@ impl Blobs {
         }
     }
 
-    /// Adds the blob of a head, unless its map is too large with the others or it has a mark.
+    /// Adds the blob of a head, unless its map is too large with the others.
     fn add(&mut self, head: u32, blob: Blob) -> Result<(), LoadFault>
         requires { self.old.slots ≤ 2 ^ 24 }
         ensures metas { OnOk result (self.new.metas ≡ map.insert self.old.metas head blob.meta) }
         ensures chains { OnOk result (self.new.chains ≡ map.insert self.old.chains head blob.pages) }
         ensures slots { OnOk result (self.new.slots ≡ self.old.slots + length blob.meta.map) }
         ensures few { OnOk result (self.new.slots ≤ 2 ^ 24) }
-        ensures unmarked { OnOk result (has_mark_said blob.meta ≡ false) }
         ensures fault { IfErr result (λ e. IsBlobRefused self.old.slots head blob.meta e) }
     {
         let slots = self.slots + blob.meta.map.as_slice().len() as u64;
         if slots > MOST_SLOTS {
             return Err(LoadFault::MapsTooLarge { slots });
-        }
-        if has_mark(&blob.meta) {
-            return Err(LoadFault::NotYet { page: head });
         }
         self.metas.insert(head, blob.meta)?;
         self.chains.insert(head, blob.pages)?;
@@ -78,8 +60,8 @@ impl Blobs {
     }
 }
 
-/// The blobs of the whole metadata region, or the first fault that a head shows: of its chain, of its metadata, of too
-/// many slots together, or of a mark.
+/// The blobs of the whole metadata region, or the first fault that a head shows: of its chain, of its metadata, or of
+/// too many slots together.
 pub fn blobs_on<D: PageDisk>(alloc: Global, disk: &mut D, sup: &Super) -> Result<Blobs, LoadFault>
     requires faultless { IsFaultless sup.now }
     requires device { sup.now.device_pages ≡ D.pages disk.old }

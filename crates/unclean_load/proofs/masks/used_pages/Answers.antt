@@ -5,30 +5,32 @@ use Rattle.bit_array.specs.Bits.{is_in}
 use Rattle.md_chain.specs.Chain.{is_among}
 use Rattle.md_chain.specs.declared.fault.ChainFault.{ChainFault}
 use Rattle.md_chain.specs.declared.fault.ChainFault.TheVariants as chain
+use Rattle.running_store.specs.Recovered.{chains_of}
 use Rattle.store_model.specs.Maps.{Chains}
 use Rattle.unclean_load.specs.declared.fault.LoadFault.{LoadFault}
 use Rattle.unclean_load.specs.declared.fault.LoadFault.TheVariants as fault
 use Rattle.unclean_load.specs.Claiming.{IsInTwo, IsTwice, IsPageFault}
+use Rattle.unclean_load.proofs.ChainsOf.{chains_there}
 use Rattle.unclean_load.proofs.Marks.{Marked, marked_none, marked_same, marked_more, in_two, all_used, all_apart}
 use Rattle.unclean_load.proofs.masks.used_pages.Goals as goal
 use Rattle.unclean_load.proofs.masks.used_pages.Goals.{in-Some+in_ok-mark_pages, in_default}
 
 pub loop-head-init : goal.loop-head-init
-loop-head-init c = marked_none c.args.md_len (map.get c.args.chains.now) c.in_ok-bits.bits c.in_ok-bits.ensures
+loop-head-init c = marked_none c.args.md_len (chains_of (map.get c.args.metas.now) (map.get c.args.chains.now)) c.in_ok-bits.bits c.in_ok-bits.ensures
 
 pub mark_pages-requires-clause-low : goal.mark_pages-requires-clause-low
 mark_pages-requires-clause-low c =
-    let there : map.get c.args.chains.now c.loop-head.head ≡ Some c.in-Some.pages.now =
-    sym c.get.ensures ∙ ap option_copied c.in-Some.is in
-    let x = (c.requires _ _ there).1 in
+    let there : chains_of (map.get c.args.metas.now) (map.get c.args.chains.now) c.loop-head.head ≡ Some c.in-Some.pages.now =
+    sym c.chain_of.ensures ∙ ap option_copied c.in-Some.is in
+    let x = (chains_there (map.get c.args.metas.now) (map.get c.args.chains.now) c.args.md_len c.requires _ _ there).1 in
     let count = c.loop-head.invariant.count in
     λ place among. let y = x.low place among in omega (arith, y, count)
 
 pub mark_pages-requires-clause-differ : goal.mark_pages-requires-clause-differ
 mark_pages-requires-clause-differ c =
-    let there : map.get c.args.chains.now c.loop-head.head ≡ Some c.in-Some.pages.now =
-    sym c.get.ensures ∙ ap option_copied c.in-Some.is in
-    (c.requires _ _ there).1.differ
+    let there : chains_of (map.get c.args.metas.now) (map.get c.args.chains.now) c.loop-head.head ≡ Some c.in-Some.pages.now =
+    sym c.chain_of.ensures ∙ ap option_copied c.in-Some.is in
+    (chains_there (map.get c.args.metas.now) (map.get c.args.chains.now) c.args.md_len c.requires _ _ there).1.differ
 
 twice : (chains : Chains) (head h : ℕ) (why : ChainFault) (pages : List ℕ) (bits : List Bool)
     → ((place : ℕ) → is_among place pages ≡ true → is_in bits place ≡ true → IsInTwo chains head place)
@@ -55,14 +57,17 @@ page_fault chains head pages bits two fault.ReadFault x = absurd x
 page_fault chains head pages bits two (fault.Super e) x = absurd x
 page_fault chains head pages bits two (fault.Meta h e) x = absurd x
 page_fault chains head pages bits two (fault.MapsTooLarge n) x = absurd x
+page_fault chains head pages bits two (fault.NoParentBlob blob parent) x = absurd x
+page_fault chains head pages bits two (fault.WritableParent blob parent) x = absurd x
+page_fault chains head pages bits two (fault.ParentLoop blob) x = absurd x
 page_fault chains head pages bits two (fault.Shared cluster a b) x = absurd x
 page_fault chains head pages bits two (fault.NotYet page) x = absurd x
 
 pub returns-in_err-mark_pages-clause-fault : goal.returns-in_err-mark_pages-clause-fault
 returns-in_err-mark_pages-clause-fault c =
-    let chains = map.get c.args.chains.now in
+    let chains = chains_of (map.get c.args.metas.now) (map.get c.args.chains.now) in
     let there : chains c.loop-head.head ≡ Some c.in-Some.pages.now =
-    sym c.get.ensures ∙ ap option_copied c.in-Some.is in
+    sym c.chain_of.ensures ∙ ap option_copied c.in-Some.is in
     let why = c.in_err-mark_pages.field-0.0 in
     let x : IsPageFault (IsInTwo chains) why =
     page_fault chains c.loop-head.head c.in-Some.pages.now c.loop-head.bits
@@ -72,17 +77,17 @@ returns-in_err-mark_pages-clause-fault c =
 
 pub loop-head-preserved : goal.loop-head-preserved
 loop-head-preserved c =
-    let chains = map.get c.args.chains.now in
-    elim c.match-get.branch [
+    let chains = chains_of (map.get c.args.metas.now) (map.get c.args.chains.now) in
+    elim c.match-chain_of.branch [
       | in-Some+in_ok-mark_pages w ↦
           let there : chains c.loop-head.head ≡ Some w.in-Some.pages.now =
-          sym c.get.ensures ∙ ap option_copied w.in-Some.is in
+          sym c.chain_of.ensures ∙ ap option_copied w.in-Some.is in
           let e = w.in_ok-mark_pages.ensures in
           rw w.bits-is
           (marked_more c.args.md_len chains c.loop-head.bits c.loop-head.head c.loop-head.invariant w.in-Some.pages.now
           there w.mark_pages.new.bits e.count e.added e.new)
       | in_default w ↦
-          let none : chains c.loop-head.head ≡ None = sym c.get.ensures ∙ ap option_copied w.in_default.is in
+          let none : chains c.loop-head.head ≡ None = sym c.chain_of.ensures ∙ ap option_copied w.in_default.is in
           rw w.bits-is (marked_same c.args.md_len chains c.loop-head.bits c.loop-head.head c.loop-head.invariant none)
     ]
 
@@ -91,16 +96,18 @@ ended n m a b = omega (arith, a, b)
 
 pub returns-clause-used : goal.returns-clause-used
 returns-clause-used c =
-    let chains = map.get c.args.chains.now in
+    let chains = chains_of (map.get c.args.metas.now) (map.get c.args.chains.now) in
     let n = c.args.md_len in
     all_used n chains c.loop-head.bits
     (subst (λ (k : ℕ). Marked n chains c.loop-head.bits k)
-    (ended _ _ c.loop-head.auto.head-end c.loop-head-test.false) c.loop-head.invariant) c.requires
+    (ended _ _ c.loop-head.auto.head-end c.loop-head-test.false) c.loop-head.invariant)
+    (chains_there (map.get c.args.metas.now) (map.get c.args.chains.now) n c.requires)
 
 pub returns-clause-apart : goal.returns-clause-apart
 returns-clause-apart c =
-    let chains = map.get c.args.chains.now in
+    let chains = chains_of (map.get c.args.metas.now) (map.get c.args.chains.now) in
     let n = c.args.md_len in
     all_apart n chains c.loop-head.bits
     (subst (λ (k : ℕ). Marked n chains c.loop-head.bits k)
-    (ended _ _ c.loop-head.auto.head-end c.loop-head-test.false) c.loop-head.invariant) c.requires
+    (ended _ _ c.loop-head.auto.head-end c.loop-head-test.false) c.loop-head.invariant)
+    (chains_there (map.get c.args.metas.now) (map.get c.args.chains.now) n c.requires)

@@ -1,24 +1,21 @@
-use Rattle.std.proofs.Common.{◌≡◌, ◌<◌, ℕ, Bool, List, Option, length, sym, subst, inl, inr}
+use Rattle.std.proofs.Common.{◌≡◌, ◌<◌, ℕ, Bool, List, Option, IsSome, length, refl, sym, subst, inl, inr}
 use Rattle.std.specs.FinMap as map
 use Rattle.super_block.specs.declared.page.Super.{Super}
 use Rattle.super_block.specs.Numbers.{clusters_of, fixed_clusters_of}
+use Rattle.blob_meta.specs.Repairs.{HasHeadsBelow}
 use Rattle.store_model.specs.Maps.{Metas}
 use Rattle.store_model.specs.Places.{Unclaimed, UsedClusters}
-use Rattle.store_model.specs.RunInvariant.{AreSteady}
 use Rattle.unclean_load.specs.Sharing.{copies, AreCounted}
-use Rattle.unclean_load.proofs.Slots.{all_inside, mapped_copy, find_mapped}
+use Rattle.unclean_load.proofs.Slots.{mapped_copy, find_mapped}
 use Rattle.unclean_load.proofs.sharing.used_clusters.Goals as goal
 
-pub claims_of-requires-clause-inside : goal.claims_of-requires-clause-inside
-claims_of-requires-clause-inside c = all_inside c.args.sup.now (map.get c.args.metas.now) c.requires.steady
-
-counted_used : (s : Super) (metas : Metas) (bits : List Bool) (twice : Option ℕ) → AreSteady s metas
+counted_used : (s : Super) (metas : Metas) (bits : List Bool) (twice : Option ℕ) → HasHeadsBelow s.md_len metas
     → length bits ≡ clusters_of s → AreCounted (fixed_clusters_of s) (copies s.md_len metas) bits twice
     → UsedClusters s bits metas Unclaimed
-counted_used s metas bits twice all count x = record {
+counted_used s metas bits twice below count x = record {
   count = count;
   fixed = λ k lt below. x.first k lt (subst (λ (n : ℕ). k < n) (sym count) below);
-  mapped = λ k m. x.claimed k (mapped_copy metas k s.md_len (λ h n there. (all h n there).stored.low) m);
+  mapped = λ k m. x.claimed k (mapped_copy metas k s.md_len (λ h n there. below h (subst IsSome (sym there) refl)) m);
   claimed_too = λ k bad. absurd bad;
   no_other = λ k is. elim (x.no_other k is) [
     | inl first ↦ inl first
@@ -31,5 +28,5 @@ pub returns-in_default-clause-used : goal.returns-in_default-clause-used
 returns-in_default-clause-used c =
     let claims = c.in_ok-claims.claims in
     counted_used c.args.sup.now
-    (map.get c.args.metas.now) claims.clusters claims.twice c.requires.steady c.in_ok-claims.ensures.count
+    (map.get c.args.metas.now) claims.clusters claims.twice c.requires.below c.in_ok-claims.ensures.count
     c.in_ok-claims.ensures.counted

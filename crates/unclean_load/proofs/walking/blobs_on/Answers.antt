@@ -8,8 +8,8 @@ use Rattle.unclean_load.specs.Heads.{AreWholeBelow}
 use Rattle.md_chain.proofs.DeviceWalk.{read_on}
 use Rattle.unclean_load.specs.declared.heads.Blob.{Blob}
 use Rattle.unclean_load.specs.Reading.{HasNoneFrom, SaysAt, IsFaultCounted}
-use Rattle.unclean_load.proofs.HeadWalk.{Walked, begun, none_there, one_there, inserted, place_fails, add_fails}
-use Rattle.unclean_load.proofs.HeadWalk.{counted_first, refused_uncounted}
+use Rattle.unclean_load.proofs.HeadWalk.{Walked, begun, none_there, one_there, inserted}
+use Rattle.unclean_load.proofs.HeadFaults.{place_fails, add_fails, counted_first, refused_uncounted}
 use Rattle.unclean_load.proofs.walking.blobs_on.Goals as goal
 use Rattle.unclean_load.proofs.walking.blobs_on.Goals.{in-Some+in_ok-add, in_default}
 
@@ -94,7 +94,7 @@ loop-place-preserved g c =
           (place + 1) place blob.meta blob.pages
           (one_there d s first disk (map.get b.metas)
           (map.get b.chains) b.slots place old new c.blob_at.ensures.same c.in_ok-blob.ensures.quiet blob says
-          e.unmarked few))
+          few))
       | in_default w ↦
           let no : SaysAt d s disk place None =
           subst (λ (o : Option Blob). SaysAt d s disk place o) w.in_default.is c.in_ok-blob.ensures.found in

@@ -1,0 +1,7 @@
+use Rattle.std.specs.FinMap as map
+use Rattle.unclean_load.proofs.ParentsTested.{Tested}
+use Rattle.unclean_load.proofs.parents.check_parents.Given as goal
+
+-- the blobs of the heads so far
+abbrev pub invariant-loop-head : goal.invariant-loop-head
+invariant-loop-head l = Tested (map.get l.metas) l.walks.begun.items l.head l.md_len

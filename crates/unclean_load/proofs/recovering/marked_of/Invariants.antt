@@ -1,0 +1,7 @@
+use Rattle.std.specs.FinMap as map
+use Rattle.unclean_load.proofs.MarkedRead.{IsMarkedBelow}
+use Rattle.unclean_load.proofs.recovering.marked_of.Given as goal
+
+-- the marked blobs of the heads so far
+abbrev pub invariant-loop-head : goal.invariant-loop-head
+invariant-loop-head l = IsMarkedBelow (map.get l.metas) l.marked l.head
