@@ -21,7 +21,6 @@ use Rattle.store_model.specs.Regions.{region_of}
 use Rattle.store_model.specs.Steady.{CanBeWritten, IsSteady}
 use Rattle.store_model.proofs.Faultless.{all_pass}
 use Rattle.store_model.proofs.LawfulGiven.{TakesNone}
-
 pub use Rattle.shown_volumes.proofs.EmptyMaps.{none_in, empty_slot}
 
 -- ---- its attributes
@@ -40,7 +39,6 @@ two_written f v name uuid named = record {
     bytes = option_map_or (λ bytes. bytes) uuid (default_uuid (store_uuid f v) name)
 
 -- ---- its map
-
 
 pub few_pass : (slots : ℕ) (map : List (Option ℕ)) → length map ≡ slots → slots ≤ 2 ^ 20 → too_large map ≡ None
 few_pass slots map count few = let le : nat_le (length map) (2 ^ 20) ≡ true = le-leb (length map) (2 ^ 20)
