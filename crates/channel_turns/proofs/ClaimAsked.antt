@@ -40,7 +40,8 @@ use Rattle.channel_turns.proofs.WriteMeant.{free, has_empty, has_place, HasEmpty
 use Rattle.channel_turns.proofs.WriteMeant.{refused_so, slot_low, unfilled}
 
 module _ {D : Type 0} (d : Ghosts D) (p : StoreView D) (channel : ℕ) (running : IsRunning (state_of d p))
-    (runs : p.stopped ≡ None) (are : AreResolved p.metas p.marked) (w : WaitsToWrite p channel Claiming) (head : Option ℕ)
+    (runs : p.stopped ≡ None) (are : AreResolved p.metas p.marked) (w : WaitsToWrite p channel Claiming)
+    (head : Option ℕ)
     (meant : IsHeadMeant p.metas p.super w.volume head)
     (thawed : option_map_or (set.contains p.guards.frozen) head false ≡ false) where
   abbrev s : StoreState

@@ -140,7 +140,8 @@ module _ {D : Type 0} (d : Ghosts D) (p : StoreView D) (channel : ℕ) (running 
             → IfSome o (λ n. n < bound)
         by None is = tt
         by (Some n) is =
-            let low = read_low s running runs p.metas are.resolves (p.super.md_len + 1) (claim.slot * k + page) claim.head n
+            let low = read_low s running runs p.metas are.resolves (p.super.md_len + 1) (claim.slot * k + page)
+            claim.head n
             (sym is) in
             omega (arith, low, le)
 

@@ -126,7 +126,8 @@ has_empty metas k h page some is = at (metas h) refl some is
     }
 
 module _ {D : Type 0} (d : Ghosts D) (p : StoreView D) (channel : ℕ) (stage : Stage)
-    (running : IsRunning (state_of d p)) (runs : p.stopped ≡ None) (are : AreResolved p.metas p.marked) (w : WaitsToWrite p channel stage)
+    (running : IsRunning (state_of d p)) (runs : p.stopped ≡ None) (are : AreResolved p.metas p.marked)
+    (w : WaitsToWrite p channel stage)
     (head : Option ℕ) (meant : IsHeadMeant p.metas p.super w.volume head) where
   abbrev s : StoreState
   s = state_of d p
@@ -199,7 +200,8 @@ module _ {D : Type 0} (d : Ghosts D) (p : StoreView D) (channel : ℕ) (stage : 
   pub slot_low : (h : ℕ) → head ≡ Some h → (m : Meta) → map.get p.metas h ≡ Some m
       → refusal (fixed_of p.super) (shown s) command ≡ None → w.page / k < 2 ^ 32
   slot_low h is m there asked =
-      let within = page_within s running runs p.metas are.resolves w.volume w.page w.word h m (head_is ∙ is) there asked in
+      let within = page_within s running runs p.metas are.resolves w.volume w.page w.word h m (head_is ∙ is) there asked
+      in
       let few = few_slots s running runs p.metas are.resolves h m there in
       let some = running.placed.some_pages in
       let low : w.page / k < length m.map = div_below w.page k (length m.map)

@@ -47,7 +47,8 @@ answerable (c.SetX volume key value) is create put sync read_only resize = inl (
 answerable (c.DelX volume key) is create put sync read_only resize = inl (tt, tt)
 answerable (c.GetX volume key) is create put sync read_only resize = inl (tt, tt)
 answerable c.Df is create put sync read_only resize = inr refl
-answerable (c.Create name slots thick uuid) is create put sync read_only resize = absurd (create name slots thick uuid refl)
+answerable (c.Create name slots thick uuid) is create put sync read_only resize = absurd (create name slots thick uuid
+    refl)
 answerable (c.Put volume key value) is create put sync read_only resize = absurd (put volume key value refl)
 answerable (c.Sync volume) is create put sync read_only resize = absurd (sync volume refl)
 answerable (c.ReadOnly volume) is create put sync read_only resize = absurd (read_only volume refl)

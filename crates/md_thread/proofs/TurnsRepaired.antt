@@ -46,7 +46,8 @@ job_kind told p q (turns.insert_breaks_down t) = (kind.insert_breaks_down, t)
 pub turned : {D : Type 0} (d : Ghosts D) (laws : StateLaws) (p q : WithOpening D) → StoreInvariant d p
     → SomeTurn d.tells (state_of d p.at) (state_of d q.at) → IsRepaired (state_of d p.at) → IsRepaired (state_of d q.at)
 turned d laws p q kept turn repaired =
-    laws.repaired_stays d.tells p.opening.super _ _ (state_of d p.at) (state_of d q.at) turn.0 kept.facts turn.1 repaired
+    laws.repaired_stays d.tells p.opening.super _ _ (state_of d p.at) (state_of d q.at) turn.0 kept.facts turn.1
+    repaired
 
 -- a row is posted under a number, or isn't
 posted_or_not : (stage : Stage) (serial : ℕ) → (stage ≡ Posted serial) ⊎ (stage ≢ Posted serial)

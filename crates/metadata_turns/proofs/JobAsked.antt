@@ -66,7 +66,8 @@ whole_cut map = is_taken map (length map) None (omega arith) ∙ take_all (lengt
 ltb-irrefl : (n : ℕ) → nat_lt n n ≡ false
 ltb-irrefl n = grind (arith, nat_tests)
 
-module _ (p : StoreState) (running : IsRunning p) (clean : HasNoMarks p.base) (runs : p.stopped ≡ None) (command : Command) (head : ℕ) (new : Meta)
+module _ (p : StoreState) (running : IsRunning p) (clean : HasNoMarks p.base) (runs : p.stopped ≡ None)
+    (command : Command) (head : ℕ) (new : Meta)
     (zeros : List ℕ) (asks : AsksToWrite p command head new zeros) where
   abbrev known : Known
   known = record {
@@ -86,7 +87,8 @@ module _ (p : StoreState) (running : IsRunning p) (clean : HasNoMarks p.base) (r
       → head < p.super.md_len → IsSteady p.super head (with_clusters new zeros claimed)
   steady claimed least one_each low =
       subst (λ s. IsSteady s head (with_clusters new zeros claimed)) (sym running.facts.super)
-      (job_writable known clean runs command (job_with_zeros head new zeros) asks.commit asks.asked claimed least one_each
+      (job_writable known clean runs command (job_with_zeros head new zeros) asks.commit asks.asked claimed least
+      one_each
       (record { head = head; new = Some new }) new refl refl
       (subst (λ (s : Super). head < s.md_len) running.facts.super low))
 

@@ -61,7 +61,8 @@ for_one base head new bits x =
     (let all : x.count ≡ t.0 = omega (arith, none, sum) in all) ∙ need.2 in
     record { count = need.0; needs = need.1; lacking = subst (λ n. clear_in bits < n) count x.lacking }
 
-module _ (s : StoreState) (running : IsRunning s) (clean : HasNoMarks s.base) (runs : s.stopped ≡ None) (no_job : s.job ≡ None) (command : Command)
+module _ (s : StoreState) (running : IsRunning s) (clean : HasNoMarks s.base) (runs : s.stopped ≡ None)
+    (no_job : s.job ≡ None) (command : Command)
     (head : ℕ) (bare : Meta) (zeros : List ℕ) (asks : AsksToWrite s command head bare zeros) (claimed : List ℕ)
     (claims : AreForZeros s.clusters zeros claimed) where
   abbrev later : Meta
@@ -78,7 +79,8 @@ module _ (s : StoreState) (running : IsRunning s) (clean : HasNoMarks s.base) (r
     asked = asks.asked;
     claimed = claimed;
     claims = claims;
-    lacks = lacks_for_one s.base head later s.pages (subst (λ (b : Bool). LacksPages b later s.pages) (sym there) lacks);
+    lacks = lacks_for_one s.base head later s.pages (subst (λ (b : Bool). LacksPages b later s.pages) (sym there)
+        lacks);
   }
 
   -- it isn't prepared for this reason
@@ -118,7 +120,8 @@ module _ {D : Type 0} (d : Ghosts D) (p : StoreView D) (channel : ℕ) (low : ch
   abbrev in_job : Row
   in_job = record { left = command ∷ rest; stage = InJob; claim = None }
 
-  module _ (running : IsRunning s) (clean : HasNoMarks s.base) (no_job : p.job ≡ None) (planned : Planned) (old : List ℕ) (bare : Meta)
+  module _ (running : IsRunning s) (clean : HasNoMarks s.base) (no_job : p.job ≡ None) (planned : Planned)
+      (old : List ℕ) (bare : Meta)
       (zeros : List ℕ) (asks : AsksToWrite s command planned.head bare zeros) where
     abbrev claimed : List ℕ
     claimed = planned.effects.claimed
@@ -213,7 +216,8 @@ module _ {D : Type 0} (d : Ghosts D) (p : StoreView D) (channel : ℕ) (low : ch
               ∙ ap (λ (l : List ℕ). with_job rows_then (todo_with l) pages clusters)
               (from_start (cluster_pages_of p.super) claimed)
               ∙ ap (with_job rows_then (todo_with (pages_of (cluster_pages_of p.super) claimed)) pages) set
-              ∙ ap (λ (bits : List Bool). with_job rows_then (todo_with (pages_of (cluster_pages_of p.super) claimed)) bits
+              ∙ ap (λ (bits : List Bool). with_job rows_then (todo_with (pages_of (cluster_pages_of p.super) claimed))
+              bits
               (all_set p.clusters claimed true))
               (is.taken ∙ ap (λ l. all_set p.pages l true)
               (sym (append-nil (taken_for makes planned.head (drop 1 planned.chain)))));

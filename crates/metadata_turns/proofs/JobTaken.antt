@@ -50,7 +50,8 @@ none_of None is = refl
 none_of (Some x) is = absurd (cc is)
 
 module _ {D : Type 0} (d : Ghosts D) (p : StoreView D) (channel : ℕ) (posted : IsPostedAt p channel)
-    (running : IsRunning (state_of d p)) (clean : HasNoMarks (base_of p.metas p.marked)) (runs : p.stopped ≡ None) (head : ℕ) (new : Meta) (zeros : List ℕ)
+    (running : IsRunning (state_of d p)) (clean : HasNoMarks (base_of p.metas p.marked)) (runs : p.stopped ≡ None)
+    (head : ℕ) (new : Meta) (zeros : List ℕ)
     (asks_it : Asks p channel (λ command. AsksToWrite (state_of d p) command head new zeros)) where
   abbrev s : StoreState
   s = state_of d p

@@ -11,8 +11,8 @@ use Rattle.running_store.specs.TurnMade.{TurnMade}
 use Rattle.running_store.specs.StoreInvariant.{IsRunning}
 use Rattle.metadata_turns.specs.OwnWrites.{AreOwn}
 
--- the kinds of a job's turns, but for its beginning: those of an insert's job alone, and of any other, whose replacement
--- is its commit
+-- the kinds of a job's turns, but for its beginning: those of an insert's job alone, and of any other, whose
+-- replacement is its commit
 abbrev pub IsOfJob : Kind → Type 0
 IsOfJob kind.inserts = Unit {0}
 IsOfJob kind.insert_ends = Unit {0}

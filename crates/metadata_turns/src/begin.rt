@@ -133,8 +133,8 @@ fn job_for<D: PageDisk>(
     }
 }
 
-/// Begins the job of one replacement, for the posted command of a channel, of a store without a repair that is left; or,
-/// on a stopped store, logs that it is stopped.
+/// Begins the job of one replacement, for the posted command of a channel, of a store without a repair that is left;
+/// or, on a stopped store, logs that it is stopped.
 pub fn begin_or_halt<D: PageDisk>(running: &mut Running<D>, channel: u8, job: Job) -> BeginTurn
     requires order { InOrder D.PageDisk running.old }
     requires channel { channel < 16 }

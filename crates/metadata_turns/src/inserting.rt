@@ -199,8 +199,8 @@ fn job_of(alloc: Global, prepared: Prepared, channel: u8, head: u32, new: Meta) 
     }
 }
 
-/// Begins the insert of a posted row, of a store without a repair that is left, or, on a stopped store, logs its write as
-/// that.
+/// Begins the insert of a posted row, of a store without a repair that is left, or, on a stopped store, logs its write
+/// as that.
 pub fn begin_insert_or_halt<D: PageDisk>(running: &mut Running<D>, channel: u8) -> InsertTurn
     requires order { InOrder D.PageDisk running.old }
     requires channel { channel < 16 }

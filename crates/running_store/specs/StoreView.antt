@@ -68,7 +68,25 @@ view_code {D} d =
             a.marked,
             (
               a.chains,
-              (a.live, (a.pages, (a.clusters, (a.rows, (a.job, (a.guards, (a.serial, (a.log, (a.marks, a.stopped))))))))),
+              (
+                a.live,
+                (
+                  a.pages,
+                  (
+                    a.clusters,
+                    (
+                      a.rows,
+                      (
+                        a.job,
+                        (
+                          a.guards,
+                          (a.serial, (a.log, (a.marks, a.stopped))),
+                        ),
+                      ),
+                    ),
+                  ),
+                ),
+              ),
             ),
           ),
         ),

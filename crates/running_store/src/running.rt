@@ -14,7 +14,8 @@ pub struct Running<D> {
     pub alloc: Global,
     pub disk: D,
     pub sup: Super,
-    /// The metadata once it is resolved; the marked blobs, as the device says them; and the places of each blob's chain.
+    /// The metadata once it is resolved; the marked blobs, as the device says them; and the places of each blob's
+    /// chain.
     pub metas: Metas,
     pub marked: Metas,
     pub chains: Chains,

@@ -92,5 +92,6 @@ module _ {D : Type 0} (d : Ghosts D) (laws : CrashLaws)
 
   pub leaves_old_or_new : (p : WithOpening D) (q : StoreView D) (job : JobState) → StoreInvariant d p
       → TurnsJob d p.at q → HasOneImage d p.opening.disk → p.at.stopped ≡ None → p.at.job ≡ Some job
-      → CallsLeaveOnly d p.at.disk q.disk (OldOrNew p.opening.super (base_of p.at.metas p.at.marked) (map.get p.at.chains) job.todo)
+      → CallsLeaveOnly d p.at.disk q.disk
+      (OldOrNew p.opening.super (base_of p.at.metas p.at.marked) (map.get p.at.chains) job.todo)
   leaves_old_or_new p q job kept turn one runs is = leaves_here p q turn.kind kept turn.made one runs job is

@@ -34,7 +34,8 @@ use Rattle.metadata_turns.proofs.Answered.{found, live_same}
 use Rattle.metadata_turns.proofs.Found.{is_live_of, shows_live}
 
 module _ (p : StoreState) (running : IsRunning p) (runs : p.stopped ≡ None) (metas : map.FinMap nat_cmp Meta)
-    (resolves : resolved p.base ≡ map.get metas) (base : p.base ≡ map.get metas) (volume : VolumeRef) (head : ℕ) (old : Meta) (live : Xattrs)
+    (resolves : resolved p.base ≡ map.get metas) (base : p.base ≡ map.get metas) (volume : VolumeRef) (head : ℕ)
+    (old : Meta) (live : Xattrs)
     (there : map.get metas head ≡ Some old) (is_live : p.live head ≡ Some live)
     (meant : IsHeadMeant metas p.super volume (Some head)) where
   abbrev f : Fixed
@@ -147,19 +148,23 @@ plan_laws d = record {
       shows_live (state_of d p) running runs p.metas are.resolves p.live refl command head xattrs found;
   shows_all = λ p running runs are. shows_metas (state_of d p) running runs p.metas are.resolves;
   put = λ p volume head key value old live running runs are clean blob meant cause.
-      asks_put (state_of d p) running runs p.metas are.resolves (unmarked_base p.metas p.marked are clean) volume head old live
+      asks_put (state_of d p) running runs p.metas are.resolves (unmarked_base p.metas p.marked are clean) volume head
+      old live
       blob.there blob.is_live meant key value cause;
   sync = λ p volume head old live running runs are clean blob meant cause.
-      asks_sync (state_of d p) running runs p.metas are.resolves (unmarked_base p.metas p.marked are clean) volume head old live
+      asks_sync (state_of d p) running runs p.metas are.resolves (unmarked_base p.metas p.marked are clean) volume head
+      old live
       blob.there blob.is_live meant cause;
   read_only = λ p volume head old live running runs are clean blob meant cause.
-      asks_read_only (state_of d p) running runs p.metas are.resolves (unmarked_base p.metas p.marked are clean) volume head old live
+      asks_read_only (state_of d p) running runs p.metas are.resolves (unmarked_base p.metas p.marked are clean) volume
+      head old live
       blob.there blob.is_live meant cause;
   create = λ p name slots thick uuid head xattrs running runs are is_name next unrefused named.
       asks_create running.store running.first running.script (state_of d p) running.facts (running.facts.well runs)
       p.metas (shows_metas (state_of d p) running runs p.metas are.resolves) name slots thick uuid head xattrs is_name
       next unrefused named;
   resize = λ p volume slots head old job running runs are clean meant there unrefused is.
-      asks_resize (state_of d p) p.metas (shows_metas (state_of d p) running runs p.metas are.resolves) volume slots head
+      asks_resize (state_of d p) p.metas (shows_metas (state_of d p) running runs p.metas are.resolves) volume slots
+      head
       old job (ap (λ (m : Map Meta). m head) (unmarked_base p.metas p.marked are clean) ∙ there) meant unrefused is;
 }

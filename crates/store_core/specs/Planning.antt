@@ -34,30 +34,35 @@ pub record HasBlob {D : Type 0} (p : StoreView D) (head : ℕ) (old : Meta) (liv
 pub record PlanLaws {D : Type 0} (d : Ghosts D) : Type 0 where
   -- What is found of the volume that a command names has live attributes exactly where the volume is there,
   pub live : (p : StoreView D) (command : Command) (head : Option ℕ) (xattrs : Option Xattrs)
-      → IsRunning (state_of d p) → p.stopped ≡ None → AreResolved p.metas p.marked → IsFound p.metas p.super p.live command head xattrs
+      → IsRunning (state_of d p) → p.stopped ≡ None → AreResolved p.metas p.marked
+      → IsFound p.metas p.super p.live command head xattrs
       → IsLiveOf p.metas p.super xattrs command
   -- and these are the ones that the store shows of it.
   pub shows : (p : StoreView D) (command : Command) (head : Option ℕ) (xattrs : Option Xattrs)
-      → IsRunning (state_of d p) → p.stopped ≡ None → AreResolved p.metas p.marked → IsFound p.metas p.super p.live command head xattrs
+      → IsRunning (state_of d p) → p.stopped ≡ None → AreResolved p.metas p.marked
+      → IsFound p.metas p.super p.live command head xattrs
       → ShowsLive p.metas p.super xattrs command (fixed_of p.super) (shown (state_of d p))
   -- All volumes that it shows show its metadata.
   pub shows_all : (p : StoreView D) → IsRunning (state_of d p) → p.stopped ≡ None → AreResolved p.metas p.marked
       → ShowsMetas (fixed_of p.super) p.super p.metas (shown (state_of d p))
   -- a put that nothing refuses asks for the metadata with the live attributes, one of them set,
   pub put : (p : StoreView D) (volume : VolumeRef) (head : ℕ) (key value : Text) (old : Meta) (live : Xattrs)
-      → IsRunning (state_of d p) → p.stopped ≡ None → AreResolved p.metas p.marked → HasNoMarks (base_of p.metas p.marked) → HasBlob p head old live
+      → IsRunning (state_of d p) → p.stopped ≡ None → AreResolved p.metas p.marked
+      → HasNoMarks (base_of p.metas p.marked) → HasBlob p head old live
       → IsHeadMeant p.metas p.super volume (Some head)
       → IsFirstCause p.metas p.super (Some live) (c.Put volume key value) None
       → AsksFor (state_of d p) (c.Put volume key value) head (record old { xattrs = with_value live key value })
   -- and a sync for that with the live ones
   pub sync : (p : StoreView D) (volume : VolumeRef) (head : ℕ) (old : Meta) (live : Xattrs)
-      → IsRunning (state_of d p) → p.stopped ≡ None → AreResolved p.metas p.marked → HasNoMarks (base_of p.metas p.marked) → HasBlob p head old live
+      → IsRunning (state_of d p) → p.stopped ≡ None → AreResolved p.metas p.marked
+      → HasNoMarks (base_of p.metas p.marked) → HasBlob p head old live
       → IsHeadMeant p.metas p.super volume (Some head)
       → IsFirstCause p.metas p.super (Some live) (c.Sync volume) None
       → AsksFor (state_of d p) (c.Sync volume) head (record old { xattrs = live })
   -- and one that makes the volume read-only for that with its flags besides.
   pub read_only : (p : StoreView D) (volume : VolumeRef) (head : ℕ) (old : Meta) (live : Xattrs)
-      → IsRunning (state_of d p) → p.stopped ≡ None → AreResolved p.metas p.marked → HasNoMarks (base_of p.metas p.marked) → HasBlob p head old live
+      → IsRunning (state_of d p) → p.stopped ≡ None → AreResolved p.metas p.marked
+      → HasNoMarks (base_of p.metas p.marked) → HasBlob p head old live
       → IsHeadMeant p.metas p.super volume (Some head)
       → IsFirstCause p.metas p.super (Some live) (c.ReadOnly volume) None
       → AsksFor (state_of d p) (c.ReadOnly volume) head (record old { xattrs = live; flags = read_only old.flags })
@@ -72,6 +77,7 @@ pub record PlanLaws {D : Type 0} (d : Ghosts D) : Type 0 where
   -- A resize that nothing refuses asks for the slots of the blob that is meant to be cut, or for empty ones behind them,
   -- each of which is to get a cluster of zeros where the blob isn't thin.
   pub resize : (p : StoreView D) (volume : VolumeRef) (slots head : ℕ) (old : Meta) (job : Job)
-      → IsRunning (state_of d p) → p.stopped ≡ None → AreResolved p.metas p.marked → HasNoMarks (base_of p.metas p.marked) → IsHeadMeant p.metas p.super volume (Some head)
+      → IsRunning (state_of d p) → p.stopped ≡ None → AreResolved p.metas p.marked
+      → HasNoMarks (base_of p.metas p.marked) → IsHeadMeant p.metas p.super volume (Some head)
       → map.get p.metas head ≡ Some old → IsFirstRefusal p.metas p.super (c.Resize volume slots) None
       → job ≡ resize_job head old slots → IsJobOf (state_of d p) (c.Resize volume slots) job

@@ -18,11 +18,11 @@ impl<D: PageDisk> Plant<D> {
     ghost use Rattle.running_store.specs.StoreView.{rows_of, state_of};
     ghost use Rattle.running_store.specs.TurnMade.{TurnMade};
 
-    /// Begins the insert that a message posts, where nothing is left to repair: the job that writes its blob's metadata,
-    /// as it was last synced, with the cluster in the claim's slot. `Decided` comes exactly where the blob is gone or has
-    /// another generation than at the claim, or the slot isn't there or is filled: the claim is given back, and the write
-    /// begins again. `Logged` comes where fewer pages are clear than the metadata needs behind its head, where memory ran
-    /// out, and on a stopped store: the write is logged as that, and the claim given back.
+    /// Begins the insert that a message posts, where nothing is left to repair: the job that writes its blob's
+    /// metadata, as it was last synced, with the cluster in the claim's slot. `Decided` comes exactly where the blob is
+    /// gone or has another generation than at the claim, or the slot isn't there or is filled: the claim is given back,
+    /// and the write begins again. `Logged` comes where fewer pages are clear than the metadata needs behind its head,
+    /// where memory ran out, and on a stopped store: the write is logged as that, and the claim given back.
     pub fn begin_insert(&mut self, right: &mut MdRight, msg: Msg) -> InsertTurn
         requires right { right.old ≡ self.old.right }
         requires posted { IsInsertPosted self.old.at.rows msg }

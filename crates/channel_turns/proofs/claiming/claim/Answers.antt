@@ -13,7 +13,8 @@ pub returns-in-Some-clause-filled : goal.returns-in-Some-clause-filled
 returns-in-Some-clause-filled g c said =
     let d = g.D.PageDisk in
     let p = view_of c.args.running.now in
-    let w = seen_write p c.args.channel Claiming c.requires.waits c.first_of.result.now c.in-Write.volume c.in-Write.page
+    let w = seen_write p c.args.channel Claiming c.requires.waits c.first_of.result.now c.in-Write.volume
+    c.in-Write.page
     c.in-Write.word
     (λ k rest left. c.first_of.ensures k rest
     (ap (λ (l : List Row). (rows_of l c.args.channel).left) c.deref.ensures.value ∙ left)) c.in-Write.is in
@@ -28,7 +29,8 @@ pub returns-in-Some-refusal_of_write-clause-logged : goal.returns-in-Some-refusa
 returns-in-Some-refusal_of_write-clause-logged g c said =
     let d = g.D.PageDisk in
     let p = view_of c.args.running.now in
-    let w = seen_write p c.args.channel Claiming c.requires.waits c.first_of.result.now c.in-Write.volume c.in-Write.page
+    let w = seen_write p c.args.channel Claiming c.requires.waits c.first_of.result.now c.in-Write.volume
+    c.in-Write.page
     c.in-Write.word
     (λ k rest left. c.first_of.ensures k rest
     (ap (λ (l : List Row). (rows_of l c.args.channel).left) c.deref.ensures.value ∙ left)) c.in-Write.is in
@@ -44,7 +46,8 @@ pub unreachable-requires-in_default-head : goal.unreachable-requires-in_default-
 unreachable-requires-in_default-head g c =
     let d = g.D.PageDisk in
     let p = view_of c.args.running.now in
-    let w = seen_write p c.args.channel Claiming c.requires.waits c.first_of.result.now c.in-Write.volume c.in-Write.page
+    let w = seen_write p c.args.channel Claiming c.requires.waits c.first_of.result.now c.in-Write.volume
+    c.in-Write.page
     c.in-Write.word
     (λ k rest left. c.first_of.ensures k rest
     (ap (λ (l : List Row). (rows_of l c.args.channel).left) c.deref.ensures.value ∙ left)) c.in-Write.is in
@@ -52,16 +55,19 @@ unreachable-requires-in_default-head g c =
     (IsFirstOnPages p.metas p.super (command.Write c.in-Write.volume c.in-Write.page c.in-Write.word))
     c.in_default-refusal_of_write.is
     (c.refusal_of_write.ensures.first c.in-Write.volume c.in-Write.word c.find-head.ensures.meant) in
-    let asked = refused_so d p c.args.channel Claiming c.requires.running c.requires.runs c.requires.order.resolves w c.find-head.result
+    let asked = refused_so d p c.args.channel Claiming c.requires.running c.requires.runs c.requires.order.resolves w
+    c.find-head.result
     c.find-head.ensures.meant _ first in
-    some_meant d p c.args.channel Claiming c.requires.running c.requires.runs c.requires.order.resolves w c.find-head.result
+    some_meant d p c.args.channel Claiming c.requires.running c.requires.runs c.requires.order.resolves w
+    c.find-head.result
     c.find-head.ensures.meant asked c.in_default-head.is
 
 pub slot_of-slot-requires-clause-low : goal.slot_of-slot-requires-clause-low
 slot_of-slot-requires-clause-low g c =
     let d = g.D.PageDisk in
     let p = view_of c.args.running.now in
-    let w = seen_write p c.args.channel Claiming c.requires.waits c.first_of.result.now c.in-Write.volume c.in-Write.page
+    let w = seen_write p c.args.channel Claiming c.requires.waits c.first_of.result.now c.in-Write.volume
+    c.in-Write.page
     c.in-Write.word
     (λ k rest left. c.first_of.ensures k rest
     (ap (λ (l : List Row). (rows_of l c.args.channel).left) c.deref.ensures.value ∙ left)) c.in-Write.is in
@@ -79,7 +85,8 @@ pub claim_least-requires-clause-claims : goal.claim_least-requires-clause-claims
 claim_least-requires-clause-claims g c =
     let d = g.D.PageDisk in
     let p = view_of c.args.running.now in
-    let w = seen_write p c.args.channel Claiming c.requires.waits c.first_of.result.now c.in-Write.volume c.in-Write.page
+    let w = seen_write p c.args.channel Claiming c.requires.waits c.first_of.result.now c.in-Write.volume
+    c.in-Write.page
     c.in-Write.word
     (λ k rest left. c.first_of.ensures k rest
     (ap (λ (l : List Row). (rows_of l c.args.channel).left) c.deref.ensures.value ∙ left)) c.in-Write.is in

@@ -45,7 +45,8 @@ copy_to-requires-clause-copies g c =
     let to = c.page_in-to.ensures ∙ ap (λ (k : ℕ). c.in-Some.claim.cluster * k + page) pages in
     let fewer : w.left ≡ c.in-Some-to_copy.left - 1 = omega (arith, left) in
     subst (CopiesNow g.D.PageDisk p c.args.channel c.place_read-from.result c.page_in-to.result) fewer
-    (copies_now g.D.PageDisk p c.args.channel c.requires.running c.requires.runs c.requires.order.resolves w current page next
+    (copies_now g.D.PageDisk p c.args.channel c.requires.running c.requires.runs c.requires.order.resolves w current
+    page next
     c.place_read-from.result from c.page_in-to.result to)
 
 pub copy_to-requires-clause-from : goal.copy_to-requires-clause-from
@@ -68,7 +69,8 @@ copy_to-requires-clause-from g c =
     let from = place ∙ from_is p.metas p.super c.in-Some.claim.head c.in-Some.claim.slot page
     c.cluster_pages-pages.result pages c.page_in.result c.page_in.ensures in
     let to = c.page_in-to.ensures ∙ ap (λ (k : ℕ). c.in-Some.claim.cluster * k + page) pages in
-    from_inside g.D.PageDisk p c.args.channel c.requires.running c.requires.runs c.requires.order.resolves w current page next
+    from_inside g.D.PageDisk p c.args.channel c.requires.running c.requires.runs c.requires.order.resolves w current
+    page next
     c.place_read-from.result from (g.D.PageDisk.pages p.disk) c.requires.order.device
 
 pub copy_to-requires-clause-to : goal.copy_to-requires-clause-to
@@ -91,7 +93,8 @@ copy_to-requires-clause-to g c =
     let from = place ∙ from_is p.metas p.super c.in-Some.claim.head c.in-Some.claim.slot page
     c.cluster_pages-pages.result pages c.page_in.result c.page_in.ensures in
     let to = c.page_in-to.ensures ∙ ap (λ (k : ℕ). c.in-Some.claim.cluster * k + page) pages in
-    let low_to = to_inside g.D.PageDisk p c.args.channel c.requires.running c.requires.runs c.requires.order.resolves w current page next
+    let low_to = to_inside g.D.PageDisk p c.args.channel c.requires.running c.requires.runs c.requires.order.resolves w
+    current page next
     c.place_read-from.result from c.page_in-to.result to in
     let device = c.requires.order.device in
     omega (arith, low_to, device)

@@ -22,7 +22,8 @@ returns-in-Some-clause-logged g c said =
     c.in-Write.word
     (λ k rest left. c.first_of.ensures k rest
     (ap (λ (l : List Row). (rows_of l c.args.channel).left) c.deref.ensures.value ∙ left)) c.in-Write.is in
-    refused g.D.PageDisk p c.args.channel c.requires.running c.requires.runs c.requires.order.resolves w c.find-head.result
+    refused g.D.PageDisk p c.args.channel c.requires.running c.requires.runs c.requires.order.resolves w
+    c.find-head.result
     c.find-head.ensures.meant (sym c.is_frozen.ensures ∙ c.if-is_frozen.false) c.in-Some.reply c.in-Some.ensures.caused
     (c.in-Some.ensures.first c.in-Write.volume c.in-Write.word c.find-head.ensures.meant)
     (omega (arith, c.requires.channel, c.requires.order.sixteen)) (view_of c.log_here.new.running)
@@ -36,7 +37,8 @@ returns-in_default-place_in-clause-empty g c said =
     c.in-Write.word
     (λ k rest left. c.first_of.ensures k rest
     (ap (λ (l : List Row). (rows_of l c.args.channel).left) c.deref.ensures.value ∙ left)) c.in-Write.is in
-    found_empty g.D.PageDisk p c.args.channel c.requires.running c.requires.runs c.requires.order.resolves w c.find-head.result
+    found_empty g.D.PageDisk p c.args.channel c.requires.running c.requires.runs c.requires.order.resolves w
+    c.find-head.result
     c.find-head.ensures.meant (sym c.is_frozen.ensures ∙ c.if-is_frozen.false)
     (subst (IsFirstOnPages p.metas p.super (command.Write c.in-Write.volume c.in-Write.page c.in-Write.word))
     c.in_default-refusal_of_write.is
@@ -56,7 +58,8 @@ put_page-requires-clause-writes g c =
     (ap (λ (l : List Row). (rows_of l c.args.channel).left) c.deref.ensures.value ∙ left)) c.in-Write.is in
     subst (λ content. WritesNow g.D.PageDisk p c.args.channel c.in-Some-place_in.place content)
     (sym c.page_of-content.ensures)
-    (writes_now g.D.PageDisk p c.args.channel c.requires.running c.requires.runs c.requires.order.resolves w c.find-head.result
+    (writes_now g.D.PageDisk p c.args.channel c.requires.running c.requires.runs c.requires.order.resolves w
+    c.find-head.result
     c.find-head.ensures.meant (sym c.is_frozen.ensures ∙ c.if-is_frozen.false)
     (subst (IsFirstOnPages p.metas p.super (command.Write c.in-Write.volume c.in-Write.page c.in-Write.word))
     c.in_default-refusal_of_write.is
@@ -70,7 +73,8 @@ put_page-requires-clause-inside g c =
     c.in-Write.word
     (λ k rest left. c.first_of.ensures k rest
     (ap (λ (l : List Row). (rows_of l c.args.channel).left) c.deref.ensures.value ∙ left)) c.in-Write.is in
-    let low = place_low g.D.PageDisk p c.args.channel c.requires.running c.requires.runs c.requires.order.resolves w c.find-head.result
+    let low = place_low g.D.PageDisk p c.args.channel c.requires.running c.requires.runs c.requires.order.resolves w
+    c.find-head.result
     c.find-head.ensures.meant (sym c.is_frozen.ensures ∙ c.if-is_frozen.false)
     (subst (IsFirstOnPages p.metas p.super (command.Write c.in-Write.volume c.in-Write.page c.in-Write.word))
     c.in_default-refusal_of_write.is

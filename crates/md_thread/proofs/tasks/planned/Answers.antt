@@ -9,7 +9,8 @@ plan_put-requires-clause-live g c =
     let d = g.D.PageDisk in
     let p = c.args.plant.now.at in
     let running = is_running d c.args.plant.now c.keeps.ensures in
-    live_given d c.plans.ensures p running c.requires.runs c.resolves.ensures c.requires.unmarked c.metas-metas.result.now c.sup-sup.result.now
+    live_given d c.plans.ensures p running c.requires.runs c.resolves.ensures c.requires.unmarked
+    c.metas-metas.result.now c.sup-sup.result.now
     (option_copied c.live_of-live.result) c.metas-metas.ensures c.sup-sup.ensures c.args.command.now
     c.live_of-live.ensures.0 c.live_of-live.ensures.1
 
@@ -18,7 +19,8 @@ plan_sync-requires-clause-live g c =
     let d = g.D.PageDisk in
     let p = c.args.plant.now.at in
     let running = is_running d c.args.plant.now c.keeps.ensures in
-    live_given d c.plans.ensures p running c.requires.runs c.resolves.ensures c.requires.unmarked c.metas-metas.result.now c.sup-sup.result.now
+    live_given d c.plans.ensures p running c.requires.runs c.resolves.ensures c.requires.unmarked
+    c.metas-metas.result.now c.sup-sup.result.now
     (option_copied c.live_of-live-in-Sync.result) c.metas-metas.ensures c.sup-sup.ensures c.args.command.now
     c.live_of-live-in-Sync.ensures.0 c.live_of-live-in-Sync.ensures.1
 
@@ -27,7 +29,8 @@ plan_readonly-requires-clause-live g c =
     let d = g.D.PageDisk in
     let p = c.args.plant.now.at in
     let running = is_running d c.args.plant.now c.keeps.ensures in
-    live_given d c.plans.ensures p running c.requires.runs c.resolves.ensures c.requires.unmarked c.metas-metas.result.now c.sup-sup.result.now
+    live_given d c.plans.ensures p running c.requires.runs c.resolves.ensures c.requires.unmarked
+    c.metas-metas.result.now c.sup-sup.result.now
     (option_copied c.live_of-live-in-ReadOnly.result) c.metas-metas.ensures c.sup-sup.ensures c.args.command.now
     c.live_of-live-in-ReadOnly.ensures.0 c.live_of-live-in-ReadOnly.ensures.1
 
@@ -36,7 +39,8 @@ returns-in-Put g c =
     let d = g.D.PageDisk in
     let p = c.args.plant.now.at in
     let running = is_running d c.args.plant.now c.keeps.ensures in
-    put_plan d c.plans.ensures p running c.requires.runs c.resolves.ensures c.requires.unmarked c.metas-metas.result.now c.sup-sup.result.now
+    put_plan d c.plans.ensures p running c.requires.runs c.resolves.ensures c.requires.unmarked c.metas-metas.result.now
+    c.sup-sup.result.now
     (option_copied c.live_of-live.result) c.metas-metas.ensures c.sup-sup.ensures c.args.command.now c.in-Put.volume
     c.in-Put.key c.in-Put.value c.in-Put.is c.live_of-live.ensures.0 c.live_of-live.ensures.1 c.plan_put.result
     c.plan_put.ensures.job c.plan_put.ensures.unrefused c.plan_put.ensures.refused
@@ -46,7 +50,8 @@ returns-in-Sync g c =
     let d = g.D.PageDisk in
     let p = c.args.plant.now.at in
     let running = is_running d c.args.plant.now c.keeps.ensures in
-    sync_plan d c.plans.ensures p running c.requires.runs c.resolves.ensures c.requires.unmarked c.metas-metas.result.now c.sup-sup.result.now
+    sync_plan d c.plans.ensures p running c.requires.runs c.resolves.ensures c.requires.unmarked
+    c.metas-metas.result.now c.sup-sup.result.now
     (option_copied c.live_of-live-in-Sync.result) c.metas-metas.ensures c.sup-sup.ensures c.args.command.now
     c.in-Sync.volume c.in-Sync.is c.live_of-live-in-Sync.ensures.0 c.live_of-live-in-Sync.ensures.1 c.plan_sync.result
     c.plan_sync.ensures.job c.plan_sync.ensures.unrefused c.plan_sync.ensures.refused
@@ -56,9 +61,11 @@ returns-in-ReadOnly g c =
     let d = g.D.PageDisk in
     let p = c.args.plant.now.at in
     let running = is_running d c.args.plant.now c.keeps.ensures in
-    read_only_plan d c.plans.ensures p running c.requires.runs c.resolves.ensures c.requires.unmarked c.metas-metas.result.now c.sup-sup.result.now
+    read_only_plan d c.plans.ensures p running c.requires.runs c.resolves.ensures c.requires.unmarked
+    c.metas-metas.result.now c.sup-sup.result.now
     (option_copied c.live_of-live-in-ReadOnly.result) c.metas-metas.ensures c.sup-sup.ensures c.args.command.now
-    c.in-ReadOnly.volume c.in-ReadOnly.is c.live_of-live-in-ReadOnly.ensures.0 c.live_of-live-in-ReadOnly.ensures.1 c.plan_readonly.result
+    c.in-ReadOnly.volume c.in-ReadOnly.is c.live_of-live-in-ReadOnly.ensures.0 c.live_of-live-in-ReadOnly.ensures.1
+    c.plan_readonly.result
     c.plan_readonly.ensures.job c.plan_readonly.ensures.unrefused c.plan_readonly.ensures.refused
 
 pub returns-in-Create : goal.returns-in-Create
@@ -81,7 +88,8 @@ returns-in-Resize g c =
     let running = is_running d c.args.plant.now c.keeps.ensures in
     resize_plan d p c.metas-metas.result.now c.sup-sup.result.now c.metas-metas.ensures c.sup-sup.ensures
     (c.plans.ensures.shows_all p running c.requires.runs c.resolves.ensures) c.least_heads_are_meant.ensures
-    (λ volume slots head old job. c.plans.ensures.resize p volume slots head old job running c.requires.runs c.resolves.ensures
+    (λ volume slots head old job. c.plans.ensures.resize p volume slots head old job running c.requires.runs
+    c.resolves.ensures
     c.requires.unmarked)
     c.args.command.now c.in-Resize.volume c.in-Resize.slots c.in-Resize.is
     c.plan_resize.result c.plan_resize.ensures.job c.plan_resize.ensures.unrefused c.plan_resize.ensures.refused

@@ -44,7 +44,8 @@ asked_volume-requires g c =
 pub effect_of-requires-clause-live : goal.effect_of-requires-clause-live
 effect_of-requires-clause-live g c =
     let old = c.args.running.now in
-    is_live_of (state_of g.D.PageDisk (view_of old)) c.requires.running c.requires.runs old.metas c.requires.order.resolves.resolves
+    is_live_of (state_of g.D.PageDisk (view_of old)) c.requires.running c.requires.runs old.metas
+    c.requires.order.resolves.resolves
     old.live refl
     c.first_of-command.result.now c.find-head.result (option_copied c.live_at-live.result)
     (record {

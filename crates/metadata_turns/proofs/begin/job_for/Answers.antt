@@ -40,7 +40,8 @@ returns-in_err-effects-clause-lack g c =
     (λ command. IsRefusedAtBegin (state_of g.D.PageDisk (view_of c.args.running.now)) command reply) in
     let e = err_from_is_err_and c.from_residual.result c.from_residual.ensures.1 in
     subst (λ (r : Result RunningJob Reply). IfErr r refused) (sym e.1)
-    (subst refused (sym e.2) (no_memory g.D.PageDisk (view_of c.args.running.now) c.args.channel c.requires.posted c.requires.running
+    (subst refused (sym e.2) (no_memory g.D.PageDisk (view_of c.args.running.now) c.args.channel c.requires.posted
+    c.requires.running
     c.requires.unmarked c.requires.runs c.args.head c.args.new c.args.zeros.now c.requires.asks))
 
 pub returns-in_err-effects-2-clause-lack : goal.returns-in_err-effects-2-clause-lack
@@ -50,7 +51,8 @@ returns-in_err-effects-2-clause-lack g c =
     let result = c.from_residual-in_err-effects-2.result in
     let e = err_from_is_err_and result c.from_residual-in_err-effects-2.ensures.1 in
     subst (λ (r : Result RunningJob Reply). IfErr r refused) (sym e.1)
-    (subst refused (sym e.2) (no_memory g.D.PageDisk (view_of c.args.running.now) c.args.channel c.requires.posted c.requires.running
+    (subst refused (sym e.2) (no_memory g.D.PageDisk (view_of c.args.running.now) c.args.channel c.requires.posted
+    c.requires.running
     c.requires.unmarked c.requires.runs c.args.head c.args.new c.args.zeros.now c.requires.asks))
 
 pub lack_beside_clusters-requires-clause-xattrs : goal.lack_beside_clusters-requires-clause-xattrs

@@ -16,7 +16,8 @@ filled-requires-clause-same g c = unmarked_base c.args.running.now.metas c.args.
     c.requires.order.resolves c.requires.unmarked
 
 pub filled-requires-clause-cluster : goal.filled-requires-clause-cluster
-filled-requires-clause-cluster g c = some_cluster (state_of g.D.PageDisk (view_of c.args.running.now)) c.requires.running
+filled-requires-clause-cluster g c = some_cluster (state_of g.D.PageDisk (view_of c.args.running.now))
+    c.requires.running
     c.requires.runs c.args.channel (claim_seen c.claim_of-claim.result)
     (subst (λ (rows : List Row). (rows_of rows c.args.channel).claim ≡ Some (claim_seen c.claim_of-claim.result))
     c.as_slice.ensures.value c.claim_of-claim.ensures)

@@ -33,13 +33,15 @@ prepare-requires-clause-there g c = λ _.
 pub prepare-requires-clause-xattrs : goal.prepare-requires-clause-xattrs
 prepare-requires-clause-xattrs g c =
     let known = steady (state_of g.D.PageDisk (view_of c.args.running.now)) c.requires.running c.requires.runs
-    c.args.channel (claim_seen c.args.claim) c.requires.claimed c.requires.fills.0 c.requires.fills.1 c.requires.unmarked in
+    c.args.channel (claim_seen c.args.claim) c.requires.claimed c.requires.fills.0 c.requires.fills.1
+    c.requires.unmarked in
     all_fit c.args.new.xattrs (subst (λ (m : Meta). CanBeWritten m.xattrs) (sym c.requires.fills.2) known.stored.xattrs)
 
 pub prepare-requires-clause-internal : goal.prepare-requires-clause-internal
 prepare-requires-clause-internal g c =
     let known = steady (state_of g.D.PageDisk (view_of c.args.running.now)) c.requires.running c.requires.runs
-    c.args.channel (claim_seen c.args.claim) c.requires.claimed c.requires.fills.0 c.requires.fills.1 c.requires.unmarked in
+    c.args.channel (claim_seen c.args.claim) c.requires.claimed c.requires.fills.0 c.requires.fills.1
+    c.requires.unmarked in
     all_fit c.args.new.internal
     (subst (λ (m : Meta). CanBeWritten m.internal) (sym c.requires.fills.2) known.stored.internal)
 
@@ -145,7 +147,8 @@ returns-in-Err-clause-case g c =
     c.in-Err.reply
     (subst (λ (b : Bool). IsUnprepared false b (with_slot c.requires.fills.0 claim.slot claim.cluster) p.pages
     c.in-Err.reply) (ap is_some chain.1)
-    (subst (λ (m : Meta). IsUnprepared false there m p.pages c.in-Err.reply) c.requires.fills.2 c.in-Err.ensures.lack)) q
+    (subst (λ (m : Meta). IsUnprepared false there m p.pages c.in-Err.reply) c.requires.fills.2 c.in-Err.ensures.lack))
+    q
     (subst (λ (bits : List Bool). IsGivenUp (record p { pages = bits }) q c.args.channel c.in-Err.reply
     (d.clock q.disk)) c.in-Err.ensures.same c.give_up.ensures.logged)
 

@@ -36,7 +36,8 @@ returns-clause-masks g c =
     record {
       pages = subst (λ (bits : List Bool). UsedPages p.super.md_len bits (map.get p.chains) []) (sym is.pages) used;
       clusters =
-          subst (λ (bits : List Bool). UsedClusters p.super bits (base_of p.metas p.marked) Unclaimed) (sym is.clusters) mapped;
+          subst (λ (bits : List Bool). UsedClusters p.super bits (base_of p.metas p.marked) Unclaimed) (sym is.clusters)
+          mapped;
       count = ap (λ (bits : List Bool). length bits) is.heads ∙ heads.count;
       blobs = subst (λ (bits : List Bool). (head : ℕ) → head < p.super.md_len
           → (is_in bits head ≡ true) ↔ IsSome (base_of p.metas p.marked head)) (sym is.heads) heads.are;
