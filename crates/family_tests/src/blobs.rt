@@ -62,10 +62,24 @@ fn named(alloc: Global, name: &[u8]) -> Result<XattrList, Memory> {
     }
 }
 
+/// Appends a slot, empty or with a cluster other than 0, to a map with fewer than 2^20 slots.
+fn push_slot(map: &mut SlotMap, slot: Option<u32>) -> Result<(), Memory> {
+    if map.len() >= 1 << 20 {
+        return Err(Memory);
+    }
+    let Some(cluster) = slot else {
+        return map.push_run(None, 1);
+    };
+    if cluster == 0 {
+        return Err(Memory);
+    }
+    map.push_run(Some(cluster), 1)
+}
+
 fn meta_of(alloc: Global, blob: &Blob) -> Result<Meta, Memory> {
     let mut map = SlotMap::new(alloc);
     for slot in blob.map {
-        map.push_run(*slot, 1)?;
+        push_slot(&mut map, *slot)?;
     }
     let internal = with_id(alloc, XattrList::new(alloc), b"SNAP", blob.snap)?;
     let internal = with_id(alloc, internal, b"SNAPTMP", blob.tmp)?;
