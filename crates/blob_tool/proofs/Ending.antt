@@ -128,7 +128,12 @@ module _ {S : Type 0} (s : source.Ghosts S) (script script_now : S) {D : Type 0}
       (stays, script, tt, λ tells. (cause tells, refused tells tt))
   of_a_fault (loading.MapsTooLarge slots) stays script counted cause refused =
       (stays, script, tt, λ tells. (cause tells, refused tells tt))
+  of_a_fault (loading.NoParentBlob blob parent) stays script counted cause refused =
+      (stays, script, tt, λ tells. (cause tells, refused tells tt))
+  of_a_fault (loading.WritableParent blob parent) stays script counted cause refused =
+      (stays, script, tt, λ tells. (cause tells, refused tells tt))
+  of_a_fault (loading.ParentLoop blob) stays script counted cause refused =
+      (stays, script, tt, λ tells. (cause tells, refused tells tt))
   of_a_fault (loading.Shared cluster a b) stays script counted cause refused =
       (stays, script, tt, λ tells. (cause tells, refused tells tt))
-  of_a_fault (loading.NotYet head) stays script counted cause refused =
-      (stays, script, tt, λ tells. (cause tells, refused tells tt))
+  of_a_fault (loading.NotYet head) stays script counted cause refused = absurd counted

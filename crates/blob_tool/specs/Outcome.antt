@@ -10,8 +10,9 @@ use Rattle.script_lang.specs.declared.fault.LineKind.{LineKind}
 use Rattle.script_lang.specs.declared.schedule.Actor.{Actor}
 use Rattle.running_store.specs.declared.loaded.Loaded.{Loaded}
 use Rattle.running_store.specs.StoreView.{StoreView}
-use Rattle.unclean_load.specs.Accepted.{IsAccepted, IsFaultOf, IsImageFault}
+use Rattle.unclean_load.specs.Accepted.{HasFirstMark, IsAccepted, IsFaultOf, IsImageFault}
 use Rattle.unclean_load.specs.declared.fault.LoadFault.{LoadFault}
+use Rattle.unclean_load.specs.declared.fault.LoadFault.TheVariants as fault
 use Rattle.streams.specs.declared.source.Source as source
 use Rattle.streams.specs.declared.sink.Sink as sink
 use Rattle.blob_tool.specs.declared.status.Status.{Status}
@@ -87,11 +88,14 @@ module _ {S : Type 0} (s : source.Ghosts S) (script script_now : S) where
     abbrev pub IsUnread : Type 0
     IsUnread = NothingDone out out_now before back × Rose (s.faults script) (s.faults script_now)
 
-    -- the image has this fault, and isn't accepted
+    -- The image has this fault, and isn't accepted; or it is accepted, and this is the first blob with a mark, which is
+    -- not repaired so far.
     abbrev pub IsBadImage : LoadFault → Type 0
-    IsBadImage fault =
-        NothingWritten × HasScript × IsImageFault fault
-        × (IsTrue d.tells → IsFaultOf (d.pages before) (d.now before) fault
+    IsBadImage (fault.NotYet page) =
+        NothingWritten × HasScript × (IsTrue d.tells → HasFirstMark (d.pages before) (d.now before) page)
+    IsBadImage why =
+        NothingWritten × HasScript × IsImageFault why
+        × (IsTrue d.tells → IsFaultOf (d.pages before) (d.now before) why
         × (IsAccepted (d.pages before) (d.now before) → ⊥))
 
     -- a read of the device failed while the store was loaded
@@ -109,7 +113,8 @@ module _ {S : Type 0} (s : source.Ghosts S) (script script_now : S) where
     Outcome schedule (status.Device at) = RanTo schedule (status.Device at) ⊎ IsUnloaded at
     Outcome schedule status.Memory = RanTo schedule status.Memory ⊎ NothingWritten
 
-    -- the source has a script and nothing else, the image is accepted, and no count of faults rose in the call
+    -- the source has a script and nothing else, the image is accepted and no blob of it has a mark, and no count of
+    -- faults rose in the call
     pub record NothingFails : Type 0 where
       pub source_tells : IsTrue s.tells
       pub commands : List (List Command)
@@ -117,6 +122,7 @@ module _ {S : Type 0} (s : source.Ghosts S) (script script_now : S) where
       pub small : length (s.left script) ≤ 2 ^ 20
       pub device_tells : IsTrue d.tells
       pub accepted : IsAccepted (d.pages before) (d.now before)
+      pub unmarked : (page : ℕ) → HasFirstMark (d.pages before) (d.now before) page → ⊥
       pub source : Rose (s.faults script) (s.faults script_now) → ⊥
       pub sink : Rose (k.faults out) (k.faults out_now) → ⊥
       pub reading : Rose (d.read_faults before) (d.read_faults back) → ⊥
