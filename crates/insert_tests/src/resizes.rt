@@ -1,7 +1,9 @@
 //! The begin of a resize by the metadata thread.
 
 ghost use Rattle.std.specs.Prelude.{◌≡◌, IfSome, None, Some};
+ghost use Rattle.blob_meta.specs.Repairs.{HasNoMarks};
 ghost use Rattle.md_thread.specs.Tasks.{IsPlanOf};
+ghost use Rattle.running_store.specs.StoreView.{base_of};
 
 use blob_meta::{Job, least_heads_are_meant};
 use lvol_store::plan_resize;
@@ -17,6 +19,7 @@ fn planned<D: PageDisk>(
     command: &Command,
 ) -> Option<Result<Job, Reply>>
     requires runs { plant.now.at.stopped ≡ None }
+    requires unmarked { HasNoMarks (base_of plant.now.at.metas plant.now.at.marked) }
     ensures { IfSome result (λ plan. IsPlanOf D.PageDisk plant.now.at command.now (Some plan)) }
 {
     plans::<D>();
@@ -40,6 +43,7 @@ pub fn begin_resize<D: PageDisk>(
     requires right { right.old ≡ plant.old.right }
     requires no_job { plant.old.at.job ≡ None }
     requires runs { plant.old.at.stopped ≡ None }
+    requires unmarked { HasNoMarks (base_of plant.old.at.metas plant.old.at.marked) }
     ensures right { (right.new ≡ right.old) × (plant.new.right ≡ plant.old.right) }
 {
     let Ok(Request::Meta(command)) = plant.request(right, msg) else {

@@ -147,7 +147,7 @@ impl Session {
 
     /// The metadata thread begins what a channel has posted.
     pub fn begin(&mut self, alloc: Global, channel: u8) -> &'static str {
-        if self.plant.job_runs() || self.plant.stopped().is_some() {
+        if self.plant.job_runs() || self.plant.stopped().is_some() || !self.plant.is_unmarked() {
             return "not now";
         }
         let RowStage::Posted(msg) = self.plant.stage(channel) else {

@@ -1,7 +1,7 @@
 -- What the device says beside what the store has in memory, of which some blobs may have a mark.
 use Rattle.std.proofs.Common.{◌≡◌, ◌≢◌, ℕ, ◌==◌, Bool, true, false, if◌then◌else◌, Option, Some, None, refl, sym, ap}
 use Rattle.std.proofs.Common.{◌∙◌, ◌↔◌, inl, inr, arith, subst, List, IfNone, IfSome, IsSome, IsTrue}
-use Rattle.std.specs.Prelude.{codes}
+use Rattle.std.specs.Prelude.{codes, is_some, not}
 use Rattle.std.specs.Option.{option_map_or, option_or}
 use Rattle.std.specs.Ordering.{nat_cmp}
 use Rattle.std.specs.FinMap as map
@@ -56,12 +56,13 @@ module _ (metas marked : MetaMap) where
       (value_of m.internal (codes "SNAPTMP"))) neither.0 ∙ neither.1
 
   pub is_unmarked : AreResolved metas marked → (next : Option ℕ) → IfSome next (λ n. IsNextFrom marked 0 n)
-      → IfNone next (HasNoKeyFrom marked 0) → (b : Bool) → (IsTrue b ↔ (next ≡ None))
+      → IfNone next (HasNoKeyFrom marked 0) → (b : Bool) → is_some next ≡ not b
       → IsTrue b ↔ HasNoMarks (base_of metas marked)
-  is_unmarked are None some none b is =
-      (λ _. unmarked_where are (λ head. none head (omega arith)), λ _. is.1 refl)
-  is_unmarked are (Some n) some none b is = (
-    λ holds. absurd (let bad = is.0 holds in cc bad),
+  is_unmarked are None some none true is = (λ _. unmarked_where are (λ head. none head (omega arith)), λ _. refl)
+  is_unmarked are None some none false is = absurd (cc is)
+  is_unmarked are (Some n) some none true is = absurd (cc is)
+  is_unmarked are (Some n) some none false is = (
+    λ holds. absurd (cc holds),
     λ clean. absurd (let bad = subst (λ (o : Option Meta). IsSome o) (none_marked are clean n) some.there in cc bad),
   )
 
