@@ -15,21 +15,12 @@ use Rattle.blob_meta.specs.Resolving.{mark_of, resolved}
 use Rattle.blob_meta.proofs.ResolvedBlobs.{no_marks}
 use Rattle.store_model.specs.Maps.{Metas, with_entry, without_entry}
 use Rattle.store_model.proofs.WithEntry.{given_elsewhere, given_here}
-use Rattle.store_model.specs.Repairing as repaired
-use Rattle.store_model.specs.Repairing.{IsRepaired}
-use Rattle.store_model.specs.StoreState.{StoreState}
 use Rattle.store_model.proofs.Resolved.{unmarked_resolved}
 use Rattle.running_store.specs.StoreView.{base_of, AreResolved}
 use Rattle.running_store.proofs.Maps.{insert_given, remove_given}
 
 abbrev MetaMap : Type 0
 MetaMap = map.FinMap nat_cmp Meta
-
--- a repaired store that runs no job has no mark left
-pub unmarked_now : (p : StoreState) → IsRepaired p → p.stopped ≡ None → p.job ≡ None → HasNoMarks p.base
-unmarked_now p (repaired.unmarked none) runs no_job = none
-unmarked_now p (repaired.at_work job is other) runs no_job = absurd (let bad = sym is ∙ no_job in cc bad)
-unmarked_now p (repaired.halted at is) runs no_job = absurd (let bad = sym is ∙ runs in cc bad)
 
 -- where no blob is kept aside, the device says what the store has
 pub none_aside : (metas marked : MetaMap) → marked ≡ map.empty → base_of metas marked ≡ map.get metas

@@ -6,7 +6,7 @@ use Rattle.blob_meta.specs.declared.meta.Meta.{Meta}
 use Rattle.metadata_turns.specs.Begins.{job_with_zeros, AsksToWrite}
 use Rattle.std.specs.Option.{option_map}
 use Rattle.running_store.specs.Jobs.{job_seen}
-use Rattle.running_store.proofs.Resolved.{unmarked_now}
+use Rattle.store_model.proofs.Repairing.{repaired_unmarked}
 use Rattle.running_store.specs.Running.{view_of}
 use Rattle.running_store.specs.StoreView.{state_of}
 use Rattle.metadata_turns.proofs.begin.begin_or_halt.Goals as goal
@@ -30,7 +30,7 @@ none_of (Some at) e = absurd (cc e)
 
 pub begin-requires-clause-unmarked : goal.begin-requires-clause-unmarked
 begin-requires-clause-unmarked g c =
-    unmarked_now (state_of g.D.PageDisk (view_of c.args.running.now)) c.requires.repaired
+    repaired_unmarked (state_of g.D.PageDisk (view_of c.args.running.now)) c.requires.repaired
     (none_of c.args.running.now.stopped c.if-is_some.ensures) (ap (λ o. option_map job_seen o) c.requires.no_job)
 
 pub begin-requires-clause-asks : goal.begin-requires-clause-asks
