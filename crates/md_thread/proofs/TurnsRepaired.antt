@@ -5,7 +5,7 @@ use Rattle.page_disk.specs.declared.disk.PageDisk.{Ghosts}
 use Rattle.store_model.specs.Cases as kind
 use Rattle.store_model.specs.Cases.{Kind, Turn}
 use Rattle.store_model.specs.Repairing.{IsRepaired}
-use Rattle.store_model.specs.Rows.{Answered, Claiming, Copying, Decided, Ended, Idle, InJob, Posted, Ready, Stage}
+use Rattle.store_model.specs.Rows.{Claiming, Copying, Decided, Ended, Idle, InJob, Posted, Ready, Stage}
 use Rattle.store_model.specs.StateLaws.{StateLaws}
 use Rattle.store_model.specs.StoreState.{StoreState}
 use Rattle.running_store.specs.StoreInvariant.{StoreInvariant}
