@@ -3,6 +3,7 @@ use Rattle.std.specs.Prelude.{◌≡◌, ◌⊎◌, ℕ, ◌<◌, ◌≤◌, ◌
 use Rattle.page_disk.specs.Disk.{Rose}
 use Rattle.page_disk.specs.declared.disk.PageDisk as disk
 use Rattle.volume_model.specs.declared.command.Command.{Command}
+use Rattle.blob_meta.specs.Repairs.{HasNoMarks}
 use Rattle.md_chain.specs.Reading.{OnlyRead}
 use Rattle.script_lang.specs.Script.{reads, IsFirstBad}
 use Rattle.script_lang.specs.declared.grammar.Grammar.TheVariants.{Served}
@@ -122,7 +123,7 @@ module _ {S : Type 0} (s : source.Ghosts S) (script script_now : S) where
       pub small : length (s.left script) ≤ 2 ^ 20
       pub device_tells : IsTrue d.tells
       pub accepted : IsAccepted (d.pages before) (d.now before)
-      pub unmarked : (page : ℕ) → HasFirstMark (d.pages before) (d.now before) page → ⊥
+      pub unmarked : HasNoMarks accepted.metas
       pub source : Rose (s.faults script) (s.faults script_now) → ⊥
       pub sink : Rose (k.faults out) (k.faults out_now) → ⊥
       pub reading : Rose (d.read_faults before) (d.read_faults back) → ⊥

@@ -51,6 +51,10 @@ impl Session {
             Ok(loaded) => loaded,
             Err((_, fault)) => return Err(Fail::new(fault)),
         };
+        if loaded.marked.next_from(0).is_some() {
+            let_go(loaded);
+            return Err(Fail::new("marks are left"));
+        }
         match Plant::start(alloc, loaded, script) {
             Ok((plant, right)) => Ok(Session { plant, right }),
             Err(loaded) => {
