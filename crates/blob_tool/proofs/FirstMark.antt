@@ -1,5 +1,5 @@
 -- An accepted image says its metadata in one way.
-use Rattle.std.proofs.Common.{◌≡◌, ℕ, sym, ◌∙◌, ap, subst, ⊥}
+use Rattle.std.proofs.Common.{◌≡◌, ℕ, sym, ◌∙◌, subst}
 use Rattle.page_disk.specs.Disk.{Image}
 use Rattle.super_block.specs.declared.page.Super.{Super}
 use Rattle.blob_meta.specs.Repairs.{HasNoMarks}
