@@ -90,7 +90,8 @@ where_same p m n le none =
 pub where_none : (p : ℕ → Bool) (n : ℕ) → ((k : ℕ) → p k ≡ false) → heads_where n p ≡ []
 where_none p n none = where_same p 0 n (omega arith) (λ k low lt. none k)
 
-module _ (metas : map.FinMap nat_cmp Meta) (p : ℕ → Bool) (absent : (h : ℕ) → map.get metas h ≡ None → p h ≡ false) where
+module _ (metas : map.FinMap nat_cmp Meta) (p : ℕ → Bool)
+    (absent : (h : ℕ) → map.get metas h ≡ None → p h ≡ false) where
   -- up to the next head and it
   pub where_through : (from head : ℕ) → IsNextFrom metas from head
       → heads_where (head + 1) p ≡ heads_where from p ++ (if p head then head ∷ [] else [])

@@ -9,7 +9,8 @@ use Rattle.std.proofs.lemmas.List.Folds.{list_any-append}
 use Rattle.blob_meta.specs.declared.meta.Meta.{Meta}
 use Rattle.blob_meta.specs.declared.job.Replacement.{Replacement}
 use Rattle.blob_meta.specs.Resolving.{mark_of, resolved}
-use Rattle.blob_meta.specs.Repairs.{after, keeps, has_kept_mark, is_removed, HasNoMarks, heads_where, repair_at, repairs}
+use Rattle.blob_meta.specs.Repairs.{after, keeps, has_kept_mark, is_removed, HasNoMarks, heads_where}
+use Rattle.blob_meta.specs.Repairs.{repair_at, repairs}
 use Rattle.blob_meta.specs.Repairs.{HasHeadsBelow, with_replacement}
 use Rattle.blob_meta.proofs.Fates.{IsMarked, Fate, fate}
 use Rattle.blob_meta.proofs.HeadsListed.{among, among_passing, among_failing, first_before, where_none}
@@ -68,7 +69,8 @@ module _ (md_len : ℕ) (metas : ℕ → Option Meta) where
       ap (λ (l : List Replacement). after metas l h) (take-map (repair_at metas) count (kept ++ erased))
       ∙ after_each (resolved metas) (done count) metas h
 
-  now_done : (count h : ℕ) (b : Bool) → among h (done count) ≡ b → now count h ≡ (if b then resolved metas h else metas h)
+  now_done : (count h : ℕ) (b : Bool) → among h (done count) ≡ b
+      → now count h ≡ (if b then resolved metas h else metas h)
   now_done count h b is = now_at count h ∙ ap (λ (t : Bool). if t then resolved metas h else metas h) is
 
   kept_test : (h : ℕ) (b : Bool) → IsMarked metas h b → has_kept_mark metas h ≡ b
@@ -101,7 +103,8 @@ module _ (md_len : ℕ) (metas : ℕ → Option Meta) where
     }
 
     -- whatever number of the repairs are made, resolving gives the same
-    pub repaired_resolves : (count h : ℕ) → resolved (after metas (take count (repairs md_len metas))) h ≡ resolved metas h
+    pub repaired_resolves : (count h : ℕ)
+        → resolved (after metas (take count (repairs md_len metas))) h ≡ resolved metas h
     repaired_resolves count h = midway_same metas (now count) (midway count) h
 
     -- all of them give what is resolved, also where blobs that are marked have been replaced or erased before

@@ -40,7 +40,8 @@ lifted_of metas h = option_map without_marks (metas h)
 
 -- the tests by what is kept
 tests : (metas : ℕ → Option Meta) (h : ℕ) (k : Option Bool) → keeps metas h ≡ k
-    → (has_kept_mark metas h ≡ option_map_or (λ (b : Bool). b) k false) × (is_removed metas h ≡ option_map_or not k false)
+    → (has_kept_mark metas h ≡ option_map_or (λ (b : Bool). b) k false)
+    × (is_removed metas h ≡ option_map_or not k false)
 tests metas h k is = (ap (λ o. option_map_or (λ (b : Bool). b) o false) is, ap (λ o. option_map_or not o false) is)
 
 module _ (metas : ℕ → Option Meta) (h : ℕ) where

@@ -25,16 +25,18 @@ asked_volume (c.DelX volume key) = Some volume
 asked_volume (c.GetX volume key) = Some volume
 asked_volume (c.Put volume key value) = Some volume
 asked_volume (c.Sync volume) = Some volume
+asked_volume (c.ReadOnly volume) = Some volume
 asked_volume (c.Resize volume slots) = Some volume
 asked_volume _ = None
 
--- a command on attributes
+-- a command on attributes, also one that brings them to the disk for good
 abbrev pub IsOnAttributes : Command → Type 0
 IsOnAttributes (c.SetX volume key value) = Unit {0}
 IsOnAttributes (c.DelX volume key) = Unit {0}
 IsOnAttributes (c.GetX volume key) = Unit {0}
 IsOnAttributes (c.Put volume key value) = Unit {0}
 IsOnAttributes (c.Sync volume) = Unit {0}
+IsOnAttributes (c.ReadOnly volume) = Unit {0}
 IsOnAttributes _ = ⊥
 
 -- the causes for which a command on attributes may be refused

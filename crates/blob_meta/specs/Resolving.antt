@@ -1,13 +1,13 @@
 -- What recovery makes of metadata in which a snapshot may be half made or half removed, and which metadata a store can
 -- be loaded from. Metadata is given by heads.
-use Rattle.std.specs.Prelude.{◌≡◌, ℕ, ◌+◌, ◌*◌, ◌/◌, ◌^◌, ◌<◌, ◌≤◌, Bool, true, false, if◌then◌else◌, List, length}
+use Rattle.std.specs.Prelude.{◌≡◌, ℕ, ◌^◌, ◌<◌, ◌≤◌, Bool, true, false, if◌then◌else◌, List, length}
 use Rattle.std.specs.Prelude.{Option, Some, None, codes}
 use Rattle.std.specs.List.{range_with_len, sum_by}
 use Rattle.std.specs.Option.{option_map_or, option_and_then}
 use Rattle.volume_model.specs.Volumes.{is_given_head}
 use Rattle.volume_model.specs.Xattrs.{value_of, without}
 use Rattle.blob_meta.specs.declared.meta.Meta.{Meta}
-use Rattle.blob_meta.specs.Parents.{named_in, parent_of, slot, is_read_only}
+use Rattle.blob_meta.specs.Parents.{named_in, parent_of, slot, is_read_only, read_only}
 
 -- the mark of a snapshot that is being made or removed: SNAPRM, else SNAPTMP
 abbrev pub mark_of : Meta → Option (List ℕ)
@@ -18,7 +18,7 @@ mark_of m = option_map_or (λ bytes. Some bytes) (value_of m.internal (codes "SN
 abbrev pub without_marks : Meta → Meta
 without_marks m = record m {
   internal = without (without m.internal (codes "SNAPRM")) (codes "SNAPTMP");
-  flags = record m.flags { data_ro = m.flags.data_ro / 2 * 2 + 1 };
+  flags = read_only m.flags;
 }
 
 -- A marked blob is kept exactly where the blob that its mark names is there, and has it for its parent.

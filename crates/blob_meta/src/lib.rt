@@ -29,7 +29,7 @@ pub use job::{Job, Replacement, ReplacementList};
 pub use laws::{least_heads_are_meant, metadata_is_shown};
 pub use looking_up::{find, is_taken};
 pub use making::{new_meta, resized_meta};
-pub use marks::mark_of;
+pub use marks::{mark_of, without_marks};
 pub use meta::{Flags, Meta};
 pub use out_of_memory::Memory;
 pub use page_places::{own_place, place_read};

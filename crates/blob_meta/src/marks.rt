@@ -10,7 +10,7 @@ ghost use Rattle.blob_meta.specs.Resolving.{is_kept as is_kept_said, mark_of as 
 ghost use Rattle.blob_meta.specs.SlotCounts.{HeadsFit};
 
 use crate::head_map::Metas;
-use crate::meta::{Flags, Meta};
+use crate::meta::Meta;
 use crate::parent::{named_in, parent_of};
 use out_of_memory::Memory;
 use std::alloc::Global;
@@ -65,17 +65,13 @@ pub(crate) fn keeps(metas: &Metas, head: u32) -> Option<bool>
     }
 }
 
-/// A copy without both marks, and read-only.
-pub(crate) fn without_marks(alloc: Global, meta: &Meta) -> Result<Meta, Memory>
+/// A copy of metadata without the marks of a snapshot that is being made or removed, and read-only.
+pub fn without_marks(alloc: Global, meta: &Meta) -> Result<Meta, Memory>
     ensures { IfOk result (λ m. m ≡ lifted meta.now) }
 {
     Ok(Meta {
         id: meta.id,
-        flags: Flags {
-            invalid: meta.flags.invalid,
-            data_ro: meta.flags.data_ro / 2 * 2 + 1,
-            md_ro: meta.flags.md_ro,
-        },
+        flags: meta.flags.read_only(),
         xattrs: meta.xattrs.try_copy(alloc)?,
         internal: meta
             .internal

@@ -34,6 +34,17 @@ impl Flags {
         self.data_ro >= 1 || self.md_ro >= 4
     }
 
+    /// The same, but read-only.
+    pub fn read_only(self) -> Flags
+        ensures { result ≡ p.read_only self }
+    {
+        Flags {
+            invalid: self.invalid,
+            data_ro: self.data_ro / 2 * 2 + 1,
+            md_ro: self.md_ro,
+        }
+    }
+
     /// Whether the blob can't be deleted either.
     pub fn is_locked(self) -> bool
         ensures { result ≡ p.is_locked self }

@@ -27,6 +27,7 @@ pub fn asked_volume(command: &Command) -> &VolumeRef
         | Command::GetX { volume, .. }
         | Command::Put { volume, .. }
         | Command::Sync { volume }
+        | Command::ReadOnly { volume }
         | Command::Resize { volume, .. } => volume,
         _ => unreachable!(),
     }
@@ -135,7 +136,7 @@ fn refusal_at(reserved: bool, read_only: bool, live: &XattrList, command: &Comma
             refusal_of_removal(reserved, read_only, live, key)
         }
         Command::GetX { key, .. } => refusal_of_look(live, key),
-        Command::Sync { .. } => refusal_of_sync(reserved, read_only),
+        Command::Sync { .. } | Command::ReadOnly { .. } => refusal_of_sync(reserved, read_only),
         _ => unreachable!(),
     }
 }

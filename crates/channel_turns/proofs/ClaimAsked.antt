@@ -34,7 +34,7 @@ use Rattle.running_store.specs.StoreInvariant.{IsRunning}
 use Rattle.running_store.specs.StoreView.{AreResolved, rows_of, state_of, StoreView}
 use Rattle.running_store.specs.Steps.{logged_on, OnlyRow, with_row_at}
 use Rattle.running_store.proofs.Entered.{disk_same_then, entered_then}
-use Rattle.running_store.proofs.Resolved.{there_before}
+use Rattle.store_model.proofs.Resolved.{resolved_of}
 use Rattle.running_store.proofs.Rowing.{only_row, rows_set, state_with_row}
 use Rattle.channel_turns.proofs.WriteMeant.{free, has_empty, has_place, HasEmpty, HasPlace, means_at, page_cause, place_by}
 use Rattle.channel_turns.proofs.WriteMeant.{refused_so, slot_low, unfilled}
@@ -122,8 +122,8 @@ module _ {D : Type 0} (d : Ghosts D) (p : StoreView D) (channel : ℕ) (running 
       pub claims_now : (slot : ℕ) → slot ≡ w.page / k → ClaimsNow d p channel h slot
       claims_now slot slot_is =
           let each = (running.facts.well runs).generations.each h in
-          let before = there_before s.base h x.meta (ap (λ (b : Metas). b h) are.resolves ∙ x.there) in
-          let number = generation (map.get p.guards.generations h) refl (each ∙ ap is_some before.1) in
+          let before = resolved_of s.base h x.meta (ap (λ (b : Metas). b h) are.resolves ∙ x.there) in
+          let number = generation (map.get p.guards.generations h) refl (each ∙ ap is_some before.there) in
           record {
             waits = w;
             runs = runs;

@@ -40,7 +40,7 @@ use Rattle.store_model.specs.Regions.{region_of}
 use Rattle.store_model.proofs.Used.{within}
 use Rattle.running_store.specs.StoreInvariant.{IsRunning}
 use Rattle.running_store.proofs.PlainFacts.{got}
-use Rattle.running_store.proofs.Resolved.{mapped_before, there_before}
+use Rattle.store_model.proofs.Resolved.{resolved_mapped, resolved_stored}
 use Rattle.running_store.proofs.Showing.{shows_metas}
 
 -- where the cause of a read doesn't hold, the page is there
@@ -183,7 +183,7 @@ module _ (p : StoreState) (running : IsRunning p) (runs : p.stopped ≡ None) (m
   pub few_slots : (h : ℕ) (m : Meta) → map.get metas h ≡ Some m → length m.map ≤ 2 ^ 20
   few_slots h m there =
       let region = region_of running.store in
-      let fine = resolved_faultless running.store p.base running.facts.steady h m
+      let fine = resolved_faultless running.store p.base running.facts.stored h m
       (ap (λ (b : Metas). b h) resolves ∙ there) in
       let in_map : map_fault region.fixed region.clusters m.map ≡ None =
       none_second (unknown_flag m.flags) (map_fault region.fixed region.clusters m.map)
@@ -203,7 +203,13 @@ module _ (p : StoreState) (running : IsRunning p) (runs : p.stopped ≡ None) (m
       → cluster * k + page % k < p.super.device_pages
   page_low h m i cluster page there is =
       let used = (running.facts.well runs).clusters in
-      let mapped = mapped_before p.base h m i cluster (ap (λ (b : Metas). b h) resolves ∙ there) is in
+      let mapped = resolved_mapped p.base cluster (record {
+        head = h;
+        meta = m;
+        there = ap (λ (b : Metas). b h) resolves ∙ there;
+        place = i;
+        in_slot = is;
+      }) in
       let low = within p.clusters cluster (used.mapped cluster mapped) in
       let count = used.count in
       let le : (cluster + 1) * k ≤ clusters_of p.super * k = mul-le-mul_right k (omega (arith, low, count)) in
@@ -243,9 +249,9 @@ module _ (p : StoreState) (running : IsRunning p) (runs : p.stopped ≡ None) (m
       by : (o : Option Meta) → map.get metas h ≡ o → map.get metas h ≡ None
       by None is = is
       by (Some m) is =
-          let before = there_before p.base h m (ap (λ (b : Metas). b h) resolves ∙ is) in
+          let there : resolved p.base h ≡ Some m = ap (λ (b : Metas). b h) resolves ∙ is in
           let few = running.placed.few_md_pages in
-          let low = (running.facts.steady h before.0 before.1).stored.low in
+          let low = (resolved_stored running.store p.base running.facts.stored h m there).low in
           absurd (omega (arith, few, low, high))
 
   -- so many steps through parents

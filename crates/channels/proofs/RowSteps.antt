@@ -216,6 +216,11 @@ module _ (tells : Bool) (p q : StoreState) where
       (was x.channel x.command x.rest InJob None (Decided Answered) x.row tt (told Answered))
   row_steps kind.breaks_off t = no_row p q _ t.next refl
   row_steps kind.breaks_down t = broken_down t
+  row_steps kind.begins_repair t = no_row p q _ t.next refl
+  row_steps kind.replaces_more t = no_row p q _ t.next refl
+  row_steps kind.more_fails t = let x = t.served in one_row p q _ t.next x.channel _ refl
+      (was x.channel x.command x.rest InJob None (Decided Answered) x.row tt (told Answered))
+  row_steps kind.more_breaks_off t = no_row p q _ t.next refl
   row_steps kind.flushes t = one_row p q _ t.next t.channel _ refl (was t.channel _ t.rest Idle None Idle t.row tt idle)
   row_steps kind.flush_fails t =
       one_row p q _ t.next t.channel _ refl (was t.channel _ t.rest Idle None Idle t.row tt idle)

@@ -14,6 +14,7 @@ use Rattle.blob_meta.specs.declared.job.Job.{Job}
 use Rattle.blob_meta.specs.Find.{is_meant, IsLeast}
 use Rattle.blob_meta.specs.Jobs.{job_of_one}
 use Rattle.blob_meta.specs.Asked.{IsAttributeCause, IsFirstCause}
+use Rattle.blob_meta.specs.Parents.{read_only}
 
 -- it sets an attribute, and syncs
 abbrev pub IsPut : Command → Type 0
@@ -25,14 +26,28 @@ abbrev pub IsSync : Command → Type 0
 IsSync (c.Sync volume) = Unit {0}
 IsSync _ = ⊥
 
+-- it brings the attributes to the disk, and makes the volume read-only
+abbrev pub IsForGood : Command → Type 0
+IsForGood (c.ReadOnly volume) = Unit {0}
+IsForGood _ = ⊥
+
 module _ (metas : map.FinMap nat_cmp Meta) (sup : Super) where
-  -- The volume that is meant has these attributes, and all else that its metadata says stays.
-  pub record GivesXattrs (volume : VolumeRef) (xattrs : Xattrs) (job : Job) : Type 0 where
+  -- The metadata of the volume that is meant is replaced by what is made of it.
+  pub record Remakes (volume : VolumeRef) (made : Meta → Meta) (job : Job) : Type 0 where
     pub head : ℕ
     pub old : Meta
     pub meant : IsLeast (is_meant sup.super_blob metas volume) head
     pub there : map.get metas head ≡ Some old
-    pub job_is : job ≡ job_of_one head (record old { xattrs = xattrs })
+    pub job_is : job ≡ job_of_one head (made old)
+
+  -- it has these attributes, and all else that it says stays
+  abbrev pub GivesXattrs : VolumeRef → Xattrs → Job → Type 0
+  GivesXattrs volume xattrs job = Remakes volume (λ old. record old { xattrs = xattrs }) job
+
+  -- it has these attributes, and is read-only
+  abbrev pub GivesForGood : VolumeRef → Xattrs → Job → Type 0
+  GivesForGood volume xattrs job =
+      Remakes volume (λ old. record old { xattrs = xattrs; flags = read_only old.flags }) job
 
   -- the live attributes with one of them set
   abbrev pub PlansPut : Option Xattrs → Command → Job → Type 0
@@ -43,6 +58,11 @@ module _ (metas : map.FinMap nat_cmp Meta) (sup : Super) where
   abbrev pub PlansSync : Option Xattrs → Command → Job → Type 0
   PlansSync (Some live) (c.Sync volume) job = GivesXattrs volume live job
   PlansSync _ _ job = ⊥
+
+  -- the live attributes, for good
+  abbrev pub PlansReadOnly : Option Xattrs → Command → Job → Type 0
+  PlansReadOnly (Some live) (c.ReadOnly volume) job = GivesForGood volume live job
+  PlansReadOnly _ _ job = ⊥
 
   -- want of memory, or the first cause
   abbrev pub RefusesPlan : Option Xattrs → Command → Reply → Type 0

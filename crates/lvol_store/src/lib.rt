@@ -8,7 +8,7 @@ mod resizing;
 mod slots;
 mod words;
 
-pub use attributes::{plan_put, plan_sync};
+pub use attributes::{plan_put, plan_readonly, plan_sync};
 pub use creating::{plan_create, store_uuid};
 pub use resizing::plan_resize;
 pub use volume_model::uuid_for;

@@ -41,13 +41,15 @@ pub answerable : (command : Command) → IsServedByMetadata command
     → ((name : Text) (slots : ℕ) (thick : Bool) (uuid : Option (List ℕ)) → command ≡ c.Create name slots thick uuid → ⊥)
     → ((volume : VolumeRef) (key value : Text) → command ≡ c.Put volume key value → ⊥)
     → ((volume : VolumeRef) → command ≡ c.Sync volume → ⊥)
+    → ((volume : VolumeRef) → command ≡ c.ReadOnly volume → ⊥)
     → ((volume : VolumeRef) (slots : ℕ) → command ≡ c.Resize volume slots → ⊥) → IsAnswerable command
-answerable (c.SetX volume key value) is create put sync resize = inl (tt, tt)
-answerable (c.DelX volume key) is create put sync resize = inl (tt, tt)
-answerable (c.GetX volume key) is create put sync resize = inl (tt, tt)
-answerable c.Df is create put sync resize = inr refl
-answerable (c.Create name slots thick uuid) is create put sync resize = absurd (create name slots thick uuid refl)
-answerable (c.Put volume key value) is create put sync resize = absurd (put volume key value refl)
-answerable (c.Sync volume) is create put sync resize = absurd (sync volume refl)
-answerable (c.Resize volume slots) is create put sync resize = absurd (resize volume slots refl)
-answerable _ is create put sync resize = absurd is
+answerable (c.SetX volume key value) is create put sync read_only resize = inl (tt, tt)
+answerable (c.DelX volume key) is create put sync read_only resize = inl (tt, tt)
+answerable (c.GetX volume key) is create put sync read_only resize = inl (tt, tt)
+answerable c.Df is create put sync read_only resize = inr refl
+answerable (c.Create name slots thick uuid) is create put sync read_only resize = absurd (create name slots thick uuid refl)
+answerable (c.Put volume key value) is create put sync read_only resize = absurd (put volume key value refl)
+answerable (c.Sync volume) is create put sync read_only resize = absurd (sync volume refl)
+answerable (c.ReadOnly volume) is create put sync read_only resize = absurd (read_only volume refl)
+answerable (c.Resize volume slots) is create put sync read_only resize = absurd (resize volume slots refl)
+answerable _ is create put sync read_only resize = absurd is

@@ -19,8 +19,9 @@ use Rattle.blob_meta.specs.declared.meta.Meta.{Meta}
 use Rattle.blob_meta.specs.declared.job.Job.{Job}
 use Rattle.blob_meta.specs.Find.{is_meant, IsLeast}
 use Rattle.blob_meta.specs.ShownBy.{IsHeadMeant}
+use Rattle.blob_meta.specs.Parents.{read_only}
 use Rattle.blob_meta.specs.Asked.{IsAttributeCause, IsFirstCause, IsLiveOf}
-use Rattle.lvol_store.specs.Plans.{PlansPut, PlansSync, RefusesPlan}
+use Rattle.lvol_store.specs.Plans.{PlansPut, PlansReadOnly, PlansSync, RefusesPlan, Remakes}
 use Rattle.store_model.specs.Shown.{fixed_of}
 use Rattle.store_model.specs.StoreState.{StoreState, shown}
 use Rattle.store_model.specs.Asking.{AsksFor, IsSyncing, syncs}
@@ -70,26 +71,33 @@ module _ {D : Type 0} (d : Ghosts D) (laws : PlanLaws d) (p : StoreView D) (runn
             (subst (λ v. IsHeadMeant p.metas p.super v (Some h)) asked found.meant),
       )
 
+  -- the job that remakes the metadata of the volume that a command asks for is what the command asks for
+  remade : (command : Command) (volume : VolumeRef) (head : Option ℕ) (live : Xattrs) (made : Meta → Meta) (job : Job)
+      → (found : IsFound p.metas p.super p.live command head (Some live)) → found.volume ≡ volume
+      → Remakes p.metas p.super volume made job
+      → ((at : ℕ) (old : Meta) → HasBlob p at old live → IsHeadMeant p.metas p.super volume (Some at)
+      → AsksFor (state_of d p) command at (made old)) → IsFor d p command job
+  remade command volume head live made job found asked plan asks =
+      let at = at_plan head live plan.head plan.old found asked plan.meant plan.there in (
+        record { head = plan.head; new = made plan.old; zeros = []; is = plan.job_is },
+        record {
+          head = plan.head;
+          new = made plan.old;
+          zeros = [];
+          is = plan.job_is;
+          asks = to_write (state_of d p) command plan.head _ (asks plan.head plan.old at.0 at.1);
+        },
+      )
+
   -- the job that is planned for a put is what the put asks for
   put_job : (volume : VolumeRef) (key value : Text) (head : Option ℕ) (o : Option Xattrs) (job : Job)
       → IsFound p.metas p.super p.live (c.Put volume key value) head o
       → PlansPut p.metas p.super o (c.Put volume key value) job
       → IsFirstCause p.metas p.super o (c.Put volume key value) None → IsFor d p (c.Put volume key value) job
   put_job volume key value head (Some live) job found plan cause =
-      let new = record plan.old { xattrs = with_value live key value } in
-      let asked : found.volume ≡ volume = let e = found.asked in cc e in
-      let at = at_plan head live plan.head plan.old found asked plan.meant plan.there in (
-        record { head = plan.head; new = new; zeros = []; is = plan.job_is },
-        record {
-          head = plan.head;
-          new = new;
-          zeros = [];
-          is = plan.job_is;
-          asks =
-              to_write (state_of d p) (c.Put volume key value) plan.head _
-              (laws.put p volume plan.head key value plan.old live running runs are at.0 at.1 cause);
-        },
-      )
+      remade (c.Put volume key value) volume head live (λ old. record old { xattrs = with_value live key value }) job
+      found (let e = found.asked in cc e) plan
+      (λ at old blob meant. laws.put p volume at key value old live running runs are blob meant cause)
   put_job volume key value head None job found plan cause = absurd plan
 
   -- the job that is planned for a sync is what the sync asks for
@@ -97,25 +105,27 @@ module _ {D : Type 0} (d : Ghosts D) (laws : PlanLaws d) (p : StoreView D) (runn
       → IsFound p.metas p.super p.live (c.Sync volume) head o → PlansSync p.metas p.super o (c.Sync volume) job
       → IsFirstCause p.metas p.super o (c.Sync volume) None → IsFor d p (c.Sync volume) job
   sync_job volume head (Some live) job found plan cause =
-      let new = record plan.old { xattrs = live } in
-      let asked : found.volume ≡ volume = let e = found.asked in cc e in
-      let at = at_plan head live plan.head plan.old found asked plan.meant plan.there in (
-        record { head = plan.head; new = new; zeros = []; is = plan.job_is },
-        record {
-          head = plan.head;
-          new = new;
-          zeros = [];
-          is = plan.job_is;
-          asks =
-              to_write (state_of d p) (c.Sync volume) plan.head _
-              (laws.sync p volume plan.head plan.old live running runs are at.0 at.1 cause);
-        },
-      )
+      remade (c.Sync volume) volume head live (λ old. record old { xattrs = live }) job found
+      (let e = found.asked in cc e) plan
+      (λ at old blob meant. laws.sync p volume at old live running runs are blob meant cause)
   sync_job volume head None job found plan cause = absurd plan
+
+  -- the job that is planned for a readonly is what it asks for
+  read_only_job : (volume : VolumeRef) (head : Option ℕ) (o : Option Xattrs) (job : Job)
+      → IsFound p.metas p.super p.live (c.ReadOnly volume) head o
+      → PlansReadOnly p.metas p.super o (c.ReadOnly volume) job
+      → IsFirstCause p.metas p.super o (c.ReadOnly volume) None → IsFor d p (c.ReadOnly volume) job
+  read_only_job volume head (Some live) job found plan cause =
+      remade (c.ReadOnly volume) volume head live
+      (λ old. record old { xattrs = live; flags = read_only old.flags }) job found
+      (let e = found.asked in cc e) plan
+      (λ at old blob meant. laws.read_only p volume at old live running runs are blob meant cause)
+  read_only_job volume head None job found plan cause = absurd plan
 
   lacks_memory : (command : Command) → IsSyncing command → IsRefusedBy (state_of d p) command r.Memory
   lacks_memory (c.Put volume key value) is = tt
   lacks_memory (c.Sync volume) is = tt
+  lacks_memory (c.ReadOnly volume) is = tt
   lacks_memory _ is = absurd is
 
   by_cause : (command : Command) (reply : Reply) → IsAttributeCause reply
@@ -138,26 +148,15 @@ module _ {D : Type 0} (d : Ghosts D) (laws : PlanLaws d) (p : StoreView D) (runn
       by_cause command reply x.0
       (x.1 (fixed_of p.super) (shown (state_of d p)) (laws.shows p command head o running runs are found))
 
-  -- what is planned for a put
-  put_at : (volume : VolumeRef) (key value : Text) (head : Option ℕ) (o : Option Xattrs)
-      → IsFound p.metas p.super p.live (c.Put volume key value) head o → (planned : Result Job Reply)
-      → IfOk planned (PlansPut p.metas p.super o (c.Put volume key value))
-      → IfOk planned (λ job. IsFirstCause p.metas p.super o (c.Put volume key value) None)
-      → IfErr planned (RefusesPlan p.metas p.super o (c.Put volume key value))
-      → IsPlanOf d p (c.Put volume key value) (Some planned)
-  put_at volume key value head o found (Ok job) plan cause refuses =
-      put_job volume key value head o job found plan cause
-  put_at volume key value head o found (Err reply) plan cause refuses =
-      refused (c.Put volume key value) head o reply tt found refuses
-
-  -- what is planned for a sync
-  sync_at : (volume : VolumeRef) (head : Option ℕ) (o : Option Xattrs)
-      → IsFound p.metas p.super p.live (c.Sync volume) head o → (planned : Result Job Reply)
-      → IfOk planned (PlansSync p.metas p.super o (c.Sync volume))
-      → IfOk planned (λ job. IsFirstCause p.metas p.super o (c.Sync volume) None)
-      → IfErr planned (RefusesPlan p.metas p.super o (c.Sync volume)) → IsPlanOf d p (c.Sync volume) (Some planned)
-  sync_at volume head o found (Ok job) plan cause refuses = sync_job volume head o job found plan cause
-  sync_at volume head o found (Err reply) plan cause refuses = refused (c.Sync volume) head o reply tt found refuses
+  -- what is planned for a verb that syncs: its job, or the refusal
+  planned_at : (command : Command) (head : Option ℕ) (o : Option Xattrs) (Plans : Job → Type 0) → IsSyncing command
+      → IsFound p.metas p.super p.live command head o → (planned : Result Job Reply)
+      → ((job : Job) → Plans job → IsFirstCause p.metas p.super o command None → IsFor d p command job)
+      → IfOk planned Plans → IfOk planned (λ job. IsFirstCause p.metas p.super o command None)
+      → IfErr planned (RefusesPlan p.metas p.super o command) → IsPlanOf d p command (Some planned)
+  planned_at command head o Plans syncing found (Ok job) is_for plan cause refuses = is_for job plan cause
+  planned_at command head o Plans syncing found (Err reply) is_for plan cause refuses =
+      refused command head o reply syncing found refuses
 
   -- from what is given of the store
   module _ (metas : map.FinMap nat_cmp Meta) (sup : Super) (o : Option Xattrs) (m : metas ≡ p.metas)
@@ -174,32 +173,48 @@ module _ {D : Type 0} (d : Ghosts D) (laws : PlanLaws d) (p : StoreView D) (runn
         (subst (λ (metas : map.FinMap nat_cmp Meta). IsLiveOf metas p.super o command) (sym m)
         (laws.live p command head o running runs are found))
 
+    -- of a verb, by the plan and by the job that it makes of it
+    planned_for : (Plans : map.FinMap nat_cmp Meta → Super → Option Xattrs → Command → Job → Type 0)
+        → (command verb : Command) → command ≡ verb → IsSyncing verb → (head : Option ℕ)
+        → IsFound p.metas p.super p.live command head o
+        → ((job : Job) → IsFound p.metas p.super p.live verb head o → Plans p.metas p.super o verb job
+        → IsFirstCause p.metas p.super o verb None → IsFor d p verb job)
+        → (planned : Result Job Reply) → IfOk planned (Plans metas sup o command)
+        → IfOk planned (λ job. IsFirstCause metas sup o command None)
+        → IfErr planned (RefusesPlan metas sup o command) → IsPlanOf d p command (Some planned)
+    planned_for Plans command verb e syncing head found job_for planned plan cause refuses =
+        subst
+        (λ (command : Command). IsFound p.metas p.super p.live command head o
+        → IfOk planned (Plans p.metas p.super o command)
+        → IfOk planned (λ job. IsFirstCause p.metas p.super o command None)
+        → IfErr planned (RefusesPlan p.metas p.super o command) → IsPlanOf d p command (Some planned)) (sym e)
+        (λ found. planned_at verb head o (Plans p.metas p.super o verb) syncing found planned
+        (λ job. job_for job found)) found
+        (of_store (λ metas sup. IfOk planned (Plans metas sup o command)) plan)
+        (of_store (λ metas sup. IfOk planned (λ job. IsFirstCause metas sup o command None)) cause)
+        (of_store (λ metas sup. IfErr planned (RefusesPlan metas sup o command)) refuses)
+
     pub put_plan : (command : Command) (volume : VolumeRef) (key value : Text) → command ≡ c.Put volume key value
         → (head : Option ℕ) → IsFound p.metas p.super p.live command head o → (planned : Result Job Reply)
         → IfOk planned (PlansPut metas sup o command) → IfOk planned (λ job. IsFirstCause metas sup o command None)
         → IfErr planned (RefusesPlan metas sup o command) → IsPlanOf d p command (Some planned)
-    put_plan command volume key value e head found planned plan cause refuses =
-        subst
-        (λ (command : Command). IsFound p.metas p.super p.live command head o
-        → IfOk planned (PlansPut p.metas p.super o command)
-        → IfOk planned (λ job. IsFirstCause p.metas p.super o command None)
-        → IfErr planned (RefusesPlan p.metas p.super o command) → IsPlanOf d p command (Some planned)) (sym e)
-        (λ found. put_at volume key value head o found planned) found
-        (of_store (λ metas sup. IfOk planned (PlansPut metas sup o command)) plan)
-        (of_store (λ metas sup. IfOk planned (λ job. IsFirstCause metas sup o command None)) cause)
-        (of_store (λ metas sup. IfErr planned (RefusesPlan metas sup o command)) refuses)
+    put_plan command volume key value e head found planned =
+        planned_for PlansPut command (c.Put volume key value) e tt head found
+        (λ job found plan cause. put_job volume key value head o job found plan cause) planned
 
     pub sync_plan : (command : Command) (volume : VolumeRef) → command ≡ c.Sync volume → (head : Option ℕ)
         → IsFound p.metas p.super p.live command head o → (planned : Result Job Reply)
         → IfOk planned (PlansSync metas sup o command) → IfOk planned (λ job. IsFirstCause metas sup o command None)
         → IfErr planned (RefusesPlan metas sup o command) → IsPlanOf d p command (Some planned)
-    sync_plan command volume e head found planned plan cause refuses =
-        subst
-        (λ (command : Command). IsFound p.metas p.super p.live command head o
-        → IfOk planned (PlansSync p.metas p.super o command)
-        → IfOk planned (λ job. IsFirstCause p.metas p.super o command None)
-        → IfErr planned (RefusesPlan p.metas p.super o command) → IsPlanOf d p command (Some planned)) (sym e)
-        (λ found. sync_at volume head o found planned) found
-        (of_store (λ metas sup. IfOk planned (PlansSync metas sup o command)) plan)
-        (of_store (λ metas sup. IfOk planned (λ job. IsFirstCause metas sup o command None)) cause)
-        (of_store (λ metas sup. IfErr planned (RefusesPlan metas sup o command)) refuses)
+    sync_plan command volume e head found planned =
+        planned_for PlansSync command (c.Sync volume) e tt head found
+        (λ job found plan cause. sync_job volume head o job found plan cause) planned
+
+    pub read_only_plan : (command : Command) (volume : VolumeRef) → command ≡ c.ReadOnly volume → (head : Option ℕ)
+        → IsFound p.metas p.super p.live command head o → (planned : Result Job Reply)
+        → IfOk planned (PlansReadOnly metas sup o command)
+        → IfOk planned (λ job. IsFirstCause metas sup o command None)
+        → IfErr planned (RefusesPlan metas sup o command) → IsPlanOf d p command (Some planned)
+    read_only_plan command volume e head found planned =
+        planned_for PlansReadOnly command (c.ReadOnly volume) e tt head found
+        (λ job found plan cause. read_only_job volume head o job found plan cause) planned

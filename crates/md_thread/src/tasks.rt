@@ -7,7 +7,7 @@ ghost use Rattle.running_store.specs.Requests.{IsPostedBy};
 ghost use Rattle.running_store.specs.Steps.{Asks};
 
 use blob_meta::{Job, least_heads_are_meant};
-use lvol_store::{plan_create, plan_put, plan_resize, plan_sync};
+use lvol_store::{plan_create, plan_put, plan_readonly, plan_resize, plan_sync};
 use page_disk::PageDisk;
 use std::alloc::Global;
 use store_core::{MdRight, Plant, Request, plans};
@@ -51,6 +51,10 @@ fn planned<D: PageDisk>(
         Command::Sync { .. } => {
             let live = plant.live_of(command);
             Some(plan_sync(alloc, metas, sup, command, new, live))
+        }
+        Command::ReadOnly { .. } => {
+            let live = plant.live_of(command);
+            Some(plan_readonly(alloc, metas, sup, command, new, live))
         }
         Command::Create { .. } => Some(plan_create(alloc, metas, sup, command, new)),
         Command::Resize { .. } => Some(plan_resize(alloc, metas, sup, command, new)),

@@ -176,7 +176,7 @@ module _ (p : StoreState) (r : IsRunning p) (runs : p.stopped ≡ None) where
         ap (page_in planned.pages) here ∙ page_of planned.pages zero x distinct at
 
     pub head_low : planned.head < p.super.md_len
-    head_low = (can.steady planned.new refl).stored.low
+    head_low = (can.stored planned.new refl).low
 
     -- the plan has a page for the head, and one for each fresh place
     pub pages_planned : length planned.pages ≡ suc (length fresh)

@@ -24,7 +24,7 @@ use Rattle.store_model.specs.StoreState.{StoreState, shown}
 use Rattle.metadata_turns.specs.Answering.{IsFound}
 use Rattle.running_store.specs.StoreInvariant.{IsRunning}
 use Rattle.metadata_turns.proofs.Answered.{live_same}
-use Rattle.running_store.proofs.Resolved.{there_before}
+use Rattle.store_model.proofs.Resolved.{resolved_stored}
 use Rattle.running_store.proofs.Showing.{shows_metas}
 
 -- a command names the volume that it asks for
@@ -35,6 +35,7 @@ named_asked f v (c.DelX mine key) volume is = let e : mine ≡ volume = cc is in
 named_asked f v (c.GetX mine key) volume is = let e : mine ≡ volume = cc is in ap (λ x. head_of f v x) e
 named_asked f v (c.Put mine key value) volume is = let e : mine ≡ volume = cc is in ap (λ x. head_of f v x) e
 named_asked f v (c.Sync mine) volume is = let e : mine ≡ volume = cc is in ap (λ x. head_of f v x) e
+named_asked f v (c.ReadOnly mine) volume is = let e : mine ≡ volume = cc is in ap (λ x. head_of f v x) e
 named_asked f v (c.Resize mine slots) volume is = let e : mine ≡ volume = cc is in ap (λ x. head_of f v x) e
 named_asked f v _ volume is = absurd (cc is)
 
@@ -45,6 +46,7 @@ asks_volume (c.DelX volume key) is = refl
 asks_volume (c.GetX volume key) is = refl
 asks_volume (c.Put volume key value) is = refl
 asks_volume (c.Sync volume) is = refl
+asks_volume (c.ReadOnly volume) is = refl
 asks_volume _ is = absurd is
 
 module _ (p : StoreState) (running : IsRunning p) (runs : p.stopped ≡ None) (metas : map.FinMap nat_cmp Meta)
@@ -99,8 +101,7 @@ module _ (p : StoreState) (running : IsRunning p) (runs : p.stopped ≡ None) (m
       of_meta h None there some meant is = absurd (cc some)
       of_meta h (Some m) there some meant is =
           let resolved_there : resolved p.base h ≡ Some m = ap (λ (x : Map Meta). x h) resolves ∙ there in
-          let before = there_before p.base h m resolved_there in
-          let low = (running.facts.steady h before.0 before.1).stored.low in
+          let low = (resolved_stored running.store p.base running.facts.stored h m resolved_there).low in
           let few = placed.few_md_pages in
           let super = running.facts.super in
           let mine = (running.facts.well runs).live h m resolved_there in

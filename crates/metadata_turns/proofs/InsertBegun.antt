@@ -7,6 +7,7 @@ use Rattle.page_disk.specs.declared.disk.PageDisk.{Ghosts}
 use Rattle.volume_model.specs.declared.command.Command.{Command}
 use Rattle.volume_model.specs.declared.reply.Reply.{Reply}
 use Rattle.volume_model.specs.declared.reply.Reply.TheVariants as r
+use Rattle.blob_meta.specs.Repairs.{HasNoMarks}
 use Rattle.blob_meta.specs.declared.meta.Meta.{Meta}
 use Rattle.store_model.specs.Cases as kind
 use Rattle.store_model.specs.Cases.BeginInsert.{BeginsInsert}
@@ -183,8 +184,8 @@ module _ {D : Type 0} (d : Ghosts D) (p : StoreView D) (channel : ℕ) (x : Hold
 
   -- ---- the job begins
 
-  module _ (running : IsRunning s) (runs : p.stopped ≡ None) (no_job : p.job ≡ None) (meta : Meta)
-      (can : CanInsert s x.claim meta) where
+  module _ (running : IsRunning s) (runs : p.stopped ≡ None) (no_job : p.job ≡ None) (clean : HasNoMarks s.base)
+      (meta : Meta) (can : CanInsert s x.claim meta) where
     abbrev new : Meta
     new = with_slot meta x.claim.slot x.claim.cluster
 
@@ -203,13 +204,14 @@ module _ {D : Type 0} (d : Ghosts D) (p : StoreView D) (channel : ℕ) (x : Hold
           job = Some (writing_for (whom.Insert channel) (planned y) y.old 0);
         }))
     begun y after is row row_is =
-        let known = ready s running runs channel x.claim held meta can no_job p.chains after y is in
-        let chain = has_chain s running runs channel x.claim held meta can in
+        let known = ready s running runs channel x.claim held meta can clean no_job p.chains after y is in
+        let chain = has_chain s running runs channel x.claim held meta can clean in
         record {
           serial = x.serial;
           posted = copying;
           runs = runs;
           no_job = no_job;
+          repaired = clean;
           meta = meta;
           can = can;
           replacing = replacing_of (planned y) y.old;
@@ -225,7 +227,7 @@ module _ {D : Type 0} (d : Ghosts D) (p : StoreView D) (channel : ℕ) (x : Hold
               places = known.places;
               says = known.planned;
             };
-            clusters = moves s running runs channel x.claim held meta can;
+            clusters = moves s running runs channel x.claim held meta can clean;
           };
           next =
               ap (λ (g : Row). state_of d (record p {

@@ -8,6 +8,7 @@ use Rattle.std.proofs.lemmas.Bool.{both_ways, cases_Bool}
 use Rattle.bit_array.specs.Bits.{is_in}
 use Rattle.super_block.specs.declared.page.Super.{Super}
 use Rattle.super_block.specs.Placed.{IsPlaced}
+use Rattle.blob_meta.specs.Repairs.{HasNoMarks}
 use Rattle.blob_meta.specs.declared.meta.Meta.{Meta}
 use Rattle.blob_meta.specs.Says.{meta_of}
 use Rattle.blob_meta.proofs.Inverse.{says}
@@ -28,6 +29,7 @@ use Rattle.store_model.specs.RunInvariant.{IsSteady, RunsWell}
 use Rattle.store_model.specs.StoreState.{StoreState}
 use Rattle.store_model.proofs.InsertedBlob.{inserted_steady, inserted_mapped, mapped_still, mapped_then}
 use Rattle.store_model.proofs.Inside.{IsInside}
+use Rattle.store_model.proofs.Resolved.{steady_unmarked}
 use Rattle.store_model.proofs.Sets.{among_either, among_first, are_distinct, were_clear}
 use Rattle.store_model.proofs.Used.{within}
 use Rattle.metadata_turns.specs.Begins.{IsPrepared, IsTaken}
@@ -69,13 +71,13 @@ module _ (p : StoreState) (running : IsRunning p) (runs : p.stopped ≡ None) (r
 
   -- ---- the metadata
 
-  module _ (meta : Meta) (can : CanInsert p claim meta) where
+  module _ (meta : Meta) (can : CanInsert p claim meta) (clean : HasNoMarks p.base) where
     abbrev pub new : Meta
     new = with_slot meta claim.slot claim.cluster
 
     old_steady : IsSteady p.super claim.head meta
     old_steady = subst (λ (s : Super). IsSteady s claim.head meta) (sym running.facts.super)
-        (running.facts.steady claim.head meta can.there)
+        (steady_unmarked running.store p.base running.facts.stored running.facts.named clean claim.head meta can.there)
 
     pub steady : IsSteady p.super claim.head new
     steady = inserted_steady meta claim.slot claim.cluster can.within can.empty p.super claim.head inside

@@ -21,6 +21,7 @@ use Rattle.blob_meta.specs.declared.job.Job.{Job}
 use Rattle.blob_meta.specs.Jobs.{create_job, job_of_one, new_meta, resize_job, resized_meta}
 use Rattle.blob_meta.specs.Faults.{clusters_of}
 use Rattle.blob_meta.specs.Parents.{slot}
+use Rattle.blob_meta.specs.Repairs.{HasNoMarks}
 use Rattle.blob_meta.specs.Resolving.{mark_of}
 use Rattle.blob_meta.specs.Says.{meta_of}
 use Rattle.blob_meta.proofs.Inverse.{says}
@@ -40,7 +41,7 @@ use Rattle.store_model.specs.RunInvariant.{CanBeWritten, IsSteady, RunsWell}
 use Rattle.store_model.proofs.ClaimedZeros.{claimed_free, zeroed_is}
 use Rattle.store_model.proofs.JobReady.{head_of, job_writable, new_of, one_change}
 use Rattle.store_model.proofs.Cut.{cut, is_cut as is_taken, length_cut}
-use Rattle.store_model.proofs.OneReplacement.{base_lawful}
+use Rattle.store_model.proofs.OneReplacement.{base_lawful, base_steady}
 use Rattle.store_model.proofs.Known.{Known}
 use Rattle.store_model.proofs.NewBlob.{empty_slot, two_written}
 use Rattle.store_model.proofs.Sets.{among_either, among_first, are_distinct, were_clear}
@@ -65,7 +66,7 @@ whole_cut map = is_taken map (length map) None (omega arith) ∙ take_all (lengt
 ltb-irrefl : (n : ℕ) → nat_lt n n ≡ false
 ltb-irrefl n = grind (arith, nat_tests)
 
-module _ (p : StoreState) (running : IsRunning p) (runs : p.stopped ≡ None) (command : Command) (head : ℕ) (new : Meta)
+module _ (p : StoreState) (running : IsRunning p) (clean : HasNoMarks p.base) (runs : p.stopped ≡ None) (command : Command) (head : ℕ) (new : Meta)
     (zeros : List ℕ) (asks : AsksToWrite p command head new zeros) where
   abbrev known : Known
   known = record {
@@ -85,17 +86,16 @@ module _ (p : StoreState) (running : IsRunning p) (runs : p.stopped ≡ None) (c
       → head < p.super.md_len → IsSteady p.super head (with_clusters new zeros claimed)
   steady claimed least one_each low =
       subst (λ s. IsSteady s head (with_clusters new zeros claimed)) (sym running.facts.super)
-      (job_writable known runs command (job_with_zeros head new zeros) asks.commit asks.asked claimed least one_each
+      (job_writable known clean runs command (job_with_zeros head new zeros) asks.commit asks.asked claimed least one_each
       (record { head = head; new = Some new }) new refl refl
       (subst (λ (s : Super). head < s.md_len) running.facts.super low))
 
   there_low : (m : Meta) → p.base head ≡ Some m → head < p.super.md_len
   there_low m there = subst (λ (s : Super). head < s.md_len) (sym running.facts.super)
-      (running.facts.steady head m there).stored.low
+      (running.facts.stored head m there).low
 
   was_there : (m : Meta) → p.base head ≡ Some m → IsSteady p.super head m
-  was_there m there =
-      subst (λ (s : Super). IsSteady s head m) (sym running.facts.super) (running.facts.steady head m there)
+  was_there m there = base_steady known clean head m there
 
   -- what is known of it, whichever verb asks
   pub record IsAsked (before : Option Meta) : Type 0 where
@@ -113,6 +113,7 @@ module _ (p : StoreState) (running : IsRunning p) (runs : p.stopped ≡ None) (c
       by : (k : Command) → IsSyncing k → MayLackMemory (fixed_of p.super) (shown p) k
       by (c.Put volume key value) is = tt
       by (c.Sync volume) is = tt
+      by (c.ReadOnly volume) is = tt
       by _ is = absurd is
 
   -- a verb that syncs makes its attributes read
@@ -122,6 +123,7 @@ module _ (p : StoreState) (running : IsRunning p) (runs : p.stopped ≡ None) (c
       by : (k : Command) → IsSyncing k → live_behind (is_live_kept k) new ≡ Some new.xattrs
       by (c.Put volume key value) is = refl
       by (c.Sync volume) is = refl
+      by (c.ReadOnly volume) is = refl
       by _ is = absurd is
 
   -- of a blob that is there, with its slots cut or others added
@@ -136,7 +138,7 @@ module _ (p : StoreState) (running : IsRunning p) (runs : p.stopped ≡ None) (c
       let long : length new.map ≡ slots = ap (λ (l : List (Option ℕ)). length l) map_is
       ∙ length_cut {X = Option ℕ} old.map slots None in
       let was = was_there old there in
-      let lawful = base_lawful known in
+      let lawful = base_lawful known clean in
       record {
         commit = commit ∙ ap (λ n. record {
           reply = r.Ok;

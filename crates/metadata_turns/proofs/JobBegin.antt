@@ -13,6 +13,7 @@ use Rattle.volume_model.specs.Xattrs.{Xattrs}
 use Rattle.volume_model.specs.declared.command.Command.{Command}
 use Rattle.volume_model.specs.declared.reply.Reply.{Reply}
 use Rattle.volume_model.specs.declared.reply.Reply.TheVariants as r
+use Rattle.blob_meta.specs.Repairs.{HasNoMarks}
 use Rattle.blob_meta.specs.declared.meta.Meta.{Meta}
 use Rattle.store_model.specs.Rows.{with_row, Ended, InJob, Row, Rows}
 use Rattle.store_model.specs.StoreState.{JobState, StoreState}
@@ -60,14 +61,14 @@ for_one base head new bits x =
     (let all : x.count ≡ t.0 = omega (arith, none, sum) in all) ∙ need.2 in
     record { count = need.0; needs = need.1; lacking = subst (λ n. clear_in bits < n) count x.lacking }
 
-module _ (s : StoreState) (running : IsRunning s) (runs : s.stopped ≡ None) (no_job : s.job ≡ None) (command : Command)
+module _ (s : StoreState) (running : IsRunning s) (clean : HasNoMarks s.base) (runs : s.stopped ≡ None) (no_job : s.job ≡ None) (command : Command)
     (head : ℕ) (bare : Meta) (zeros : List ℕ) (asks : AsksToWrite s command head bare zeros) (claimed : List ℕ)
     (claims : AreForZeros s.clusters zeros claimed) where
   abbrev later : Meta
   later = with_clusters bare zeros claimed
 
   there : is_some (s.base head) ≡ is_some (s.chains head)
-  there = there_is s running runs command head bare zeros asks
+  there = there_is s running clean runs command head bare zeros asks
 
   cannot : LacksPages (is_some (s.chains head)) later s.pages → CannotBegin s command
   cannot lacks = record {
@@ -94,7 +95,7 @@ module _ (s : StoreState) (running : IsRunning s) (runs : s.stopped ≡ None) (n
     enough = λ y. x.1 (subst (λ (m : Meta). LacksPages (is_some (s.chains head)) m s.pages) (sym (lacking x.0).1)
         (subst (λ (b : Bool). LacksPages b bare s.pages) there (for_one s.base head bare s.pages y)));
   }
-  why_unprepared fewer lacking r.Memory x = (asked s running runs command head bare zeros asks).memory
+  why_unprepared fewer lacking r.Memory x = (asked s running clean runs command head bare zeros asks).memory
   why_unprepared fewer lacking _ x = absurd x
 
 -- ---- it begins, or its command is logged
@@ -117,7 +118,7 @@ module _ {D : Type 0} (d : Ghosts D) (p : StoreView D) (channel : ℕ) (low : ch
   abbrev in_job : Row
   in_job = record { left = command ∷ rest; stage = InJob; claim = None }
 
-  module _ (running : IsRunning s) (no_job : p.job ≡ None) (planned : Planned) (old : List ℕ) (bare : Meta)
+  module _ (running : IsRunning s) (clean : HasNoMarks s.base) (no_job : p.job ≡ None) (planned : Planned) (old : List ℕ) (bare : Meta)
       (zeros : List ℕ) (asks : AsksToWrite s command planned.head bare zeros) where
     abbrev claimed : List ℕ
     claimed = planned.effects.claimed
@@ -128,8 +129,8 @@ module _ {D : Type 0} (d : Ghosts D) (p : StoreView D) (channel : ℕ) (low : ch
     abbrev makes : Bool
     makes = is_some planned.effects.rooms
 
-    known : IsAsked s running runs command planned.head bare zeros asks (s.base planned.head)
-    known = asked s running runs command planned.head bare zeros asks
+    known : IsAsked s running clean runs command planned.head bare zeros asks (s.base planned.head)
+    known = asked s running clean runs command planned.head bare zeros asks
 
     -- the store with the job
     abbrev with_job : Rows → JobState → List Bool → List Bool → StoreState
@@ -157,11 +158,12 @@ module _ {D : Type 0} (d : Ghosts D) (p : StoreView D) (channel : ℕ) (low : ch
         }))
     begun effects least one_each new_is cluster_pages each was chain unerased pages clusters set is =
         let there : is_some (s.base planned.head) ≡ not makes =
-        there_is s running runs command planned.head bare zeros asks ∙ was in
+        there_is s running clean runs command planned.head bare zeros asks ∙ was in
         record {
           posted = is_posted;
           runs = runs;
           no_job = no_job;
+          repaired = clean;
           changes = job_with_zeros planned.head bare zeros;
           commit = commit_of planned;
           asked = subst (IsJobFor s command (job_with_zeros planned.head bare zeros))
@@ -194,7 +196,7 @@ module _ {D : Type 0} (d : Ghosts D) (p : StoreView D) (channel : ℕ) (low : ch
                   planned.effects.freed claimed) (sym new_is)
                   (subst (λ l. MovesClusters s.super s.base (with_entry s.base planned.head filled) l claimed)
                   (sym effects.freed)
-                  (moves_filled s running runs command planned.head bare zeros asks claimed least one_each));
+                  (moves_filled s running clean runs command planned.head bare zeros asks claimed least one_each));
             },
             tt,
           );

@@ -10,6 +10,7 @@ use Rattle.volume_model.specs.declared.command.Command.{Command}
 use Rattle.volume_model.specs.declared.reply.Reply.{Reply}
 use Rattle.volume_model.specs.declared.reply.Reply.TheVariants.{Memory}
 use Rattle.blob_meta.specs.declared.meta.Meta.{Meta}
+use Rattle.blob_meta.specs.Repairs.{HasNoMarks}
 use Rattle.blob_meta.specs.Resolving.{mark_of}
 use Rattle.md_chain.specs.Packing.{FitsPage}
 use Rattle.store_model.specs.Cases.{Begins, IsRefusedAtBegin}
@@ -26,7 +27,7 @@ use Rattle.metadata_turns.specs.Begins.{IsUnprepared}
 use Rattle.running_store.specs.Effects.{cut_clusters, is_live_kept, live_behind, AreEffects}
 use Rattle.running_store.specs.StoreInvariant.{IsRunning}
 use Rattle.running_store.specs.Running.{WillResolve}
-use Rattle.running_store.specs.StoreView.{AreResolved, StoreView, rows_of, state_of}
+use Rattle.running_store.specs.StoreView.{base_of, AreResolved, StoreView, rows_of, state_of}
 use Rattle.running_store.specs.Steps.{Asks, IsPostedAt}
 use Rattle.running_store.specs.declared.effects.Effects.{Effects}
 use Rattle.running_store.specs.declared.job.Rooms.{Rooms}
@@ -36,7 +37,7 @@ use Rattle.metadata_turns.proofs.JobAsked.{asked, first_in_use, has_chain, ready
 use Rattle.metadata_turns.proofs.JobPlanned.{all_fit}
 use Rattle.metadata_turns.proofs.JobBegin.{begun, why_unprepared}
 use Rattle.metadata_turns.proofs.SlotsOfZeros.{with_none}
-use Rattle.running_store.proofs.Resolved.{base_is, no_marks, will_resolve}
+use Rattle.running_store.proofs.Resolved.{unmarked_base, will_resolve}
 
 -- where room is taken no blob is there
 not_there : (rooms : Option Rooms) (chain : Option (List ℕ)) → IfNone rooms (IsSome chain)
@@ -49,7 +50,7 @@ none_of None is = refl
 none_of (Some x) is = absurd (cc is)
 
 module _ {D : Type 0} (d : Ghosts D) (p : StoreView D) (channel : ℕ) (posted : IsPostedAt p channel)
-    (running : IsRunning (state_of d p)) (runs : p.stopped ≡ None) (head : ℕ) (new : Meta) (zeros : List ℕ)
+    (running : IsRunning (state_of d p)) (clean : HasNoMarks (base_of p.metas p.marked)) (runs : p.stopped ≡ None) (head : ℕ) (new : Meta) (zeros : List ℕ)
     (asks_it : Asks p channel (λ command. AsksToWrite (state_of d p) command head new zeros)) where
   abbrev s : StoreState
   s = state_of d p
@@ -60,21 +61,21 @@ module _ {D : Type 0} (d : Ghosts D) (p : StoreView D) (channel : ℕ) (posted :
   asks : AsksToWrite s command head new zeros
   asks = asks_it command posted.waits.rest (ap (λ (r : Row). r.left) posted.waits.row)
 
-  known : IsAsked s running runs command head new zeros asks (s.base head)
-  known = asked s running runs command head new zeros asks
+  known : IsAsked s running clean runs command head new zeros asks (s.base head)
+  known = asked s running clean runs command head new zeros asks
 
   pub slots_within : All (λ i. i < length new.map) zeros
-  slots_within = zeros_within s running runs command head new zeros asks
+  slots_within = zeros_within s running clean runs command head new zeros asks
 
   pub first_cluster : is_in p.clusters 0 ≡ true
-  first_cluster = first_in_use s running runs command head new zeros asks
+  first_cluster = first_in_use s running clean runs command head new zeros asks
 
   pub once : AreDistinct (cut_clusters (s.base head) new)
   once = known.once
 
   -- memory may always be wanting
   pub no_memory : Asks p channel (λ k. IsRefusedAtBegin s k Memory)
-  no_memory k ks left = (asked s running runs k head new zeros (asks_it k ks left)).memory
+  no_memory k ks left = (asked s running clean runs k head new zeros (asks_it k ks left)).memory
 
   -- ---- the blob's chain
 
@@ -84,14 +85,14 @@ module _ {D : Type 0} (d : Ghosts D) (p : StoreView D) (channel : ℕ) (posted :
     was = not_there rooms (s.chains head) some none
 
     pub has_one : is_some rooms ≡ false → HasChain p.chains head
-    has_one no_room = has_chain s running runs command head new zeros asks (was ∙ ap not no_room)
+    has_one no_room = has_chain s running clean runs command head new zeros asks (was ∙ ap not no_room)
 
     pub has_none : is_some rooms ≡ true → s.chains head ≡ None
     has_none room = none_of (s.chains head) (was ∙ ap not room)
 
     pub next_head : is_some rooms ≡ true → IsFreshHead p.pages head
     next_head room = asks.next (none_of (s.base head)
-        (there_is s running runs command head new zeros asks ∙ was ∙ ap not room))
+        (there_is s running clean runs command head new zeros asks ∙ was ∙ ap not room))
 
   -- ---- with clusters in its slots of zeros
 
@@ -128,7 +129,7 @@ module _ {D : Type 0} (d : Ghosts D) (p : StoreView D) (channel : ℕ) (posted :
           → Asks p channel (λ k. IsRefusedAtBegin s k reply)
       lacks_clusters less there was reply x k ks left =
           let few = too_few less in
-          why_unprepared s running runs no_job k head new zeros (asks_it k ks left) claimed claims true
+          why_unprepared s running clean runs no_job k head new zeros (asks_it k ks left) claimed claims true
           (λ _. (few.1, ap (with_clusters new zeros) few.0 ∙ with_none new zeros)) reply
           (subst (λ (b : Bool). IsUnprepared true b (with_clusters new zeros claimed) p.pages reply) (sym was)
           (subst (λ (m : Meta). IsUnprepared true there m p.pages reply) is x))
@@ -137,7 +138,7 @@ module _ {D : Type 0} (d : Ghosts D) (p : StoreView D) (channel : ℕ) (posted :
       pub lacks_pages : (reply : Reply) → IsUnprepared false (is_some (s.chains head)) later p.pages reply
           → Asks p channel (λ k. IsRefusedAtBegin s k reply)
       lacks_pages reply x k ks left =
-          why_unprepared s running runs no_job k head new zeros (asks_it k ks left) claimed claims false
+          why_unprepared s running clean runs no_job k head new zeros (asks_it k ks left) claimed claims false
           (λ bad. absurd (cc bad)) reply
           (subst (λ (m : Meta). IsUnprepared false (is_some (s.chains head)) m p.pages reply) is x)
 
@@ -150,13 +151,13 @@ module _ {D : Type 0} (d : Ghosts D) (p : StoreView D) (channel : ℕ) (posted :
           let there = was e.rooms some none in
           let with_its : IsPrepared p.chains head (with_clusters new zeros claimed) (is_some e.rooms) p.pages pages x =
           subst (λ (m : Meta). IsPrepared p.chains head m (is_some e.rooms) p.pages pages x) is prepared in
-          let no_mark = unmarked s running runs command head new zeros asks no_job (is_some e.rooms) there claimed
+          let no_mark = unmarked s running clean runs command head new zeros asks no_job (is_some e.rooms) there claimed
           claims.least (as_many all) p.chains pages x with_its in
           record {
             there = λ no_room. subst (λ (m : Metas). is_some (m head) ≡ true)
-                (base_is d p running are)
-                (there_is s running runs command head new zeros asks ∙ there ∙ ap (λ o. not (is_some o)) no_room);
-            resolves = will_resolve p.metas p.marked head later are (no_marks s running)
+                (unmarked_base p.metas p.marked are clean)
+                (there_is s running clean runs command head new zeros asks ∙ there ∙ ap (λ o. not (is_some o)) no_room);
+            resolves = will_resolve p.metas p.marked head later are clean
                 (subst (λ (m : Meta). mark_of m ≡ None) (sym is) no_mark);
           }
 
@@ -175,7 +176,7 @@ module _ {D : Type 0} (d : Ghosts D) (p : StoreView D) (channel : ℕ) (posted :
           let there = was e.rooms some none in
           let with_its : IsPrepared p.chains head (with_clusters new zeros claimed) (is_some e.rooms) p.pages pages x =
           subst (λ (m : Meta). IsPrepared p.chains head m (is_some e.rooms) p.pages pages x) is prepared in
-          let begins = begun d p channel low posted runs running no_job
+          let begins = begun d p channel low posted runs running clean no_job
           (planned_with x head later (record e { claimed = claimed })) x.old new zeros asks
           (record {
             live = effects.live ∙ ap (λ (b : Bool). live_behind b new) kept_is;
@@ -184,7 +185,7 @@ module _ {D : Type 0} (d : Ghosts D) (p : StoreView D) (channel : ℕ) (posted :
             claimed = refl;
           }) claims.least one_each is cluster_pages each there with_its.behind
           (λ no. with_its.none_behind (none_of (s.chains head) no)) pages clusters set
-          (ready s running runs command head new zeros asks no_job (is_some e.rooms) there claimed claims.least
+          (ready s running clean runs command head new zeros asks no_job (is_some e.rooms) there claimed claims.least
           one_each p.chains pages x with_its) in
           subst (λ (j : JobState). Begins s (state_of d (record p {
             rows = slice_set p.rows channel (record (rows_of p.rows channel) { stage = InJob });

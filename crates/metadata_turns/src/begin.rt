@@ -11,7 +11,9 @@ ghost use Rattle.running_store.specs.Jobs.{IsHeaded};
 ghost use Rattle.running_store.specs.StoreInvariant.{IsRunning};
 ghost use Rattle.running_store.specs.TurnMade.{TurnMade};
 ghost use Rattle.running_store.specs.Running.{view_of, InOrder, IsRoomy, WillResolveBy};
-ghost use Rattle.running_store.specs.StoreView.{rows_of, state_of};
+ghost use Rattle.blob_meta.specs.Repairs.{HasNoMarks};
+ghost use Rattle.store_model.specs.Repairing.{IsRepaired};
+ghost use Rattle.running_store.specs.StoreView.{base_of, rows_of, state_of};
 ghost use Rattle.running_store.specs.Steps.{Asks, IsPostedAt, OnlyRow};
 
 use crate::filling::fill_slots;
@@ -52,6 +54,7 @@ pub(crate) fn begin<D: PageDisk>(
     requires running { IsRunning (state_of D.PageDisk (view_of running.old)) }
     requires runs { running.old.stopped ≡ None }
     requires no_job { running.old.job ≡ None }
+    requires unmarked { HasNoMarks (base_of running.old.metas running.old.marked) }
     ensures began { result ≡ Began → TurnMade D.PageDisk (view_of running.old) (view_of running.new) kind.begins }
     ensures logged { result ≡ Logged → TurnMade D.PageDisk (view_of running.old) (view_of running.new) kind.refuses }
     ensures row { OnlyRow running.old.rows.items running.new.rows.items channel
@@ -90,6 +93,7 @@ fn job_for<D: PageDisk>(
     requires running { IsRunning (state_of D.PageDisk (view_of running.old)) }
     requires runs { running.old.stopped ≡ None }
     requires no_job { running.old.job ≡ None }
+    requires unmarked { HasNoMarks (base_of running.old.metas running.old.marked) }
     ensures begins { IfOk result (λ job. Begins (state_of D.PageDisk (view_of running.old))
         (state_of D.PageDisk (with_begun (view_of running.new) channel job))) }
     ensures headed { IfOk result IsHeaded }
@@ -129,8 +133,8 @@ fn job_for<D: PageDisk>(
     }
 }
 
-/// Begins the job of one replacement, for the posted command of a channel, or, on a stopped store, logs that it is
-/// stopped.
+/// Begins the job of one replacement, for the posted command of a channel, of a store without a repair that is left; or,
+/// on a stopped store, logs that it is stopped.
 pub fn begin_or_halt<D: PageDisk>(running: &mut Running<D>, channel: u8, job: Job) -> BeginTurn
     requires order { InOrder D.PageDisk running.old }
     requires channel { channel < 16 }
@@ -141,6 +145,7 @@ pub fn begin_or_halt<D: PageDisk>(running: &mut Running<D>, channel: u8, job: Jo
         (λ command. IsJobOf (state_of D.PageDisk (view_of running.old)) command job) }
     requires running { IsRunning (state_of D.PageDisk (view_of running.old)) }
     requires no_job { running.old.job ≡ None }
+    requires repaired { IsRepaired (state_of D.PageDisk (view_of running.old)) }
     ensures begins { running.old.stopped ≡ None
         → BeginsOrNot D.PageDisk (view_of running.old) (view_of running.new) result }
     ensures halted { IsSome running.old.stopped

@@ -5,6 +5,8 @@ ghost use Rattle.std.specs.Prelude.{◌↔◌, length, IsTrue};
 ghost use Rattle.std.specs.FinMap as map;
 ghost use Rattle.blob_meta.specs.declared.meta.Meta.{Meta as AMeta};
 ghost use Rattle.blob_meta.specs.Parents.{slot};
+ghost use Rattle.blob_meta.specs.Repairs.{HasNoMarks};
+ghost use Rattle.store_model.specs.Repairing.{IsRepaired};
 ghost use Rattle.store_model.specs.Cases as kind;
 ghost use Rattle.store_model.specs.Claiming.{CanInsert};
 ghost use Rattle.store_model.specs.Inserting.{with_slot};
@@ -52,6 +54,7 @@ pub(crate) fn begin_insert<D: PageDisk>(running: &mut Running<D>, channel: u8) -
     requires own { AreOwn (state_of D.PageDisk (view_of running.old)) }
     requires runs { running.old.stopped ≡ None }
     requires no_job { running.old.job ≡ None }
+    requires unmarked { HasNoMarks (base_of running.old.metas running.old.marked) }
     ensures case { InsertsOrNot D.PageDisk (view_of running.old) (view_of running.new) result }
     ensures row { OnlyRow running.old.rows.items running.new.rows.items channel
         (row_inserting result (rows_of running.old.rows.items channel)) }
@@ -87,7 +90,7 @@ fn claim_of(rows: &[Row], channel: u8) -> OpenClaim
 /// is lost.
 fn filled<D: PageDisk>(running: &Running<D>, claim: OpenClaim) -> Option<Result<Meta, Memory>>
     requires cluster { 0 < claim.cluster }
-    requires unmarked { base_of running.now.metas running.now.marked ≡ map.get running.now.metas }
+    requires same { base_of running.now.metas running.now.marked ≡ map.get running.now.metas }
     ensures lost { IfNone result ((meta : AMeta)
         → CanInsert (state_of D.PageDisk (view_of running.now)) (claim_seen claim) meta → ⊥) }
     ensures fills { IfSome result (Fills (state_of D.PageDisk (view_of running.now)) (claim_seen claim)) }
@@ -141,6 +144,7 @@ fn start<D: PageDisk>(
     requires own { AreOwn (state_of D.PageDisk (view_of running.old)) }
     requires runs { running.old.stopped ≡ None }
     requires no_job { running.old.job ≡ None }
+    requires unmarked { HasNoMarks (base_of running.old.metas running.old.marked) }
     ensures case { InsertsOrNot D.PageDisk (view_of running.old) (view_of running.new) result }
     ensures row { OnlyRow running.old.rows.items running.new.rows.items channel
         (row_inserting result (rows_of running.old.rows.items channel)) }
@@ -195,7 +199,8 @@ fn job_of(alloc: Global, prepared: Prepared, channel: u8, head: u32, new: Meta) 
     }
 }
 
-/// Begins the insert of a posted row, or, on a stopped store, logs its write as that.
+/// Begins the insert of a posted row, of a store without a repair that is left, or, on a stopped store, logs its write as
+/// that.
 pub fn begin_insert_or_halt<D: PageDisk>(running: &mut Running<D>, channel: u8) -> InsertTurn
     requires order { InOrder D.PageDisk running.old }
     requires channel { channel < 16 }
@@ -203,6 +208,7 @@ pub fn begin_insert_or_halt<D: PageDisk>(running: &mut Running<D>, channel: u8) 
     requires running { IsRunning (state_of D.PageDisk (view_of running.old)) }
     requires own { AreOwn (state_of D.PageDisk (view_of running.old)) }
     requires no_job { running.old.job ≡ None }
+    requires repaired { IsRepaired (state_of D.PageDisk (view_of running.old)) }
     ensures begins { running.old.stopped ≡ None
         → InsertsOrNot D.PageDisk (view_of running.old) (view_of running.new) result }
     ensures halted { IsSome running.old.stopped

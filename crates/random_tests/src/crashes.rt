@@ -1,9 +1,7 @@
 //! Random scripts, and power that fails at each call of the device.
 
-use crate::scripts::{Play, new_store, play_of, size_of};
-use crate::shown::shown_of;
-use crate::states::State;
 use page_disk::{FaultDisk, MemDisk, PageDisk};
+use random_worlds::{Play, State, expect_left, new_store, number_at, play_of, size_of};
 use std::alloc::Global;
 use std::test::Fail;
 use test_runs::{Ran, run};
@@ -54,33 +52,6 @@ fn stopped(
     }
 }
 
-/// Expects that a crash leaves one of some states.
-fn expect_state(alloc: Global, states: &[State], fixed: u32, disk: MemDisk) -> Result<(), Fail> {
-    let mut shown = shown_of(alloc, disk)?;
-    let mut is_known = false;
-    for state in states {
-        shown.expect_claimed(state, fixed)?;
-        is_known = is_known || shown.is(alloc, state, false)?;
-    }
-    if !is_known {
-        return Err(Fail::new("another state is left"));
-    }
-    Ok(())
-}
-
-/// Expects that what each crash leaves of a device is one of some states.
-pub fn expect_left(
-    alloc: Global,
-    states: &[State],
-    fixed: u32,
-    disk: &MemDisk,
-) -> Result<(), Fail> {
-    for pick in 0..4 {
-        expect_state(alloc, states, fixed, disk.crash(pick)?)?;
-    }
-    Ok(())
-}
-
 /// The states with so many commands of a play done, and with one more.
 fn states_at(done: &Play, count: usize) -> Result<&[State], Fail> {
     let rest = done.states.get(count..).ok_or("no state")?;
@@ -106,14 +77,6 @@ fn expect_crashes(alloc: Global, place: u64) -> Result<(), Fail> {
         }
     }
     Err(Fail::new("the script makes more calls"))
-}
-
-/// The number of a script that is stopped: its store has four metadata pages, or three.
-pub fn number_at(place: u64) -> u64 {
-    place
-        .wrapping_mul(8)
-        .wrapping_add(2)
-        .wrapping_add(place % 2)
 }
 
 /// Stops each of the scripts with these places.

@@ -1,9 +1,8 @@
 //! Random scripts that are run whole.
 
 use crate::endings::Endings;
-use crate::scripts::{Play, new_stores, play_of, size_of, store_for};
-use crate::shown::expect_volumes;
 use page_disk::MemDisk;
+use random_worlds::{Play, expect_volumes, new_stores, play_of, size_of, store_for};
 use std::alloc::Global;
 use std::test::Fail;
 use test_runs::play;

@@ -14,7 +14,7 @@ use Rattle.store_model.specs.Cases.Commit.{Commits}
 use Rattle.store_model.specs.Guarding.{all_renewed, AreGenerations, frozen_behind}
 use Rattle.store_model.specs.Jobs.{Does, gained_by, IsServed, JobStands, Lays}
 use Rattle.store_model.specs.Jobs.{ReadsZeros}
-use Rattle.store_model.specs.Steady.{IsSteady}
+use Rattle.store_model.specs.Steady.{IsStored}
 use Rattle.store_model.specs.Maps.{Map, Metas, with_entry}
 use Rattle.store_model.specs.Phases.{has_commit, Replaces}
 use Rattle.store_model.specs.Regions.{region_of}
@@ -67,10 +67,10 @@ short_map l true is none = grind (arith, nat_tests, is)
 short_map l false is none = absurd (never_none _ _ is none)
 
 -- a map that a load takes has no more slots than a blob may have
-few_slots : (s : Super) (head : ℕ) (m : Meta) → IsSteady s head m → length m.map ≤ 2 ^ 20
-few_slots s head m steady =
+few_slots : (s : Super) (head : ℕ) (m : Meta) → IsStored s head m → length m.map ≤ 2 ^ 20
+few_slots s head m stored =
     let in_map = none_first (map_fault (region_of s).fixed (region_of s).clusters m.map) _
-    (none_next (unknown_flag m.flags) _ steady.stored.faultless) in
+    (none_next (unknown_flag m.flags) _ stored.faultless) in
     short_map m.map (nat_le (length m.map) (2 ^ 20)) refl (none_first (too_large m.map) _ in_map)
 
 -- ---- blobs with generations
@@ -114,8 +114,8 @@ module _ (p q : StoreState) (d : RunMessages) (first : Volumes) (well : RunsWell
         (Replaces t.replacing (Some t.commit) ∷ t.running.rest)
     lays = subst (Lays p.super p.base p.chains (gained_by p.rows job) job.written) t.running.next stands.lays
 
-    steady : IsSteady p.super t.replacing.head t.new
-    steady = lays.0.steady t.new t.new_is
+    stored : IsStored p.super t.replacing.head t.new
+    stored = lays.0.stored t.new t.new_is
 
     commands_same : served.command ≡ t.served.command
     commands_same =
@@ -140,11 +140,11 @@ module _ (p q : StoreState) (d : RunMessages) (first : Volumes) (well : RunsWell
         (blobs_in_run base_new generations_new)
     replaces = record {
       head = t.replacing.head;
-      inside = steady.stored.low;
+      inside = stored.low;
       few =
           let here = given_here p.base t.replacing.head t.new t.replacing.head refl in
           let less = empties_by (generations_new t.replacing.head) t.new in
-          let long = few_slots p.super t.replacing.head t.new steady in
+          let long = few_slots p.super t.replacing.head t.new stored in
           let same = ap (λ o. empty_in (option_and_then (λ m. option_map (blob_in_run m)
           (generations_new t.replacing.head)) o)) here in
           subst (λ n. n ≤ 2 ^ 20) (sym same) (omega (arith, less, long));

@@ -93,8 +93,8 @@ module _ (p q : StoreState) (plain : HasPlainRows p) where
 
   -- ---- no row changes
 
-  rows_kept : q.rows ≡ p.rows → InsertsPlainly q → HasPlainRows q
-  rows_kept rows inserting = record {
+  pub plain_kept : q.rows ≡ p.rows → InsertsPlainly q → HasPlainRows q
+  plain_kept rows inserting = record {
     claimed = λ c claim is. subst (λ (r : Rows). BeginsWithWrite c (r c).left) (sym rows)
         (plain.claimed c claim (sym (ap (λ (r : Rows). (r c).claim) rows) ∙ is));
     inserting = inserting;
@@ -102,11 +102,11 @@ module _ (p q : StoreState) (plain : HasPlainRows p) where
 
   -- the job ends
   pub plain_dropped : q.rows ≡ p.rows → q.job ≡ None → HasPlainRows q
-  plain_dropped rows none = rows_kept rows (none_inserts q none)
+  plain_dropped rows none = plain_kept rows (none_inserts q none)
 
   -- or goes on
   pub plain_on : q.rows ≡ p.rows → (old : JobState) → p.job ≡ Some old
       → ((job : JobState) → q.job ≡ Some job → job.serves ≡ old.serves) → HasPlainRows q
-  plain_on rows old was same = rows_kept rows (λ job c is serves.
+  plain_on rows old was same = plain_kept rows (λ job c is serves.
       subst (λ (r : Rows). ((r c).stage ≡ InJob) × BeginsWithWrite c (r c).left) (sym rows)
       (plain.inserting old c was (sym (same job is) ∙ serves)))

@@ -16,11 +16,11 @@ use Rattle.store_model.specs.Cases.Send.{Sends}
 use Rattle.store_model.specs.Claiming.{LogsOwn, stage_behind}
 use Rattle.store_model.specs.Device.{Device}
 use Rattle.store_model.specs.Rows.{Answered, Decided, Idle, InJob, OpenClaim, Row, Stage, with_row}
-use Rattle.store_model.specs.StoreState.{ForCommand, ForInsert, JobState, Opens, StoreState}
+use Rattle.store_model.specs.StoreState.{ForCommand, ForInsert, ForRepair, JobState, Opens, StoreState}
 use Rattle.run_moves.specs.PlainRows.{BeginsWithWrite, HasPlainRows}
 use Rattle.run_moves.proofs.Moved.{row_twice}
-use Rattle.run_moves.proofs.PlainRows.{job_then, none_inserts, now_there, plain_dropped, plain_on, plain_outside}
-use Rattle.run_moves.proofs.PlainRows.{plain_served, plain_unclaimed, plain_with, rows_then, serves_on, waits_on}
+use Rattle.run_moves.proofs.PlainRows.{job_then, none_inserts, now_there, plain_dropped, plain_kept, plain_on}
+use Rattle.run_moves.proofs.PlainRows.{plain_outside, plain_served, plain_unclaimed, plain_with, rows_then, serves_on, waits_on}
 
 -- a row at this stage is in no job
 free : (p : StoreState) (channel : ℕ) (row : Row) → p.rows channel ≡ row → (row.stage ≡ InJob → ⊥)
@@ -167,6 +167,15 @@ turn_plain told k.frees p q t plain = plain_on p q plain (rows_then t.next) t.ru
 turn_plain told k.fails p q t plain = ends p q plain t.served.channel _ _ (rows_then t.next) (job_then t.next)
 turn_plain told k.breaks_off p q t plain = plain_dropped p q plain (rows_then t.next) (job_then t.next)
 turn_plain told k.breaks_down p q t plain = breaks_down_plain p q plain t
+turn_plain told k.begins_repair p q t plain = plain_kept p q plain (rows_then t.next) (λ job c is inserts.
+    let both = sym (job_then t.next) ∙ is in
+    let serves : ForRepair ≡ job.serves = cc both in
+    let bad : ForRepair ≡ ForInsert c = serves ∙ inserts in absurd (cc bad))
+turn_plain told k.replaces_more p q t plain =
+    plain_on p q plain (rows_then t.next) t.running.job t.running.is (λ job is.
+    serves_on (record t.running.job { claimed = [] }) job [] t.running.rest (sym (job_then t.next) ∙ is))
+turn_plain told k.more_fails p q t plain = ends p q plain t.served.channel _ _ (rows_then t.next) (job_then t.next)
+turn_plain told k.more_breaks_off p q t plain = plain_dropped p q plain (rows_then t.next) (job_then t.next)
 turn_plain told k.flushes p q t plain = goes p q plain t.channel _ _ (rows_then t.next) _ t.row (λ bad. cc bad)
     (job_then t.next)
 turn_plain told k.flush_fails p q t plain = goes p q plain t.channel _ _ (rows_then t.next) _ t.row (λ bad. cc bad)

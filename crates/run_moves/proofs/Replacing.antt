@@ -105,7 +105,7 @@ module _ (p q : StoreState) (d : RunMessages) (first : Volumes) (well : RunsWell
           blob = blob_in_run had.before puts.claim.generation;
           there = there;
           empty = ap (λ o. slot_in o puts.claim.slot) there ∙ slot_empty had.before.map puts.claim.slot empty low;
-          inside = subst (λ h. h < p.super.md_len) puts.head (laid.0.steady t.new t.new_is).stored.low;
+          inside = subst (λ h. h < p.super.md_len) puts.head (laid.0.stored t.new t.new_is).low;
           blobs = blobs;
           filled = blob_is base_filled p.generations puts.claim.head puts.claim.generation t.new
               (given_here p.base t.replacing.head t.new puts.claim.head (sym puts.head)) puts.wanted.current

@@ -22,7 +22,7 @@ use Rattle.store_model.specs.RunInvariant.{RunsWell}
 use Rattle.store_model.proofs.Shows.{or_empty}
 use Rattle.store_model.proofs.SlotSums.{slots_shown}
 use Rattle.running_store.specs.StoreInvariant.{IsRunning}
-use Rattle.running_store.proofs.Resolved.{there_before}
+use Rattle.store_model.proofs.Resolved.{resolved_stored}
 
 -- what is shown of a blob
 abbrev as_volume : StoreState → ℕ → Meta → Volume
@@ -70,9 +70,8 @@ module _ (p : StoreState) (running : IsRunning p) (runs : p.stopped ≡ None) (m
   low : (h : ℕ) (o : Option Meta) → resolved p.base h ≡ o → IsSome o → h < p.super.md_len
   low h None is some = absurd (cc some)
   low h (Some m) is some =
-      let before = there_before p.base h m is in
       subst (λ (s : Super). h < s.md_len) (sym running.facts.super)
-      (running.facts.steady h before.0 before.1).stored.low
+      (resolved_stored running.store p.base running.facts.stored h m is).low
 
   -- all volumes that are shown show its metadata
   pub shows_metas : ShowsMetas (fixed_of p.super) p.super metas (shown p)

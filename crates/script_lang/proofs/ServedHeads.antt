@@ -42,7 +42,7 @@ volume_served v.Sync volume s = one_served_alone _ tt
 volume_served v.Inflate volume s = absurd (false≢true s)
 volume_served v.Decouple volume s = absurd (false≢true s)
 volume_served v.Delete volume s = absurd (false≢true s)
-volume_served v.ReadOnly volume s = absurd (false≢true s)
+volume_served v.ReadOnly volume s = one_served_alone _ tt
 volume_served v.Info volume s = absurd (false≢true s)
 volume_served _ volume s = tt
 

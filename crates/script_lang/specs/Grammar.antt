@@ -16,6 +16,7 @@ serves g.Served v.DelX = true
 serves g.Served v.GetX = true
 serves g.Served v.Put = true
 serves g.Served v.Sync = true
+serves g.Served v.ReadOnly = true
 serves g.Served v.Resize = true
 serves g.Served v.Df = true
 serves g.Served verb = false

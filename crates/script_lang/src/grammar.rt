@@ -30,6 +30,7 @@ impl Grammar {
                     | Verb::GetX
                     | Verb::Put
                     | Verb::Sync
+                    | Verb::ReadOnly
                     | Verb::Resize
                     | Verb::Df
             ),

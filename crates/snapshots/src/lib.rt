@@ -7,5 +7,5 @@ mod refusing;
 mod snapshotting;
 
 pub use cloning::plan_clone;
-pub use marks::{with_named, with_parent_of, without_marks};
+pub use marks::{with_named, with_parent_of};
 pub use snapshotting::plan_snapshot;

@@ -1,14 +1,13 @@
 //! Internal attributes that name another blob by its id.
 
 ghost use Rattle.std.specs.Prelude.{◌≡◌, IfOk};
-ghost use Rattle.blob_meta.specs.Resolving as r;
 ghost use Rattle.snapshots.specs.Marks as m;
 
-use blob_meta::{Flags, Meta};
+use blob_meta::Meta;
 use out_of_memory::Memory;
 use page_fields::bytes_of_u64;
 use std::alloc::Global;
-use volume_model::{TryCopy, XattrList};
+use volume_model::XattrList;
 
 /// A copy of internal attributes in which this one names the blob at a head.
 pub fn with_named(
@@ -30,24 +29,4 @@ pub fn with_parent_of(alloc: Global, internal: &XattrList, meta: &Meta) -> Resul
         Some(id) => internal.with_value(alloc, b"SNAP", id.bytes()),
         None => internal.without(alloc, b"SNAP"),
     }
-}
-
-/// A copy of metadata which is read-only, and without the marks of a snapshot that is being made or removed.
-pub fn without_marks(alloc: Global, meta: &Meta) -> Result<Meta, Memory>
-    ensures { IfOk result (λ copy. copy ≡ r.without_marks meta.now) }
-{
-    Ok(Meta {
-        id: meta.id,
-        flags: Flags {
-            invalid: meta.flags.invalid,
-            data_ro: meta.flags.data_ro / 2 * 2 + 1,
-            md_ro: meta.flags.md_ro,
-        },
-        xattrs: meta.xattrs.try_copy(alloc)?,
-        internal: meta
-            .internal
-            .without(alloc, b"SNAPRM")?
-            .without(alloc, b"SNAPTMP")?,
-        map: meta.map.try_copy(alloc)?,
-    })
 }

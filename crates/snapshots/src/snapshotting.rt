@@ -7,9 +7,9 @@ ghost use Rattle.snapshots.specs.RefusedAt.{IsFirstAt, RefusesFirstAt};
 ghost use Rattle.snapshots.specs.SnapshotJobs as j;
 ghost use Rattle.snapshots.specs.SnapshotPlans.{IsSnapshotJob};
 
-use crate::marks::{with_named, with_parent_of, without_marks};
+use crate::marks::{with_named, with_parent_of};
 use crate::refusing::refusal_of_snapshot;
-use blob_meta::{Flags, Job, Meta, Metas, Replacement, ReplacementList, new_meta};
+use blob_meta::{Flags, Job, Meta, Metas, Replacement, ReplacementList, new_meta, without_marks};
 use descriptors::SlotMap;
 use out_of_memory::Memory;
 use std::alloc::Global;

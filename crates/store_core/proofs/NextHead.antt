@@ -37,7 +37,7 @@ module _ (s : Super) (first : Volumes) (script : ℕ → List _) (p : StoreState
   none_at_end : (head : ℕ) (o : Option Meta) → p.base head ≡ o → head ≡ p.super.md_len → p.base head ≡ None
   none_at_end head None is end = is
   none_at_end head (Some m) is end =
-      let low = (facts.steady head m is).stored.low in
+      let low = (facts.stored head m is).low in
       let e : head ≡ s.md_len = end ∙ ap (λ (x : Super). x.md_len) facts.super in
       absurd (omega (arith, low, e))
 

@@ -15,7 +15,7 @@ use Rattle.store_model.specs.Claiming.{stage_behind, LogsOwn}
 use Rattle.store_model.specs.Device.{Device}
 use Rattle.store_model.specs.Phases.{Phase}
 use Rattle.store_model.specs.Rows.{InJob, OpenClaim, Row, Rows, Stage, with_row}
-use Rattle.store_model.specs.StoreState.{ForCommand, ForInsert, going_on, JobState, Opens, StoreState}
+use Rattle.store_model.specs.StoreState.{ForCommand, ForInsert, ForRepair, going_on, JobState, Opens, StoreState}
 use Rattle.store_model.proofs.LeftToDo.{goes_on_as}
 use Rattle.store_model.proofs.RowsKept.{row_here, row_other}
 use Rattle.metadata_turns.specs.OwnWrites.{AreOwn, BeginsWithWrite, WaitsToInsert}
@@ -184,6 +184,24 @@ own_after told p q kind.breaks_down own t = by t.ends
         (no_job q.job (ap (λ (s : StoreState). s.job) x.next))
     by (inr x) = step_job p own t.job t.is q (ap (λ (s : StoreState). s.rows) x.next)
         (λ next is. absurd (let bad = sym (ap (λ (s : StoreState). s.job) x.next) ∙ is in cc bad))
+own_after told p q kind.begins_repair own t = record {
+  claims = subst HaveOwn (sym (ap (λ (s : StoreState). s.rows) t.next)) own.claims;
+  inserts = λ j row is insert. absurd (let bad = sym (same_one (record {
+    serves = ForRepair;
+    freeze = None;
+    claimed = [];
+    written = [];
+    todo = [];
+  }) _ refl q.job (ap (λ (s : StoreState). s.job) t.next) j is) ∙ insert in cc bad);
+}
+own_after told p q kind.replaces_more own t = step_job p own t.running.job t.running.is q
+    (ap (λ (s : StoreState). s.rows) t.next)
+    (same_behind (record t.running.job { claimed = [] }) t.running.rest q.job (ap (λ (s : StoreState). s.job) t.next))
+own_after told p q kind.more_fails own t = step_idle p own t.served.channel _ _ q
+    (ap (λ (s : StoreState). s.rows) t.next) (no_job q.job (ap (λ (s : StoreState). s.job) t.next))
+own_after told p q kind.more_breaks_off own t = step_job p own t.running.job t.running.is q
+    (ap (λ (s : StoreState). s.rows) t.next)
+    (λ next is. absurd (let bad = sym (ap (λ (s : StoreState). s.job) t.next) ∙ is in cc bad))
 own_after told p q kind.flushes own t = step_none p own t.channel _ t.row (λ e. cc e) _ _ q
     (ap (λ (s : StoreState). s.rows) t.next) (ap (λ (s : StoreState). s.job) t.next)
 own_after told p q kind.flush_fails own t = step_none p own t.channel _ t.row (λ e. cc e) _ _ q

@@ -11,6 +11,7 @@ use Rattle.volume_model.specs.Xattrs.{Text, Xattrs, with_value}
 use Rattle.volume_model.specs.Steps.{edited_at}
 use Rattle.volume_model.specs.declared.command.VolumeRef.{VolumeRef}
 use Rattle.volume_model.specs.declared.command.Command.TheVariants as c
+use Rattle.blob_meta.specs.Parents.{read_only}
 use Rattle.blob_meta.specs.declared.meta.Meta.{Meta}
 use Rattle.blob_meta.specs.Asked.{IsFirstCause}
 use Rattle.blob_meta.specs.Resolving.{resolved}
@@ -89,6 +90,19 @@ module _ (p : StoreState) (running : IsRunning p) (runs : p.stopped ≡ None) (m
     new_is = ap (λ (xs : Xattrs). record old { xattrs = xs }) (sym here.2);
   }
 
+  pub asks_read_only : IsFirstCause metas p.super (Some live) (c.ReadOnly volume) None
+      → AsksFor p (c.ReadOnly volume) head (record old { xattrs = live; flags = read_only old.flags })
+  asks_read_only cause = record {
+    syncing = tt;
+    asked = cause f v (record { shows = shows; live_is = live_of_it });
+    found = meant_now;
+    old = old;
+    there = there_now;
+    after = record here.0 { synced = here.0.live; read_only = true };
+    step = edited_now (λ x. record x { synced = x.live; read_only = true });
+    new_is = ap (λ (xs : Xattrs). record old { xattrs = xs; flags = read_only old.flags }) (sym here.2);
+  }
+
 -- a resize of a blob that is there
 asks_resize : (p : StoreState) (metas : map.FinMap nat_cmp Meta) → ShowsMetas (fixed_of p.super) p.super metas (shown p)
     → (volume : VolumeRef) (slots head : ℕ) (old : Meta) (job : Job) → p.base head ≡ Some old
@@ -137,6 +151,9 @@ plan_laws d = record {
       blob.there blob.is_live meant key value cause;
   sync = λ p volume head old live running runs are blob meant cause.
       asks_sync (state_of d p) running runs p.metas are.resolves (base_is d p running are) volume head old live
+      blob.there blob.is_live meant cause;
+  read_only = λ p volume head old live running runs are blob meant cause.
+      asks_read_only (state_of d p) running runs p.metas are.resolves (base_is d p running are) volume head old live
       blob.there blob.is_live meant cause;
   create = λ p name slots thick uuid head xattrs running runs are is_name next unrefused named.
       asks_create running.store running.first running.script (state_of d p) running.facts (running.facts.well runs)

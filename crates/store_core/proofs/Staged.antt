@@ -172,6 +172,11 @@ module _ (tells : Bool) (p q : StoreState) (are : AreStaged p) where
       one_row _ t.next refl t.served.channel t.served.rest (Decided Answered) None refl tt
   stays_staged kind.breaks_off t = no_row _ t.next refl refl
   stays_staged kind.breaks_down t = broken_down p q t are
+  stays_staged kind.begins_repair t = no_row _ t.next refl refl
+  stays_staged kind.replaces_more t = no_row _ t.next refl refl
+  stays_staged kind.more_fails t =
+      one_row _ t.next refl t.served.channel t.served.rest (Decided Answered) None refl tt
+  stays_staged kind.more_breaks_off t = no_row _ t.next refl refl
   stays_staged kind.flushes t = one_row _ t.next refl t.channel t.rest Idle None refl tt
   stays_staged kind.flush_fails t = one_row _ t.next refl t.channel t.rest Idle None refl tt
   stays_staged kind.reads t = one_row _ t.next refl t.channel t.rest Idle None refl tt

@@ -1,5 +1,5 @@
 -- What the loops of a start have made so far.
-use Rattle.store_model.proofs.Shows.{steady_resolved}
+use Rattle.store_model.proofs.Resolved.{steady_resolved}
 use Rattle.blob_meta.specs.Resolving.{IsLawful, resolved}
 use Rattle.std.proofs.Common.{◌≡◌, ℕ, ◌+◌, ◌<◌, ◌≤◌, Bool, true, false, cond, List, [], ◌∷◌, ◌++◌, length, Option, Some}
 use Rattle.std.proofs.Common.{None, refl, sym, ◌∙◌, ap, subst, ◌⊎◌, arith, inl, inr, length-append, ◌≢◌}
@@ -23,7 +23,7 @@ use Rattle.io_freeze.specs.Guards.{GuardsState, no_guards, renewed}
 use Rattle.store_model.specs.Maps.{Map, Metas, with_entry}
 use Rattle.store_model.specs.StateLaws.{IsLoadedWith}
 use Rattle.store_model.specs.StoreState.{Opens, StoreState}
-use Rattle.store_model.specs.RunInvariant.{AreSteady}
+use Rattle.store_model.specs.RunInvariant.{AreNamed, AreSteady}
 use Rattle.store_model.specs.Rows.{Row, Idle, Ended}
 use Rattle.store_model.proofs.WithEntry.{given_here, given_elsewhere}
 use Rattle.running_store.specs.declared.loaded.Loaded.{Loaded}
@@ -271,7 +271,8 @@ module _ {D : Type 0} (d : Ghosts D) (loaded : Loaded D) (live : map.FinMap nat_
   is_loaded_with whole is =
       subst (λ (base : Metas). IsLoadedWith loaded.sup (with_base base)) (sym (base_at_start whole)) (record {
         super = refl;
-        steady = whole.steady;
+        stored = λ head m there. (whole.steady head m there).stored;
+        named = subst AreNamed (sym (resolved_is whole)) (λ head m there. (whole.steady head m there).named);
         few = whole.lawful.few;
         lawful = subst (IsLawful loaded.sup.md_len) (sym (resolved_is whole)) whole.lawful;
         chains = whole.chains;

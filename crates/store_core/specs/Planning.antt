@@ -8,6 +8,7 @@ use Rattle.volume_model.specs.Volumes.{Fixed, two_xattrs, Volumes}
 use Rattle.volume_model.specs.declared.command.VolumeRef.{VolumeRef}
 use Rattle.volume_model.specs.declared.command.Command.{Command}
 use Rattle.volume_model.specs.declared.command.Command.TheVariants as c
+use Rattle.blob_meta.specs.Parents.{read_only}
 use Rattle.blob_meta.specs.declared.meta.Meta.{Meta}
 use Rattle.blob_meta.specs.declared.job.Job.{Job}
 use Rattle.blob_meta.specs.Asked.{IsFirstCause, IsLiveOf, ShowsLive}
@@ -52,6 +53,12 @@ pub record PlanLaws {D : Type 0} (d : Ghosts D) : Type 0 where
       → IsHeadMeant p.metas p.super volume (Some head)
       → IsFirstCause p.metas p.super (Some live) (c.Sync volume) None
       → AsksFor (state_of d p) (c.Sync volume) head (record old { xattrs = live })
+  -- and one that makes the volume read-only for that with its flags besides.
+  pub read_only : (p : StoreView D) (volume : VolumeRef) (head : ℕ) (old : Meta) (live : Xattrs)
+      → IsRunning (state_of d p) → p.stopped ≡ None → AreResolved p.metas p.marked → HasBlob p head old live
+      → IsHeadMeant p.metas p.super volume (Some head)
+      → IsFirstCause p.metas p.super (Some live) (c.ReadOnly volume) None
+      → AsksFor (state_of d p) (c.ReadOnly volume) head (record old { xattrs = live; flags = read_only old.flags })
   -- A create that nothing refuses asks for a blob at the head that is next, with the attributes that a new volume has
   -- beside those that are shown; where it is thick, each of its slots is to get a cluster of zeros.
   pub create : (p : StoreView D) (name : Text) (slots : ℕ) (thick : Bool) (uuid : Option (List ℕ)) (head : ℕ)

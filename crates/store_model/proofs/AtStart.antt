@@ -41,7 +41,8 @@ holds_loaded s first script p facts image x = record {
   metas = p.base;
   chains = p.chains;
   says = x.says;
-  steady = facts.steady;
+  stored = facts.stored;
+  named = facts.named;
   few = facts.few;
   lawful = facts.lawful;
 }

@@ -38,6 +38,7 @@ syncing_may : (f : Fixed) (v : Volumes) (command : Command) → IsSyncing comman
     → May f v command
 syncing_may f v (c.Put volume key value) is asked = record { done = (asked, tt); lack = (asked, tt); fail = tt }
 syncing_may f v (c.Sync volume) is asked = record { done = (asked, tt); lack = (asked, tt); fail = tt }
+syncing_may f v (c.ReadOnly volume) is asked = record { done = (asked, tt); lack = (asked, tt); fail = tt }
 syncing_may f v _ is asked = absurd is
 
 pub asks_may : (p : StoreState) (command : Command) (head : ℕ) (new : _) → AsksFor p command head new

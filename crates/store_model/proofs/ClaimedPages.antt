@@ -10,7 +10,6 @@ use Rattle.super_block.specs.Numbers.{cluster_pages_of, fixed_clusters_of}
 use Rattle.volume_model.specs.Volumes.{zero_page}
 use Rattle.blob_meta.specs.Resolving.{resolved}
 use Rattle.md_chain.specs.Chain.{is_among}
-use Rattle.store_model.specs.Maps.{Metas}
 use Rattle.store_model.specs.Device.{Device}
 use Rattle.store_model.specs.Places.{claimed_by}
 use Rattle.store_model.specs.Agreeing.{IsNoPage, IsSameButAt, Stands}
@@ -20,7 +19,8 @@ use Rattle.store_model.proofs.Holding.{put_elsewhere}
 use Rattle.store_model.proofs.JobKept.{claimed_behind}
 use Rattle.store_model.proofs.Known.{Known}
 use Rattle.store_model.proofs.Over.{says, Over, Way}
-use Rattle.store_model.proofs.Shows.{steady_resolved, shown_agree}
+use Rattle.store_model.proofs.Resolved.{resolved_mapped}
+use Rattle.store_model.proofs.Shows.{shown_agree}
 use Rattle.store_model.proofs.StandsKept.{stands_claimed}
 
 module _ (known : Known) where
@@ -37,13 +37,13 @@ module _ (known : Known) where
         let k = cluster_pages_of p.super in
         let some : 0 < k = subst (λ (x : Super). 0 < cluster_pages_of x) (sym facts.super) placed.some_pages in
         let row : page / k ≡ cluster = ap (λ n. n / k) (sym e) ∙ div-mul-add cluster k (q % k) (mod-lt q some) in
-        (well.clusters.apart (page / k) (inr among)).1 (record {
+        (well.clusters.apart (page / k) (inr among)).1 (resolved_mapped p.base (page / k) (record {
           head = head;
           meta = m;
-          there = ap (λ (b : Metas). b head) (sym (steady_resolved s p.base facts.steady)) ∙ there;
+          there = there;
           place = q / k;
           in_slot = in_slot ∙ ap Some (sym row);
-        })
+        }))
 
     -- the volumes are shown as they are, whatever is read there
     pub shown_still : (d : Device) → IsSameButAt page p.device.reads d.reads → shown (record p { device = d }) ≡ shown p

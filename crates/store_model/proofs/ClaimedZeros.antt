@@ -21,7 +21,7 @@ use Rattle.store_model.specs.RunInvariant.{RunsWell}
 use Rattle.store_model.proofs.Known.{Known}
 use Rattle.store_model.proofs.OneReplacement.{some_pages}
 use Rattle.store_model.proofs.Sets.{are_distinct, were_clear}
-use Rattle.store_model.proofs.WithEntry.{given_here, given_elsewhere}
+use Rattle.shown_volumes.proofs.WithEntry.{given_here, given_elsewhere}
 use Rattle.store_model.proofs.ZeroSlots.{each_slot, one_slot, zeroed_long, zeroed_rest, AreEmpty}
 use Rattle.store_model.proofs.ZeroedBlob.{IsZeroed}
 

@@ -27,7 +27,8 @@ use Rattle.store_model.specs.Jobs.{
   Keeps,
   MovesClusters,
 }
-use Rattle.store_model.specs.RunInvariant.{RunInvariant, CanBeWritten, IsSteady, RunsWell}
+use Rattle.store_model.specs.RunInvariant.{AreNamed, RunInvariant, CanBeWritten, RunsWell}
+use Rattle.store_model.specs.Steady.{IsStored}
 use Rattle.store_model.specs.Places.{held_by, UsedPages, AreDistinct, all_set, claimed_by, UsedClusters, HasClaim}
 use Rattle.store_model.proofs.Known.{Known}
 use Rattle.store_model.proofs.Progress.{NoneWaits, none_after}
@@ -37,12 +38,11 @@ use Rattle.store_model.proofs.Writable.{AllWritable}
 use Rattle.store_model.proofs.Shows.{or_empty, shown_written}
 use Rattle.store_model.proofs.Sets.{among_either, AllBelow}
 use Rattle.store_model.proofs.UsedCommitted.{used_committed, chains_committed, old_distinct}
-use Rattle.store_model.proofs.Replaced.{steady_given}
+use Rattle.store_model.proofs.WithEntry.{given_all}
 use Rattle.store_model.proofs.StateKept.{allowed_here, log_kept, replay_plain, LogKept}
 use Rattle.store_model.proofs.Seen.{change_seen, metadata_seen}
 use Rattle.store_model.specs.Seen.{seen}
-use Rattle.store_model.specs.Jobs.{Anything, ReadsZeros, zeros_in}
-use Rattle.store_model.proofs.Phases.{keeps_weaker}
+use Rattle.store_model.specs.Jobs.{ReadsZeros, zeros_in}
 use Rattle.store_model.proofs.LeftToDo.{no_place}
 use Rattle.std.specs.Prelude.{◌/◌}
 use Rattle.store_model.proofs.JobKept.{claimed_unread, copied_put, held_low, no_other, held_is, served_does}
@@ -51,9 +51,10 @@ use Rattle.store_model.specs.Copying.{AreCopied, LeavesEmpty}
 use Rattle.store_model.proofs.OneReplacement.{some_pages}
 use Rattle.super_block.specs.Numbers.{cluster_pages_of}
 use Rattle.store_model.proofs.Claims.{with_row_claims}
+use Rattle.blob_meta.specs.Repairs.{HasNoMarks}
 use Rattle.blob_meta.specs.Resolving.{IsLawful, resolved, slots_together}
 use Rattle.store_model.specs.Phases.{Replacing, has_commit, page_in, rechained, taken_in, Replaces, held_in, replaced}
-use Rattle.store_model.specs.Phases.{taken_by}
+use Rattle.store_model.specs.Phases.{behind, taken_by}
 use Rattle.store_model.proofs.LeftToDo.{goes_on_as, held_after, among_left, distinct_left, none_claimed_after}
 use Rattle.store_model.proofs.LeftToDo.{among_taken, chain_there}
 use Rattle.md_chain.specs.Chain.{is_among}
@@ -122,8 +123,8 @@ module _ (known : Known) where
     chains_are : rechained p.chains r ≡ with_entry p.chains r.head (r.head ∷ r.fresh)
     chains_are = rechained_is p.chains r t.new t.new_is
 
-    steady_new : IsSteady s r.head t.new
-    steady_new = subst (λ (y : Super). IsSteady y r.head t.new) facts.super (can.steady t.new t.new_is)
+    stored_new : IsStored s r.head t.new
+    stored_new = subst (λ (y : Super). IsStored y r.head t.new) facts.super (can.stored t.new t.new_is)
 
     abbrev taken : List ℕ
     taken = taken_by r
@@ -142,7 +143,7 @@ module _ (known : Known) where
 
     low : AllBelow p.super.md_len (r.head ∷ r.fresh)
     low x among = elim (among_either x r.head r.fresh among) [
-      | inl e ↦ subst (λ n. n < p.super.md_len) (sym e) (can.steady t.new t.new_is).stored.low
+      | inl e ↦ subst (λ n. n < p.super.md_len) (sym e) (can.stored t.new t.new_is).low
       | inr f ↦ subst (λ (y : Super). x < y.md_len) (sym facts.super)
           (held_low known well (taken ++ later) held x (among_left x taken later (among_taken r x f)))
     ]
@@ -178,7 +179,7 @@ module _ (known : Known) where
     -- each page of the claimed clusters was overwritten, and is read as zeros still
     zeros_read : ReadsZeros p.super j.claimed t.device.reads
     zeros_read page among =
-        claimed_unread known well told r.head (page_in r.planned r.head) t.device steady_new.stored.low t.moves.reads
+        claimed_unread known well told r.head (page_in r.planned r.head) t.device stored_new.low t.moves.reads
         page (subst (λ l. is_among (page / cluster_pages_of p.super) l ≡ true) (sym (ap claimed_by t.running.is)) among)
         ∙ stood.zeroed page among (ap (λ todo. is_among page (zeros_in todo)) t.running.next)
 
@@ -188,7 +189,7 @@ module _ (known : Known) where
         t.moves.reads ∙ ap (λ (y : Super).
         read_after told p.device.reads (y.md_start + r.head) (page_in r.planned r.head)) facts.super in
         let same : shown_of p.super p.base p.live t.device.reads ≡ shown p = shown_written told s p t.device r.head
-        (page_in r.planned r.head) facts.super facts.steady facts.lawful placed steady_new.stored.low at in
+        (page_in r.planned r.head) facts.super facts.stored facts.lawful placed stored_new.low at in
         let step = does.0.shows t.device.reads zeros_read in
         let on_w : shown_of p.super (replaced p.base r) (live_of w) t.device.reads ≡ w =
         subst (λ (v : Volumes). shown_of p.super
@@ -201,7 +202,7 @@ module _ (known : Known) where
     copied_new =
         let mid : StoreState = record p { device = t.device } in
         let read : AreCopied mid = copied_put known told mid r.head (page_in r.planned r.head) refl refl refl refl well
-        steady_new.stored.low t.moves.reads in
+        stored_new.low t.moves.reads in
         copied_committed mid now read t.commit.renews refl refl refl well.claims_drawn
         (row_unclaimed (cluster_pages_of p.super) p.rows channel _ refl) (some_pages known) (λ image. Unit {0}) tt
         (λ h out. subst (λ (m : Metas). LeavesEmpty p.super (resolved p.base) (resolved m) (λ image. Unit {0}) h)
@@ -243,10 +244,11 @@ module _ (known : Known) where
               (old_distinct p.super p.base p.chains well.chains p.pages r later can.chain can.unerased used differ);
           served = λ c serves waits. absurd (let bad = sym does.1 ∙ waits in cc bad);
           inserts = λ row bad. absurd (let e = sym serves ∙ bad in cc e);
-          keeps =
-              λ none other. subst (λ (m : Metas). Keeps (ReadsZeros p.super []) p.super m (live_of w) t.running.rest)
-              base_is (keeps_weaker Anything (ReadsZeros p.super []) (λ image holds. tt) p.super (replaced p.base r)
-              (live_of w) t.running.rest (does.2 p.device.reads));
+          keeps = λ none other. subst (λ (m : Metas). Keeps m t.running.rest) base_is does.2;
+          settles = λ other. subst HasNoMarks
+              (ap (behind p.base) t.running.next ∙ ap (λ (m : Metas). behind m t.running.rest) base_is)
+              (stood.settles other);
+          mends = λ repair. absurd (let bad = sym serves ∙ repair in cc bad);
           zeroed = λ page among out. absurd (no_place [] (page / cluster_pages_of p.super) among refl);
         } in
         subst (JobStands now) (sym g.is) stands
@@ -265,7 +267,8 @@ module _ (known : Known) where
         let done_so : RunInvariant s first script now =
         record {
           super = facts.super;
-          steady = steady_given s p.base r.head t.new facts.steady steady_new;
+          stored = given_all p.base r.head t.new (IsStored s) facts.stored stored_new;
+          named = subst (λ (m : Metas). AreNamed (resolved m)) base_is can.named;
           few = subst (λ (m : Metas). slots_together s.md_len m ≤ 2 ^ 24) base_is
               (subst (λ (y : Super). slots_together y.md_len (replaced p.base r) ≤ 2 ^ 24) facts.super can.few);
           lawful = subst (λ (m : Metas). IsLawful s.md_len (resolved m)) base_is

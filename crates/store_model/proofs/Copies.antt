@@ -36,19 +36,20 @@ use Rattle.blob_meta.specs.Parents.{parent_of, slot}
 use Rattle.blob_meta.specs.Resolving.{IsLawful, resolved}
 use Rattle.md_chain.specs.Chain.{is_among}
 use Rattle.store_model.specs.Agreeing.{AgreeOn, IsPageOf, IsSameButAt}
-use Rattle.store_model.specs.Copying.{AreCopied, HasCopied, IsWanted, LeavesEmpty, page_of_claim}
+use Rattle.store_model.specs.Copying.{AreCopied, HasCopied, IsUpToDate, IsWanted, LeavesEmpty, page_of_claim}
 use Rattle.store_model.specs.Guarding.{all_renewed, AreClaimsDrawn}
 use Rattle.store_model.specs.Maps.{Map, Metas, with_entry}
 use Rattle.store_model.specs.Places.{HasClaim, UsedClusters}
 use Rattle.store_model.specs.Rows.{Copying, InJob, OpenClaim, Posted, Ready, Row, Rows, Stage, with_row}
 use Rattle.store_model.specs.Shown.{content, content_by}
 use Rattle.store_model.specs.StoreState.{StoreState}
+use Rattle.store_model.proofs.Resolved.{resolved_mapped}
 use Rattle.store_model.proofs.Contents.{HasParents, same_content}
 use Rattle.store_model.proofs.PageWritten.{other_page, same_place}
 use Rattle.store_model.proofs.RowsKept.{row_here, row_other}
 use Rattle.store_model.proofs.Sets.{among_either}
 use Rattle.store_model.proofs.Shows.{agree, AreFaultless}
-use Rattle.store_model.proofs.WithEntry.{given_elsewhere, given_here}
+use Rattle.shown_volumes.proofs.WithEntry.{given_elsewhere, given_here}
 
 -- this page was copied for the row's claim
 pub record IsCopiedFor (pages : ℕ) (rows : Rows) (row : ℕ) (claim : OpenClaim) (page : ℕ) : Type 0 where
@@ -192,20 +193,21 @@ module _ (p q : StoreState) (copied : AreCopied p) (super : q.super ≡ p.super)
       same (page_of_claim p claim page) (omega (arith, le)))
 
   -- a page of a volume is read otherwise
-  pub copied_written : 0 < k → IsLawful p.super.md_len (resolved p.base) → resolved p.base ≡ p.base
+  pub copied_written : 0 < k → IsLawful p.super.md_len (resolved p.base)
       → UsedClusters p.super p.clusters p.base (HasClaim p.rows p.job)
       → (head page place : ℕ) → IsPageOf p.super (resolved p.base) head page place
       → IsSameButAt place p.device.reads q.device.reads → AreCopied q
-  copied_written some lawful plain used head page place at same = copied_still
+  copied_written some lawful used head page place at same = copied_still
       (λ row claim n x low. same (page_of_claim p claim n) (λ e.
       let one = same_place k claim.cluster at.cluster n (page % k) low (mod-lt page some) (e ∙ at.place_is) in
-      (used.apart claim.cluster (inl (record { channel = row; claim = claim; held = x.held; is = refl }))).1 (record {
+      (used.apart claim.cluster (inl (record { channel = row; claim = claim; held = x.held; is = refl }))).1
+      (resolved_mapped p.base claim.cluster (record {
         head = head;
         meta = at.meta;
-        there = ap (λ (m : Metas). m head) (sym plain) ∙ at.there;
+        there = at.there;
         place = page / k;
         in_slot = at.in_slot ∙ ap (λ n. Some n) (sym one.row);
-      })))
+      }))))
       (λ claim n wanted low. other_page p.super some (resolved p.base) lawful head page place at p.device.reads
       q.device.reads (q.device.reads place) refl same (suc p.super.md_len) claim.head (claim.slot * k + n)
       (apart claim n wanted low))
@@ -294,3 +296,28 @@ module _ (p q : StoreState) (copied : AreCopied p) (heads : List ℕ) (super : q
       ∙ ap (λ (i : Image). content k i (resolved q.base) (suc p.super.md_len) claim.head
       (claim.slot * k + page)) reads
       ∙ was.same p.device.reads holds)
+
+-- With other metadata that resolves to the same, and other generations, by which no more claims are up to date.
+pub copied_unseen : (p q : StoreState) → AreCopied p → q.super ≡ p.super → resolved q.base ≡ resolved p.base
+    → q.rows ≡ p.rows → q.device.reads ≡ p.device.reads
+    → ((row : ℕ) (claim : OpenClaim) → (p.rows row).claim ≡ Some claim → IsUpToDate q claim → IsUpToDate p claim)
+    → AreCopied q
+copied_unseen p q copied super base rows reads no_more row claim held wanted page has =
+    let held_before : (p.rows row).claim ≡ Some claim = sym (ap (λ (x : Rows). (x row).claim) rows) ∙ held in
+    let before : IsWanted p claim = record {
+      current = no_more row claim held_before wanted.current;
+      meta = wanted.meta;
+      there = sym (ap (λ (m : Metas). m claim.head) base) ∙ wanted.there;
+      empty = wanted.empty;
+    } in
+    let had : HasCopied (cluster_pages_of p.super) (p.rows row).stage page =
+    subst (λ (x : Rows). HasCopied (cluster_pages_of p.super) (x row).stage page) rows
+    (subst (λ (s : Super). HasCopied (cluster_pages_of s) (q.rows row).stage page) super has) in
+    ap (λ (s : Super). q.device.reads (claim.cluster * cluster_pages_of s + page)) super
+    ∙ ap (λ (i : Image). i (page_of_claim p claim page)) reads ∙ copied row claim held_before before page had
+    ∙ sym (ap (λ (s : Super). content (cluster_pages_of s) q.device.reads (resolved q.base) (suc s.md_len) claim.head
+    (claim.slot * cluster_pages_of s + page)) super
+    ∙ ap (λ (i : Image). content (cluster_pages_of p.super) i (resolved q.base) (suc p.super.md_len) claim.head
+    (claim.slot * cluster_pages_of p.super + page)) reads
+    ∙ ap (λ (m : Metas). content (cluster_pages_of p.super) p.device.reads m (suc p.super.md_len) claim.head
+    (claim.slot * cluster_pages_of p.super + page)) base)

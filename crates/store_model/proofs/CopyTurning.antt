@@ -16,7 +16,6 @@ use Rattle.md_chain.specs.Chain.{is_among}
 use Rattle.store_model.specs.Agreeing.{AgreeOn, IsNoPage, IsSameButAt, Stands}
 use Rattle.store_model.specs.Copying.{AreCopied, HasCopied, page_of_claim}
 use Rattle.store_model.specs.Device.{Device}
-use Rattle.store_model.specs.Maps.{Metas}
 use Rattle.store_model.specs.Places.{HasClaim}
 use Rattle.store_model.specs.Rows.{OpenClaim}
 use Rattle.store_model.specs.StoreState.{shown}
@@ -24,7 +23,8 @@ use Rattle.store_model.specs.RunInvariant.{RunInvariant, RunsWell}
 use Rattle.store_model.proofs.Copies.{copied_still}
 use Rattle.store_model.proofs.Holding.{put_elsewhere}
 use Rattle.store_model.proofs.Known.{Known}
-use Rattle.store_model.proofs.OneReplacement.{base_resolved, some_pages}
+use Rattle.store_model.proofs.OneReplacement.{some_pages}
+use Rattle.store_model.proofs.Resolved.{resolved_mapped}
 use Rattle.store_model.proofs.Over.{ImageLaw, Over, says, Way}
 use Rattle.store_model.proofs.PageWritten.{same_place}
 use Rattle.store_model.proofs.Shows.{shown_agree}
@@ -69,13 +69,13 @@ module _ (known : Known) (runs : known.p.stopped ≡ None) (row : ℕ) (claim : 
   claimed_apart : IsNoPage k (resolved p.base) place
   claimed_apart head q cluster m there is e =
       let one = same_place k cluster claim.cluster (q % k) page (mod-lt q (some_pages known)) low e in
-      (well.clusters.apart claim.cluster claimed).1 (record {
+      (well.clusters.apart claim.cluster claimed).1 (resolved_mapped p.base claim.cluster (record {
         head = head;
         meta = m;
-        there = ap (λ (b : Metas). b head) (sym (base_resolved known)) ∙ there;
+        there = there;
         place = q / k;
         in_slot = is ∙ ap (λ n. Some n) one.row;
-      })
+      }))
 
   pub claimed_no_page : IsNoPage (cluster_pages_of s) (resolved p.base) place
   claimed_no_page = subst (λ (x : Super). IsNoPage (cluster_pages_of x) (resolved p.base) place) facts.super

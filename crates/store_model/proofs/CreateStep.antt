@@ -11,7 +11,6 @@ use Rattle.std.proofs.lemmas.Bool.Decides.{nat_tests}
 use Rattle.std.proofs.lemmas.List.{length-replicate}
 use Rattle.std.proofs.Math.Path.{fun_ext}
 use Rattle.page_disk.specs.Disk.{Image}
-use Rattle.volume_model.specs.Blank.{blanked}
 use Rattle.volume_model.specs.Volumes.{all_slots, Fixed, two_xattrs, Volume, Volumes}
 use Rattle.volume_model.specs.Xattrs.{Text, Xattrs}
 use Rattle.volume_model.specs.Refusals.{is_taken, is_too_large, refusal}
@@ -20,10 +19,10 @@ use Rattle.volume_model.specs.declared.command.Command.{Command}
 use Rattle.volume_model.specs.declared.command.Command.TheVariants as c
 use Rattle.volume_model.specs.declared.reply.Reply.TheVariants as r_
 use Rattle.volume_model.proofs.Blank.{same_refusal}
-use Rattle.volume_model.proofs.BlankSteps.{same_change}
 use Rattle.blob_meta.specs.declared.meta.Meta.{Meta}
 use Rattle.blob_meta.specs.declared.job.Job.{Job as Changes}
 use Rattle.blob_meta.specs.Jobs.{new_meta}
+use Rattle.blob_meta.specs.Repairs.{HasNoMarks}
 use Rattle.blob_meta.specs.Resolving.{resolved, slots_together, IsLawful}
 use Rattle.store_model.specs.Maps.{Metas, with_entry}
 use Rattle.store_model.specs.Shown.{fixed_of}
@@ -51,9 +50,11 @@ use Rattle.store_model.specs.Places.{AreDistinct, AreLeastClear, IsMapped}
 use Rattle.store_model.proofs.OneReplacement.{all_steady, base_is, base_lawful, base_steady, base_resolved, IsReady}
 use Rattle.store_model.proofs.OneReplacement.{lawful_still, ready_by, some_pages}
 use Rattle.store_model.proofs.ShowsNew.{live_here, shown_made, w_elsewhere}
-use Rattle.store_model.proofs.SlotSums.{all_shown, slots_given, slots_in}
-use Rattle.store_model.proofs.Writable.{AllWritable, none_holds}
-use Rattle.store_model.proofs.WithEntry.{given_here, given_elsewhere}
+use Rattle.shown_volumes.proofs.SlotSums.{all_shown, slots_given, slots_in}
+use Rattle.shown_volumes.proofs.Blanked.{two_same}
+use Rattle.shown_volumes.proofs.Passing.{none_holds}
+use Rattle.store_model.proofs.Writable.{AllWritable}
+use Rattle.shown_volumes.proofs.WithEntry.{given_here, given_elsewhere}
 use Rattle.store_model.proofs.Sets.{among_first, not_first}
 
 -- the slots of a new blob that get clusters of zeros
@@ -73,16 +74,7 @@ fits f v name slots thick uuid asked =
     let large : is_too_large f v slots (all_slots f v) ≡ false = none.1.0 in
     record { alone = grind (arith, nat_tests, large); together = grind (arith, nat_tests, large) }
 
--- the attributes of a new volume don't depend on the content of pages
-two_same : (f : Fixed) (v w : Volumes) → ((h : ℕ) → blanked v h ≡ blanked w h) → (name : Text)
-    (uuid : Option (List ℕ)) → two_xattrs f v name uuid ≡ two_xattrs f w name uuid
-two_same f v w same name uuid =
-    let x : Some (two_xattrs f v name uuid) ≡ Some (two_xattrs f w name uuid) =
-    ap (λ o. option_map (λ (x : Volume). x.live) o)
-    (same_change f v w same (c.Create name 0 false uuid) (r_.Made 0) 0) in
-    cc x
-
-module _ (known : Known) where
+module _ (known : Known) (unmarked : HasNoMarks known.p.base) where
   open known use {first, p, facts}
 
   module _ (runs : p.stopped ≡ None) (name : Text) (slots : ℕ) (thick : Bool) (uuid : Option (List ℕ))
@@ -148,7 +140,7 @@ module _ (known : Known) where
             (filled thick is)))
 
     steady : AreSteady p.super all
-    steady = all_steady known head new one_steady
+    steady = all_steady known unmarked head new one_steady
 
     few_with : (m : Meta) → length m.map ≡ slots → slots_together p.super.md_len (with_entry p.base head m) ≤ 2 ^ 24
     few_with m long =
@@ -158,7 +150,7 @@ module _ (known : Known) where
         ∙ slots_given p.super.md_len p.base head m low in
         let shows : all_slots (fixed_of p.super) (shown p) ≡ slots_together p.super.md_len p.base =
         all_shown (fixed_of p.super) p.device.reads (resolved p.base)
-        (some_pages known) p.live ∙ ap (slots_together p.super.md_len) (base_resolved known) in
+        (some_pages known) p.live ∙ ap (slots_together p.super.md_len) (base_resolved known unmarked) in
         omega (arith, counted, shows, few.together, long)
 
     bare_few : slots_together p.super.md_len (with_entry p.base head bare) ≤ 2 ^ 24
@@ -171,10 +163,10 @@ module _ (known : Known) where
     all_lawful = lawful_zeroed p.super.md_len p.base head bare new claimed zeroed
         (zeroed_fresh known runs claimed least head bare (new_zeros thick slots) (zeros_differ thick) all_empty
         no_cluster)
-        (lawful_still known head bare (new_takes_none p.base head xattrs thick slots none) bare_few) all_few
+        (lawful_still known unmarked head bare (new_takes_none p.base head xattrs thick slots none) bare_few) all_few
 
     base_now : replaced p.base r ≡ all
-    base_now = base_is known head new one_steady r head_is new_is
+    base_now = base_is known unmarked head new one_steady r head_is new_is
 
     -- ---- what every image shows
 
@@ -200,16 +192,16 @@ module _ (known : Known) where
 
       shows_new : ReadsZeros p.super claimed image → shown_of p.super (replaced p.base r) (live_of w) image ≡ w
       shows_new holds = ap (λ (m : Metas). shown_of p.super m (live_of w) image) base_now
-          ∙ shown_made there (base_steady known) (base_lawful known) head none name slots thick uuid xattrs
-          same_two new steady claimed zeroed (zeros_read known claimed image holds)
+          ∙ shown_made there (base_steady known unmarked) (base_lawful known unmarked) head none name slots thick uuid
+          xattrs same_two new steady claimed zeroed (zeros_read known claimed image holds)
 
       live_at : live_of w head ≡ Some xattrs
-      live_at = live_here there (base_steady known) (base_lawful known) head none name slots thick uuid xattrs
-          same_two new steady
+      live_at = live_here there (base_steady known unmarked) (base_lawful known unmarked) head none name slots thick
+          uuid xattrs same_two new steady
 
       others : (h : ℕ) → (h ≡ head → ⊥) → w h ≡ shown there h
-      others = w_elsewhere there (base_steady known) (base_lawful known) head none name slots thick uuid xattrs
-          same_two new steady
+      others = w_elsewhere there (base_steady known unmarked) (base_lawful known unmarked) head none name slots thick
+          uuid xattrs same_two new steady
 
       lives : live_of w ≡ with_entry p.live r.head xattrs
       lives = fun_ext (λ h. elim (cases_eq h head) [
@@ -241,15 +233,15 @@ module _ (known : Known) where
       renews = (ap (λ (m : Metas). is_some (m head)) base_now ∙ ap is_some (given_here p.base head new head refl), tt);
       numbers = λ makes. subst (λ h. is_among h (head ∷ []) ≡ true) (sym head_is) (among_first head []);
       leaves = λ h out.
-          leaves_resolved p.super p.base (replaced p.base r) Any h (base_steady known)
+          leaves_resolved p.super p.base (replaced p.base r) Any h (base_steady known unmarked)
           (subst (AreSteady p.super) (sym base_now) steady)
           (subst (λ (m : Metas). LeavesEmpty p.super p.base m Any h) (sym base_now)
-          (leaves_elsewhere p.super p.base head new (none_childless p.base head (base_lawful known).parents none) h
-          (not_first h head [] out).0));
+          (leaves_elsewhere p.super p.base head new
+          (none_childless p.base head (base_lawful known unmarked).parents none) h (not_first h head [] out).0));
     }
 
     pub ready : IsReady p claimed (c.Create name slots thick uuid) commit new r
-    ready = ready_by known head new one_steady r head_is new_is claimed (c.Create name slots thick uuid) commit
+    ready = ready_by known unmarked head new one_steady r head_is new_is claimed (c.Create name slots thick uuid) commit
         all_lawful all_few step
 
   -- what a create asks for is ready, with the clusters that are claimed for it, once its head is a place of the region

@@ -44,7 +44,8 @@ module _ (known : Known) where
       let now : StoreState = record p { device = d } in
       record {
         super = facts.super;
-        steady = facts.steady;
+        stored = facts.stored;
+        named = facts.named;
         few = facts.few;
         lawful = facts.lawful;
         legal = facts.legal;

@@ -37,7 +37,7 @@ use Rattle.store_model.specs.Shown.{content, content_by}
 use Rattle.store_model.proofs.Cut.{slot_kept, slot_past}
 use Rattle.store_model.proofs.Elsewhere.{IsChildless, same_elsewhere, through}
 use Rattle.store_model.proofs.SameMaps.{content_alike, IsPlacedAlike}
-use Rattle.store_model.proofs.Shows.{steady_resolved}
+use Rattle.store_model.proofs.Resolved.{steady_resolved}
 use Rattle.store_model.proofs.WithEntry.{given_elsewhere, given_here}
 
 -- whatever an image holds

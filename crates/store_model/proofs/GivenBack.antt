@@ -93,7 +93,8 @@ module _ (known : Known) where
       let now : StoreState = record (stopped_now p) { device = d } in
       record {
         super = facts.super;
-        steady = facts.steady;
+        stored = facts.stored;
+        named = facts.named;
         few = facts.few;
         lawful = facts.lawful;
         legal = facts.legal;

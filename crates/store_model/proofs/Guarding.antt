@@ -12,7 +12,7 @@ use Rattle.store_model.specs.Rows.{Rows}
 use Rattle.store_model.specs.StoreState.{going_on, JobState, StoreState}
 use Rattle.store_model.specs.Guarding.{all_renewed, AreClaimsDrawn, AreGenerations, freezing, frozen_behind, IsGuarded}
 use Rattle.store_model.specs.Guarding.{releasing}
-use Rattle.store_model.proofs.WithEntry.{given_here, given_elsewhere}
+use Rattle.shown_volumes.proofs.WithEntry.{given_here, given_elsewhere}
 use Rattle.store_model.proofs.Sets.{among_either, among_first}
 use Rattle.md_chain.specs.Chain.{is_among}
 

@@ -5,13 +5,14 @@ use Rattle.super_block.specs.declared.page.Super.{Super}
 use Rattle.super_block.specs.Numbers.{cluster_pages_of}
 use Rattle.page_disk.specs.Disk.{Image}
 use Rattle.blob_meta.specs.declared.meta.Meta.{Meta}
-use Rattle.blob_meta.specs.Resolving.{resolved}
+use Rattle.blob_meta.specs.Repairs.{HasNoMarks}
+use Rattle.blob_meta.specs.Resolving.{mark_of, resolved}
 use Rattle.store_model.specs.Claiming.{stage_behind}
 use Rattle.store_model.specs.Copying.{AreCopied, HasCopied, LeavesEmpty}
 use Rattle.store_model.specs.Inserting.{with_slot}
 use Rattle.store_model.specs.Jobs.{CanReplace, gained_by, InsertStands, JobStands, Lays, Puts, PutsClaim}
 use Rattle.store_model.specs.Jobs.{shown_of}
-use Rattle.store_model.specs.Steady.{AreSteady, IsSteady}
+use Rattle.store_model.specs.Steady.{IsStored}
 use Rattle.store_model.specs.Maps.{Metas, with_entry}
 use Rattle.store_model.specs.Phases.{page_in, Phase, rechained, replaced}
 use Rattle.store_model.specs.Phases.{Replaces, Replacing}
@@ -27,9 +28,10 @@ use Rattle.store_model.proofs.InsertedContent.{Holds, leaves_inserted, shown_sam
 use Rattle.store_model.proofs.JobKept.{copied_put}
 use Rattle.store_model.proofs.Known.{Known}
 use Rattle.store_model.proofs.OneReplacement.{base_lawful, base_steady, base_resolved, some_pages}
-use Rattle.store_model.proofs.Ranks.{levels, Levels}
-use Rattle.store_model.proofs.Replaced.{steady_given}
-use Rattle.store_model.proofs.Shows.{steady_resolved, shown_written}
+use Rattle.shown_volumes.proofs.Ranks.{levels, Levels}
+use Rattle.store_model.proofs.WithEntry.{given_all}
+use Rattle.store_model.proofs.Resolved.{unmarked_resolved}
+use Rattle.store_model.proofs.Shows.{shown_written}
 
 module _ (known : Known) where
   open known use {s, placed, first, script, p, facts}
@@ -97,7 +99,7 @@ module _ (known : Known) where
     -- ---- the metadata
 
     pub there : p.base claim.head ≡ Some old
-    there = ap (λ (m : Metas). m claim.head) (sym (base_resolved known)) ∙ put.wanted.there
+    there = ap (λ (m : Metas). m claim.head) (sym (base_resolved known inserts.unmarked)) ∙ put.wanted.there
 
     abbrev all : Metas
     all = with_entry p.base claim.head (with_slot old claim.slot claim.cluster)
@@ -107,20 +109,24 @@ module _ (known : Known) where
         let one : t.new ≡ with_slot old claim.slot claim.cluster = let both = sym t.new_is ∙ put.new in cc both in
         ap (λ h. with_entry p.base h t.new) put.head ∙ ap (with_entry p.base claim.head) one
 
-    pub new_steady : IsSteady p.super r.head t.new
-    new_steady = can.steady t.new t.new_is
+    pub new_stored : IsStored p.super r.head t.new
+    new_stored = can.stored t.new t.new_is
 
-    pub now_steady : AreSteady p.super now.base
-    now_steady = steady_given p.super p.base r.head t.new (base_steady known) new_steady
+    -- no blob has a mark then
+    pub now_unmarked : HasNoMarks now.base
+    now_unmarked = given_all p.base r.head t.new (λ h m. mark_of m ≡ None) inserts.unmarked (
+        let one : t.new ≡ with_slot old claim.slot claim.cluster = let both = sym t.new_is ∙ put.new in cc both in
+        ap mark_of one ∙ inserts.unmarked claim.head old there)
 
     pub resolved_all : resolved now.base ≡ all
-    resolved_all = steady_resolved p.super now.base now_steady ∙ base_all
+    resolved_all = unmarked_resolved now.base now_unmarked ∙ base_all
 
     ranks : Levels p.super.md_len p.base
-    ranks = levels p.super.md_len p.base (base_lawful known) (λ h m is. (base_steady known h m is).stored.low)
+    ranks = levels p.super.md_len p.base (base_lawful known inserts.unmarked)
+        (λ h m is. (base_steady known inserts.unmarked h m is).stored.low)
 
     pub low : r.head < s.md_len
-    low = subst (λ (x : Super). r.head < x.md_len) facts.super new_steady.stored.low
+    low = subst (λ (x : Super). r.head < x.md_len) facts.super new_stored.low
 
     -- ---- what is shown
 
@@ -143,7 +149,7 @@ module _ (known : Known) where
           empty = put.wanted.empty;
         }) n (subst (λ (x : Stage). HasCopied (cluster_pages_of p.super) x n) (sym inserts.waits) lt)
         ∙ ap (λ (m : Metas). content (cluster_pages_of p.super) t.device.reads m (suc p.super.md_len) claim.head
-        (claim.slot * cluster_pages_of p.super + n)) (base_resolved known)
+        (claim.slot * cluster_pages_of p.super + n)) (base_resolved known inserts.unmarked)
 
     pub shows : shown now ≡ shown p
     shows =
@@ -151,17 +157,19 @@ module _ (known : Known) where
         t.moves.reads ∙ ap (λ (y : Super).
         read_after told p.device.reads (y.md_start + r.head) (page_in r.planned r.head)) facts.super in
         let same : shown_of p.super p.base p.live t.device.reads ≡ shown p = shown_written told s p t.device r.head
-        (page_in r.planned r.head) facts.super facts.steady facts.lawful placed low at in
+        (page_in r.planned r.head) facts.super facts.stored facts.lawful placed low at in
         ap (λ (m : Metas). shown_by (fixed_of p.super) t.device.reads m p.live) resolved_all
         ∙ shown_same p.super (some_pages known) p.base claim.head old there ranks claim.slot claim.cluster
         put.within put.wanted.empty t.device.reads holds p.live
-        ∙ ap (λ (m : Metas). shown_by (fixed_of p.super) t.device.reads m p.live) (sym (base_resolved known))
+        ∙ ap (λ (m : Metas). shown_by (fixed_of p.super) t.device.reads m p.live)
+        (sym (base_resolved known inserts.unmarked))
         ∙ same
 
     pub copied : AreCopied now
     copied = copied_committed mid now read [] refl refl refl well.claims_drawn
         (row_unclaimed (cluster_pages_of p.super) p.rows row next refl) (some_pages known) Held holds
-        (λ h out. subst (λ (m : Metas). LeavesEmpty p.super m (resolved now.base) Held h) (sym (base_resolved known))
+        (λ h out. subst (λ (m : Metas). LeavesEmpty p.super m (resolved now.base) Held h)
+        (sym (base_resolved known inserts.unmarked))
         (subst (λ (m : Metas). LeavesEmpty p.super p.base m Held h) (sym resolved_all)
         (leaves_inserted p.super (some_pages known) p.base claim.head old there ranks claim.slot claim.cluster
         put.within put.wanted.empty h)))

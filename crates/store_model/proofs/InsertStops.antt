@@ -56,7 +56,8 @@ module _ (known : Known) (j : JobState) (is : known.p.job ≡ Some j) (inserting
       let done : RunInvariant s first script now =
       record {
         super = facts.super;
-        steady = facts.steady;
+        stored = facts.stored;
+        named = facts.named;
         few = facts.few;
         lawful = facts.lawful;
         legal = kept.legal;

@@ -27,7 +27,7 @@ module _ {D : Type 0} (d : Ghosts D) (x : Over d) (r : Replacing) (running : Run
   open x use {laws, told, s, placed, first, script, p, from, from_is, from_tells, facts}
 
   abbrev with_head : Image
-  with_head = image d x r None running new new_is
+  with_head = image d x r None running
 
   holds : HoldsMetadata s (with_entry p.base r.head new) (with_entry p.chains r.head (r.head ∷ r.fresh)) with_head
   holds = new_holds d x r None running new new_is
@@ -87,7 +87,8 @@ module _ {D : Type 0} (d : Ghosts D) (x : Over d) (r : Replacing) (running : Run
     metas = would_be.base;
     chains = would_be.chains;
     says = holds.says;
-    steady = would_facts.steady;
+    stored = would_facts.stored;
+    named = would_facts.named;
     few = would_facts.few;
     lawful = would_facts.lawful;
   }) p.log recovers (unchanged refl)

@@ -7,13 +7,14 @@ use Rattle.std.proofs.lemmas.List.Elements.{All-weaker}
 use Rattle.super_block.specs.declared.page.Super.{Super}
 use Rattle.volume_model.specs.Xattrs.{Xattrs}
 use Rattle.blob_meta.specs.declared.meta.Meta.{Meta}
+use Rattle.blob_meta.specs.Repairs.{HasNoMarks}
 use Rattle.blob_meta.specs.Resolving.{IsLawful, resolved, slots_together}
 use Rattle.store_model.specs.Claiming.{stage_behind}
 use Rattle.store_model.specs.Inserting.{with_slot}
 use Rattle.store_model.specs.Jobs.{CanReplace, gained_by, inserted_by, InsertStands, JobStands, Lays, Puts, PutsClaim}
-use Rattle.store_model.specs.Steady.{AreSteady, CanBeWritten, IsSteady}
+use Rattle.store_model.specs.Steady.{AreNamed, CanBeWritten, IsStored}
 use Rattle.store_model.specs.Maps.{Chains, Metas, with_entry}
-use Rattle.store_model.specs.Phases.{held_in, Phase, rechained, replaced}
+use Rattle.store_model.specs.Phases.{behind, held_in, Phase, rechained, replaced}
 use Rattle.store_model.specs.Phases.{Replaces, Replacing, taken_by, taken_in}
 use Rattle.store_model.specs.Places.{AreDistinct, claimed_by, held_by, IsMapped, UsedPages}
 use Rattle.store_model.specs.Rows.{InJob, OpenClaim, Row, with_row}
@@ -43,10 +44,10 @@ use Rattle.store_model.proofs.RowsKept.{row_here, row_other, way_kept}
 use Rattle.store_model.proofs.Sets.{AllBelow, among_either}
 use Rattle.store_model.proofs.SameBlobs.{had_blob, had_none, same_generations}
 use Rattle.store_model.proofs.Shaped.{MayBe, shaped_with}
-use Rattle.store_model.proofs.Shows.{steady_resolved}
+use Rattle.store_model.proofs.Resolved.{unmarked_resolved}
 use Rattle.store_model.proofs.StateKept.{runs_here}
 use Rattle.store_model.proofs.UsedCommitted.{chains_committed, old_distinct, used_committed}
-use Rattle.store_model.proofs.WithEntry.{given_elsewhere, given_here}
+use Rattle.store_model.proofs.WithEntry.{given_all, given_elsewhere, given_here}
 
 module _ (known : Known) where
   open known use {s, placed, first, script, p, facts}
@@ -117,11 +118,11 @@ module _ (known : Known) where
     base_all : now.base ≡ with_entry p.base claim.head (with_slot old claim.slot claim.cluster)
     base_all = before.base_all known told q t
 
-    new_steady : IsSteady p.super r.head t.new
-    new_steady = before.new_steady known told q t
+    new_stored : IsStored p.super r.head t.new
+    new_stored = before.new_stored known told q t
 
-    now_steady : AreSteady p.super now.base
-    now_steady = before.now_steady known told q t
+    now_unmarked : HasNoMarks now.base
+    now_unmarked = before.now_unmarked known told q t
 
     -- ---- blobs
 
@@ -134,8 +135,8 @@ module _ (known : Known) where
 
     had_resolved : (h : ℕ) → is_some (resolved now.base h) ≡ is_some (resolved p.base h)
     had_resolved h =
-        ap (λ (m : Metas). is_some (m h)) (steady_resolved p.super now.base now_steady) ∙ had h
-        ∙ ap (λ (m : Metas). is_some (m h)) (sym (base_resolved known))
+        ap (λ (m : Metas). is_some (m h)) (unmarked_resolved now.base now_unmarked) ∙ had h
+        ∙ ap (λ (m : Metas). is_some (m h)) (sym (base_resolved known inserts.unmarked))
 
     live : (h : ℕ) (m : Meta) → resolved now.base h ≡ Some m
         → (xattrs : Xattrs) × (p.live h ≡ Some xattrs) × CanBeWritten xattrs
@@ -161,7 +162,7 @@ module _ (known : Known) where
 
     all_low : AllBelow p.super.md_len (r.head ∷ r.fresh)
     all_low x among = elim (among_either x r.head r.fresh among) [
-      | inl e ↦ subst (λ n. n < p.super.md_len) (sym e) new_steady.stored.low
+      | inl e ↦ subst (λ n. n < p.super.md_len) (sym e) new_stored.low
       | inr f ↦ subst (λ (y : Super). x < y.md_len) (sym facts.super)
           (held_low known well (taken ++ later) held x (among_left x taken later (among_taken r x f)))
     ]
@@ -187,11 +188,15 @@ module _ (known : Known) where
               (old_distinct p.super p.base p.chains well.chains p.pages r later can.chain can.unerased used differ);
           served = λ c bad waits. absurd (let both = sym serves ∙ bad in cc both);
           keeps = λ none other. absurd (other row serves);
+          settles = λ other. subst HasNoMarks (ap (behind p.base) t.running.next ∙ ap (λ (m : Metas). behind m rest)
+              base_is) (stood.settles other);
+          mends = λ repair. absurd (let bad = sym serves ∙ repair in cc bad);
           zeroed = λ page among out. absurd (no_place j.claimed (page / cluster_pages_of p.super) among
               inserts.unclaimed);
           inserts = λ c is_for.
               let e : row ≡ c = let both = sym serves ∙ is_for in cc both in
               subst (InsertStands now (record j { written = []; todo = rest })) e (record {
+                unmarked = now_unmarked;
                 waits = ap (λ (x : Row). x.stage) here ∙ still_in rest g.some;
                 thaws = inserts.thaws;
                 unclaimed = inserts.unclaimed;
@@ -241,7 +246,9 @@ module _ (known : Known) where
         let done_so : RunInvariant s first script now =
         record {
           super = facts.super;
-          steady = subst (λ (y : Super). AreSteady y now.base) facts.super now_steady;
+          stored = given_all p.base r.head t.new (IsStored s) facts.stored
+              (subst (λ (y : Super). IsStored y r.head t.new) facts.super new_stored);
+          named = subst (λ (m : Metas). AreNamed (resolved m)) base_is can.named;
           few = subst (λ (m : Metas). slots_together s.md_len m ≤ 2 ^ 24) base_is
               (subst (λ (y : Super). slots_together y.md_len (replaced p.base r) ≤ 2 ^ 24) facts.super can.few);
           lawful = subst (λ (m : Metas). IsLawful s.md_len (resolved m)) base_is

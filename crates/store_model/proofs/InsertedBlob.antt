@@ -52,9 +52,9 @@ use Rattle.store_model.proofs.Cut.{all_full}
 use Rattle.store_model.proofs.Inserted.{get_set_here}
 use Rattle.store_model.proofs.Inside.{IsInside, none_of_map, passes}
 use Rattle.store_model.proofs.NewBlob.{all_pass}
-use Rattle.store_model.proofs.Ranges.{get_set_other}
-use Rattle.store_model.proofs.SlotSums.{slots_given, slots_in}
-use Rattle.store_model.proofs.WithEntry.{given_here, given_elsewhere}
+use Rattle.shown_volumes.proofs.Ranges.{get_set_other}
+use Rattle.shown_volumes.proofs.SlotSums.{slots_given, slots_in}
+use Rattle.shown_volumes.proofs.WithEntry.{given_here, given_elsewhere}
 
 -- ---- tests of the map
 

@@ -39,11 +39,11 @@ use Rattle.store_model.specs.Copying.{LeavesEmpty}
 use Rattle.store_model.specs.Inserting.{with_slot}
 use Rattle.store_model.specs.Maps.{Map, Metas, with_entry}
 use Rattle.store_model.specs.Shown.{content, content_by, fixed_of, shown_by, volume_of}
-use Rattle.store_model.proofs.Fuel.{enough}
+use Rattle.shown_volumes.proofs.Fuel.{enough}
 use Rattle.store_model.proofs.InsertedBlob.{slot_beside, slot_filled}
-use Rattle.store_model.proofs.Ranks.{Levels}
+use Rattle.shown_volumes.proofs.Ranks.{Levels}
 use Rattle.store_model.proofs.Shows.{or_empty}
-use Rattle.store_model.proofs.WithEntry.{given_here, given_elsewhere}
+use Rattle.shown_volumes.proofs.WithEntry.{given_here, given_elsewhere}
 
 module _ (s : Super) (some : 0 < cluster_pages_of s) (metas : Metas) (head : ℕ) (old : Meta)
     (there : metas head ≡ Some old) (levels : Levels s.md_len metas) (i cluster : ℕ) (within : i < length old.map)

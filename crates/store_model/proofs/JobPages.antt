@@ -13,7 +13,7 @@ use Rattle.md_chain.proofs.Links.{agree_by, later}
 use Rattle.store_model.specs.Maps.{Metas, Chains, with_entry}
 use Rattle.store_model.specs.Regions.{MdRegion}
 use Rattle.store_model.specs.Scans.{is_head, MetaAt, Scanned}
-use Rattle.store_model.proofs.WithEntry.{given_here, given_elsewhere}
+use Rattle.shown_volumes.proofs.WithEntry.{given_here, given_elsewhere}
 use Rattle.store_model.proofs.Sets.{among_either}
 use Rattle.store_model.proofs.Scanning.{head_replaced, meta_kept}
 

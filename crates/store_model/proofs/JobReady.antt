@@ -29,6 +29,7 @@ use Rattle.volume_model.specs.declared.command.Command.{Command}
 use Rattle.blob_meta.specs.declared.meta.Meta.{Meta}
 use Rattle.blob_meta.specs.declared.job.Job.{Job as Changes}
 use Rattle.blob_meta.specs.declared.job.Replacement.{Replacement}
+use Rattle.blob_meta.specs.Repairs.{HasNoMarks}
 use Rattle.blob_meta.specs.Jobs.{job_of_one, new_meta, resized_meta}
 use Rattle.store_model.specs.Shown.{fixed_of}
 use Rattle.store_model.specs.Phases.{Committing, Replacing, taken_by}
@@ -125,7 +126,7 @@ module _ (known : Known) where
         let below = first.within in
         omega (arith, below, well.pages.count)
 
-  pub job_ready : p.stopped ≡ None → (command : Command) (changes : Changes) (commit : Committing)
+  pub job_ready : HasNoMarks p.base → p.stopped ≡ None → (command : Command) (changes : Changes) (commit : Committing)
       → (asked : IsJobFor p command changes commit) → (claimed : List ℕ) → AreLeastClear p.clusters claimed
       → length claimed ≡ length (zeros_of p command changes commit asked) → (r : Replacing)
       → IsLaid p.super p.base p.chains p.pages claimed (record {
@@ -133,27 +134,27 @@ module _ (known : Known) where
         new = Some (with_claimed p command changes commit asked claimed);
       }) r
       → IsReady p claimed command commit (with_claimed p command changes commit asked claimed) r
-  job_ready runs command changes commit (syncs y) claimed least one_each r laid =
+  job_ready unmarked runs command changes commit (syncs y) claimed least one_each r laid =
       subst (λ l. IsReady p l command commit y.new r) (sym (none_long claimed one_each))
       (subst (λ (c : Committing). IsReady p [] command c y.new r) (sym y.commit_is)
-      (sync_ready known runs command y.head y.new y.asks r laid.head laid.new
+      (sync_ready known unmarked runs command y.head y.new y.asks r laid.head laid.new
       (there_not_made runs claimed r _ laid y.asks.old (ap p.base laid.head ∙ y.asks.there))))
-  job_ready runs command changes commit (creates y) claimed least one_each r laid =
-      create_ready known runs command changes commit y claimed least one_each
+  job_ready unmarked runs command changes commit (creates y) claimed least one_each r laid =
+      create_ready known unmarked runs command changes commit y claimed least one_each
       (subst (λ h. h < p.super.md_len) laid.head
       (made_low runs claimed r _ laid (none_made runs claimed r _ laid (ap p.base laid.head ∙ y.none))
       laid.planned.least)) r laid.head laid.new
-  job_ready runs command changes commit (resizes y) claimed least one_each r laid =
-      resize_ready known runs command changes commit y claimed least one_each r laid.head laid.new
+  job_ready unmarked runs command changes commit (resizes y) claimed least one_each r laid =
+      resize_ready known unmarked runs command changes commit y claimed least one_each r laid.head laid.new
       (there_not_made runs claimed r _ laid y.old (ap p.base laid.head ∙ y.there))
 
   -- the metadata that it asks for can be written, before it is laid on pages
-  pub job_writable : p.stopped ≡ None → (command : Command) (changes : Changes) (commit : Committing)
-      → IsJobFor p command changes commit → (claimed : List ℕ) → AreLeastClear p.clusters claimed
+  pub job_writable : HasNoMarks p.base → p.stopped ≡ None → (command : Command) (changes : Changes)
+      (commit : Committing) → IsJobFor p command changes commit → (claimed : List ℕ) → AreLeastClear p.clusters claimed
       → length claimed ≡ length changes.zero → (x : Replacement) (new : Meta)
       → changes.list ≡ x ∷ [] → x.new ≡ Some new → x.head < s.md_len
       → IsSteady s x.head (with_clusters new changes.zero claimed)
-  job_writable runs command changes commit asked claimed least one_each x new list is low =
+  job_writable unmarked runs command changes commit asked claimed least one_each x new list is low =
       let head = head_of p command changes commit asked in
       let bare = new_of p command changes commit asked in
       let zeros_are : changes.zero ≡ zeros_of p command changes commit asked =
@@ -192,8 +193,9 @@ module _ (known : Known) where
           → IsSteady p.super (head_of p command changes commit asked)
           (with_claimed p command changes commit asked claimed)
       by (syncs y) long low =
-          (sync_ready known runs command y.head y.new y.asks (bare_at y.head y.new false) refl refl refl).steady
-      by (creates y) long low = (create_ready known runs command changes commit y claimed least long low
+          (sync_ready known unmarked runs command y.head y.new y.asks (bare_at y.head y.new false) refl refl
+          refl).steady
+      by (creates y) long low = (create_ready known unmarked runs command changes commit y claimed least long low
           (bare_at y.head (with_claimed p command changes commit (creates y) claimed) true) refl refl).steady
-      by (resizes y) long low = (resize_ready known runs command changes commit y claimed least long
+      by (resizes y) long low = (resize_ready known unmarked runs command changes commit y claimed least long
           (bare_at y.head (with_claimed p command changes commit (resizes y) claimed) false) refl refl refl).steady

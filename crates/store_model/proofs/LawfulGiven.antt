@@ -5,7 +5,7 @@ use Rattle.blob_meta.specs.declared.meta.Meta.{Meta}
 use Rattle.blob_meta.specs.Parents.{is_read_only, parent_of, slot}
 use Rattle.blob_meta.specs.Resolving.{IsLawful, slots_together}
 use Rattle.store_model.specs.Maps.{Metas, with_entry}
-use Rattle.store_model.proofs.WithEntry.{given_here, given_elsewhere}
+use Rattle.shown_volumes.proofs.WithEntry.{given_here, given_elsewhere}
 
 -- the blob is there with this
 abbrev pub Had : Metas → ℕ → (Meta → Type 0) → Type 0

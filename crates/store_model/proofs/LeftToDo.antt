@@ -12,7 +12,7 @@ use Rattle.store_model.specs.Maps.{Metas, Chains, Map}
 use Rattle.store_model.proofs.Sets.{among_either, among_later, among_first}
 use Rattle.std.proofs.lemmas.Bool.{cases_Bool, both_ways}
 use Rattle.store_model.specs.Rows.{Rows}
-use Rattle.store_model.specs.Jobs.{gained_by, inserted_by, Lays, CanReplace, Does, shown_of}
+use Rattle.store_model.specs.Jobs.{Anything, gained_by, inserted_by, Lays, CanReplace, Does, shown_of}
 use Rattle.md_chain.specs.declared.plan.PlannedPage.{PlannedPage}
 use Rattle.volume_model.specs.Xattrs.{Xattrs}
 use Rattle.volume_model.specs.declared.command.Command.{Command}
@@ -164,7 +164,7 @@ module _ (s : Super) (base : Metas) (chains : Chains) (claimed : List ℕ) where
       by : (r : Replacing) → CanReplace s base chains claimed r.fresh r → is_among place r.fresh ≡ true
           → (o : Option Meta) → r.new ≡ o
           → is_head place (page_in r.planned place) ≡ false
-      by r can among None is = absurd (no_place r.fresh place among (can.gone is))
+      by r can among None is = absurd (no_place r.fresh place among (can.gone is).0)
       by r can among (Some m) is =
           fresh_no_head (page_in r.planned) (region_of s) r.head m r.fresh place (can.says m is) among
 
@@ -275,7 +275,7 @@ may_fail Holds s base live command (Writes place ∷ rest) does image = may_fail
 may_fail Holds s base live command (Replaces x (Some commit) ∷ rest) does image = does.0.may_fail image
 may_fail Holds s base live command (Replaces x None ∷ rest) does image =
     whatever (fixed_of s) (shown_of s (replaced base x) live image) (shown_of s base live image) command
-    (may_fail Holds s (replaced base x) live command rest does.1 image)
+    (may_fail Anything s (replaced base x) live command rest does.1 image)
 may_fail Holds s base live command (Erases place ∷ rest) does image = may_fail Holds s base live command rest does image
 may_fail Holds s base live command (Frees place old ∷ rest) does image = may_fail Holds s base live command rest does
     image

@@ -14,7 +14,7 @@ use Rattle.store_model.specs.Shown.{fixed_of}
 use Rattle.store_model.specs.StoreState.{StoreState, shown}
 use Rattle.store_model.specs.Asking.{AsksFor}
 use Rattle.store_model.specs.Cases.{live_of}
-use Rattle.store_model.proofs.WithEntry.{given_here, given_elsewhere}
+use Rattle.shown_volumes.proofs.WithEntry.{given_here, given_elsewhere}
 use Rattle.store_model.proofs.Synced.{syncs_to, SyncsTo}
 use Rattle.store_model.proofs.Moved.{HaveLive, live_shown, NoOtherLive}
 
@@ -23,7 +23,7 @@ module _ (p : StoreState) (have_live : HaveLive p) (no_live : NoOtherLive p)
   abbrev w : Volumes
   w = change (fixed_of p.super) (shown p) command r.Ok
 
-  to : SyncsTo (shown p) w head asks.after
+  to : SyncsTo (shown p) w command head asks.after
   to = syncs_to (fixed_of p.super) (shown p) command head asks.after asks.syncing asks.found asks.step
 
   synced_here : live_of w head ≡ Some new.xattrs

@@ -134,12 +134,15 @@ stands_same p q super base chains live generations j rows reads x =
             row = rows channel (ap (λ (r : Row). r.stage) y.row) ∙ y.row;
             does = rw (super, base, live) y.does;
           };
-      keeps = λ none other. rw (super, base, live) (x.keeps none other);
+      keeps = λ none other. rw base (x.keeps none other);
+      settles = λ other. rw base (x.settles other);
+      mends = x.mends;
       zeroed = rw super (zeroed_still p.super j.claimed (zeros_in j.todo) p.device.reads q.device.reads reads x.zeroed);
       inserts = λ row serves.
           let y = x.inserts row serves in
           let same = rows row y.waits in
           record {
+            unmarked = rw base y.unmarked;
             waits = ap (λ (r : Row). r.stage) same ∙ y.waits;
             thaws = y.thaws;
             unclaimed = y.unclaimed;

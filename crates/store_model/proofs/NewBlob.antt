@@ -1,8 +1,8 @@
 -- The metadata of a new blob: it is steady, and with it the metadata of all blobs is lawful.
-use Rattle.std.proofs.Common.{◌≡◌, ◌⊎◌, ℕ, zero, suc, ◌<◌, ◌≤◌, ◌^◌, Bool, true, false, List, [], ◌∷◌, length}
+use Rattle.std.proofs.Common.{◌≡◌, ◌⊎◌, ℕ, ◌<◌, ◌≤◌, ◌^◌, Bool, true, false, List, [], ◌∷◌, length}
 use Rattle.std.proofs.Common.{Option, None, refl, sym, ◌∙◌, inl, inr, arith, length-append}
-use Rattle.std.specs.Prelude.{if◌then◌else◌, nat_le, replicate, slice_get}
-use Rattle.std.specs.Option.{option_and_then, option_map_or}
+use Rattle.std.specs.Prelude.{if◌then◌else◌, nat_le, replicate}
+use Rattle.std.specs.Option.{option_map_or}
 use Rattle.std.proofs.lemmas.Bool.{le-leb}
 use Rattle.std.proofs.lemmas.List.{length-replicate}
 use Rattle.super_block.specs.declared.page.Super.{Super}
@@ -13,7 +13,7 @@ use Rattle.volume_model.specs.Volumes.{Fixed, store_uuid, two_xattrs, Volumes}
 use Rattle.volume_model.specs.Xattrs.{Text, Xattrs}
 use Rattle.blob_meta.specs.declared.meta.Flags.{Flags}
 use Rattle.blob_meta.specs.declared.fault.MetaFault.{MetaFault}
-use Rattle.blob_meta.specs.Faults.{clusters_of, first_some, hole_in_thick, map_fault}
+use Rattle.blob_meta.specs.Faults.{first_some, hole_in_thick, map_fault}
 use Rattle.blob_meta.specs.Faults.{too_large, unknown_flag}
 use Rattle.blob_meta.specs.Jobs.{new_meta}
 use Rattle.blob_meta.specs.Says.{without_bit_1}
@@ -21,6 +21,8 @@ use Rattle.store_model.specs.Maps.{Metas}
 use Rattle.store_model.specs.Regions.{region_of}
 use Rattle.store_model.specs.Steady.{CanBeWritten, IsSteady}
 use Rattle.store_model.proofs.LawfulGiven.{TakesNone}
+
+pub use Rattle.shown_volumes.proofs.EmptyMaps.{none_in, empty_slot}
 
 -- ---- its attributes
 
@@ -38,15 +40,6 @@ two_written f v name uuid named = record {
     bytes = option_map_or (λ bytes. bytes) uuid (default_uuid (store_uuid f v) name)
 
 -- ---- its map
-
-pub none_in : (n : ℕ) → clusters_of (replicate n None) ≡ []
-none_in zero = refl
-none_in (suc n) = none_in n
-
-pub empty_slot : (n i : ℕ) → option_and_then (λ (s : Option ℕ). s) (slice_get (replicate n None) i) ≡ None
-empty_slot zero i = refl
-empty_slot (suc n) zero = refl
-empty_slot (suc n) (suc i) = empty_slot n i
 
 -- no test of metadata fails
 pub all_pass : (a b c d : Option MetaFault) → a ≡ None → b ≡ None → c ≡ None → d ≡ None

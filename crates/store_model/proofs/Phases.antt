@@ -1,13 +1,14 @@
 -- The phases of one replacement, before any is made.
-use Rattle.std.proofs.Common.{◌≡◌, ℕ, ◌++◌, true, false, List, [], ◌∷◌, refl, sym, subst, ap, ◌∙◌, append_assoc}
+use Rattle.std.proofs.Common.{◌≡◌, ℕ, ◌++◌, true, false, List, [], ◌∷◌, None, Some, refl, sym, subst, ap, ◌∙◌}
+use Rattle.std.proofs.Common.{append_assoc}
 use Rattle.std.proofs.lemmas.List.{append-nil}
 use Rattle.store_model.specs.Phases.{Erases, Frees, Marks, Replaces, Writes, Zeros}
 use Rattle.store_model.specs.Phases.{Phase, has_commit, held_in, taken_in, erasing, writing, planned_in}
-use Rattle.store_model.specs.Phases.{replaced}
+use Rattle.store_model.specs.Phases.{behind, OnlyMend}
 use Rattle.super_block.specs.declared.page.Super.{Super}
 use Rattle.store_model.specs.Maps.{Metas, Chains, Map}
 use Rattle.store_model.specs.StoreState.{StoreState}
-use Rattle.store_model.specs.Jobs.{AreOldPages, zeros_in, Lays, Keeps, Does, Puts}
+use Rattle.store_model.specs.Jobs.{Anything, AreOldPages, zeros_in, Lays, Keeps, Does, Puts}
 use Rattle.page_disk.specs.Disk.{Image}
 use Rattle.volume_model.specs.Xattrs.{Xattrs}
 use Rattle.md_chain.specs.Chain.{is_among}
@@ -30,6 +31,20 @@ pub does_behind : (Holds : Image → Type 0) (s : Super) (base : Metas) (live : 
     → Does Holds s base live command rest → Does Holds s base live command (writing fresh rest)
 does_behind Holds s base live command [] rest does = does
 does_behind Holds s base live command (p ∷ ps) rest does = does_behind Holds s base live command ps rest does
+
+pub leads_behind : (base : Metas) (fresh : List ℕ) (rest : List Phase)
+    → behind base (writing fresh rest) ≡ behind base rest
+leads_behind base [] rest = refl
+leads_behind base (p ∷ ps) rest = leads_behind base ps rest
+
+pub keeps_behind : (base : Metas) (fresh : List ℕ) (rest : List Phase) → Keeps base rest
+    → Keeps base (writing fresh rest)
+keeps_behind base [] rest keeps = keeps
+keeps_behind base (p ∷ ps) rest keeps = keeps_behind base ps rest keeps
+
+pub mends_behind : (fresh : List ℕ) (rest : List Phase) → OnlyMend rest → OnlyMend (writing fresh rest)
+mends_behind [] rest mends = mends
+mends_behind (p ∷ ps) rest mends = mends_behind ps rest mends
 
 pub puts_behind : (p : StoreState) (row : ℕ) (fresh : List ℕ) (rest : List Phase) → Puts p row rest
     → Puts p row (writing fresh rest)
@@ -66,11 +81,20 @@ old_pages old [] = tt
 old_pages old (p ∷ []) = tt
 old_pages old (p ∷ q ∷ ps) = old_pages old (q ∷ ps)
 
-pub keeps_clearing : (Holds : Image → Type 0) (s : Super) (base : Metas) (live : Map Xattrs) (old places : List ℕ)
-    → Keeps Holds s base live (erasing old places [])
-keeps_clearing Holds s base live old [] = tt
-keeps_clearing Holds s base live old (p ∷ []) = tt
-keeps_clearing Holds s base live old (p ∷ q ∷ ps) = keeps_clearing Holds s base live old (q ∷ ps)
+pub keeps_clearing : (base : Metas) (old places : List ℕ) → Keeps base (erasing old places [])
+keeps_clearing base old [] = tt
+keeps_clearing base old (p ∷ []) = tt
+keeps_clearing base old (p ∷ q ∷ ps) = keeps_clearing base old (q ∷ ps)
+
+pub mends_clearing : (old places : List ℕ) → OnlyMend (erasing old places [])
+mends_clearing old [] = tt
+mends_clearing old (p ∷ []) = tt
+mends_clearing old (p ∷ q ∷ ps) = mends_clearing old (q ∷ ps)
+
+pub leads_clearing : (base : Metas) (old places : List ℕ) → behind base (erasing old places []) ≡ base
+leads_clearing base old [] = refl
+leads_clearing base old (p ∷ []) = refl
+leads_clearing base old (p ∷ q ∷ ps) = leads_clearing base old (q ∷ ps)
 
 pub lays_clearing : (s : Super) (base : Metas) (chains : Chains) (old places : List ℕ)
     → ((x : ℕ) → is_among x places ≡ true → is_among x old ≡ true)
@@ -93,18 +117,6 @@ pub zeros_behind : (fresh : List ℕ) (rest : List Phase) → zeros_in (writing 
 zeros_behind [] rest = refl
 zeros_behind (p ∷ ps) rest = zeros_behind ps rest
 
--- what is known of fewer devices is shown on these too
-pub keeps_weaker : (P Q : Image → Type 0) → ((image : Image) → Q image → P image) → (s : Super) (base : Metas)
-    (live : Map Xattrs) (todo : List Phase) → Keeps P s base live todo → Keeps Q s base live todo
-keeps_weaker P Q so s base live [] keeps = tt
-keeps_weaker P Q so s base live (Marks ∷ rest) keeps = keeps_weaker P Q so s base live rest keeps
-keeps_weaker P Q so s base live (Zeros page ∷ rest) keeps = keeps_weaker P Q so s base live rest keeps
-keeps_weaker P Q so s base live (Writes place ∷ rest) keeps = keeps_weaker P Q so s base live rest keeps
-keeps_weaker P Q so s base live (Replaces r commit ∷ rest) keeps =
-    (λ image holds. keeps.0 image (so image holds), keeps_weaker P Q so s (replaced base r) live rest keeps.1)
-keeps_weaker P Q so s base live (Erases place ∷ rest) keeps = keeps_weaker P Q so s base live rest keeps
-keeps_weaker P Q so s base live (Frees place old ∷ rest) keeps = keeps_weaker P Q so s base live rest keeps
-
 -- ---- what is known behind the pages
 
 pub lays_reached : (s : Super) (base : Metas) (chains : Chains) (claimed written fresh : List ℕ) (rest : List Phase)
@@ -122,10 +134,51 @@ pub does_reached : (Holds : Image → Type 0) (s : Super) (base : Metas) (live :
 does_reached Holds s base live command [] rest does = does
 does_reached Holds s base live command (p ∷ ps) rest does = does_reached Holds s base live command ps rest does
 
+-- what is known of all devices is known of these
+pub does_anywhere : (Holds : Image → Type 0) (s : Super) (base : Metas) (live : Map Xattrs) (command : Command)
+    (todo : List Phase) → Does Anything s base live command todo → Does Holds s base live command todo
+does_anywhere Holds s base live command [] does = does
+does_anywhere Holds s base live command (Marks ∷ rest) does = does_anywhere Holds s base live command rest does
+does_anywhere Holds s base live command (Zeros page ∷ rest) does = does_anywhere Holds s base live command rest does
+does_anywhere Holds s base live command (Writes place ∷ rest) does = does_anywhere Holds s base live command rest does
+does_anywhere Holds s base live command (Replaces r None ∷ rest) does = does
+does_anywhere Holds s base live command (Replaces r (Some commit) ∷ rest) does = (
+  record {
+    metadata = does.0.metadata;
+    done = does.0.done;
+    allowed = does.0.allowed;
+    may_fail = does.0.may_fail;
+    shows = λ image holds. does.0.shows image tt;
+    lives = does.0.lives;
+    writable = does.0.writable;
+    renews = does.0.renews;
+    numbers = does.0.numbers;
+    leaves = does.0.leaves;
+  },
+  does.1,
+  does.2,
+)
+does_anywhere Holds s base live command (Erases place ∷ rest) does = does_anywhere Holds s base live command rest does
+does_anywhere Holds s base live command (Frees place old ∷ rest) does =
+    does_anywhere Holds s base live command rest does
+
 pub planned_behind : (fresh : List ℕ) (rest : List Phase) (place : ℕ)
     → planned_in (writing fresh rest) place ≡ planned_in rest place
 planned_behind [] rest place = refl
 planned_behind (p ∷ ps) rest place = planned_behind ps rest place
+
+-- ---- a repair
+
+-- it has no commit
+pub mends_no_commit : (todo : List Phase) → OnlyMend todo → has_commit todo ≡ false
+mends_no_commit [] mends = refl
+mends_no_commit (Marks ∷ rest) mends = mends_no_commit rest mends
+mends_no_commit (Zeros page ∷ rest) mends = mends_no_commit rest mends
+mends_no_commit (Writes place ∷ rest) mends = mends_no_commit rest mends
+mends_no_commit (Replaces r None ∷ rest) mends = mends_no_commit rest mends.1
+mends_no_commit (Replaces r (Some commit) ∷ rest) mends = absurd mends
+mends_no_commit (Erases place ∷ rest) mends = mends_no_commit rest mends
+mends_no_commit (Frees place old ∷ rest) mends = mends_no_commit rest mends
 
 -- ---- behind an insert
 

@@ -1,7 +1,7 @@
 -- The metadata with one blob's attributes replaced: it is steady still, it is lawful, and has the same clusters.
 use Rattle.std.proofs.Common.{◌≡◌, ℕ, length, Option, Some, None, refl, sym, ◌∙◌, ap, subst, inl, inr}
 use Rattle.std.specs.List.{range_with_len, sum_by}
-use Rattle.std.specs.Prelude.{codes}
+use Rattle.std.specs.Prelude.{codes, true}
 use Rattle.std.specs.Option.{option_map, option_map_or, option_and_then}
 use Rattle.std.proofs.lemmas.Bool.{cases_eq}
 use Rattle.std.proofs.Math.Path.{fun_ext}
@@ -18,9 +18,11 @@ use Rattle.blob_meta.specs.Parents.{named_in, slot, parent_of, is_read_only}
 use Rattle.blob_meta.specs.Resolving.{slots_together}
 use Rattle.store_model.specs.Maps.{Metas, with_entry}
 use Rattle.store_model.specs.Places.{IsMapped}
-use Rattle.store_model.specs.Asking.{IsSyncing}
+use Rattle.store_model.specs.Asking.{flags_after, IsSyncing}
+use Rattle.store_model.specs.Regions.{region_of}
 use Rattle.store_model.specs.RunInvariant.{CanBeWritten, IsSteady, AreSteady}
-use Rattle.store_model.proofs.WithEntry.{given_here, given_elsewhere}
+use Rattle.store_model.proofs.FlagsAfter.{clear_after, faultless_after, read_only_stays}
+use Rattle.store_model.proofs.WithEntry.{given_all, given_here, given_elsewhere}
 use Rattle.store_model.proofs.LawfulGiven.{TakesNone}
 use Rattle.store_model.proofs.Synced.{edited_here}
 use Rattle.store_model.proofs.Writable.{AllWritable, written_with, put_within}
@@ -46,20 +48,26 @@ synced_written f v (c.Sync volume) head after writable is asked found step =
     let from = after_edit edit (v head) after (sym (edited_here f v _ edit head found) ∙ step) in
     let made : CanBeWritten from.0.live = writable head from.0 from.1 in
     subst (λ (x : Volume). CanBeWritten x.synced) (sym from.2) made
+synced_written f v (c.ReadOnly volume) head after writable is asked found step =
+    let edit = λ (x : Volume). record x { synced = x.live; read_only = true } in
+    let from = after_edit edit (v head) after (sym (edited_here f v _ edit head found) ∙ step) in
+    let made : CanBeWritten from.0.live = writable head from.0 from.1 in
+    subst (λ (x : Volume). CanBeWritten x.synced) (sym from.2) made
 synced_written f v _ head after writable is asked found step = absurd is
 
-pub new_steady : (s : Super) (head : ℕ) (old new : Meta) (xattrs : Xattrs) → IsSteady s head old
-    → new ≡ record old { xattrs = xattrs } → CanBeWritten xattrs → IsSteady s head new
-new_steady s head old new xattrs old_one is can =
-    let made : IsSteady s head (record old { xattrs = xattrs }) =
+pub new_steady : (s : Super) (command : Command) (head : ℕ) (old new : Meta) (xattrs : Xattrs) → IsSteady s head old
+    → new ≡ record old { xattrs = xattrs; flags = flags_after command old.flags } → CanBeWritten xattrs
+    → IsSteady s head new
+new_steady s command head old new xattrs old_one is can =
+    let made : IsSteady s head (record old { xattrs = xattrs; flags = flags_after command old.flags }) =
     record {
       stored = record {
         low = old_one.stored.low;
         id = old_one.stored.id;
-        clear = old_one.stored.clear;
+        clear = clear_after command old.flags old_one.stored.clear;
         xattrs = can;
         internal = old_one.stored.internal;
-        faultless = old_one.stored.faultless;
+        faultless = faultless_after command (region_of s).fixed (region_of s).clusters old old_one.stored.faultless;
       };
       named = old_one.named;
       unmarked = old_one.unmarked;
@@ -70,15 +78,11 @@ new_steady s head old new xattrs old_one is can =
 
 pub steady_given : (s : Super) (metas : Metas) (head : ℕ) (new : Meta) → AreSteady s metas → IsSteady s head new
     → AreSteady s (with_entry metas head new)
-steady_given s metas head new all one_new h m is = elim (cases_eq h head) [
-  | inl e ↦
-      let one : new ≡ m = let both = sym (given_here metas head new h e) ∙ is in cc both in
-      subst (λ (k : ℕ). IsSteady s k m) (sym e) (subst (IsSteady s head) one one_new)
-  | inr ne ↦ all h m (sym (given_elsewhere metas head new h ne) ∙ is)
-]
+steady_given s metas head new = given_all metas head new (IsSteady s)
 
-module _ (metas : Metas) (head : ℕ) (old new : Meta) (xattrs : Xattrs) (there : metas head ≡ Some old)
-    (is : new ≡ record old { xattrs = xattrs }) where
+module _ (metas : Metas) (command : Command) (head : ℕ) (old new : Meta) (xattrs : Xattrs)
+    (there : metas head ≡ Some old)
+    (is : new ≡ record old { xattrs = xattrs; flags = flags_after command old.flags }) where
   -- each blob has the map that it had
   same_map : (h : ℕ)
       → option_map (λ (m : Meta). m.map) (with_entry metas head new h) ≡ option_map (λ (m : Meta). m.map) (metas h)
@@ -94,26 +98,23 @@ module _ (metas : Metas) (head : ℕ) (old new : Meta) (xattrs : Xattrs) (there 
     pub was : metas h ≡ Some before
     pub map : m.map ≡ before.map
     pub internal : m.internal ≡ before.internal
-    pub flags : m.flags ≡ before.flags
 
   pub was_there : (h : ℕ) (m : Meta) → with_entry metas head new h ≡ Some m → Was h m
   was_there h m now = elim (cases_eq h head) [
     | inl e ↦
         let one : m ≡ new = let both = sym now ∙ given_here metas head new h e in cc both in
-        let whole : m ≡ record old { xattrs = xattrs } = one ∙ is in
+        let whole : m ≡ record old { xattrs = xattrs; flags = flags_after command old.flags } = one ∙ is in
         record {
           before = old;
           was = ap metas e ∙ there;
           map = ap (λ (x : Meta). x.map) whole;
           internal = ap (λ (x : Meta). x.internal) whole;
-          flags = ap (λ (x : Meta). x.flags) whole;
         }
     | inr ne ↦ record {
       before = m;
       was = sym (given_elsewhere metas head new h ne) ∙ now;
       map = refl;
       internal = refl;
-      flags = refl;
     }
   ]
 
@@ -138,16 +139,14 @@ module _ (metas : Metas) (head : ℕ) (old new : Meta) (xattrs : Xattrs) (there 
       }
 
   still : (h : ℕ) (m : Meta) → metas h ≡ Some m → (n : Meta) × (with_entry metas head new h ≡ Some n) × (n.map ≡ m.map)
-      × (n.flags ≡ m.flags)
   still h m was = elim (cases_eq h head) [
     | inl e ↦
         let one : old ≡ m = let both = sym there ∙ sym (ap metas e) ∙ was in cc both in (
           new,
           given_here metas head new h e,
           ap (λ (x : Meta). x.map) is ∙ ap (λ (x : Meta). x.map) one,
-          ap (λ (x : Meta). x.flags) is ∙ ap (λ (x : Meta). x.flags) one,
         )
-    | inr ne ↦ (m, given_elsewhere metas head new h ne ∙ was, refl, refl)
+    | inr ne ↦ (m, given_elsewhere metas head new h ne ∙ was, refl)
   ]
 
   pub mapped_still : (cluster : ℕ) → IsMapped metas cluster → IsMapped (with_entry metas head new) cluster
@@ -179,7 +178,8 @@ module _ (metas : Metas) (head : ℕ) (old new : Meta) (xattrs : Xattrs) (there 
     parent = λ p of. (old, there, parent_was new old p (ap (λ (m : Meta). m.internal) is) of);
     read_only = λ m was on.
         let one : m ≡ old = let both = sym was ∙ there in cc both in
-        ap (λ (x : Meta). is_read_only x.flags) is ∙ ap (λ (x : Meta). is_read_only x.flags) (sym one) ∙ on;
+        ap (λ (x : Meta). is_read_only x.flags) is
+        ∙ read_only_stays command old.flags (ap (λ (x : Meta). is_read_only x.flags) (sym one) ∙ on);
   }
 
   pub slots_same : (md_len : ℕ) → slots_together md_len (with_entry metas head new) ≡ slots_together md_len metas

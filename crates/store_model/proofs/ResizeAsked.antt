@@ -12,7 +12,7 @@ use Rattle.volume_model.specs.declared.reply.Reply.TheVariants as r_
 use Rattle.store_model.proofs.InARow.{among_range, range_differs}
 use Rattle.md_chain.specs.Chain.{is_among}
 use Rattle.store_model.specs.Places.{AreDistinct}
-use Rattle.store_model.proofs.Writable.{none_holds}
+use Rattle.shown_volumes.proofs.Passing.{none_holds}
 
 -- the slots that get clusters of zeros: those that are added to a blob that isn't thin
 abbrev pub added_zeros : Bool → ℕ → ℕ → List ℕ

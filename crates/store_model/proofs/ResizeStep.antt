@@ -23,6 +23,7 @@ use Rattle.blob_meta.specs.declared.meta.Meta.{Meta}
 use Rattle.blob_meta.specs.declared.job.Job.{Job as Changes}
 use Rattle.blob_meta.specs.Faults.{is_thin}
 use Rattle.blob_meta.specs.Jobs.{resized_meta}
+use Rattle.blob_meta.specs.Repairs.{HasNoMarks}
 use Rattle.blob_meta.specs.Resolving.{resolved, slots_together, IsLawful}
 use Rattle.store_model.specs.Maps.{Metas, with_entry}
 use Rattle.store_model.specs.Shown.{content, fixed_of}
@@ -57,16 +58,16 @@ use Rattle.store_model.proofs.ResizedBlob.{resized_but, resized_takes_none, thic
 use Rattle.store_model.proofs.Shows.{or_empty}
 use Rattle.store_model.proofs.ShowsGiven.{by, childless_given, shown_given, shown_is, writable_childless}
 use Rattle.store_model.proofs.ShowsResized.{IsNoLonger, page_added, volume_resized}
-use Rattle.store_model.proofs.SlotSums.{all_shown, slots_at_shown, slots_given, slots_in, slots_shown}
+use Rattle.shown_volumes.proofs.SlotSums.{all_shown, slots_at_shown, slots_given, slots_in, slots_shown}
 use Rattle.store_model.proofs.Synced.{edited_here, edited_there}
 use Rattle.store_model.proofs.Writable.{AllWritable}
-use Rattle.store_model.proofs.WithEntry.{given_here, given_elsewhere}
+use Rattle.shown_volumes.proofs.WithEntry.{given_here, given_elsewhere}
 
 no_some : (o : Option ℕ) → o ≡ None → IsSome o → ⊥
 no_some None none some = cc some
 no_some (Some x) none some = cc none
 
-module _ (known : Known) where
+module _ (known : Known) (unmarked : HasNoMarks known.p.base) where
   open known use {first, p, facts}
 
   module _ (runs : p.stopped ≡ None) (volume : VolumeRef) (slots : ℕ)
@@ -105,11 +106,11 @@ module _ (known : Known) where
     -- ---- the volume, and what doesn't hold of it
 
     abbrev x : Volume
-    x = by p (base_steady known) p.base (or_empty (p.live head)) head old
+    x = by p (base_steady known unmarked) p.base (or_empty (p.live head)) head old
 
     was : shown p head ≡ Some x
-    was = shown_is p (base_steady known) head
-        ∙ ap (λ o. option_map (by p (base_steady known) p.base (or_empty (p.live head)) head) o)
+    was = shown_is p (base_steady known unmarked) head
+        ∙ ap (λ o. option_map (by p (base_steady known unmarked) p.base (or_empty (p.live head)) head) o)
         there
 
     can : CanResize f (shown p) slots x
@@ -120,11 +121,11 @@ module _ (known : Known) where
 
     slots_at_are : (h : ℕ) → slots_at f (shown p) h ≡ slots_in (p.base h)
     slots_at_are h = slots_at_shown f p.device.reads (resolved p.base) (some_pages known) p.live h
-        ∙ ap (λ (m : Metas). slots_in (m h)) (base_resolved known)
+        ∙ ap (λ (m : Metas). slots_in (m h)) (base_resolved known unmarked)
 
     all_are : all_slots f (shown p) ≡ slots_together p.super.md_len p.base
     all_are = all_shown f p.device.reads (resolved p.base) (some_pages known) p.live
-        ∙ ap (slots_together p.super.md_len) (base_resolved known)
+        ∙ ap (slots_together p.super.md_len) (base_resolved known unmarked)
 
     -- a blob that grows has no longer parent
     no_longer : length old.map < slots → IsNoLonger p.base old (length old.map)
@@ -139,7 +140,7 @@ module _ (known : Known) where
         omega (arith, le, long, slots_are)
 
     childless : IsChildless p.base head
-    childless = writable_childless p.base head old (base_lawful known).parents there can.writable
+    childless = writable_childless p.base head old (base_lawful known unmarked).parents there can.writable
 
     -- ---- the metadata
 
@@ -161,7 +162,7 @@ module _ (known : Known) where
     one_steady : IsSteady p.super head new
     one_steady = zeroed_steady p.super head bare new claimed zeroed
         (resized_but old slots p.super head (let large = can.large in grind (arith, nat_tests, large))
-        (base_steady known head old there)) (claimed_inside known runs claimed least)
+        (base_steady known unmarked head old there)) (claimed_inside known runs claimed least)
         (no_hole (is_thin old.flags) refl)
       where
         kept : (o : Option ℕ) → is_thin old.flags ≡ false → (i : ℕ) → i < length new.map → slot new i ≡ o → IsSome o
@@ -169,7 +170,8 @@ module _ (known : Known) where
         kept None thick i lt at = absurd (elim (cases_lt i (length old.map)) [
           | inl below ↦
               let was : IsSome (slot old i) =
-              slot_filled old.map (thick_full old p.super head (base_steady known head old there) thick) i below in
+              slot_filled old.map (thick_full old p.super head (base_steady known unmarked head old there) thick) i
+              below in
               let in_bare : slot bare i ≡ slot old i =
               slot_kept old.map slots i (omega (arith, lt, zeroed.long, length_cut {X = Option ℕ} old.map slots None))
               in
@@ -198,7 +200,7 @@ module _ (known : Known) where
             (ap (λ o. option_map HoleInThick o) (all_filled new.map (λ i lt. kept (slot new i) is i lt refl)))
 
     steady : AreSteady p.super all
-    steady = all_steady known head new one_steady
+    steady = all_steady known unmarked head new one_steady
 
     few_with : (m : Meta) → length m.map ≡ slots → slots_together p.super.md_len (with_entry p.base head m) ≤ 2 ^ 24
     few_with m long =
@@ -207,7 +209,7 @@ module _ (known : Known) where
         let counted : slots_together p.super.md_len (with_entry p.base head m) + length old.map
         ≡ slots_together p.super.md_len p.base + length m.map =
         ap (λ o. slots_together p.super.md_len (with_entry p.base head m) + slots_in o) (sym there)
-        ∙ slots_given p.super.md_len p.base head m (base_steady known head old there).stored.low in
+        ∙ slots_given p.super.md_len p.base head m (base_steady known unmarked head old there).stored.low in
         omega (arith, together, counted, all_are, slots_are, long)
 
     bare_few : slots_together p.super.md_len (with_entry p.base head bare) ≤ 2 ^ 24
@@ -220,10 +222,10 @@ module _ (known : Known) where
     all_lawful = lawful_zeroed p.super.md_len p.base head bare new claimed zeroed
         (zeroed_fresh known runs claimed least head bare zeros
         (zeros_differ (is_thin old.flags) (length old.map) slots) all_empty had)
-        (lawful_still known head bare (resized_takes_none p.base head old slots there) bare_few) all_few
+        (lawful_still known unmarked head bare (resized_takes_none p.base head old slots there) bare_few) all_few
 
     base_now : replaced p.base r ≡ all
-    base_now = base_is known head new one_steady r head_is new_is
+    base_now = base_is known unmarked head new one_steady r head_is new_is
 
     renews_there : (b : Bool) → AllByRecursion (λ h. IsSome (replaced p.base r h)) (if b then head ∷ [] else [])
     renews_there false = tt
@@ -252,11 +254,11 @@ module _ (known : Known) where
       others h ne = edited_there f (shown now) (head_of f (shown now) volume) edit head found_now h ne
 
       abbrev y : Volume
-      y = by now (base_steady known) p.base (or_empty (p.live head)) head old
+      y = by now (base_steady known unmarked) p.base (or_empty (p.live head)) head old
 
       was_now : shown now head ≡ Some y
-      was_now = shown_is now (base_steady known) head
-          ∙ ap (λ o. option_map (by now (base_steady known) p.base (or_empty (p.live head)) head) o) there
+      was_now = shown_is now (base_steady known unmarked) head
+          ∙ ap (λ o. option_map (by now (base_steady known unmarked) p.base (or_empty (p.live head)) head) o) there
 
       is_now : w head ≡ Some (edit y)
       is_now = here ∙ ap (option_map edit) was_now
@@ -289,8 +291,8 @@ module _ (known : Known) where
       shows_new : ReadsZeros p.super claimed image → shown_of p.super (replaced p.base r) (live_of w) image ≡ w
       shows_new holds =
           ap (λ (m : Metas). shown_of p.super m (live_of w) image) base_now
-          ∙ shown_given now (base_steady known) head new childless steady w others
-          (ap (λ o. Some (by now (base_steady known) all (or_empty o) head new)) (live_same head)
+          ∙ shown_given now (base_steady known unmarked) head new childless steady w others
+          (ap (λ o. Some (by now (base_steady known unmarked) all (or_empty o) head new)) (live_same head)
           ∙ ap (λ (v : Volume). Some v)
           (volume_zeroed f.cluster_pages image f.md_len bare new claimed zeroed
           (zeros_read known claimed image holds) (with_entry p.base head bare) all head
@@ -341,15 +343,14 @@ module _ (known : Known) where
       renews = renews_there (nat_lt slots (length old.map));
       numbers = λ makes. absurd (false≢true (sym not_made ∙ makes));
       leaves = λ h out.
-          leaves_resolved p.super p.base (replaced p.base r) Any h (base_steady known)
+          leaves_resolved p.super p.base (replaced p.base r) Any h (base_steady known unmarked)
           (subst (AreSteady p.super) (sym base_now) steady)
           (subst (λ (m : Metas). LeavesEmpty p.super p.base m Any h) (sym base_now) (left_empty h out));
     }
 
     pub ready : IsReady p claimed (c.Resize volume slots) commit new r
-    ready = ready_by known head new one_steady r head_is new_is claimed (c.Resize volume slots) commit all_lawful
-        all_few
-        step
+    ready = ready_by known unmarked head new one_steady r head_is new_is claimed (c.Resize volume slots) commit
+        all_lawful all_few step
 
   -- what a resize asks for is ready, with the clusters that are claimed for it
   pub resize_ready : p.stopped ≡ None → (command : Command) (changes : Changes) (commit : Committing)

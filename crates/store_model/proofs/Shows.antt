@@ -1,8 +1,8 @@
 -- What of the volumes shown a write to the metadata region changes: nothing.
-use Rattle.std.proofs.Common.{◌≡◌, ◌≢◌, ℕ, suc, ◌+◌, ◌*◌, ◌/◌, ◌%◌, ◌<◌, ◌≤◌, true, false, List, [], length, map}
-use Rattle.std.proofs.Common.{Bool, Option, Some, None, refl, ap, arith, subst}
+use Rattle.std.proofs.Common.{◌≡◌, ◌≢◌, ℕ, suc, ◌+◌, ◌*◌, ◌/◌, ◌%◌, ◌<◌, ◌≤◌, true, false, List, length, map}
+use Rattle.std.proofs.Common.{Bool, Option, Some, None, refl, ap, arith}
 use Rattle.std.specs.List.{range_with_len}
-use Rattle.std.specs.Option.{option_map, option_map_or}
+use Rattle.std.specs.Option.{option_map}
 use Rattle.std.proofs.lemmas.Bool.{ne_eqb}
 use Rattle.std.proofs.Math.Nat.{mul-le-mul_right}
 use Rattle.std.proofs.Math.Path.{fun_ext}
@@ -13,7 +13,7 @@ use Rattle.super_block.specs.Placed.{IsPlaced}
 use Rattle.volume_model.specs.Xattrs.{Xattrs}
 use Rattle.blob_meta.specs.declared.meta.Meta.{Meta}
 use Rattle.blob_meta.specs.Faults.{meta_fault}
-use Rattle.blob_meta.specs.Resolving.{IsLawful, mark_of, resolved}
+use Rattle.blob_meta.specs.Resolving.{IsLawful, resolved}
 use Rattle.store_model.specs.Maps.{Map, Metas}
 use Rattle.store_model.specs.Regions.{region_of}
 use Rattle.store_model.specs.Shown.{content, fixed_of, shown_by, volume_of}
@@ -21,23 +21,12 @@ use Rattle.store_model.specs.Device.{Device}
 use Rattle.store_model.specs.StoreState.{StoreState, shown}
 use Rattle.store_model.specs.Cases.{read_after}
 use Rattle.store_model.specs.Agreeing.{AgreeOn}
-use Rattle.store_model.specs.Steady.{AreSteady}
+use Rattle.store_model.specs.Steady.{AreStored}
 use Rattle.store_model.proofs.Contents.{HasParents, same_content}
 use Rattle.store_model.proofs.Inside.{inside_slot}
+use Rattle.store_model.proofs.Resolved.{resolved_stored}
 
-abbrev pub or_empty : Option Xattrs → Xattrs
-or_empty o = option_map_or (λ xs. xs) o []
-
--- ---- metadata without marks is resolved as it is
-
-unmarked : (metas : Metas) (head : ℕ) (o : Option Meta) → metas head ≡ o → ((m : Meta) → o ≡ Some m → mark_of m ≡ None)
-    → resolved metas head ≡ o
-unmarked metas head None is none = rw is refl
-unmarked metas head (Some m) is none = rw (is, none m refl) refl
-
-pub steady_resolved : (s : Super) (metas : Metas) → AreSteady s metas → resolved metas ≡ metas
-steady_resolved s metas steady =
-    fun_ext (λ head. unmarked metas head (metas head) refl (λ m is. (steady head m is).unmarked))
+pub use Rattle.shown_volumes.specs.Shown.{or_empty}
 
 -- ---- two images that agree at each page of a cluster that some slot has
 
@@ -72,9 +61,8 @@ abbrev pub AreFaultless : Super → Metas → Type 0
 AreFaultless s metas =
     (head : ℕ) (m : Meta) → metas head ≡ Some m → meta_fault (region_of s).fixed (region_of s).clusters m ≡ None
 
-pub resolved_faultless : (s : Super) (metas : Metas) → AreSteady s metas → AreFaultless s (resolved metas)
-resolved_faultless s metas steady head m is =
-    (steady head m (subst (λ (x : Metas). x head ≡ Some m) (steady_resolved s metas steady) is)).stored.faultless
+pub resolved_faultless : (s : Super) (metas : Metas) → AreStored s metas → AreFaultless s (resolved metas)
+resolved_faultless s metas stored head m is = (resolved_stored s metas stored head m is).faultless
 
 module _ (s : Super) (metas : Metas) (parents : HasParents metas) (faultless : AreFaultless s metas)
     (image other : Image)
@@ -104,9 +92,9 @@ behind_region true s image place page placed low q behind =
 behind_region false s image place page placed low q behind = refl
 
 pub shown_written : (told : Bool) (s : Super) (p : StoreState) (d : Device) (place : ℕ) (page : List ℕ) → p.super ≡ s
-    → AreSteady s p.base → IsLawful s.md_len (resolved p.base) → IsPlaced s → place < s.md_len
+    → AreStored s p.base → IsLawful s.md_len (resolved p.base) → IsPlaced s → place < s.md_len
     → d.reads ≡ read_after told p.device.reads (s.md_start + place) page → shown (record p { device = d }) ≡ shown p
-shown_written told s p d place page super steady lawful placed low reads =
-    rw super (shown_same s (resolved p.base) lawful.parents (resolved_faultless s p.base steady)
+shown_written told s p d place page super stored lawful placed low reads =
+    rw super (shown_same s (resolved p.base) lawful.parents (resolved_faultless s p.base stored)
     p.device.reads d.reads
     (λ q behind. rw reads (behind_region told s p.device.reads place page placed low q behind)) p.live)

@@ -14,7 +14,8 @@ use Rattle.store_model.specs.Jobs.{shown_of}
 use Rattle.store_model.specs.Steady.{AreSteady}
 use Rattle.store_model.proofs.Contents.{HasParents}
 use Rattle.store_model.proofs.Elsewhere.{IsChildless, volume_elsewhere}
-use Rattle.store_model.proofs.Shows.{steady_resolved, or_empty}
+use Rattle.store_model.proofs.Resolved.{steady_resolved}
+use Rattle.store_model.proofs.Shows.{or_empty}
 use Rattle.store_model.proofs.WithEntry.{given_here, given_elsewhere}
 
 -- a blob that isn't there is nobody's parent

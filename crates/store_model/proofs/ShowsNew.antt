@@ -41,12 +41,12 @@ use Rattle.store_model.specs.StoreState.{live_of, shown, StoreState}
 use Rattle.store_model.specs.Jobs.{shown_of}
 use Rattle.store_model.specs.Steady.{AreSteady}
 use Rattle.store_model.proofs.NewBlob.{empty_slot}
-use Rattle.store_model.proofs.Ranges.{all_one}
+use Rattle.shown_volumes.proofs.Ranges.{all_one}
 use Rattle.store_model.proofs.Shows.{or_empty}
 use Rattle.store_model.proofs.ShowsGiven.{by, childless_given, none_childless, shown_given}
 use Rattle.md_chain.specs.Chain.{is_among}
 use Rattle.store_model.proofs.ZeroedBlob.{volume_zeroed, IsZeroed}
-use Rattle.store_model.proofs.WithEntry.{given_here, given_elsewhere}
+use Rattle.shown_volumes.proofs.WithEntry.{given_here, given_elsewhere}
 
 -- ---- its volume
 

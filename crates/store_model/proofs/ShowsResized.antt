@@ -17,8 +17,8 @@ use Rattle.store_model.specs.Maps.{Metas, with_entry}
 use Rattle.store_model.specs.Shown.{content, content_by, volume_of}
 use Rattle.store_model.proofs.Cut.{cut, is_cut, is_longer, length_cut, slot_kept, slot_past}
 use Rattle.store_model.proofs.Elsewhere.{IsChildless, same_elsewhere, through}
-use Rattle.store_model.proofs.Ranges.{all_one, in_two, same_below}
-use Rattle.store_model.proofs.WithEntry.{given_here, given_elsewhere}
+use Rattle.shown_volumes.proofs.Ranges.{all_one, in_two, same_below}
+use Rattle.shown_volumes.proofs.WithEntry.{given_here, given_elsewhere}
 
 -- slots of pages
 less_than : {k : ℕ} → 0 < k → (n q : ℕ) → q < 0 + k * n → q / k < n

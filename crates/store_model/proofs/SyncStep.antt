@@ -5,7 +5,7 @@ use Rattle.std.proofs.lemmas.Bool.{cases_eq, false≢true}
 use Rattle.store_model.specs.StoreState.{StoreState, live_of, shown}
 use Rattle.store_model.specs.RunInvariant.{RunsWell}
 use Rattle.store_model.specs.Jobs.{IsStep, ReadsZeros, shown_of}
-use Rattle.store_model.specs.Asking.{AsksFor, IsSyncing}
+use Rattle.store_model.specs.Asking.{AsksFor, flags_after, IsSyncing}
 use Rattle.store_model.specs.Rows.{IsForMetadata}
 use Rattle.store_model.proofs.Known.{Known}
 use Rattle.store_model.proofs.Moved.{all_writable, live_writable}
@@ -14,6 +14,7 @@ use Rattle.store_model.specs.Phases.{Committing}
 use Rattle.volume_model.specs.declared.reply.Reply.TheVariants as r_
 use Rattle.store_model.specs.Steady.{AreSteady, IsSteady, CanBeWritten}
 use Rattle.page_disk.specs.Disk.{Image}
+use Rattle.blob_meta.specs.Repairs.{HasNoMarks}
 use Rattle.blob_meta.specs.Resolving.{slots_together}
 use Rattle.blob_meta.specs.declared.meta.Meta.{Meta}
 use Rattle.store_model.proofs.Writable.{AllWritable}
@@ -47,9 +48,10 @@ sync_commit new = record { reply = r_.Ok; live = Some new.xattrs; renews = [] }
 syncs_metadata : (command : Command) → IsSyncing command → IsForMetadata command
 syncs_metadata (c.Put volume key value) is = tt
 syncs_metadata (c.Sync volume) is = tt
+syncs_metadata (c.ReadOnly volume) is = tt
 syncs_metadata _ is = absurd is
 
-module _ (known : Known) where
+module _ (known : Known) (unmarked : HasNoMarks known.p.base) where
   open known use {first, p, facts}
 
   module _ (runs : p.stopped ≡ None) (command : Command) (head : ℕ) (new : Meta) (asks : AsksFor p command head new)
@@ -61,18 +63,18 @@ module _ (known : Known) where
     commit = sync_commit new
 
     one_steady : IsSteady p.super head new
-    one_steady = new_steady p.super head asks.old new asks.after.synced
-        (base_steady known head asks.old asks.there)
+    one_steady = new_steady p.super command head asks.old new asks.after.synced
+        (base_steady known unmarked head asks.old asks.there)
         asks.new_is (synced_written (fixed_of p.super) (shown p) command head asks.after
         (all_writable first p well) asks.syncing asks.asked asks.found asks.step)
 
     base_now : replaced p.base r ≡ with_entry p.base head new
-    base_now = base_is known head new one_steady r head_is new_is
+    base_now = base_is known unmarked head new one_steady r head_is new_is
 
     few : slots_together p.super.md_len (with_entry p.base head new) ≤ 2 ^ 24
     few = subst (λ n. n ≤ 2 ^ 24)
-        (sym (slots_same p.base head asks.old new asks.after.synced asks.there asks.new_is p.super.md_len))
-        (base_lawful known).few
+        (sym (slots_same p.base command head asks.old new asks.after.synced asks.there asks.new_is p.super.md_len))
+        (base_lawful known unmarked).few
 
     -- ---- what every image shows
 
@@ -92,8 +94,8 @@ module _ (known : Known) where
       shows_new : shown_of p.super (replaced p.base r) (live_of w) image ≡ w
       shows_new =
           ap (λ (m : Metas). shown_of p.super m (live_of w) image) base_now
-          ∙ shown_synced p.super here refl (base_steady known) command head new asks_here
-          (all_steady known head new one_steady)
+          ∙ shown_synced p.super here refl (base_steady known unmarked) command head new asks_here
+          (all_steady known unmarked head new one_steady)
 
       writable_new : AllWritable w
       writable_new h v is = elim (cases_eq h head) [
@@ -124,14 +126,16 @@ module _ (known : Known) where
       renews = tt;
       numbers = λ makes. absurd (false≢true (sym there ∙ makes));
       leaves = λ h _.
-          leaves_resolved p.super p.base (replaced p.base r) Any h (base_steady known)
-          (subst (AreSteady p.super) (sym base_now) (all_steady known head new one_steady))
+          leaves_resolved p.super p.base (replaced p.base r) Any h (base_steady known unmarked)
+          (subst (AreSteady p.super) (sym base_now) (all_steady known unmarked head new one_steady))
           (subst (λ (m : Metas). LeavesEmpty p.super p.base m Any h) (sym base_now)
           (leaves_alike p.super p.base (with_entry p.base head new)
-          (alike_synced p.base head asks.old new asks.after.synced asks.there asks.new_is) h));
+          (alike_synced p.base head asks.old new asks.after.synced (flags_after command asks.old.flags)
+          asks.there asks.new_is) h));
     }
 
     pub sync_ready : IsReady p [] command commit new r
-    sync_ready = ready_by known head new one_steady r head_is new_is [] command commit
-        (lawful_still known head new (takes_none p.base head asks.old new asks.after.synced asks.there asks.new_is) few)
+    sync_ready = ready_by known unmarked head new one_steady r head_is new_is [] command commit
+        (lawful_still known unmarked head new
+        (takes_none p.base command head asks.old new asks.after.synced asks.there asks.new_is) few)
         few step

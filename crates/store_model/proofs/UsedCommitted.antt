@@ -9,7 +9,7 @@ use Rattle.md_chain.specs.Chain.{is_among}
 use Rattle.store_model.specs.Maps.{Metas, Chains, with_entry}
 use Rattle.store_model.specs.Places.{AreDistinct, IsLinked, UsedPages}
 use Rattle.store_model.specs.RunInvariant.{HaveChains}
-use Rattle.store_model.proofs.WithEntry.{given_here, given_elsewhere}
+use Rattle.shown_volumes.proofs.WithEntry.{given_here, given_elsewhere}
 use Rattle.store_model.proofs.Sets.{among_either, among_first, among_later}
 use Rattle.store_model.proofs.Sets.{AllBelow}
 use Rattle.store_model.proofs.LeftToDo.{among_left, among_right, distinct_both, among_split, distinct_apart}

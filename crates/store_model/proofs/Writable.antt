@@ -1,5 +1,5 @@
 -- Attributes that can be written, when one is set or removed; and what a command that is answered in memory changes.
-use Rattle.std.proofs.Common.{◌≡◌, ◌≢◌, ℕ, ◌+◌, ◌≤◌, Bool, true, false, List, [], ◌∷◌, length, Option, Some, None, refl}
+use Rattle.std.proofs.Common.{◌≡◌, ◌≢◌, ℕ, ◌+◌, ◌≤◌, Bool, false, List, [], ◌∷◌, length, Option, Some, None, refl}
 use Rattle.std.proofs.Common.{sym, ◌∙◌, ap, subst, arith, inl, inr}
 use Rattle.std.specs.Prelude.{nat_lt, ◌||◌}
 use Rattle.std.specs.List.{AllByRecursion, find}
@@ -10,7 +10,7 @@ use Rattle.std.proofs.lemmas.Bool.Decides.{nat_tests}
 use Rattle.std.proofs.lemmas.Slice.Eq.{bytes_eq-Decides}
 use Rattle.volume_model.specs.Volumes.{Fixed, Volume, Volumes, head_of, is_super}
 use Rattle.volume_model.specs.Xattrs.{Xattrs, with_value, without}
-use Rattle.volume_model.specs.Refusals.{Causes, is_reserved, refusal}
+use Rattle.volume_model.specs.Refusals.{is_reserved, refusal}
 use Rattle.volume_model.specs.Steps.{Allowed, change, edited_at, IsRefusal}
 use Rattle.volume_model.specs.declared.text.Xattr.{Xattr}
 use Rattle.volume_model.specs.declared.command.VolumeRef.{VolumeRef}
@@ -19,6 +19,7 @@ use Rattle.volume_model.specs.declared.command.Command.TheVariants as c
 use Rattle.volume_model.specs.declared.reply.Reply.{Reply}
 use Rattle.volume_model.specs.declared.reply.Reply.TheVariants as r
 use Rattle.blob_meta.specs.Items.{HasDistinctNames}
+pub use Rattle.shown_volumes.proofs.Passing.{none_holds}
 use Rattle.store_model.specs.Cases.{IsInMemory, live_of}
 use Rattle.store_model.specs.RunInvariant.{CanBeWritten}
 use Rattle.store_model.proofs.Refusals.{RefusalsChangeNothing}
@@ -84,13 +85,6 @@ written_without xs key can =
     record { names = distinct_without xs key can.names; short = all_without IsShort xs key can.short }
 
 -- ---- what a cause says that doesn't hold
-
-pub none_holds : (causes : Causes)
-    → option_map (λ (cause : Bool × Reply). cause.1) (find (λ (cause : Bool × Reply). cause.0) causes) ≡ None
-    → AllByRecursion (λ (cause : Bool × Reply). cause.0 ≡ false) causes
-none_holds [] none = tt
-none_holds ((true, reply) ∷ causes) none = absurd (cc none)
-none_holds ((false, reply) ∷ causes) none = (refl, none_holds causes none)
 
 none_third : (a b c : Bool) (x y z : Reply)
     → option_map (λ (cause : Bool × Reply). cause.1) (find (λ cause. cause.0) ((a, x) ∷ (b, y) ∷ (c, z) ∷ [])) ≡ None

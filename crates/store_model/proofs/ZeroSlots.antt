@@ -12,7 +12,7 @@ use Rattle.store_model.specs.Inserting.{with_slot}
 use Rattle.store_model.specs.Jobs.{with_clusters}
 use Rattle.store_model.specs.Places.{AreDistinct}
 use Rattle.store_model.proofs.Inserted.{get_set_here}
-use Rattle.store_model.proofs.Ranges.{get_set_other}
+use Rattle.shown_volumes.proofs.Ranges.{get_set_other}
 use Rattle.store_model.proofs.Sets.{among_either, among_first, among_later, not_first}
 
 -- ---- one slot

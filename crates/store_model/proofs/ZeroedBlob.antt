@@ -49,7 +49,7 @@ use Rattle.store_model.specs.Places.{IsMapped}
 use Rattle.store_model.specs.Shown.{content, content_by, volume_of}
 use Rattle.store_model.proofs.Cut.{all_full, slot_in}
 use Rattle.store_model.proofs.Elsewhere.{IsChildless, same_elsewhere, through}
-use Rattle.store_model.proofs.WithEntry.{given_here, given_elsewhere}
+use Rattle.shown_volumes.proofs.WithEntry.{given_here, given_elsewhere}
 use Rattle.store_model.proofs.ZeroSlots.{IsZeroedAt}
 
 -- What is known of it: but for the map it is the same, each slot is as it was or has a claimed cluster, and no cluster

@@ -13,7 +13,7 @@ use Rattle.volume_model.specs.Xattrs.{Xattrs}
 use Rattle.volume_model.specs.declared.command.Command.{Command}
 use Rattle.md_chain.specs.Chain.{is_among}
 use Rattle.store_model.specs.Maps.{Chains, Map, Metas}
-use Rattle.store_model.specs.Phases.{Phase, has_commit, held_in, Zeros}
+use Rattle.store_model.specs.Phases.{behind, Phase, has_commit, held_in, Zeros}
 use Rattle.store_model.specs.Jobs.{pages_in, zeros_in, Does, Lays}
 use Rattle.store_model.specs.Places.{
   all_set,
@@ -48,6 +48,11 @@ held_zeros (x ∷ xs) rest = held_zeros xs rest
 pub zeros_are : (pages : List ℕ) (rest : List Phase) → zeros_in (map Zeros pages ++ rest) ≡ pages ++ zeros_in rest
 zeros_are [] rest = refl
 zeros_are (x ∷ xs) rest = ap (λ l. x ∷ l) (zeros_are xs rest)
+
+pub leads_zeros : (base : Metas) (pages : List ℕ) (rest : List Phase)
+    → behind base (map Zeros pages ++ rest) ≡ behind base rest
+leads_zeros base [] rest = refl
+leads_zeros base (x ∷ xs) rest = leads_zeros base xs rest
 
 pub does_zeros : (Holds : Image → Type 0) (s : Super) (base : Metas) (live : Map Xattrs) (command : Command)
     (pages : List ℕ) (rest : List Phase) → Does Holds s base live command rest

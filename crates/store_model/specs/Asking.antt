@@ -9,9 +9,11 @@ use Rattle.volume_model.specs.declared.command.Command.{Command}
 use Rattle.volume_model.specs.declared.command.Command.TheVariants as c
 use Rattle.volume_model.specs.declared.command.VolumeRef.{VolumeRef}
 use Rattle.volume_model.specs.declared.reply.Reply.TheVariants as r
+use Rattle.blob_meta.specs.declared.meta.Flags.{Flags}
 use Rattle.blob_meta.specs.declared.meta.Meta.{Meta}
 use Rattle.blob_meta.specs.declared.job.Job.{Job as Changes}
 use Rattle.blob_meta.specs.Jobs.{create_job, job_of_one, resize_job}
+use Rattle.blob_meta.specs.Parents.{read_only}
 use Rattle.store_model.specs.Shown.{fixed_of}
 use Rattle.store_model.specs.Phases.{Committing}
 use Rattle.store_model.specs.StoreState.{StoreState, shown}
@@ -22,10 +24,16 @@ use Rattle.store_model.specs.StoreState.{StoreState, shown}
 abbrev pub IsSyncing : Command → Type 0
 IsSyncing (c.Put volume key value) = Unit {0}
 IsSyncing (c.Sync volume) = Unit {0}
+IsSyncing (c.ReadOnly volume) = Unit {0}
 IsSyncing _ = ⊥
 
--- A command that nothing refuses, with the blob that it means and the metadata that it makes: as it was, but that the
--- attributes are those which the step makes synced.
+-- the flags behind them: one of these verbs makes the volume read-only
+abbrev pub flags_after : Command → Flags → Flags
+flags_after (c.ReadOnly volume) flags = read_only flags
+flags_after _ flags = flags
+
+-- A command that nothing refuses, with the blob that it means and the metadata that it makes: as it was, but for its
+-- flags where the command changes them, and that the attributes are those which the step makes synced.
 pub record AsksFor (p : StoreState) (command : Command) (head : ℕ) (new : Meta) : Type 0 where
   pub syncing : IsSyncing command
   pub asked : refusal (fixed_of p.super) (shown p) command ≡ None
@@ -34,7 +42,7 @@ pub record AsksFor (p : StoreState) (command : Command) (head : ℕ) (new : Meta
   pub there : p.base head ≡ Some old
   pub after : Volume
   pub step : change (fixed_of p.super) (shown p) command r.Ok head ≡ Some after
-  pub new_is : new ≡ record old { xattrs = after.synced }
+  pub new_is : new ≡ record old { xattrs = after.synced; flags = flags_after command old.flags }
 
 -- A verb that syncs has one replacement, with which the blob's attributes are read as they are synced, and renews no
 -- generation.

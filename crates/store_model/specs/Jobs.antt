@@ -35,6 +35,7 @@ use Rattle.volume_model.specs.declared.reply.Reply.TheVariants as r
 use Rattle.blob_meta.specs.declared.meta.Meta.{Meta}
 use Rattle.blob_meta.specs.declared.job.Replacement.{Replacement}
 use Rattle.blob_meta.specs.Items.{IsItemsOf}
+use Rattle.blob_meta.specs.Repairs.{HasNoMarks}
 use Rattle.blob_meta.specs.Resolving.{IsLawful, resolved, slots_together}
 use Rattle.md_chain.specs.Chain.{is_among}
 use Rattle.md_chain.specs.Packing.{parts_of}
@@ -46,14 +47,14 @@ use Rattle.store_model.specs.Scans.{MetaAt}
 use Rattle.store_model.specs.Shown.{fixed_of, shown_by}
 use Rattle.store_model.specs.Recovers.{IsChangeDone}
 use Rattle.store_model.specs.Rows.{InJob, IsForMetadata, OpenClaim, Rows}
-use Rattle.store_model.specs.Steady.{CanBeWritten, IsSteady}
+use Rattle.store_model.specs.Steady.{AreNamed, CanBeWritten, IsStored}
 use Rattle.store_model.specs.Inserting.{with_slot}
 use Rattle.store_model.specs.Copying.{IsWanted, LeavesEmpty}
 use Rattle.store_model.specs.Places.{all_set, AreDistinct, AreLeastClear, IsMapped}
 use Rattle.store_model.specs.Phases.{Phase, Committing, with_live, Marks, Zeros, Writes, Replaces, Erases, Frees}
 use Rattle.store_model.specs.Phases.{Replacing, page_in, held_in, taken_by, taken_in, has_commit, replaced, rechained}
-use Rattle.store_model.specs.Phases.{chain_before}
-use Rattle.store_model.specs.StoreState.{ForCommand, ForInsert, JobState, live_of, Service, StoreState}
+use Rattle.store_model.specs.Phases.{behind, chain_before, OnlyMend}
+use Rattle.store_model.specs.StoreState.{ForCommand, ForInsert, ForRepair, JobState, live_of, Service, StoreState}
 
 -- ---- how changes are laid on pages
 
@@ -105,11 +106,14 @@ pub record IsPlannedFor (s : Super) (pages : List Bool) (new : Meta) (r : Replac
   pub places : places_of r.planned ≡ r.head ∷ r.fresh
   pub says : MetaAt (page_in r.planned) (region_of s) r.head new (r.head ∷ r.fresh)
 
--- For a blob that is erased the head's page is one of zeros.
+-- A blob that is there is erased: nothing but a page of zeros is laid, over its head's.
+abbrev pub IsErasure : Replacing → Type 0
+IsErasure r = (r.fresh ≡ []) × (r.makes ≡ false) × (r.planned ≡ record { place = r.head; page = zero_page } ∷ [])
+
+-- new metadata is packed on pages, and an erased blob has none
 abbrev pub IsJobPlanned : Super → List Bool → Option Meta → Replacing → Type 0
 IsJobPlanned s pages (Some new) r = IsPlannedFor s pages new r
-IsJobPlanned s pages None r =
-    (r.fresh ≡ []) × (r.makes ≡ false) × (r.planned ≡ record { place = r.head; page = zero_page } ∷ [])
+IsJobPlanned s pages None r = IsErasure r
 
 -- The clusters in maps before and after a replacement: one that no map has any more is freed, and one that none had was
 -- claimed.
@@ -185,15 +189,16 @@ AreZeroed s clusters zeros image =
 
 -- ---- what is left of a job
 
--- A replacement can be made once its fresh pages are written: it is planned on places that differ, and leaves metadata
--- that resolves to lawful one.
+-- A replacement can be made once its fresh pages are written: it is planned on places that differ, the store can hold
+-- the new metadata, and all metadata resolves with it to lawful one, in which each SNAP names a head.
 pub record CanReplace (s : Super) (base : Metas) (chains : Chains) (claimed written : List ℕ)
     (r : Replacing) : Type 0 where
   pub all : written ≡ r.fresh
   pub places : places_of r.planned ≡ r.head ∷ r.fresh
   pub says : (m : Meta) → r.new ≡ Some m → MetaAt (page_in r.planned) (region_of s) r.head m (r.head ∷ r.fresh)
-  pub steady : (m : Meta) → r.new ≡ Some m → IsSteady s r.head m
-  pub gone : r.new ≡ None → r.fresh ≡ []
+  pub stored : (m : Meta) → r.new ≡ Some m → IsStored s r.head m
+  pub named : AreNamed (resolved (replaced base r))
+  pub gone : r.new ≡ None → IsErasure r
   pub chain : chains r.head ≡ chain_before r
   pub unerased : r.makes ≡ true → r.old ≡ []
   pub few : slots_together s.md_len (replaced base r) ≤ 2 ^ 24
@@ -221,13 +226,16 @@ Lays s base chains claimed written (Frees place old ∷ rest) =
 abbrev pub shown_of : Super → Metas → Map Xattrs → Image → Volumes
 shown_of s base live image = shown_by (fixed_of s) image (resolved base) live
 
--- The volumes are shown as they are while these phases are made, whatever a device holds of which this is known.
-abbrev pub Keeps : (Image → Type 0) → Super → Metas → Map Xattrs → List Phase → Type 0
-Keeps Holds s base live [] = Unit {0}
-Keeps Holds s base live (Replaces r commit ∷ rest) =
-    ((image : Image) → Holds image → shown_of s (replaced base r) live image ≡ shown_of s base live image)
-    × Keeps Holds s (replaced base r) live rest
-Keeps Holds s base live (_ ∷ rest) = Keeps Holds s base live rest
+-- the metadata resolves with this replacement to what it resolves to without it, so that the volumes are shown as they
+-- are
+abbrev pub IsUnseen : Metas → Replacing → Type 0
+IsUnseen base r = resolved (replaced base r) ≡ resolved base
+
+-- the volumes are shown as they are while these phases are made
+abbrev pub Keeps : Metas → List Phase → Type 0
+Keeps base [] = Unit {0}
+Keeps base (Replaces r commit ∷ rest) = IsUnseen base r × Keeps (replaced base r) rest
+Keeps base (_ ∷ rest) = Keeps base rest
 
 -- nothing is known of what a device holds
 abbrev pub Anything : Image → Type 0
@@ -259,16 +267,13 @@ pub record IsStep (Holds : Image → Type 0) (s : Super) (base : Metas) (replaci
       → LeavesEmpty s (resolved base) (resolved (replaced base replacing)) (λ image. Unit {0}) head
 
 -- The volumes are shown as they are up to the commit, and from it on as the command's step makes them, whatever a
--- device holds of which this is known at the commit. Behind it nothing needs to be.
+-- device holds of which this is known at the first replacement. Behind it nothing needs to be known.
 abbrev pub Does : (Image → Type 0) → Super → Metas → Map Xattrs → Command → List Phase → Type 0
 Does Holds s base live command [] = ⊥
 Does Holds s base live command (Replaces r (Some commit) ∷ rest) =
-    IsStep Holds s base r live command commit × (has_commit rest ≡ false)
-    × ((image : Image) → Keeps Anything s (replaced base r)
-    (live_of (change (fixed_of s) (shown_of s base live image) command commit.reply)) rest)
+    IsStep Holds s base r live command commit × (has_commit rest ≡ false) × Keeps (replaced base r) rest
 Does Holds s base live command (Replaces r None ∷ rest) =
-    ((image : Image) → Holds image → shown_of s (replaced base r) live image ≡ shown_of s base live image)
-    × Does Holds s (replaced base r) live command rest
+    IsUnseen base r × Does Anything s (replaced base r) live command rest
 Does Holds s base live command (_ ∷ rest) = Does Holds s base live command rest
 
 -- The command of a channel waits for these phases, of a job that has claimed these clusters.
@@ -311,8 +316,9 @@ Puts p row (Zeros page ∷ rest) = ⊥
 Puts p row (Replaces r commit ∷ rest) = PutsClaim p row r × AreOldPages rest
 Puts p row (_ ∷ rest) = Puts p row rest
 
--- The row waits for its insert, whose job freezes no blob and has claimed no cluster itself.
+-- The row waits for its insert, whose job freezes no blob and has claimed no cluster itself; no blob is marked.
 pub record InsertStands (p : StoreState) (j : JobState) (row : ℕ) : Type 0 where
+  pub unmarked : HasNoMarks p.base
   pub waits : (p.rows row).stage ≡ InJob
   pub thaws : j.freeze ≡ None
   pub unclaimed : j.claimed ≡ []
@@ -320,13 +326,16 @@ pub record InsertStands (p : StoreState) (j : JobState) (row : ℕ) : Type 0 whe
 
 -- What is left of a running job can be done, on places that differ; its command waits for the commit, and behind that,
 -- or where it serves none, the volumes are shown as they are. Behind an insert they are so by what its cluster holds.
--- The clusters that it has claimed read as zeros, but for the pages that are still to be overwritten.
+-- The clusters that it has claimed read as zeros, but for the pages that are still to be overwritten. A job of a
+-- command or an insert leaves no blob marked, and a repair commits nothing and marks none.
 pub record JobStands (p : StoreState) (j : JobState) : Type 0 where
   pub lays : Lays p.super p.base p.chains (gained_by p.rows j) j.written j.todo
   pub distinct : AreDistinct (held_in j.todo)
   pub served : (channel : ℕ) → j.serves ≡ ForCommand channel → has_commit j.todo ≡ true
       → IsServed p channel j.claimed j.todo
   pub keeps : has_commit j.todo ≡ false → ((row : ℕ) → j.serves ≢ ForInsert row)
-      → Keeps (ReadsZeros p.super j.claimed) p.super p.base p.live j.todo
+      → Keeps p.base j.todo
+  pub settles : j.serves ≢ ForRepair → HasNoMarks (behind p.base j.todo)
+  pub mends : j.serves ≡ ForRepair → OnlyMend j.todo
   pub zeroed : AreZeroed p.super j.claimed (zeros_in j.todo) p.device.reads
   pub inserts : (row : ℕ) → j.serves ≡ ForInsert row → InsertStands p j row

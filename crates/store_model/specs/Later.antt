@@ -8,13 +8,11 @@ use Rattle.store_model.specs.StoreState.{StoreState}
 use Rattle.store_model.specs.Later.CopyTurns.{FillCopyFails, FillNotRead}
 use Rattle.store_model.specs.Later.InsertTurns.{FillInsertBreaksDown, FillInsertFails, FillLacks}
 use Rattle.store_model.specs.Later.FillTurns.{ClaimsFill, EndsFill, HaltsFill, LacksForFill}
-use Rattle.store_model.specs.Later.JobPhaseTurns.{BeginsRepair, CommitsMore, MarksDirty, MoreBreaksOff, MoreFails}
-use Rattle.store_model.specs.Later.JobPhaseTurns.{ReplacesMore}
+use Rattle.store_model.specs.Later.JobPhaseTurns.{CommitsMore, MarkBreaksOff, MarkOrErasureFails, MarksDirty}
 
 pub data LaterKind : Type 0 where
   fill_not_read fill_copy_fails fill_lacks fill_insert_fails fill_insert_breaks_down claims_fill lacks_for_fill
-      halts_fill ends_fill marks_dirty replaces_more commits_more more_fails more_breaks_off
-      begins_repair : LaterKind
+      halts_fill ends_fill marks_dirty commits_more mark_or_erasure_fails mark_breaks_off : LaterKind
 
 module _ (told : Bool) where
   abbrev pub LaterTurn : StoreState → LaterKind → StoreState → Type 0
@@ -28,8 +26,6 @@ module _ (told : Bool) where
   LaterTurn p halts_fill q = HaltsFill p q
   LaterTurn p ends_fill q = EndsFill p q
   LaterTurn p marks_dirty q = MarksDirty told p q
-  LaterTurn p replaces_more q = ReplacesMore told p q
   LaterTurn p commits_more q = CommitsMore told p q
-  LaterTurn p more_fails q = MoreFails p q
-  LaterTurn p more_breaks_off q = MoreBreaksOff p q
-  LaterTurn p begins_repair q = BeginsRepair p q
+  LaterTurn p mark_or_erasure_fails q = MarkOrErasureFails p q
+  LaterTurn p mark_breaks_off q = MarkBreaksOff p q

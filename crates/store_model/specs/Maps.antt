@@ -1,24 +1,12 @@
--- Finite maps from heads, as functions.
-use Rattle.std.specs.Prelude.{◌≡◌, ◌≢◌, ℕ, ◌==◌, if◌then◌else◌, Option, None, Some, List}
-use Rattle.blob_meta.specs.declared.meta.Meta.{Meta}
+-- Finite maps from heads, as functions: those of a store.
+use Rattle.std.specs.Prelude.{◌≡◌, ◌≢◌, ℕ, ◌==◌, if◌then◌else◌, Option, List}
+use Rattle.shown_volumes.specs.Maps.{Map}
 
-abbrev pub Map : Type 0 → Type 0
-Map X = ℕ → Option X
+pub use Rattle.shown_volumes.specs.Maps.{Map, Metas, with_entry, without_entry}
 
--- the metadata of each blob, and the places of its chain, by its head
-abbrev pub Metas : Type 0
-Metas = Map Meta
-
+-- the places of each blob's chain, by its head
 abbrev pub Chains : Type 0
 Chains = Map (List ℕ)
-
--- the map with one entry given
-abbrev pub with_entry : {X : Type 0} → Map X → ℕ → X → Map X
-with_entry m head x = λ q. if q == head then Some x else m q
-
--- the map with one entry gone
-abbrev pub without_entry : {X : Type 0} → Map X → ℕ → Map X
-without_entry m head = λ q. if q == head then None else m q
 
 -- the map with one entry given or gone
 abbrev pub with_option : {X : Type 0} → Map X → ℕ → Option X → Map X

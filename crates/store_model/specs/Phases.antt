@@ -1,8 +1,10 @@
 -- What a job does: replacements of metadata, one after another, by phases of which each is one turn.
-use Rattle.std.specs.Prelude.{ℕ, ◌-◌, ◌==◌, if◌then◌else◌, Bool, true, false, List, [], ◌∷◌, ◌++◌, Option, Some, None}
+use Rattle.std.specs.Prelude.{◌≡◌, ℕ, ◌-◌, ◌==◌, if◌then◌else◌, Bool, true, false, List, [], ◌∷◌, ◌++◌, Option, Some}
+use Rattle.std.specs.Prelude.{None}
 use Rattle.std.specs.Option.{option_map, option_map_or}
 use Rattle.volume_model.specs.declared.reply.Reply.{Reply}
 use Rattle.blob_meta.specs.declared.meta.Meta.{Meta}
+use Rattle.blob_meta.specs.Resolving.{mark_of}
 use Rattle.md_chain.specs.Chain.{Look}
 use Rattle.md_chain.specs.declared.plan.PlannedPage.{PlannedPage}
 use Rattle.volume_model.specs.Xattrs.{Xattrs}
@@ -113,6 +115,19 @@ replaced base r = with_option base r.head r.new
 
 abbrev pub rechained : Chains → Replacing → Chains
 rechained chains r = with_option chains r.head (option_map (λ m. r.head ∷ r.fresh) r.new)
+
+-- the metadata once all replacements of these phases are made
+abbrev pub behind : Metas → List Phase → Metas
+behind base [] = base
+behind base (Replaces r commit ∷ rest) = behind (replaced base r) rest
+behind base (_ ∷ rest) = behind base rest
+
+-- no replacement of these phases is a commit, or gives a blob a mark
+abbrev pub OnlyMend : List Phase → Type 0
+OnlyMend [] = Unit {0}
+OnlyMend (Replaces r None ∷ rest) = ((m : Meta) → r.new ≡ Some m → mark_of m ≡ None) × OnlyMend rest
+OnlyMend (Replaces r (Some commit) ∷ rest) = ⊥
+OnlyMend (_ ∷ rest) = OnlyMend rest
 
 -- the attributes as they are read behind a commit
 abbrev pub with_live : Map Xattrs → ℕ → Option Xattrs → Map Xattrs

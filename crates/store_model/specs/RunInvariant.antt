@@ -8,7 +8,7 @@ use Rattle.super_block.specs.declared.page.Super.{Super}
 use Rattle.blob_meta.specs.declared.meta.Meta.{Meta}
 use Rattle.blob_meta.specs.Resolving.{IsLawful, resolved, slots_together}
 use Rattle.md_chain.specs.Chain.{is_among}
-pub use Rattle.store_model.specs.Steady.{CanBeWritten, IsSteady, AreSteady}
+pub use Rattle.store_model.specs.Steady.{AreNamed, AreSteady, AreStored, CanBeWritten, IsSteady}
 use Rattle.store_model.specs.Maps.{Metas, Chains}
 use Rattle.store_model.specs.Shown.{fixed_of}
 use Rattle.store_model.specs.Rows.{Copying, entries_of, fill_row, InJob, OpenClaim, Posted, Ended, Ready, Row, Stage}
@@ -82,7 +82,8 @@ pub record RunsWell (first : Volumes) (p : StoreState) : Type 0 where
 
 pub record RunInvariant (s : Super) (first : Volumes) (script : ℕ → List Command) (p : StoreState) : Type 0 where
   pub super : p.super ≡ s
-  pub steady : AreSteady s p.base
+  pub stored : AreStored s p.base
+  pub named : AreNamed (resolved p.base)
   pub few : slots_together s.md_len p.base ≤ 2 ^ 24
   pub lawful : IsLawful s.md_len (resolved p.base)
   pub legal : IsLegal (fixed_of s) first (seen p.tells p.log)

@@ -33,6 +33,7 @@ use Rattle.blob_meta.specs.declared.job.Job.{Job as Changes}
 use Rattle.blob_meta.specs.declared.job.Replacement.{Replacement}
 use Rattle.blob_meta.specs.declared.meta.Meta.{Meta}
 use Rattle.store_model.specs.Phases.{Committing}
+use Rattle.blob_meta.specs.Repairs.{HasNoMarks}
 use Rattle.blob_meta.specs.Resolving.{IsLawful, resolved, slots_together}
 use Rattle.store_model.specs.Maps.{with_entry, Metas, Chains}
 use Rattle.store_model.specs.Regions.{region_of, MdRegion}
@@ -44,14 +45,16 @@ use Rattle.store_model.specs.Jobs.{with_clusters}
 use Rattle.store_model.specs.Places.{AreLeastClear, Unclaimed, UsedClusters, UsedPages}
 use Rattle.store_model.specs.Asking.{IsJobFor}
 use Rattle.store_model.specs.Cases.{Kind, Run, Turn}
-use Rattle.store_model.specs.RunInvariant.{AreSteady, RunInvariant, HaveChains, IsSteady}
+use Rattle.store_model.specs.Repairing.{IsRepaired}
+use Rattle.store_model.specs.RunInvariant.{AreNamed, AreStored, RunInvariant, HaveChains, IsSteady}
 use Rattle.store_model.specs.Recovers.{HasStore, Recovers}
 
 -- what a store is loaded with: nothing of a job, each attribute live as it is synced, and each blob with a generation
 -- of its own
 pub record IsLoadedWith (s : Super) (p : StoreState) : Type 0 where
   pub super : p.super ≡ s
-  pub steady : AreSteady s p.base
+  pub stored : AreStored s p.base
+  pub named : AreNamed (resolved p.base)
   pub few : slots_together s.md_len p.base ≤ 2 ^ 24
   pub lawful : IsLawful s.md_len (resolved p.base)
   pub chains : HaveChains s p.base p.chains
@@ -74,11 +77,14 @@ pub record StateLaws : Type 0 where
       → IsPlaced s → RunInvariant s first script p → Turn told p kind q → RunInvariant s first script q
   pub go_on : (told : Bool) (p q r : StoreState) (kinds : List Kind) (kind : Kind) → Run told p kinds q
       → Turn told q kind r → Run told p (kinds ++ kind ∷ []) r
-  -- the metadata that a job is to write can be written, at a head of the region, with the least clear clusters in the
-  -- slots that are to read as zeros
+  -- a store with nothing left to repair stays so, and so does one that serves a command or has stopped
+  pub repaired_stays : (told : Bool) (s : Super) (first : Volumes) (script : ℕ → List Command) (p q : StoreState)
+      (kind : Kind) → RunInvariant s first script p → Turn told p kind q → IsRepaired p → IsRepaired q
+  -- where no blob is marked, the metadata that a job is to write can be written, at a head of the region, with the
+  -- least clear clusters in the slots that are to read as zeros
   pub writable : (s : Super) (first : Volumes) (script : ℕ → List Command) (p : StoreState) (command : Command)
       (changes : Changes) (commit : Committing) → IsPlaced s → RunInvariant s first script p → p.stopped ≡ None
-      → IsJobFor p command changes commit → (claimed : List ℕ) → AreLeastClear p.clusters claimed
+      → HasNoMarks p.base → IsJobFor p command changes commit → (claimed : List ℕ) → AreLeastClear p.clusters claimed
       → length claimed ≡ length changes.zero → (x : Replacement) (new : Meta) → changes.list ≡ x ∷ []
       → x.new ≡ Some new → x.head < s.md_len → IsSteady s x.head (with_clusters new changes.zero claimed)
   -- On a device that tells, an image with this store, which says the metadata that the store has, recovers the whole

@@ -36,12 +36,19 @@ NamesHead m = is_some (value_of m.internal (codes "SNAP")) ≡ is_some (parent_o
 abbrev pub IsUnmarked : Meta → Type 0
 IsUnmarked m = mark_of m ≡ None
 
--- A blob is steady if the store can hold it, its SNAP names a head, and it isn't being made or removed. (Marks come
--- with recovery: a store that runs has none so far.)
+-- A blob is steady if the store can hold it, its SNAP names a head, and it isn't being made or removed.
 pub record IsSteady (s : Super) (head : ℕ) (m : Meta) : Type 0 where
   pub stored : IsStored s head m
   pub named : NamesHead m
   pub unmarked : IsUnmarked m
+
+-- the store can hold each blob, marked ones among them
+abbrev pub AreStored : Super → Metas → Type 0
+AreStored s metas = (head : ℕ) (m : Meta) → metas head ≡ Some m → IsStored s head m
+
+-- the SNAP of each blob names a head, where the blob has one
+abbrev pub AreNamed : Metas → Type 0
+AreNamed metas = (head : ℕ) (m : Meta) → metas head ≡ Some m → NamesHead m
 
 -- each blob is steady: then the metadata is resolved as it is
 abbrev pub AreSteady : Super → Metas → Type 0

@@ -1,7 +1,7 @@
 -- The state of a running store, as plain data. Contracts compute it from what they see of the program's value.
 use Rattle.std.specs.Prelude.{Some, length, ◌≡◌, ◌⊎◌, ℕ, ◌+◌, ◌%◌, ◌^◌, if◌then◌else◌, Bool, false, List, [], ◌∷◌, ◌++◌}
 use Rattle.std.specs.Prelude.{Option, None}
-use Rattle.std.specs.Option.{option_map, option_map_or}
+use Rattle.std.specs.Option.{option_map_or}
 use Rattle.super_block.specs.declared.page.Super.{Super}
 use Rattle.volume_model.specs.Volumes.{Volumes}
 use Rattle.volume_model.specs.Xattrs.{Xattrs}
@@ -15,6 +15,8 @@ use Rattle.store_model.specs.Phases.{Phase, has_commit, planned_in}
 use Rattle.store_model.specs.Shown.{fixed_of, shown_by}
 use Rattle.store_model.specs.Device.{Device}
 use Rattle.store_model.specs.Rows.{Rows, Stage, with_row, entry_of, Idle, Answered, Decided, Ended}
+
+pub use Rattle.shown_volumes.specs.Shown.{live_of}
 
 -- For whom a job is done: the command of a channel, the insert of a cluster that a channel claimed, or a repair.
 pub data Service : Type 0 where
@@ -86,10 +88,6 @@ pub record StoreState : Type 0 where
 -- the volumes that are shown: those of the metadata once it is resolved
 abbrev pub shown : StoreState → Volumes
 shown p = shown_by (fixed_of p.super) p.device.reads (resolved p.base) p.live
-
--- the attributes of volumes as they are read
-abbrev pub live_of : Volumes → Map Xattrs
-live_of v head = option_map (λ x. x.live) (v head)
 
 -- serial numbers are drawn from one counter of 64 bits
 abbrev pub next_serial : ℕ → ℕ

@@ -10,14 +10,15 @@ use volume_model::Msg;
 impl<D: PageDisk> Plant<D> {
     ghost use Rattle.std.specs.Prelude.{◌≡◌, None, IsSome};
     ghost use Rattle.store_model.specs.Cases as kind;
+    ghost use Rattle.store_model.specs.Repairing.{IsRepaired};
     ghost use Rattle.metadata_turns.specs.declared.inserting.InsertTurn.TheVariants.{Logged};
     ghost use Rattle.metadata_turns.specs.Inserts.{row_inserting, InsertsOrNot};
     ghost use Rattle.running_store.specs.Requests.{IsInsertPosted};
     ghost use Rattle.running_store.specs.Steps.{OnlyRow};
-    ghost use Rattle.running_store.specs.StoreView.{rows_of};
+    ghost use Rattle.running_store.specs.StoreView.{rows_of, state_of};
     ghost use Rattle.running_store.specs.TurnMade.{TurnMade};
 
-    /// Begins the insert that a message posts: the job that writes its blob's metadata, as it was last synced, with the
+    /// Begins the insert that a message posts, where nothing is left to repair: the job that writes its blob's metadata, as it was last synced, with the
     /// cluster in the claim's slot. `Decided` comes exactly where the blob is gone or has another generation than at
     /// the claim, or the slot isn't there or is filled: the claim is given back, and the write begins again. `Logged`
     /// comes where fewer pages are clear than the metadata needs behind its head, where memory ran out, and on a stopped
@@ -26,6 +27,7 @@ impl<D: PageDisk> Plant<D> {
         requires right { right.old ≡ self.old.right }
         requires posted { IsInsertPosted self.old.at.rows msg }
         requires no_job { self.old.at.job ≡ None }
+        requires repaired { IsRepaired (state_of D.PageDisk self.old.at) }
         ensures begins { self.old.at.stopped ≡ None → InsertsOrNot D.PageDisk self.old.at self.new.at result }
         ensures halted { IsSome self.old.at.stopped
             → (result ≡ Logged) × TurnMade D.PageDisk self.old.at self.new.at kind.halts }

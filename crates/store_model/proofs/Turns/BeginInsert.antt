@@ -25,11 +25,12 @@ use Rattle.std.proofs.lemmas.Bool.{cases_Bool, cases_eq}
 use Rattle.std.proofs.lemmas.List.{append-nil}
 use Rattle.super_block.specs.Numbers.{cluster_pages_of}
 use Rattle.blob_meta.specs.declared.meta.Meta.{Meta}
+use Rattle.blob_meta.specs.Repairs.{HasNoMarks}
 use Rattle.blob_meta.specs.Resolving.{IsLawful, resolved, slots_together}
 use Rattle.store_model.specs.Copying.{HasCopied}
 use Rattle.store_model.specs.Inserting.{with_slot}
 use Rattle.store_model.specs.Jobs.{CanReplace, gained_by, InsertStands, IsPlannedFor, JobStands, Lays, PutsClaim}
-use Rattle.store_model.specs.Steady.{AreSteady, IsSteady}
+use Rattle.store_model.specs.Steady.{AreNamed, AreSteady, IsSteady, IsStored}
 use Rattle.store_model.specs.Maps.{Metas, with_entry}
 use Rattle.store_model.specs.Phases.{
   erasing,
@@ -42,7 +43,7 @@ use Rattle.store_model.specs.Phases.{
   Replacing,
   taken_by,
 }
-use Rattle.store_model.specs.Phases.{writing}
+use Rattle.store_model.specs.Phases.{behind, writing}
 use Rattle.store_model.specs.Places.{all_set, AreDistinct, claimed_by, HasClaim, held_by, UsedPages}
 use Rattle.store_model.specs.Regions.{region_of}
 use Rattle.store_model.specs.Rows.{InJob, OpenClaim, Row, Stage, with_row}
@@ -63,12 +64,12 @@ use Rattle.store_model.proofs.LeftToDo.{no_place, chain_new}
 use Rattle.store_model.proofs.OneReplacement.{all_steady, base_lawful, base_steady, base_resolved}
 use Rattle.store_model.proofs.Over.{Effect, nothing, stays, TurnLaw}
 use Rattle.store_model.proofs.Phases.{held_behind, held_clearing, lays_behind, lays_clearing, old_pages, none_taken}
-use Rattle.store_model.proofs.Phases.{puts_behind}
+use Rattle.store_model.proofs.Phases.{leads_behind, leads_clearing, puts_behind}
 use Rattle.store_model.proofs.RowsKept.{row_here, row_other, way_kept}
 use Rattle.store_model.proofs.Sets.{are_distinct}
 use Rattle.store_model.proofs.Shaped.{holding_may, none_without, Serves, shaped_with}
 use Rattle.store_model.proofs.Shapes.{Idles, silent, untouched_images}
-use Rattle.store_model.proofs.Shows.{steady_resolved}
+use Rattle.store_model.proofs.Resolved.{steady_resolved}
 use Rattle.store_model.proofs.Used.{used_begun, within}
 
 module _ (known : Known) where
@@ -103,7 +104,7 @@ module _ (known : Known) where
         }
 
     old_steady : IsSteady p.super claim.head t.meta
-    old_steady = base_steady known claim.head t.meta t.can.there
+    old_steady = base_steady known t.repaired claim.head t.meta t.can.there
 
     one_steady : IsSteady p.super claim.head new
     one_steady = inserted_steady t.meta claim.slot claim.cluster t.can.within t.can.empty p.super claim.head inside
@@ -116,17 +117,18 @@ module _ (known : Known) where
     base_now = replaced_is p.base r new t.laid.new ∙ ap (λ h. with_entry p.base h new) t.laid.head
 
     all_are : AreSteady p.super all
-    all_are = all_steady known claim.head new one_steady
+    all_are = all_steady known t.repaired claim.head new one_steady
 
     lawful : IsLawful p.super.md_len all
     lawful = lawful_inserted t.meta claim.slot claim.cluster t.can.within t.can.empty p.base claim.head t.can.there
-        p.super.md_len old_steady.stored.low (well.clusters.apart claim.cluster claimed).1 (base_lawful known)
+        p.super.md_len old_steady.stored.low (well.clusters.apart claim.cluster claimed).1
+        (base_lawful known t.repaired)
 
     few : slots_together p.super.md_len all ≤ 2 ^ 24
     few =
         let same = slots_inserted t.meta claim.slot claim.cluster t.can.within t.can.empty p.base claim.head
         t.can.there p.super.md_len old_steady.stored.low in
-        let was = (base_lawful known).few in
+        let was = (base_lawful known t.repaired).few in
         omega (arith, same, was)
 
     -- ---- the replacement
@@ -149,9 +151,11 @@ module _ (known : Known) where
       says = λ m is. let e : new ≡ m = let both = sym t.laid.new ∙ is in cc both in
           subst (λ (n : Meta). MetaAt (page_in r.planned) (region_of p.super) r.head n (r.head ∷ r.fresh)) e
           planned.says;
-      steady = λ m is. let e : new ≡ m = let both = sym t.laid.new ∙ is in cc both in
-          subst (λ (n : Meta). IsSteady p.super r.head n) e
-          (subst (λ h. IsSteady p.super h new) (sym t.laid.head) one_steady);
+      stored = λ m is. let e : new ≡ m = let both = sym t.laid.new ∙ is in cc both in
+          subst (λ (n : Meta). IsStored p.super r.head n) e
+          (subst (λ h. IsStored p.super h new) (sym t.laid.head) one_steady.stored);
+      named = subst (λ (m : Metas). AreNamed (resolved m)) (sym base_now)
+          (λ h m is. (all_are h m (ap (λ (x : Metas). x h) (sym (steady_resolved p.super all all_are)) ∙ is)).named);
       gone = λ none. absurd (let bad = sym t.laid.new ∙ none in cc bad);
       chain = t.laid.chain;
       unerased = t.laid.unerased;
@@ -186,6 +190,10 @@ module _ (known : Known) where
     held = held_behind r.fresh (Replaces r None ∷ rest) ∙ ap (λ l. taken_by r ++ l) (none_taken r.old r.old)
         ∙ append-nil (taken_by r)
 
+    leads : behind p.base todo ≡ all
+    leads = leads_behind p.base r.fresh (Replaces r None ∷ rest) ∙ leads_clearing (replaced p.base r) r.old r.old
+        ∙ base_now
+
     here : now.rows row ≡ next
     here = row_here p.rows row next row refl
 
@@ -199,7 +207,7 @@ module _ (known : Known) where
       wanted = record {
         current = t.can.current;
         meta = t.meta;
-        there = ap (λ (m : Metas). m claim.head) (base_resolved known) ∙ t.can.there;
+        there = ap (λ (m : Metas). m claim.head) (base_resolved known t.repaired) ∙ t.can.there;
         empty = t.can.empty;
       };
       within = t.can.within;
@@ -220,10 +228,13 @@ module _ (known : Known) where
       distinct = subst AreDistinct (sym held) (are_distinct p.pages (taken_by r) planned.least);
       served = λ c bad. absurd (cc bad);
       keeps = λ none other. absurd (other row refl);
+      settles = λ other. subst HasNoMarks (sym leads) (λ h m is. (all_are h m is).unmarked);
+      mends = λ bad. absurd (cc bad);
       zeroed = λ page among out. absurd (no_place [] (page / cluster_pages_of p.super) among refl);
       inserts = λ c serves.
           let e : row ≡ c = cc serves in
           subst (InsertStands now job) e (record {
+            unmarked = t.repaired;
             waits = ap (λ (x : Row). x.stage) here;
             thaws = refl;
             unclaimed = refl;
@@ -243,7 +254,8 @@ module _ (known : Known) where
         let done : RunInvariant s first script now =
         record {
           super = facts.super;
-          steady = facts.steady;
+          stored = facts.stored;
+          named = facts.named;
           few = facts.few;
           lawful = facts.lawful;
           legal = facts.legal;

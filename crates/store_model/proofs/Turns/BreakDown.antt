@@ -37,7 +37,8 @@ module _ (known : Known) (j : JobState) (is : known.p.job ≡ Some j) (at : ℕ)
         let done : RunInvariant s first script now =
         record {
           super = facts.super;
-          steady = facts.steady;
+          stored = facts.stored;
+          named = facts.named;
           few = facts.few;
           lawful = facts.lawful;
           legal = kept.legal;
@@ -63,7 +64,8 @@ module _ (known : Known) (j : JobState) (is : known.p.job ≡ Some j) (at : ℕ)
       let done : RunInvariant s first script now =
       record {
         super = facts.super;
-        steady = facts.steady;
+        stored = facts.stored;
+        named = facts.named;
         few = facts.few;
         lawful = facts.lawful;
         legal = facts.legal;

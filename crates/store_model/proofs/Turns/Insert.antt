@@ -32,7 +32,7 @@ module _ {D : Type 0} (d : Ghosts D) (x : Over d) (t : Inserts d.tells x.p x.q) 
   page = page_in replacing.planned replacing.head
 
   abbrev new : Image
-  new = image d x replacing None t.running t.new t.new_is
+  new = image d x replacing None t.running
 
   runs_on : q.stopped ≡ None
   runs_on = ap (λ (v : StoreState). v.stopped) t.next ∙ t.running.runs

@@ -135,7 +135,8 @@ module _ (known : Known) where
         let done : RunInvariant s first script now =
         record {
           super = facts.super;
-          steady = facts.steady;
+          stored = facts.stored;
+          named = facts.named;
           few = facts.few;
           lawful = facts.lawful;
           legal = facts.legal;

@@ -60,7 +60,7 @@ module _ (quiet : RefusalsChangeNothing) (known : Known) where
 
 pub law : TurnLaw case.kind
 law = record {
-  keeps = λ quiet told known q t. keeps quiet known q t;
+  keeps = λ below told known q t. keeps below.refusals known q t;
   effect = λ told p q t. subst (Effect p) (sym t.next)
       (record {
         goes = stays refl refl;

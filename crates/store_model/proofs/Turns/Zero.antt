@@ -13,7 +13,8 @@ use Rattle.store_model.specs.Device.{Device}
 use Rattle.store_model.specs.StoreState.{ForInsert, JobState, StoreState}
 use Rattle.store_model.specs.Agreeing.{IsSameButAt, Stands}
 use Rattle.store_model.specs.Places.{claimed_by, held_by, AreDistinct}
-use Rattle.store_model.specs.Phases.{has_commit, held_in, planned_in, Zeros}
+use Rattle.store_model.specs.Phases.{behind as behind_all, has_commit, held_in, OnlyMend, planned_in, Zeros}
+use Rattle.blob_meta.specs.Repairs.{HasNoMarks}
 use Rattle.store_model.specs.Turning.{read_after}
 use Rattle.store_model.specs.Touches.{left_by, puts, DoesTouch}
 use Rattle.store_model.specs.Cases.Zero.{Zeroes}
@@ -102,7 +103,14 @@ module _ (known : Known) (told : Bool) (q : StoreState) (t : Zeroes told known.p
       (inserted_none p.rows j.serves no_insert) lays.0
 
   passed : IsPassed p j.claimed (Zeros t.page) t.running.rest
-  passed = record { commit = refl; does = λ c x. x; keeps = λ x. x; puts = λ row bad. absurd bad }
+  passed = record {
+    commit = refl;
+    does = λ c x. x;
+    keeps = λ x. x;
+    leads = refl;
+    mends = λ x. x;
+    puts = λ row bad. absurd bad;
+  }
 
   stands : JobStands now later
   stands = record {
@@ -116,8 +124,10 @@ module _ (known : Known) (told : Bool) (q : StoreState) (t : Zeroes told known.p
           row = y.row;
           does = subst (Does (ReadsZeros p.super j.claimed) p.super p.base p.live y.command) t.running.next y.does;
         };
-    keeps = λ none other. subst (Keeps (ReadsZeros p.super j.claimed) p.super p.base p.live) t.running.next
+    keeps = λ none other. subst (Keeps p.base) t.running.next
         (stood.keeps (ap has_commit t.running.next ∙ none) other);
+    settles = λ other. subst HasNoMarks (ap (behind_all p.base) t.running.next) (stood.settles other);
+    mends = λ repair. subst OnlyMend t.running.next (stood.mends repair);
     inserts = λ row serves. absurd (no_insert row serves);
     zeroed = λ n claimed ahead. elim (cases_eq n t.page) [
       | inl e ↦ ap t.device.reads e ∙ reads_there told p q t

@@ -1,5 +1,6 @@
 -- The turn begins_insert.
 use Rattle.std.specs.Prelude.{◌≡◌, ℕ, [], ◌∷◌, Some, None, true}
+use Rattle.blob_meta.specs.Repairs.{HasNoMarks}
 use Rattle.blob_meta.specs.declared.meta.Meta.{Meta}
 use Rattle.store_model.specs.Claiming.{CanInsert, IsCopying}
 use Rattle.store_model.specs.Inserting.{with_slot}
@@ -10,12 +11,13 @@ use Rattle.store_model.specs.Rows.{InJob, Posted, with_row}
 use Rattle.store_model.specs.StoreState.{ForInsert, StoreState}
 use Rattle.store_model.specs.Touches.{TurnKind, untouched}
 
--- The job of one replacement begins that puts the cluster into the slot.
+-- The job of one replacement begins that puts the cluster into the slot, where no repair is left.
 pub record BeginsInsert (p q : StoreState) : Type 0 where
   pub serial : ℕ
   pub posted : IsCopying p (Posted serial)
   pub runs : p.stopped ≡ None
   pub no_job : p.job ≡ None
+  pub repaired : HasNoMarks p.base
   pub meta : Meta
   pub can : CanInsert p posted.claim meta
   pub replacing : Replacing

@@ -4,7 +4,8 @@ use Rattle.blob_meta.proofs.recovery.replace.Goals as goal
 
 pub returns-in_ok-insert-in-Some : goal.returns-in_ok-insert-in-Some
 returns-in_ok-insert-in-Some c =
-    replaced_by c.args.metas.now c.insert.new.self c.args.replacement.now _ c.in_ok-insert-in-Some.ensures.ok (search rules)
+    replaced_by c.args.metas.now c.insert.new.self c.args.replacement.now _ c.in_ok-insert-in-Some.ensures.ok
+    (search rules)
 
 pub returns-in-None : goal.returns-in-None
 returns-in-None c =

@@ -1,6 +1,6 @@
 use Rattle.std.specs.Option.{option_copied}
 use Rattle.md_thread.proofs.Planned.{answerable, is_running}
-use Rattle.md_thread.proofs.PlannedAttributes.{live_given, put_plan, sync_plan}
+use Rattle.md_thread.proofs.PlannedAttributes.{live_given, put_plan, read_only_plan, sync_plan}
 use Rattle.md_thread.proofs.PlannedSlots.{create_plan, resize_plan}
 use Rattle.md_thread.proofs.tasks.planned.Goals as goal
 
@@ -22,6 +22,15 @@ plan_sync-requires-clause-live g c =
     (option_copied c.live_of-live-in-Sync.result) c.metas-metas.ensures c.sup-sup.ensures c.args.command.now
     c.live_of-live-in-Sync.ensures.0 c.live_of-live-in-Sync.ensures.1
 
+pub plan_readonly-requires-clause-live : goal.plan_readonly-requires-clause-live
+plan_readonly-requires-clause-live g c =
+    let d = g.D.PageDisk in
+    let p = c.args.plant.now.at in
+    let running = is_running d c.args.plant.now c.keeps.ensures in
+    live_given d c.plans.ensures p running c.requires.runs c.resolves.ensures c.metas-metas.result.now c.sup-sup.result.now
+    (option_copied c.live_of-live-in-ReadOnly.result) c.metas-metas.ensures c.sup-sup.ensures c.args.command.now
+    c.live_of-live-in-ReadOnly.ensures.0 c.live_of-live-in-ReadOnly.ensures.1
+
 pub returns-in-Put : goal.returns-in-Put
 returns-in-Put g c =
     let d = g.D.PageDisk in
@@ -41,6 +50,16 @@ returns-in-Sync g c =
     (option_copied c.live_of-live-in-Sync.result) c.metas-metas.ensures c.sup-sup.ensures c.args.command.now
     c.in-Sync.volume c.in-Sync.is c.live_of-live-in-Sync.ensures.0 c.live_of-live-in-Sync.ensures.1 c.plan_sync.result
     c.plan_sync.ensures.job c.plan_sync.ensures.unrefused c.plan_sync.ensures.refused
+
+pub returns-in-ReadOnly : goal.returns-in-ReadOnly
+returns-in-ReadOnly g c =
+    let d = g.D.PageDisk in
+    let p = c.args.plant.now.at in
+    let running = is_running d c.args.plant.now c.keeps.ensures in
+    read_only_plan d c.plans.ensures p running c.requires.runs c.resolves.ensures c.metas-metas.result.now c.sup-sup.result.now
+    (option_copied c.live_of-live-in-ReadOnly.result) c.metas-metas.ensures c.sup-sup.ensures c.args.command.now
+    c.in-ReadOnly.volume c.in-ReadOnly.is c.live_of-live-in-ReadOnly.ensures.0 c.live_of-live-in-ReadOnly.ensures.1 c.plan_readonly.result
+    c.plan_readonly.ensures.job c.plan_readonly.ensures.unrefused c.plan_readonly.ensures.refused
 
 pub returns-in-Create : goal.returns-in-Create
 returns-in-Create g c =
@@ -69,4 +88,4 @@ returns-in-Resize g c =
 pub returns-in_default : goal.returns-in_default
 returns-in_default g c =
     answerable c.args.command.now c.requires.served c.in_default.not-Create c.in_default.not-Put c.in_default.not-Sync
-    c.in_default.not-Resize
+    c.in_default.not-ReadOnly c.in_default.not-Resize

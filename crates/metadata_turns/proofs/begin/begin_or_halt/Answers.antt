@@ -4,6 +4,9 @@ use Rattle.blob_meta.specs.declared.job.Job.{Job}
 use Rattle.blob_meta.specs.declared.job.Replacement.{Replacement}
 use Rattle.blob_meta.specs.declared.meta.Meta.{Meta}
 use Rattle.metadata_turns.specs.Begins.{job_with_zeros, AsksToWrite}
+use Rattle.std.specs.Option.{option_map}
+use Rattle.running_store.specs.Jobs.{job_seen}
+use Rattle.running_store.proofs.Resolved.{unmarked_now}
 use Rattle.running_store.specs.Running.{view_of}
 use Rattle.running_store.specs.StoreView.{state_of}
 use Rattle.metadata_turns.proofs.begin.begin_or_halt.Goals as goal
@@ -24,6 +27,11 @@ one_meta m n e = cc e
 none_of : (o : Option ℕ) → false ≡ is_some o → o ≡ None
 none_of None e = refl
 none_of (Some at) e = absurd (cc e)
+
+pub begin-requires-clause-unmarked : goal.begin-requires-clause-unmarked
+begin-requires-clause-unmarked g c =
+    unmarked_now (state_of g.D.PageDisk (view_of c.args.running.now)) c.requires.repaired
+    (none_of c.args.running.now.stopped c.if-is_some.ensures) (ap (λ o. option_map job_seen o) c.requires.no_job)
 
 pub begin-requires-clause-asks : goal.begin-requires-clause-asks
 begin-requires-clause-asks g c command rest left =

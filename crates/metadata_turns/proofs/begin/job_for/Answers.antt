@@ -18,7 +18,7 @@ use Rattle.running_store.specs.Running.{view_of}
 use Rattle.running_store.specs.StoreView.{rows_of, state_of}
 use Rattle.running_store.specs.Steps.{Asks}
 use Rattle.running_store.specs.declared.job.RunningJob.{RunningJob}
-use Rattle.running_store.proofs.Resolved.{base_is}
+use Rattle.running_store.proofs.Resolved.{unmarked_base}
 use Rattle.metadata_turns.proofs.JobPlaces.{clear_again, taken_in_use}
 use Rattle.metadata_turns.proofs.JobBegin.{same_pool}
 use Rattle.metadata_turns.proofs.JobTaken.{first_cluster, has_one, internal_fit, job_begins, job_resolves, lacks_clusters, lacks_pages, next_head, no_memory, once, slots_within, was, xattrs_fit}
@@ -27,12 +27,12 @@ use Rattle.metadata_turns.proofs.begin.job_for.Goals as goal
 pub fill_slots-requires-clause-within : goal.fill_slots-requires-clause-within
 fill_slots-requires-clause-within g c =
     slots_within g.D.PageDisk (view_of c.args.running.now) c.args.channel c.requires.posted c.requires.running
-    c.requires.runs c.args.head c.args.new c.args.zeros.now c.requires.asks
+    c.requires.unmarked c.requires.runs c.args.head c.args.new c.args.zeros.now c.requires.asks
 
 pub fill_slots-requires-clause-first : goal.fill_slots-requires-clause-first
 fill_slots-requires-clause-first g c =
     first_cluster g.D.PageDisk (view_of c.args.running.now) c.args.channel c.requires.posted c.requires.running
-    c.requires.runs c.args.head c.args.new c.args.zeros.now c.requires.asks
+    c.requires.unmarked c.requires.runs c.args.head c.args.new c.args.zeros.now c.requires.asks
 
 pub returns-in_err-effects-clause-lack : goal.returns-in_err-effects-clause-lack
 returns-in_err-effects-clause-lack g c =
@@ -41,7 +41,7 @@ returns-in_err-effects-clause-lack g c =
     let e = err_from_is_err_and c.from_residual.result c.from_residual.ensures.1 in
     subst (λ (r : Result RunningJob Reply). IfErr r refused) (sym e.1)
     (subst refused (sym e.2) (no_memory g.D.PageDisk (view_of c.args.running.now) c.args.channel c.requires.posted c.requires.running
-    c.requires.runs c.args.head c.args.new c.args.zeros.now c.requires.asks))
+    c.requires.unmarked c.requires.runs c.args.head c.args.new c.args.zeros.now c.requires.asks))
 
 pub returns-in_err-effects-2-clause-lack : goal.returns-in_err-effects-2-clause-lack
 returns-in_err-effects-2-clause-lack g c =
@@ -51,33 +51,33 @@ returns-in_err-effects-2-clause-lack g c =
     let e = err_from_is_err_and result c.from_residual-in_err-effects-2.ensures.1 in
     subst (λ (r : Result RunningJob Reply). IfErr r refused) (sym e.1)
     (subst refused (sym e.2) (no_memory g.D.PageDisk (view_of c.args.running.now) c.args.channel c.requires.posted c.requires.running
-    c.requires.runs c.args.head c.args.new c.args.zeros.now c.requires.asks))
+    c.requires.unmarked c.requires.runs c.args.head c.args.new c.args.zeros.now c.requires.asks))
 
 pub lack_beside_clusters-requires-clause-xattrs : goal.lack_beside_clusters-requires-clause-xattrs
 lack_beside_clusters-requires-clause-xattrs g c =
     xattrs_fit g.D.PageDisk (view_of c.args.running.now) c.args.channel c.requires.posted c.requires.running
-    c.requires.runs c.args.head c.args.new c.args.zeros.now c.requires.asks
+    c.requires.unmarked c.requires.runs c.args.head c.args.new c.args.zeros.now c.requires.asks
     c.in_ok-effects-2.field-0 c.in_ok-effects-2.ensures.claimed
     c.fill_slots.new.new c.in_ok-effects-2.ensures.filled
 
 pub lack_beside_clusters-requires-clause-internal : goal.lack_beside_clusters-requires-clause-internal
 lack_beside_clusters-requires-clause-internal g c =
     internal_fit g.D.PageDisk (view_of c.args.running.now) c.args.channel c.requires.posted c.requires.running
-    c.requires.runs c.args.head c.args.new c.args.zeros.now c.requires.asks
+    c.requires.unmarked c.requires.runs c.args.head c.args.new c.args.zeros.now c.requires.asks
     c.in_ok-effects-2.field-0 c.in_ok-effects-2.ensures.claimed
     c.fill_slots.new.new c.in_ok-effects-2.ensures.filled
 
 pub prepare-requires-clause-xattrs : goal.prepare-requires-clause-xattrs
 prepare-requires-clause-xattrs g c =
     xattrs_fit g.D.PageDisk (view_of c.args.running.now) c.args.channel c.requires.posted c.requires.running
-    c.requires.runs c.args.head c.args.new c.args.zeros.now c.requires.asks
+    c.requires.unmarked c.requires.runs c.args.head c.args.new c.args.zeros.now c.requires.asks
     c.in_ok-effects-2.field-0 c.in_ok-effects-2.ensures.claimed
     c.fill_slots.new.new c.in_ok-effects-2.ensures.filled
 
 pub prepare-requires-clause-internal : goal.prepare-requires-clause-internal
 prepare-requires-clause-internal g c =
     internal_fit g.D.PageDisk (view_of c.args.running.now) c.args.channel c.requires.posted c.requires.running
-    c.requires.runs c.args.head c.args.new c.args.zeros.now c.requires.asks
+    c.requires.unmarked c.requires.runs c.args.head c.args.new c.args.zeros.now c.requires.asks
     c.in_ok-effects-2.field-0 c.in_ok-effects-2.ensures.claimed
     c.fill_slots.new.new c.in_ok-effects-2.ensures.filled
 
@@ -88,11 +88,11 @@ returns-then-len-clause-lack g c =
     let fewer = c.if-len.true in
     let less : length c.in_ok-effects-2.field-0 < length c.args.zeros.now = omega (arith, claimed, wanted, fewer) in
     let there = was g.D.PageDisk (view_of c.args.running.now) c.args.channel c.requires.posted c.requires.running
-    c.requires.runs c.args.head c.args.new c.args.zeros.now c.requires.asks
+    c.requires.unmarked c.requires.runs c.args.head c.args.new c.args.zeros.now c.requires.asks
     c.in_ok-effects.effects.rooms c.in_ok-effects.ensures.there
     c.in_ok-effects.ensures.new ∙ ap not (sym c.is_some-makes.ensures) in
     lacks_clusters g.D.PageDisk (view_of c.args.running.now) c.args.channel c.requires.posted c.requires.running
-    c.requires.runs c.args.head c.args.new c.args.zeros.now c.requires.asks
+    c.requires.unmarked c.requires.runs c.args.head c.args.new c.args.zeros.now c.requires.asks
     c.in_ok-effects-2.field-0 c.in_ok-effects-2.ensures.claimed
     c.fill_slots.new.new c.in_ok-effects-2.ensures.filled
     (ap (λ o. option_map job_seen o) c.requires.no_job) less (not c.is_some-makes.result) there
@@ -101,23 +101,23 @@ returns-then-len-clause-lack g c =
 pub prepare-requires-clause-there : goal.prepare-requires-clause-there
 prepare-requires-clause-there g c = λ stays.
     has_one g.D.PageDisk (view_of c.args.running.now) c.args.channel c.requires.posted c.requires.running
-    c.requires.runs c.args.head c.args.new c.args.zeros.now c.requires.asks
+    c.requires.unmarked c.requires.runs c.args.head c.args.new c.args.zeros.now c.requires.asks
     c.in_ok-effects.effects.rooms c.in_ok-effects.ensures.there
     c.in_ok-effects.ensures.new (sym c.is_some-makes.ensures ∙ stays)
 
 pub prepare-requires-clause-next : goal.prepare-requires-clause-next
 prepare-requires-clause-next g c = λ makes.
     next_head g.D.PageDisk (view_of c.args.running.now) c.args.channel c.requires.posted c.requires.running
-    c.requires.runs c.args.head c.args.new c.args.zeros.now c.requires.asks
+    c.requires.unmarked c.requires.runs c.args.head c.args.new c.args.zeros.now c.requires.asks
     c.in_ok-effects.effects.rooms c.in_ok-effects.ensures.there
     c.in_ok-effects.ensures.new (sym c.is_some-makes.ensures ∙ makes)
 
 pub job-requires-clause-once : goal.job-requires-clause-once
 job-requires-clause-once g c = subst AreDistinct (sym c.in_ok-effects.ensures.are.freed)
     (subst (λ (m : Metas). AreDistinct (cut_clusters (m c.args.head) c.args.new))
-    (base_is g.D.PageDisk (view_of c.args.running.now) c.requires.running c.requires.order.resolves)
+    (unmarked_base c.args.running.now.metas c.args.running.now.marked c.requires.order.resolves c.requires.unmarked)
     (once g.D.PageDisk (view_of c.args.running.now) c.args.channel c.requires.posted c.requires.running
-    c.requires.runs c.args.head c.args.new c.args.zeros.now c.requires.asks))
+    c.requires.unmarked c.requires.runs c.args.head c.args.new c.args.zeros.now c.requires.asks))
 
 pub clear_places-requires-clause-distinct : goal.clear_places-requires-clause-distinct
 clear_places-requires-clause-distinct g c =
@@ -148,9 +148,9 @@ returns-in-Ok-clause-begins g c =
     c.in-Ok.ensures.prepared in
     let are = subst (λ (m : Metas). AreEffects (m c.args.head) c.keeps_live-live_kept.result c.args.new []
     c.in_ok-effects.effects)
-    (sym (base_is g.D.PageDisk p c.requires.running c.requires.order.resolves)) c.in_ok-effects.ensures.are in
+    (sym (unmarked_base p.metas p.marked c.requires.order.resolves c.requires.unmarked)) c.in_ok-effects.ensures.are in
     job_begins g.D.PageDisk (view_of c.args.running.now) c.args.channel c.requires.posted c.requires.running
-    c.requires.runs c.args.head c.args.new c.args.zeros.now c.requires.asks
+    c.requires.unmarked c.requires.runs c.args.head c.args.new c.args.zeros.now c.requires.asks
     c.in_ok-effects-2.field-0 c.in_ok-effects-2.ensures.claimed
     c.fill_slots.new.new c.in_ok-effects-2.ensures.filled
     (ap (λ o. option_map job_seen o) c.requires.no_job) low all c.in_ok-effects.effects
@@ -176,7 +176,7 @@ returns-in-Ok-clause-will_resolve g c =
     running.pages.bits c.prepare.new.pages.bits c.in-Ok.prepared) c.is_some-makes.ensures c.in-Ok.ensures.prepared in
     c.job.ensures.resolving running.metas running.marked
     (job_resolves g.D.PageDisk (view_of running) c.args.channel c.requires.posted c.requires.running
-    c.requires.runs c.args.head c.args.new c.args.zeros.now c.requires.asks
+    c.requires.unmarked c.requires.runs c.args.head c.args.new c.args.zeros.now c.requires.asks
     c.in_ok-effects-2.field-0 c.in_ok-effects-2.ensures.claimed
     c.fill_slots.new.new c.in_ok-effects-2.ensures.filled
     (ap (λ o. option_map job_seen o) c.requires.no_job) all c.in_ok-effects.effects c.in_ok-effects.ensures.there
@@ -185,7 +185,7 @@ returns-in-Ok-clause-will_resolve g c =
 pub returns-in-Err-clause-lack : goal.returns-in-Err-clause-lack
 returns-in-Err-clause-lack g c =
     lacks_pages g.D.PageDisk (view_of c.args.running.now) c.args.channel c.requires.posted c.requires.running
-    c.requires.runs c.args.head c.args.new c.args.zeros.now c.requires.asks
+    c.requires.unmarked c.requires.runs c.args.head c.args.new c.args.zeros.now c.requires.asks
     c.in_ok-effects-2.field-0 c.in_ok-effects-2.ensures.claimed
     c.fill_slots.new.new c.in_ok-effects-2.ensures.filled
     (ap (λ o. option_map job_seen o) c.requires.no_job) c.in-Err.reply c.in-Err.ensures.lack

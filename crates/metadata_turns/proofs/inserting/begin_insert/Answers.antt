@@ -6,14 +6,14 @@ use Rattle.running_store.specs.Jobs.{job_seen}
 use Rattle.running_store.specs.Running.{view_of}
 use Rattle.running_store.specs.Stages.{claim_seen}
 use Rattle.running_store.specs.StoreView.{rows_of, state_of}
-use Rattle.running_store.proofs.Resolved.{base_is}
+use Rattle.running_store.proofs.Resolved.{unmarked_base}
 use Rattle.metadata_turns.proofs.InsertBegun.{lacks_memory, lost, posted_with, some_left}
 use Rattle.metadata_turns.proofs.InsertReady.{some_cluster}
 use Rattle.metadata_turns.proofs.inserting.begin_insert.Goals as goal
 
-pub filled-requires-clause-unmarked : goal.filled-requires-clause-unmarked
-filled-requires-clause-unmarked g c =
-    base_is g.D.PageDisk (view_of c.args.running.now) c.requires.running c.requires.order.resolves
+pub filled-requires-clause-same : goal.filled-requires-clause-same
+filled-requires-clause-same g c = unmarked_base c.args.running.now.metas c.args.running.now.marked
+    c.requires.order.resolves c.requires.unmarked
 
 pub filled-requires-clause-cluster : goal.filled-requires-clause-cluster
 filled-requires-clause-cluster g c = some_cluster (state_of g.D.PageDisk (view_of c.args.running.now)) c.requires.running

@@ -19,7 +19,7 @@ use Rattle.running_store.specs.StoreView.{state_of}
 use Rattle.running_store.specs.GivingBack.{IsGivenUp}
 use Rattle.running_store.specs.declared.job.RunningJob.{RunningJob}
 use Rattle.running_store.proofs.Counting.{left_same}
-use Rattle.running_store.proofs.Resolved.{base_is, no_marks, will_resolve}
+use Rattle.running_store.proofs.Resolved.{unmarked_base, will_resolve}
 use Rattle.metadata_turns.proofs.InsertBegun.{begun, posted_with, row_is, some_left, unprepared}
 use Rattle.metadata_turns.proofs.InsertReady.{has_chain, steady}
 use Rattle.metadata_turns.proofs.JobPlanned.{all_fit}
@@ -28,18 +28,18 @@ use Rattle.metadata_turns.proofs.inserting.start.Goals as goal
 pub prepare-requires-clause-there : goal.prepare-requires-clause-there
 prepare-requires-clause-there g c = λ _.
     has_chain (state_of g.D.PageDisk (view_of c.args.running.now)) c.requires.running c.requires.runs c.args.channel
-    (claim_seen c.args.claim) c.requires.claimed c.requires.fills.0 c.requires.fills.1
+    (claim_seen c.args.claim) c.requires.claimed c.requires.fills.0 c.requires.fills.1 c.requires.unmarked
 
 pub prepare-requires-clause-xattrs : goal.prepare-requires-clause-xattrs
 prepare-requires-clause-xattrs g c =
     let known = steady (state_of g.D.PageDisk (view_of c.args.running.now)) c.requires.running c.requires.runs
-    c.args.channel (claim_seen c.args.claim) c.requires.claimed c.requires.fills.0 c.requires.fills.1 in
+    c.args.channel (claim_seen c.args.claim) c.requires.claimed c.requires.fills.0 c.requires.fills.1 c.requires.unmarked in
     all_fit c.args.new.xattrs (subst (λ (m : Meta). CanBeWritten m.xattrs) (sym c.requires.fills.2) known.stored.xattrs)
 
 pub prepare-requires-clause-internal : goal.prepare-requires-clause-internal
 prepare-requires-clause-internal g c =
     let known = steady (state_of g.D.PageDisk (view_of c.args.running.now)) c.requires.running c.requires.runs
-    c.args.channel (claim_seen c.args.claim) c.requires.claimed c.requires.fills.0 c.requires.fills.1 in
+    c.args.channel (claim_seen c.args.claim) c.requires.claimed c.requires.fills.0 c.requires.fills.1 c.requires.unmarked in
     all_fit c.args.new.internal
     (subst (λ (m : Meta). CanBeWritten m.internal) (sym c.requires.fills.2) known.stored.internal)
 
@@ -58,7 +58,7 @@ returns-in-Ok-clause-case g c =
     c.in-Ok.ensures.prepared in
     let row = row_is d p c.args.channel posted c.requires.own c.index_mut.result.now c.index_mut.ensures.value in
     let begins = begun d p c.args.channel posted c.requires.own c.requires.running c.requires.runs no_job
-    c.requires.fills.0 c.requires.fills.1 x c.prepare.new.pages.bits
+    c.requires.unmarked c.requires.fills.0 c.requires.fills.1 x c.prepare.new.pages.bits
     (subst (λ (m : Meta). IsPrepared c.args.running.now.chains claim.head m false
     c.args.running.now.pages.bits c.prepare.new.pages.bits x) c.requires.fills.2 is)
     c.serve.new.self (c.serve.ensures ∙ ap (λ (r : Row). record r { stage = InJob }) row) in (
@@ -94,14 +94,14 @@ returns-in-Ok-clause-order g c =
     let metas = c.args.running.now.metas in
     let marked = c.args.running.now.marked in
     let known = steady (state_of g.D.PageDisk p) c.requires.running c.requires.runs c.args.channel claim
-    c.requires.claimed c.requires.fills.0 c.requires.fills.1 in
+    c.requires.claimed c.requires.fills.0 c.requires.fills.1 c.requires.unmarked in
     let resolving : WillResolveBy metas marked c.job_of.result =
     subst (WillResolveBy metas marked) {x = made} (sym c.job_of.ensures) (record {
       there = λ _. subst (λ (m : Metas). IsSome (m claim.head))
-          (base_is g.D.PageDisk p c.requires.running c.requires.order.resolves)
+          (unmarked_base metas marked c.requires.order.resolves c.requires.unmarked)
           (subst (λ (o : Option Meta). IsSome o) (sym c.requires.fills.1.there) refl);
       resolves = will_resolve metas marked claim.head c.args.new c.requires.order.resolves
-          (no_marks (state_of g.D.PageDisk p) c.requires.running)
+          c.requires.unmarked
           (subst (λ (m : Meta). mark_of m ≡ None) (sym c.requires.fills.2) known.unmarked);
     }) in
     let low : c.args.channel < length p.rows = omega (arith, c.requires.channel, c.requires.order.sixteen) in
@@ -139,7 +139,7 @@ returns-in-Err-clause-case g c =
     let no_job = ap (λ o. option_map job_seen o) c.requires.no_job in
     let there = is_some (map.get c.args.running.now.chains claim.head) in
     let chain = has_chain s c.requires.running c.requires.runs c.args.channel claim c.requires.claimed
-    c.requires.fills.0 c.requires.fills.1 in
+    c.requires.fills.0 c.requires.fills.1 c.requires.unmarked in
     let q = view_of c.give_up.new.running in
     unprepared d p c.args.channel posted c.requires.own c.requires.runs no_job c.requires.fills.0 c.requires.fills.1
     c.in-Err.reply

@@ -1,3 +1,4 @@
+use Rattle.store_model.proofs.Repairing.{repaired_stays}
 use Rattle.store_model.proofs.JobReady.{job_writable}
 use Rattle.store_model.proofs.StateBegins.{begins_well, run_more, turn_keeps}
 use Rattle.store_model.proofs.StateAgrees.{behind_recovers}
@@ -6,11 +7,21 @@ use Rattle.store_model.proofs.laws.state_turns.Goals as goal
 pub returns : goal.returns
 returns c = record {
   begin = begins_well;
-  keep = turn_keeps c.refusal_changes_nothing.ensures;
+  keep = turn_keeps (record {
+    refusals = c.refusal_changes_nothing.ensures;
+    repairs = record {
+      cut_off = c.repairs_may_be_cut_off.ensures.same;
+      give = c.repairs_give_what_is_resolved.ensures;
+      unremoved = c.resolved_blobs_have_no_marks.ensures.removed;
+      made = c.resolved_blobs_have_no_marks.ensures.made;
+    };
+  });
   go_on = run_more;
-  writable = λ s first script p command changes commit placed facts runs asked claimed least one_each x new list is low.
+  repaired_stays = λ told s first script p q kind facts t r. repaired_stays told s first script p q kind facts t r;
+  writable = λ s first script p command changes commit placed facts runs unmarked asked claimed least one_each x new
+      list is low.
       job_writable (record { s = s; placed = placed; first = first; script = script; p = p; facts = facts })
-      runs command
+      unmarked runs command
       changes commit asked claimed least one_each x new list is low;
   recovers = λ s first script p image placed facts told runs store says same.
       behind_recovers s first script p facts told runs placed image store says same;

@@ -1,0 +1,128 @@
+//! Blobs that stand in families, as metadata, and what is seen of them.
+
+use blob_meta::{Flags, Meta, Metas, ReplacementList, mark_of, parent_of};
+use descriptors::SlotMap;
+use std::alloc::Global;
+use volume_model::{Memory, XattrList};
+
+/// A blob: its map, its flags, and the heads that SNAP, SNAPTMP and SNAPRM name.
+#[derive(Clone, Copy)]
+pub(crate) struct Blob {
+    pub(crate) head: u32,
+    /// The value of `name`, up to a NUL, where it isn't empty.
+    pub(crate) name: &'static [u8],
+    pub(crate) data_ro: u64,
+    pub(crate) md_ro: u64,
+    pub(crate) map: &'static [Option<u32>],
+    pub(crate) snap: Option<u32>,
+    pub(crate) tmp: Option<u32>,
+    pub(crate) rm: Option<u32>,
+}
+
+/// A blob without name, parent or mark, with cluster 7 in its one slot.
+pub(crate) const PLAIN: Blob = Blob {
+    head: 5,
+    name: b"",
+    data_ro: 0,
+    md_ro: 0,
+    map: &[Some(7)],
+    snap: None,
+    tmp: None,
+    rm: None,
+};
+
+/// A blob whose parent is at head 3, and that has no cluster of its own.
+pub(crate) const CHILD: Blob = Blob {
+    map: &[None],
+    snap: Some(3),
+    ..PLAIN
+};
+
+fn with_id(
+    alloc: Global,
+    list: XattrList,
+    key: &[u8],
+    head: Option<u32>,
+) -> Result<XattrList, Memory> {
+    match head {
+        Some(head) => {
+            let id = (1 << 32) + u64::from(head);
+            list.with_value(alloc, key, &id.to_le_bytes())
+        }
+        None => Ok(list),
+    }
+}
+
+fn named(alloc: Global, name: &[u8]) -> Result<XattrList, Memory> {
+    let none = XattrList::new(alloc);
+    if name.is_empty() {
+        Ok(none)
+    } else {
+        none.with_value(alloc, b"name", name)
+    }
+}
+
+fn meta_of(alloc: Global, blob: &Blob) -> Result<Meta, Memory> {
+    let mut map = SlotMap::new(alloc);
+    for slot in blob.map {
+        map.push_run(*slot, 1)?;
+    }
+    let internal = with_id(alloc, XattrList::new(alloc), b"SNAP", blob.snap)?;
+    let internal = with_id(alloc, internal, b"SNAPTMP", blob.tmp)?;
+    let internal = with_id(alloc, internal, b"SNAPRM", blob.rm)?;
+    Ok(Meta {
+        id: (1 << 32) + u64::from(blob.head),
+        flags: Flags {
+            invalid: 1,
+            data_ro: blob.data_ro,
+            md_ro: blob.md_ro,
+        },
+        xattrs: named(alloc, blob.name)?,
+        internal,
+        map,
+    })
+}
+
+pub(crate) fn metas_of(alloc: Global, blobs: &[Blob]) -> Result<Metas, Memory> {
+    let mut metas = Metas::new(alloc);
+    for blob in blobs {
+        metas.insert(blob.head, meta_of(alloc, blob)?)?;
+    }
+    Ok(metas)
+}
+
+/// The head, the flag `data_ro`, the map, the parent, and whether there is a mark.
+fn shown(alloc: Global, head: u32, meta: &Meta) -> Result<String, Memory> {
+    let (map, parent, marked) = (
+        meta.map.as_slice(),
+        parent_of(meta),
+        mark_of(meta).is_some(),
+    );
+    format!(in alloc;
+        "{head}: {} {map:?} {parent:?} {marked};",
+        meta.flags.data_ro
+    )
+    .map_err(|_| Memory)
+}
+
+pub(crate) fn metas_shown(alloc: Global, metas: &Metas) -> Result<String, Memory> {
+    let mut text = String::new(alloc);
+    for head in 0..10 {
+        if let Some(meta) = metas.get(head) {
+            text.push_str(shown(alloc, head, meta)?.as_str())?;
+        }
+    }
+    Ok(text)
+}
+
+pub(crate) fn replacements_shown(alloc: Global, list: &ReplacementList) -> Result<String, Memory> {
+    let mut text = String::new(alloc);
+    for replacement in list.as_slice() {
+        let piece = match &replacement.new {
+            Some(meta) => shown(alloc, replacement.head, meta)?,
+            None => format!(in alloc; "{} erased;", replacement.head).map_err(|_| Memory)?,
+        };
+        text.push_str(piece.as_str())?;
+    }
+    Ok(text)
+}

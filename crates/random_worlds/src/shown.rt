@@ -1,0 +1,224 @@
+//! What is loaded of a device, compared with a state.
+
+use crate::attributes::{Attribute, key_text, value_of};
+use crate::states::{CLUSTER_PAGES, PageState, State, Volume};
+use bit_array::Bits;
+use blob_meta::{Chains, Meta, Metas};
+use page_disk::{MemDisk, PageDisk};
+use running_store::Loaded;
+use std::alloc::Global;
+use std::test::Fail;
+use super_block::Masks;
+use unclean_load::load;
+use volume_model::{Df, PageWord, Xattr, page_of};
+
+/// What is loaded of a device.
+#[derive(Drop)]
+pub struct Shown {
+    disk: MemDisk,
+    metas: Metas,
+    chains: Chains,
+    masks: Masks,
+}
+
+/// What is shown of a loaded store.
+pub fn shown_in(loaded: Loaded<MemDisk>) -> Shown {
+    let Loaded {
+        disk,
+        sup: _,
+        metas,
+        removed: _,
+        marked: _,
+        chains,
+        repairs: _,
+        masks,
+        quick: _,
+    } = loaded;
+    Shown {
+        disk,
+        metas,
+        chains,
+        masks,
+    }
+}
+
+/// Loads a store, or fails.
+pub fn shown_of(alloc: Global, disk: MemDisk) -> Result<Shown, Fail> {
+    match load(alloc, disk) {
+        Ok(loaded) => Ok(shown_in(loaded)),
+        Err((_, fault)) => Err(Fail::new(fault)),
+    }
+}
+
+/// Loads a store, and expects that it has these volumes, with each page, and that nothing is in use but what they claim
+/// and so many clusters that the store takes itself.
+pub fn expect_volumes(
+    alloc: Global,
+    state: &State,
+    fixed: u32,
+    disk: MemDisk,
+) -> Result<Shown, Fail> {
+    let mut shown = shown_of(alloc, disk)?;
+    if !shown.is(alloc, state, true)? {
+        return Err(Fail::new("other volumes are loaded"));
+    }
+    shown.expect_claimed(state, fixed)?;
+    Ok(shown)
+}
+
+/// Whether an attribute of a blob is this one.
+fn is_attribute(alloc: Global, found: &Xattr, wanted: Attribute) -> Result<bool, Fail> {
+    let value = value_of(alloc, wanted)?;
+    Ok(
+        found.key.bytes() == key_text(wanted.key).as_bytes()
+            && found.value.bytes() == value.as_slice(),
+    )
+}
+
+/// Whether a blob has, behind `name` and `uuid`, the attributes that the volume has synced.
+fn has_synced(alloc: Global, meta: &Meta, volume: &Volume) -> Result<bool, Fail> {
+    let found = meta.xattrs.as_slice();
+    if found.len() != volume.synced.len().saturating_add(2) {
+        return Ok(false);
+    }
+    for (xattr, wanted) in found.iter().skip(2).zip(volume.synced.iter()) {
+        if !is_attribute(alloc, xattr, *wanted)? {
+            return Ok(false);
+        }
+    }
+    Ok(true)
+}
+
+/// Whether the page with this number of a blob is filled by a word.
+fn is_filled(disk: &mut MemDisk, meta: &Meta, at: usize, word: u64) -> Result<bool, Fail> {
+    let slot = meta.map.as_slice().get(at / CLUSTER_PAGES);
+    let Some(Some(cluster)) = slot else {
+        return Ok(slot.is_some() && word == 0);
+    };
+    let page = u64::from(*cluster)
+        .saturating_mul(CLUSTER_PAGES as u64)
+        .saturating_add((at % CLUSTER_PAGES) as u64);
+    if page >= disk.pages() {
+        return Ok(false);
+    }
+    let mut found = [0; 4096];
+    disk.read(page, &mut found)?;
+    Ok(found == page_of(&PageWord::Fill(word)))
+}
+
+/// Whether a blob has the volume's pages, those that are settled, or all.
+fn has_pages(
+    disk: &mut MemDisk,
+    meta: &Meta,
+    pages: &[PageState],
+    all: bool,
+) -> Result<bool, Fail> {
+    if meta.map.as_slice().len().saturating_mul(CLUSTER_PAGES) != pages.len() {
+        return Ok(false);
+    }
+    for (at, page) in pages.iter().enumerate() {
+        if (all || page.is_settled) && !is_filled(disk, meta, at, page.word)? {
+            return Ok(false);
+        }
+    }
+    Ok(true)
+}
+
+impl Shown {
+    /// Whether a volume is there: at its head, of its form, with its synced attributes, and with its pages, those that
+    /// are settled, or all.
+    fn has(&mut self, alloc: Global, volume: &Volume, all: bool) -> Result<bool, Fail> {
+        let Some(meta) = volume.head().and_then(|head| self.metas.get(head)) else {
+            return Ok(false);
+        };
+        Ok(
+            meta.flags.is_thin() != volume.thick
+                && has_synced(alloc, meta, volume)?
+                && has_pages(&mut self.disk, meta, &volume.pages, all)?,
+        )
+    }
+
+    /// Whether these volumes are there and no others.
+    pub fn is(&mut self, alloc: Global, state: &State, all: bool) -> Result<bool, Fail> {
+        if self.masks.blobs.count() as usize != state.volumes.len() {
+            return Ok(false);
+        }
+        for volume in &state.volumes {
+            if !self.has(alloc, volume, all)? {
+                return Ok(false);
+            }
+        }
+        Ok(true)
+    }
+
+    /// Expects that the masks are what the chains claim, beside so many clusters that the store takes itself.
+    pub fn expect_claimed(&self, state: &State, fixed: u32) -> Result<(), Fail> {
+        let (mut pages, mut clusters) = (0usize, fixed as usize);
+        for head in 0..self.masks.pages.len() {
+            if let (Some(meta), Some(chain)) = (self.metas.get(head), self.chains.get(head)) {
+                pages = pages.wrapping_add(chain.len());
+                clusters = clusters.wrapping_add(meta.map.as_slice().iter().flatten().count());
+            }
+        }
+        let found = (
+            self.masks.pages.count() as usize,
+            self.masks.clusters.count() as usize,
+        );
+        if found != (pages, clusters) || state.used_pages.len() != self.masks.pages.len() as usize {
+            return Err(Fail::new(format_args!(
+                "the masks have {found:?}, the chains {pages} {clusters}"
+            )));
+        }
+        Ok(())
+    }
+
+    /// Expects that so much is free.
+    pub fn expect_free(&self, space: &Df) -> Result<(), Fail> {
+        let Masks {
+            pages,
+            clusters,
+            ..
+        } = &self.masks;
+        let found = Df {
+            free_clusters: clusters.len().saturating_sub(clusters.count()),
+            clusters: clusters.len(),
+            free_pages: pages.len().saturating_sub(pages.count()),
+            pages: pages.len(),
+        };
+        if found != *space {
+            return Err(Fail::new(format_args!("{found:?} is found, and {space:?} was told")));
+        }
+        Ok(())
+    }
+
+    /// Expects that each metadata page and each cluster is in use exactly where it is so in a state.
+    pub fn expect_in_use(&self, state: &State) -> Result<(), Fail> {
+        expect_marks(&self.masks.pages, &state.used_pages)?;
+        expect_marks(&self.masks.clusters, &state.used_clusters)
+    }
+
+    /// Expects that each volume's chain stands at the places of the state.
+    pub fn expect_chains(&self, state: &State) -> Result<(), Fail> {
+        for volume in &state.volumes {
+            let places = volume.head().and_then(|head| self.chains.get(head));
+            let is_there = match places {
+                Some(places) => places.as_slice() == volume.chain.as_slice(),
+                None => false,
+            };
+            if !is_there {
+                return Err(Fail::new(format_args!("another chain than {:?}", volume.chain)));
+            }
+        }
+        Ok(())
+    }
+}
+
+/// Expects that the marks are those of a mask.
+fn expect_marks(mask: &Bits, marks: &[bool]) -> Result<(), Fail> {
+    for (place, is_set) in (0..mask.len()).zip(marks.iter()) {
+        if (place < mask.len() && mask.get(place)) != *is_set {
+            return Err(Fail::new(format_args!("place {place} is in use: {}", !is_set)));
+        }
+    }
+    Ok(())
+}

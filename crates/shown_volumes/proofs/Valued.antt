@@ -1,0 +1,140 @@
+-- The values of attributes once one is set or taken away; and the heads that ids name.
+use Rattle.std.proofs.Common.{◌≡◌, ℕ, ◌+◌, ◌-◌, ◌<◌, ◌^◌, true, false, Option, Some, None, List, [], ◌∷◌, refl, sym, ap, ◌∙◌}
+use Rattle.std.proofs.Common.{inl, inr, arith}
+use Rattle.std.specs.Prelude.{codes, nat_lt, if◌then◌else◌}
+use Rattle.std.specs.Option.{option_and_then, option_map_or}
+use Rattle.std.specs.Str.{bytes_eq}
+use Rattle.std.proofs.lemmas.Bool.{cases_Bool, false≢true}
+use Rattle.std.proofs.lemmas.Bool.Decides.{nat_tests}
+use Rattle.std.proofs.lemmas.Slice.Eq.{bytes_eq-Decides}
+use Rattle.page_fields.proofs.Laws.{number_is}
+use Rattle.volume_model.specs.Xattrs.{Text, Xattrs, value_of, with_value, without}
+use Rattle.volume_model.specs.declared.text.Xattr.{Xattr}
+use Rattle.blob_meta.specs.declared.meta.Meta.{Meta}
+use Rattle.blob_meta.specs.Parents.{head_of_id, named_in, parent_of}
+use Rattle.blob_meta.specs.Resolving.{mark_of}
+use Rattle.snapshots.specs.Marks.{id_bytes, with_named, with_parent_of}
+
+-- ---- one key
+
+-- an attribute of the key isn't one of another key
+unlike : (x : Xattr) (key other : Text) → bytes_eq key other ≡ false → bytes_eq x.key key ≡ true
+    → bytes_eq x.key other ≡ false
+unlike x key other apart same = ap (λ k. bytes_eq k other) ((bytes_eq-Decides x.key key).0 same) ∙ apart
+
+-- an attribute of another key at the front is passed
+passed : (x : Xattr) (xs : Xattrs) (other : Text) → bytes_eq x.key other ≡ false
+    → value_of (x ∷ xs) other ≡ value_of xs other
+passed x xs other apart = rw apart refl
+
+-- one of the key at the front has its value
+found_first : (x : Xattr) (xs : Xattrs) (key : Text) → bytes_eq x.key key ≡ true
+    → value_of (x ∷ xs) key ≡ Some x.value
+found_first x xs key same = rw same refl
+
+-- two lists that begin alike
+begins_alike : (x : Xattr) (xs ys : Xattrs) (other : Text) → value_of xs other ≡ value_of ys other
+    → value_of (x ∷ xs) other ≡ value_of (x ∷ ys) other
+begins_alike x xs ys other e = elim (cases_Bool (bytes_eq x.key other)) [
+  | inl here ↦ rw here refl
+  | inr apart ↦ passed x xs other apart ∙ e ∙ sym (passed x ys other apart)
+]
+
+-- the value that is set is the key's,
+pub value_set : (xs : Xattrs) (key value : Text) → value_of (with_value xs key value) key ≡ Some value
+value_set [] key value = found_first (record { key = key; value = value }) [] key ((bytes_eq-Decides key key).1 refl)
+value_set (x ∷ xs) key value = elim (cases_Bool (bytes_eq x.key key)) [
+  | inl same ↦ rw same (found_first (record x { value = value }) xs key same)
+  | inr differs ↦ rw differs (passed x (with_value xs key value) key differs ∙ value_set xs key value)
+]
+
+-- and another key's is as it was,
+pub value_beside : (xs : Xattrs) (key value other : Text) → bytes_eq key other ≡ false
+    → value_of (with_value xs key value) other ≡ value_of xs other
+value_beside [] key value other apart = passed (record { key = key; value = value }) [] other apart
+value_beside (x ∷ xs) key value other apart = elim (cases_Bool (bytes_eq x.key key)) [
+  | inl same ↦
+      let ne = unlike x key other apart same in
+      rw same (passed (record x { value = value }) xs other ne ∙ sym (passed x xs other ne))
+  | inr differs ↦ rw differs
+      (begins_alike x (with_value xs key value) xs other (value_beside xs key value other apart))
+]
+
+-- as it is where one is taken away,
+pub value_without : (xs : Xattrs) (key other : Text) → bytes_eq key other ≡ false
+    → value_of (without xs key) other ≡ value_of xs other
+value_without [] key other apart = refl
+value_without (x ∷ xs) key other apart = elim (cases_Bool (bytes_eq x.key key)) [
+  | inl same ↦ rw same
+      (value_without xs key other apart ∙ sym (passed x xs other (unlike x key other apart same)))
+  | inr differs ↦ rw differs (begins_alike x (without xs key) xs other (value_without xs key other apart))
+]
+
+-- which has no value then
+pub none_without : (xs : Xattrs) (key : Text) → value_of (without xs key) key ≡ None
+none_without [] key = refl
+none_without (x ∷ xs) key = elim (cases_Bool (bytes_eq x.key key)) [
+  | inl same ↦ rw same (none_without xs key)
+  | inr differs ↦ rw differs (passed x (without xs key) key differs ∙ none_without xs key)
+]
+
+-- ---- ids
+
+-- an id names its head
+pub id_named : (head : ℕ) → head < 2 ^ 32 → named_in (id_bytes head) ≡ Some head
+id_named head low =
+    let whole = number_is 8 (2 ^ 32 + head) (omega (arith, low)) in
+    let above : nat_lt (2 ^ 32 + head) (2 ^ 32) ≡ false = grind (arith, nat_tests) in
+    let back : 2 ^ 32 + head - 2 ^ 32 ≡ head = omega arith in
+    ap head_of_id whole ∙ ap (λ b. if b then None else Some (2 ^ 32 + head - 2 ^ 32)) above ∙ ap (λ n. Some n) back
+
+-- the parent that these internal attributes name, and the mark that they are
+abbrev pub parent_in : Xattrs → Option ℕ
+parent_in internal = option_and_then named_in (value_of internal (codes "SNAP"))
+
+abbrev pub mark_in : Xattrs → Option Text
+mark_in internal = option_map_or (λ bytes. Some bytes) (value_of internal (codes "SNAPRM"))
+    (value_of internal (codes "SNAPTMP"))
+
+-- a parent that is named
+pub parent_named : (internal : Xattrs) (head : ℕ) → head < 2 ^ 32
+    → parent_in (with_named internal (codes "SNAP") head) ≡ Some head
+parent_named internal head low = ap (option_and_then named_in) (value_set internal (codes "SNAP") (id_bytes head))
+    ∙ id_named head low
+
+-- naming a parent changes no mark
+pub mark_named : (internal : Xattrs) (head : ℕ) → mark_in (with_named internal (codes "SNAP") head) ≡ mark_in internal
+mark_named internal head =
+    ap (λ o. option_map_or (λ (bytes : Text). Some bytes) o
+    (value_of (with_named internal (codes "SNAP") head) (codes "SNAPTMP")))
+    (value_beside internal (codes "SNAP") (id_bytes head) (codes "SNAPRM") refl)
+    ∙ ap (λ o. option_map_or (λ (bytes : Text). Some bytes) (value_of internal (codes "SNAPRM")) o)
+    (value_beside internal (codes "SNAP") (id_bytes head) (codes "SNAPTMP") refl)
+
+module _ (internal : Xattrs) (m : Meta) where
+  -- with the parent of a blob, or none where it has none
+  abbrev with_its : Option Text → Xattrs
+  with_its o = option_map_or (λ id. with_value internal (codes "SNAP") id) o (without internal (codes "SNAP"))
+
+  snap_given : (o : Option Text) → value_of (with_its o) (codes "SNAP") ≡ o
+  snap_given (Some id) = value_set internal (codes "SNAP") id
+  snap_given None = none_without internal (codes "SNAP")
+
+  pub parent_given : parent_in (with_parent_of internal m) ≡ parent_of m
+  parent_given = ap (option_and_then named_in) (snap_given (value_of m.internal (codes "SNAP")))
+
+  pub value_given : (other : Text) → bytes_eq (codes "SNAP") other ≡ false
+      → value_of (with_parent_of internal m) other ≡ value_of internal other
+  value_given other apart = at (value_of m.internal (codes "SNAP"))
+    where
+      at : (o : Option Text) → value_of (with_its o) other ≡ value_of internal other
+      at (Some id) = value_beside internal (codes "SNAP") id other apart
+      at None = value_without internal (codes "SNAP") other apart
+
+  -- which changes no mark
+  pub mark_given : mark_in (with_parent_of internal m) ≡ mark_in internal
+  mark_given =
+      ap (λ o. option_map_or (λ (bytes : Text). Some bytes) o
+      (value_of (with_parent_of internal m) (codes "SNAPTMP"))) (value_given (codes "SNAPRM") refl)
+      ∙ ap (λ o. option_map_or (λ (bytes : Text). Some bytes) (value_of internal (codes "SNAPRM")) o)
+      (value_given (codes "SNAPTMP") refl)

@@ -1,0 +1,35 @@
+-- The laws of the jobs of snapshots, clones and deletes: what each part of them shows.
+use Rattle.std.specs.Prelude.{◌≡◌, ℕ, ◌<◌, Some, None}
+use Rattle.page_disk.specs.Disk.{Image}
+use Rattle.volume_model.specs.Volumes.{Fixed, two_xattrs}
+use Rattle.volume_model.specs.Xattrs.{Text, Xattrs}
+use Rattle.volume_model.specs.declared.command.Command.TheVariants as c
+use Rattle.volume_model.specs.declared.command.VolumeRef.{VolumeRef}
+use Rattle.volume_model.specs.declared.reply.Reply.TheVariants as r
+use Rattle.blob_meta.specs.declared.meta.Meta.{Meta}
+use Rattle.snapshots.specs.SnapshotJobs.{clone_job, snapshot_job}
+use Rattle.shown_volumes.specs.Maps.{Map, Metas}
+use Rattle.shown_volumes.specs.ShowsStep.{IsAskedOf, IsAtRest, shown_in, ShowsStep}
+
+-- a head at which no blob is, and a new one may be
+pub record IsClear (f : Fixed) (base : Metas) (head : ℕ) : Type 0 where
+  pub none : base head ≡ None
+  pub low : head < f.md_len
+
+module _ (f : Fixed) (base : Metas) (live : Map Xattrs) (image : Image) (volume : VolumeRef) (name : Text) (of head : ℕ)
+    (old : Meta) where
+  -- the attributes of a new volume of the name
+  abbrev two : Xattrs
+  two = two_xattrs f (shown_in f base live image) name None
+
+  -- a snapshot of the blob at a head, made at another
+  abbrev pub ShowsSnapshot : Type 0
+  ShowsSnapshot = IsAtRest f base → IsClear f base head
+      → IsAskedOf f (shown_in f base live image) base (c.Snapshot volume name) of old
+      → ShowsStep f base live (c.Snapshot volume name) (r.Made head) (snapshot_job of old head two)
+
+  -- a clone of it
+  abbrev pub ShowsClone : Type 0
+  ShowsClone = IsAtRest f base → IsClear f base head
+      → IsAskedOf f (shown_in f base live image) base (c.Clone volume name) of old
+      → ShowsStep f base live (c.Clone volume name) (r.Made head) (clone_job of old head two)

@@ -1,0 +1,4 @@
+pub mod Maps
+pub mod Shown
+pub mod ShowsStep
+pub mod JobLaws

@@ -1,0 +1,22 @@
+//! What jobs on metadata show, as contracts of functions that do nothing.
+
+ghost use Rattle.std.specs.Prelude.{ℕ};
+ghost use Rattle.page_disk.specs.Disk.{Image};
+ghost use Rattle.volume_model.specs.Volumes.{Fixed};
+ghost use Rattle.volume_model.specs.Xattrs.{Text, Xattrs};
+ghost use Rattle.volume_model.specs.declared.command.VolumeRef.{VolumeRef};
+ghost use Rattle.blob_meta.specs.declared.meta.Meta.{Meta};
+ghost use Rattle.shown_volumes.specs.Maps.{Map, Metas};
+ghost use Rattle.shown_volumes.specs.JobLaws.{ShowsClone, ShowsSnapshot};
+
+/// Up to the commit of a snapshot's job metadata shows the volumes as they were, and from then on those of the step.
+pub fn snapshots_show()
+    ensures { (f : Fixed) (base : Metas) (live : Map Xattrs) (image : Image) (volume : VolumeRef) (name : Text)
+        (of head : ℕ) (old : Meta) → ShowsSnapshot f base live image volume name of head old }
+{}
+
+/// Up to the commit of a clone's job metadata shows the volumes as they were, and from then on those of the step.
+pub fn clones_show()
+    ensures { (f : Fixed) (base : Metas) (live : Map Xattrs) (image : Image) (volume : VolumeRef) (name : Text)
+        (of head : ℕ) (old : Meta) → ShowsClone f base live image volume name of head old }
+{}

@@ -1,0 +1,6 @@
+//! The volumes that metadata shows, and what jobs on metadata make of them: definitions and laws, without code.
+#![tactic(auto)]
+
+mod laws;
+
+pub use laws::{clones_show, snapshots_show};

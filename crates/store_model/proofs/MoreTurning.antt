@@ -1,0 +1,320 @@
+-- The turn replaces_more keeps what every state has.
+use Rattle.std.proofs.Common.{◌≡◌, ◌⊎◌, ◌/◌, ◌+◌, ◌<◌, ◌≤◌, ◌^◌, ◌++◌, ℕ, Bool, List, [], ◌∷◌, length, Option, None}
+use Rattle.std.proofs.Common.{Some}
+use Rattle.std.proofs.Common.{true, false, refl, sym, ap, ◌∙◌, subst, inl, inr, arith}
+use Rattle.std.specs.Prelude.{if◌then◌else◌, is_some, IsSome, slice_set}
+use Rattle.std.specs.List.{AllByRecursion}
+use Rattle.std.specs.Option.{option_map, option_map_or}
+use Rattle.std.proofs.lemmas.Bool.{cases_Bool, cases_eq}
+use Rattle.std.proofs.lemmas.List.Elements.{All-weaker}
+use Rattle.super_block.specs.declared.page.Super.{Super}
+use Rattle.super_block.specs.Numbers.{cluster_pages_of}
+use Rattle.blob_meta.specs.declared.meta.Meta.{Meta}
+use Rattle.blob_meta.specs.Repairs.{HasNoMarks}
+use Rattle.blob_meta.specs.Resolving.{IsLawful, resolved, slots_together}
+use Rattle.md_chain.specs.Chain.{is_among}
+use Rattle.store_model.specs.Cases.ReplaceMore.{made_by, ReplacesMore, with_replaced}
+use Rattle.store_model.specs.Copying.{AreCopied, IsUpToDate}
+use Rattle.store_model.specs.Guarding.{all_renewed, AreGenerations, frozen_behind}
+use Rattle.store_model.specs.Jobs.{CanReplace, Does, gained_by, inserted_by, IsUnseen, JobStands, Keeps, Lays}
+use Rattle.store_model.specs.Jobs.{MovesClusters}
+use Rattle.store_model.specs.Jobs.{ReadsZeros, shown_of}
+use Rattle.store_model.specs.Maps.{Metas, with_entry, with_option, without_entry}
+use Rattle.store_model.specs.Phases.{behind, has_commit, held_in, OnlyMend, page_in, Replaces}
+use Rattle.store_model.specs.Phases.{Replacing, taken_by, taken_in}
+use Rattle.store_model.specs.Places.{AreDistinct, claimed_by, held_by, UsedPages}
+use Rattle.store_model.specs.Rows.{OpenClaim}
+use Rattle.store_model.specs.RunInvariant.{HaveChains, RunInvariant, RunsWell}
+use Rattle.store_model.specs.Shown.{fixed_of, shown_by}
+use Rattle.store_model.specs.Steady.{IsStored}
+use Rattle.store_model.specs.StoreState.{ForCommand, ForInsert, ForRepair, going_on, JobState, Service, shown}
+use Rattle.store_model.specs.StoreState.{StoreState}
+use Rattle.store_model.specs.Turning.{read_after}
+use Rattle.store_model.proofs.ClustersMoved.{clusters_moved, differ_committed}
+use Rattle.store_model.proofs.Copies.{copied_unseen, renewed}
+use Rattle.store_model.proofs.Erased.{chains_erased, erased_low, generations_erased, used_erased}
+use Rattle.store_model.proofs.GoesOn.{served_still, serves_still, unfinished_still}
+use Rattle.store_model.proofs.Guarding.{claims_drawn_still, generations_renewed, guarded_behind}
+use Rattle.store_model.proofs.JobKept.{copied_put, held_is, held_low}
+use Rattle.store_model.proofs.Known.{Known}
+use Rattle.store_model.proofs.LeftToDo.{among_left, among_taken, chain_there, distinct_left, goes_on_as, held_after}
+use Rattle.store_model.proofs.LeftToDo.{no_place}
+use Rattle.store_model.proofs.LeftToDo.{none_claimed_after}
+use Rattle.store_model.proofs.Moved.{inserted_none}
+use Rattle.store_model.proofs.Phases.{does_anywhere, mends_no_commit}
+use Rattle.store_model.proofs.RowsKept.{way_kept}
+use Rattle.store_model.proofs.Sets.{AllBelow, among_either, among_first}
+use Rattle.store_model.proofs.Shaped.{shaped_same}
+use Rattle.store_model.proofs.Shows.{shown_written}
+use Rattle.store_model.proofs.StateKept.{runs_here}
+use Rattle.store_model.proofs.UsedCommitted.{chains_committed, old_distinct, used_committed}
+use Rattle.store_model.proofs.WithEntry.{given_here, option_all, option_elsewhere, option_here}
+
+module _ (known : Known) where
+  open known use {s, placed, first, script, p, facts}
+
+  module _ (told : Bool) (q : StoreState) (t : ReplacesMore told p q) where
+    abbrev j : JobState
+    j = t.running.job
+
+    abbrev r : Replacing
+    r = t.replacing
+
+    abbrev other : JobState
+    other = record j { claimed = [] }
+
+    abbrev next_job : Option JobState
+    next_job = going_on other [] t.running.rest
+
+    abbrev now : StoreState
+    now = record (with_replaced p r) {
+      job = next_job;
+      frozen = frozen_behind p.frozen j t.running.rest;
+      device = t.device;
+    }
+
+    well : RunsWell first p
+    well = facts.well t.running.runs
+
+    stood : JobStands p j
+    stood = well.job j t.running.is
+
+    lays : Lays p.super p.base p.chains (gained_by p.rows j) j.written (Replaces r None ∷ t.running.rest)
+    lays = subst (Lays p.super p.base p.chains (gained_by p.rows j) j.written) t.running.next stood.lays
+
+    can : CanReplace p.super p.base p.chains (gained_by p.rows j) j.written r
+    can = lays.0
+
+    -- the commit is still to come, or none is
+    same : has_commit j.todo ≡ has_commit t.running.rest
+    same = ap has_commit t.running.next
+
+    does_here : (c : ℕ) → (serves : j.serves ≡ ForCommand c) → (waits : has_commit j.todo ≡ true)
+        → Does (ReadsZeros p.super j.claimed) p.super p.base p.live (stood.served c serves waits).command
+        (Replaces r None ∷ t.running.rest)
+    does_here c serves waits =
+        let y = stood.served c serves waits in
+        subst (Does (ReadsZeros p.super j.claimed) p.super p.base p.live y.command) t.running.next y.does
+
+    keeps_here : has_commit j.todo ≡ false → Keeps p.base (Replaces r None ∷ t.running.rest)
+    keeps_here none = subst (Keeps p.base) t.running.next (stood.keeps none t.no_insert)
+
+    -- the volumes are shown as they were
+    unseen : IsUnseen p.base r
+    unseen = by j.serves refl
+      where
+        by : (x : Service) → j.serves ≡ x → IsUnseen p.base r
+        by (ForCommand c) is = elim (cases_Bool (has_commit j.todo)) [
+          | inl waits ↦ (does_here c is waits).0
+          | inr none ↦ (keeps_here none).0
+        ]
+        by (ForInsert c) is = absurd (t.no_insert c is)
+        by ForRepair is = (keeps_here (mends_no_commit j.todo (stood.mends is))).0
+
+    -- ---- places
+
+    abbrev taken : List ℕ
+    taken = taken_by r
+
+    abbrev later : List ℕ
+    later = taken_in t.running.rest
+
+    held : held_by p.job ≡ taken ++ later
+    held = held_is known j t.running.is (Replaces r None) t.running.rest t.running.next
+
+    differ : AreDistinct (taken ++ later)
+    differ = subst AreDistinct (ap held_in t.running.next) stood.distinct
+
+    used : UsedPages p.super.md_len p.pages p.chains (taken ++ later)
+    used = subst (UsedPages p.super.md_len p.pages p.chains) held well.pages
+
+    low : r.head < p.super.md_len
+    low = by r.new refl
+      where
+        by : (o : Option Meta) → r.new ≡ o → r.head < p.super.md_len
+        by None none = erased_low p.super p.base p.chains well.chains p.pages r later can.chain (can.gone none) used
+        by (Some new) is = (can.stored new is).low
+
+    all_low : AllBelow p.super.md_len (r.head ∷ r.fresh)
+    all_low x among = elim (among_either x r.head r.fresh among) [
+      | inl e ↦ subst (λ n. n < p.super.md_len) (sym e) low
+      | inr f ↦ subst (λ (y : Super). x < y.md_len) (sym facts.super)
+          (held_low known well (taken ++ later) held x (among_left x taken later (among_taken r x f)))
+    ]
+
+    chains_new : HaveChains p.super now.base now.chains
+    chains_new = by r.new refl
+      where
+        by : (o : Option Meta) → r.new ≡ o → HaveChains p.super (with_option p.base r.head o)
+            (with_option p.chains r.head (option_map (λ m. r.head ∷ r.fresh) o))
+        by None none =
+            chains_erased p.super p.base p.chains well.chains p.pages r later can.chain (can.gone none) used
+        by (Some new) is = chains_committed p.super p.base p.chains well.chains p.pages r later can.chain can.unerased
+            used new (distinct_left taken later differ) all_low
+
+    pages_new : UsedPages p.super.md_len now.pages now.chains (r.old ++ later)
+    pages_new = by r.new refl
+      where
+        by : (o : Option Meta) → r.new ≡ o → UsedPages p.super.md_len
+            (option_map_or (λ new. p.pages) o (slice_set p.pages r.head false))
+            (with_option p.chains r.head (option_map (λ m. r.head ∷ r.fresh) o)) (r.old ++ later)
+        by None none =
+            used_erased p.super p.base p.chains well.chains p.pages r later can.chain (can.gone none) used
+        by (Some new) is = used_committed p.super p.base p.chains well.chains p.pages r later can.chain can.unerased
+            used differ
+
+    -- ---- generations
+
+    -- a blob that was there has a generation, and one that is made gets it
+    has_number : (is_some (p.base r.head) ≡ true) ⊎ (is_among r.head (made_by r) ≡ true)
+    has_number = elim (cases_Bool r.makes) [
+      | inl makes ↦ inr (ap (λ b. is_among r.head (if b then r.head ∷ [] else [])) makes ∙ among_first r.head [])
+      | inr not ↦ inl (by not (p.base r.head) refl)
+    ]
+      where
+        by : r.makes ≡ false → (o : Option Meta) → p.base r.head ≡ o → is_some o ≡ true
+        by not None none =
+            absurd (let bad = sym (well.chains.none r.head none) ∙ can.chain ∙ chain_there r not in cc bad)
+        by not (Some m) is = refl
+
+    generations_new : AreGenerations now.base now.generations now.drawn
+    generations_new = by r.new refl
+      where
+        there : (new : Meta) (makes : Bool)
+            → AllByRecursion (λ h. IsSome (with_entry p.base r.head new h)) (if makes then r.head ∷ [] else [])
+        there new true = (ap is_some (given_here p.base r.head new r.head refl), tt)
+        there new false = tt
+
+        by : (o : Option Meta) → r.new ≡ o → AreGenerations (with_option p.base r.head o)
+            (option_map_or (λ new. all_renewed p.generations p.drawn (made_by r)) o
+            (without_entry p.generations r.head))
+            (p.drawn + length (made_by r))
+        by None none =
+            generations_erased p.base r.head p.generations p.drawn (p.drawn + length (made_by r)) (omega arith)
+            well.generations
+        by (Some new) is = generations_renewed p.base r.head new p.generations p.drawn (made_by r) well.generations
+            has_number (there new r.makes)
+
+    -- no claim is up to date that wasn't
+    no_more : (row : ℕ) (claim : OpenClaim) → (p.rows row).claim ≡ Some claim → IsUpToDate now claim
+        → IsUpToDate p claim
+    no_more row claim holds current = by r.new refl current
+      where
+        by : (o : Option Meta) → r.new ≡ o
+            → option_map_or (λ new. all_renewed p.generations p.drawn (made_by r)) o
+            (without_entry p.generations r.head) claim.head ≡ Some claim.generation → IsUpToDate p claim
+        by None none is = elim (cases_eq claim.head r.head) [
+          | inl e ↦ absurd (let bad = sym (option_here p.generations r.head None claim.head e) ∙ is in cc bad)
+          | inr ne ↦ sym (option_elsewhere p.generations r.head None claim.head ne) ∙ is
+        ]
+        by (Some new) made is = elim (renewed p.generations p.drawn (made_by r) claim.head claim.generation is) [
+          | inl more ↦ absurd (let le = well.claims_drawn row claim holds in omega (arith, le, more))
+          | inr x ↦ x.1
+        ]
+
+    -- ---- what is shown
+
+    under : r.head < s.md_len
+    under = subst (λ (y : Super). r.head < y.md_len) facts.super low
+
+    shows : shown now ≡ shown p
+    shows =
+        let at : t.device.reads ≡ read_after told p.device.reads (s.md_start + r.head) (page_in r.planned r.head) =
+        t.moves.reads ∙ ap (λ (y : Super).
+        read_after told p.device.reads (y.md_start + r.head) (page_in r.planned r.head)) facts.super in
+        let read : shown_of p.super p.base p.live t.device.reads ≡ shown p = shown_written told s p t.device r.head
+        (page_in r.planned r.head) facts.super facts.stored facts.lawful placed under at in
+        ap (λ (m : Metas). shown_by (fixed_of p.super) t.device.reads m p.live) unseen ∙ read
+
+    copied_new : AreCopied now
+    copied_new =
+        let mid : StoreState = record p { device = t.device } in
+        let read : AreCopied mid = copied_put known told mid r.head (page_in r.planned r.head) refl refl refl refl well
+        under t.moves.reads in
+        copied_unseen mid now read refl unseen refl refl no_more
+
+    -- ---- the job
+
+    none_claimed : claimed_by next_job ≡ []
+    none_claimed = none_claimed_after other [] t.running.rest refl
+
+    none_inserted : inserted_by p.rows j.serves ≡ []
+    none_inserted = inserted_none p.rows j.serves t.no_insert
+
+    moves : MovesClusters p.super p.base now.base r.freed (claimed_by p.job)
+    moves = subst (MovesClusters p.super p.base now.base r.freed)
+        (ap (λ l. l ++ j.claimed) none_inserted ∙ ap claimed_by (sym t.running.is)) can.clusters
+
+    leads : behind p.base j.todo ≡ behind now.base t.running.rest
+    leads = ap (behind p.base) t.running.next
+
+    stands_next : (k : JobState) → next_job ≡ Some k → JobStands now k
+    stands_next k is =
+        let g = goes_on_as other [] t.running.rest k is in
+        let stands : JobStands now (record other { written = []; todo = t.running.rest }) =
+        record {
+          lays = subst (λ l. Lays p.super now.base now.chains l [] t.running.rest)
+              (sym (ap (λ l. l ++ []) none_inserted)) lays.2;
+          distinct = subst AreDistinct (sym lays.1)
+              (old_distinct p.super p.base p.chains well.chains p.pages r later can.chain can.unerased used differ);
+          served = λ c serves waits.
+              let y = stood.served c serves (same ∙ waits) in
+              record {
+                command = y.command;
+                rest = y.rest;
+                row = y.row;
+                does = does_anywhere (ReadsZeros p.super []) p.super now.base p.live y.command t.running.rest
+                    (does_here c serves (same ∙ waits)).1;
+              };
+          inserts = λ row serves. absurd (t.no_insert row serves);
+          keeps = λ none outside. (keeps_here (same ∙ none)).1;
+          settles = λ outside. subst HasNoMarks leads (stood.settles outside);
+          mends = λ repair. (subst OnlyMend t.running.next (stood.mends repair)).1;
+          zeroed = λ page among out. absurd (no_place [] (page / cluster_pages_of p.super) among refl);
+        } in
+        subst (JobStands now) (sym g.is) stands
+
+    pub keeps : RunInvariant s first script q
+    keeps =
+        let clock = t.moves.clock in
+        let done_so : RunInvariant s first script now =
+        record {
+          super = facts.super;
+          stored = option_all p.base r.head r.new (IsStored s) facts.stored
+              (λ m is. subst (λ (y : Super). IsStored y r.head m) facts.super (can.stored m is));
+          named = can.named;
+          few = subst (λ (y : Super). slots_together y.md_len now.base ≤ 2 ^ 24) facts.super can.few;
+          lawful = subst (λ (y : Super). IsLawful y.md_len (resolved now.base)) facts.super can.lawful;
+          legal = facts.legal;
+          well = λ on. record {
+            chains = chains_new;
+            live = λ h m is. well.live h m (ap (λ (x : Metas). x h) (sym unseen) ∙ is);
+            no_live = λ h none. well.no_live h (ap (λ (x : Metas). x h) (sym unseen) ∙ none);
+            pages = subst (UsedPages p.super.md_len now.pages now.chains)
+                (sym (held_after other [] t.running.rest ∙ lays.1)) pages_new;
+            clusters = clusters_moved p.super p.clusters p.base now.base r.freed p.rows p.rows p.job next_job
+                (λ c. refl) none_claimed moves well.claims well.clusters;
+            claims = differ_committed p.rows p.rows p.job next_job (λ c. refl) none_claimed well.claims;
+            generations = generations_new;
+            claims_drawn = claims_drawn_still p.rows p.rows p.drawn now.drawn (λ c. refl) (omega arith)
+                well.claims_drawn;
+            copied = copied_new;
+            job = stands_next;
+            replayed = shows ∙ well.replayed;
+          };
+          way = way_kept script p facts.way now refl (λ c. refl);
+          shaped = shaped_same p now facts.shaped refl
+              (serves_still p j t.running.is (Replaces r None) t.running.rest t.running.next refl t.no_insert other refl
+              now refl facts.shaped)
+              (served_still p j t.running.is (Replaces r None) t.running.rest t.running.next refl t.no_insert other refl
+              now refl facts.shaped);
+          guarded = guarded_behind p now facts.guarded j other t.running.is refl t.running.runs t.running.rest refl
+              refl;
+          counted = facts.counted;
+          past = All-weaker (λ n. n ≤ p.device.clock) (λ n. n ≤ t.device.clock) (λ n le. omega (arith, le, clock))
+              p.marks facts.past;
+          halted = λ n halts. absurd (runs_here known n t.running.runs halts);
+          unfinished = unfinished_still p j t.running.is (Replaces r None) t.running.rest t.running.next refl
+              t.no_insert other refl now refl;
+        } in
+        subst (RunInvariant s first script) (sym t.next) done_so

@@ -1,0 +1,225 @@
+-- The metadata that is shown, by that which the device says: each blob is one that is there, as it is or without its
+-- marks, so that the store can hold it where it can hold all that is there.
+use Rattle.std.proofs.Common.{◌≡◌, ◌⊎◌, ℕ, ◌+◌, ◌-◌, ◌^◌, ◌≤◌, Bool, true, false, List, [], ◌∷◌, length, Option, Some}
+use Rattle.std.proofs.Common.{None, refl}
+use Rattle.std.proofs.Common.{sym, ◌∙◌, ap, subst, inl, inr}
+use Rattle.std.specs.Prelude.{codes, filter, find, if◌then◌else◌, not}
+use Rattle.std.specs.List.{AllByRecursion}
+use Rattle.std.specs.Option.{option_and_then, option_map, option_map_or}
+use Rattle.std.specs.Str.{bytes_eq}
+use Rattle.std.proofs.lemmas.Bool.{cases_Bool}
+use Rattle.std.proofs.Math.Path.{fun_ext}
+use Rattle.super_block.specs.declared.page.Super.{Super}
+use Rattle.volume_model.specs.Xattrs.{Text, Xattrs, without}
+use Rattle.volume_model.specs.declared.text.Xattr.{Xattr}
+use Rattle.blob_meta.specs.declared.fault.MetaFault.{MetaFault}
+use Rattle.blob_meta.specs.declared.fault.MetaFault.TheVariants as faults
+use Rattle.descriptors.specs.Runs.{at_most}
+use Rattle.blob_meta.specs.declared.meta.Meta.{Meta}
+use Rattle.blob_meta.specs.Faults.{bad_mark, first_some, hole_in_thick, is_bad_mark, map_fault, meta_fault}
+use Rattle.blob_meta.specs.Faults.{unknown_flag}
+use Rattle.blob_meta.specs.Items.{HasDistinctNames}
+use Rattle.blob_meta.specs.Parents.{slot}
+use Rattle.blob_meta.specs.Repairs.{HasNoMarks}
+use Rattle.blob_meta.specs.Resolving.{is_kept, mark_of, resolved, resolved_one, without_marks}
+use Rattle.store_model.specs.Maps.{Metas}
+use Rattle.store_model.specs.Places.{IsMapped}
+use Rattle.store_model.specs.Regions.{region_of}
+use Rattle.store_model.specs.Steady.{AreNamed, AreSteady, AreStored, CanBeWritten, IsStored}
+
+-- ---- metadata without marks is resolved as it is
+
+as_it_is : (metas : Metas) (head : ℕ) (o : Option Meta) → metas head ≡ o → ((m : Meta) → o ≡ Some m → mark_of m ≡ None)
+    → resolved metas head ≡ o
+as_it_is metas head None is none = rw is refl
+as_it_is metas head (Some m) is none = rw (is, none m refl) refl
+
+-- metadata without marks resolves to itself
+pub unmarked_resolved : (metas : Metas) → HasNoMarks metas → resolved metas ≡ metas
+unmarked_resolved metas none = fun_ext (λ head. as_it_is metas head (metas head) refl (none head))
+
+-- so does metadata of steady blobs
+pub steady_resolved : (s : Super) (metas : Metas) → AreSteady s metas → resolved metas ≡ metas
+steady_resolved s metas steady = unmarked_resolved metas (λ head m is. (steady head m is).unmarked)
+
+-- metadata that is stored and has no marks is steady, where each SNAP names a head
+pub steady_unmarked : (s : Super) (metas : Metas) → AreStored s metas → AreNamed (resolved metas) → HasNoMarks metas
+    → AreSteady s metas
+steady_unmarked s metas stored named none head m is = record {
+  stored = stored head m is;
+  named = named head m (ap (λ (x : Metas). x head) (unmarked_resolved metas none) ∙ is);
+  unmarked = none head m is;
+}
+
+-- ---- a resolved blob
+
+-- a blob that is there, as it is or without its marks
+pub record IsOf (metas : Metas) (head : ℕ) (m : Meta) : Type 0 where
+  pub old : Meta
+  pub there : metas head ≡ Some old
+  pub is : (m ≡ old) ⊎ (m ≡ without_marks old)
+
+-- it has the map that it had
+pub map_of : (metas : Metas) (head : ℕ) (m : Meta) (o : IsOf metas head m) → m.map ≡ o.old.map
+map_of metas head m o = elim o.is [
+  | inl e ↦ ap (λ (n : Meta). n.map) e
+  | inr e ↦ ap (λ (n : Meta). n.map) e
+]
+
+-- each resolved blob is one that is there
+pub resolved_of : (metas : Metas) (head : ℕ) (m : Meta) → resolved metas head ≡ Some m → IsOf metas head m
+resolved_of metas head m = by (metas head) refl
+  where
+    chosen : (old : Meta) (b : Bool) → (if b then Some (without_marks old) else None) ≡ Some m → m ≡ without_marks old
+    chosen old true is = let e : without_marks old ≡ m = cc is in sym e
+    chosen old false is = absurd (cc is)
+
+    kept : (old : Meta) (o : Option (List ℕ))
+        → option_map_or (λ mark. if is_kept metas head mark then Some (without_marks old) else None) o (Some old)
+        ≡ Some m → (m ≡ old) ⊎ (m ≡ without_marks old)
+    kept old None is = inl (let e : old ≡ m = cc is in sym e)
+    kept old (Some mark) is = inr (chosen old (is_kept metas head mark) is)
+
+    by : (o : Option Meta) → metas head ≡ o → option_and_then (resolved_one metas head) o ≡ Some m → IsOf metas head m
+    by None there is = absurd (cc is)
+    by (Some old) there is = record { old = old; there = there; is = kept old (mark_of old) is }
+
+-- with the same map the same slots have the same clusters
+pub slot_of : (m old : Meta) (i cluster : ℕ) → m.map ≡ old.map → slot m i ≡ Some cluster → slot old i ≡ Some cluster
+slot_of m old i cluster same at = sym (rw same refl) ∙ at
+
+-- a cluster that a resolved blob has is one of the blob that is there
+pub resolved_mapped : (metas : Metas) (cluster : ℕ) → IsMapped (resolved metas) cluster → IsMapped metas cluster
+resolved_mapped metas cluster x =
+    let o = resolved_of metas x.head x.meta x.there in
+    record {
+      head = x.head;
+      meta = o.old;
+      there = o.there;
+      place = x.place;
+      in_slot = slot_of x.meta o.old x.place cluster (map_of metas x.head x.meta o) x.in_slot;
+    }
+
+-- ---- without marks
+
+module _ (test : Xattr → Bool) where
+  all_filtered : (P : Xattr → Type 0) (xs : List Xattr) → AllByRecursion P xs → AllByRecursion P (filter test xs)
+  all_filtered P [] all = all
+  all_filtered P (x ∷ xs) all = elim (cases_Bool (test x)) [
+    | inl passes ↦ rw passes (all.0, all_filtered P xs all.1)
+    | inr fails ↦ rw fails (all_filtered P xs all.1)
+  ]
+
+  distinct_filtered : (xs : List Xattr) → HasDistinctNames xs → HasDistinctNames (filter test xs)
+  distinct_filtered [] all = all
+  distinct_filtered (x ∷ xs) all = elim (cases_Bool (test x)) [
+    | inl passes ↦ rw passes (all_filtered (λ y. bytes_eq x.key y.key ≡ false) xs all.0, distinct_filtered xs all.1)
+    | inr fails ↦ rw fails (distinct_filtered xs all.1)
+  ]
+
+  -- what is found nowhere isn't found among those that pass
+  none_filtered : (bad : Xattr → Bool) (xs : List Xattr) → find bad xs ≡ None → find bad (filter test xs) ≡ None
+  none_filtered bad [] none = refl
+  none_filtered bad (x ∷ xs) none = elim (cases_Bool (bad x)) [
+    | inl is_bad ↦ absurd (let found : find bad (x ∷ xs) ≡ Some x = rw is_bad refl in
+        let e = sym none ∙ found in cc e)
+    | inr fine ↦
+        let skips : find bad (x ∷ xs) ≡ find bad xs = rw fine refl in
+        let later : find bad xs ≡ None = sym skips ∙ none in
+        elim (cases_Bool (test x)) [
+          | inl passes ↦ rw passes (rw fine (none_filtered bad xs later))
+          | inr fails ↦ rw fails (none_filtered bad xs later)
+        ]
+  ]
+
+  written_filtered : (xs : List Xattr) → CanBeWritten xs → CanBeWritten (filter test xs)
+  written_filtered xs can = record {
+    names = distinct_filtered xs can.names;
+    short = all_filtered (λ (x : Xattr). length x.key + length x.value ≤ 4063) xs can.short;
+  }
+
+written_without : (xs : Xattrs) (key : Text) → CanBeWritten xs → CanBeWritten (without xs key)
+written_without xs key = written_filtered (λ x. not (bytes_eq x.key key)) xs
+
+-- ---- faults
+
+first_none : (x : Option MetaFault) (rest : List (Option MetaFault)) → first_some (x ∷ rest) ≡ None → x ≡ None
+first_none None rest none = refl
+first_none (Some x) rest none = absurd (cc none)
+
+then_none : (x : Option MetaFault) (rest : List (Option MetaFault)) → first_some (x ∷ rest) ≡ None
+    → first_some rest ≡ None
+then_none None rest none = none
+then_none (Some x) rest none = absurd (cc none)
+
+no_fault : (a b c e : Option MetaFault) → a ≡ None → b ≡ None → c ≡ None → e ≡ None
+    → first_some (a ∷ b ∷ c ∷ e ∷ []) ≡ None
+no_fault None None None None p q r s = refl
+no_fault (Some x) b c e p q r s = absurd (cc p)
+no_fault None (Some x) c e p q r s = absurd (cc q)
+no_fault None None (Some x) e p q r s = absurd (cc r)
+no_fault None None None (Some x) p q r s = absurd (cc s)
+
+found_none : (f : Xattr → MetaFault) (o : Option Xattr) → option_map f o ≡ None → o ≡ None
+found_none f None none = refl
+found_none f (Some x) none = absurd (cc none)
+
+marks_fine : (xs : List Xattr) (test : Xattr → Bool) → bad_mark xs ≡ None → bad_mark (filter test xs) ≡ None
+marks_fine xs test none =
+    ap (λ o. option_map fault_of o) (none_filtered test is_bad_mark xs (found_none fault_of (find is_bad_mark xs) none))
+  where
+    fault_of : Xattr → MetaFault
+    fault_of x = faults.BadMark x.key (at_most (2 ^ 32 - 1) (length x.value))
+
+module _ (fixed clusters : ℕ) (m : Meta) (fine : meta_fault fixed clusters m ≡ None) where
+  abbrev flag : Option MetaFault
+  flag = unknown_flag m.flags
+
+  abbrev in_map : Option MetaFault
+  in_map = map_fault fixed clusters m.map
+
+  abbrev hole : Option MetaFault
+  hole = hole_in_thick m.flags m.map
+
+  abbrev mark : Option MetaFault
+  mark = bad_mark m.internal
+
+  behind_flag : first_some (in_map ∷ hole ∷ mark ∷ []) ≡ None
+  behind_flag = then_none flag (in_map ∷ hole ∷ mark ∷ []) fine
+
+  behind_map : first_some (hole ∷ mark ∷ []) ≡ None
+  behind_map = then_none in_map (hole ∷ mark ∷ []) behind_flag
+
+  fine_mark : mark ≡ None
+  fine_mark = first_none mark [] (then_none hole (mark ∷ []) behind_map)
+
+  fine_without : meta_fault fixed clusters (without_marks m) ≡ None
+  fine_without = no_fault flag in_map hole _
+      (first_none flag (in_map ∷ hole ∷ mark ∷ []) fine) (first_none in_map (hole ∷ mark ∷ []) behind_flag)
+      (first_none hole (mark ∷ []) behind_map)
+      (marks_fine (without m.internal (codes "SNAPRM")) (λ x. not (bytes_eq x.key (codes "SNAPTMP")))
+      (marks_fine m.internal (λ x. not (bytes_eq x.key (codes "SNAPRM"))) fine_mark))
+
+-- ---- what the store can hold
+
+-- without its marks a blob can be held still
+pub lifted_stored : (s : Super) (head : ℕ) (m : Meta) → IsStored s head m → IsStored s head (without_marks m)
+lifted_stored s head m x = record {
+  low = x.low;
+  id = x.id;
+  clear = x.clear;
+  xattrs = x.xattrs;
+  internal = written_without (without m.internal (codes "SNAPRM")) (codes "SNAPTMP")
+      (written_without m.internal (codes "SNAPRM") x.internal);
+  faultless = fine_without (region_of s).fixed (region_of s).clusters m x.faultless;
+}
+
+-- so can all resolved metadata
+pub resolved_stored : (s : Super) (metas : Metas) → AreStored s metas → AreStored s (resolved metas)
+resolved_stored s metas stored head m is =
+    let o = resolved_of metas head m is in
+    let was : IsStored s head o.old = stored head o.old o.there in
+    elim o.is [
+      | inl e ↦ subst (IsStored s head) (sym e) was
+      | inr e ↦ subst (IsStored s head) (sym e) (lifted_stored s head o.old was)
+    ]

@@ -1,0 +1,142 @@
+-- The turn begins_repair.
+use Rattle.std.proofs.Common.{◌≡◌, ◌≢◌, ◌/◌, ◌++◌, ℕ, List, [], ◌∷◌, Option, Some, None, true, refl, sym, ap, ◌∙◌}
+use Rattle.std.proofs.Common.{subst}
+use Rattle.std.proofs.Common.{inr}
+use Rattle.std.specs.Option.{option_map_or}
+use Rattle.std.proofs.lemmas.List.{append-nil}
+use Rattle.super_block.specs.Numbers.{cluster_pages_of}
+use Rattle.store_model.specs.Cases.BeginRepair as case
+use Rattle.store_model.specs.Cases.BeginRepair.{BeginsRepair}
+use Rattle.store_model.specs.Jobs.{JobStands}
+use Rattle.store_model.specs.Phases.{erasing, held_in, Phase, rechained, replaced, Replaces, Replacing, taken_by}
+use Rattle.store_model.specs.Phases.{writing}
+use Rattle.store_model.specs.Places.{all_set, AreDistinct, claimed_by, held_by, UsedPages}
+use Rattle.store_model.specs.RunInvariant.{RunInvariant, RunsWell}
+use Rattle.store_model.specs.StoreState.{ForRepair, JobState, StoreState}
+use Rattle.store_model.proofs.Claims.{differ_still, used_still}
+use Rattle.store_model.proofs.Copies.{copied_same}
+use Rattle.store_model.proofs.Guarding.{guarded_begun}
+use Rattle.store_model.proofs.Known.{Known}
+use Rattle.store_model.proofs.LawsBelow.{RepairLaws}
+use Rattle.store_model.proofs.LeftToDo.{no_place}
+use Rattle.store_model.proofs.Over.{Effect, nothing, stays, TurnLaw}
+use Rattle.store_model.proofs.Phases.{held_behind, held_clearing, keeps_behind, keeps_clearing, lays_behind}
+use Rattle.store_model.proofs.Phases.{lays_clearing}
+use Rattle.store_model.proofs.Phases.{mends_behind, mends_clearing, none_taken}
+use Rattle.store_model.proofs.RepairBegun.{can, new_unmarked, planned, unseen}
+use Rattle.store_model.proofs.RowsKept.{way_kept}
+use Rattle.store_model.proofs.Sets.{are_distinct}
+use Rattle.store_model.proofs.Shaped.{none_without, shaped_same}
+use Rattle.store_model.proofs.Shapes.{Idles, silent, untouched_images}
+use Rattle.store_model.proofs.Used.{used_begun}
+
+module _ (laws : RepairLaws) (known : Known) where
+  open known use {s, first, script, p, facts}
+
+  module _ (q : StoreState) (t : BeginsRepair p q) where
+    well : RunsWell first p
+    well = facts.well t.runs
+
+    abbrev r : Replacing
+    r = t.replacing
+
+    -- ---- the job
+
+    abbrev rest : List Phase
+    rest = erasing r.old r.old []
+
+    abbrev todo : List Phase
+    todo = writing r.fresh (Replaces r None ∷ rest)
+
+    abbrev job : JobState
+    job = record { serves = ForRepair; freeze = None; claimed = []; written = []; todo = todo }
+
+    abbrev now : StoreState
+    now = record p { job = Some job; pages = all_set p.pages (taken_by r) true }
+
+    held : held_in todo ≡ taken_by r
+    held = held_behind r.fresh (Replaces r None ∷ rest) ∙ ap (λ l. taken_by r ++ l) (none_taken r.old r.old)
+        ∙ append-nil (taken_by r)
+
+    stands : JobStands now job
+    stands = record {
+      lays = lays_behind p.super p.base p.chains [] [] r.fresh (Replaces r None ∷ rest) (
+        can laws known q t,
+        held_clearing r.old r.old (λ e. e) ∙ sym (append-nil r.old)
+            ∙ ap (λ l. r.old ++ l) (sym (none_taken r.old r.old)),
+        lays_clearing p.super (replaced p.base r) (rechained p.chains r) r.old r.old (λ x among. among),
+      );
+      distinct = subst AreDistinct (sym held) (are_distinct p.pages (taken_by r) (planned laws known q t).least);
+      served = λ c bad. absurd (cc bad);
+      keeps = λ none other. keeps_behind p.base r.fresh (Replaces r None ∷ rest)
+          (unseen laws known q t, keeps_clearing (replaced p.base r) r.old r.old);
+      settles = λ other. absurd (other refl);
+      mends = λ _. mends_behind r.fresh (Replaces r None ∷ rest)
+          (new_unmarked laws known q t, mends_clearing r.old r.old);
+      zeroed = λ page among out. absurd (no_place [] (page / cluster_pages_of p.super) among refl);
+      inserts = λ c bad. absurd (cc bad);
+    }
+
+    -- ---- it keeps what every state has
+
+    pub keeps : RunInvariant s first script q
+    keeps =
+        let used : UsedPages p.super.md_len p.pages p.chains [] =
+        subst (UsedPages p.super.md_len p.pages p.chains) (ap held_by t.no_job) well.pages in
+        let claimed_same : claimed_by now.job ≡ claimed_by p.job = sym (ap claimed_by t.no_job) in
+        let done : RunInvariant s first script now =
+        record {
+          super = facts.super;
+          stored = facts.stored;
+          named = facts.named;
+          few = facts.few;
+          lawful = facts.lawful;
+          legal = facts.legal;
+          well = λ runs. record {
+            chains = well.chains;
+            live = well.live;
+            no_live = well.no_live;
+            pages = subst (UsedPages p.super.md_len now.pages p.chains) (sym held)
+                (used_begun p.super.md_len p.pages p.chains (taken_by r) used (planned laws known q t).least);
+            clusters = used_still p.rows p.rows p.job now.job (λ c. refl) claimed_same p.super p.clusters p.base
+                well.clusters;
+            claims = differ_still p.rows p.rows p.job now.job (λ c. refl) claimed_same well.claims;
+            generations = well.generations;
+            claims_drawn = well.claims_drawn;
+            copied = copied_same p now well.copied refl refl refl (λ row claim page x. x) refl;
+            job = λ j is. let same : job ≡ j = cc is in subst (JobStands now) same stands;
+            replayed = well.replayed;
+          };
+          way = way_kept script p facts.way now refl (λ c. refl);
+          shaped = shaped_same p now facts.shaped refl
+              (λ c in_job. absurd (none_without p facts.shaped t.no_job c in_job))
+              (λ j c is serves _.
+              let same : job ≡ j = cc is in
+              absurd (let bad = ap (λ (i : JobState). i.serves) same ∙ serves in cc bad));
+          guarded = guarded_begun p now facts.guarded t.no_job job refl t.runs refl;
+          counted = facts.counted;
+          past = facts.past;
+          halted = λ at is. absurd (let bad = sym t.runs ∙ is in cc bad);
+          unfinished = λ j is.
+              let same : job ≡ j = cc is in
+              subst (λ (i : JobState). i.todo ≢ []) same (some_phase r.fresh);
+        } in
+        subst (RunInvariant s first script) (sym t.next) done
+      where
+        some_phase : (fresh : List ℕ) → writing fresh (Replaces r None ∷ rest) ≢ []
+        some_phase [] e = cc e
+        some_phase (x ∷ xs) e = cc e
+
+pub law : TurnLaw case.kind
+law = record {
+  keeps = λ below told known q t. keeps below.repairs known q t;
+  effect = λ told p q t. subst (Effect p) (sym t.next) (record { goes = stays refl refl; logs = nothing refl refl });
+  images = λ d x t does. untouched_images d x does (subst (Idles x.p) (sym t.next) (record {
+    base = refl;
+    chains = refl;
+    stopped = refl;
+    job = inr (λ job is. ap (λ (o : Option JobState). option_map_or (λ j. j.written) o []) (sym is));
+    log = λ _. silent refl;
+  }));
+  job = λ of. absurd of;
+}
