@@ -7,8 +7,7 @@ use Rattle.std.proofs.lemmas.Bool.Decides.{nat_tests}
 use Rattle.super_block.specs.declared.page.Super.{Super}
 use Rattle.volume_model.specs.Steps.{change}
 use Rattle.volume_model.specs.Volumes.{Volumes}
-use Rattle.blob_meta.specs.Faults.{first_some, map_fault}
-use Rattle.blob_meta.specs.Faults.{too_large, unknown_flag}
+use Rattle.blob_meta.specs.Faults.{too_large}
 use Rattle.blob_meta.specs.declared.meta.Meta.{Meta}
 use Rattle.store_model.specs.Cases.Commit.{Commits}
 use Rattle.store_model.specs.Guarding.{all_renewed, AreGenerations, frozen_behind}
@@ -23,6 +22,7 @@ use Rattle.store_model.specs.RunInvariant.{RunsWell}
 use Rattle.store_model.specs.Shown.{fixed_of}
 use Rattle.store_model.specs.StoreState.{going_on, JobState, live_of, shown}
 use Rattle.store_model.specs.StoreState.{StoreState, waiting}
+use Rattle.store_model.proofs.Faultless.{none_first, passes}
 use Rattle.store_model.proofs.WithEntry.{given_elsewhere, given_here}
 use Rattle.run_work.specs.JobMoves.{CommitMove, ReplacesBlob}
 use Rattle.run_work.specs.Reading.{job_left, logged_at}
@@ -45,18 +45,9 @@ empties_few [] = omega arith
 empties_few (None ∷ l) = let e = empties_few l in omega (arith, e)
 empties_few (Some x ∷ l) = let e = empties_few l in omega (arith, e)
 
-empties_by : (o : Option ℕ) (m : Meta) → empty_in (option_map (blob_in_run m) o) ≤ length m.map
+pub empties_by : (o : Option ℕ) (m : Meta) → empty_in (option_map (blob_in_run m) o) ≤ length m.map
 empties_by None m = omega arith
 empties_by (Some n) m = empties_few m.map
-
-none_first : {X : Type 0} (x : Option X) (rest : List (Option X)) → first_some (x ∷ rest) ≡ None → x ≡ None
-none_first None rest none = refl
-none_first (Some x) rest none = absurd (cc none)
-
-none_next : {X : Type 0} (x : Option X) (rest : List (Option X)) → first_some (x ∷ rest) ≡ None
-    → first_some rest ≡ None
-none_next None rest none = none
-none_next (Some x) rest none = absurd (cc none)
 
 never_none : {X : Type 0} (b : Bool) (x : X) → b ≡ false → (if b then None else Some x) ≡ None → ⊥
 never_none true x is none = cc is
@@ -67,16 +58,15 @@ short_map l true is none = grind (arith, nat_tests, is)
 short_map l false is none = absurd (never_none _ _ is none)
 
 -- a map that a load takes has no more slots than a blob may have
-few_slots : (s : Super) (head : ℕ) (m : Meta) → IsStored s head m → length m.map ≤ 2 ^ 20
+pub few_slots : (s : Super) (head : ℕ) (m : Meta) → IsStored s head m → length m.map ≤ 2 ^ 20
 few_slots s head m stored =
-    let in_map = none_first (map_fault (region_of s).fixed (region_of s).clusters m.map) _
-    (none_next (unknown_flag m.flags) _ stored.faultless) in
-    short_map m.map (nat_le (length m.map) (2 ^ 20)) refl (none_first (too_large m.map) _ in_map)
+    let was = passes (region_of s).fixed (region_of s).clusters m stored.faultless in
+    short_map m.map (nat_le (length m.map) (2 ^ 20)) refl (none_first (too_large m.map) _ was.map).0
 
 -- ---- blobs with generations
 
 -- how many slots are empty doesn't depend on the generation
-abbrev empties_of : Option Meta → ℕ
+abbrev pub empties_of : Option Meta → ℕ
 empties_of None = 0
 empties_of (Some m) = empty_slots (map is_some m.map)
 
@@ -87,7 +77,7 @@ module _ (base : Metas) (generations : Map ℕ) (drawn : ℕ) (are : AreGenerati
   by_both (Some m) (Some n) same = refl
   by_both (Some m) None same = absurd (cc same)
 
-  empties_are : (head : ℕ) → empty_in (blobs_in_run base generations head) ≡ empties_of (base head)
+  pub empties_are : (head : ℕ) → empty_in (blobs_in_run base generations head) ≡ empties_of (base head)
   empties_are head = by_both (base head) (generations head) (are.each head)
 
 -- ---- the turn

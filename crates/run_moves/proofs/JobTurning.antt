@@ -23,7 +23,7 @@ use Rattle.run_moves.proofs.Moved.{changes_job, changes_row, decided_row, row_tw
 -- ---- a job that goes on
 
 -- behind a phase that is no commit the same row waits
-waits_on : (serves : Service) (phase : Phase) (rest : List Phase) → has_commit (phase ∷ rest) ≡ has_commit rest
+pub waits_on : (serves : Service) (phase : Phase) (rest : List Phase) → has_commit (phase ∷ rest) ≡ has_commit rest
     → waiting serves (phase ∷ rest) ≡ waiting serves rest
 waits_on (ForCommand channel) phase rest same = ap (λ b. if b then Some channel else None) same
 waits_on (ForInsert channel) phase rest same = refl
@@ -59,7 +59,7 @@ still_frozen : (frozen : ℕ → Bool) (job : JobState) (rest : List Phase) → 
 still_frozen frozen job [] some = absurd (some refl)
 still_frozen frozen job (x ∷ xs) some = refl
 
-nothing_left : (serves : Service) (rest : List Phase) → phases_in_run serves rest ≡ [] → rest ≡ []
+pub nothing_left : (serves : Service) (rest : List Phase) → phases_in_run serves rest ≡ [] → rest ≡ []
 nothing_left serves [] none = refl
 nothing_left serves (x ∷ xs) none = absurd (cc none)
 
@@ -205,6 +205,10 @@ module _ (p q : StoreState) (d : RunMessages) where
         t.inserting.row _ t.logs.rest _ t.inserting.serves t.inserting.waits t.logs.left (λ bad. cc bad)
         (ap (λ v. run_state_of v d) t.logs.next);
     breaks_off = λ t. drop_moves t.running.job t.running.is t.device.reads (λ h. false) (λ h. refl) t.waits
+        (ap (λ v. run_state_of v d) t.next);
+    more_fails = λ t. command_fails t.running.job t.running.is t.device.reads (λ h. false) (λ h. refl) t.served.channel
+        t.served.command t.served.rest t.served.serves t.waits t.served.row (ap (λ v. run_state_of v d) t.next);
+    more_breaks_off = λ t. drop_moves t.running.job t.running.is t.device.reads (λ h. false) (λ h. refl) t.waits
         (ap (λ v. run_state_of v d) t.next);
     breaks_down = breaks_down_moves;
     insert_breaks_down = λ guarded t. insert_fails_by t.job t.is p.device.reads p.frozen

@@ -8,6 +8,7 @@ pub mod DoomedClaims
 pub mod Beginning
 pub mod JobTurning
 pub mod CommitTurns
+pub mod ReplacingMore
 pub mod Replacing
 pub mod PlainRows
 pub mod PlainTurns

@@ -20,7 +20,8 @@ use Rattle.store_model.specs.StoreState.{ForCommand, ForInsert, ForRepair, JobSt
 use Rattle.run_moves.specs.PlainRows.{BeginsWithWrite, HasPlainRows}
 use Rattle.run_moves.proofs.Moved.{row_twice}
 use Rattle.run_moves.proofs.PlainRows.{job_then, none_inserts, now_there, plain_dropped, plain_kept, plain_on}
-use Rattle.run_moves.proofs.PlainRows.{plain_outside, plain_served, plain_unclaimed, plain_with, rows_then, serves_on, waits_on}
+use Rattle.run_moves.proofs.PlainRows.{plain_outside, plain_served, plain_unclaimed, plain_with, rows_then, serves_on}
+use Rattle.run_moves.proofs.PlainRows.{waits_on}
 
 -- a row at this stage is in no job
 free : (p : StoreState) (channel : ℕ) (row : Row) → p.rows channel ≡ row → (row.stage ≡ InJob → ⊥)

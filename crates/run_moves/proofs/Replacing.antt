@@ -28,6 +28,7 @@ use Rattle.run_work.specs.ChannelMoves.{moved_row}
 use Rattle.run_moves.specs.JobTurns.{IsJobMoveOf, HasPlainRow, ReplacingTurns}
 use Rattle.run_moves.specs.Projection.{blob_in_run, blobs_in_run, heads_found, job_in_run, phases_in_run}
 use Rattle.run_moves.specs.Projection.{replacement_for, row_in_run, run_by, run_state_of, RunMessages, stage_in_run}
+use Rattle.run_moves.proofs.ReplacingMore.{replaces_more_moves}
 use Rattle.run_moves.proofs.BlobsMeant.{blob_is, had_map, slot_empty}
 use Rattle.run_moves.proofs.JobTurning.{goes_on}
 use Rattle.run_moves.proofs.Moved.{changes_row, rows_moved}
@@ -158,6 +159,7 @@ module _ (p q : StoreState) (d : RunMessages) (first : Volumes) (well : RunsWell
 pub replacing_turns : (p q : StoreState) (d : RunMessages) → ReplacingTurns p q d
 replacing_turns p q d = record {
   commits = λ first well later told t. commits_move p q d first well later told t;
+  replaces_more = λ first well later told t. replaces_more_moves p q d first well later told t;
   inserts = λ first well later told t plain. inserts_move p q d first well later told t plain;
   insert_ends = λ first well told t plain. insert_ends_moves p q d first well told t plain;
 }

@@ -73,8 +73,8 @@ module _ (told : Bool) where
   -- ---- turns
 
   module _ (p q : StoreState) where
-    -- A channel's own turn logs its first command, goes on with its write, takes the word of what was decided of its row,
-    -- or ends it. Each says itself at which stage its row has to be, so that there is one for a row at most.
+    -- A channel's own turn logs its first command, goes on with its write, takes the word of what was decided of its
+    -- row, or ends it. Each says itself at which stage its row has to be, so that there is one for a row at most.
     pub data ChannelTurn (channel : ℕ) : Type 0 where
       reads : (t : Reads p q) → t.channel ≡ channel → ChannelTurn channel
       refuses_write : (t : RefusesWrite p q) → t.channel ≡ channel → ChannelTurn channel

@@ -3,20 +3,23 @@ use Rattle.std.specs.Prelude.{◌≡◌, ◌≢◌, ◌⊎◌, ℕ, Some, Bool, 
 use Rattle.volume_model.specs.Volumes.{Volumes}
 use Rattle.store_model.specs.Cases.BreakDown.{BreaksDown}
 use Rattle.store_model.specs.Cases.BreakOff.{BreaksOff}
+use Rattle.store_model.specs.Cases.BreakOffMore.{MoreBreaksOff}
 use Rattle.store_model.specs.Cases.Commit.{Commits}
 use Rattle.store_model.specs.Cases.Erase.{Erases}
 use Rattle.store_model.specs.Cases.Fail.{Fails}
+use Rattle.store_model.specs.Cases.FailMore.{MoreFails}
 use Rattle.store_model.specs.Cases.Free.{Frees}
 use Rattle.store_model.specs.Cases.Insert.{Inserts}
 use Rattle.store_model.specs.Cases.InsertBreakDown.{InsertBreaksDown}
 use Rattle.store_model.specs.Cases.InsertEnd.{InsertEnds}
 use Rattle.store_model.specs.Cases.InsertFail.{InsertFails}
+use Rattle.store_model.specs.Cases.ReplaceMore.{ReplacesMore}
 use Rattle.store_model.specs.Cases.WriteFresh.{WritesFresh}
 use Rattle.store_model.specs.Cases.Zero.{Zeroes}
 use Rattle.store_model.specs.Guarding.{IsGuarded}
 use Rattle.store_model.specs.RunInvariant.{RunsWell}
 use Rattle.store_model.specs.StoreState.{JobState, StoreState}
-use Rattle.run_work.specs.JobMoves.{CommitMove, DropMove, FailMove, InsertMove, PageMove, WinMove}
+use Rattle.run_work.specs.JobMoves.{CommitMove, DropMove, FailMove, InsertMove, PageMove, ReplaceMove, WinMove}
 use Rattle.run_work.specs.Reading.{asks_metadata}
 use Rattle.run_work.specs.RunState.{RunSizes, RunState}
 use Rattle.run_moves.specs.Projection.{row_in_run, run_state_of, RunMessages}
@@ -51,6 +54,8 @@ module _ (p q : StoreState) (d : RunMessages) where
     pub fails : (t : Fails p q) → IsJobMoveOf FailMove t.served.channel
     pub insert_fails : (t : InsertFails p q) → IsJobMoveOf FailMove t.inserting.row
     pub breaks_off : BreaksOff p q → IsJobMove DropMove
+    pub more_fails : (t : MoreFails p q) → IsJobMoveOf FailMove t.served.channel
+    pub more_breaks_off : MoreBreaksOff p q → IsJobMove DropMove
     pub breaks_down : IsGuarded p → BreaksDown p q → ((row : ℕ) × IsJobMoveOf FailMove row) ⊎ IsJobMove DropMove
     pub insert_breaks_down : IsGuarded p → (t : InsertBreaksDown p q) → IsJobMoveOf FailMove t.inserting.row
 
@@ -59,6 +64,8 @@ module _ (p q : StoreState) (d : RunMessages) where
   pub record ReplacingTurns : Type 0 where
     pub commits : (first : Volumes) → RunsWell first p → RunsWell first q → (told : Bool) (t : Commits told p q)
         → IsJobMoveOf CommitMove t.served.channel
+    pub replaces_more : (first : Volumes) → RunsWell first p → RunsWell first q → (told : Bool) → ReplacesMore told p q
+        → IsJobMove ReplaceMove
     pub inserts : (first : Volumes) → RunsWell first p → RunsWell first q → (told : Bool) (t : Inserts told p q)
         → HasPlainRow p t.inserting.row → IsJobMoveOf InsertMove t.inserting.row
     pub insert_ends : (first : Volumes) → RunsWell first p → (told : Bool) (t : InsertEnds told p q)

@@ -31,8 +31,8 @@ pub fn rows_stay_plain()
     ensures { PlainRowLaws }
 {}
 
-/// Each step of a driver, over a store and its messages, is a step of the run; a driver can start at whatever stages the
-/// rows are; and a channel that makes a turn can move.
+/// Each step of a driver, over a store and its messages, is a step of the run; a driver can start at whatever stages
+/// the rows are; and a channel that makes a turn can move.
 pub fn steps_are_moves()
     ensures { DriverLaws }
 {

@@ -1,11 +1,11 @@
-//! Plans of puts and syncs, each once, and each cause of a refusal.
+//! Plans of puts, syncs and readonlys, each once, and each cause of a refusal.
 
 ghost use Rattle.std.specs.Prelude.{IfOk};
-ghost use Rattle.lvol_store.specs.Plans.{IsPut, IsSync};
+ghost use Rattle.lvol_store.specs.Plans.{IsForGood, IsPut, IsSync};
 
 use blob_meta::{Flags, Job, Meta, Metas, asked_volume, find};
 use descriptors::SlotMap;
-use lvol_store::{check_name, plan_put, plan_sync};
+use lvol_store::{check_name, plan_put, plan_readonly, plan_sync};
 use out_of_memory::Memory;
 use std::alloc::Global;
 use std::test::Fail;
@@ -40,6 +40,12 @@ fn sync(volume: VolumeRef) -> Command
     ensures { IsSync result }
 {
     Command::Sync { volume }
+}
+
+fn read_only(volume: VolumeRef) -> Command
+    ensures { IsForGood result }
+{
+    Command::ReadOnly { volume }
 }
 
 /// The volume of a name, or the one at a head where the name is empty.
@@ -123,6 +129,34 @@ fn planned_sync(
     }
 }
 
+fn planned_read_only(
+    alloc: Global,
+    metas: &Metas,
+    sup: &Super,
+    volume: VolumeRef,
+) -> Result<Result<Job, Reply>, Memory> {
+    let live = live(alloc)?;
+    let command = read_only(volume);
+    match find(metas, sup, asked_volume(&command)) {
+        Some(_) => Ok(plan_readonly(alloc, metas, sup, &command, 9, Some(&live))),
+        None => Ok(plan_readonly(alloc, metas, sup, &command, 9, None)),
+    }
+}
+
+/// The flag `data_ro` of what a plan replaces, or 0 where it is refused.
+fn data_ro(plan: &Result<Job, Reply>) -> u64 {
+    let Ok(job) = plan else {
+        return 0;
+    };
+    match job.list.get(0) {
+        Some(replacement) => match &replacement.new {
+            Some(meta) => meta.flags.data_ro,
+            None => 0,
+        },
+        None => 0,
+    }
+}
+
 #[test]
 fn puts_are_planned_or_refused(rt: HostRuntime) -> Result<(), Fail> {
     let alloc = rt.alloc();
@@ -161,6 +195,26 @@ fn syncs_are_planned_or_refused(rt: HostRuntime) -> Result<(), Fail> {
     for (head, name, wanted) in cases {
         let plan = planned_sync(alloc, &metas, &sup, volume(*head, name))?;
         assert_eq!(rt; told(alloc, &plan)?.as_slice(), *wanted);
+    }
+    Ok(())
+}
+
+#[test]
+fn volumes_are_planned_read_only_or_refused(rt: HostRuntime) -> Result<(), Fail> {
+    let alloc = rt.alloc();
+    let metas = metas(alloc)?;
+    let sup = Layout::plan(64, 4, Some(16))?.new_super((1 << 32) + 2, [0; 16]);
+    let cases: &[(u32, &[u8], &[u8], u64)] = &[
+        (5, b"", b"5 owner=me", 1),
+        (0, b"open", b"5 owner=me", 1),
+        (0, b"none", b"NoVolume", 0),
+        (2, b"", b"Reserved", 0),
+        (6, b"", b"ReadOnly", 0),
+    ];
+    for (head, name, wanted, flag) in cases {
+        let plan = planned_read_only(alloc, &metas, &sup, volume(*head, name))?;
+        assert_eq!(rt; told(alloc, &plan)?.as_slice(), *wanted);
+        assert_eq!(rt; data_ro(&plan), *flag);
     }
     Ok(())
 }

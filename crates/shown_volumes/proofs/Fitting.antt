@@ -53,7 +53,7 @@ module _ (k : ℕ) (image : Image) (page : ℕ) where
         at false is = rw is refl
 
     -- the page, by the number of slots
-    counted : (o : Option Meta) (x : Page)
+    pub counted : (o : Option Meta) (x : Page)
         → option_map_or (λ (parent : Meta). if nat_lt page (k * length parent.map) then x else zero_page) o zero_page
         ≡ (if nat_lt page (k * slots_in o) then x else zero_page)
     counted (Some m) x = refl

@@ -17,3 +17,11 @@ pub mod Snapshots
 pub mod CloneLawful
 pub mod Clones
 pub mod BlobsShown
+pub mod Childless
+pub mod DeletedVolumes
+pub mod Erases
+pub mod HeirMaps
+pub mod DeleteParts
+pub mod DeleteLawful
+pub mod DeleteShows
+pub mod Deletes

@@ -1,11 +1,13 @@
 -- What is known where no cause of a refusal holds.
-use Rattle.std.proofs.Common.{◌≡◌, ℕ, ◌+◌, ◌≤◌, ◌^◌, Bool, true, false, not, Some, None, [], ◌∷◌, refl, arith}
-use Rattle.std.specs.Prelude.{find}
+use Rattle.std.proofs.Common.{◌≡◌, ℕ, ◌+◌, ◌≤◌, ◌^◌, Bool, true, false, not, ◌||◌, Some, None, List, [], ◌∷◌, length, refl, sym}
+use Rattle.std.proofs.Common.{ap, ◌∙◌, arith}
+use Rattle.std.specs.Prelude.{find, nat_le}
 use Rattle.std.specs.List.{AllByRecursion}
-use Rattle.std.specs.Option.{option_map}
+use Rattle.std.specs.Option.{option_map, option_map_or}
 use Rattle.std.proofs.lemmas.Bool.Decides.{nat_tests}
-use Rattle.volume_model.specs.Refusals.{Causes, is_taken, is_too_large, refusal}
-use Rattle.volume_model.specs.Volumes.{all_slots, Fixed, head_of, is_super, slots_of, Volume, Volumes}
+use Rattle.volume_model.specs.Refusals.{Causes, is_short_between, is_taken, is_too_large, only_clone, refusal}
+use Rattle.volume_model.specs.Volumes.{all_slots, clones, Fixed, head_of, is_super, slots_of, Volume}
+use Rattle.volume_model.specs.Volumes.{Volumes}
 use Rattle.volume_model.specs.Xattrs.{Text}
 use Rattle.volume_model.specs.declared.command.Command.TheVariants as c
 use Rattle.volume_model.specs.declared.command.VolumeRef.{VolumeRef}
@@ -49,3 +51,28 @@ module _ (f : Fixed) (v : Volumes) (volume : VolumeRef) (name : Text) (head : �
 
   pub clone_read_only : refusal f v (c.Clone volume name) ≡ None → x.read_only ≡ true
   clone_read_only passed = turned x.read_only (none_holds Clonable (rw (found, there) at passed)).0
+
+left : (a b : Bool) → (a || b) ≡ false → a ≡ false
+left true b is = is
+left false b is = refl
+
+module _ (f : Fixed) (v : Volumes) (volume : VolumeRef) (head : ℕ) (x : Volume)
+    (found : head_of f v volume ≡ Some head) (there : v head ≡ Some x)
+    (passed : refusal f v (c.Delete volume) ≡ None) where
+  abbrev Deletable : List ℕ → Causes
+  Deletable hs = (is_super f head, r.Reserved) ∷ (x.locked || only_clone f v (λ y. y.locked) hs, r.ReadOnly)
+      ∷ (nat_le 2 (length hs), r.Busy (length hs)) ∷ (only_clone f v (is_short_between f v x) hs, r.Short) ∷ []
+
+  deletable : AllByRecursion (λ (cause : Bool × Reply). cause.0 ≡ false) (Deletable (clones f v head))
+  deletable = none_holds (Deletable (clones f v head)) (rw (found, there) at passed)
+
+  -- what is deleted isn't locked
+  pub delete_unlocked : x.locked ≡ false
+  delete_unlocked = left x.locked (only_clone f v (λ y. y.locked) (clones f v head)) deletable.1.0
+
+  -- nor would its one clone read its parent where it read zeros
+  pub delete_long : (clone : ℕ) (y : Volume) → clones f v head ≡ clone ∷ [] → v clone ≡ Some y
+      → is_short_between f v x y ≡ false
+  delete_long clone y one is =
+      sym (ap (λ o. option_map_or (is_short_between f v x) o false) is)
+      ∙ sym (ap (λ hs. only_clone f v (is_short_between f v x) hs) one) ∙ deletable.1.1.1.0

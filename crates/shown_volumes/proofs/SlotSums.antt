@@ -13,9 +13,9 @@ use Rattle.volume_model.specs.Volumes.{all_slots, Fixed, heads, slots_at, slots_
 use Rattle.volume_model.specs.Xattrs.{Xattrs}
 use Rattle.blob_meta.specs.declared.meta.Meta.{Meta}
 use Rattle.blob_meta.specs.Resolving.{slots_together}
-use Rattle.shown_volumes.specs.Maps.{Map, Metas, with_entry}
+use Rattle.shown_volumes.specs.Maps.{Map, Metas, with_entry, without_entry}
 use Rattle.shown_volumes.specs.Shown.{content, shown_by, volume_of}
-use Rattle.shown_volumes.proofs.WithEntry.{given_here, given_elsewhere}
+use Rattle.shown_volumes.proofs.WithEntry.{given_elsewhere, given_here, gone_elsewhere, gone_here}
 
 -- ---- sums over a range
 
@@ -61,6 +61,14 @@ slots_given md_len metas head new low =
     sum_but (λ h. slots_in (metas h)) (λ h. slots_in (with_entry metas head new h)) 0 md_len head (omega arith)
     (omega (arith, low)) (λ q ne. ap slots_in (given_elsewhere metas head new q ne))
     ∙ ap (λ n. slots_together md_len metas + n) (ap slots_in (given_here metas head new head refl))
+
+pub slots_gone : (md_len : ℕ) (metas : Metas) (head : ℕ) → head < md_len
+    → slots_together md_len (without_entry metas head) + slots_in (metas head) ≡ slots_together md_len metas
+slots_gone md_len metas head low =
+    let sum = sum_but (λ h. slots_in (metas h)) (λ h. slots_in (without_entry metas head h)) 0 md_len head (omega arith)
+    (omega (arith, low)) (λ q ne. ap slots_in (gone_elsewhere metas head q ne)) in
+    let none : slots_in (without_entry metas head head) ≡ 0 = ap slots_in (gone_here metas head head refl) in
+    omega (arith, sum, none)
 
 -- ---- volumes
 

@@ -78,6 +78,24 @@ none_without (x ∷ xs) key = elim (cases_Bool (bytes_eq x.key key)) [
   | inr differs ↦ rw differs (passed x (without xs key) key differs ∙ none_without xs key)
 ]
 
+-- an attribute that isn't there is none to take away,
+pub without_none : (xs : Xattrs) (key : Text) → value_of xs key ≡ None → without xs key ≡ xs
+without_none [] key none = refl
+without_none (x ∷ xs) key none = elim (cases_Bool (bytes_eq x.key key)) [
+  | inl same ↦ let bad : Some x.value ≡ None = sym (found_first x xs key same) ∙ none in absurd (cc bad)
+  | inr differs ↦ rw differs (ap (λ ys. x ∷ ys) (without_none xs key (sym (passed x xs key differs) ∙ none)))
+]
+
+-- and a new one that is set and taken away leaves what was there
+pub without_set : (xs : Xattrs) (key value : Text) → value_of xs key ≡ None
+    → without (with_value xs key value) key ≡ xs
+without_set [] key value none = rw ((bytes_eq-Decides key key).1 refl) refl
+without_set (x ∷ xs) key value none = elim (cases_Bool (bytes_eq x.key key)) [
+  | inl same ↦ let bad : Some x.value ≡ None = sym (found_first x xs key same) ∙ none in absurd (cc bad)
+  | inr differs ↦ rw (differs, differs)
+      (ap (λ ys. x ∷ ys) (without_set xs key value (sym (passed x xs key differs) ∙ none)))
+]
+
 -- ---- ids
 
 -- an id names its head

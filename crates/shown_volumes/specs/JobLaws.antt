@@ -1,5 +1,5 @@
 -- The laws of the jobs of snapshots, clones and deletes: what each part of them shows.
-use Rattle.std.specs.Prelude.{◌≡◌, ℕ, ◌<◌, Some, None}
+use Rattle.std.specs.Prelude.{◌≡◌, ℕ, ◌<◌, Some, None, [], ◌∷◌}
 use Rattle.page_disk.specs.Disk.{Image}
 use Rattle.volume_model.specs.Volumes.{Fixed, two_xattrs}
 use Rattle.volume_model.specs.Xattrs.{Text, Xattrs}
@@ -8,6 +8,8 @@ use Rattle.volume_model.specs.declared.command.VolumeRef.{VolumeRef}
 use Rattle.volume_model.specs.declared.reply.Reply.TheVariants as r
 use Rattle.blob_meta.specs.declared.meta.Meta.{Meta}
 use Rattle.snapshots.specs.SnapshotJobs.{clone_job, snapshot_job}
+use Rattle.inflate_delete.specs.Clones.{clones_below}
+use Rattle.inflate_delete.specs.DeleteJobs.{delete_job, erase_job}
 use Rattle.shown_volumes.specs.Maps.{Map, Metas}
 use Rattle.shown_volumes.specs.ShowsStep.{IsAskedOf, IsAtRest, shown_in, ShowsStep}
 
@@ -33,3 +35,16 @@ module _ (f : Fixed) (base : Metas) (live : Map Xattrs) (image : Image) (volume 
   ShowsClone = IsAtRest f base → IsClear f base head
       → IsAskedOf f (shown_in f base live image) base (c.Clone volume name) of old
       → ShowsStep f base live (c.Clone volume name) (r.Made head) (clone_job of old head two)
+
+module _ (f : Fixed) (base : Metas) (live : Map Xattrs) (image : Image) (volume : VolumeRef) (of : ℕ) (old : Meta) where
+  -- the erasure of the blob at a head that has no clone
+  abbrev pub ShowsErase : Type 0
+  ShowsErase = IsAtRest f base → clones_below f.md_len base of ≡ []
+      → IsAskedOf f (shown_in f base live image) base (c.Delete volume) of old
+      → ShowsStep f base live (c.Delete volume) r.Ok (erase_job of)
+
+  -- the delete of one with a clone that takes over from it
+  abbrev pub ShowsDelete : ℕ → Meta → Type 0
+  ShowsDelete clone heir = IsAtRest f base → clones_below f.md_len base of ≡ clone ∷ [] → base clone ≡ Some heir
+      → IsAskedOf f (shown_in f base live image) base (c.Delete volume) of old
+      → ShowsStep f base live (c.Delete volume) r.Ok (delete_job of old clone heir)

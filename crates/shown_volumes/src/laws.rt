@@ -7,7 +7,7 @@ ghost use Rattle.volume_model.specs.Xattrs.{Text, Xattrs};
 ghost use Rattle.volume_model.specs.declared.command.VolumeRef.{VolumeRef};
 ghost use Rattle.blob_meta.specs.declared.meta.Meta.{Meta};
 ghost use Rattle.shown_volumes.specs.Maps.{Map, Metas};
-ghost use Rattle.shown_volumes.specs.JobLaws.{ShowsClone, ShowsSnapshot};
+ghost use Rattle.shown_volumes.specs.JobLaws.{ShowsClone, ShowsDelete, ShowsErase, ShowsSnapshot};
 
 /// Up to the commit of a snapshot's job metadata shows the volumes as they were, and from then on those of the step.
 pub fn snapshots_show()
@@ -19,4 +19,12 @@ pub fn snapshots_show()
 pub fn clones_show()
     ensures { (f : Fixed) (base : Metas) (live : Map Xattrs) (image : Image) (volume : VolumeRef) (name : Text)
         (of head : ℕ) (old : Meta) → ShowsClone f base live image volume name of head old }
+{}
+
+/// Up to the commit of a delete's job metadata shows the volumes as they were, and from then on those of the step.
+pub fn deletes_show()
+    ensures erased { (f : Fixed) (base : Metas) (live : Map Xattrs) (image : Image) (volume : VolumeRef) (of : ℕ)
+        (old : Meta) → ShowsErase f base live image volume of old }
+    ensures handed_on { (f : Fixed) (base : Metas) (live : Map Xattrs) (image : Image) (volume : VolumeRef) (of : ℕ)
+        (old : Meta) (clone : ℕ) (heir : Meta) → ShowsDelete f base live image volume of old clone heir }
 {}

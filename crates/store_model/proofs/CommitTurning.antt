@@ -1,68 +1,56 @@
 -- The turn commits keeps what every state has.
 use Rattle.std.proofs.Common.{◌^◌, ◌≤◌, ◌≡◌, ℕ, List, [], ◌∷◌, Some, None, refl, subst, sym, ap, ◌∙◌, ◌+◌, arith, inl}
-use Rattle.std.proofs.Common.{inr, ◌<◌}
-use Rattle.std.proofs.Common.{Bool, Option, ◌++◌, false, ◌≢◌, ◌⊎◌, is_some, IsSome, length}
-use Rattle.std.specs.Prelude.{true}
+use Rattle.std.proofs.Common.{inr, ◌<◌, Bool, Option, ◌++◌, false, ◌≢◌, ◌⊎◌, is_some, IsSome, length, true, ◌/◌}
 use Rattle.std.specs.Option.{option_map}
+use Rattle.std.proofs.lemmas.Bool.{cases_Bool}
+use Rattle.std.specs.List.{AllByRecursion}
 use Rattle.super_block.specs.declared.page.Super.{Super}
 use Rattle.volume_model.specs.Volumes.{Volumes, Volume}
 use Rattle.volume_model.specs.Logs.{replay}
 use Rattle.volume_model.specs.Steps.{change, Allowed}
 use Rattle.volume_model.specs.Xattrs.{Xattrs}
 use Rattle.blob_meta.specs.declared.meta.Meta.{Meta}
+use Rattle.super_block.specs.Numbers.{cluster_pages_of}
+use Rattle.blob_meta.specs.Repairs.{HasNoMarks}
+use Rattle.blob_meta.specs.Resolving.{IsLawful, resolved, slots_together}
+use Rattle.md_chain.specs.Chain.{is_among}
 use Rattle.store_model.specs.Maps.{Metas, Chains, with_entry}
 use Rattle.store_model.specs.Rows.{Answered, Decided, Row}
 use Rattle.store_model.specs.StoreState.{JobState, StoreState, shown, logged, going_on}
 use Rattle.store_model.specs.Turning.{live_of, read_after}
 use Rattle.store_model.specs.Cases.Commit.{Commits}
 use Rattle.store_model.specs.Shown.{fixed_of, volume_of}
-use Rattle.store_model.specs.Jobs.{
-  gained_by,
-  inserted_by,
-  JobStands,
-  CanReplace,
-  Does,
-  Lays,
-  shown_of,
-  Keeps,
-  MovesClusters,
-}
+use Rattle.store_model.specs.Jobs.{gained_by, inserted_by, JobStands, CanReplace, Does, Lays, shown_of, Keeps}
+use Rattle.store_model.specs.Jobs.{MovesClusters, ReadsZeros, zeros_in}
 use Rattle.store_model.specs.RunInvariant.{AreNamed, RunInvariant, CanBeWritten, RunsWell}
 use Rattle.store_model.specs.Steady.{IsStored}
 use Rattle.store_model.specs.Places.{held_by, UsedPages, AreDistinct, all_set, claimed_by, UsedClusters, HasClaim}
+use Rattle.store_model.specs.Seen.{seen}
+use Rattle.store_model.specs.Copying.{AreCopied, LeavesEmpty}
+use Rattle.store_model.specs.Phases.{Replacing, has_commit, page_in, rechained, taken_in, Replaces, held_in, replaced}
+use Rattle.store_model.specs.Phases.{behind, taken_by}
+use Rattle.store_model.specs.Guarding.{AreGenerations, frozen_behind, all_renewed}
+use Rattle.store_model.proofs.CopiesCommitted.{copied_committed}
 use Rattle.store_model.proofs.Known.{Known}
 use Rattle.store_model.proofs.Progress.{NoneWaits, none_after}
 use Rattle.store_model.proofs.Heads.{rechained_is, replaced_is}
 use Rattle.store_model.proofs.Shaped.{shaped_with, decided_may, waits_for_commit}
 use Rattle.store_model.proofs.Writable.{AllWritable}
+use Rattle.store_model.proofs.ReplacedBlob.{there_before}
 use Rattle.store_model.proofs.Shows.{or_empty, shown_written}
 use Rattle.store_model.proofs.Sets.{among_either, AllBelow}
 use Rattle.store_model.proofs.UsedCommitted.{used_committed, chains_committed, old_distinct}
 use Rattle.store_model.proofs.WithEntry.{given_all}
 use Rattle.store_model.proofs.StateKept.{allowed_here, log_kept, replay_plain, LogKept}
 use Rattle.store_model.proofs.Seen.{change_seen, metadata_seen}
-use Rattle.store_model.specs.Seen.{seen}
-use Rattle.store_model.specs.Jobs.{ReadsZeros, zeros_in}
-use Rattle.store_model.proofs.LeftToDo.{no_place}
-use Rattle.std.specs.Prelude.{◌/◌}
+use Rattle.store_model.proofs.LeftToDo.{no_place, goes_on_as, held_after, among_left, distinct_left, none_claimed_after}
+use Rattle.store_model.proofs.LeftToDo.{among_taken}
 use Rattle.store_model.proofs.JobKept.{claimed_unread, copied_put, held_low, no_other, held_is, served_does}
-use Rattle.store_model.proofs.Copies.{copied_committed, row_unclaimed}
-use Rattle.store_model.specs.Copying.{AreCopied, LeavesEmpty}
+use Rattle.store_model.proofs.Copies.{row_unclaimed}
 use Rattle.store_model.proofs.OneReplacement.{some_pages}
-use Rattle.super_block.specs.Numbers.{cluster_pages_of}
 use Rattle.store_model.proofs.Claims.{with_row_claims}
-use Rattle.blob_meta.specs.Repairs.{HasNoMarks}
-use Rattle.blob_meta.specs.Resolving.{IsLawful, resolved, slots_together}
-use Rattle.store_model.specs.Phases.{Replacing, has_commit, page_in, rechained, taken_in, Replaces, held_in, replaced}
-use Rattle.store_model.specs.Phases.{behind, taken_by}
-use Rattle.store_model.proofs.LeftToDo.{goes_on_as, held_after, among_left, distinct_left, none_claimed_after}
-use Rattle.store_model.proofs.LeftToDo.{among_taken, chain_there}
-use Rattle.md_chain.specs.Chain.{is_among}
-use Rattle.std.proofs.lemmas.Bool.{cases_Bool}
 use Rattle.store_model.proofs.ClustersMoved.{clusters_moved, differ_committed}
 use Rattle.store_model.proofs.Guarding.{claims_drawn_still, generations_renewed, guarded_behind}
-use Rattle.store_model.specs.Guarding.{AreGenerations, frozen_behind, all_renewed}
-use Rattle.std.specs.List.{AllByRecursion}
 
 module _ (known : Known) where
   open known use {s, placed, first, script, p, facts}
@@ -161,13 +149,8 @@ module _ (known : Known) where
     has_number : (is_some (p.base r.head) ≡ true) ⊎ (is_among r.head t.commit.renews ≡ true)
     has_number = elim (cases_Bool r.makes) [
       | inl makes ↦ inr (does.0.numbers makes)
-      | inr not ↦ inl (by not (p.base r.head) refl)
+      | inr not ↦ inl (there_before p.super p.base p.chains well.chains r can.chain not)
     ]
-      where
-        by : r.makes ≡ false → (o : Option Meta) → p.base r.head ≡ o → is_some o ≡ true
-        by not None none =
-            absurd (let bad = sym (well.chains.none r.head none) ∙ can.chain ∙ chain_there r not in cc bad)
-        by not (Some m) is = refl
 
     generations_new : AreGenerations now.base now.generations now.drawn
     generations_new =

@@ -1,30 +1,9 @@
 -- What was copied of a slot stays its content.
 use Rattle.std.specs.Prelude.{nat_lt, if◌then◌else◌}
 use Rattle.std.specs.Option.{option_map_or}
-use Rattle.std.proofs.Common.{
-  length,
-  true,
-  zero,
-  ◌≡◌,
-  ◌⊎◌,
-  ℕ,
-  suc,
-  ◌+◌,
-  ◌*◌,
-  ◌/◌,
-  ◌%◌,
-  ◌<◌,
-  ◌≤◌,
-  ◌==◌,
-  ◌&&◌,
-  Bool,
-  false,
-  List,
-  [],
-  ◌∷◌,
-}
+use Rattle.std.proofs.Common.{length, true, zero, ◌≡◌, ℕ, suc, ◌+◌, ◌*◌, ◌/◌, ◌%◌, ◌<◌, ◌≤◌, ◌==◌, ◌&&◌, Bool, false}
 use Rattle.std.proofs.Common.{Option, Some, None, refl, sym, ap, ◌∙◌, subst, inl, inr, arith}
-use Rattle.std.proofs.lemmas.Bool.{both_ways, cases_Bool, cases_eq, eqb-true}
+use Rattle.std.proofs.lemmas.Bool.{cases_Bool, cases_eq, eqb-true}
 use Rattle.std.proofs.lemmas.Nat.{div-mul-add}
 use Rattle.std.proofs.Math.Nat.{mod-lt, mul-le-mul_right}
 use Rattle.page_disk.specs.Disk.{Image}
@@ -34,11 +13,9 @@ use Rattle.volume_model.specs.Volumes.{Page, zero_page}
 use Rattle.blob_meta.specs.declared.meta.Meta.{Meta}
 use Rattle.blob_meta.specs.Parents.{parent_of, slot}
 use Rattle.blob_meta.specs.Resolving.{IsLawful, resolved}
-use Rattle.md_chain.specs.Chain.{is_among}
 use Rattle.store_model.specs.Agreeing.{AgreeOn, IsPageOf, IsSameButAt}
-use Rattle.store_model.specs.Copying.{AreCopied, HasCopied, IsUpToDate, IsWanted, LeavesEmpty, page_of_claim}
-use Rattle.store_model.specs.Guarding.{all_renewed, AreClaimsDrawn}
-use Rattle.store_model.specs.Maps.{Map, Metas, with_entry}
+use Rattle.store_model.specs.Copying.{AreCopied, HasCopied, IsWanted, page_of_claim}
+use Rattle.store_model.specs.Maps.{Map, Metas}
 use Rattle.store_model.specs.Places.{HasClaim, UsedClusters}
 use Rattle.store_model.specs.Rows.{Copying, InJob, OpenClaim, Posted, Ready, Row, Rows, Stage, with_row}
 use Rattle.store_model.specs.Shown.{content, content_by}
@@ -47,9 +24,7 @@ use Rattle.store_model.proofs.Resolved.{resolved_mapped}
 use Rattle.store_model.proofs.Contents.{HasParents, same_content}
 use Rattle.store_model.proofs.PageWritten.{other_page, same_place}
 use Rattle.store_model.proofs.RowsKept.{row_here, row_other}
-use Rattle.store_model.proofs.Sets.{among_either}
 use Rattle.store_model.proofs.Shows.{agree, AreFaultless}
-use Rattle.shown_volumes.proofs.WithEntry.{given_elsewhere, given_here}
 
 -- this page was copied for the row's claim
 pub record IsCopiedFor (pages : ℕ) (rows : Rows) (row : ℕ) (claim : OpenClaim) (page : ℕ) : Type 0 where
@@ -228,96 +203,3 @@ module _ (p q : StoreState) (copied : AreCopied p) (super : q.super ≡ p.super)
               ∙ at.in_slot in cc bad)
         ]
       ]
-
--- ---- a commit
-
--- the generation of a blob that is renewed is a new number, and that of any other stays
-pub renewed : (generations : Map ℕ) (drawn : ℕ) (heads : List ℕ) (head number : ℕ)
-    → all_renewed generations drawn heads head ≡ Some number
-    → (drawn < number) ⊎ ((is_among head heads ≡ false) × (generations head ≡ Some number))
-renewed generations drawn [] head number is = inr (refl, is)
-renewed generations drawn (h ∷ heads) head number is =
-    elim (renewed (with_entry generations h (drawn + 1)) (drawn + 1) heads head number is) [
-      | inl later ↦ inl (omega (arith, later))
-      | inr x ↦ elim (cases_eq head h) [
-        | inl e ↦
-            let one : drawn + 1 ≡ number =
-            let both = sym (given_here generations h (drawn + 1) head e) ∙ x.1 in cc both in
-            inl (omega (arith, one))
-        | inr ne ↦ inr (
-          elim (cases_Bool (is_among head (h ∷ heads))) [
-            | inr out ↦ out
-            | inl among ↦ elim (among_either head h heads among) [
-              | inl e ↦ absurd (ne e)
-              | inr later ↦ absurd (both_ways (is_among head heads) x.0 later)
-            ]
-          ],
-          sym (given_elsewhere generations h (drawn + 1) head ne) ∙ x.1,
-        )
-      ]
-    ]
-
--- With other metadata, by which each slot that is empty, of a blob that isn't renewed, was empty and shows what it
--- showed.
-module _ (p q : StoreState) (copied : AreCopied p) (heads : List ℕ) (super : q.super ≡ p.super)
-    (reads : q.device.reads ≡ p.device.reads)
-    (generations : q.generations ≡ all_renewed p.generations p.drawn heads) (drawn : AreClaimsDrawn p.rows p.drawn)
-    (no_more : HaveNoMore (cluster_pages_of p.super) p.rows q.rows) where
-  pub copied_committed : 0 < cluster_pages_of p.super → (Held : Image → Type 0) → Held p.device.reads
-      → ((head : ℕ) → is_among head heads ≡ false
-      → LeavesEmpty p.super (resolved p.base) (resolved q.base) Held head) → AreCopied q
-  copied_committed some Held holds leaves row claim held wanted page has =
-      let k = cluster_pages_of p.super in
-      let x = no_more row claim page (record {
-        held = held;
-        copied = subst (λ (s : Super). HasCopied (cluster_pages_of s) (q.rows row).stage page) super has;
-      }) in
-      let low = copied_below k (p.rows row).stage page x.copied in
-      let stays : (is_among claim.head heads ≡ false) × (p.generations claim.head ≡ Some claim.generation) =
-      elim (renewed p.generations p.drawn heads claim.head claim.generation
-      (ap (λ (g : Map ℕ). g claim.head) (sym generations) ∙ wanted.current)) [
-        | inl later ↦ absurd (let le = drawn row claim x.held in omega (arith, le, later))
-        | inr is ↦ is
-      ] in
-      let at : (claim.slot * k + page) / k ≡ claim.slot = div-mul-add claim.slot k page low in
-      let was = leaves claim.head stays.0 (claim.slot * k + page) wanted.meta wanted.there
-      (ap (slot wanted.meta) at ∙ wanted.empty) in
-      let before : IsWanted p claim = record {
-        current = stays.1;
-        meta = was.old;
-        there = was.there;
-        empty = ap (slot was.old) (sym at) ∙ was.empty;
-      } in
-      ap (λ (s : Super). q.device.reads (claim.cluster * cluster_pages_of s + page)) super
-      ∙ ap (λ (i : Image). i (page_of_claim p claim page)) reads
-      ∙ copied row claim x.held before page x.copied
-      ∙ sym (ap (λ (s : Super). content (cluster_pages_of s) q.device.reads (resolved q.base) (suc s.md_len) claim.head
-      (claim.slot * cluster_pages_of s + page)) super
-      ∙ ap (λ (i : Image). content k i (resolved q.base) (suc p.super.md_len) claim.head
-      (claim.slot * k + page)) reads
-      ∙ was.same p.device.reads holds)
-
--- With other metadata that resolves to the same, and other generations, by which no more claims are up to date.
-pub copied_unseen : (p q : StoreState) → AreCopied p → q.super ≡ p.super → resolved q.base ≡ resolved p.base
-    → q.rows ≡ p.rows → q.device.reads ≡ p.device.reads
-    → ((row : ℕ) (claim : OpenClaim) → (p.rows row).claim ≡ Some claim → IsUpToDate q claim → IsUpToDate p claim)
-    → AreCopied q
-copied_unseen p q copied super base rows reads no_more row claim held wanted page has =
-    let held_before : (p.rows row).claim ≡ Some claim = sym (ap (λ (x : Rows). (x row).claim) rows) ∙ held in
-    let before : IsWanted p claim = record {
-      current = no_more row claim held_before wanted.current;
-      meta = wanted.meta;
-      there = sym (ap (λ (m : Metas). m claim.head) base) ∙ wanted.there;
-      empty = wanted.empty;
-    } in
-    let had : HasCopied (cluster_pages_of p.super) (p.rows row).stage page =
-    subst (λ (x : Rows). HasCopied (cluster_pages_of p.super) (x row).stage page) rows
-    (subst (λ (s : Super). HasCopied (cluster_pages_of s) (q.rows row).stage page) super has) in
-    ap (λ (s : Super). q.device.reads (claim.cluster * cluster_pages_of s + page)) super
-    ∙ ap (λ (i : Image). i (page_of_claim p claim page)) reads ∙ copied row claim held_before before page had
-    ∙ sym (ap (λ (s : Super). content (cluster_pages_of s) q.device.reads (resolved q.base) (suc s.md_len) claim.head
-    (claim.slot * cluster_pages_of s + page)) super
-    ∙ ap (λ (i : Image). content (cluster_pages_of p.super) i (resolved q.base) (suc p.super.md_len) claim.head
-    (claim.slot * cluster_pages_of p.super + page)) reads
-    ∙ ap (λ (m : Metas). content (cluster_pages_of p.super) p.device.reads m (suc p.super.md_len) claim.head
-    (claim.slot * cluster_pages_of p.super + page)) base)

@@ -22,7 +22,8 @@ use Rattle.store_model.specs.StoreState.{going_on, JobState, shown, StoreState}
 use Rattle.store_model.specs.Turning.{read_after}
 use Rattle.store_model.specs.Cases.Insert.{Inserts}
 use Rattle.store_model.specs.RunInvariant.{RunsWell}
-use Rattle.store_model.proofs.Copies.{copied_committed, row_unclaimed}
+use Rattle.store_model.proofs.CopiesCommitted.{copied_committed}
+use Rattle.store_model.proofs.Copies.{row_unclaimed}
 use Rattle.store_model.proofs.Heads.{rechained_is, replaced_is}
 use Rattle.store_model.proofs.InsertedContent.{Holds, leaves_inserted, shown_same}
 use Rattle.store_model.proofs.JobKept.{copied_put}

@@ -1,24 +1,6 @@
 -- The metadata of a blob with a cluster in a slot that was empty: it is steady, and with it all metadata is lawful.
-use Rattle.std.proofs.Common.{
-  ◌≡◌,
-  ◌≢◌,
-  ◌⊎◌,
-  ℕ,
-  zero,
-  suc,
-  ◌<◌,
-  ◌^◌,
-  Bool,
-  true,
-  false,
-  List,
-  [],
-  ◌∷◌,
-  Option,
-  Some,
-  None,
-  refl,
-}
+use Rattle.std.proofs.Common.{◌≡◌, ◌≢◌, ◌⊎◌, ℕ, zero, suc, ◌<◌, ◌^◌, Bool, true, false, List, [], ◌∷◌, Option, Some}
+use Rattle.std.proofs.Common.{None, refl}
 use Rattle.std.proofs.Common.{sym, ap, ◌∙◌, subst, inl, inr, length, arith}
 use Rattle.descriptors.specs.Runs.{at_most}
 use Rattle.std.specs.Prelude.{◌+◌, ◌-◌, nat_le, find, if◌then◌else◌, is_none, slice_get, slice_index_or, slice_set}
@@ -31,16 +13,8 @@ use Rattle.super_block.specs.declared.page.Super.{Super}
 use Rattle.blob_meta.specs.declared.meta.Meta.{Meta}
 use Rattle.blob_meta.specs.declared.fault.MetaFault.{MetaFault}
 use Rattle.blob_meta.specs.declared.fault.MetaFault.TheVariants as faults
-use Rattle.blob_meta.specs.Faults.{
-  bad_mark,
-  cluster_outside,
-  clusters_of,
-  first_some,
-  hole_in_thick,
-  is_outside,
-  is_thin,
-}
-use Rattle.blob_meta.specs.Faults.{map_fault, meta_fault, too_large, unknown_flag}
+use Rattle.blob_meta.specs.Faults.{cluster_outside, clusters_of, hole_in_thick, is_outside, is_thin}
+use Rattle.blob_meta.specs.Faults.{meta_fault, too_large}
 use Rattle.blob_meta.specs.Parents.{is_read_only, parent_of, slot}
 use Rattle.blob_meta.specs.Resolving.{IsLawful, slots_together}
 use Rattle.store_model.specs.Inserting.{with_slot}
@@ -51,17 +25,12 @@ use Rattle.store_model.specs.Steady.{IsSteady}
 use Rattle.store_model.proofs.Cut.{all_full}
 use Rattle.store_model.proofs.Inserted.{get_set_here}
 use Rattle.store_model.proofs.Inside.{IsInside, none_of_map, passes}
-use Rattle.store_model.proofs.NewBlob.{all_pass}
+use Rattle.store_model.proofs.Faultless.{all_pass, none_first, passes as all_passes}
 use Rattle.shown_volumes.proofs.Ranges.{get_set_other}
 use Rattle.shown_volumes.proofs.SlotSums.{slots_given, slots_in}
 use Rattle.shown_volumes.proofs.WithEntry.{given_here, given_elsewhere}
 
 -- ---- tests of the map
-
-none_first : (o : Option MetaFault) (os : List (Option MetaFault)) → first_some (o ∷ os) ≡ None
-    → (o ≡ None) × (first_some os ≡ None)
-none_first None os none = (refl, none)
-none_first (Some x) os none = absurd (cc none)
 
 module _ (fixed clusters cluster : ℕ) (inside : IsInside fixed clusters cluster) where
   not_out : is_outside fixed clusters cluster ≡ false
@@ -118,19 +87,16 @@ module _ (old : Meta) (i cluster : ℕ) (within : i < length old.map) (empty : s
   still_passes : (fixed clusters : ℕ) → IsInside fixed clusters cluster → meta_fault fixed clusters old ≡ None
       → meta_fault fixed clusters next ≡ None
   still_passes fixed clusters inside none =
-      let flags = none_first (unknown_flag old.flags) _ none in
-      let map = none_first (map_fault fixed clusters old.map) _ flags.1 in
-      let full = none_first (hole_in_thick old.flags old.map) _ map.1 in
-      let marks = none_first (bad_mark old.internal) [] full.1 in
-      let large = none_first (too_large old.map) _ map.0 in
+      let was = all_passes fixed clusters old none in
+      let large = none_first (too_large old.map) _ was.map in
       let out = none_first (cluster_outside fixed clusters old.map) [] large.1 in
       let few : too_large next.map ≡ None =
       ap too_long (length-set old.map i (Some cluster)) ∙ large.0 in
       let held : cluster_outside fixed clusters next.map ≡ None =
       ap (option_map faults.ClusterOutside) (inside_set fixed clusters cluster inside old.map i within
       (none_of_map faults.ClusterOutside (find (is_outside fixed clusters) (clusters_of old.map)) out.0)) in
-      let is = thin full.0 in
-      all_pass _ _ _ _ flags.0 (rw (few, held) refl) (rw is refl) marks.0
+      let is = thin was.full in
+      all_pass _ _ _ _ was.flags (rw (few, held) refl) (rw is refl) was.marks
     where
       too_long : ℕ → Option MetaFault
       too_long n = if nat_le n (2 ^ 20) then None else Some (faults.TooLarge (at_most (2 ^ 64 - 1) n))

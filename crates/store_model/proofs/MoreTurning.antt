@@ -1,54 +1,46 @@
 -- The turn replaces_more keeps what every state has.
-use Rattle.std.proofs.Common.{◌≡◌, ◌⊎◌, ◌/◌, ◌+◌, ◌<◌, ◌≤◌, ◌^◌, ◌++◌, ℕ, Bool, List, [], ◌∷◌, length, Option, None}
-use Rattle.std.proofs.Common.{Some}
-use Rattle.std.proofs.Common.{true, false, refl, sym, ap, ◌∙◌, subst, inl, inr, arith}
-use Rattle.std.specs.Prelude.{if◌then◌else◌, is_some, IsSome, slice_set}
-use Rattle.std.specs.List.{AllByRecursion}
-use Rattle.std.specs.Option.{option_map, option_map_or}
-use Rattle.std.proofs.lemmas.Bool.{cases_Bool, cases_eq}
+use Rattle.std.proofs.Common.{◌≡◌, ◌/◌, ◌+◌, ◌<◌, ◌≤◌, ◌^◌, ◌++◌, ℕ, Bool, List, [], ◌∷◌, Option, None, Some, true}
+use Rattle.std.proofs.Common.{false, refl, sym, ap, ◌∙◌, subst, inl, inr, arith}
+use Rattle.std.proofs.lemmas.Bool.{cases_Bool}
 use Rattle.std.proofs.lemmas.List.Elements.{All-weaker}
 use Rattle.super_block.specs.declared.page.Super.{Super}
 use Rattle.super_block.specs.Numbers.{cluster_pages_of}
-use Rattle.blob_meta.specs.declared.meta.Meta.{Meta}
 use Rattle.blob_meta.specs.Repairs.{HasNoMarks}
 use Rattle.blob_meta.specs.Resolving.{IsLawful, resolved, slots_together}
-use Rattle.md_chain.specs.Chain.{is_among}
-use Rattle.store_model.specs.Cases.ReplaceMore.{made_by, ReplacesMore, with_replaced}
+use Rattle.store_model.specs.Cases.ReplaceMore.{ReplacesMore, with_replaced}
 use Rattle.store_model.specs.Copying.{AreCopied, IsUpToDate}
-use Rattle.store_model.specs.Guarding.{all_renewed, AreGenerations, frozen_behind}
+use Rattle.store_model.specs.Guarding.{frozen_behind}
 use Rattle.store_model.specs.Jobs.{CanReplace, Does, gained_by, inserted_by, IsUnseen, JobStands, Keeps, Lays}
-use Rattle.store_model.specs.Jobs.{MovesClusters}
-use Rattle.store_model.specs.Jobs.{ReadsZeros, shown_of}
-use Rattle.store_model.specs.Maps.{Metas, with_entry, with_option, without_entry}
-use Rattle.store_model.specs.Phases.{behind, has_commit, held_in, OnlyMend, page_in, Replaces}
-use Rattle.store_model.specs.Phases.{Replacing, taken_by, taken_in}
+use Rattle.store_model.specs.Jobs.{MovesClusters, ReadsZeros, shown_of}
+use Rattle.store_model.specs.Maps.{Metas}
+use Rattle.store_model.specs.Phases.{behind, has_commit, held_in, OnlyMend, page_in, Replaces, Replacing, taken_by}
+use Rattle.store_model.specs.Phases.{taken_in}
 use Rattle.store_model.specs.Places.{AreDistinct, claimed_by, held_by, UsedPages}
 use Rattle.store_model.specs.Rows.{OpenClaim}
-use Rattle.store_model.specs.RunInvariant.{HaveChains, RunInvariant, RunsWell}
+use Rattle.store_model.specs.RunInvariant.{RunInvariant, RunsWell}
 use Rattle.store_model.specs.Shown.{fixed_of, shown_by}
 use Rattle.store_model.specs.Steady.{IsStored}
 use Rattle.store_model.specs.StoreState.{ForCommand, ForInsert, ForRepair, going_on, JobState, Service, shown}
 use Rattle.store_model.specs.StoreState.{StoreState}
 use Rattle.store_model.specs.Turning.{read_after}
+use Rattle.store_model.proofs.CopiesCommitted.{copied_unseen}
 use Rattle.store_model.proofs.ClustersMoved.{clusters_moved, differ_committed}
-use Rattle.store_model.proofs.Copies.{copied_unseen, renewed}
-use Rattle.store_model.proofs.Erased.{chains_erased, erased_low, generations_erased, used_erased}
 use Rattle.store_model.proofs.GoesOn.{served_still, serves_still, unfinished_still}
-use Rattle.store_model.proofs.Guarding.{claims_drawn_still, generations_renewed, guarded_behind}
+use Rattle.store_model.proofs.Guarding.{claims_drawn_still, guarded_behind}
 use Rattle.store_model.proofs.JobKept.{copied_put, held_is, held_low}
 use Rattle.store_model.proofs.Known.{Known}
-use Rattle.store_model.proofs.LeftToDo.{among_left, among_taken, chain_there, distinct_left, goes_on_as, held_after}
-use Rattle.store_model.proofs.LeftToDo.{no_place}
-use Rattle.store_model.proofs.LeftToDo.{none_claimed_after}
+use Rattle.store_model.proofs.LeftToDo.{among_left, among_taken, goes_on_as, held_after, no_place, none_claimed_after}
 use Rattle.store_model.proofs.Moved.{inserted_none}
 use Rattle.store_model.proofs.Phases.{does_anywhere, mends_no_commit}
+use Rattle.store_model.proofs.ReplacedBlob.{chains_replaced, generation_before, generations_replaced, low_replaced}
+use Rattle.store_model.proofs.ReplacedBlob.{pages_replaced, there_before}
 use Rattle.store_model.proofs.RowsKept.{way_kept}
-use Rattle.store_model.proofs.Sets.{AllBelow, among_either, among_first}
+use Rattle.store_model.proofs.Sets.{AllBelow, among_either}
 use Rattle.store_model.proofs.Shaped.{shaped_same}
 use Rattle.store_model.proofs.Shows.{shown_written}
 use Rattle.store_model.proofs.StateKept.{runs_here}
-use Rattle.store_model.proofs.UsedCommitted.{chains_committed, old_distinct, used_committed}
-use Rattle.store_model.proofs.WithEntry.{given_here, option_all, option_elsewhere, option_here}
+use Rattle.store_model.proofs.UsedCommitted.{old_distinct}
+use Rattle.store_model.proofs.WithEntry.{option_all}
 
 module _ (known : Known) where
   open known use {s, placed, first, script, p, facts}
@@ -129,11 +121,8 @@ module _ (known : Known) where
     used = subst (UsedPages p.super.md_len p.pages p.chains) held well.pages
 
     low : r.head < p.super.md_len
-    low = by r.new refl
-      where
-        by : (o : Option Meta) → r.new ≡ o → r.head < p.super.md_len
-        by None none = erased_low p.super p.base p.chains well.chains p.pages r later can.chain (can.gone none) used
-        by (Some new) is = (can.stored new is).low
+    low = low_replaced p.super p.base p.chains well.chains p.pages r later can.chain can.unerased can.gone used
+        (λ m is. (can.stored m is).low)
 
     all_low : AllBelow p.super.md_len (r.head ∷ r.fresh)
     all_low x among = elim (among_either x r.head r.fresh among) [
@@ -142,75 +131,11 @@ module _ (known : Known) where
           (held_low known well (taken ++ later) held x (among_left x taken later (among_taken r x f)))
     ]
 
-    chains_new : HaveChains p.super now.base now.chains
-    chains_new = by r.new refl
-      where
-        by : (o : Option Meta) → r.new ≡ o → HaveChains p.super (with_option p.base r.head o)
-            (with_option p.chains r.head (option_map (λ m. r.head ∷ r.fresh) o))
-        by None none =
-            chains_erased p.super p.base p.chains well.chains p.pages r later can.chain (can.gone none) used
-        by (Some new) is = chains_committed p.super p.base p.chains well.chains p.pages r later can.chain can.unerased
-            used new (distinct_left taken later differ) all_low
-
-    pages_new : UsedPages p.super.md_len now.pages now.chains (r.old ++ later)
-    pages_new = by r.new refl
-      where
-        by : (o : Option Meta) → r.new ≡ o → UsedPages p.super.md_len
-            (option_map_or (λ new. p.pages) o (slice_set p.pages r.head false))
-            (with_option p.chains r.head (option_map (λ m. r.head ∷ r.fresh) o)) (r.old ++ later)
-        by None none =
-            used_erased p.super p.base p.chains well.chains p.pages r later can.chain (can.gone none) used
-        by (Some new) is = used_committed p.super p.base p.chains well.chains p.pages r later can.chain can.unerased
-            used differ
-
-    -- ---- generations
-
-    -- a blob that was there has a generation, and one that is made gets it
-    has_number : (is_some (p.base r.head) ≡ true) ⊎ (is_among r.head (made_by r) ≡ true)
-    has_number = elim (cases_Bool r.makes) [
-      | inl makes ↦ inr (ap (λ b. is_among r.head (if b then r.head ∷ [] else [])) makes ∙ among_first r.head [])
-      | inr not ↦ inl (by not (p.base r.head) refl)
-    ]
-      where
-        by : r.makes ≡ false → (o : Option Meta) → p.base r.head ≡ o → is_some o ≡ true
-        by not None none =
-            absurd (let bad = sym (well.chains.none r.head none) ∙ can.chain ∙ chain_there r not in cc bad)
-        by not (Some m) is = refl
-
-    generations_new : AreGenerations now.base now.generations now.drawn
-    generations_new = by r.new refl
-      where
-        there : (new : Meta) (makes : Bool)
-            → AllByRecursion (λ h. IsSome (with_entry p.base r.head new h)) (if makes then r.head ∷ [] else [])
-        there new true = (ap is_some (given_here p.base r.head new r.head refl), tt)
-        there new false = tt
-
-        by : (o : Option Meta) → r.new ≡ o → AreGenerations (with_option p.base r.head o)
-            (option_map_or (λ new. all_renewed p.generations p.drawn (made_by r)) o
-            (without_entry p.generations r.head))
-            (p.drawn + length (made_by r))
-        by None none =
-            generations_erased p.base r.head p.generations p.drawn (p.drawn + length (made_by r)) (omega arith)
-            well.generations
-        by (Some new) is = generations_renewed p.base r.head new p.generations p.drawn (made_by r) well.generations
-            has_number (there new r.makes)
-
     -- no claim is up to date that wasn't
     no_more : (row : ℕ) (claim : OpenClaim) → (p.rows row).claim ≡ Some claim → IsUpToDate now claim
         → IsUpToDate p claim
-    no_more row claim holds current = by r.new refl current
-      where
-        by : (o : Option Meta) → r.new ≡ o
-            → option_map_or (λ new. all_renewed p.generations p.drawn (made_by r)) o
-            (without_entry p.generations r.head) claim.head ≡ Some claim.generation → IsUpToDate p claim
-        by None none is = elim (cases_eq claim.head r.head) [
-          | inl e ↦ absurd (let bad = sym (option_here p.generations r.head None claim.head e) ∙ is in cc bad)
-          | inr ne ↦ sym (option_elsewhere p.generations r.head None claim.head ne) ∙ is
-        ]
-        by (Some new) made is = elim (renewed p.generations p.drawn (made_by r) claim.head claim.generation is) [
-          | inl more ↦ absurd (let le = well.claims_drawn row claim holds in omega (arith, le, more))
-          | inr x ↦ x.1
-        ]
+    no_more row claim holds current = generation_before p.generations p.drawn r claim.head claim.generation
+        (well.claims_drawn row claim holds) current
 
     -- ---- what is shown
 
@@ -287,15 +212,19 @@ module _ (known : Known) where
           lawful = subst (λ (y : Super). IsLawful y.md_len (resolved now.base)) facts.super can.lawful;
           legal = facts.legal;
           well = λ on. record {
-            chains = chains_new;
+            chains = chains_replaced p.super p.base p.chains well.chains p.pages r later can.chain can.unerased can.gone
+                used differ all_low;
             live = λ h m is. well.live h m (ap (λ (x : Metas). x h) (sym unseen) ∙ is);
             no_live = λ h none. well.no_live h (ap (λ (x : Metas). x h) (sym unseen) ∙ none);
             pages = subst (UsedPages p.super.md_len now.pages now.chains)
-                (sym (held_after other [] t.running.rest ∙ lays.1)) pages_new;
+                (sym (held_after other [] t.running.rest ∙ lays.1))
+                (pages_replaced p.super p.base p.chains well.chains p.pages r later can.chain can.unerased can.gone used
+                differ);
             clusters = clusters_moved p.super p.clusters p.base now.base r.freed p.rows p.rows p.job next_job
                 (λ c. refl) none_claimed moves well.claims well.clusters;
             claims = differ_committed p.rows p.rows p.job next_job (λ c. refl) none_claimed well.claims;
-            generations = generations_new;
+            generations = generations_replaced p.base p.generations p.drawn r
+                (there_before p.super p.base p.chains well.chains r can.chain) well.generations;
             claims_drawn = claims_drawn_still p.rows p.rows p.drawn now.drawn (λ c. refl) (omega arith)
                 well.claims_drawn;
             copied = copied_new;

@@ -12,14 +12,14 @@ use Rattle.volume_model.specs.Uuids.{default_uuid, uuid_text}
 use Rattle.volume_model.specs.Volumes.{Fixed, store_uuid, two_xattrs, Volumes}
 use Rattle.volume_model.specs.Xattrs.{Text, Xattrs}
 use Rattle.blob_meta.specs.declared.meta.Flags.{Flags}
-use Rattle.blob_meta.specs.declared.fault.MetaFault.{MetaFault}
-use Rattle.blob_meta.specs.Faults.{first_some, hole_in_thick, map_fault}
+use Rattle.blob_meta.specs.Faults.{hole_in_thick, map_fault}
 use Rattle.blob_meta.specs.Faults.{too_large, unknown_flag}
 use Rattle.blob_meta.specs.Jobs.{new_meta}
 use Rattle.blob_meta.specs.Says.{without_bit_1}
 use Rattle.store_model.specs.Maps.{Metas}
 use Rattle.store_model.specs.Regions.{region_of}
 use Rattle.store_model.specs.Steady.{CanBeWritten, IsSteady}
+use Rattle.store_model.proofs.Faultless.{all_pass}
 use Rattle.store_model.proofs.LawfulGiven.{TakesNone}
 
 pub use Rattle.shown_volumes.proofs.EmptyMaps.{none_in, empty_slot}
@@ -41,10 +41,6 @@ two_written f v name uuid named = record {
 
 -- ---- its map
 
--- no test of metadata fails
-pub all_pass : (a b c d : Option MetaFault) → a ≡ None → b ≡ None → c ≡ None → d ≡ None
-    → first_some (a ∷ b ∷ c ∷ d ∷ []) ≡ None
-all_pass a b c d an bn cn dn = rw (an, bn, cn, dn) refl
 
 pub few_pass : (slots : ℕ) (map : List (Option ℕ)) → length map ≡ slots → slots ≤ 2 ^ 20 → too_large map ≡ None
 few_pass slots map count few = let le : nat_le (length map) (2 ^ 20) ≡ true = le-leb (length map) (2 ^ 20)

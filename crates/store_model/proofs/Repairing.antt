@@ -82,6 +82,12 @@ stays running other next base job serves stopped (at_work j is no_repair) =
     ∙ sym serves ∙ repair)))
 stays running other next base job serves stopped (halted at is) = subst IsRepaired (sym next) (halted at (stopped ∙ is))
 
+-- without a job, while it runs, nothing is left to repair
+pub repaired_unmarked : (p : StoreState) → IsRepaired p → p.stopped ≡ None → p.job ≡ None → HasNoMarks p.base
+repaired_unmarked p (unmarked none) runs no_job = none
+repaired_unmarked p (at_work j is serves) runs no_job = absurd (let bad = sym no_job ∙ is in cc bad)
+repaired_unmarked p (halted at is) runs no_job = absurd (let bad = sym runs ∙ is in cc bad)
+
 -- ---- each kind
 
 module _ (told : Bool) (s : Super) (first : Volumes) (script : ℕ → List Command) (p q : StoreState) where
@@ -122,9 +128,8 @@ module _ (told : Bool) (s : Super) (first : Volumes) (script : ℕ → List Comm
       t.inserting.serves).unmarked)
 
   begins_repair : BeginsRepair p q → IsRepaired p → IsRepaired q
-  begins_repair t (unmarked none) = unmarked (subst HasNoMarks (sym (ap (λ (v : StoreState). v.base) t.next)) none)
-  begins_repair t (at_work j is serves) = absurd (let bad = sym t.no_job ∙ is in cc bad)
-  begins_repair t (halted at is) = absurd (let bad = sym t.runs ∙ is in cc bad)
+  begins_repair t was = unmarked (subst HasNoMarks (sym (ap (λ (v : StoreState). v.base) t.next))
+      (repaired_unmarked p was t.runs t.no_job))
 
   -- a job that is broken down was stopped before
   breaks_down : BreaksDown p q → IsRepaired q

@@ -1,18 +1,14 @@
 -- What a resize asks for: steady metadata, and what each image shows with it.
-use Rattle.std.proofs.Common.{◌≡◌, ◌≢◌, ℕ, suc, ◌+◌, ◌/◌, ◌-◌, ◌<◌, ◌≤◌, ◌^◌, ◌&&◌, Bool, true, false, List, [], ◌∷◌}
-use Rattle.std.proofs.Common.{length}
-use Rattle.std.proofs.Common.{Option, Some, None, refl, sym, ap, ◌∙◌, subst, inl, inr, arith}
-use Rattle.std.specs.List.{position}
-use Rattle.std.specs.Prelude.{is_none, if◌then◌else◌, is_some, IsSome, nat_lt}
+use Rattle.std.proofs.Common.{◌≡◌, ◌≢◌, ℕ, suc, ◌/◌, ◌<◌, Bool, true, false, List, [], ◌∷◌, length, Some, None, refl}
+use Rattle.std.proofs.Common.{sym, ap, ◌∙◌, subst, inl, inr, arith}
 use Rattle.std.specs.List.{AllByRecursion}
-use Rattle.std.specs.Option.{option_map, option_map_or}
-use Rattle.std.proofs.lemmas.Bool.{cases_Bool, cases_eq, cases_lt, false≢true, lt-ltb, ltb-false}
-use Rattle.std.proofs.lemmas.Bool.Decides.{nat_tests}
+use Rattle.std.specs.Prelude.{if◌then◌else◌, is_some, IsSome, nat_lt}
+use Rattle.std.specs.Option.{option_map}
+use Rattle.std.proofs.lemmas.Bool.{cases_Bool, cases_eq, cases_lt, false≢true, lt-ltb}
 use Rattle.std.proofs.Math.Path.{fun_ext}
 use Rattle.page_disk.specs.Disk.{Image}
-use Rattle.volume_model.specs.Volumes.{all_slots, Fixed, head_of, resized, slots_at, slots_of, Volume, zero_page}
-use Rattle.volume_model.specs.Volumes.{Volumes}
-use Rattle.volume_model.specs.Refusals.{has_longer_parent, refusal}
+use Rattle.volume_model.specs.Volumes.{Fixed, head_of, resized, Volume, zero_page, Volumes}
+use Rattle.volume_model.specs.Refusals.{refusal}
 use Rattle.volume_model.specs.Steps.{Allowed, change, named_head}
 use Rattle.volume_model.specs.declared.command.Command.{Command}
 use Rattle.volume_model.specs.declared.command.Command.TheVariants as c
@@ -24,48 +20,36 @@ use Rattle.blob_meta.specs.declared.job.Job.{Job as Changes}
 use Rattle.blob_meta.specs.Faults.{is_thin}
 use Rattle.blob_meta.specs.Jobs.{resized_meta}
 use Rattle.blob_meta.specs.Repairs.{HasNoMarks}
-use Rattle.blob_meta.specs.Resolving.{resolved, slots_together, IsLawful}
+use Rattle.blob_meta.specs.Parents.{parent_of}
+use Rattle.md_chain.specs.Chain.{is_among}
 use Rattle.store_model.specs.Maps.{Metas, with_entry}
 use Rattle.store_model.specs.Shown.{content, fixed_of}
 use Rattle.store_model.specs.Phases.{Committing, replaced, Replacing}
 use Rattle.store_model.specs.StoreState.{live_of, shown, StoreState}
 use Rattle.store_model.specs.Asking.{IsResizeJob}
-use Rattle.store_model.proofs.Sets.{among_first}
-use Rattle.store_model.proofs.EmptySlots.{Any, leaves_elsewhere, leaves_given, leaves_resolved, resized_empty}
 use Rattle.store_model.specs.Copying.{LeavesEmpty}
 use Rattle.store_model.specs.Jobs.{IsStep, ReadsZeros, shown_of, with_clusters}
 use Rattle.store_model.specs.Steady.{AreSteady, CanBeWritten, IsSteady}
 use Rattle.store_model.specs.RunInvariant.{RunsWell}
-use Rattle.store_model.proofs.Cut.{length_cut, slot_kept, slot_past, slot_was}
-use Rattle.store_model.proofs.ClaimedZeros.{claimed_inside, zeroed_fresh, zeroed_is, zeros_read}
-use Rattle.store_model.proofs.InARow.{range_among}
-use Rattle.store_model.proofs.ZeroSlots.{filled_slot, other_slot, AreEmpty, IsZeroedAt}
-use Rattle.store_model.proofs.ZeroedBlob.{all_filled, lawful_zeroed, slot_filled, volume_zeroed, zeroed_steady}
-use Rattle.store_model.proofs.ZeroedBlob.{IsZeroed}
-use Rattle.blob_meta.specs.declared.fault.MetaFault.TheVariants.{HoleInThick}
-use Rattle.blob_meta.specs.Faults.{hole_in_thick}
-use Rattle.blob_meta.specs.Parents.{parent_of, slot}
-use Rattle.md_chain.specs.Chain.{is_among}
-use Rattle.store_model.specs.Places.{AreLeastClear, IsMapped}
+use Rattle.store_model.specs.Places.{AreLeastClear}
+use Rattle.store_model.proofs.Sets.{among_first}
+use Rattle.store_model.proofs.EmptySlots.{Any, leaves_elsewhere, leaves_given, leaves_resolved, resized_empty}
+use Rattle.store_model.proofs.ClaimedZeros.{zeros_read}
+use Rattle.store_model.proofs.ZeroSlots.{other_slot, AreEmpty, IsZeroedAt}
+use Rattle.store_model.proofs.ZeroedBlob.{volume_zeroed, IsZeroed}
 use Rattle.store_model.proofs.Elsewhere.{IsChildless}
 use Rattle.store_model.proofs.Known.{Known}
 use Rattle.store_model.proofs.Meanwhile.{blank_reading, reading}
 use Rattle.store_model.proofs.Moved.{live_shown, live_writable}
-use Rattle.store_model.proofs.OneReplacement.{all_steady, base_is, base_lawful, base_steady, base_resolved, IsReady}
-use Rattle.store_model.proofs.OneReplacement.{lawful_still, ready_by, some_pages}
-use Rattle.store_model.proofs.ResizeAsked.{added_zeros, can_resize, zeros_differ, zeros_lie, CanResize}
-use Rattle.store_model.proofs.ResizedBlob.{resized_but, resized_takes_none, thick_full}
+use Rattle.store_model.proofs.OneReplacement.{base_is, base_steady, IsReady, ready_by, some_pages}
+use Rattle.store_model.proofs.ResizeMeta as before
+use Rattle.store_model.proofs.ResizeAsked.{added_zeros, zeros_lie, CanResize}
 use Rattle.store_model.proofs.Shows.{or_empty}
-use Rattle.store_model.proofs.ShowsGiven.{by, childless_given, shown_given, shown_is, writable_childless}
+use Rattle.store_model.proofs.ShowsGiven.{by, childless_given, shown_given, shown_is}
 use Rattle.store_model.proofs.ShowsResized.{IsNoLonger, page_added, volume_resized}
-use Rattle.shown_volumes.proofs.SlotSums.{all_shown, slots_at_shown, slots_given, slots_in, slots_shown}
 use Rattle.store_model.proofs.Synced.{edited_here, edited_there}
 use Rattle.store_model.proofs.Writable.{AllWritable}
 use Rattle.shown_volumes.proofs.WithEntry.{given_here, given_elsewhere}
-
-no_some : (o : Option ℕ) → o ≡ None → IsSome o → ⊥
-no_some None none some = cc some
-no_some (Some x) none some = cc none
 
 module _ (known : Known) (unmarked : HasNoMarks known.p.base) where
   open known use {first, p, facts}
@@ -103,126 +87,28 @@ module _ (known : Known) (unmarked : HasNoMarks known.p.base) where
     abbrev commit : Committing
     commit = record { reply = r_.Ok; live = None; renews = renews }
 
-    -- ---- the volume, and what doesn't hold of it
-
-    abbrev x : Volume
-    x = by p (base_steady known unmarked) p.base (or_empty (p.live head)) head old
-
-    was : shown p head ≡ Some x
-    was = shown_is p (base_steady known unmarked) head
-        ∙ ap (λ o. option_map (by p (base_steady known unmarked) p.base (or_empty (p.live head)) head) o)
-        there
-
-    can : CanResize f (shown p) slots x
-    can = can_resize f (shown p) volume slots head x found was asked
-
-    slots_are : slots_of f x ≡ length old.map
-    slots_are = slots_shown f p.device.reads p.base (some_pages known) (or_empty (p.live head)) head old
-
-    slots_at_are : (h : ℕ) → slots_at f (shown p) h ≡ slots_in (p.base h)
-    slots_at_are h = slots_at_shown f p.device.reads (resolved p.base) (some_pages known) p.live h
-        ∙ ap (λ (m : Metas). slots_in (m h)) (base_resolved known unmarked)
-
-    all_are : all_slots f (shown p) ≡ slots_together p.super.md_len p.base
-    all_are = all_shown f p.device.reads (resolved p.base) (some_pages known) p.live
-        ∙ ap (slots_together p.super.md_len) (base_resolved known unmarked)
-
-    -- a blob that grows has no longer parent
-    no_longer : length old.map < slots → IsNoLonger p.base old (length old.map)
-    no_longer lt up parent of is =
-        let grows : nat_lt (slots_of f x) slots ≡ true = ap (λ n. nat_lt n slots) slots_are ∙ lt-ltb _ _ lt in
-        let none : has_longer_parent f (shown p) x (slots_of f x) ≡ false =
-        subst (λ b. (b && has_longer_parent f (shown p) x (slots_of f x)) ≡ false) grows can.short in
-        let one : nat_lt (slots_of f x) (slots_at f (shown p) up) ≡ false =
-        subst (λ o. option_map_or (λ q. nat_lt (slots_of f x) (slots_at f (shown p) q)) o false ≡ false) of none in
-        let le = ltb-false (slots_of f x) (slots_at f (shown p) up) one in
-        let long : slots_at f (shown p) up ≡ length parent.map = slots_at_are up ∙ ap slots_in is in
-        omega (arith, le, long, slots_are)
-
-    childless : IsChildless p.base head
-    childless = writable_childless p.base head old (base_lawful known unmarked).parents there can.writable
-
     -- ---- the metadata
 
-    all_empty : AreEmpty bare zeros
-    all_empty i among =
-        let x = zeros_lie (is_thin old.flags) (length old.map) slots i among in (
-          subst (λ n. i < n) (sym (length_cut {X = Option ℕ} old.map slots None)) x.1,
-          slot_kept old.map slots i x.1 ∙ slot_past old.map i x.0,
-        )
+    can : CanResize f (shown p) slots (by p (base_steady known unmarked) p.base (or_empty (p.live head)) head old)
+    can = before.can known unmarked runs volume slots asked head found old there claimed least one_each
 
-    had : (i c : ℕ) → slot bare i ≡ Some c → IsMapped p.base c
-    had i c at =
-        record { head = head; meta = old; there = there; place = i; in_slot = slot_was old.map slots i c at }
+    no_longer : length old.map < slots → IsNoLonger p.base old (length old.map)
+    no_longer = before.no_longer known unmarked runs volume slots asked head found old there claimed least one_each
+
+    childless : IsChildless p.base head
+    childless = before.childless known unmarked runs volume slots asked head found old there claimed least one_each
+
+    all_empty : AreEmpty bare zeros
+    all_empty = before.all_empty known unmarked runs volume slots asked head found old there claimed least one_each
 
     zeroed : IsZeroed bare new claimed
-    zeroed = zeroed_is known runs claimed least head bare zeros
-        (zeros_differ (is_thin old.flags) (length old.map) slots) all_empty had
+    zeroed = before.zeroed known unmarked runs volume slots asked head found old there claimed least one_each
 
     one_steady : IsSteady p.super head new
-    one_steady = zeroed_steady p.super head bare new claimed zeroed
-        (resized_but old slots p.super head (let large = can.large in grind (arith, nat_tests, large))
-        (base_steady known unmarked head old there)) (claimed_inside known runs claimed least)
-        (no_hole (is_thin old.flags) refl)
-      where
-        kept : (o : Option ℕ) → is_thin old.flags ≡ false → (i : ℕ) → i < length new.map → slot new i ≡ o → IsSome o
-        kept (Some c) thick i lt at = refl
-        kept None thick i lt at = absurd (elim (cases_lt i (length old.map)) [
-          | inl below ↦
-              let was : IsSome (slot old i) =
-              slot_filled old.map (thick_full old p.super head (base_steady known unmarked head old there) thick) i
-              below in
-              let in_bare : slot bare i ≡ slot old i =
-              slot_kept old.map slots i (omega (arith, lt, zeroed.long, length_cut {X = Option ℕ} old.map slots None))
-              in
-              elim (zeroed.each i) [
-                | inl same ↦
-                    let bad : IsSome (slot new i) = subst (λ (o : Option ℕ). IsSome o) (sym (same ∙ in_bare)) was in
-                    no_some (slot new i) at bad
-                | inr x ↦ let bad = sym at ∙ x.at in cc bad
-              ]
-          | inr behind ↦
-              let among : is_among i zeros ≡ true = subst (λ b. is_among i (added_zeros b (length old.map) slots) ≡
-              true)
-              (sym thick)
-              (range_among (length old.map) (slots - length old.map) i behind
-              (omega (arith, behind, lt, zeroed.long, length_cut {X = Option ℕ} old.map slots None))) in
-              let some = filled_slot bare zeros claimed (zeros_differ (is_thin old.flags) (length old.map) slots)
-              all_empty one_each i among in
-              no_some (slot new i) at some
-        ])
-
-        no_hole : (b : Bool) → is_thin old.flags ≡ b → hole_in_thick old.flags new.map ≡ None
-        no_hole true is = subst (λ b. (if b then None else option_map HoleInThick (position is_none new.map)) ≡ None)
-            (sym is) refl
-        no_hole false is = subst (λ b. (if b then None else option_map HoleInThick (position is_none new.map)) ≡ None)
-            (sym is)
-            (ap (λ o. option_map HoleInThick o) (all_filled new.map (λ i lt. kept (slot new i) is i lt refl)))
+    one_steady = before.one_steady known unmarked runs volume slots asked head found old there claimed least one_each
 
     steady : AreSteady p.super all
-    steady = all_steady known unmarked head new one_steady
-
-    few_with : (m : Meta) → length m.map ≡ slots → slots_together p.super.md_len (with_entry p.base head m) ≤ 2 ^ 24
-    few_with m long =
-        let large = can.large in
-        let together : (all_slots f (shown p) - slots_of f x) + slots ≤ 2 ^ 24 = grind (arith, nat_tests, large) in
-        let counted : slots_together p.super.md_len (with_entry p.base head m) + length old.map
-        ≡ slots_together p.super.md_len p.base + length m.map =
-        ap (λ o. slots_together p.super.md_len (with_entry p.base head m) + slots_in o) (sym there)
-        ∙ slots_given p.super.md_len p.base head m (base_steady known unmarked head old there).stored.low in
-        omega (arith, together, counted, all_are, slots_are, long)
-
-    bare_few : slots_together p.super.md_len (with_entry p.base head bare) ≤ 2 ^ 24
-    bare_few = few_with bare (length_cut {X = Option ℕ} old.map slots None)
-
-    all_few : slots_together p.super.md_len all ≤ 2 ^ 24
-    all_few = few_with new (zeroed.long ∙ length_cut {X = Option ℕ} old.map slots None)
-
-    all_lawful : IsLawful p.super.md_len all
-    all_lawful = lawful_zeroed p.super.md_len p.base head bare new claimed zeroed
-        (zeroed_fresh known runs claimed least head bare zeros
-        (zeros_differ (is_thin old.flags) (length old.map) slots) all_empty had)
-        (lawful_still known unmarked head bare (resized_takes_none p.base head old slots there) bare_few) all_few
+    steady = before.steady known unmarked runs volume slots asked head found old there claimed least one_each
 
     base_now : replaced p.base r ≡ all
     base_now = base_is known unmarked head new one_steady r head_is new_is
@@ -350,7 +236,8 @@ module _ (known : Known) (unmarked : HasNoMarks known.p.base) where
 
     pub ready : IsReady p claimed (c.Resize volume slots) commit new r
     ready = ready_by known unmarked head new one_steady r head_is new_is claimed (c.Resize volume slots) commit
-        all_lawful all_few step
+        (before.all_lawful known unmarked runs volume slots asked head found old there claimed least one_each)
+        (before.all_few known unmarked runs volume slots asked head found old there claimed least one_each) step
 
   -- what a resize asks for is ready, with the clusters that are claimed for it
   pub resize_ready : p.stopped ≡ None → (command : Command) (changes : Changes) (commit : Committing)

@@ -1,50 +1,24 @@
 -- The metadata of a blob with another number of slots: it is steady, and with it all metadata is lawful.
-use Rattle.std.proofs.Common.{◌≡◌, ℕ, ◌≤◌, ◌^◌, true, List, [], ◌∷◌, Option, Some, None, refl, sym, ◌∙◌}
+use Rattle.std.proofs.Common.{◌≡◌, ℕ, ◌≤◌, ◌^◌, true, Option, Some, None, sym, ◌∙◌}
 use Rattle.std.proofs.Common.{subst, false, arith}
 use Rattle.std.specs.Prelude.{if◌then◌else◌, is_none}
 use Rattle.std.specs.List.{position}
 use Rattle.std.specs.Option.{option_map}
 use Rattle.super_block.specs.declared.page.Super.{Super}
 use Rattle.blob_meta.specs.declared.meta.Meta.{Meta}
-use Rattle.blob_meta.specs.declared.fault.MetaFault.{MetaFault}
 use Rattle.blob_meta.specs.declared.fault.MetaFault.TheVariants as faults
-use Rattle.blob_meta.specs.Faults.{bad_mark, cluster_outside, first_some, hole_in_thick}
 use Rattle.blob_meta.specs.Faults.{is_thin}
-use Rattle.blob_meta.specs.Faults.{map_fault, meta_fault, too_large, unknown_flag}
 use Rattle.blob_meta.specs.Jobs.{resized_meta}
 use Rattle.blob_meta.specs.Parents.{is_read_only}
 use Rattle.store_model.specs.Maps.{Metas}
 use Rattle.store_model.specs.Regions.{region_of}
 use Rattle.store_model.specs.Steady.{IsSteady}
 use Rattle.store_model.proofs.Cut.{length_cut, slot_was}
-use Rattle.store_model.proofs.Inside.{inside_slot, none_of_map, none_second}
+use Rattle.store_model.proofs.Faultless.{passes}
+use Rattle.store_model.proofs.Inside.{inside_slot, none_of_map}
 use Rattle.store_model.proofs.ZeroedBlob.{IsSteadyBut}
 use Rattle.std.proofs.lemmas.Bool.Decides.{nat_tests}
 use Rattle.store_model.proofs.LawfulGiven.{TakesNone}
-
--- the tests of metadata without fault
-record Passes (fixed clusters : ℕ) (m : Meta) : Type 0 where
-  flags : unknown_flag m.flags ≡ None
-  map : cluster_outside fixed clusters m.map ≡ None
-  full : hole_in_thick m.flags m.map ≡ None
-  marks : bad_mark m.internal ≡ None
-
-passes : (fixed clusters : ℕ) (m : Meta) → meta_fault fixed clusters m ≡ None → Passes fixed clusters m
-passes fixed clusters m none =
-    let rest = none_first (unknown_flag m.flags) _ none in
-    let behind = none_first (map_fault fixed clusters m.map) _ rest.1 in
-    let last = none_first (hole_in_thick m.flags m.map) _ behind.1 in
-    record {
-      flags = rest.0;
-      map = none_second (too_large m.map) (cluster_outside fixed clusters m.map) [] behind.0;
-      full = last.0;
-      marks = (none_first (bad_mark m.internal) [] last.1).0;
-    }
-  where
-    none_first : (o : Option MetaFault) (os : List (Option MetaFault)) → first_some (o ∷ os) ≡ None
-        → (o ≡ None) × (first_some os ≡ None)
-    none_first None os none = (refl, none)
-    none_first (Some x) os none = absurd (cc none)
 
 -- a blob that isn't thin has no empty slot
 pub thick_full : (m : Meta) (s : Super) (head : ℕ) → IsSteady s head m → is_thin m.flags ≡ false

@@ -16,13 +16,14 @@ use Rattle.blob_meta.specs.declared.fault.MetaFault.{MetaFault}
 use Rattle.blob_meta.specs.declared.fault.MetaFault.TheVariants as faults
 use Rattle.descriptors.specs.Runs.{at_most}
 use Rattle.blob_meta.specs.declared.meta.Meta.{Meta}
-use Rattle.blob_meta.specs.Faults.{bad_mark, first_some, hole_in_thick, is_bad_mark, map_fault, meta_fault}
-use Rattle.blob_meta.specs.Faults.{unknown_flag}
+use Rattle.blob_meta.specs.Faults.{bad_mark, is_bad_mark, meta_fault}
 use Rattle.blob_meta.specs.Items.{HasDistinctNames}
 use Rattle.blob_meta.specs.Parents.{slot}
 use Rattle.blob_meta.specs.Repairs.{HasNoMarks}
 use Rattle.blob_meta.specs.Resolving.{is_kept, mark_of, resolved, resolved_one, without_marks}
 use Rattle.store_model.specs.Maps.{Metas}
+use Rattle.store_model.proofs.Faultless.{all_pass, passes}
+use Rattle.store_model.proofs.Inside.{none_of_map}
 use Rattle.store_model.specs.Places.{IsMapped}
 use Rattle.store_model.specs.Regions.{region_of}
 use Rattle.store_model.specs.Steady.{AreNamed, AreSteady, AreStored, CanBeWritten, IsStored}
@@ -143,62 +144,21 @@ written_without xs key = written_filtered (λ x. not (bytes_eq x.key key)) xs
 
 -- ---- faults
 
-first_none : (x : Option MetaFault) (rest : List (Option MetaFault)) → first_some (x ∷ rest) ≡ None → x ≡ None
-first_none None rest none = refl
-first_none (Some x) rest none = absurd (cc none)
-
-then_none : (x : Option MetaFault) (rest : List (Option MetaFault)) → first_some (x ∷ rest) ≡ None
-    → first_some rest ≡ None
-then_none None rest none = none
-then_none (Some x) rest none = absurd (cc none)
-
-no_fault : (a b c e : Option MetaFault) → a ≡ None → b ≡ None → c ≡ None → e ≡ None
-    → first_some (a ∷ b ∷ c ∷ e ∷ []) ≡ None
-no_fault None None None None p q r s = refl
-no_fault (Some x) b c e p q r s = absurd (cc p)
-no_fault None (Some x) c e p q r s = absurd (cc q)
-no_fault None None (Some x) e p q r s = absurd (cc r)
-no_fault None None None (Some x) p q r s = absurd (cc s)
-
-found_none : (f : Xattr → MetaFault) (o : Option Xattr) → option_map f o ≡ None → o ≡ None
-found_none f None none = refl
-found_none f (Some x) none = absurd (cc none)
-
 marks_fine : (xs : List Xattr) (test : Xattr → Bool) → bad_mark xs ≡ None → bad_mark (filter test xs) ≡ None
 marks_fine xs test none =
-    ap (λ o. option_map fault_of o) (none_filtered test is_bad_mark xs (found_none fault_of (find is_bad_mark xs) none))
+    ap (λ o. option_map fault_of o)
+    (none_filtered test is_bad_mark xs (none_of_map fault_of (find is_bad_mark xs) none))
   where
     fault_of : Xattr → MetaFault
     fault_of x = faults.BadMark x.key (at_most (2 ^ 32 - 1) (length x.value))
 
-module _ (fixed clusters : ℕ) (m : Meta) (fine : meta_fault fixed clusters m ≡ None) where
-  abbrev flag : Option MetaFault
-  flag = unknown_flag m.flags
-
-  abbrev in_map : Option MetaFault
-  in_map = map_fault fixed clusters m.map
-
-  abbrev hole : Option MetaFault
-  hole = hole_in_thick m.flags m.map
-
-  abbrev mark : Option MetaFault
-  mark = bad_mark m.internal
-
-  behind_flag : first_some (in_map ∷ hole ∷ mark ∷ []) ≡ None
-  behind_flag = then_none flag (in_map ∷ hole ∷ mark ∷ []) fine
-
-  behind_map : first_some (hole ∷ mark ∷ []) ≡ None
-  behind_map = then_none in_map (hole ∷ mark ∷ []) behind_flag
-
-  fine_mark : mark ≡ None
-  fine_mark = first_none mark [] (then_none hole (mark ∷ []) behind_map)
-
-  fine_without : meta_fault fixed clusters (without_marks m) ≡ None
-  fine_without = no_fault flag in_map hole _
-      (first_none flag (in_map ∷ hole ∷ mark ∷ []) fine) (first_none in_map (hole ∷ mark ∷ []) behind_flag)
-      (first_none hole (mark ∷ []) behind_map)
-      (marks_fine (without m.internal (codes "SNAPRM")) (λ x. not (bytes_eq x.key (codes "SNAPTMP")))
-      (marks_fine m.internal (λ x. not (bytes_eq x.key (codes "SNAPRM"))) fine_mark))
+fine_without : (fixed clusters : ℕ) (m : Meta) → meta_fault fixed clusters m ≡ None
+    → meta_fault fixed clusters (without_marks m) ≡ None
+fine_without fixed clusters m fine =
+    let was = passes fixed clusters m fine in
+    all_pass _ _ _ _ was.flags was.map was.full
+    (marks_fine (without m.internal (codes "SNAPRM")) (λ x. not (bytes_eq x.key (codes "SNAPTMP")))
+    (marks_fine m.internal (λ x. not (bytes_eq x.key (codes "SNAPRM"))) was.marks))
 
 -- ---- what the store can hold
 

@@ -25,6 +25,7 @@ use Rattle.store_model.specs.Steady.{AreStored}
 use Rattle.store_model.proofs.Contents.{HasParents, same_content}
 use Rattle.store_model.proofs.Inside.{inside_slot}
 use Rattle.store_model.proofs.Resolved.{resolved_stored}
+pub use Rattle.store_model.proofs.Resolved.{steady_resolved}
 
 pub use Rattle.shown_volumes.specs.Shown.{or_empty}
 

@@ -1,26 +1,7 @@
 -- A blob with claimed clusters in slots that were empty: it is steady, all metadata is lawful with it, and it shows
 -- what it showed where the clusters read as zeros and so did the slots.
-use Rattle.std.proofs.Common.{
-  ◌≡◌,
-  ◌≢◌,
-  ◌⊎◌,
-  ℕ,
-  zero,
-  suc,
-  ◌+◌,
-  ◌*◌,
-  ◌/◌,
-  ◌%◌,
-  ◌<◌,
-  ◌≤◌,
-  ◌^◌,
-  Bool,
-  true,
-  false,
-  List,
-  [],
-  ◌∷◌,
-}
+use Rattle.std.proofs.Common.{[], ◌≡◌, ◌≢◌, ◌⊎◌, ℕ, zero, suc, ◌+◌, ◌*◌, ◌/◌, ◌%◌, ◌<◌, ◌≤◌, ◌^◌, Bool, true, false}
+use Rattle.std.proofs.Common.{List, ◌∷◌}
 use Rattle.std.proofs.Common.{length, map, Option, Some, None, refl, sym, ap, ◌∙◌, subst, inl, inr, arith}
 use Rattle.std.specs.Prelude.{find, is_none, slice_index_or, IsSome}
 use Rattle.std.specs.List.{position, range_with_len}
@@ -38,7 +19,8 @@ use Rattle.blob_meta.specs.Says.{without_bit_1}
 use Rattle.md_chain.specs.Chain.{blob_id}
 use Rattle.store_model.specs.Regions.{region_of}
 use Rattle.store_model.specs.Steady.{CanBeWritten, IsSteady, IsUnmarked, NamesHead}
-use Rattle.store_model.proofs.NewBlob.{all_pass, clear_flags, empty_slot, few_pass, known_flags}
+use Rattle.store_model.proofs.Faultless.{all_pass}
+use Rattle.store_model.proofs.NewBlob.{clear_flags, empty_slot, few_pass, known_flags}
 use Rattle.blob_meta.specs.Jobs.{new_meta}
 use Rattle.std.proofs.lemmas.List.{length-replicate}
 use Rattle.blob_meta.specs.Parents.{is_read_only, parent_of, slot}

@@ -1,47 +1,21 @@
--- How a job is laid on pages, and what is known of it while it runs.
-use Rattle.std.specs.Prelude.{
-  ◌≡◌,
-  ◌≢◌,
-  ◌⊎◌,
-  ℕ,
-  ◌+◌,
-  ◌*◌,
-  ◌/◌,
-  ◌^◌,
-  ◌<◌,
-  ◌≤◌,
-  if◌then◌else◌,
-  Bool,
-  true,
-  false,
-  List,
-  [],
-  ◌∷◌,
-}
-use Rattle.std.specs.Prelude.{◌++◌}
-use Rattle.std.specs.Prelude.{length, map, Option, Some, None, IsSome, is_some}
-use Rattle.std.specs.List.{AllByRecursion, flat_map, range_with_len}
-use Rattle.std.specs.Option.{option_map, option_map_or}
+-- What is left of a running job, and what is known of it.
+use Rattle.std.specs.Prelude.{◌≡◌, ◌≢◌, ℕ, ◌/◌, ◌^◌, ◌<◌, ◌≤◌, true, false, List, [], ◌∷◌, ◌++◌, length, Some, None}
+use Rattle.std.specs.Prelude.{IsSome}
+use Rattle.std.specs.List.{AllByRecursion}
+use Rattle.std.specs.Option.{option_map_or}
 use Rattle.page_disk.specs.Disk.{Image}
-use Rattle.pools.specs.Pool.{clear_in}
-use Rattle.descriptors.specs.declared.item.Item.{Item}
 use Rattle.super_block.specs.declared.page.Super.{Super}
-use Rattle.super_block.specs.Numbers.{cluster_pages_of, fixed_clusters_of}
-use Rattle.volume_model.specs.Volumes.{Volume, Volumes, zero_page}
+use Rattle.super_block.specs.Numbers.{cluster_pages_of}
+use Rattle.volume_model.specs.Volumes.{Volume, Volumes}
 use Rattle.volume_model.specs.Xattrs.{Xattrs}
 use Rattle.volume_model.specs.Steps.{Allowed, change}
 use Rattle.volume_model.specs.declared.command.Command.{Command}
 use Rattle.volume_model.specs.declared.reply.Reply.TheVariants as r
 use Rattle.blob_meta.specs.declared.meta.Meta.{Meta}
-use Rattle.blob_meta.specs.declared.job.Replacement.{Replacement}
-use Rattle.blob_meta.specs.Items.{IsItemsOf}
 use Rattle.blob_meta.specs.Repairs.{HasNoMarks}
 use Rattle.blob_meta.specs.Resolving.{IsLawful, resolved, slots_together}
 use Rattle.md_chain.specs.Chain.{is_among}
-use Rattle.md_chain.specs.Packing.{parts_of}
-use Rattle.md_chain.specs.Planned.{chain_pages}
-use Rattle.md_chain.specs.declared.plan.PlannedPage.{PlannedPage}
-use Rattle.store_model.specs.Maps.{Map, Metas, Chains, with_option}
+use Rattle.store_model.specs.Maps.{Map, Metas, Chains}
 use Rattle.store_model.specs.Regions.{region_of}
 use Rattle.store_model.specs.Scans.{MetaAt}
 use Rattle.store_model.specs.Shown.{fixed_of, shown_by}
@@ -50,144 +24,15 @@ use Rattle.store_model.specs.Rows.{InJob, IsForMetadata, OpenClaim, Rows}
 use Rattle.store_model.specs.Steady.{AreNamed, CanBeWritten, IsStored}
 use Rattle.store_model.specs.Inserting.{with_slot}
 use Rattle.store_model.specs.Copying.{IsWanted, LeavesEmpty}
-use Rattle.store_model.specs.Places.{all_set, AreDistinct, AreLeastClear, IsMapped}
+use Rattle.store_model.specs.Places.{AreDistinct}
 use Rattle.store_model.specs.Phases.{Phase, Committing, with_live, Marks, Zeros, Writes, Replaces, Erases, Frees}
-use Rattle.store_model.specs.Phases.{Replacing, page_in, held_in, taken_by, taken_in, has_commit, replaced, rechained}
-use Rattle.store_model.specs.Phases.{behind, chain_before, OnlyMend}
+use Rattle.store_model.specs.Phases.{Replacing, page_in, held_in, taken_in, has_commit, replaced, rechained, behind}
+use Rattle.store_model.specs.Phases.{chain_before, OnlyMend}
 use Rattle.store_model.specs.StoreState.{ForCommand, ForInsert, ForRepair, JobState, live_of, Service, StoreState}
-
--- ---- how changes are laid on pages
-
--- how many fresh pages the metadata needs: those of its chain but for the head
-pub record Needs (new : Meta) (count : ℕ) : Type 0 where
-  pub items : List Item
-  pub are : IsItemsOf new items
-  pub chain : length (parts_of items) ≡ count + 1
-
--- Fewer pages are clear than the metadata of a blob needs, which is there or new: a new one needs one for its head too.
-pub record LacksPages (there : Bool) (new : Meta) (bits : List Bool) : Type 0 where
-  pub count : ℕ
-  pub needs : Needs new count
-  pub lacking : clear_in bits < (if there then count else count + 1)
-
--- so many pages are taken for new metadata, the head's among them where no blob is there, and none for an erased blob
-abbrev pub Takes : Bool → Option Meta → ℕ → Type 0
-Takes there (Some new) count = (fresh : ℕ) × Needs new fresh × (count ≡ (if there then fresh else fresh + 1))
-Takes there None count = count ≡ 0
-
--- So many are taken for replacements, each over what the one before it leaves.
-abbrev pub AllTake : Metas → List Replacement → ℕ → Type 0
-AllTake base [] count = count ≡ 0
-AllTake base (x ∷ xs) count =
-    (first : ℕ) × (others : ℕ) × Takes (is_some (base x.head)) x.new first
-    × AllTake (with_option base x.head x.new) xs others × (count ≡ first + others)
-
--- fewer pages are clear than the replacements take
-pub record LacksPagesFor (base : Metas) (list : List Replacement) (bits : List Bool) : Type 0 where
-  pub count : ℕ
-  pub take : AllTake base list count
-  pub lacking : clear_in bits < count
-
--- The planned pages are just those on which the items of the new metadata are packed.
-pub record IsPacked (new : Meta) (head : ℕ) (fresh : List ℕ) (planned : List PlannedPage) : Type 0 where
-  pub items : List Item
-  pub are : IsItemsOf new items
-  pub pages : planned ≡ chain_pages items head fresh
-
--- the places of planned pages
-abbrev pub places_of : List PlannedPage → List ℕ
-places_of plan = map (λ x. x.place) plan
-
--- New metadata is packed on the blob's head and on the least clear pages, as many as it needs, and is read from these.
-pub record IsPlannedFor (s : Super) (pages : List Bool) (new : Meta) (r : Replacing) : Type 0 where
-  pub needs : Needs new (length r.fresh)
-  pub least : AreLeastClear pages (taken_by r)
-  pub packed : IsPacked new r.head r.fresh r.planned
-  pub places : places_of r.planned ≡ r.head ∷ r.fresh
-  pub says : MetaAt (page_in r.planned) (region_of s) r.head new (r.head ∷ r.fresh)
-
--- A blob that is there is erased: nothing but a page of zeros is laid, over its head's.
-abbrev pub IsErasure : Replacing → Type 0
-IsErasure r = (r.fresh ≡ []) × (r.makes ≡ false) × (r.planned ≡ record { place = r.head; page = zero_page } ∷ [])
-
--- new metadata is packed on pages, and an erased blob has none
-abbrev pub IsJobPlanned : Super → List Bool → Option Meta → Replacing → Type 0
-IsJobPlanned s pages (Some new) r = IsPlannedFor s pages new r
-IsJobPlanned s pages None r = IsErasure r
-
--- The clusters in maps before and after a replacement: one that no map has any more is freed, and one that none had was
--- claimed.
-pub record MovesClusters (s : Super) (base later : Metas) (freed claimed : List ℕ) : Type 0 where
-  pub kept : (cluster : ℕ) → IsMapped base cluster → IsMapped later cluster ⊎ (is_among cluster freed ≡ true)
-  pub let_go : (cluster : ℕ) → is_among cluster freed ≡ true
-      → (fixed_clusters_of s ≤ cluster) × IsMapped base cluster × ¬ IsMapped later cluster
-  pub gained : (cluster : ℕ) → IsMapped later cluster → IsMapped base cluster ⊎ (is_among cluster claimed ≡ true)
-  pub filled : (cluster : ℕ) → is_among cluster claimed ≡ true → IsMapped later cluster
-
--- A replacement over this metadata and these chains, laid on pages of these that are clear.
-pub record IsLaid (s : Super) (base : Metas) (chains : Chains) (pages : List Bool) (claimed : List ℕ) (x : Replacement)
-    (r : Replacing) : Type 0 where
-  pub head : r.head ≡ x.head
-  pub new : r.new ≡ x.new
-  pub chain : chains r.head ≡ chain_before r
-  -- where the blob is new nothing is erased
-  pub unerased : r.makes ≡ true → r.old ≡ []
-  pub planned : IsJobPlanned s pages x.new r
-  pub clusters : MovesClusters s base (replaced base r) r.freed claimed
-
--- each over what the one before it leaves
-abbrev pub AreLaid : Super → Metas → Chains → List Bool → List ℕ → List Replacement → List Replacing → Type 0
-AreLaid s base chains pages claimed [] [] = Unit {0}
-AreLaid s base chains pages claimed (x ∷ xs) (r ∷ rs) =
-    IsLaid s base chains pages claimed x r
-    × AreLaid s (replaced base r) (rechained chains r) (all_set pages (taken_by r) true) [] xs rs
-AreLaid s base chains pages claimed _ _ = ⊥
-
--- ---- clusters of zeros
-
--- the metadata with these clusters in these slots
-abbrev pub with_clusters : Meta → List ℕ → List ℕ → Meta
-with_clusters m (place ∷ slots) (cluster ∷ clusters) = with_clusters (with_slot m place cluster) slots clusters
-with_clusters m _ _ = m
-
--- the first replacement's metadata with them
-abbrev pub with_zeroed : List Replacement → List ℕ → List ℕ → List Replacement
-with_zeroed [] slots clusters = []
-with_zeroed (x ∷ xs) slots clusters = record x { new = option_map (λ m. with_clusters m slots clusters) x.new } ∷ xs
-
--- The clusters that slots of zeros get: the least clear ones, one each; or none at all, where fewer are clear.
-pub record AreForZeros (bits : List Bool) (slots claimed : List ℕ) : Type 0 where
-  pub least : AreLeastClear bits claimed
-  pub count : (length claimed ≡ length slots) ⊎ ((claimed ≡ []) × (clear_in bits < length slots))
-
--- the pages of these clusters
-abbrev pub pages_in : Super → List ℕ → List ℕ
-pages_in s clusters =
-    flat_map (λ cluster. range_with_len (cluster * cluster_pages_of s) (cluster_pages_of s)) clusters
-
--- each of them is overwritten with zeros
-abbrev pub zeroing : Super → List ℕ → List Phase
-zeroing s clusters = map Zeros (pages_in s clusters)
-
--- an image reads zeros at each page of these clusters
-abbrev pub ReadsZeros : Super → List ℕ → Image → Type 0
-ReadsZeros s clusters image =
-    (page : ℕ) → is_among (page / cluster_pages_of s) clusters ≡ true → image page ≡ zero_page
-
--- the pages that are still to be overwritten with zeros, before the next replacement
-abbrev pub zeros_in : List Phase → List ℕ
-zeros_in [] = []
-zeros_in (Zeros page ∷ rest) = page ∷ zeros_in rest
-zeros_in (Replaces r commit ∷ rest) = []
-zeros_in (_ ∷ rest) = zeros_in rest
-
--- an image reads zeros in these clusters, but for pages that are still to be overwritten
-abbrev pub AreZeroed : Super → List ℕ → List ℕ → Image → Type 0
-AreZeroed s clusters zeros image =
-    (page : ℕ) → is_among (page / cluster_pages_of s) clusters ≡ true → is_among page zeros ≡ false
-    → image page ≡ zero_page
-
--- ---- what is left of a job
+pub use Rattle.store_model.specs.Laid.{AllTake, AreLaid, IsErasure, IsJobPlanned, IsLaid, IsPacked, IsPlannedFor}
+pub use Rattle.store_model.specs.Laid.{LacksPages, LacksPagesFor, MovesClusters, Needs, places_of, Takes}
+pub use Rattle.store_model.specs.ZeroedClusters.{AreForZeros, AreZeroed, pages_in, ReadsZeros, with_clusters}
+pub use Rattle.store_model.specs.ZeroedClusters.{with_zeroed, zeroing, zeros_in}
 
 -- A replacement can be made once its fresh pages are written: it is planned on places that differ, the store can hold
 -- the new metadata, and all metadata resolves with it to lawful one, in which each SNAP names a head.

@@ -80,6 +80,8 @@ pub record StateLaws : Type 0 where
   -- a store with nothing left to repair stays so, and so does one that serves a command or has stopped
   pub repaired_stays : (told : Bool) (s : Super) (first : Volumes) (script : ℕ → List Command) (p q : StoreState)
       (kind : Kind) → RunInvariant s first script p → Turn told p kind q → IsRepaired p → IsRepaired q
+  -- where such a store runs and has no job, no blob is marked
+  pub repaired_unmarked : (p : StoreState) → IsRepaired p → p.stopped ≡ None → p.job ≡ None → HasNoMarks p.base
   -- where no blob is marked, the metadata that a job is to write can be written, at a head of the region, with the
   -- least clear clusters in the slots that are to read as zeros
   pub writable : (s : Super) (first : Volumes) (script : ℕ → List Command) (p : StoreState) (command : Command)

@@ -1,28 +1,9 @@
 -- The turn begins_insert.
-use Rattle.std.proofs.Common.{
-  ◌≡◌,
-  ◌≢◌,
-  ℕ,
-  ◌≤◌,
-  ◌^◌,
-  ◌++◌,
-  List,
-  [],
-  ◌∷◌,
-  Option,
-  Some,
-  None,
-  true,
-  false,
-  refl,
-  sym,
-  ap,
-  ◌∙◌,
-}
-use Rattle.std.proofs.Common.{subst, inl, inr, arith}
+use Rattle.std.proofs.Common.{◌≡◌, ◌≢◌, ◌≤◌, ◌^◌, ◌++◌, List, [], ◌∷◌, Option, Some, None, true, false, refl, sym, ap}
+use Rattle.std.proofs.Common.{◌∙◌, subst, inl, inr, arith}
 use Rattle.std.specs.Option.{option_map_or}
 use Rattle.std.proofs.lemmas.Bool.{cases_Bool, cases_eq}
-use Rattle.std.proofs.lemmas.List.{append-nil}
+use Rattle.std.specs.Prelude.{◌/◌}
 use Rattle.super_block.specs.Numbers.{cluster_pages_of}
 use Rattle.blob_meta.specs.declared.meta.Meta.{Meta}
 use Rattle.blob_meta.specs.Repairs.{HasNoMarks}
@@ -32,18 +13,7 @@ use Rattle.store_model.specs.Inserting.{with_slot}
 use Rattle.store_model.specs.Jobs.{CanReplace, gained_by, InsertStands, IsPlannedFor, JobStands, Lays, PutsClaim}
 use Rattle.store_model.specs.Steady.{AreNamed, AreSteady, IsSteady, IsStored}
 use Rattle.store_model.specs.Maps.{Metas, with_entry}
-use Rattle.store_model.specs.Phases.{
-  erasing,
-  held_in,
-  page_in,
-  Phase,
-  rechained,
-  replaced,
-  Replaces,
-  Replacing,
-  taken_by,
-}
-use Rattle.store_model.specs.Phases.{behind, writing}
+use Rattle.store_model.specs.Phases.{phases_of, erasing, page_in, Phase, replaced, Replaces, Replacing, taken_by}
 use Rattle.store_model.specs.Places.{all_set, AreDistinct, claimed_by, HasClaim, held_by, UsedPages}
 use Rattle.store_model.specs.Regions.{region_of}
 use Rattle.store_model.specs.Rows.{InJob, OpenClaim, Row, Stage, with_row}
@@ -59,12 +29,11 @@ use Rattle.store_model.proofs.Heads.{replaced_is}
 use Rattle.store_model.proofs.Inside.{IsInside}
 use Rattle.store_model.proofs.InsertedBlob.{inserted_steady, lawful_inserted, slots_inserted}
 use Rattle.store_model.proofs.Known.{Known}
-use Rattle.std.specs.Prelude.{◌/◌}
 use Rattle.store_model.proofs.LeftToDo.{no_place, chain_new}
 use Rattle.store_model.proofs.OneReplacement.{all_steady, base_lawful, base_steady, base_resolved}
 use Rattle.store_model.proofs.Over.{Effect, nothing, stays, TurnLaw}
-use Rattle.store_model.proofs.Phases.{held_behind, held_clearing, lays_behind, lays_clearing, old_pages, none_taken}
-use Rattle.store_model.proofs.Phases.{leads_behind, leads_clearing, puts_behind}
+use Rattle.store_model.proofs.Phases.{old_pages, puts_behind}
+use Rattle.store_model.proofs.PhasesOfOne.{held_one, lays_one, leads_one, some_phase}
 use Rattle.store_model.proofs.RowsKept.{row_here, row_other, way_kept}
 use Rattle.store_model.proofs.Sets.{are_distinct}
 use Rattle.store_model.proofs.Shaped.{holding_may, none_without, Serves, shaped_with}
@@ -171,7 +140,7 @@ module _ (known : Known) where
     rest = erasing r.old r.old []
 
     abbrev todo : List Phase
-    todo = writing r.fresh (Replaces r None ∷ rest)
+    todo = phases_of r None []
 
     abbrev job : JobState
     job = record { serves = ForInsert row; freeze = None; claimed = []; written = []; todo = todo }
@@ -185,14 +154,6 @@ module _ (known : Known) where
       job = Some job;
       pages = all_set p.pages (taken_by r) true;
     }
-
-    held : held_in todo ≡ taken_by r
-    held = held_behind r.fresh (Replaces r None ∷ rest) ∙ ap (λ l. taken_by r ++ l) (none_taken r.old r.old)
-        ∙ append-nil (taken_by r)
-
-    leads : behind p.base todo ≡ all
-    leads = leads_behind p.base r.fresh (Replaces r None ∷ rest) ∙ leads_clearing (replaced p.base r) r.old r.old
-        ∙ base_now
 
     here : now.rows row ≡ next
     here = row_here p.rows row next row refl
@@ -219,16 +180,12 @@ module _ (known : Known) where
     stands : JobStands now job
     stands = record {
       lays = subst (λ l. Lays p.super p.base p.chains l [] todo) (sym gained)
-          (lays_behind p.super p.base p.chains (claim.cluster ∷ []) [] r.fresh (Replaces r None ∷ rest) (
-            can,
-            held_clearing r.old r.old (λ e. e) ∙ sym (append-nil r.old)
-                ∙ ap (λ l. r.old ++ l) (sym (none_taken r.old r.old)),
-            lays_clearing p.super (replaced p.base r) (rechained p.chains r) r.old r.old (λ x among. among),
-          ));
-      distinct = subst AreDistinct (sym held) (are_distinct p.pages (taken_by r) planned.least);
+          (lays_one r None p.super p.base p.chains (claim.cluster ∷ []) can);
+      distinct = subst AreDistinct (sym (held_one r None)) (are_distinct p.pages (taken_by r) planned.least);
       served = λ c bad. absurd (cc bad);
       keeps = λ none other. absurd (other row refl);
-      settles = λ other. subst HasNoMarks (sym leads) (λ h m is. (all_are h m is).unmarked);
+      settles = λ other. subst HasNoMarks (sym (leads_one r None p.base ∙ base_now))
+          (λ h m is. (all_are h m is).unmarked);
       mends = λ bad. absurd (cc bad);
       zeroed = λ page among out. absurd (no_place [] (page / cluster_pages_of p.super) among refl);
       inserts = λ c serves.
@@ -263,7 +220,7 @@ module _ (known : Known) where
             chains = well.chains;
             live = well.live;
             no_live = well.no_live;
-            pages = subst (UsedPages p.super.md_len now.pages p.chains) (sym held)
+            pages = subst (UsedPages p.super.md_len now.pages p.chains) (sym (held_one r None))
                 (used_begun p.super.md_len p.pages p.chains (taken_by r) used planned.least);
             clusters = used_still p.rows now.rows p.job now.job claims_same claimed_same p.super p.clusters p.base
                 well.clusters;
@@ -297,13 +254,9 @@ module _ (known : Known) where
           halted = λ at is. absurd (let bad = sym t.runs ∙ is in cc bad);
           unfinished = λ j is.
               let same : job ≡ j = cc is in
-              subst (λ (i : JobState). i.todo ≢ []) same (some_phase r.fresh);
+              subst (λ (i : JobState). i.todo ≢ []) same (some_phase r None);
         } in
         subst (RunInvariant s first script) (sym t.next) done
-      where
-        some_phase : (fresh : List ℕ) → writing fresh (Replaces r None ∷ rest) ≢ []
-        some_phase [] e = cc e
-        some_phase (x ∷ xs) e = cc e
 
 pub law : TurnLaw case.kind
 law = record {

@@ -1,15 +1,11 @@
 -- The turn begins_repair.
-use Rattle.std.proofs.Common.{◌≡◌, ◌≢◌, ◌/◌, ◌++◌, ℕ, List, [], ◌∷◌, Option, Some, None, true, refl, sym, ap, ◌∙◌}
-use Rattle.std.proofs.Common.{subst}
-use Rattle.std.proofs.Common.{inr}
+use Rattle.std.proofs.Common.{◌≡◌, ◌≢◌, ◌/◌, List, [], ◌∷◌, Option, Some, None, true, refl, sym, ap, ◌∙◌, subst, inr}
 use Rattle.std.specs.Option.{option_map_or}
-use Rattle.std.proofs.lemmas.List.{append-nil}
 use Rattle.super_block.specs.Numbers.{cluster_pages_of}
 use Rattle.store_model.specs.Cases.BeginRepair as case
 use Rattle.store_model.specs.Cases.BeginRepair.{BeginsRepair}
 use Rattle.store_model.specs.Jobs.{JobStands}
-use Rattle.store_model.specs.Phases.{erasing, held_in, Phase, rechained, replaced, Replaces, Replacing, taken_by}
-use Rattle.store_model.specs.Phases.{writing}
+use Rattle.store_model.specs.Phases.{erasing, Phase, phases_of, replaced, Replaces, Replacing, taken_by}
 use Rattle.store_model.specs.Places.{all_set, AreDistinct, claimed_by, held_by, UsedPages}
 use Rattle.store_model.specs.RunInvariant.{RunInvariant, RunsWell}
 use Rattle.store_model.specs.StoreState.{ForRepair, JobState, StoreState}
@@ -20,9 +16,8 @@ use Rattle.store_model.proofs.Known.{Known}
 use Rattle.store_model.proofs.LawsBelow.{RepairLaws}
 use Rattle.store_model.proofs.LeftToDo.{no_place}
 use Rattle.store_model.proofs.Over.{Effect, nothing, stays, TurnLaw}
-use Rattle.store_model.proofs.Phases.{held_behind, held_clearing, keeps_behind, keeps_clearing, lays_behind}
-use Rattle.store_model.proofs.Phases.{lays_clearing}
-use Rattle.store_model.proofs.Phases.{mends_behind, mends_clearing, none_taken}
+use Rattle.store_model.proofs.Phases.{keeps_behind, keeps_clearing, mends_behind, mends_clearing}
+use Rattle.store_model.proofs.PhasesOfOne.{held_one, lays_one, some_phase}
 use Rattle.store_model.proofs.RepairBegun.{can, new_unmarked, planned, unseen}
 use Rattle.store_model.proofs.RowsKept.{way_kept}
 use Rattle.store_model.proofs.Sets.{are_distinct}
@@ -42,11 +37,8 @@ module _ (laws : RepairLaws) (known : Known) where
 
     -- ---- the job
 
-    abbrev rest : List Phase
-    rest = erasing r.old r.old []
-
     abbrev todo : List Phase
-    todo = writing r.fresh (Replaces r None ∷ rest)
+    todo = phases_of r None []
 
     abbrev job : JobState
     job = record { serves = ForRepair; freeze = None; claimed = []; written = []; todo = todo }
@@ -54,24 +46,16 @@ module _ (laws : RepairLaws) (known : Known) where
     abbrev now : StoreState
     now = record p { job = Some job; pages = all_set p.pages (taken_by r) true }
 
-    held : held_in todo ≡ taken_by r
-    held = held_behind r.fresh (Replaces r None ∷ rest) ∙ ap (λ l. taken_by r ++ l) (none_taken r.old r.old)
-        ∙ append-nil (taken_by r)
-
     stands : JobStands now job
     stands = record {
-      lays = lays_behind p.super p.base p.chains [] [] r.fresh (Replaces r None ∷ rest) (
-        can laws known q t,
-        held_clearing r.old r.old (λ e. e) ∙ sym (append-nil r.old)
-            ∙ ap (λ l. r.old ++ l) (sym (none_taken r.old r.old)),
-        lays_clearing p.super (replaced p.base r) (rechained p.chains r) r.old r.old (λ x among. among),
-      );
-      distinct = subst AreDistinct (sym held) (are_distinct p.pages (taken_by r) (planned laws known q t).least);
+      lays = lays_one r None p.super p.base p.chains [] (can laws known q t);
+      distinct = subst AreDistinct (sym (held_one r None))
+          (are_distinct p.pages (taken_by r) (planned laws known q t).least);
       served = λ c bad. absurd (cc bad);
-      keeps = λ none other. keeps_behind p.base r.fresh (Replaces r None ∷ rest)
+      keeps = λ none other. keeps_behind p.base r.fresh (Replaces r None ∷ erasing r.old r.old [])
           (unseen laws known q t, keeps_clearing (replaced p.base r) r.old r.old);
       settles = λ other. absurd (other refl);
-      mends = λ _. mends_behind r.fresh (Replaces r None ∷ rest)
+      mends = λ _. mends_behind r.fresh (Replaces r None ∷ erasing r.old r.old [])
           (new_unmarked laws known q t, mends_clearing r.old r.old);
       zeroed = λ page among out. absurd (no_place [] (page / cluster_pages_of p.super) among refl);
       inserts = λ c bad. absurd (cc bad);
@@ -96,7 +80,7 @@ module _ (laws : RepairLaws) (known : Known) where
             chains = well.chains;
             live = well.live;
             no_live = well.no_live;
-            pages = subst (UsedPages p.super.md_len now.pages p.chains) (sym held)
+            pages = subst (UsedPages p.super.md_len now.pages p.chains) (sym (held_one r None))
                 (used_begun p.super.md_len p.pages p.chains (taken_by r) used (planned laws known q t).least);
             clusters = used_still p.rows p.rows p.job now.job (λ c. refl) claimed_same p.super p.clusters p.base
                 well.clusters;
@@ -119,13 +103,9 @@ module _ (laws : RepairLaws) (known : Known) where
           halted = λ at is. absurd (let bad = sym t.runs ∙ is in cc bad);
           unfinished = λ j is.
               let same : job ≡ j = cc is in
-              subst (λ (i : JobState). i.todo ≢ []) same (some_phase r.fresh);
+              subst (λ (i : JobState). i.todo ≢ []) same (some_phase r None);
         } in
         subst (RunInvariant s first script) (sym t.next) done
-      where
-        some_phase : (fresh : List ℕ) → writing fresh (Replaces r None ∷ rest) ≢ []
-        some_phase [] e = cc e
-        some_phase (x ∷ xs) e = cc e
 
 pub law : TurnLaw case.kind
 law = record {

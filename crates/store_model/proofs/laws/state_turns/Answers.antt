@@ -1,4 +1,4 @@
-use Rattle.store_model.proofs.Repairing.{repaired_stays}
+use Rattle.store_model.proofs.Repairing.{repaired_stays, repaired_unmarked}
 use Rattle.store_model.proofs.JobReady.{job_writable}
 use Rattle.store_model.proofs.StateBegins.{begins_well, run_more, turn_keeps}
 use Rattle.store_model.proofs.StateAgrees.{behind_recovers}
@@ -18,6 +18,7 @@ returns c = record {
   });
   go_on = run_more;
   repaired_stays = λ told s first script p q kind facts t r. repaired_stays told s first script p q kind facts t r;
+  repaired_unmarked = repaired_unmarked;
   writable = λ s first script p command changes commit placed facts runs unmarked asked claimed least one_each x new
       list is low.
       job_writable (record { s = s; placed = placed; first = first; script = script; p = p; facts = facts })
