@@ -17,6 +17,8 @@ pub mod JobErased
 pub mod HeadReplaced
 pub mod JobCommitted
 pub mod JobInserted
+pub mod JobRepaired
+pub mod JobRemoved
 pub mod HeadTold
 pub mod InsertReady
 pub mod InsertBegun

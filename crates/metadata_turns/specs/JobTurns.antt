@@ -18,9 +18,6 @@ IsOfJob kind.inserts = Unit {0}
 IsOfJob kind.insert_ends = Unit {0}
 IsOfJob kind.insert_fails = Unit {0}
 IsOfJob kind.insert_breaks_down = Unit {0}
-IsOfJob kind.replaces_more = ⊥
-IsOfJob kind.more_fails = ⊥
-IsOfJob kind.more_breaks_off = ⊥
 IsOfJob other = (the other).OfJob
 
 -- One of these turns is made.

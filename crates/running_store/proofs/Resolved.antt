@@ -11,7 +11,8 @@ use Rattle.blob_meta.specs.Repairs.{HasNoMarks}
 use Rattle.blob_meta.specs.Resolving.{mark_of, resolved}
 use Rattle.store_model.specs.Maps.{Metas, with_entry, without_entry}
 use Rattle.store_model.proofs.WithEntry.{given_elsewhere, given_here}
-use Rattle.store_model.specs.Repairing.{IsRepaired, unmarked, at_work, halted}
+use Rattle.store_model.specs.Repairing as repaired
+use Rattle.store_model.specs.Repairing.{IsRepaired}
 use Rattle.store_model.specs.StoreState.{StoreState}
 use Rattle.store_model.proofs.Resolved.{unmarked_resolved}
 use Rattle.running_store.specs.StoreView.{base_of, AreResolved}
@@ -22,9 +23,9 @@ MetaMap = map.FinMap nat_cmp Meta
 
 -- a repaired store that runs no job has no mark left
 pub unmarked_now : (p : StoreState) → IsRepaired p → p.stopped ≡ None → p.job ≡ None → HasNoMarks p.base
-unmarked_now p (unmarked none) runs no_job = none
-unmarked_now p (at_work job is other) runs no_job = absurd (let bad = sym is ∙ no_job in cc bad)
-unmarked_now p (halted at is) runs no_job = absurd (let bad = sym is ∙ runs in cc bad)
+unmarked_now p (repaired.unmarked none) runs no_job = none
+unmarked_now p (repaired.at_work job is other) runs no_job = absurd (let bad = sym is ∙ no_job in cc bad)
+unmarked_now p (repaired.halted at is) runs no_job = absurd (let bad = sym is ∙ runs in cc bad)
 
 -- where no blob is kept aside, the device says what the store has
 pub none_aside : (metas marked : MetaMap) → marked ≡ map.empty → base_of metas marked ≡ map.get metas
@@ -55,25 +56,30 @@ module _ (metas marked : MetaMap) where
       by true x y = refl
       by false x y = refl
 
-  -- the replaced blob has its mark no more, and the others are as they were
-  pub resolved_behind : (head : ℕ) (new : Meta) → AreResolved metas marked
-      → resolved (with_entry (base_of metas marked) head new) ≡ map.get (map.insert metas head new)
-      → AreResolved (map.insert metas head new) (map.remove marked head)
-  resolved_behind head new are will = record {
-    marks = λ q m is. elim (cases_eq q head) [
-      | inl e ↦ absurd (let gone : map.get (map.remove marked head) q ≡ None =
-          ap (map.get (map.remove marked head)) e ∙ ap (λ (f : Metas). f head) (remove_given marked head)
-          ∙ here head in cc (gone, is))
-      | inr ne ↦ are.marks q m (sym (ap (λ (f : Metas). f q) (remove_given marked head) ∙ elsewhere q ne) ∙ is)
-    ];
-    resolves = ap resolved (base_given head new) ∙ will;
-  }
+  -- a blob that is replaced or erased is kept aside no more, and the others have their marks
+  pub still_marked : (head : ℕ) → AreResolved metas marked → (q : ℕ) (m : Meta)
+      → map.get (map.remove marked head) q ≡ Some m → mark_of m ≢ None
+  still_marked head are q m is = elim (cases_eq q head) [
+    | inl e ↦ absurd (let gone : map.get (map.remove marked head) q ≡ None =
+        ap (map.get (map.remove marked head)) e ∙ ap (λ (f : Metas). f head) (remove_given marked head)
+        ∙ here head in cc (gone, is))
+    | inr ne ↦ are.marks q m (sym (ap (λ (f : Metas). f q) (remove_given marked head) ∙ elsewhere q ne) ∙ is)
+  ]
     where
       here : (h : ℕ) → without_entry (map.get marked) h h ≡ None
       here h = rw (eq-eqb h h refl) refl
 
       elsewhere : (q : ℕ) → q ≢ head → without_entry (map.get marked) head q ≡ map.get marked q
       elsewhere q ne = rw (ne_eqb q head ne) refl
+
+  -- the replaced blob has its mark no more, and the others are as they were
+  pub resolved_behind : (head : ℕ) (new : Meta) → AreResolved metas marked
+      → resolved (with_entry (base_of metas marked) head new) ≡ map.get (map.insert metas head new)
+      → AreResolved (map.insert metas head new) (map.remove marked head)
+  resolved_behind head new are will = record {
+    marks = still_marked head are;
+    resolves = ap resolved (base_given head new) ∙ will;
+  }
 
 -- Where no blob has a mark, none has one once a blob is given metadata without a mark: the metadata resolves as it is.
 pub will_resolve : (metas marked : MetaMap) (head : ℕ) (new : Meta) → AreResolved metas marked
