@@ -218,8 +218,12 @@ pub freed_all : {D : Type 0} (d : Ghosts D) (p : StoreView D) (serves : Serves) 
     → (IsTrue d.tells → Only (d.now disk) (d.images disk)) → (bits : List Bool) → bits ≡ all_set p.pages old false
     → (q : StoreView D) → IsWon serves (record p { disk = disk; pages = bits }) q
     → TurnsJob d (with_job p (erasing_for serves old erased)) q
-freed_all d p (whom.Command channel) = freed_by d p (whom.Command channel) (λ row bad. cc bad)
-freed_all d p whom.Repair = freed_by d p whom.Repair (λ row bad. cc bad)
+freed_all d p (whom.Command channel) old erased w disk place at at_is touches next last moves durable bits is q won =
+    freed_by d p (whom.Command channel) (λ row bad. cc bad) old erased w disk place at at_is touches next last moves
+    durable bits is q won
+freed_all d p whom.Repair old erased w disk place at at_is touches next last moves durable bits is q won =
+    freed_by d p whom.Repair (λ row bad. cc bad) old erased w disk place at at_is touches next last moves durable bits is
+    q won
 freed_all d p (whom.Insert channel) old erased w disk place at at_is touches next last moves durable bits is q won =
     let serves = whom.Insert channel in
     let now = erasing_for serves old erased in
