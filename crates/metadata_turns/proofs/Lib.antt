@@ -20,8 +20,13 @@ pub mod JobInserted
 pub mod JobRepaired
 pub mod JobRemoved
 pub mod HeadTold
+pub mod JobLaid
 pub mod InsertReady
 pub mod InsertBegun
 pub mod BrokenDown
+pub mod ClustersAlone
+pub mod MissingFound
+pub mod RepairDue
+pub mod RepairBegins
 pub mod Found
 pub mod ZeroTurned
