@@ -66,6 +66,7 @@ seen_serves j = by j.work refl
     by : (w : Work) → j.work ≡ w → (job_seen j).serves ≡ service_of j.serves
     by (works.Zeroing planned zeroed) e = rw e refl
     by (works.Writing planned written) e = rw e refl
+    by (works.Removing head freed) e = rw e refl
     by (works.Erasing erased) e = rw e refl
 
 -- what is seen of a running job serves a command or an insert
@@ -79,6 +80,9 @@ waits_either (Some j) channel waits = by j.serves refl
     by (whom.Command here) e = inl (waits_by (job_seen j) here channel (has_commit (job_seen j).todo)
         (seen_serves j ∙ ap service_of e) refl waits)
     by (whom.Insert here) e = inr (inserts_by (job_seen j) here channel (seen_serves j ∙ ap service_of e) waits)
+    by whom.Repair e =
+        let none = ap (λ (s : Service). waiting s (job_seen j).todo) (seen_serves j ∙ ap service_of e) in
+        absurd (let bad = sym none ∙ waits in cc bad)
 
 -- where nothing waits, the job ends
 pub none_waiting : {D : Type 0} (d : Ghosts D) (p : StoreView D) (o : Option RunningJob) → p.job ≡ option_map job_seen o

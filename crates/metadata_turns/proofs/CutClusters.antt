@@ -21,11 +21,11 @@ use Rattle.store_model.proofs.WithEntry.{given_here, given_elsewhere}
 -- ---- the clusters of a map
 
 -- a cluster of a map is in one of its slots
-record IsInSlot (map : List (Option ℕ)) (c : ℕ) : Type 0 where
-  i : ℕ
-  at : slot_in map i ≡ Some c
+pub record IsInSlot (map : List (Option ℕ)) (c : ℕ) : Type 0 where
+  pub i : ℕ
+  pub at : slot_in map i ≡ Some c
 
-in_slot : (map : List (Option ℕ)) (c : ℕ) → is_among c (clusters_of map) ≡ true → IsInSlot map c
+pub in_slot : (map : List (Option ℕ)) (c : ℕ) → is_among c (clusters_of map) ≡ true → IsInSlot map c
 in_slot [] c among = absurd (cc among)
 in_slot (None ∷ map) c among = let x = in_slot map c among in record { i = suc x.i; at = x.at }
 in_slot (Some y ∷ map) c among = elim (among_either c y (clusters_of map) among) [
@@ -33,7 +33,7 @@ in_slot (Some y ∷ map) c among = elim (among_either c y (clusters_of map) amon
   | inr later ↦ let x = in_slot map c later in record { i = suc x.i; at = x.at }
 ]
 
-among_slots : (map : List (Option ℕ)) (i c : ℕ) → slot_in map i ≡ Some c → is_among c (clusters_of map) ≡ true
+pub among_slots : (map : List (Option ℕ)) (i c : ℕ) → slot_in map i ≡ Some c → is_among c (clusters_of map) ≡ true
 among_slots [] i c at = absurd (cc at)
 among_slots (None ∷ map) zero c at = absurd (cc at)
 among_slots (None ∷ map) (suc i) c at = among_slots map i c at
@@ -67,7 +67,7 @@ slot_dropped [] (suc n) i = refl
 slot_dropped (x ∷ map) (suc n) i =
     let step : suc (n + i) ≡ suc n + i = omega arith in slot_dropped map n i ∙ ap (slot_in (x ∷ map)) step
 
-none_behind : (map : List (Option ℕ)) (n : ℕ) → length map ≤ n → drop n map ≡ []
+pub none_behind : (map : List (Option ℕ)) (n : ℕ) → length map ≤ n → drop n map ≡ []
 none_behind [] zero le = refl
 none_behind [] (suc n) le = refl
 none_behind (x ∷ map) zero le = absurd (omega (arith, le))

@@ -2,7 +2,8 @@
 use Rattle.std.proofs.Common.{◌≡◌, ℕ, ◌+◌, ◌<◌, Bool, All, List, [], ◌∷◌, length, Option, Some, None, refl, sym, ◌∙◌}
 use Rattle.std.proofs.Common.{ap, get_or, subst, drop, true, false}
 use Rattle.std.proofs.Common.{arith}
-use Rattle.std.specs.Prelude.{if◌then◌else◌, IsSome, is_some, slice_get}
+use Rattle.std.specs.Prelude.{if◌then◌else◌, IfSome, IsSome, is_some, slice_get}
+use Rattle.std.specs.Option.{option_map}
 use Rattle.std.specs.FinMap as map
 use Rattle.bit_array.specs.Bits.{is_in}
 use Rattle.page_disk.specs.Moments.{CallsLeaveOnly, IsReplaced}
@@ -20,7 +21,8 @@ use Rattle.io_freeze.specs.Guards.{renewed, GuardsState}
 use Rattle.metadata_turns.specs.declared.job_turn.JobTurn.TheVariants as turn
 use Rattle.running_store.specs.Effects.{is_numbered}
 use Rattle.metadata_turns.specs.JobTurns.{answer_of, with_job, IsAtWork}
-use Rattle.running_store.specs.Jobs.{commit_for, erasing_for, replacing_of, service_of, writing_for}
+use Rattle.running_store.specs.Jobs.{commit_for, erasing_for, job_seen, replacing_of, service_of, writing_for}
+use Rattle.running_store.specs.declared.job.RunningJob.{RunningJob}
 use Rattle.running_store.specs.Running.{live_given}
 use Rattle.running_store.specs.StoreView.{base_of, AreResolved, StoreView, state_of}
 use Rattle.running_store.specs.declared.job.Planned.{Planned}
@@ -49,6 +51,11 @@ answer_done q on none = rw (on, none) refl
 pub answer_more : {D : Type 0} (q : StoreView D) (j : JobState) → q.stopped ≡ None → q.job ≡ Some j
     → turn.More ≡ answer_of q
 answer_more q j on some = rw (on, some) refl
+
+-- no job runs while its turn is made
+pub none_roomy : (o : Option RunningJob) (P : RunningJob → Type 0) → option_map job_seen o ≡ None → IfSome o P
+none_roomy None P none = tt
+none_roomy (Some j) P none = absurd (cc none)
 
 -- ---- the blob as it was planned
 

@@ -12,21 +12,22 @@ use Rattle.store_model.specs.Phases.{erasing}
 use Rattle.store_model.specs.Rows.{Stage}
 use Rattle.metadata_turns.specs.declared.job_turn.JobTurn.TheVariants as turn
 use Rattle.metadata_turns.specs.JobTurns.{answer_of, with_job, IsAtWork, TurnsJob}
-use Rattle.running_store.specs.Jobs.{erasing_for, reply_of, row_of, writing_for, IsMatchedFor, IsMatched}
+use Rattle.running_store.specs.Jobs.{erasing_for, reply_of, writing_for, IsMatchedFor, IsMatched}
 use Rattle.running_store.specs.StoreView.{StoreView, device_of}
-use Rattle.metadata_turns.specs.Telling.{IsTold}
+use Rattle.metadata_turns.specs.Telling.{HasFailed, IsTold}
 use Rattle.running_store.specs.declared.job.Planned.{Planned}
 use Rattle.running_store.specs.declared.job.Serves.{Serves}
 use Rattle.running_store.specs.declared.job.Serves.TheVariants as whom
 use Rattle.metadata_turns.proofs.HeadReplaced.{adopted_view, answer_done, answer_more}
 use Rattle.metadata_turns.proofs.JobCommitted.{committed_done, committed_more, failed_committing, logged_here}
 use Rattle.metadata_turns.proofs.JobInserted.{failed_inserting, inserted_done, inserted_more, told_filled}
-use Rattle.metadata_turns.proofs.JobTurned.{entered}
+use Rattle.metadata_turns.proofs.JobRepaired.{failed_repairing, repaired_done, repaired_more}
 
 -- what is planned matches, whomever it is for
 pub matched : (serves : Serves) (planned : Planned) → IsMatchedFor serves planned → IsMatched planned
 matched (whom.Command channel) planned is = is
 matched (whom.Insert channel) planned is = is.0
+matched whom.Repair planned is = is.0
 
 -- A head's page that is replaced, as a turn does it.
 pub record ReplacesHead {D : Type 0} (d : Ghosts D) (p : StoreView D) (serves : Serves) (planned : Planned)
@@ -45,12 +46,15 @@ working p serves planned old = with_job p (writing_for serves planned old (lengt
 
 pub failed_head : {D : Type 0} (d : Ghosts D) (p : StoreView D) (serves : Serves) (planned : Planned) (old : List ℕ)
     (disk : D) (x : ReplacesHead d p serves planned old disk) → FailsToReplace (device_of d p.disk) (device_of d disk)
-    → (q : StoreView D) → entered d p (row_of serves) disk q → TurnsJob d (working p serves planned old) q
+    → (q : StoreView D) → HasFailed serves (record p { disk = disk }) q (d.clock disk)
+    → TurnsJob d (working p serves planned old) q
 failed_head d p (whom.Command channel) planned old disk x fails q is =
     failed_committing d p channel planned old x.work disk x.page x.at x.at_is x.first x.touches fails q is
 failed_head d p (whom.Insert channel) planned old disk x fails q is =
     failed_inserting d p channel planned old x.work x.fits.0.headed x.fits.1 disk x.page x.at x.at_is x.first x.touches
     fails q is
+failed_head d p whom.Repair planned old disk x fails q is =
+    failed_repairing d p planned old x.work disk x.page x.at x.at_is x.first x.touches fails q is
 
 -- it is made, and who waits for it is told
 pub record IsMade {D : Type 0} (d : Ghosts D) (p : StoreView D) (serves : Serves) (planned : Planned)
@@ -95,6 +99,9 @@ stays {D = D} d p (whom.Insert channel) planned old disk x l m =
     let is = told_filled d p channel planned old x.work x.fits.0.headed x.fits.1 disk x.page x.at x.at_is x.first
     x.touches m.adopting m.adopting_is l m.next m.told in
     record { stopped = ap (λ (b : StoreView D). b.stopped) is; job = ap (λ (b : StoreView D). b.job) is }
+stays {D = D} d p whom.Repair planned old disk x l m =
+    let is : l ≡ adopted_view p planned disk = m.told ∙ m.adopting_is in
+    record { stopped = ap (λ (b : StoreView D). b.stopped) is; job = ap (λ (b : StoreView D). b.job) is }
 
 -- no old page is left,
 pub head_done : {D : Type 0} (d : Ghosts D) (p : StoreView D) (serves : Serves) (planned : Planned) (old : List ℕ)
@@ -107,6 +114,9 @@ head_done d p (whom.Command channel) planned old disk x l m empty =
 head_done d p (whom.Insert channel) planned old disk x l m empty =
     inserted_done d p channel planned old x.work x.fits.0.headed x.fits.1 disk x.page x.at x.at_is x.first x.touches
     m.adopting m.adopting_is l m.next m.told m.moves m.durable m.next_is empty
+head_done d p whom.Repair planned old disk x l m empty =
+    repaired_done d p planned old x.work disk x.page x.at x.at_is x.first x.touches x.fits.0.headed x.fits.1 l
+    (m.told ∙ m.adopting_is) m.moves m.durable empty
 
 pub done_answer : {D : Type 0} (d : Ghosts D) (p : StoreView D) (serves : Serves) (planned : Planned) (old : List ℕ)
     (disk : D) (x : ReplacesHead d p serves planned old disk) (l : StoreView D)
@@ -126,6 +136,9 @@ head_more d p (whom.Command channel) planned old disk x l m some =
 head_more d p (whom.Insert channel) planned old disk x l m some =
     inserted_more d p channel planned old x.work x.fits.0.headed x.fits.1 disk x.page x.at x.at_is x.first x.touches
     m.adopting m.adopting_is l m.next m.told m.moves m.durable m.next_is some
+head_more d p whom.Repair planned old disk x l m some =
+    repaired_more d p planned old x.work disk x.page x.at x.at_is x.first x.touches x.fits.0.headed x.fits.1 l
+    (m.told ∙ m.adopting_is) m.moves m.durable some
 
 pub more_answer : {D : Type 0} (d : Ghosts D) (p : StoreView D) (serves : Serves) (planned : Planned) (old : List ℕ)
     (disk : D) (x : ReplacesHead d p serves planned old disk) (l : StoreView D)

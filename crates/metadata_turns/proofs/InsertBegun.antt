@@ -18,7 +18,8 @@ use Rattle.store_model.specs.Jobs.{LacksPages}
 use Rattle.store_model.specs.Places.{without_claim}
 use Rattle.store_model.specs.Rows.{Answered, Decided, Ended, InJob, Lost, OpenClaim, Posted, Row, Rows, with_row}
 use Rattle.store_model.specs.StoreState.{logged, StoreState}
-use Rattle.metadata_turns.specs.Inserts.{no_effects, HoldsPosted, IsLack}
+use Rattle.metadata_turns.specs.Begins.{no_effects}
+use Rattle.metadata_turns.specs.Inserts.{HoldsPosted, IsLack}
 use Rattle.running_store.specs.Jobs.{replacing_of, writing_for}
 use Rattle.metadata_turns.specs.OwnWrites.{AreOwn, BeginsWithWrite}
 use Rattle.running_store.specs.Steps.{logged_at}

@@ -1,5 +1,5 @@
 -- What a turn of a job makes of the store behind its replacement: old pages are erased, and given back with the last.
-use Rattle.std.proofs.Common.{None, ◌≡◌, ℕ, suc, ◌+◌, ◌<◌, Bool, true, false, All, List, [], ◌∷◌, length}
+use Rattle.std.proofs.Common.{None, ◌≡◌, ◌≢◌, ℕ, suc, ◌+◌, ◌<◌, Bool, true, false, All, List, [], ◌∷◌, length}
 use Rattle.std.proofs.Common.{Some, refl, sym, ◌∙◌, ap, subst, arith, add-one, IsTrue}
 use Rattle.std.specs.Prelude.{slice_get}
 use Rattle.std.proofs.Math.Path.{fun_ext}
@@ -11,14 +11,14 @@ use Rattle.page_disk.specs.declared.disk.PageDisk.{Ghosts}
 use Rattle.page_disk.specs.declared.disk.WriteKind.TheVariants.{Plain}
 use Rattle.volume_model.specs.Volumes.{zero_page}
 use Rattle.store_model.specs.Rows.{Decided, Row, Rows, with_row, Won}
-use Rattle.store_model.specs.StoreState.{JobState, StoreState}
+use Rattle.store_model.specs.StoreState.{ForInsert, JobState, StoreState, waiting}
 use Rattle.store_model.specs.Places.{all_set, AreDistinct}
 use Rattle.store_model.specs.Cases.{WritesOnePage, put_by}
 use Rattle.store_model.specs.Cases as kind
 use Rattle.store_model.specs.Cases.InsertFail as insert
 use Rattle.store_model.specs.Cases.{FailsToReplace}
 use Rattle.running_store.specs.StoreView.{StoreView, device_of, rows_of, state_of}
-use Rattle.metadata_turns.specs.JobTurns.{with_job, IsAtWork, TurnsJob}
+use Rattle.metadata_turns.specs.JobTurns.{stopped_at, with_job, IsAtWork, TurnsJob}
 use Rattle.metadata_turns.proofs.AtWork.{old_in_use, old_low}
 use Rattle.metadata_turns.proofs.AtWork.{last_one, old_distinct, one_more}
 use Rattle.metadata_turns.proofs.AtWork.{waits_for_none}
@@ -29,7 +29,7 @@ use Rattle.metadata_turns.specs.Telling.{HasInsertRow, IsBrokenOff, IsWon}
 use Rattle.store_model.specs.Phases.{Phase}
 use Rattle.running_store.specs.declared.job.Serves.{Serves}
 use Rattle.running_store.specs.declared.job.Serves.TheVariants as whom
-use Rattle.running_store.specs.Jobs.{erasing_for}
+use Rattle.running_store.specs.Jobs.{erasing_for, service_of}
 use Rattle.metadata_turns.proofs.AtWork.{among_at}
 use Rattle.store_model.specs.Phases as phase
 use Rattle.metadata_turns.proofs.JobTurned.{first_low, first_some, first_to_insert}
@@ -42,6 +42,7 @@ insert_row d p (whom.Insert channel) old erased w sixteen =
     let x = first_to_insert d p (erasing_for (whom.Insert channel) old erased) w channel refl refl in
     let low = first_low p channel x in
     (omega (arith, low, sixteen), first_some p channel x)
+insert_row d p whom.Repair old erased w sixteen = tt
 
 module _ {D : Type 0} (d : Ghosts D) (p : StoreView D) (serves : Serves) (old : List ℕ) (erased : ℕ)
     (w : IsAtWork d p (erasing_for serves old erased)) where
@@ -102,17 +103,17 @@ module _ {D : Type 0} (d : Ghosts D) (p : StoreView D) (serves : Serves) (old : 
       );
     }
 
--- a write to an old page failed
-pub broke_off : {D : Type 0} (d : Ghosts D) (p : StoreView D) (serves : Serves) (old : List ℕ) (erased : ℕ)
-    (w : IsAtWork d p (erasing_for serves old erased)) (disk : D) (place at : ℕ) → at ≡ p.super.md_start + place
+-- a write to an old page failed for which no row waits
+broke_off_by : {D : Type 0} (d : Ghosts D) (p : StoreView D) (serves : Serves) (old : List ℕ) (erased : ℕ)
+    (w : IsAtWork d p (erasing_for serves old erased))
+    → waiting (service_of serves) (erasing_for serves old erased).todo ≡ None → (disk : D) (place at : ℕ)
+    → at ≡ p.super.md_start + place
     → CallsLeaveOnly d p.disk disk (Written (d.images p.disk) at Plain zero_page) → (phase : Phase)
     (others : List Phase) → (erasing_for serves old erased).todo ≡ phase ∷ others
     → put_by (erasing_for serves old erased) phase ≡ Some (record { place = place; page = zero_page })
     → FailsToReplace (device_of d p.disk) (device_of d disk) → (q : StoreView D)
-    → IsBrokenOff serves (record p { disk = disk }) q (d.clock disk)
-    → TurnsJob d (with_job p (erasing_for serves old erased)) q
-broke_off d p (whom.Command channel) old erased w disk place at at_is touches phase others todo_is put fails q is =
-    let serves = whom.Command channel in
+    → q ≡ stopped_at (record p { disk = disk }) → TurnsJob d (with_job p (erasing_for serves old erased)) q
+broke_off_by d p serves old erased w waits disk place at at_is touches phase others todo_is put fails q is =
     let now = erasing_for serves old erased in
     let t = state_of d (with_job p now) in
     subst (TurnsJob d (with_job p now)) (sym is) (record {
@@ -122,7 +123,7 @@ broke_off d p (whom.Command channel) old erased w disk place at at_is touches ph
         record {
           phase = phase;
           running = record { job = now; is = refl; rest = others; next = todo_is; runs = w.not_stopped };
-          waits = waits_for_none t w.running w.not_stopped channel old erased;
+          waits = waits;
           put = record { place = place; page = zero_page };
           is_put = put;
           device = device_of d disk;
@@ -137,6 +138,22 @@ broke_off d p (whom.Command channel) old erased w disk place at at_is touches ph
         },
       );
     })
+
+-- a write to an old page failed
+pub broke_off : {D : Type 0} (d : Ghosts D) (p : StoreView D) (serves : Serves) (old : List ℕ) (erased : ℕ)
+    (w : IsAtWork d p (erasing_for serves old erased)) (disk : D) (place at : ℕ) → at ≡ p.super.md_start + place
+    → CallsLeaveOnly d p.disk disk (Written (d.images p.disk) at Plain zero_page) → (phase : Phase)
+    (others : List Phase) → (erasing_for serves old erased).todo ≡ phase ∷ others
+    → put_by (erasing_for serves old erased) phase ≡ Some (record { place = place; page = zero_page })
+    → FailsToReplace (device_of d p.disk) (device_of d disk) → (q : StoreView D)
+    → IsBrokenOff serves (record p { disk = disk }) q (d.clock disk)
+    → TurnsJob d (with_job p (erasing_for serves old erased)) q
+broke_off d p (whom.Command channel) old erased w disk place at at_is touches phase others todo_is put fails q is =
+    broke_off_by d p (whom.Command channel) old erased w (waits_for_none
+    (state_of d (with_job p (erasing_for (whom.Command channel) old erased))) w.running w.not_stopped channel old erased)
+    disk place at at_is touches phase others todo_is put fails q is
+broke_off d p whom.Repair old erased w disk place at at_is touches phase others todo_is put fails q is =
+    broke_off_by d p whom.Repair old erased w refl disk place at at_is touches phase others todo_is put fails q is
 broke_off d p (whom.Insert channel) old erased w disk place at at_is touches phase others todo_is put fails q is =
     let serves = whom.Insert channel in
     let now = erasing_for serves old erased in
@@ -154,16 +171,16 @@ broke_off d p (whom.Insert channel) old erased w disk place at at_is touches pha
       );
     })
 
--- the last old page is written, and all old pages are clear
-pub freed_all : {D : Type 0} (d : Ghosts D) (p : StoreView D) (serves : Serves) (old : List ℕ) (erased : ℕ)
+-- the last old page is written, and all old pages are clear, of a job that isn't an insert's
+freed_by : {D : Type 0} (d : Ghosts D) (p : StoreView D) (serves : Serves)
+    → ((row : ℕ) → service_of serves ≢ ForInsert row) → (old : List ℕ) (erased : ℕ)
     (w : IsAtWork d p (erasing_for serves old erased)) (disk : D) (place at : ℕ) → at ≡ p.super.md_start + place
     → CallsLeaveOnly d p.disk disk (Written (d.images p.disk) at Plain zero_page) → slice_get old erased ≡ Some place
     → erased + 1 ≡ length old → WritesOnePage d.tells (device_of d p.disk) at zero_page 2 (device_of d disk)
     → (IsTrue d.tells → Only (d.now disk) (d.images disk)) → (bits : List Bool) → bits ≡ all_set p.pages old false
-    → (q : StoreView D) → IsWon serves (record p { disk = disk; pages = bits }) q
+    → (q : StoreView D) → q ≡ record p { disk = disk; pages = bits }
     → TurnsJob d (with_job p (erasing_for serves old erased)) q
-freed_all d p (whom.Command channel) old erased w disk place at at_is touches next last moves durable bits is q won =
-    let serves = whom.Command channel in
+freed_by d p serves no_insert old erased w disk place at at_is touches next last moves durable bits is q won =
     let now = erasing_for serves old erased in
     let t = state_of d (with_job p now) in
     subst (TurnsJob d (with_job p now)) (sym won) (record {
@@ -180,7 +197,7 @@ freed_all d p (whom.Command channel) old erased w disk place at at_is touches ne
             next = last_left d p serves old erased w place next last;
             runs = w.not_stopped;
           };
-          no_insert = λ c bad. cc bad;
+          no_insert = no_insert;
           device = device_of d disk;
           moves = subst (λ n. WritesOnePage d.tells (device_of d p.disk) n zero_page 2 (device_of d disk)) at_is moves;
           next = ap (λ b. record t { job = p.job; pages = b; device = device_of d disk }) is
@@ -192,6 +209,21 @@ freed_all d p (whom.Command channel) old erased w disk place at at_is touches ne
         },
       );
     })
+
+-- the last old page is written, and all old pages are clear
+pub freed_all : {D : Type 0} (d : Ghosts D) (p : StoreView D) (serves : Serves) (old : List ℕ) (erased : ℕ)
+    (w : IsAtWork d p (erasing_for serves old erased)) (disk : D) (place at : ℕ) → at ≡ p.super.md_start + place
+    → CallsLeaveOnly d p.disk disk (Written (d.images p.disk) at Plain zero_page) → slice_get old erased ≡ Some place
+    → erased + 1 ≡ length old → WritesOnePage d.tells (device_of d p.disk) at zero_page 2 (device_of d disk)
+    → (IsTrue d.tells → Only (d.now disk) (d.images disk)) → (bits : List Bool) → bits ≡ all_set p.pages old false
+    → (q : StoreView D) → IsWon serves (record p { disk = disk; pages = bits }) q
+    → TurnsJob d (with_job p (erasing_for serves old erased)) q
+freed_all d p (whom.Command channel) old erased w disk place at at_is touches next last moves durable bits is q won =
+    freed_by d p (whom.Command channel) (λ row bad. cc bad) old erased w disk place at at_is touches next last moves
+    durable bits is q won
+freed_all d p whom.Repair old erased w disk place at at_is touches next last moves durable bits is q won =
+    freed_by d p whom.Repair (λ row bad. cc bad) old erased w disk place at at_is touches next last moves durable bits is
+    q won
 freed_all d p (whom.Insert channel) old erased w disk place at at_is touches next last moves durable bits is q won =
     let serves = whom.Insert channel in
     let now = erasing_for serves old erased in

@@ -28,7 +28,7 @@ use Rattle.running_store.specs.declared.job.Serves.{Serves}
 use Rattle.running_store.specs.declared.job.Serves.TheVariants as whom
 use Rattle.metadata_turns.proofs.HeadReplaced.{adopted_view, after_none, after_some, numbered, planned_is, todo_is, touched}
 use Rattle.metadata_turns.proofs.InsertFailed.{fails_insert, inserting, waits, command as write_of}
-use Rattle.metadata_turns.proofs.JobTurned.{entered, first_low, first_waits}
+use Rattle.metadata_turns.proofs.JobTurned.{entered, first_low, first_to_insert}
 use Rattle.running_store.proofs.Maps.{insert_given}
 use Rattle.running_store.proofs.Resolved.{base_given}
 use Rattle.running_store.proofs.Rowing.{rows_set}
@@ -52,7 +52,7 @@ module _ {D : Type 0} (d : Ghosts D) (p : StoreView D) (row : ℕ) (planned : Pl
   row_then stage = record { left = (rows_of p.rows row).left; stage = stage; claim = None }
 
   below : row < length p.rows
-  below = first_low p row (first_waits d p serves planned old (length (drop 1 planned.chain)) w)
+  below = first_low p row (first_to_insert d p j w row refl refl)
 
   module _ (disk : D) (x : PlannedPage) (at : ℕ) (at_is : at ≡ p.super.md_start + planned.head)
       (first : slice_get planned.pages 0 ≡ Some x)

@@ -34,7 +34,8 @@ use Rattle.store_model.specs.Phases.{Phase, Writes, writing}
 use Rattle.running_store.specs.declared.job.Planned.{Planned}
 use Rattle.running_store.specs.declared.job.Serves.{Serves}
 use Rattle.running_store.specs.declared.job.Serves.TheVariants as whom
-use Rattle.running_store.specs.Jobs.{row_of, writing_for, writing_job}
+use Rattle.running_store.specs.Jobs.{writing_for, writing_job}
+use Rattle.metadata_turns.specs.Telling.{HasFailed, HasRow}
 use Rattle.store_model.specs.Jobs.{IsServed}
 
 -- ---- what waits for a job
@@ -130,17 +131,22 @@ module _ {D : Type 0} (d : Ghosts D) (p : StoreView D) (channel : ℕ) (planned 
 
 -- ---- any job of which fresh pages are written
 
--- what waits for it
-pub first_waits : {D : Type 0} (d : Ghosts D) (p : StoreView D) (serves : Serves) (planned : Planned) (old : List ℕ)
-    (written : ℕ) → IsAtWork d p (writing_for serves planned old written) → HasFirst p (row_of serves)
-first_waits d p (whom.Command channel) planned old written w =
-    record {
-      command = command d p channel planned old written w;
-      rest = rest d p channel planned old written w;
-      left = row_left d p channel planned old written w;
-    }
-first_waits d p (whom.Insert channel) planned old written w =
-    first_to_insert d p (writing_for (whom.Insert channel) planned old written) w channel refl refl
+-- a row that waits for it
+row_first : {D : Type 0} (p : StoreView D) (channel : ℕ) → length p.rows ≡ 16 → HasFirst p channel
+    → (channel < 16) × (0 < length (rows_of p.rows channel).left)
+row_first p channel sixteen x =
+    let low = first_low p channel x in (omega (arith, low, sixteen), first_some p channel x)
+
+pub row_waits : {D : Type 0} (d : Ghosts D) (p : StoreView D) (serves : Serves) (planned : Planned) (old : List ℕ)
+    (written : ℕ) → IsAtWork d p (writing_for serves planned old written) → length p.rows ≡ 16 → HasRow p.rows serves
+row_waits d p (whom.Command channel) planned old written w sixteen = row_first p channel sixteen (record {
+  command = command d p channel planned old written w;
+  rest = rest d p channel planned old written w;
+  left = row_left d p channel planned old written w;
+})
+row_waits d p (whom.Insert channel) planned old written w sixteen = row_first p channel sixteen
+    (first_to_insert d p (writing_for (whom.Insert channel) planned old written) w channel refl refl)
+row_waits d p whom.Repair planned old written w sixteen = tt
 
 module _ {D : Type 0} (d : Ghosts D) (p : StoreView D) (serves : Serves) (planned : Planned) (old : List ℕ)
     (written : ℕ) (w : IsAtWork d p (writing_for serves planned old written)) where
@@ -215,7 +221,8 @@ pub failed_writing : {D : Type 0} (d : Ghosts D) (p : StoreView D) (serves : Ser
     → at ≡ p.super.md_start + x.place → slice_get planned.pages (written + 1) ≡ Some x
     → CallsLeaveOnly d p.disk disk (Written (d.images p.disk) at Plain x.page)
     → FailsToReplace (device_of d p.disk) (device_of d disk) → (q : StoreView D)
-    → entered d p (row_of serves) disk q → TurnsJob d (with_job p (writing_for serves planned old written)) q
+    → HasFailed serves (record p { disk = disk }) q (d.clock disk)
+    → TurnsJob d (with_job p (writing_for serves planned old written)) q
 failed_writing d p (whom.Command channel) planned old written w disk x at at_is next touches fails q is =
     let serves = whom.Command channel in
     let now = writing_for serves planned old written in
@@ -245,6 +252,38 @@ failed_writing d p (whom.Insert channel) planned old written w disk x at at_is n
             (others d p serves planned old written w disk x at at_is next touches)
             (todo_is d p serves planned old written w disk x at at_is next touches)
             (insert.page (record { place = x.place; page = planned_at now x.place }) refl) fails,
+        record {
+          moments = touched d p serves planned old written w disk x at at_is next touches;
+          durable = λ never. absurd (cc never);
+        },
+      );
+    })
+failed_writing d p whom.Repair planned old written w disk x at at_is next touches fails q is =
+    let serves = whom.Repair in
+    let now = writing_for serves planned old written in
+    let t = state_of d (with_job p now) in
+    subst (TurnsJob d (with_job p now)) (sym is) (record {
+      kind = kind.breaks_off;
+      of_job = tt;
+      made = (
+        record {
+          phase = Writes x.place;
+          running = record {
+            job = now;
+            is = refl;
+            rest = others d p serves planned old written w disk x at at_is next touches;
+            next = todo_is d p serves planned old written w disk x at at_is next touches;
+            runs = w.not_stopped;
+          };
+          waits = refl;
+          put = record { place = x.place; page = planned_at now x.place };
+          is_put = refl;
+          device = device_of d disk;
+          fails = fails;
+          next = ap (λ (f : ℕ → Bool).
+              record t { stopped = Some (length p.log); job = None; frozen = f; device = device_of d disk })
+              (fun_ext (none_frozen_by t w.running.facts.guarded now refl refl));
+        },
         record {
           moments = touched d p serves planned old written w disk x at at_is next touches;
           durable = λ never. absurd (cc never);

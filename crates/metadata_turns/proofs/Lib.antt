@@ -17,9 +17,16 @@ pub mod JobErased
 pub mod HeadReplaced
 pub mod JobCommitted
 pub mod JobInserted
+pub mod JobRepaired
+pub mod JobRemoved
 pub mod HeadTold
+pub mod JobLaid
 pub mod InsertReady
 pub mod InsertBegun
 pub mod BrokenDown
+pub mod ClustersAlone
+pub mod MissingFound
+pub mod RepairDue
+pub mod RepairBegins
 pub mod Found
 pub mod ZeroTurned

@@ -1,5 +1,5 @@
 -- The begin of an insert: what it starts from, and what it comes to.
-use Rattle.std.specs.Prelude.{◌≡◌, ℕ, List, [], None, Some, Result, IfOk, false}
+use Rattle.std.specs.Prelude.{◌≡◌, ℕ, List, None, Some, Result, IfOk}
 use Rattle.page_disk.specs.declared.disk.PageDisk.{Ghosts}
 use Rattle.volume_model.specs.declared.command.Command.{Command}
 use Rattle.blob_meta.specs.declared.meta.Meta.{Meta}
@@ -12,12 +12,11 @@ use Rattle.store_model.specs.StoreState.{StoreState}
 use Rattle.running_store.specs.TurnMade.{TurnMade, TurnsAs}
 use Rattle.running_store.specs.Steps.{decided}
 use Rattle.running_store.specs.StoreView.{StoreView, rows_of}
-use Rattle.running_store.specs.declared.effects.Effects.{Effects}
 use Rattle.metadata_turns.specs.declared.inserting.InsertTurn.{InsertTurn}
 use Rattle.metadata_turns.specs.declared.inserting.InsertTurn.TheVariants as insert
 use Rattle.running_store.specs.declared.job.RunningJob.{RunningJob}
 use Rattle.running_store.specs.declared.job.Serves.TheVariants as whom
-use Rattle.running_store.specs.declared.job.Work.TheVariants as work
+use Rattle.metadata_turns.specs.Begins.{plain_job}
 use Rattle.metadata_turns.specs.declared.preparing.Prepared.{Prepared}
 
 -- a row that is posted with the claim that it holds
@@ -33,18 +32,9 @@ pub record Fills {E : Type 0} (p : StoreState) (claim : OpenClaim) (x : Result M
   pub can : CanInsert p claim meta
   pub filled : IfOk x (λ new. new ≡ with_slot meta claim.slot claim.cluster)
 
--- its commit does nothing besides
-abbrev pub no_effects : Effects
-no_effects = record { live = None; renews = false; freed = []; claimed = []; rooms = None }
-
 -- the job that begins with what was prepared
 abbrev pub insert_job : Prepared → ℕ → ℕ → Meta → RunningJob
-insert_job x channel head new = record {
-  serves = whom.Insert channel;
-  work = work.Writing
-      (record { head = head; new = new; effects = no_effects; chain = x.laid.chain; pages = x.laid.pages }) 0;
-  old = x.old;
-}
+insert_job x channel head new = plain_job (whom.Insert channel) x head new
 
 -- too few pages are clear, or memory ran out
 abbrev pub IsLack : Kind → Type 0

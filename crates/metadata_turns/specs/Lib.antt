@@ -3,4 +3,6 @@ pub mod OwnWrites
 pub mod JobTurns
 pub mod Telling
 pub mod Begins
+pub mod Alone
+pub mod Repairs
 pub mod Inserts

@@ -20,18 +20,34 @@ let_go_at p channel stage =
 abbrev pub IsTold : Serves → Reply → Stage → {D : Type 0} → StoreView D → StoreView D → ℕ → Type 0
 IsTold (whom.Command channel) reply next p q mark = IsEntered p q channel reply mark
 IsTold (whom.Insert channel) reply next p q mark = q ≡ let_go_at p channel next
+IsTold whom.Repair reply next p q mark = q ≡ p
 
 -- Once the old pages are clear: the row of an insert is decided as won.
 abbrev pub IsWon : Serves → {D : Type 0} → StoreView D → StoreView D → Type 0
 IsWon (whom.Command channel) p q = q ≡ p
 IsWon (whom.Insert channel) p q = q ≡ let_go_at p channel (Decided Won)
+IsWon whom.Repair p q = q ≡ p
+
+-- The store stopped before a replacement: the command, or the write that waits for an insert, is logged as failed.
+abbrev pub HasFailed : Serves → {D : Type 0} → StoreView D → StoreView D → ℕ → Type 0
+HasFailed (whom.Command channel) p q mark = IsGivenUp (stopped_at p) q channel r.Fault mark
+HasFailed (whom.Insert channel) p q mark = IsGivenUp (stopped_at p) q channel r.Fault mark
+HasFailed whom.Repair p q mark = q ≡ stopped_at p
 
 -- The store stopped behind a replacement: the write that waits for an insert is logged as failed.
 abbrev pub IsBrokenOff : Serves → {D : Type 0} → StoreView D → StoreView D → ℕ → Type 0
 IsBrokenOff (whom.Command channel) p q mark = q ≡ stopped_at p
 IsBrokenOff (whom.Insert channel) p q mark = IsGivenUp (stopped_at p) q channel r.Fault mark
+IsBrokenOff whom.Repair p q mark = q ≡ stopped_at p
 
 -- the row of an insert is one of the sixteen, and has a command
 abbrev pub HasInsertRow : List Row → Serves → Type 0
 HasInsertRow rows (whom.Command channel) = Unit {0}
 HasInsertRow rows (whom.Insert channel) = (channel < 16) × (0 < length (rows_of rows channel).left)
+HasInsertRow rows whom.Repair = Unit {0}
+
+-- so is that of a command or an insert
+abbrev pub HasRow : List Row → Serves → Type 0
+HasRow rows (whom.Command channel) = (channel < 16) × (0 < length (rows_of rows channel).left)
+HasRow rows (whom.Insert channel) = (channel < 16) × (0 < length (rows_of rows channel).left)
+HasRow rows whom.Repair = Unit {0}

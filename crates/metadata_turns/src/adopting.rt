@@ -1,14 +1,15 @@
-//! The blob of a job once its head is written.
+//! The blob of a job once its head is written, or erased.
 
 ghost use Rattle.std.specs.Prelude.{◌≡◌, ◌<◌, [], true, All, None, IsSome, length};
 ghost use Rattle.std.specs.FinMap as map;
 ghost use Rattle.bit_array.specs.Bits.{is_in};
 ghost use Rattle.store_model.specs.Places.{AreDistinct};
-ghost use Rattle.running_store.specs.Running.{adopted, HasRoom};
+ghost use Rattle.running_store.specs.Running.{adopted, forgotten, HasRoom};
 
 use blob_meta::HeadMap;
 use out_of_memory::Memory;
 use running_store::{Effects, Planned, Running, clear_places};
+use volume_model::PlaceList;
 
 /// The blob has what was planned from now on, without a mark: one that is there, or a new one. Clusters that no map has
 /// any more are clear.
@@ -71,4 +72,24 @@ fn renew<V: Drop>(entries: &mut HeadMap<V>, head: u32, value: V)
         Ok(()) => {}
         Err(Memory) => unreachable!(),
     }
+}
+
+/// The blob at a head is gone from now on, and so is its generation: its head's page is clear, and so are the clusters
+/// that no other blob has.
+pub(crate) fn forget<D>(running: &mut Running<D>, head: u32, freed: &PlaceList)
+    requires page { is_in running.old.pages.bits head ≡ true }
+    requires marked { head < length running.old.heads }
+    requires no_page { running.old.pages.claims ≡ [] }
+    requires unclaimed { running.old.clusters.claims ≡ [] }
+    requires once { AreDistinct freed.now }
+    requires in_use { All (λ cluster. is_in running.old.clusters.bits cluster ≡ true) freed.now }
+    ensures { running.new ≡ forgotten running.old head freed.now }
+{
+    clear_places(&mut running.clusters, freed);
+    running.metas.remove(head);
+    running.marked.remove(head);
+    running.chains.remove(head);
+    running.guards.remove(head);
+    running.heads.clear(head);
+    running.pages.free(head);
 }

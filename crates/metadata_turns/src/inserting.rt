@@ -25,11 +25,10 @@ use blob_meta::Meta;
 use out_of_memory::Memory;
 use page_disk::PageDisk;
 use running_store::{
-    Decision, Effects, OpenClaim, Planned, Row, Running, RunningJob, Serves, Stage, Work,
-    give_back, give_up,
+    Decision, OpenClaim, Row, Running, RunningJob, Serves, Stage, give_back, give_up,
 };
 use std::alloc::Global;
-use volume_model::{PlaceList, Reply, TryCopy};
+use volume_model::{Reply, TryCopy};
 
 /// What the begin of an insert comes to.
 #[derive(Clone, Copy)]
@@ -175,28 +174,7 @@ fn start<D: PageDisk>(
 fn job_of(alloc: Global, prepared: Prepared, channel: u8, head: u32, new: Meta) -> RunningJob
     ensures { result ≡ insert_job prepared channel head new }
 {
-    let effects = Effects {
-        live: None,
-        renews: false,
-        freed: PlaceList::new(alloc),
-        claimed: PlaceList::new(alloc),
-        rooms: None,
-    };
-    let planned = Planned {
-        head,
-        new,
-        effects,
-        chain: prepared.laid.chain,
-        pages: prepared.laid.pages,
-    };
-    RunningJob {
-        serves: Serves::Insert(channel),
-        work: Work::Writing {
-            planned,
-            written: 0,
-        },
-        old: prepared.old,
-    }
+    prepared.alone(alloc, Serves::Insert(channel), head, new)
 }
 
 /// Begins the insert of a posted row, of a store without a repair that is left, or, on a stopped store, logs its write

@@ -1,16 +1,17 @@
 //! The turns of the running job.
 
 ghost use Rattle.std.specs.Prelude.{◌≡◌, ◌<◌, ◌+◌, Some, None, IsSome, length, drop};
-ghost use Rattle.running_store.specs.Jobs.{erasing_for, writing_for, zeroing_job, IsMatched, IsMatchedFor};
+ghost use Rattle.running_store.specs.Jobs.{erasing_for, removing_for, writing_for, zeroing_job, IsMatched, IsMatchedFor};
+ghost use Rattle.running_store.specs.Jobs.{IsRemovedFor};
 ghost use Rattle.metadata_turns.specs.JobTurns.{answer_of, with_job, IsAtWork, TurnsJob};
 ghost use Rattle.metadata_turns.specs.OwnWrites.{AreOwn};
 ghost use Rattle.metadata_turns.specs.declared.job_turn.JobTurn.TheVariants.{Stopped};
 ghost use Rattle.running_store.specs.StoreInvariant.{IsRunning};
-ghost use Rattle.running_store.specs.Running.{view_of, HasRoom, InOrder, WillResolve};
+ghost use Rattle.running_store.specs.Running.{view_of, HasRoom, InOrder, WillResolve, WillResolveWithout};
 ghost use Rattle.running_store.specs.StoreView.{state_of};
 
-use crate::adopting::adopt;
-use crate::telling::{break_off, fail, stage_behind, tell, win};
+use crate::adopting::{adopt, forget};
+use crate::telling::{break_off, fail, fail_job, stage_behind, tell, win};
 use page_disk::PageDisk;
 use running_store::{
     Planned, Running, RunningJob, Serves, Work, Zeroed, clear_places, give_up, replace,
@@ -47,7 +48,7 @@ pub(crate) fn job_turn<D: PageDisk>(running: &mut Running<D>) -> JobTurn
     match work {
         Work::Zeroing { planned, zeroed } => match serves {
             Serves::Command(channel) => zero(running, channel, planned, zeroed, old),
-            Serves::Insert(_) => unreachable!(),
+            Serves::Insert(_) | Serves::Repair => unreachable!(),
         },
         Work::Writing { planned, written } => {
             let fresh = planned.pages.len() - 1;
@@ -57,6 +58,7 @@ pub(crate) fn job_turn<D: PageDisk>(running: &mut Running<D>) -> JobTurn
                 replace_head(running, serves, planned, old)
             }
         }
+        Work::Removing { head, freed } => remove_head(running, serves, head, &freed, old),
         Work::Erasing { erased } => {
             let last = old.len() - 1;
             if erased < last {
@@ -155,7 +157,7 @@ fn write_fresh<D: PageDisk>(
     let next = &planned.pages.as_slice()[written + 1];
     let page = page_at(&running.sup, next.place);
     if write_one(&mut running.disk, page, &next.page).is_err() {
-        return fail(running, serves.channel());
+        return fail_job(running, serves);
     }
     running.job = Some(RunningJob {
         serves,
@@ -168,7 +170,8 @@ fn write_fresh<D: PageDisk>(
     JobTurn::More
 }
 
-/// Replaces the head's page, all fresh pages being written: the command is done, or the cluster stands in its slot.
+/// Replaces the head's page, all fresh pages being written: the command is done, or the cluster stands in its slot, or
+/// the blob has no mark any more.
 fn replace_head<D: PageDisk>(
     running: &mut Running<D>,
     serves: Serves,
@@ -190,11 +193,44 @@ fn replace_head<D: PageDisk>(
     let first = &planned.pages.as_slice()[0];
     let page = page_at(&running.sup, planned.head);
     if replace(&mut running.disk, page, &first.page).is_err() {
-        return fail(running, serves.channel());
+        return fail_job(running, serves);
     }
     let reply = planned.reply();
     adopt(running, planned);
     tell(running, serves, reply, stage_behind(&old));
+    if old.len() == 0 {
+        return JobTurn::Done;
+    }
+    running.job = Some(RunningJob {
+        serves,
+        work: Work::Erasing { erased: 0 },
+        old,
+    });
+    JobTurn::More
+}
+
+/// Overwrites the head's page of a blob with zeros: the blob is gone.
+fn remove_head<D: PageDisk>(
+    running: &mut Running<D>,
+    serves: Serves,
+    head: u32,
+    freed: &PlaceList,
+    old: PlaceList,
+) -> JobTurn
+    requires order { InOrder D.PageDisk running.old }
+    requires removed { IsRemovedFor serves freed.now }
+    requires will_resolve { WillResolveWithout running.old.metas running.old.marked head }
+    requires at_work { IsAtWork D.PageDisk (view_of running.old) (removing_for serves head freed.now old) }
+    ensures case { TurnsJob D.PageDisk (with_job (view_of running.old) (removing_for serves head freed.now old))
+        (view_of running.new) }
+    ensures answer { result ≡ answer_of (view_of running.new) }
+    ensures order { InOrder D.PageDisk running.new }
+{
+    let page = page_at(&running.sup, head);
+    if replace(&mut running.disk, page, &[0; 4096]).is_err() {
+        return break_off(running, serves);
+    }
+    forget(running, head, freed);
     if old.len() == 0 {
         return JobTurn::Done;
     }

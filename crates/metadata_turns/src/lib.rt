@@ -2,15 +2,18 @@
 #![tactic(auto)]
 
 mod adopting;
+mod alone;
 mod answering;
 mod begin;
 mod filling;
 mod inserting;
 mod job_turn;
 mod preparing;
+mod repairing;
 mod telling;
 
 pub use answering::{answer_or_halt, live_at};
 pub use begin::{BeginTurn, begin_or_halt};
 pub use inserting::{InsertTurn, begin_insert_or_halt};
 pub use job_turn::{JobTurn, job_turn_or_end};
+pub use repairing::{RepairTurn, begin_repair};

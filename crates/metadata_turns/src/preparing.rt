@@ -48,7 +48,7 @@ impl Prepared {
     ghost use Rattle.blob_meta.specs.declared.meta.Meta.{Meta as AMeta};
     ghost use Rattle.store_model.specs.Places.{AreDistinct};
     ghost use Rattle.running_store.specs.Jobs.{begun_job};
-    ghost use Rattle.metadata_turns.specs.Begins.{planned_with};
+    ghost use Rattle.metadata_turns.specs.Begins.{plain_job, planned_with};
     ghost use Rattle.running_store.specs.Jobs.{job_seen, IsHeaded};
     ghost use Rattle.running_store.specs.Running.{HasRoom, IsRoomy, WillResolve, WillResolveBy};
 
@@ -99,6 +99,36 @@ impl Prepared {
             written: 0,
         };
         RunningJob { serves, work, old }
+    }
+
+    /// The job that writes the metadata of a blob that is there, at its begin, and does nothing besides.
+    pub(crate) fn alone(self, alloc: Global, serves: Serves, head: u32, new: Meta) -> RunningJob
+        ensures { result ≡ plain_job serves self head new }
+    {
+        let Prepared { laid, old } = self;
+        let Laid { chain, pages } = laid;
+        let effects = Effects {
+            live: None,
+            renews: false,
+            freed: PlaceList::new(alloc),
+            claimed: PlaceList::new(alloc),
+            rooms: None,
+        };
+        let planned = Planned {
+            head,
+            new,
+            effects,
+            chain,
+            pages,
+        };
+        RunningJob {
+            serves,
+            work: Work::Writing {
+                planned,
+                written: 0,
+            },
+            old,
+        }
     }
 }
 
@@ -156,7 +186,7 @@ pub(crate) fn lack_beside_clusters(
 }
 
 /// How many pages the chain of these items takes: those behind the head, and the head's where the blob is new.
-fn pages_needed(items: &ItemList, makes: bool) -> u32
+pub(crate) fn pages_needed(items: &ItemList, makes: bool) -> u32
     requires plannable { ArePlannable items.now }
     requires few { AreFew items.now }
     ensures { result ≡ needed makes items.now }
@@ -166,7 +196,7 @@ fn pages_needed(items: &ItemList, makes: bool) -> u32
 }
 
 /// The items by which metadata is written: few enough for a chain, each short enough for a page.
-fn items_of(alloc: Global, new: &Meta) -> Result<ItemList, Memory>
+pub(crate) fn items_of(alloc: Global, new: &Meta) -> Result<ItemList, Memory>
     requires xattrs { All FitsPage new.now.xattrs }
     requires internal { All FitsPage new.now.internal }
     ensures are { IfOk result (IsItemsOf new.now) }
@@ -181,7 +211,7 @@ fn items_of(alloc: Global, new: &Meta) -> Result<ItemList, Memory>
 }
 
 /// The places that stand behind the head in the chain of a blob; none where no blob is there.
-fn places_behind(alloc: Global, chains: &Chains, head: u32) -> Result<PlaceList, Memory>
+pub(crate) fn places_behind(alloc: Global, chains: &Chains, head: u32) -> Result<PlaceList, Memory>
     requires { IsSome (map.get chains.now head) → HasChain chains.now head }
     ensures there { IfOk result (λ behind. IsSome (map.get chains.now head)
         → map.get chains.now head ≡ Some (head ∷ behind)) }

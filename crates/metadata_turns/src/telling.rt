@@ -4,12 +4,11 @@ ghost use Rattle.std.specs.Prelude.{◌≡◌, ◌<◌, None, [], length};
 ghost use Rattle.volume_model.specs.declared.reply.Reply.TheVariants.{Fault};
 ghost use Rattle.store_model.specs.Claiming as claiming;
 ghost use Rattle.store_model.specs.Phases.{erasing};
-ghost use Rattle.running_store.specs.Jobs.{row_of};
 ghost use Rattle.metadata_turns.specs.JobTurns.{answer_of, stopped_at};
 ghost use Rattle.running_store.specs.Running.{view_of, InOrder};
 ghost use Rattle.running_store.specs.Stages.{stage_seen};
 ghost use Rattle.running_store.specs.StoreView.{rows_of};
-ghost use Rattle.metadata_turns.specs.Telling.{let_go_at, HasInsertRow, IsBrokenOff, IsTold, IsWon};
+ghost use Rattle.metadata_turns.specs.Telling.{let_go_at, HasFailed, HasInsertRow, HasRow, IsBrokenOff, IsTold, IsWon};
 ghost use Rattle.running_store.specs.GivingBack.{IsGivenUp};
 
 use crate::job_turn::JobTurn;
@@ -18,11 +17,10 @@ use running_store::{Decision, Running, Serves, Stage, give_up, log};
 use volume_model::{PlaceList, Reply};
 
 /// The replacement is made: a command is logged with its reply; the row of an insert, which has its cluster, goes on at
-/// this stage.
+/// this stage. No row waits for a repair.
 pub(crate) fn tell<D: PageDisk>(running: &mut Running<D>, serves: Serves, reply: Reply, next: Stage)
     requires order { InOrder D.PageDisk running.old }
-    requires channel { row_of serves < 16 }
-    requires left { 0 < length (rows_of running.old.rows.items (row_of serves)).left }
+    requires row { HasRow running.old.rows.items serves }
     ensures told { IsTold serves reply (stage_seen next) (view_of running.old) (view_of running.new)
         (D.clock running.new.disk) }
     ensures order { InOrder D.PageDisk running.new }
@@ -30,6 +28,7 @@ pub(crate) fn tell<D: PageDisk>(running: &mut Running<D>, serves: Serves, reply:
     match serves {
         Serves::Command(channel) => log(running, channel, reply),
         Serves::Insert(channel) => let_go(running, channel, next),
+        Serves::Repair => {}
     }
 }
 
@@ -52,7 +51,7 @@ pub(crate) fn win<D: PageDisk>(running: &mut Running<D>, serves: Serves)
     ensures order { InOrder D.PageDisk running.new }
 {
     match serves {
-        Serves::Command(_) => {}
+        Serves::Command(_) | Serves::Repair => {}
         Serves::Insert(channel) => let_go(running, channel, Stage::Decided(Decision::Won)),
     }
 }
@@ -84,7 +83,24 @@ pub(crate) fn fail<D: PageDisk>(running: &mut Running<D>, channel: u8) -> JobTur
     turn
 }
 
-/// The store stops behind a replacement: a command has its entry, and the write for which a job inserts is logged as
+/// The store stops before a job's replacement is made: what waits for the job is logged as failed, and nothing waits for
+/// a repair.
+pub(crate) fn fail_job<D: PageDisk>(running: &mut Running<D>, serves: Serves) -> JobTurn
+    requires order { InOrder D.PageDisk running.old }
+    requires taken { running.old.job ≡ None }
+    requires row { HasRow running.old.rows.items serves }
+    ensures failed { HasFailed serves (view_of running.old) (view_of running.new) (D.clock running.old.disk) }
+    ensures answer { result ≡ answer_of (view_of running.new) }
+    ensures order { InOrder D.PageDisk running.new }
+{
+    match serves {
+        Serves::Command(channel) => fail(running, channel),
+        Serves::Insert(channel) => fail(running, channel),
+        Serves::Repair => stop(running),
+    }
+}
+
+/// The store stops behind a replacement, or in a repair: a command has its entry, and the write for which a job inserts is logged as
 /// failed.
 pub(crate) fn break_off<D: PageDisk>(running: &mut Running<D>, serves: Serves) -> JobTurn
     requires order { InOrder D.PageDisk running.old }
@@ -95,7 +111,7 @@ pub(crate) fn break_off<D: PageDisk>(running: &mut Running<D>, serves: Serves) -
     ensures order { InOrder D.PageDisk running.new }
 {
     match serves {
-        Serves::Command(_) => stop(running),
+        Serves::Command(_) | Serves::Repair => stop(running),
         Serves::Insert(channel) => fail(running, channel),
     }
 }

@@ -2,6 +2,7 @@ pub mod Moving
 pub mod Counting
 pub mod Maps
 pub mod Resolved
+pub mod Without
 pub mod Rowing
 pub mod Entered
 pub mod GivenBack

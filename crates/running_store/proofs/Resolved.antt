@@ -76,25 +76,30 @@ module _ (metas marked : MetaMap) where
       by true x y = refl
       by false x y = refl
 
-  -- the replaced blob has its mark no more, and the others are as they were
-  pub resolved_behind : (head : ℕ) (new : Meta) → AreResolved metas marked
-      → resolved (with_entry (base_of metas marked) head new) ≡ map.get (map.insert metas head new)
-      → AreResolved (map.insert metas head new) (map.remove marked head)
-  resolved_behind head new are will = record {
-    marks = λ q m is. elim (cases_eq q head) [
-      | inl e ↦ absurd (let gone : map.get (map.remove marked head) q ≡ None =
-          ap (map.get (map.remove marked head)) e ∙ ap (λ (f : Metas). f head) (remove_given marked head)
-          ∙ here head in cc (gone, is))
-      | inr ne ↦ are.marks q m (sym (ap (λ (f : Metas). f q) (remove_given marked head) ∙ elsewhere q ne) ∙ is)
-    ];
-    resolves = ap resolved (base_given head new) ∙ will;
-  }
+  -- a blob that is replaced or erased is kept aside no more, and the others have their marks
+  pub still_marked : (head : ℕ) → AreResolved metas marked → (q : ℕ) (m : Meta)
+      → map.get (map.remove marked head) q ≡ Some m → mark_of m ≢ None
+  still_marked head are q m is = elim (cases_eq q head) [
+    | inl e ↦ absurd (let gone : map.get (map.remove marked head) q ≡ None =
+        ap (map.get (map.remove marked head)) e ∙ ap (λ (f : Metas). f head) (remove_given marked head)
+        ∙ here head in cc (gone, is))
+    | inr ne ↦ are.marks q m (sym (ap (λ (f : Metas). f q) (remove_given marked head) ∙ elsewhere q ne) ∙ is)
+  ]
     where
       here : (h : ℕ) → without_entry (map.get marked) h h ≡ None
       here h = rw (eq-eqb h h refl) refl
 
       elsewhere : (q : ℕ) → q ≢ head → without_entry (map.get marked) head q ≡ map.get marked q
       elsewhere q ne = rw (ne_eqb q head ne) refl
+
+  -- the replaced blob has its mark no more, and the others are as they were
+  pub resolved_behind : (head : ℕ) (new : Meta) → AreResolved metas marked
+      → resolved (with_entry (base_of metas marked) head new) ≡ map.get (map.insert metas head new)
+      → AreResolved (map.insert metas head new) (map.remove marked head)
+  resolved_behind head new are will = record {
+    marks = still_marked head are;
+    resolves = ap resolved (base_given head new) ∙ will;
+  }
 
 -- Where no blob has a mark, none has one once a blob is given metadata without a mark: the metadata resolves as it is.
 pub will_resolve : (metas marked : MetaMap) (head : ℕ) (new : Meta) → AreResolved metas marked

@@ -11,6 +11,7 @@ use Rattle.volume_model.specs.contracts.reply.Reply as reply
 use Rattle.volume_model.specs.contracts.text.Xattr as xattr
 use Rattle.volume_model.specs.declared.text.Xattr.{Xattr}
 use Rattle.volume_model.specs.Xattrs.{Xattrs}
+use Rattle.volume_model.specs.Volumes.{zero_page}
 use Rattle.blob_meta.specs.declared.meta.Meta.{Meta}
 use Rattle.blob_meta.specs.contracts.meta.Meta as meta
 use Rattle.md_chain.specs.declared.plan.PlannedPage.{PlannedPage}
@@ -67,16 +68,13 @@ commit_of p =
 abbrev pub service_of : Serves → Service
 service_of (whom.Command channel) = ForCommand channel
 service_of (whom.Insert channel) = ForInsert channel
+service_of whom.Repair = ForRepair
 
--- the channel for which it is done
-abbrev pub row_of : Serves → ℕ
-row_of (whom.Command channel) = channel
-row_of (whom.Insert channel) = channel
-
--- what its replacement commits: nothing for an insert
+-- what its replacement commits: nothing for an insert or a repair
 abbrev pub commit_for : Serves → Planned → Option Committing
 commit_for (whom.Command channel) p = Some (commit_of p)
 commit_for (whom.Insert channel) p = None
+commit_for whom.Repair p = None
 
 -- ---- the job
 
@@ -108,6 +106,28 @@ zeroing_job channel p old z = zeroing_for (whom.Command channel) p old z
 abbrev pub behind_zero : JobState → JobState
 behind_zero j = record j { todo = drop 1 j.todo }
 
+-- the replacement that erases the blob at a head: a page of zeros goes over its head's
+abbrev pub erasure_of : ℕ → List ℕ → List ℕ → Replacing
+erasure_of head freed old = record {
+  head = head;
+  new = None;
+  makes = false;
+  fresh = [];
+  planned = record { place = head; page = zero_page } ∷ [];
+  old = old;
+  freed = freed;
+}
+
+-- a job that erases a blob
+abbrev pub removing_for : Serves → ℕ → List ℕ → List ℕ → JobState
+removing_for serves head freed old = record {
+  serves = service_of serves;
+  freeze = None;
+  claimed = [];
+  written = [];
+  todo = Replaces (erasure_of head freed old) None ∷ erasing old old [];
+}
+
 -- a job behind its replacement, of which so many old pages are overwritten
 abbrev pub erasing_for : Serves → List ℕ → ℕ → JobState
 erasing_for serves old erased = record {
@@ -137,6 +157,7 @@ job_seen j = seen j.work
     seen : Work → JobState
     seen (work.Zeroing planned zeroed) = zeroing_for j.serves planned j.old zeroed
     seen (work.Writing planned written) = writing_for j.serves planned j.old written
+    seen (work.Removing head freed) = removing_for j.serves head freed j.old
     seen (work.Erasing erased) = erasing_for j.serves j.old erased
 
 -- The chain that is to be written begins with its head, and each cluster is freed once.
@@ -153,15 +174,22 @@ pub record AreNone (e : Effects) : Type 0 where
   pub claimed : e.claimed ≡ []
   pub rooms : e.rooms ≡ None
 
--- An insert does nothing besides.
+-- An insert does nothing besides, and no more does a repair.
 abbrev pub IsMatchedFor : Serves → Planned → Type 0
 IsMatchedFor (whom.Command channel) p = IsMatched p
 IsMatchedFor (whom.Insert channel) p = IsMatched p × AreNone p.effects
+IsMatchedFor whom.Repair p = IsMatched p × AreNone p.effects
 
 -- Only a command's job overwrites clusters.
 abbrev pub IsZeroedFor : Serves → Planned → Zeroed → Type 0
 IsZeroedFor (whom.Command channel) p zeroed = IsMatched p × IsLeft p.effects.claimed zeroed
 IsZeroedFor (whom.Insert channel) p zeroed = ⊥
+IsZeroedFor whom.Repair p zeroed = ⊥
+
+-- No insert erases a blob, and each cluster is freed once.
+abbrev pub IsRemovedFor : Serves → List ℕ → Type 0
+IsRemovedFor (whom.Insert channel) freed = ⊥
+IsRemovedFor other freed = AreDistinct freed
 
 abbrev pub IsHeaded : RunningJob → Type 0
 IsHeaded j = headed j.work
@@ -169,6 +197,7 @@ IsHeaded j = headed j.work
     headed : Work → Type 0
     headed (work.Zeroing planned zeroed) = IsZeroedFor j.serves planned zeroed
     headed (work.Writing planned written) = IsMatchedFor j.serves planned
+    headed (work.Removing head freed) = IsRemovedFor j.serves freed
     headed (work.Erasing erased) = Unit {0}
 
 -- ---- the codes by which contracts store it

@@ -4,7 +4,8 @@ use Rattle.std.specs.Prelude.{slice_index_or}
 use Rattle.std.specs.Prelude.{IfSome, IsSome, List, if◌then◌else◌, is_some, slice_set, false, None, Option, Some}
 use Rattle.std.specs.FinMap as map
 use Rattle.bit_array.specs.Bits.{is_in}
-use Rattle.store_model.specs.Maps.{Metas, with_entry}
+use Rattle.pools.specs.Pool.{freed as freed_page}
+use Rattle.store_model.specs.Maps.{Metas, with_entry, without_entry}
 use Rattle.std.specs.List.{sum_by}
 use Rattle.std.specs.Option.{option_map}
 use Rattle.page_disk.specs.declared.disk.PageDisk.{Ghosts}
@@ -14,7 +15,7 @@ use Rattle.std.specs.Ordering.{nat_cmp}
 use Rattle.blob_meta.specs.declared.meta.Meta.{Meta}
 use Rattle.blob_meta.specs.Resolving.{resolved}
 use Rattle.volume_model.specs.Xattrs.{Xattrs}
-use Rattle.io_freeze.specs.Guards.{GuardsState, renewed}
+use Rattle.io_freeze.specs.Guards.{GuardsState, removed, renewed}
 use Rattle.store_model.specs.Places.{all_set}
 use Rattle.running_store.specs.Effects.{is_numbered}
 use Rattle.running_store.specs.declared.effects.Effects.{Effects}
@@ -78,6 +79,7 @@ IsRoomy metas chains live guards j = by j.work
     by : Work → Type 0
     by (work.Zeroing planned zeroed) = HasRoom metas chains live guards planned.effects
     by (work.Writing planned written) = HasRoom metas chains live guards planned.effects
+    by (work.Removing head freed) = Unit {0}
     by (work.Erasing erased) = Unit {0}
 
 -- A blob that isn't new is in memory; and once it has what is planned, what the device says resolves to what the store
@@ -87,13 +89,19 @@ pub record WillResolve (metas marked : map.FinMap nat_cmp Meta) (p : Planned) : 
   pub resolves : resolved (with_entry (base_of metas marked) p.head p.new)
       ≡ map.get (map.insert metas p.head p.new)
 
--- the same, of what a job is to write
+-- Once a blob is erased, what the device says resolves to what the store has in memory without it.
+abbrev pub WillResolveWithout : map.FinMap nat_cmp Meta → map.FinMap nat_cmp Meta → ℕ → Type 0
+WillResolveWithout metas marked head =
+    resolved (without_entry (base_of metas marked) head) ≡ map.get (map.remove metas head)
+
+-- the same, of what a job is to write or to erase
 abbrev pub WillResolveBy : map.FinMap nat_cmp Meta → map.FinMap nat_cmp Meta → RunningJob → Type 0
 WillResolveBy metas marked j = by j.work
   where
     by : Work → Type 0
     by (work.Zeroing planned zeroed) = WillResolve metas marked planned
     by (work.Writing planned written) = WillResolve metas marked planned
+    by (work.Removing head freed) = WillResolveWithout metas marked head
     by (work.Erasing erased) = Unit {0}
 
 -- the attributes of one blob, if they are given, in place of those that it had
@@ -111,6 +119,18 @@ adopted running p = record running {
   clusters = record { bits = all_set running.clusters.bits p.effects.freed false; claims = [] };
   guards = if is_numbered p.effects then renewed running.guards p.head else running.guards;
   heads = if is_some p.effects.rooms then slice_set running.heads p.head true else running.heads;
+}
+
+-- the store once the blob at a head is erased, and these clusters are clear
+abbrev pub forgotten : {D : Type 0} → Running D → ℕ → List ℕ → Running D
+forgotten running head freed = record running {
+  metas = map.remove running.metas head;
+  marked = map.remove running.marked head;
+  chains = map.remove running.chains head;
+  pages = freed_page running.pages head;
+  clusters = record { bits = all_set running.clusters.bits freed false; claims = [] };
+  guards = removed running.guards head;
+  heads = slice_set running.heads head false;
 }
 
 -- There are sixteen rows; the log and the marks have room for all that is left; the entries of each channel are

@@ -97,6 +97,8 @@ pub enum Work {
     Zeroing { planned: Planned, zeroed: Zeroed },
     /// So many of the pages behind the head are written.
     Writing { planned: Planned, written: usize },
+    /// The blob at this head is to be erased; these clusters, which no other blob has, are clear then.
+    Removing { head: u32, freed: PlaceList },
     /// So many of the old pages are overwritten.
     Erasing { erased: usize },
 }
@@ -108,21 +110,8 @@ pub enum Serves {
     Command(u8),
     /// The insert of the cluster that a channel has claimed for its write.
     Insert(u8),
-}
-
-impl Serves {
-    ghost use Rattle.std.specs.Prelude.{◌≡◌};
-    ghost use Rattle.running_store.specs.Jobs.{row_of};
-
-    /// The channel for which it is done.
-    pub fn channel(self) -> u8
-        ensures { result ≡ row_of self }
-    {
-        match self {
-            Serves::Command(channel) => channel,
-            Serves::Insert(channel) => channel,
-        }
-    }
+    /// No channel: what recovery found is made good.
+    Repair,
 }
 
 /// The running job: for whom it is done, and the places that stood behind the head before it.
@@ -209,7 +198,9 @@ pub fn waiting_for(job: &Option<RunningJob>) -> Option<u8>
         Serves::Command(channel) => match &running.work {
             Work::Zeroing { .. } => Some(channel),
             Work::Writing { .. } => Some(channel),
+            Work::Removing { .. } => None,
             Work::Erasing { .. } => None,
         },
+        Serves::Repair => None,
     }
 }

@@ -1,5 +1,5 @@
 use Rattle.std.proofs.Common.{zero, [], ◌∷◌, ◌≡◌, Option, Some, length, drop, refl, sym, ◌∙◌, ap, subst, arith, ℕ, ◌≤◌}
-use Rattle.std.proofs.Common.{List, ◌∷◌, take, suc, IfSome}
+use Rattle.std.proofs.Common.{List, ◌∷◌, take, suc, IfSome, ◌⊎◌, inl, inr}
 use Rattle.std.specs.Option.{option_map}
 use Rattle.store_model.specs.StoreState.{JobState}
 use Rattle.running_store.specs.declared.job.RunningJob.{RunningJob}
@@ -67,9 +67,10 @@ for_command : (serves : Serves) (channel : ℕ) (planned : Planned) (zeroed : Ze
     → IsZeroedFor serves planned zeroed → IsMatched planned × IsLeft planned.effects.claimed zeroed
 for_command serves channel planned zeroed is known = subst (λ x. IsZeroedFor x planned zeroed) is known
 
-no_insert : (serves : Serves) (channel : ℕ) (planned : Planned) (zeroed : Zeroed) → serves ≡ whom.Insert channel
-    → IsZeroedFor serves planned zeroed → ⊥
-no_insert serves channel planned zeroed is known = subst (λ x. IsZeroedFor x planned zeroed) is known
+not_zeroed : (serves : Serves) (planned : Planned) (zeroed : Zeroed)
+    → ((channel : ℕ) × (serves ≡ whom.Insert channel)) ⊎ (serves ≡ whom.Repair) → IsZeroedFor serves planned zeroed → ⊥
+not_zeroed serves planned zeroed (inl insert) known = subst (λ x. IsZeroedFor x planned zeroed) insert.1 known
+not_zeroed serves planned zeroed (inr repair) known = subst (λ x. IsZeroedFor x planned zeroed) repair known
 
 pub zero-requires-clause-matched : goal.zero-requires-clause-matched
 zero-requires-clause-matched g c = (for_command _ _ _ _ c.in-Command.is (headed_work c.args.running.now.job
@@ -86,7 +87,7 @@ zero-requires-clause-pages g c = (for_command _ _ _ _ c.in-Command.is (headed_wo
     c.requires.order.headed)).1.pages
 
 pub unreachable-requires : goal.unreachable-requires
-unreachable-requires g c = no_insert _ _ _ _ c.in-Insert.is (headed_work c.args.running.now.job c.take.result
+unreachable-requires g c = not_zeroed _ _ _ c.in-Insert.is (headed_work c.args.running.now.job c.take.result
     c.in-Some.field-0 _ c.take.ensures.value c.in-Some.is c.in-Zeroing.is c.requires.order.headed)
 
 pub overflow_sub-fresh : goal.overflow_sub-fresh

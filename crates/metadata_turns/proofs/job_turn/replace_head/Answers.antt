@@ -1,4 +1,4 @@
-use Rattle.std.proofs.Common.{◌≡◌, Option, Some, None, ℕ, ◌+◌, ◌≤◌, ◌<◌, [], List, length, get_or, drop, sym}
+use Rattle.std.proofs.Common.{◌≡◌, ℕ, ◌+◌, ◌≤◌, [], List, length, get_or, drop, sym}
 use Rattle.std.proofs.Common.{◌∙◌, ap, refl, subst}
 use Rattle.std.proofs.Common.{arith}
 use Rattle.page_disk.specs.Moments.{IsReplaced, CallsLeaveOnly}
@@ -9,27 +9,22 @@ use Rattle.store_model.specs.Maps.{Metas}
 use Rattle.store_model.specs.Rows.{Row}
 use Rattle.running_store.specs.Running.{view_of, AreHeads, InOrder}
 use Rattle.running_store.specs.Stages.{stage_seen}
-use Rattle.running_store.specs.StoreView.{base_of, device_of, rows_of, StoreView}
+use Rattle.running_store.specs.StoreView.{base_of, device_of, StoreView}
 use Rattle.running_store.specs.declared.job.Planned.{Planned}
-use Rattle.running_store.specs.declared.job.RunningJob.{RunningJob}
 use Rattle.running_store.specs.declared.job.Serves.{Serves}
-use Rattle.std.specs.Prelude.{if◌then◌else◌, is_some, slice_set, true, IfSome}
-use Rattle.std.specs.Option.{option_map}
-use Rattle.running_store.specs.Jobs.{job_seen, row_of, writing_for, IsMatchedFor}
+use Rattle.std.specs.Prelude.{if◌then◌else◌, is_some, slice_set, true}
+use Rattle.running_store.specs.Jobs.{writing_for, IsMatchedFor}
+use Rattle.metadata_turns.specs.Telling.{HasRow}
 use Rattle.metadata_turns.specs.JobTurns.{IsAtWork}
 use Rattle.running_store.proofs.PlainFacts.{got, on_err, on_ok}
-use Rattle.metadata_turns.proofs.HeadReplaced.{base_there, chain_there, freed_in_use, guarded_there, head_below, live_there, unguarded}
+use Rattle.metadata_turns.proofs.HeadReplaced.{base_there, chain_there, freed_in_use, guarded_there, head_below, live_there, none_roomy}
+use Rattle.metadata_turns.proofs.HeadReplaced.{unguarded}
 use Rattle.metadata_turns.proofs.HeadTold.{done_answer, failed_head, head_done, head_more, made, matched, more_answer}
 use Rattle.metadata_turns.proofs.HeadTold.{ReplacesHead}
-use Rattle.metadata_turns.proofs.JobTurned.{entered, first_low, first_some, first_waits, planned_some}
+use Rattle.metadata_turns.proofs.JobTurned.{planned_some, row_waits}
 use Rattle.running_store.proofs.Maps.{heads_adopted}
 use Rattle.running_store.proofs.Resolved.{base_given, resolved_behind}
 use Rattle.metadata_turns.proofs.job_turn.replace_head.Goals as goal
-
--- no job runs while its turn is made
-none_roomy : (o : Option RunningJob) (P : RunningJob → Type 0) → option_map job_seen o ≡ None → IfSome o P
-none_roomy None P none = tt
-none_roomy (Some j) P none = absurd (cc none)
 
 -- the head's page of the plan
 abbrev first : List PlannedPage → PlannedPage
@@ -50,19 +45,9 @@ replace-requires g c =
     let inside = c.requires.order.inside in
     omega (arith, at, below, inside)
 
-pub fail-requires-clause-channel : goal.fail-requires-clause-channel
-fail-requires-clause-channel g c =
-    let low = first_low (view_of c.args.running.now) _ (first_waits g.D.PageDisk (view_of c.args.running.now)
-    c.args.serves c.args.planned c.args.old (length (drop 1 c.args.planned.chain)) c.requires.at_work) in
-    let is = c.channel.ensures in
-    let sixteen = c.requires.order.sixteen in
-    omega (arith, low, is, sixteen)
-
-pub fail-requires-clause-left : goal.fail-requires-clause-left
-fail-requires-clause-left g c =
-    subst (λ n. 0 < length (rows_of c.args.running.now.rows.items n).left) (sym c.channel.ensures)
-    (first_some (view_of c.args.running.now) _ (first_waits g.D.PageDisk (view_of c.args.running.now)
-    c.args.serves c.args.planned c.args.old (length (drop 1 c.args.planned.chain)) c.requires.at_work))
+pub fail_job-requires-clause-row : goal.fail_job-requires-clause-row
+fail_job-requires-clause-row g c = row_waits g.D.PageDisk (view_of c.args.running.now) c.args.serves c.args.planned
+    c.args.old (length (drop 1 c.args.planned.chain)) c.requires.at_work c.requires.order.sixteen
 
 -- the head's page is replaced on this device
 abbrev replaces : {D : Type 0} (d : Ghosts D) (p : StoreView D) (serves : Serves) (planned : Planned) (old : List ℕ)
@@ -90,8 +75,7 @@ returns-then-is_err-clause-case g c =
     c.page_at-page.result c.page_at-page.ensures _ c.as_slice.ensures c.replace.ensures.any_moment in
     failed_head g.D.PageDisk p c.args.serves c.args.planned c.args.old disk x
     (on_err c.replace.result _ (sym c.is_err.ensures.value ∙ c.if-is_err.true) c.replace.ensures.fails)
-    (view_of c.fail.new.running)
-    (subst (λ n. entered g.D.PageDisk p n disk (view_of c.fail.new.running)) c.channel.ensures c.fail.ensures.logged)
+    (view_of c.fail_job.new.running) c.fail_job.ensures.failed
 
 pub adopt-requires-clause-meta : goal.adopt-requires-clause-meta
 adopt-requires-clause-meta g c = c.requires.will_resolve.there
@@ -161,19 +145,11 @@ tell-requires-clause-order g c =
       roomy = none_roomy old.job _ c.requires.at_work.taken;
     })
 
-pub tell-requires-clause-channel : goal.tell-requires-clause-channel
-tell-requires-clause-channel g c =
-    let low = first_low (view_of c.args.running.now) _ (first_waits g.D.PageDisk (view_of c.args.running.now)
-    c.args.serves c.args.planned c.args.old (length (drop 1 c.args.planned.chain)) c.requires.at_work) in
-    let sixteen = c.requires.order.sixteen in
-    omega (arith, low, sixteen)
-
-pub tell-requires-clause-left : goal.tell-requires-clause-left
-tell-requires-clause-left g c =
-    subst (λ (rows : List Row). 0 < length (rows_of rows (row_of c.args.serves)).left)
-    (sym (ap (λ x. (view_of x).rows) c.adopt.ensures))
-    (first_some (view_of c.args.running.now) _ (first_waits g.D.PageDisk (view_of c.args.running.now)
-    c.args.serves c.args.planned c.args.old (length (drop 1 c.args.planned.chain)) c.requires.at_work))
+pub tell-requires-clause-row : goal.tell-requires-clause-row
+tell-requires-clause-row g c =
+    subst (λ (rows : List Row). HasRow rows c.args.serves) (sym (ap (λ x. (view_of x).rows) c.adopt.ensures))
+    (row_waits g.D.PageDisk (view_of c.args.running.now) c.args.serves c.args.planned c.args.old
+    (length (drop 1 c.args.planned.chain)) c.requires.at_work c.requires.order.sixteen)
 
 pub returns-then-len-eq0-clause-case : goal.returns-then-len-eq0-clause-case
 returns-then-len-eq0-clause-case g c =

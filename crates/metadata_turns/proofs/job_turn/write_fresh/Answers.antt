@@ -1,12 +1,12 @@
-use Rattle.std.proofs.Common.{◌+◌, ◌<◌, [], ℕ, List, get_or, length, sym, ◌∙◌, ap, subst, arith}
+use Rattle.std.proofs.Common.{◌+◌, [], ℕ, List, get_or, sym, ◌∙◌, ap, subst, arith}
 use Rattle.page_disk.specs.Disk.{Written}
 use Rattle.page_disk.specs.Moments.{CallsLeaveOnly}
 use Rattle.page_disk.specs.declared.disk.WriteKind.TheVariants.{Plain}
 use Rattle.md_chain.specs.declared.plan.PlannedPage.{PlannedPage}
 use Rattle.store_model.specs.Cases.{WritesOnePage}
 use Rattle.running_store.specs.Running.{view_of}
-use Rattle.running_store.specs.StoreView.{device_of, rows_of}
-use Rattle.metadata_turns.proofs.JobTurned.{entered, failed_writing, first_low, first_some, first_waits, fresh_low}
+use Rattle.running_store.specs.StoreView.{device_of}
+use Rattle.metadata_turns.proofs.JobTurned.{failed_writing, fresh_low, row_waits}
 use Rattle.running_store.proofs.PlainFacts.{got, on_err, on_ok}
 use Rattle.metadata_turns.proofs.JobTurned.{wrote_fresh}
 use Rattle.metadata_turns.proofs.job_turn.write_fresh.Goals as goal
@@ -26,19 +26,9 @@ write_one-requires g c =
     let inside = c.requires.order.inside in
     omega (arith, at, same, low, inside)
 
-pub fail-requires-clause-channel : goal.fail-requires-clause-channel
-fail-requires-clause-channel g c =
-    let low = first_low (view_of c.args.running.now) _ (first_waits g.D.PageDisk (view_of c.args.running.now)
-    c.args.serves c.args.planned c.args.old c.args.written c.requires.at_work) in
-    let is = c.channel.ensures in
-    let sixteen = c.requires.order.sixteen in
-    omega (arith, low, is, sixteen)
-
-pub fail-requires-clause-left : goal.fail-requires-clause-left
-fail-requires-clause-left g c =
-    subst (λ n. 0 < length (rows_of c.args.running.now.rows.items n).left) (sym c.channel.ensures)
-    (first_some (view_of c.args.running.now) _ (first_waits g.D.PageDisk (view_of c.args.running.now)
-    c.args.serves c.args.planned c.args.old c.args.written c.requires.at_work))
+pub fail_job-requires-clause-row : goal.fail_job-requires-clause-row
+fail_job-requires-clause-row g c = row_waits g.D.PageDisk (view_of c.args.running.now) c.args.serves c.args.planned
+    c.args.old c.args.written c.requires.at_work c.requires.order.sixteen
 
 pub returns-then-is_err-clause-case : goal.returns-then-is_err-clause-case
 returns-then-is_err-clause-case g c =
@@ -52,8 +42,7 @@ returns-then-is_err-clause-case g c =
     (Written (g.D.PageDisk.images c.args.running.now.disk) c.page_at-page.result Plain x.page)) same
     c.write_one.ensures.any_moment)
     (on_err c.write_one.result _ (sym c.is_err.ensures.value ∙ c.if-is_err.true) c.write_one.ensures.fails)
-    (view_of c.fail.new.running) (subst (λ n. entered g.D.PageDisk (view_of c.args.running.now) n
-    c.write_one.new.disk (view_of c.fail.new.running)) c.channel.ensures c.fail.ensures.logged)
+    (view_of c.fail_job.new.running) c.fail_job.ensures.failed
 
 pub returns-clause-case : goal.returns-clause-case
 returns-clause-case g c =

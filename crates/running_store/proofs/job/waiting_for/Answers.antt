@@ -27,7 +27,15 @@ waits_as o j serves work is whom at =
 insert_waits : (j : RunningJob) (channel : ℕ) (work : Work) → waits j (whom.Insert channel) work ≡ Some channel
 insert_waits j channel (works.Zeroing planned zeroed) = refl
 insert_waits j channel (works.Writing planned written) = refl
+insert_waits j channel (works.Removing head freed) = refl
 insert_waits j channel (works.Erasing erased) = refl
+
+-- and none for a repair
+none_waits : (j : RunningJob) (work : Work) → waits j whom.Repair work ≡ None
+none_waits j (works.Zeroing planned zeroed) = refl
+none_waits j (works.Writing planned written) = refl
+none_waits j (works.Removing head freed) = refl
+none_waits j (works.Erasing erased) = refl
 
 pub returns-in-Insert : goal.returns-in-Insert
 returns-in-Insert c =
@@ -55,6 +63,17 @@ returns-in-Writing c =
     ∙ ap (λ b. if b then Some c.in-Command.channel else None)
     (commit_behind (drop c.in-Writing.written (drop 1 planned.chain))
     (Replaces (replacing_of planned j.old) (Some (commit_of planned)) ∷ erasing j.old j.old [])))
+
+pub returns-in-Removing : goal.returns-in-Removing
+returns-in-Removing c =
+    let j = c.in-Some.running in
+    sym (waits_as c.args.job.now j _ _ c.in-Some.is c.in-Command.is c.in-Removing.is
+    ∙ ap (λ b. if b then Some c.in-Command.channel else None) (no_commit j.old j.old))
+
+pub returns-in-Repair : goal.returns-in-Repair
+returns-in-Repair c =
+    let j = c.in-Some.running in
+    sym (waits_as c.args.job.now j _ j.work c.in-Some.is c.in-Repair.is refl ∙ none_waits j j.work)
 
 pub returns-in-Erasing : goal.returns-in-Erasing
 returns-in-Erasing c =
