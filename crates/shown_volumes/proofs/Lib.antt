@@ -25,3 +25,5 @@ pub mod DeleteParts
 pub mod DeleteLawful
 pub mod DeleteShows
 pub mod Deletes
+pub mod Inside
+pub mod Written

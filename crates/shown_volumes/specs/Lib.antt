@@ -2,3 +2,4 @@ pub mod Maps
 pub mod Shown
 pub mod ShowsStep
 pub mod JobLaws
+pub mod Steady

@@ -11,7 +11,7 @@ use Rattle.std.proofs.lemmas.List.Sums.{fails_before_first}
 use Rattle.std.proofs.lemmas.Option.{slice_get_past}
 use Rattle.blob_meta.specs.Faults.{clusters_of, is_outside}
 use Rattle.blob_meta.proofs.ClustersOutside.{clusters-append}
-use Rattle.store_model.proofs.Inside.{passes}
+use Rattle.shown_volumes.proofs.Inside.{passes}
 use Rattle.store_model.proofs.NewBlob.{empty_slot, none_in}
 
 -- so many elements: the first ones, and then as many of this value as are wanting

@@ -50,7 +50,7 @@ use Rattle.store_model.specs.Regions.{region_of}
 use Rattle.store_model.specs.Steady.{IsSteady}
 use Rattle.store_model.proofs.Cut.{all_full}
 use Rattle.store_model.proofs.Inserted.{get_set_here}
-use Rattle.store_model.proofs.Inside.{IsInside, none_of_map, passes}
+use Rattle.shown_volumes.proofs.Inside.{IsInside, none_of_map, passes}
 use Rattle.store_model.proofs.NewBlob.{all_pass}
 use Rattle.shown_volumes.proofs.Ranges.{get_set_other}
 use Rattle.shown_volumes.proofs.SlotSums.{slots_given, slots_in}
