@@ -212,10 +212,11 @@ module _ (f : Fixed) (base : Metas) (live : Map Xattrs) (image : Image) (volume 
 
 -- the law
 pub clone_shows : (f : Fixed) (base : Metas) (live : Map Xattrs) (image : Image) (volume : VolumeRef) (name : Text)
-    (of head : ℕ) (old : Meta) → ShowsClone f base live image volume name of head old
-clone_shows f base live image volume name of head old rest clear =
+    (of head : ℕ) (old : Meta) (xattrs : Xattrs) → ShowsClone f base live image volume name of head old xattrs
+clone_shows f base live image volume name of head old xattrs rest clear =
     subst (λ (m : Metas). IsAskedOf f (shown_by f image m live) base (c.Clone volume name) of old
-    → ShowsStep f base live (c.Clone volume name) (r.Made head)
-    (clone_job of old head (two_xattrs f (shown_by f image m live) name None)))
+    → two_xattrs f (shown_by f image m live) name None ≡ xattrs
+    → ShowsStep f base live (c.Clone volume name) (r.Made head) (clone_job of old head xattrs))
     (sym (rest_resolved f base rest))
-    (λ asked. step f base live image volume name of head old rest clear asked)
+    (λ asked are. subst (λ (xs : Xattrs). ShowsStep f base live (c.Clone volume name) (r.Made head)
+    (clone_job of old head xs)) are (step f base live image volume name of head old rest clear asked))

@@ -12,13 +12,15 @@ ghost use Rattle.shown_volumes.specs.JobLaws.{ShowsClone, ShowsDelete, ShowsEras
 /// Up to the commit of a snapshot's job metadata shows the volumes as they were, and from then on those of the step.
 pub fn snapshots_show()
     ensures { (f : Fixed) (base : Metas) (live : Map Xattrs) (image : Image) (volume : VolumeRef) (name : Text)
-        (of head : ℕ) (old : Meta) → ShowsSnapshot f base live image volume name of head old }
+        (of head : ℕ) (old : Meta) (xattrs : Xattrs)
+        → ShowsSnapshot f base live image volume name of head old xattrs }
 {}
 
 /// Up to the commit of a clone's job metadata shows the volumes as they were, and from then on those of the step.
 pub fn clones_show()
     ensures { (f : Fixed) (base : Metas) (live : Map Xattrs) (image : Image) (volume : VolumeRef) (name : Text)
-        (of head : ℕ) (old : Meta) → ShowsClone f base live image volume name of head old }
+        (of head : ℕ) (old : Meta) (xattrs : Xattrs)
+        → ShowsClone f base live image volume name of head old xattrs }
 {}
 
 /// Up to the commit of a delete's job metadata shows the volumes as they were, and from then on those of the step.
