@@ -27,3 +27,7 @@ pub mod DeleteShows
 pub mod Deletes
 pub mod Inside
 pub mod Written
+pub mod MapTests
+pub mod GoodMarks
+pub mod Held
+pub mod HeldJobs

@@ -131,10 +131,11 @@ mark_named internal head =
 
 module _ (internal : Xattrs) (m : Meta) where
   -- with the parent of a blob, or none where it has none
-  abbrev with_its : Option Text → Xattrs
+  abbrev pub with_its : Option Text → Xattrs
   with_its o = option_map_or (λ id. with_value internal (codes "SNAP") id) o (without internal (codes "SNAP"))
 
-  snap_given : (o : Option Text) → value_of (with_its o) (codes "SNAP") ≡ o
+  -- whose id is the value of SNAP
+  pub snap_given : (o : Option Text) → value_of (with_its o) (codes "SNAP") ≡ o
   snap_given (Some id) = value_set internal (codes "SNAP") id
   snap_given None = none_without internal (codes "SNAP")
 

@@ -32,18 +32,18 @@ distinct_with (x ∷ xs) key value h = elim (cases_Bool (bytes_eq x.key key)) [
 abbrev IsShort : Xattr → Type 0
 IsShort x = length x.key + length x.value ≤ 4063
 
-short_with : (xs : Xattrs) (key value : List ℕ) → length key + length value ≤ 4063 → AllByRecursion IsShort xs
-    → AllByRecursion IsShort (with_value xs key value)
-short_with [] key value fits all = (fits, tt)
-short_with (x ∷ xs) key value fits all = elim (cases_Bool (bytes_eq x.key key)) [
+-- what holds of the attribute that is set, and of each that is there, holds of each
+pub all_with : (P : Xattr → Type 0) (xs : Xattrs) (key value : List ℕ) → P (record { key = key; value = value })
+    → AllByRecursion P xs → AllByRecursion P (with_value xs key value)
+all_with P [] key value new all = (new, tt)
+all_with P (x ∷ xs) key value new all = elim (cases_Bool (bytes_eq x.key key)) [
   | inl same ↦
       let is : x.key ≡ key = (bytes_eq-Decides x.key key).0 same in
-      let one : length x.key + length value ≤ 4063 = subst (λ k. length k + length value ≤ 4063) (sym is) fits in
-      rw same (one, all.1)
-  | inr other ↦ rw other (all.0, short_with xs key value fits all.1)
+      rw same (subst (λ k. P (record { key = k; value = value })) (sym is) new, all.1)
+  | inr other ↦ rw other (all.0, all_with P xs key value new all.1)
 ]
 
-all_without : (P : Xattr → Type 0) (xs : Xattrs) (key : List ℕ) → AllByRecursion P xs
+pub all_without : (P : Xattr → Type 0) (xs : Xattrs) (key : List ℕ) → AllByRecursion P xs
     → AllByRecursion P (without xs key)
 all_without P [] key all = tt
 all_without P (x ∷ xs) key all = elim (cases_Bool (bytes_eq x.key key)) [
@@ -61,7 +61,7 @@ distinct_without (x ∷ xs) key h = elim (cases_Bool (bytes_eq x.key key)) [
 pub written_with : (xs : Xattrs) (key value : List ℕ) → length key + length value ≤ 4063 → CanBeWritten xs
     → CanBeWritten (with_value xs key value)
 written_with xs key value fits can =
-    record { names = distinct_with xs key value can.names; short = short_with xs key value fits can.short }
+    record { names = distinct_with xs key value can.names; short = all_with IsShort xs key value fits can.short }
 
 pub written_without : (xs : Xattrs) (key : List ℕ) → CanBeWritten xs → CanBeWritten (without xs key)
 written_without xs key can =

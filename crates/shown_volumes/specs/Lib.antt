@@ -3,3 +3,4 @@ pub mod Shown
 pub mod ShowsStep
 pub mod JobLaws
 pub mod Steady
+pub mod StoredLaws

@@ -6,6 +6,8 @@ ghost use Rattle.volume_model.specs.Volumes.{Fixed};
 ghost use Rattle.volume_model.specs.Xattrs.{Text, Xattrs};
 ghost use Rattle.volume_model.specs.declared.command.VolumeRef.{VolumeRef};
 ghost use Rattle.blob_meta.specs.declared.meta.Meta.{Meta};
+ghost use Rattle.super_block.specs.declared.page.Super.{Super};
+ghost use Rattle.shown_volumes.specs.StoredLaws.{HoldJobs};
 ghost use Rattle.shown_volumes.specs.Maps.{Map, Metas};
 ghost use Rattle.shown_volumes.specs.JobLaws.{ShowsClone, ShowsDelete, ShowsErase, ShowsSnapshot};
 
@@ -29,4 +31,9 @@ pub fn deletes_show()
         (old : Meta) → ShowsErase f base live image volume of old }
     ensures handed_on { (f : Fixed) (base : Metas) (live : Map Xattrs) (image : Image) (volume : VolumeRef) (of : ℕ)
         (old : Meta) (clone : ℕ) (heir : Meta) → ShowsDelete f base live image volume of old clone heir }
+{}
+
+/// The store can hold each new metadata of the jobs.
+pub fn jobs_are_held()
+    ensures { (s : Super) → HoldJobs s }
 {}

@@ -14,6 +14,8 @@ use Rattle.blob_meta.proofs.ClustersOutside.{clusters-append}
 use Rattle.shown_volumes.proofs.Inside.{passes}
 use Rattle.store_model.proofs.NewBlob.{empty_slot, none_in}
 
+pub use Rattle.shown_volumes.proofs.MapTests.{all_full, slot_in}
+
 -- so many elements: the first ones, and then as many of this value as are wanting
 abbrev pub cut : {X : Type 0} → List X → ℕ → X → List X
 cut xs n x = take n xs ++ replicate (n - length xs) x
@@ -47,10 +49,6 @@ get_take (x ∷ xs) (suc n) zero lt = refl
 get_take (x ∷ xs) (suc n) (suc i) lt = get_take xs n i (omega (arith, lt))
 
 -- ---- maps
-
--- the cluster in a slot of a map
-abbrev pub slot_in : List (Option ℕ) → ℕ → Option ℕ
-slot_in map i = option_and_then (λ s. s) (slice_get map i)
 
 slot_longer : (map : List (Option ℕ)) (n i : ℕ) → slot_in (map ++ replicate n None) i ≡ slot_in map i
 slot_longer [] n i = empty_slot n i
@@ -107,15 +105,6 @@ module _ (fixed clusters : ℕ) where
         ap (λ m. find (is_outside fixed clusters) (clusters_of m)) (is_cut map slots None le)
         ∙ inside_take map slots none
   ]
-
--- no slot of a map without a hole is empty
-pub all_full : (map : List (Option ℕ)) → position is_none map ≡ None → (i : ℕ) → i < length map
-    → is_none (slice_index_or map i None) ≡ false
-all_full map none i lt = elim (cases_lt (position_or_len is_none map) (length map)) [
-  | inl some ↦ absurd (let t : nat_lt (position_or_len is_none map) (length map) ≡ true = lt-ltb _ _ some in
-      let bad : Some (position_or_len is_none map) ≡ None = sym (rw t refl) ∙ none in cc bad)
-  | inr past ↦ fails_before_first is_none map i None (omega (arith, past, lt))
-]
 
 pub full_cut : (map : List (Option ℕ)) (n : ℕ) → n ≤ length map → position is_none map ≡ None
     → position is_none (take n map) ≡ None

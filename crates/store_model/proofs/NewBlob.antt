@@ -23,6 +23,7 @@ use Rattle.store_model.specs.Steady.{CanBeWritten, IsSteady}
 use Rattle.store_model.proofs.LawfulGiven.{TakesNone}
 
 pub use Rattle.shown_volumes.proofs.EmptyMaps.{none_in, empty_slot}
+pub use Rattle.shown_volumes.proofs.MapTests.{all_pass, clear_flags, few_pass, known_flags}
 
 -- ---- its attributes
 
@@ -41,31 +42,12 @@ two_written f v name uuid named = record {
 
 -- ---- its map
 
--- no test of metadata fails
-pub all_pass : (a b c d : Option MetaFault) → a ≡ None → b ≡ None → c ≡ None → d ≡ None
-    → first_some (a ∷ b ∷ c ∷ d ∷ []) ≡ None
-all_pass a b c d an bn cn dn = rw (an, bn, cn, dn) refl
-
-pub few_pass : (slots : ℕ) (map : List (Option ℕ)) → length map ≡ slots → slots ≤ 2 ^ 20 → too_large map ≡ None
-few_pass slots map count few = let le : nat_le (length map) (2 ^ 20) ≡ true = le-leb (length map) (2 ^ 20)
-    (omega (arith, count, few)) in rw le refl
-
 new_passes : (fixed clusters slots : ℕ) → slots ≤ 2 ^ 20 → map_fault fixed clusters (replicate slots None) ≡ None
 new_passes fixed clusters slots few =
     rw (few_pass slots (replicate slots None) (length-replicate slots None) few, none_in slots) refl
 
 new_flags : Bool → Flags
 new_flags thick = record { invalid = if thick then 0 else 1; data_ro = 0; md_ro = 0 }
-
--- its flags are known ones
-pub known_flags : (thick : Bool) → unknown_flag (new_meta 0 [] thick 0).flags ≡ None
-known_flags true = refl
-known_flags false = refl
-
--- and have no other bit
-pub clear_flags : (thick : Bool) → without_bit_1 (if thick then 0 else 1) ≡ (if thick then 0 else 1)
-clear_flags true = refl
-clear_flags false = refl
 
 no_hole : (thick : Bool) (slots : ℕ) → (thick ≡ false) ⊎ (slots ≡ 0)
     → hole_in_thick (new_meta 0 [] thick 0).flags (replicate slots None) ≡ None

@@ -22,29 +22,7 @@ use Rattle.store_model.proofs.ZeroedBlob.{IsSteadyBut}
 use Rattle.std.proofs.lemmas.Bool.Decides.{nat_tests}
 use Rattle.store_model.proofs.LawfulGiven.{TakesNone}
 
--- the tests of metadata without fault
-record Passes (fixed clusters : ℕ) (m : Meta) : Type 0 where
-  flags : unknown_flag m.flags ≡ None
-  map : cluster_outside fixed clusters m.map ≡ None
-  full : hole_in_thick m.flags m.map ≡ None
-  marks : bad_mark m.internal ≡ None
-
-passes : (fixed clusters : ℕ) (m : Meta) → meta_fault fixed clusters m ≡ None → Passes fixed clusters m
-passes fixed clusters m none =
-    let rest = none_first (unknown_flag m.flags) _ none in
-    let behind = none_first (map_fault fixed clusters m.map) _ rest.1 in
-    let last = none_first (hole_in_thick m.flags m.map) _ behind.1 in
-    record {
-      flags = rest.0;
-      map = none_second (too_large m.map) (cluster_outside fixed clusters m.map) [] behind.0;
-      full = last.0;
-      marks = (none_first (bad_mark m.internal) [] last.1).0;
-    }
-  where
-    none_first : (o : Option MetaFault) (os : List (Option MetaFault)) → first_some (o ∷ os) ≡ None
-        → (o ≡ None) × (first_some os ≡ None)
-    none_first None os none = (refl, none)
-    none_first (Some x) os none = absurd (cc none)
+pub use Rattle.shown_volumes.proofs.MapTests.{passes}
 
 -- a blob that isn't thin has no empty slot
 pub thick_full : (m : Meta) (s : Super) (head : ℕ) → IsSteady s head m → is_thin m.flags ≡ false

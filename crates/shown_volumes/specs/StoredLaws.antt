@@ -1,0 +1,30 @@
+-- Each new metadata of the jobs of snapshots, clones and deletes can be stored.
+use Rattle.std.specs.Prelude.{◌≡◌, ℕ, ◌<◌, ◌≤◌, ◌^◌, Some}
+use Rattle.std.specs.List.{AllByRecursion}
+use Rattle.volume_model.specs.Xattrs.{Xattrs}
+use Rattle.super_block.specs.declared.page.Super.{Super}
+use Rattle.blob_meta.specs.declared.job.Job.{Job}
+use Rattle.blob_meta.specs.declared.job.Replacement.{Replacement}
+use Rattle.blob_meta.specs.declared.meta.Meta.{Meta}
+use Rattle.snapshots.specs.SnapshotJobs.{clone_job, snapshot_job}
+use Rattle.inflate_delete.specs.DeleteJobs.{delete_job, erase_job}
+use Rattle.shown_volumes.specs.Steady.{CanBeWritten, IsStored, NamesHead}
+
+-- The store can hold the metadata, and its SNAP, if it has one, names a head: it is steady but for a mark.
+pub record IsHeld (s : Super) (head : ℕ) (m : Meta) : Type 0 where
+  pub stored : IsStored s head m
+  pub named : NamesHead m
+
+-- so it is of each new metadata of a job
+abbrev pub AreHeld : Super → Job → Type 0
+AreHeld s job = AllByRecursion (λ (x : Replacement). (m : Meta) → x.new ≡ Some m → IsHeld s x.head m) job.list
+
+-- The blobs that the jobs are on are held, a new one's head is a place of the region, and its attributes can be written.
+pub record HoldJobs (s : Super) : Type 0 where
+  pub snapshot : (of head : ℕ) (old : Meta) (xattrs : Xattrs) → IsHeld s of old → head < s.md_len
+      → CanBeWritten xattrs → s.md_len ≤ 2 ^ 32 → AreHeld s (snapshot_job of old head xattrs)
+  pub clone : (of head : ℕ) (old : Meta) (xattrs : Xattrs) → IsHeld s of old → head < s.md_len
+      → CanBeWritten xattrs → s.md_len ≤ 2 ^ 32 → AreHeld s (clone_job of old head xattrs)
+  pub erase : (of : ℕ) → AreHeld s (erase_job of)
+  pub delete : (of clone : ℕ) (old heir : Meta) → IsHeld s of old → IsHeld s clone heir
+      → AreHeld s (delete_job of old clone heir)
