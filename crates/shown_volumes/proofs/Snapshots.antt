@@ -16,7 +16,7 @@ use Rattle.shown_volumes.specs.Shown.{shown_by}
 use Rattle.shown_volumes.specs.ShowsStep.{IsAskedOf, IsAtRest, ShowsStep}
 use Rattle.shown_volumes.proofs.BlobsShown.{shows_blob, slots_fit, volume_at}
 use Rattle.shown_volumes.proofs.Blanked.{blank_shown, two_same}
-use Rattle.shown_volumes.proofs.Parts.{rest_resolved, shows_step}
+use Rattle.shown_volumes.proofs.Parts.{not_first, rest_resolved, shows_step}
 use Rattle.shown_volumes.proofs.Passing.{snapshot_room}
 use Rattle.shown_volumes.proofs.SnapshotParts as parts
 use Rattle.shown_volumes.proofs.SnapshotShows as shows
@@ -43,6 +43,10 @@ module _ (f : Fixed) (base : Metas) (live : Map Xattrs) (image : Image) (volume 
       (c.Snapshot volume name) ∙ asked.found)
       (two_same f (shown_by f other base live) (shown_by f image base live) (blank_shown f base live other image) name
       None))
+      (λ h out.
+      let first = not_first h head _ out in
+      let second = not_first h of _ (not_first h head _ first.1).1 in
+      shows.leaves f base rest of head old two asked.there clear room h first.0 second.0)
 
 -- the law
 pub snapshot_shows : (f : Fixed) (base : Metas) (live : Map Xattrs) (image : Image) (volume : VolumeRef) (name : Text)

@@ -1,5 +1,6 @@
 pub mod Maps
 pub mod Shown
+pub mod EmptySlots
 pub mod ShowsStep
 pub mod JobLaws
 pub mod Steady

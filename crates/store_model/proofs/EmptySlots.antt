@@ -40,9 +40,7 @@ use Rattle.store_model.proofs.SameMaps.{content_alike, IsPlacedAlike}
 use Rattle.store_model.proofs.Shows.{steady_resolved}
 use Rattle.shown_volumes.proofs.WithEntry.{given_elsewhere, given_here}
 
--- whatever an image holds
-abbrev pub Any : Image → Type 0
-Any image = Unit {0}
+pub use Rattle.shown_volumes.specs.EmptySlots.{Any}
 
 -- with the same maps and parents
 module _ (s : Super) (metas others : Metas) (alike : (h : ℕ) → IsPlacedAlike (others h) (metas h)) where
