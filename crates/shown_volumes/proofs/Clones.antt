@@ -1,5 +1,5 @@
 -- A clone's job shows the volumes as they were, and from its commit on those of the step.
-use Rattle.std.proofs.Common.{◌≡◌, ◌≢◌, ℕ, suc, ◌+◌, ◌*◌, ◌/◌, ◌^◌, ◌<◌, ◌≤◌, true, false, Option, Some, None, List, length}
+use Rattle.std.proofs.Common.{◌≡◌, ◌≢◌, ℕ, suc, ◌+◌, ◌*◌, ◌/◌, ◌^◌, ◌<◌, ◌≤◌, true, false, Option, Some, None, length}
 use Rattle.std.proofs.Common.{map, refl, sym, ap, ◌∙◌, subst, inl, inr, arith}
 use Rattle.std.specs.Prelude.{◌==◌, if◌then◌else◌, nat_lt}
 use Rattle.std.specs.List.{range_with_len}
@@ -22,7 +22,7 @@ use Rattle.snapshots.specs.SnapshotJobs.{clone_job}
 use Rattle.shown_volumes.specs.EmptySlots.{Any, LeavesEmpty}
 use Rattle.shown_volumes.specs.JobLaws.{IsClear, ShowsClone}
 use Rattle.shown_volumes.specs.Maps.{Map, Metas}
-use Rattle.shown_volumes.specs.Shown.{content, content_by, live_of, or_empty, shown_by, volume_of}
+use Rattle.shown_volumes.specs.Shown.{content, content_by, live_of, shown_by}
 use Rattle.shown_volumes.specs.ShowsStep.{IsAskedOf, IsAtRest, ShowsStep}
 use Rattle.shown_volumes.proofs.Blanked.{blank_shown, two_same}
 use Rattle.shown_volumes.proofs.BlobsShown.{shows_blob, slots_fit, volume_at}

@@ -1,7 +1,6 @@
 -- The erasure of a blob without clones shows the volumes as they were, and then those of the step.
-use Rattle.std.proofs.Common.{◌≡◌, ◌≢◌, ℕ, zero, suc, ◌+◌, ◌*◌, ◌/◌, ◌^◌, ◌<◌, ◌≤◌, Option, Some, None, List, [], length, map}
+use Rattle.std.proofs.Common.{◌≡◌, ◌≢◌, ℕ, zero, suc, ◌<◌, ◌≤◌, Option, Some, None, [], length}
 use Rattle.std.proofs.Common.{refl, sym, ap, ◌∙◌, subst, inl, inr, arith}
-use Rattle.std.specs.List.{range_with_len}
 use Rattle.std.specs.Option.{option_map}
 use Rattle.std.proofs.lemmas.Bool.{cases_eq}
 use Rattle.std.proofs.Math.Path.{fun_ext}
@@ -110,42 +109,42 @@ module _ (f : Fixed) (base : Metas) (rest : IsAtRest f base) (of : ℕ) (old : M
         ∙ sym (opened k image f.md_len base old_levels h page m (was_there h m is))
 
     module _ (live : Map Xattrs) (volume : VolumeRef) (found : head_of f (shown_by f image base live) volume ≡ Some of)
-        where
-      abbrev v : Volumes
-      v = shown_by f image base live
+      where
+        abbrev v : Volumes
+        v = shown_by f image base live
 
-      abbrev x : Volume
-      x = volume_at f base rest live image of old
+        abbrev x : Volume
+        x = volume_at f base rest live image of old
 
-      is_x : v of ≡ Some x
-      is_x = shows_blob f base rest live image of old there
+        is_x : v of ≡ Some x
+        is_x = shows_blob f base rest live image of old there
 
-      abbrev w : Volumes
-      w = change f v (c.Delete volume) r.Ok
+        abbrev w : Volumes
+        w = change f v (c.Delete volume) r.Ok
 
-      abbrev parented : Volume → Volume
-      parented y = record y { parent = deleted.moved f v volume of x found is_x y.parent }
+        abbrev parented : Volume → Volume
+        parented y = record y { parent = deleted.moved f v volume of x found is_x y.parent }
 
-      at_other : (h : ℕ) → h ≢ of → (o : Option Meta) → base h ≡ o → shown_by f image next (live_of w) h ≡ w h
-      at_other h ne None is = none_shown f image next w h (is_other h ne ∙ is)
-          (deleted.deleted_else f v volume of x found is_x h ne
-          ∙ ap (λ o. option_map parented (option_map (λ m. volume_at f base rest live image h m) o)) is)
-      at_other h ne (Some m) is =
-          let y = volume_at f base rest live image h m in
-          let same = pages_fit k image f.md_len next new_levels was fits h m (length m.map) (was h) (is_other h ne ∙ is)
-          refl (λ page _. refl) in
-          let parent = deleted.stays f v volume of x found is_x (parent_of m) (λ e. childless h of m is e refl) in
-          some_shown f image next w h m y (is_other h ne ∙ is)
-          (deleted.deleted_else f v volume of x found is_x h ne ∙ ap (option_map parented) (shows_blob f base rest live
-          image h m is) ∙ (λ i. Some (record y { parent = parent i })))
-          (λ i. record y { pages = same i })
+        at_other : (h : ℕ) → h ≢ of → (o : Option Meta) → base h ≡ o → shown_by f image next (live_of w) h ≡ w h
+        at_other h ne None is = none_shown f image next w h (is_other h ne ∙ is)
+            (deleted.deleted_else f v volume of x found is_x h ne
+            ∙ ap (λ o. option_map parented (option_map (λ m. volume_at f base rest live image h m) o)) is)
+        at_other h ne (Some m) is =
+            let y = volume_at f base rest live image h m in
+            let same = pages_fit k image f.md_len next new_levels was fits h m (length m.map) (was h) (is_other h ne ∙ is)
+            refl (λ page _. refl) in
+            let parent = deleted.stays f v volume of x found is_x (parent_of m) (λ e. childless h of m is e refl) in
+            some_shown f image next w h m y (is_other h ne ∙ is)
+            (deleted.deleted_else f v volume of x found is_x h ne ∙ ap (option_map parented) (shows_blob f base rest live
+            image h m is) ∙ (λ i. Some (record y { parent = parent i })))
+            (λ i. record y { pages = same i })
 
-      shown_next : shown_by f image next (live_of w) ≡ w
-      shown_next = fun_ext (λ h. elim (cases_eq h of) [
-        | inl e ↦ none_shown f image next w h (gone_here base of h e)
-            (ap w e ∙ deleted.deleted_here f v volume of x found is_x)
-        | inr ne ↦ at_other h ne (base h) refl
-      ])
+        shown_next : shown_by f image next (live_of w) ≡ w
+        shown_next = fun_ext (λ h. elim (cases_eq h of) [
+          | inl e ↦ none_shown f image next w h (gone_here base of h e)
+              (ap w e ∙ deleted.deleted_here f v volume of x found is_x)
+          | inr ne ↦ at_other h ne (base h) refl
+        ])
 
   -- every other blob shows what it showed where it has empty slots
   leaves : (h : ℕ) → LeavesEmpty f base next Any h

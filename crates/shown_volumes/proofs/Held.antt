@@ -1,28 +1,30 @@
 -- Metadata that the store can hold, by its tests; and the flags and names of what jobs make.
-use Rattle.std.proofs.Common.{◌≡◌, ℕ, ◌+◌, ◌-◌, ◌*◌, ◌/◌, ◌%◌, ◌^◌, ◌<◌, ◌≤◌, ◌==◌, Bool, true, false, Option, Some, None, List, []}
-use Rattle.std.proofs.Common.{◌∷◌, length, refl, sym, ap, ◌∙◌, inl, inr, arith}
+use Rattle.std.proofs.Common.{◌≡◌, ℕ, ◌+◌, ◌-◌, ◌*◌, ◌/◌, ◌^◌, ◌<◌, ◌==◌, true, Option, Some, None, List}
+use Rattle.std.proofs.Common.{length, refl, sym, ap, ◌∙◌, inl, inr, arith}
 use Rattle.std.specs.Prelude.{codes, find, if◌then◌else◌, is_none, is_some, nat_le, replicate}
 use Rattle.std.specs.List.{position}
 use Rattle.std.specs.Option.{option_map}
-use Rattle.std.proofs.lemmas.Bool.{cases_Bool, eq-eqb, eqb-true}
+use Rattle.std.proofs.lemmas.Bool.{cases_Bool, eqb-true}
 use Rattle.super_block.specs.declared.page.Super.{Super}
 use Rattle.super_block.specs.Numbers.{clusters_of as clusters_in, fixed_clusters_of}
 use Rattle.descriptors.specs.Runs.{at_most}
-use Rattle.volume_model.specs.Xattrs.{Xattrs, value_of}
+use Rattle.volume_model.specs.Xattrs.{Xattrs, value_of, without}
 use Rattle.blob_meta.specs.declared.fault.MetaFault.TheVariants as faults
 use Rattle.blob_meta.specs.declared.meta.Flags.{Flags}
 use Rattle.blob_meta.specs.declared.meta.Meta.{Meta}
-use Rattle.blob_meta.specs.Faults.{bad_mark, cluster_outside, first_some, hole_in_thick, is_outside, is_thin, map_fault}
+use Rattle.blob_meta.specs.Faults.{cluster_outside, hole_in_thick, is_outside, is_thin, map_fault}
 use Rattle.blob_meta.specs.Faults.{too_large, unknown_flag}
 use Rattle.blob_meta.specs.Parents.{parent_of}
+use Rattle.blob_meta.specs.Resolving.{without_marks}
 use Rattle.blob_meta.specs.Says.{without_bit_1}
+use Rattle.blob_meta.proofs.MarksLifted.{same_parent}
 use Rattle.snapshots.specs.Marks.{with_parent_of}
 use Rattle.shown_volumes.specs.Steady.{CanBeWritten, NamesHead}
 use Rattle.shown_volumes.specs.StoredLaws.{IsHeld}
 use Rattle.shown_volumes.proofs.EmptyMaps.{none_in}
-use Rattle.shown_volumes.proofs.MapTests.{all_pass, Passes, passes}
-use Rattle.shown_volumes.proofs.GoodMarks.{AreGood, good_of, none_bad}
-use Rattle.shown_volumes.proofs.Valued.{parent_given, snap_given}
+use Rattle.shown_volumes.proofs.MapTests.{all_pass, passes}
+use Rattle.shown_volumes.proofs.GoodMarks.{AreGood, good_of, none_bad, without_good}
+use Rattle.shown_volumes.proofs.Valued.{parent_given, snap_given, value_without}
 
 -- All that is asked of metadata which the store holds.
 pub record Holding (s : Super) (head : ℕ) (m : Meta) : Type 0 where
@@ -114,3 +116,24 @@ named_given internal m n is named =
     ∙ ap is_some (snap_given internal m (value_of m.internal (codes "SNAP"))) ∙ named
     ∙ ap is_some (sym (parent_given internal m))
     ∙ ap (λ (xs : Xattrs). is_some (parent_of (record n { internal = xs }))) (sym is)
+
+-- ---- marks
+
+-- without its marks a blob can be held too
+pub lifted : (s : Super) (head : ℕ) (m : Meta) → Holding s head m → Holding s head (without_marks m)
+lifted s head m x = record {
+  low = x.low;
+  id = x.id;
+  clear = x.clear;
+  xattrs = x.xattrs;
+  internal = without_good (without m.internal (codes "SNAPRM")) (codes "SNAPTMP")
+      (without_good m.internal (codes "SNAPRM") x.internal);
+  flags = x.flags;
+  few = x.few;
+  inside = x.inside;
+  full = x.full;
+  named =
+      ap is_some (value_without (without m.internal (codes "SNAPRM")) (codes "SNAPTMP") (codes "SNAP") refl
+      ∙ value_without m.internal (codes "SNAPRM") (codes "SNAP") refl)
+      ∙ x.named ∙ ap is_some (sym (same_parent m));
+}

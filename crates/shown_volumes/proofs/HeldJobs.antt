@@ -1,7 +1,7 @@
 -- Each new metadata of the jobs of snapshots, clones and deletes can be stored.
-use Rattle.std.proofs.Common.{◌≡◌, ℕ, ◌+◌, ◌/◌, ◌%◌, ◌^◌, ◌<◌, ◌≤◌, ◌==◌, Bool, true, false, not, Option, Some, None, List, []}
-use Rattle.std.proofs.Common.{◌∷◌, length, refl, sym, ap, ◌∙◌, subst, inl, inr, arith}
-use Rattle.std.specs.Prelude.{codes, find, if◌then◌else◌, is_none, is_some, IsSome, replicate}
+use Rattle.std.proofs.Common.{◌≡◌, ℕ, ◌+◌, ◌^◌, ◌<◌, ◌≤◌, true, false, not, Option, Some, None, List, []}
+use Rattle.std.proofs.Common.{length, refl, sym, ap, ◌∙◌, subst, inl, inr, arith}
+use Rattle.std.specs.Prelude.{codes, if◌then◌else◌, is_none, is_some, IsSome, replicate}
 use Rattle.std.specs.List.{position}
 use Rattle.std.specs.Option.{option_and_then, option_map, option_or}
 use Rattle.std.proofs.lemmas.Bool.{cases_Bool}
@@ -12,7 +12,7 @@ use Rattle.super_block.specs.Numbers.{clusters_of as clusters_in, fixed_clusters
 use Rattle.volume_model.specs.Xattrs.{Xattrs, value_of, without}
 use Rattle.blob_meta.specs.declared.fault.MetaFault.TheVariants as faults
 use Rattle.blob_meta.specs.declared.meta.Meta.{Meta}
-use Rattle.blob_meta.specs.Faults.{cluster_outside, clusters_of, hole_in_thick, is_outside, is_thin, too_large}
+use Rattle.blob_meta.specs.Faults.{cluster_outside, hole_in_thick, is_outside, is_thin, too_large}
 use Rattle.blob_meta.specs.Faults.{unknown_flag}
 use Rattle.blob_meta.specs.Parents.{named_in, parent_of, slot}
 use Rattle.blob_meta.specs.Resolving.{without_marks}
@@ -29,6 +29,7 @@ use Rattle.shown_volumes.proofs.Held.{
   held,
   Holding,
   holding,
+  lifted,
   long_alike,
   named_given,
   thin_clear,
@@ -37,7 +38,7 @@ use Rattle.shown_volumes.proofs.Held.{
 }
 use Rattle.shown_volumes.proofs.HeirMaps.{filled_within, long_over, slot_over}
 use Rattle.shown_volumes.proofs.Inside.{inside_slot, IsInside, none_of_map}
-use Rattle.shown_volumes.proofs.MapTests.{all_filled, all_inside, clear_flags, known_flags, slot_filled, slot_in}
+use Rattle.shown_volumes.proofs.MapTests.{all_filled, all_inside, clear_flags, known_flags, slot_filled}
 use Rattle.shown_volumes.proofs.SnapshotShows.{thin_given, thin_set}
 use Rattle.shown_volumes.proofs.Valued.{parent_named, value_beside, value_set, value_without}
 
@@ -85,50 +86,24 @@ module _ (s : Super) (few_heads : s.md_len ≤ 2 ^ 32) where
     begun = empty_held head (length old.map) (begun_snapshot of old head xattrs) low refl refl refl refl refl can
         begun_good refl old.map refl was.few
 
-    -- a new blob with the map of the volume, thin where that is
-    abbrev made_as : Xattrs → ℕ → Meta
-    made_as internal data_ro = record (filled_snapshot of old head xattrs) {
-      internal = internal;
-      flags = record (filled_snapshot of old head xattrs).flags { data_ro = data_ro };
-    }
+    abbrev filled_meta : Meta
+    filled_meta = filled_snapshot of old head xattrs
 
-    copied : (internal : Xattrs) (data_ro : ℕ) → AreGood internal → NamesHead (made_as internal data_ro)
-        → Holding s head (made_as internal data_ro)
-    copied internal data_ro good named = record {
+    -- it has the map of the volume, and is thin where that is
+    filled : Holding s head filled_meta
+    filled = record {
       low = low;
       id = refl;
       clear = clear_flags (not (is_thin old.flags));
       xattrs = can;
-      internal = good;
+      internal = given_good (with_named [] (codes "SNAPTMP") of) old begun_good was.internal;
       flags = known_flags (not (is_thin old.flags));
       few = was.few;
       inside = was.inside;
       full = ap (λ b. if b then None else option_map faults.HoleInThick (position is_none old.map))
           (thin_given (is_thin old.flags)) ∙ was.full;
-      named = named;
+      named = named_given (with_named [] (codes "SNAPTMP") of) old filled_meta refl was.named;
     }
-
-    abbrev filled_meta : Meta
-    filled_meta = filled_snapshot of old head xattrs
-
-    filled_good : AreGood filled_meta.internal
-    filled_good = given_good (with_named [] (codes "SNAPTMP") of) old begun_good was.internal
-
-    filled_named : NamesHead filled_meta
-    filled_named = named_given (with_named [] (codes "SNAPTMP") of) old filled_meta refl was.named
-
-    filled : Holding s head filled_meta
-    filled = copied filled_meta.internal 0 filled_good filled_named
-
-    made_named : NamesHead (without_marks filled_meta)
-    made_named =
-        ap is_some (value_without (without filled_meta.internal (codes "SNAPRM")) (codes "SNAPTMP") (codes "SNAP") refl
-        ∙ value_without filled_meta.internal (codes "SNAPRM") (codes "SNAP") refl)
-        ∙ filled_named ∙ ap is_some (sym (same_parent filled_meta))
-
-    made : Holding s head (without_marks filled_meta)
-    made = copied (without_marks filled_meta).internal 1
-        (without_good _ (codes "SNAPTMP") (without_good filled_meta.internal (codes "SNAPRM") filled_good)) made_named
 
     emptied : Holding s of (emptied_volume old head)
     emptied = empty_held of (length old.map) (emptied_volume old head) was.low was.id refl
@@ -243,11 +218,16 @@ slot_inside s head m x i cluster at =
 pub jobs_held : (s : Super) → HoldJobs s
 jobs_held s = record {
   snapshot = λ of head old xattrs is low can few.
-      let was = holding s of old is in
-      (new_is s head _ (begun s few of head old xattrs was low can),
-      (new_is s head _ (filled s few of head old xattrs was low can),
-      (new_is s of _ (emptied s few of head old xattrs was low can),
-      (new_is s head _ (made s few of head old xattrs was low can), tt))));
+      let was = holding s of old is in (
+        new_is s head _ (begun s few of head old xattrs was low can),
+        (
+          new_is s head _ (filled s few of head old xattrs was low can),
+          (
+            new_is s of _ (emptied s few of head old xattrs was low can),
+            (new_is s head _ (lifted s head _ (filled s few of head old xattrs was low can)), tt),
+          ),
+        ),
+      );
   clone = λ of head old xattrs is low can few.
       (new_is s head _ (cloned s few of head old xattrs (holding s of old is) low can), tt);
   erase = λ of. (none_new s of, tt);
@@ -255,7 +235,8 @@ jobs_held s = record {
       let was = holding s of old is in
       let its = holding s clone heir is_too in
       let a = slot_inside s of old is in
-      let b = slot_inside s clone heir is_too in
-      (new_is s of _ (going s of clone old heir was its a b),
-      (new_is s clone _ (took s of clone old heir was its a b), (none_new s of, tt)));
+      let b = slot_inside s clone heir is_too in (
+        new_is s of _ (going s of clone old heir was its a b),
+        (new_is s clone _ (took s of clone old heir was its a b), (none_new s of, tt)),
+      );
 }

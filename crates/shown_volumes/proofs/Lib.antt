@@ -31,3 +31,4 @@ pub mod MapTests
 pub mod GoodMarks
 pub mod Held
 pub mod HeldJobs
+pub mod PartsHeld

@@ -6,9 +6,12 @@ use Rattle.super_block.specs.declared.page.Super.{Super}
 use Rattle.blob_meta.specs.declared.job.Job.{Job}
 use Rattle.blob_meta.specs.declared.job.Replacement.{Replacement}
 use Rattle.blob_meta.specs.declared.meta.Meta.{Meta}
+use Rattle.blob_meta.specs.Resolving as resolving
 use Rattle.snapshots.specs.SnapshotJobs.{clone_job, snapshot_job}
 use Rattle.inflate_delete.specs.DeleteJobs.{delete_job, erase_job}
-use Rattle.shown_volumes.specs.Steady.{CanBeWritten, IsStored, NamesHead}
+use Rattle.shown_volumes.specs.Maps.{Metas}
+use Rattle.shown_volumes.specs.ShowsStep.{part_of}
+use Rattle.shown_volumes.specs.Steady.{AreSteady, CanBeWritten, IsStored, NamesHead}
 
 -- The store can hold the metadata, and its SNAP, if it has one, names a head: it is steady but for a mark.
 pub record IsHeld (s : Super) (head : ℕ) (m : Meta) : Type 0 where
@@ -19,6 +22,10 @@ pub record IsHeld (s : Super) (head : ℕ) (m : Meta) : Type 0 where
 abbrev pub AreHeld : Super → Job → Type 0
 AreHeld s job = AllByRecursion (λ (x : Replacement). (m : Meta) → x.new ≡ Some m → IsHeld s x.head m) job.list
 
+-- each blob is so
+abbrev pub AreAllHeld : Super → Metas → Type 0
+AreAllHeld s metas = (head : ℕ) (m : Meta) → metas head ≡ Some m → IsHeld s head m
+
 -- The blobs that the jobs are on are held, a new one's head is a place of the region, and its attributes can be written.
 pub record HoldJobs (s : Super) : Type 0 where
   pub snapshot : (of head : ℕ) (old : Meta) (xattrs : Xattrs) → IsHeld s of old → head < s.md_len
@@ -28,3 +35,9 @@ pub record HoldJobs (s : Super) : Type 0 where
   pub erase : (of : ℕ) → AreHeld s (erase_job of)
   pub delete : (of clone : ℕ) (old heir : Meta) → IsHeld s of old → IsHeld s clone heir
       → AreHeld s (delete_job of old clone heir)
+
+-- After any number of a job's replacements each blob is held still; and each is steady once they are resolved.
+pub record StayHeld (s : Super) : Type 0 where
+  pub parts : (base : Metas) (job : Job) → AreAllHeld s base → AreHeld s job → (count : ℕ)
+      → AreAllHeld s (part_of job base count)
+  pub resolved : (metas : Metas) → AreAllHeld s metas → AreSteady s (resolving.resolved metas)

@@ -11,7 +11,6 @@ use Rattle.std.proofs.lemmas.Bool.Decides.{nat_tests}
 use Rattle.std.proofs.lemmas.List.{length-replicate}
 use Rattle.std.proofs.Math.Path.{fun_ext}
 use Rattle.page_disk.specs.Disk.{Image}
-use Rattle.volume_model.specs.Blank.{blanked}
 use Rattle.volume_model.specs.Volumes.{all_slots, Fixed, two_xattrs, Volume, Volumes}
 use Rattle.volume_model.specs.Xattrs.{Text, Xattrs}
 use Rattle.volume_model.specs.Refusals.{is_taken, is_too_large, refusal}
@@ -20,7 +19,6 @@ use Rattle.volume_model.specs.declared.command.Command.{Command}
 use Rattle.volume_model.specs.declared.command.Command.TheVariants as c
 use Rattle.volume_model.specs.declared.reply.Reply.TheVariants as r_
 use Rattle.volume_model.proofs.Blank.{same_refusal}
-use Rattle.volume_model.proofs.BlankSteps.{same_change}
 use Rattle.blob_meta.specs.declared.meta.Meta.{Meta}
 use Rattle.blob_meta.specs.declared.job.Job.{Job as Changes}
 use Rattle.blob_meta.specs.Jobs.{new_meta}

@@ -1,19 +1,17 @@
 -- Lists that are cut to a length, or lengthened to it by one value; maps among them.
-use Rattle.std.proofs.Common.{◌≡◌, ℕ, zero, suc, ◌-◌, ◌<◌, ◌≤◌, Bool, true, false, List, [], ◌∷◌, ◌++◌, length, Option}
+use Rattle.std.proofs.Common.{◌≡◌, ℕ, zero, suc, ◌-◌, ◌<◌, ◌≤◌, Bool, List, [], ◌∷◌, ◌++◌, length, Option}
 use Rattle.std.proofs.Common.{Some, None, refl, sym, ap, ◌∙◌, inl, inr, arith, length-append, subst}
-use Rattle.std.specs.Prelude.{find, if◌then◌else◌, is_none, nat_lt, replicate, slice_get, slice_index_or, take}
-use Rattle.std.specs.List.{position, position_or_len}
+use Rattle.std.specs.Prelude.{find, if◌then◌else◌, is_none, replicate, slice_get, take}
+use Rattle.std.specs.List.{position}
 use Rattle.std.specs.Option.{option_and_then}
-use Rattle.std.proofs.lemmas.Bool.{cases_lt, false≢true, lt-ltb}
+use Rattle.std.proofs.lemmas.Bool.{cases_lt, false≢true}
 use Rattle.std.proofs.lemmas.List.{append-nil, get_or-take, length-replicate, length-take-le, take_all}
 use Rattle.std.proofs.lemmas.List.Quantifiers.{position-Some}
-use Rattle.std.proofs.lemmas.List.Sums.{fails_before_first}
 use Rattle.std.proofs.lemmas.Option.{slice_get_past}
 use Rattle.blob_meta.specs.Faults.{clusters_of, is_outside}
 use Rattle.blob_meta.proofs.ClustersOutside.{clusters-append}
 use Rattle.shown_volumes.proofs.Inside.{passes}
 use Rattle.store_model.proofs.NewBlob.{empty_slot, none_in}
-
 pub use Rattle.shown_volumes.proofs.MapTests.{all_full, slot_in}
 
 -- so many elements: the first ones, and then as many of this value as are wanting

@@ -39,7 +39,6 @@ use Rattle.store_model.proofs.Elsewhere.{IsChildless, same_elsewhere, through}
 use Rattle.store_model.proofs.SameMaps.{content_alike, IsPlacedAlike}
 use Rattle.store_model.proofs.Shows.{steady_resolved}
 use Rattle.shown_volumes.proofs.WithEntry.{given_elsewhere, given_here}
-
 pub use Rattle.shown_volumes.specs.EmptySlots.{Any}
 
 -- with the same maps and parents

@@ -1,9 +1,8 @@
 -- The metadata of a new blob: it is steady, and with it the metadata of all blobs is lawful.
-use Rattle.std.proofs.Common.{◌≡◌, ◌⊎◌, ℕ, zero, suc, ◌<◌, ◌≤◌, ◌^◌, Bool, true, false, List, [], ◌∷◌, length}
+use Rattle.std.proofs.Common.{◌≡◌, ◌⊎◌, ℕ, ◌<◌, ◌≤◌, ◌^◌, Bool, true, false, List, [], ◌∷◌}
 use Rattle.std.proofs.Common.{Option, None, refl, sym, ◌∙◌, inl, inr, arith, length-append}
-use Rattle.std.specs.Prelude.{if◌then◌else◌, nat_le, replicate, slice_get}
-use Rattle.std.specs.Option.{option_and_then, option_map_or}
-use Rattle.std.proofs.lemmas.Bool.{le-leb}
+use Rattle.std.specs.Prelude.{if◌then◌else◌, replicate}
+use Rattle.std.specs.Option.{option_map_or}
 use Rattle.std.proofs.lemmas.List.{length-replicate}
 use Rattle.super_block.specs.declared.page.Super.{Super}
 use Rattle.volume_model.proofs.UuidTexts.{length-uuid_text}
@@ -12,16 +11,12 @@ use Rattle.volume_model.specs.Uuids.{default_uuid, uuid_text}
 use Rattle.volume_model.specs.Volumes.{Fixed, store_uuid, two_xattrs, Volumes}
 use Rattle.volume_model.specs.Xattrs.{Text, Xattrs}
 use Rattle.blob_meta.specs.declared.meta.Flags.{Flags}
-use Rattle.blob_meta.specs.declared.fault.MetaFault.{MetaFault}
-use Rattle.blob_meta.specs.Faults.{clusters_of, first_some, hole_in_thick, map_fault}
-use Rattle.blob_meta.specs.Faults.{too_large, unknown_flag}
+use Rattle.blob_meta.specs.Faults.{hole_in_thick, map_fault}
 use Rattle.blob_meta.specs.Jobs.{new_meta}
-use Rattle.blob_meta.specs.Says.{without_bit_1}
 use Rattle.store_model.specs.Maps.{Metas}
 use Rattle.store_model.specs.Regions.{region_of}
 use Rattle.store_model.specs.Steady.{CanBeWritten, IsSteady}
 use Rattle.store_model.proofs.LawfulGiven.{TakesNone}
-
 pub use Rattle.shown_volumes.proofs.EmptyMaps.{none_in, empty_slot}
 pub use Rattle.shown_volumes.proofs.MapTests.{all_pass, clear_flags, few_pass, known_flags}
 

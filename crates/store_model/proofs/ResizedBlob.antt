@@ -1,27 +1,23 @@
 -- The metadata of a blob with another number of slots: it is steady, and with it all metadata is lawful.
-use Rattle.std.proofs.Common.{◌≡◌, ℕ, ◌≤◌, ◌^◌, true, List, [], ◌∷◌, Option, Some, None, refl, sym, ◌∙◌}
+use Rattle.std.proofs.Common.{◌≡◌, ℕ, ◌≤◌, ◌^◌, true, Option, Some, None, sym, ◌∙◌}
 use Rattle.std.proofs.Common.{subst, false, arith}
 use Rattle.std.specs.Prelude.{if◌then◌else◌, is_none}
 use Rattle.std.specs.List.{position}
 use Rattle.std.specs.Option.{option_map}
 use Rattle.super_block.specs.declared.page.Super.{Super}
 use Rattle.blob_meta.specs.declared.meta.Meta.{Meta}
-use Rattle.blob_meta.specs.declared.fault.MetaFault.{MetaFault}
 use Rattle.blob_meta.specs.declared.fault.MetaFault.TheVariants as faults
-use Rattle.blob_meta.specs.Faults.{bad_mark, cluster_outside, first_some, hole_in_thick}
 use Rattle.blob_meta.specs.Faults.{is_thin}
-use Rattle.blob_meta.specs.Faults.{map_fault, meta_fault, too_large, unknown_flag}
 use Rattle.blob_meta.specs.Jobs.{resized_meta}
 use Rattle.blob_meta.specs.Parents.{is_read_only}
 use Rattle.store_model.specs.Maps.{Metas}
 use Rattle.store_model.specs.Regions.{region_of}
 use Rattle.store_model.specs.Steady.{IsSteady}
 use Rattle.store_model.proofs.Cut.{length_cut, slot_was}
-use Rattle.shown_volumes.proofs.Inside.{inside_slot, none_of_map, none_second}
+use Rattle.shown_volumes.proofs.Inside.{inside_slot, none_of_map}
 use Rattle.store_model.proofs.ZeroedBlob.{IsSteadyBut}
 use Rattle.std.proofs.lemmas.Bool.Decides.{nat_tests}
 use Rattle.store_model.proofs.LawfulGiven.{TakesNone}
-
 pub use Rattle.shown_volumes.proofs.MapTests.{passes}
 
 -- a blob that isn't thin has no empty slot

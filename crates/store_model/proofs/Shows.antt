@@ -1,8 +1,8 @@
 -- What of the volumes shown a write to the metadata region changes: nothing.
-use Rattle.std.proofs.Common.{◌≡◌, ◌≢◌, ℕ, suc, ◌+◌, ◌*◌, ◌/◌, ◌%◌, ◌<◌, ◌≤◌, true, false, List, [], length, map}
+use Rattle.std.proofs.Common.{◌≡◌, ◌≢◌, ℕ, suc, ◌+◌, ◌*◌, ◌/◌, ◌%◌, ◌<◌, ◌≤◌, true, false, List, length, map}
 use Rattle.std.proofs.Common.{Bool, Option, Some, None, refl, ap, arith, subst}
 use Rattle.std.specs.List.{range_with_len}
-use Rattle.std.specs.Option.{option_map, option_map_or}
+use Rattle.std.specs.Option.{option_map}
 use Rattle.std.proofs.lemmas.Bool.{ne_eqb}
 use Rattle.std.proofs.Math.Nat.{mul-le-mul_right}
 use Rattle.std.proofs.Math.Path.{fun_ext}
@@ -24,7 +24,6 @@ use Rattle.store_model.specs.Agreeing.{AgreeOn}
 use Rattle.store_model.specs.Steady.{AreSteady}
 use Rattle.store_model.proofs.Contents.{HasParents, same_content}
 use Rattle.shown_volumes.proofs.Inside.{inside_slot}
-
 pub use Rattle.shown_volumes.specs.Shown.{or_empty}
 
 -- ---- metadata without marks is resolved as it is

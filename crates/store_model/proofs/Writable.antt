@@ -1,30 +1,25 @@
 -- Attributes that can be written, when one is set or removed; and what a command that is answered in memory changes.
-use Rattle.std.proofs.Common.{◌≡◌, ◌≢◌, ℕ, ◌+◌, ◌≤◌, Bool, true, false, List, [], ◌∷◌, length, Option, Some, None, refl}
+use Rattle.std.proofs.Common.{◌≡◌, ◌≢◌, ℕ, ◌+◌, ◌≤◌, Bool, false, List, [], ◌∷◌, length, Option, Some, None, refl}
 use Rattle.std.proofs.Common.{sym, ◌∙◌, ap, subst, arith, inl, inr}
 use Rattle.std.specs.Prelude.{nat_lt, ◌||◌}
-use Rattle.std.specs.List.{AllByRecursion, find}
+use Rattle.std.specs.List.{find}
 use Rattle.std.specs.Option.{option_map}
-use Rattle.std.specs.Str.{bytes_eq}
-use Rattle.std.proofs.lemmas.Bool.{cases_Bool, cases_eq}
+use Rattle.std.proofs.lemmas.Bool.{cases_eq}
 use Rattle.std.proofs.lemmas.Bool.Decides.{nat_tests}
-use Rattle.std.proofs.lemmas.Slice.Eq.{bytes_eq-Decides}
 use Rattle.volume_model.specs.Volumes.{Fixed, Volume, Volumes, head_of, is_super}
 use Rattle.volume_model.specs.Xattrs.{Xattrs, with_value, without}
-use Rattle.volume_model.specs.Refusals.{Causes, is_reserved, refusal}
+use Rattle.volume_model.specs.Refusals.{is_reserved, refusal}
 use Rattle.volume_model.specs.Steps.{Allowed, change, edited_at, IsRefusal}
-use Rattle.volume_model.specs.declared.text.Xattr.{Xattr}
 use Rattle.volume_model.specs.declared.command.VolumeRef.{VolumeRef}
 use Rattle.volume_model.specs.declared.command.Command.{Command}
 use Rattle.volume_model.specs.declared.command.Command.TheVariants as c
 use Rattle.volume_model.specs.declared.reply.Reply.{Reply}
 use Rattle.volume_model.specs.declared.reply.Reply.TheVariants as r
-use Rattle.blob_meta.specs.Items.{HasDistinctNames}
 use Rattle.store_model.specs.Cases.{IsInMemory, live_of}
 use Rattle.store_model.specs.RunInvariant.{CanBeWritten}
 use Rattle.store_model.proofs.Refusals.{RefusalsChangeNothing}
 use Rattle.store_model.proofs.Synced.{edited_here, edited_there}
 use Rattle.store_model.proofs.Shows.{or_empty}
-
 pub use Rattle.shown_volumes.proofs.Passing.{none_holds}
 pub use Rattle.shown_volumes.proofs.Written.{distinct_with, written_with, written_without}
 

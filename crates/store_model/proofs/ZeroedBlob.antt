@@ -1,30 +1,8 @@
 -- A blob with claimed clusters in slots that were empty: it is steady, all metadata is lawful with it, and it shows
 -- what it showed where the clusters read as zeros and so did the slots.
-use Rattle.std.proofs.Common.{
-  ◌≡◌,
-  ◌≢◌,
-  ◌⊎◌,
-  ℕ,
-  zero,
-  suc,
-  ◌+◌,
-  ◌*◌,
-  ◌/◌,
-  ◌%◌,
-  ◌<◌,
-  ◌≤◌,
-  ◌^◌,
-  Bool,
-  true,
-  false,
-  List,
-  [],
-  ◌∷◌,
-}
+use Rattle.std.proofs.Common.{◌≡◌, ◌≢◌, ◌⊎◌, ℕ, suc, ◌+◌, ◌*◌, ◌/◌, ◌%◌, ◌<◌, ◌≤◌, ◌^◌, Bool, true, false, List}
 use Rattle.std.proofs.Common.{length, map, Option, Some, None, refl, sym, ap, ◌∙◌, subst, inl, inr, arith}
-use Rattle.std.specs.Prelude.{find, is_none, slice_index_or, IsSome}
-use Rattle.std.specs.List.{position, range_with_len}
-use Rattle.std.proofs.lemmas.List.Quantifiers.{position-Some}
+use Rattle.std.specs.List.{range_with_len}
 use Rattle.std.specs.Option.{option_map_or}
 use Rattle.std.proofs.lemmas.Bool.{cases_eq}
 use Rattle.std.proofs.Math.Path.{fun_ext}
@@ -33,7 +11,7 @@ use Rattle.volume_model.specs.Volumes.{Page, zero_page}
 use Rattle.volume_model.specs.Xattrs.{Xattrs}
 use Rattle.blob_meta.specs.declared.meta.Meta.{Meta}
 use Rattle.super_block.specs.declared.page.Super.{Super}
-use Rattle.blob_meta.specs.Faults.{bad_mark, clusters_of, hole_in_thick, is_outside, map_fault, unknown_flag}
+use Rattle.blob_meta.specs.Faults.{bad_mark, hole_in_thick, is_outside, map_fault, unknown_flag}
 use Rattle.blob_meta.specs.Says.{without_bit_1}
 use Rattle.md_chain.specs.Chain.{blob_id}
 use Rattle.store_model.specs.Regions.{region_of}
@@ -50,7 +28,6 @@ use Rattle.store_model.specs.Shown.{content, content_by, volume_of}
 use Rattle.store_model.proofs.Elsewhere.{IsChildless, same_elsewhere, through}
 use Rattle.shown_volumes.proofs.WithEntry.{given_here, given_elsewhere}
 use Rattle.store_model.proofs.ZeroSlots.{IsZeroedAt}
-
 pub use Rattle.shown_volumes.proofs.MapTests.{
   all_filled,
   all_inside,

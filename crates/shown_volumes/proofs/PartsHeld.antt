@@ -1,0 +1,63 @@
+-- The metadata after any number of replacements that can be stored can be stored; and once it is resolved it is steady.
+use Rattle.std.proofs.Common.{◌≡◌, ℕ, zero, suc, ◌==◌, Some, None, List, [], ◌∷◌, true, false, refl, sym, ◌∙◌, subst, inl, inr}
+use Rattle.std.specs.Prelude.{take, if◌then◌else◌}
+use Rattle.std.specs.List.{AllByRecursion}
+use Rattle.std.proofs.lemmas.Bool.{cases_eq, eq-eqb, ne_eqb}
+use Rattle.super_block.specs.declared.page.Super.{Super}
+use Rattle.blob_meta.specs.declared.job.Job.{Job}
+use Rattle.blob_meta.specs.declared.job.Replacement.{Replacement}
+use Rattle.blob_meta.specs.declared.meta.Meta.{Meta}
+use Rattle.blob_meta.specs.Repairs.{after, with_replacement}
+use Rattle.blob_meta.specs.Resolving.{resolved, without_marks}
+use Rattle.blob_meta.proofs.Fates.{Fate, fate}
+use Rattle.blob_meta.proofs.MarksLifted.{no_mark}
+use Rattle.shown_volumes.specs.Maps.{Metas}
+use Rattle.shown_volumes.specs.ShowsStep.{part_of}
+use Rattle.shown_volumes.specs.Steady.{AreSteady, IsSteady, IsUnmarked}
+use Rattle.shown_volumes.specs.StoredLaws.{AreAllHeld, AreHeld, IsHeld}
+use Rattle.shown_volumes.proofs.Held.{held, holding, lifted}
+
+module _ (s : Super) where
+  abbrev IsHeldNew : Replacement → Type 0
+  IsHeldNew x = (m : Meta) → x.new ≡ Some m → IsHeld s x.head m
+
+  -- one replacement
+  one_held : (metas : Metas) (x : Replacement) → AreAllHeld s metas → IsHeldNew x
+      → AreAllHeld s (with_replacement metas x)
+  one_held metas x all new h m is = elim (cases_eq h x.head) [
+    | inl e ↦ subst (λ n. IsHeld s n m) (sym e) (new m (rw (eq-eqb h x.head e) at is))
+    | inr ne ↦ all h m (rw (ne_eqb h x.head ne) at is)
+  ]
+
+  -- so many of a list
+  some_held : (list : List Replacement) (metas : Metas) → AreAllHeld s metas → AllByRecursion IsHeldNew list
+      → (count : ℕ) → AreAllHeld s (after metas (take count list))
+  some_held list metas all news zero = all
+  some_held [] metas all news (suc count) = all
+  some_held (x ∷ list) metas all news (suc count) =
+      some_held list (with_replacement metas x) (one_held metas x all news.0) news.1 count
+
+  pub parts_held : (base : Metas) (job : Job) → AreAllHeld s base → AreHeld s job → (count : ℕ)
+      → AreAllHeld s (part_of job base count)
+  parts_held base job all news count = some_held job.list base all news count
+
+  steady : (h : ℕ) (m : Meta) → IsHeld s h m → IsUnmarked m → IsSteady s h m
+  steady h m x unmarked = record { stored = x.stored; named = x.named; unmarked = unmarked }
+
+  -- marked blobs are gone then, or without their marks
+  pub resolved_steady : (metas : Metas) → AreAllHeld s metas → AreSteady s (resolved metas)
+  resolved_steady metas all h m is = by (fate metas h)
+    where
+      by : Fate metas h → IsSteady s h m
+      by (inl x) = let bad : None ≡ Some m = sym x.gives ∙ is in absurd (cc bad)
+      by (inr (inl x)) =
+          let both : Some x.blob ≡ Some m = sym x.gives ∙ is in
+          let one : x.blob ≡ m = cc both in
+          subst (IsSteady s h) one (steady h x.blob (all h x.blob x.there) x.unmarked)
+      by (inr (inr (inl x))) =
+          let both : Some (without_marks x.blob) ≡ Some m = sym x.gives ∙ is in
+          let one : without_marks x.blob ≡ m = cc both in
+          subst (IsSteady s h) one (steady h (without_marks x.blob)
+          (held s h (without_marks x.blob) (lifted s h x.blob (holding s h x.blob (all h x.blob x.there))))
+          (no_mark x.blob))
+      by (inr (inr (inr x))) = let bad : None ≡ Some m = sym x.gives ∙ is in absurd (cc bad)
