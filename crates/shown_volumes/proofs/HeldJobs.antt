@@ -9,21 +9,19 @@ use Rattle.std.proofs.lemmas.Bool.Decides.{nat_tests}
 use Rattle.std.proofs.lemmas.List.{length-replicate}
 use Rattle.super_block.specs.declared.page.Super.{Super}
 use Rattle.super_block.specs.Numbers.{clusters_of as clusters_in, fixed_clusters_of}
-use Rattle.volume_model.specs.Xattrs.{Xattrs, value_of, without}
+use Rattle.volume_model.specs.Xattrs.{Xattrs, value_of}
 use Rattle.blob_meta.specs.declared.fault.MetaFault.TheVariants as faults
 use Rattle.blob_meta.specs.declared.meta.Meta.{Meta}
 use Rattle.blob_meta.specs.Faults.{cluster_outside, hole_in_thick, is_outside, is_thin, too_large}
 use Rattle.blob_meta.specs.Faults.{unknown_flag}
 use Rattle.blob_meta.specs.Parents.{named_in, parent_of, slot}
-use Rattle.blob_meta.specs.Resolving.{without_marks}
 use Rattle.blob_meta.specs.Says.{without_bit_1}
-use Rattle.blob_meta.proofs.MarksLifted.{same_parent}
 use Rattle.snapshots.specs.Marks.{id_bytes, with_named}
 use Rattle.snapshots.specs.SnapshotJobs.{begun_snapshot, emptied_volume, filled_snapshot, new_clone}
 use Rattle.inflate_delete.specs.DeleteJobs.{going_blob, heir_of}
 use Rattle.shown_volumes.specs.Steady.{CanBeWritten, NamesHead}
 use Rattle.shown_volumes.specs.StoredLaws.{HoldJobs, IsHeld}
-use Rattle.shown_volumes.proofs.GoodMarks.{AreGood, given_good, named_good, without_good}
+use Rattle.shown_volumes.proofs.GoodMarks.{AreGood, given_good, named_good}
 use Rattle.shown_volumes.proofs.Held.{
   empty_inside,
   held,
@@ -40,7 +38,7 @@ use Rattle.shown_volumes.proofs.HeirMaps.{filled_within, long_over, slot_over}
 use Rattle.shown_volumes.proofs.Inside.{inside_slot, IsInside, none_of_map}
 use Rattle.shown_volumes.proofs.MapTests.{all_filled, all_inside, clear_flags, known_flags, slot_filled}
 use Rattle.shown_volumes.proofs.SnapshotShows.{thin_given, thin_set}
-use Rattle.shown_volumes.proofs.Valued.{parent_named, value_beside, value_set, value_without}
+use Rattle.shown_volumes.proofs.Valued.{parent_named, value_beside, value_set}
 
 -- no attributes
 no_marks : AreGood []

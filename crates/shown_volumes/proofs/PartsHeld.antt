@@ -1,6 +1,6 @@
 -- The metadata after any number of replacements that can be stored can be stored; and once it is resolved it is steady.
-use Rattle.std.proofs.Common.{◌≡◌, ℕ, zero, suc, ◌==◌, Some, None, List, [], ◌∷◌, true, false, refl, sym, ◌∙◌, subst, inl, inr}
-use Rattle.std.specs.Prelude.{take, if◌then◌else◌}
+use Rattle.std.proofs.Common.{◌≡◌, ℕ, zero, suc, Some, None, List, [], ◌∷◌, sym, ◌∙◌, subst, inl, inr}
+use Rattle.std.specs.Prelude.{take}
 use Rattle.std.specs.List.{AllByRecursion}
 use Rattle.std.proofs.lemmas.Bool.{cases_eq, eq-eqb, ne_eqb}
 use Rattle.super_block.specs.declared.page.Super.{Super}
