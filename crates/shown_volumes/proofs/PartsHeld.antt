@@ -1,18 +1,20 @@
 -- The metadata after any number of replacements that can be stored can be stored; and once it is resolved it is steady.
-use Rattle.std.proofs.Common.{◌≡◌, ℕ, zero, suc, Some, None, List, [], ◌∷◌, sym, ◌∙◌, subst, inl, inr}
-use Rattle.std.specs.Prelude.{take}
+use Rattle.std.proofs.Common.{◌≡◌, ℕ, zero, suc, Some, None, List, [], ◌∷◌, refl, sym, ◌∙◌, subst, inl, inr}
+use Rattle.std.specs.Prelude.{◌<◌, ◌≤◌, ◌^◌, IsSome, Option, take}
 use Rattle.std.specs.List.{AllByRecursion}
 use Rattle.std.proofs.lemmas.Bool.{cases_eq, eq-eqb, ne_eqb}
 use Rattle.super_block.specs.declared.page.Super.{Super}
+use Rattle.super_block.specs.Numbers.{cluster_pages_of}
 use Rattle.blob_meta.specs.declared.job.Job.{Job}
 use Rattle.blob_meta.specs.declared.job.Replacement.{Replacement}
 use Rattle.blob_meta.specs.declared.meta.Meta.{Meta}
 use Rattle.blob_meta.specs.Repairs.{after, with_replacement}
-use Rattle.blob_meta.specs.Resolving.{resolved, without_marks}
+use Rattle.blob_meta.specs.Resolving.{IsLawful, resolved, without_marks}
 use Rattle.blob_meta.proofs.Fates.{Fate, fate}
 use Rattle.blob_meta.proofs.MarksLifted.{no_mark}
 use Rattle.shown_volumes.specs.Maps.{Metas}
-use Rattle.shown_volumes.specs.ShowsStep.{part_of}
+use Rattle.shown_volumes.specs.Shown.{fixed_of}
+use Rattle.shown_volumes.specs.ShowsStep.{IsAtRest, part_of}
 use Rattle.shown_volumes.specs.Steady.{AreSteady, IsSteady, IsUnmarked}
 use Rattle.shown_volumes.specs.StoredLaws.{AreAllHeld, AreHeld, IsHeld}
 use Rattle.shown_volumes.proofs.Held.{held, holding, lifted}
@@ -61,3 +63,24 @@ module _ (s : Super) where
           (held s h (without_marks x.blob) (lifted s h x.blob (holding s h x.blob (all h x.blob x.there))))
           (no_mark x.blob))
       by (inr (inr (inr x))) = let bad : None ≡ Some m = sym x.gives ∙ is in absurd (cc bad)
+
+  -- ---- steady metadata
+
+  -- is held,
+  pub steady_held : (metas : Metas) → AreSteady s metas → AreAllHeld s metas
+  steady_held metas all h m is = let x = all h m is in record { stored = x.stored; named = x.named }
+
+  -- and a job may begin on it, if it is lawful
+  pub steady_rest : (metas : Metas) → AreSteady s metas → IsLawful s.md_len metas → 0 < cluster_pages_of s
+      → s.md_len ≤ 2 ^ 32 → IsAtRest (fixed_of s) metas
+  steady_rest metas all lawful some few = record {
+    some_pages = some;
+    few_heads = few;
+    lawful = lawful;
+    unmarked = λ h m is. (all h m is).unmarked;
+    heads_below = λ h there. below h (metas h) refl there;
+  }
+    where
+      below : (h : ℕ) (o : Option Meta) → metas h ≡ o → IsSome (metas h) → h < s.md_len
+      below h (Some m) is there = (all h m is).stored.low
+      below h None is there = absurd (cc (is, there))

@@ -3,14 +3,17 @@ use Rattle.std.specs.Prelude.{◌≡◌, ℕ, ◌<◌, ◌≤◌, ◌^◌, Some}
 use Rattle.std.specs.List.{AllByRecursion}
 use Rattle.volume_model.specs.Xattrs.{Xattrs}
 use Rattle.super_block.specs.declared.page.Super.{Super}
+use Rattle.super_block.specs.Numbers.{cluster_pages_of}
 use Rattle.blob_meta.specs.declared.job.Job.{Job}
 use Rattle.blob_meta.specs.declared.job.Replacement.{Replacement}
 use Rattle.blob_meta.specs.declared.meta.Meta.{Meta}
 use Rattle.blob_meta.specs.Resolving as resolving
+use Rattle.blob_meta.specs.Resolving.{IsLawful}
 use Rattle.snapshots.specs.SnapshotJobs.{clone_job, snapshot_job}
 use Rattle.inflate_delete.specs.DeleteJobs.{delete_job, erase_job}
 use Rattle.shown_volumes.specs.Maps.{Metas}
-use Rattle.shown_volumes.specs.ShowsStep.{part_of}
+use Rattle.shown_volumes.specs.Shown.{fixed_of}
+use Rattle.shown_volumes.specs.ShowsStep.{IsAtRest, part_of}
 use Rattle.shown_volumes.specs.Steady.{AreSteady, CanBeWritten, IsStored, NamesHead}
 
 -- The store can hold the metadata, and its SNAP, if it has one, names a head: it is steady but for a mark.
@@ -36,8 +39,12 @@ pub record HoldJobs (s : Super) : Type 0 where
   pub delete : (of clone : ℕ) (old heir : Meta) → IsHeld s of old → IsHeld s clone heir
       → AreHeld s (delete_job of old clone heir)
 
--- After any number of a job's replacements each blob is held still; and each is steady once they are resolved.
+-- After any number of a job's replacements each blob is held still, and each is steady once they are resolved. Steady
+-- blobs are held, and a job may begin on them where they are lawful.
 pub record StayHeld (s : Super) : Type 0 where
   pub parts : (base : Metas) (job : Job) → AreAllHeld s base → AreHeld s job → (count : ℕ)
       → AreAllHeld s (part_of job base count)
   pub resolved : (metas : Metas) → AreAllHeld s metas → AreSteady s (resolving.resolved metas)
+  pub steady : (metas : Metas) → AreSteady s metas → AreAllHeld s metas
+  pub rest : (metas : Metas) → AreSteady s metas → IsLawful s.md_len metas → 0 < cluster_pages_of s
+      → s.md_len ≤ 2 ^ 32 → IsAtRest (fixed_of s) metas
