@@ -29,6 +29,6 @@ pub mod Inside
 pub mod Written
 pub mod MapTests
 pub mod GoodMarks
-pub mod Held
-pub mod HeldJobs
-pub mod PartsHeld
+pub mod WellStored
+pub mod StoredJobs
+pub mod PartsStored

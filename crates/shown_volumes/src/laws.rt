@@ -7,7 +7,7 @@ ghost use Rattle.volume_model.specs.Xattrs.{Text, Xattrs};
 ghost use Rattle.volume_model.specs.declared.command.VolumeRef.{VolumeRef};
 ghost use Rattle.blob_meta.specs.declared.meta.Meta.{Meta};
 ghost use Rattle.super_block.specs.declared.page.Super.{Super};
-ghost use Rattle.shown_volumes.specs.StoredLaws.{HoldJobs, StayHeld};
+ghost use Rattle.shown_volumes.specs.StoredLaws.{StoreJobs, StayStored};
 ghost use Rattle.shown_volumes.specs.Maps.{Map, Metas};
 ghost use Rattle.shown_volumes.specs.JobLaws.{ShowsClone, ShowsDelete, ShowsErase, ShowsSnapshot};
 
@@ -33,8 +33,9 @@ pub fn deletes_show()
         (old : Meta) (clone : ℕ) (heir : Meta) → ShowsDelete f base live image volume of old clone heir }
 {}
 
-/// The store can hold each new metadata of the jobs, and what each part of a job leaves; once it is resolved it is steady.
-pub fn jobs_are_held()
-    ensures jobs { (s : Super) → HoldJobs s }
-    ensures parts { (s : Super) → StayHeld s }
+/// The store can hold each new metadata of the jobs, and what each part of a job leaves, which is steady once it is
+/// resolved.
+pub fn jobs_are_stored()
+    ensures jobs { (s : Super) → StoreJobs s }
+    ensures parts { (s : Super) → StayStored s }
 {}

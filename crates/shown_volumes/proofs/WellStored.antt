@@ -20,14 +20,14 @@ use Rattle.blob_meta.specs.Says.{without_bit_1}
 use Rattle.blob_meta.proofs.MarksLifted.{same_parent}
 use Rattle.snapshots.specs.Marks.{with_parent_of}
 use Rattle.shown_volumes.specs.Steady.{CanBeWritten, NamesHead}
-use Rattle.shown_volumes.specs.StoredLaws.{IsHeld}
+use Rattle.shown_volumes.specs.StoredLaws.{IsStoredWell}
 use Rattle.shown_volumes.proofs.EmptyMaps.{none_in}
 use Rattle.shown_volumes.proofs.MapTests.{all_pass, passes}
 use Rattle.shown_volumes.proofs.GoodMarks.{AreGood, good_of, none_bad, without_good}
 use Rattle.shown_volumes.proofs.Valued.{parent_given, snap_given, value_without}
 
 -- All that is asked of metadata which the store holds.
-pub record Holding (s : Super) (head : ℕ) (m : Meta) : Type 0 where
+pub record MeetsTests (s : Super) (head : ℕ) (m : Meta) : Type 0 where
   pub low : head < s.md_len
   pub id : m.id ≡ 2 ^ 32 + head
   pub clear : without_bit_1 m.flags.invalid ≡ m.flags.invalid
@@ -39,8 +39,8 @@ pub record Holding (s : Super) (head : ℕ) (m : Meta) : Type 0 where
   pub full : hole_in_thick m.flags m.map ≡ None
   pub named : NamesHead m
 
-pub held : (s : Super) (head : ℕ) (m : Meta) → Holding s head m → IsHeld s head m
-held s head m x = record {
+pub stored_well : (s : Super) (head : ℕ) (m : Meta) → MeetsTests s head m → IsStoredWell s head m
+stored_well s head m x = record {
   stored = record {
     low = x.low;
     id = x.id;
@@ -55,8 +55,8 @@ held s head m x = record {
     map : map_fault (fixed_clusters_of s) (clusters_in s) m.map ≡ None
     map = rw (x.few, x.inside) refl
 
-pub holding : (s : Super) (head : ℕ) (m : Meta) → IsHeld s head m → Holding s head m
-holding s head m x =
+pub meets_tests : (s : Super) (head : ℕ) (m : Meta) → IsStoredWell s head m → MeetsTests s head m
+meets_tests s head m x =
     let was = passes (fixed_clusters_of s) (clusters_in s) m x.stored.faultless in
     record {
       low = x.stored.low;
@@ -119,8 +119,8 @@ named_given internal m n is named =
 
 -- ---- marks
 
--- without its marks a blob can be held too
-pub lifted : (s : Super) (head : ℕ) (m : Meta) → Holding s head m → Holding s head (without_marks m)
+-- without its marks a blob can be stored too
+pub lifted : (s : Super) (head : ℕ) (m : Meta) → MeetsTests s head m → MeetsTests s head (without_marks m)
 lifted s head m x = record {
   low = x.low;
   id = x.id;

@@ -16,38 +16,38 @@ use Rattle.shown_volumes.specs.Maps.{Metas}
 use Rattle.shown_volumes.specs.Shown.{fixed_of}
 use Rattle.shown_volumes.specs.ShowsStep.{IsAtRest, part_of}
 use Rattle.shown_volumes.specs.Steady.{AreSteady, IsSteady, IsUnmarked}
-use Rattle.shown_volumes.specs.StoredLaws.{AreAllHeld, AreHeld, IsHeld}
-use Rattle.shown_volumes.proofs.Held.{held, holding, lifted}
+use Rattle.shown_volumes.specs.StoredLaws.{AllStoredWell, AreStoredWell, IsStoredWell}
+use Rattle.shown_volumes.proofs.WellStored.{stored_well, meets_tests, lifted}
 
 module _ (s : Super) where
-  abbrev IsHeldNew : Replacement → Type 0
-  IsHeldNew x = (m : Meta) → x.new ≡ Some m → IsHeld s x.head m
+  abbrev IsNewStored : Replacement → Type 0
+  IsNewStored x = (m : Meta) → x.new ≡ Some m → IsStoredWell s x.head m
 
   -- one replacement
-  one_held : (metas : Metas) (x : Replacement) → AreAllHeld s metas → IsHeldNew x
-      → AreAllHeld s (with_replacement metas x)
-  one_held metas x all new h m is = elim (cases_eq h x.head) [
-    | inl e ↦ subst (λ n. IsHeld s n m) (sym e) (new m (rw (eq-eqb h x.head e) at is))
+  one_stored : (metas : Metas) (x : Replacement) → AllStoredWell s metas → IsNewStored x
+      → AllStoredWell s (with_replacement metas x)
+  one_stored metas x all new h m is = elim (cases_eq h x.head) [
+    | inl e ↦ subst (λ n. IsStoredWell s n m) (sym e) (new m (rw (eq-eqb h x.head e) at is))
     | inr ne ↦ all h m (rw (ne_eqb h x.head ne) at is)
   ]
 
   -- so many of a list
-  some_held : (list : List Replacement) (metas : Metas) → AreAllHeld s metas → AllByRecursion IsHeldNew list
-      → (count : ℕ) → AreAllHeld s (after metas (take count list))
-  some_held list metas all news zero = all
-  some_held [] metas all news (suc count) = all
-  some_held (x ∷ list) metas all news (suc count) =
-      some_held list (with_replacement metas x) (one_held metas x all news.0) news.1 count
+  some_stored : (list : List Replacement) (metas : Metas) → AllStoredWell s metas → AllByRecursion IsNewStored list
+      → (count : ℕ) → AllStoredWell s (after metas (take count list))
+  some_stored list metas all news zero = all
+  some_stored [] metas all news (suc count) = all
+  some_stored (x ∷ list) metas all news (suc count) =
+      some_stored list (with_replacement metas x) (one_stored metas x all news.0) news.1 count
 
-  pub parts_held : (base : Metas) (job : Job) → AreAllHeld s base → AreHeld s job → (count : ℕ)
-      → AreAllHeld s (part_of job base count)
-  parts_held base job all news count = some_held job.list base all news count
+  pub parts_stored : (base : Metas) (job : Job) → AllStoredWell s base → AreStoredWell s job → (count : ℕ)
+      → AllStoredWell s (part_of job base count)
+  parts_stored base job all news count = some_stored job.list base all news count
 
-  steady : (h : ℕ) (m : Meta) → IsHeld s h m → IsUnmarked m → IsSteady s h m
+  steady : (h : ℕ) (m : Meta) → IsStoredWell s h m → IsUnmarked m → IsSteady s h m
   steady h m x unmarked = record { stored = x.stored; named = x.named; unmarked = unmarked }
 
   -- marked blobs are gone then, or without their marks
-  pub resolved_steady : (metas : Metas) → AreAllHeld s metas → AreSteady s (resolved metas)
+  pub resolved_steady : (metas : Metas) → AllStoredWell s metas → AreSteady s (resolved metas)
   resolved_steady metas all h m is = by (fate metas h)
     where
       by : Fate metas h → IsSteady s h m
@@ -60,15 +60,15 @@ module _ (s : Super) where
           let both : Some (without_marks x.blob) ≡ Some m = sym x.gives ∙ is in
           let one : without_marks x.blob ≡ m = cc both in
           subst (IsSteady s h) one (steady h (without_marks x.blob)
-          (held s h (without_marks x.blob) (lifted s h x.blob (holding s h x.blob (all h x.blob x.there))))
+          (stored_well s h (without_marks x.blob) (lifted s h x.blob (meets_tests s h x.blob (all h x.blob x.there))))
           (no_mark x.blob))
       by (inr (inr (inr x))) = let bad : None ≡ Some m = sym x.gives ∙ is in absurd (cc bad)
 
   -- ---- steady metadata
 
-  -- is held,
-  pub steady_held : (metas : Metas) → AreSteady s metas → AreAllHeld s metas
-  steady_held metas all h m is = let x = all h m is in record { stored = x.stored; named = x.named }
+  -- is stored well,
+  pub steady_stored : (metas : Metas) → AreSteady s metas → AllStoredWell s metas
+  steady_stored metas all h m is = let x = all h m is in record { stored = x.stored; named = x.named }
 
   -- and a job may begin on it, if it is lawful
   pub steady_rest : (metas : Metas) → AreSteady s metas → IsLawful s.md_len metas → 0 < cluster_pages_of s

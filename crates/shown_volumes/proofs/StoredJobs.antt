@@ -20,13 +20,13 @@ use Rattle.snapshots.specs.Marks.{id_bytes, with_named}
 use Rattle.snapshots.specs.SnapshotJobs.{begun_snapshot, emptied_volume, filled_snapshot, new_clone}
 use Rattle.inflate_delete.specs.DeleteJobs.{going_blob, heir_of}
 use Rattle.shown_volumes.specs.Steady.{CanBeWritten, NamesHead}
-use Rattle.shown_volumes.specs.StoredLaws.{HoldJobs, IsHeld}
+use Rattle.shown_volumes.specs.StoredLaws.{StoreJobs, IsStoredWell}
 use Rattle.shown_volumes.proofs.GoodMarks.{AreGood, given_good, named_good}
-use Rattle.shown_volumes.proofs.Held.{
+use Rattle.shown_volumes.proofs.WellStored.{
   empty_inside,
-  held,
-  Holding,
-  holding,
+  stored_well,
+  MeetsTests,
+  meets_tests,
   lifted,
   long_alike,
   named_given,
@@ -57,11 +57,11 @@ module _ (s : Super) (few_heads : s.md_len ≤ 2 ^ 32) where
   -- ---- a blob whose slots are all empty
 
   -- thin, with one blob named, by a key that isn't long
-  empty_held : (head slots : ℕ) (m : Meta) → head < s.md_len → m.id ≡ 2 ^ 32 + head → m.map ≡ replicate slots None
+  empty_meets : (head slots : ℕ) (m : Meta) → head < s.md_len → m.id ≡ 2 ^ 32 + head → m.map ≡ replicate slots None
       → without_bit_1 m.flags.invalid ≡ m.flags.invalid → unknown_flag m.flags ≡ None → is_thin m.flags ≡ true
       → CanBeWritten m.xattrs → AreGood m.internal → NamesHead m → (old : List (Option ℕ)) → length old ≡ slots
-      → too_large old ≡ None → Holding s head m
-  empty_held head slots m low id map clear flags thin xattrs internal named old long few = record {
+      → too_large old ≡ None → MeetsTests s head m
+  empty_meets head slots m low id map clear flags thin xattrs internal named old long few = record {
     low = low;
     id = id;
     clear = clear;
@@ -75,20 +75,20 @@ module _ (s : Super) (few_heads : s.md_len ≤ 2 ^ 32) where
     named = named;
   }
 
-  module _ (of head : ℕ) (old : Meta) (xattrs : Xattrs) (was : Holding s of old) (low : head < s.md_len)
+  module _ (of head : ℕ) (old : Meta) (xattrs : Xattrs) (was : MeetsTests s of old) (low : head < s.md_len)
       (can : CanBeWritten xattrs) where
     begun_good : AreGood (with_named [] (codes "SNAPTMP") of)
     begun_good = named_good [] (codes "SNAPTMP") of (omega arith) no_marks
 
-    begun : Holding s head (begun_snapshot of old head xattrs)
-    begun = empty_held head (length old.map) (begun_snapshot of old head xattrs) low refl refl refl refl refl can
+    begun : MeetsTests s head (begun_snapshot of old head xattrs)
+    begun = empty_meets head (length old.map) (begun_snapshot of old head xattrs) low refl refl refl refl refl can
         begun_good refl old.map refl was.few
 
     abbrev filled_meta : Meta
     filled_meta = filled_snapshot of old head xattrs
 
     -- it has the map of the volume, and is thin where that is
-    filled : Holding s head filled_meta
+    filled : MeetsTests s head filled_meta
     filled = record {
       low = low;
       id = refl;
@@ -103,16 +103,16 @@ module _ (s : Super) (few_heads : s.md_len ≤ 2 ^ 32) where
       named = named_given (with_named [] (codes "SNAPTMP") of) old filled_meta refl was.named;
     }
 
-    emptied : Holding s of (emptied_volume old head)
-    emptied = empty_held of (length old.map) (emptied_volume old head) was.low was.id refl
+    emptied : MeetsTests s of (emptied_volume old head)
+    emptied = empty_meets of (length old.map) (emptied_volume old head) was.low was.id refl
         (thin_clear old.flags was.flags was.clear) (thin_known old.flags was.flags was.clear)
         (thin_set old.flags.invalid) was.xattrs
         (named_good old.internal (codes "SNAP") head (omega arith) was.internal)
         (named_head old.internal head (emptied_volume old head) refl (omega (arith, low, few_heads)))
         old.map refl was.few
 
-    cloned : Holding s head (new_clone of old head xattrs)
-    cloned = empty_held head (length old.map) (new_clone of old head xattrs) low refl refl refl refl refl can
+    cloned : MeetsTests s head (new_clone of old head xattrs)
+    cloned = empty_meets head (length old.map) (new_clone of old head xattrs) low refl refl refl refl refl can
         (named_good [] (codes "SNAP") of (omega arith) no_marks)
         (let low_of = was.low in
         named_head [] of (new_clone of old head xattrs) refl (omega (arith, low_of, few_heads)))
@@ -120,7 +120,7 @@ module _ (s : Super) (few_heads : s.md_len ≤ 2 ^ 32) where
 
 -- ---- deletes
 
-module _ (s : Super) (of clone : ℕ) (old heir : Meta) (was : Holding s of old) (its : Holding s clone heir)
+module _ (s : Super) (of clone : ℕ) (old heir : Meta) (was : MeetsTests s of old) (its : MeetsTests s clone heir)
     (outside : (i cluster : ℕ) → slot old i ≡ Some cluster → IsInside (fixed_clusters_of s) (clusters_in s) cluster)
     (outside_too : (i cluster : ℕ) → slot heir i ≡ Some cluster
     → IsInside (fixed_clusters_of s) (clusters_in s) cluster) where
@@ -130,7 +130,7 @@ module _ (s : Super) (of clone : ℕ) (old heir : Meta) (was : Holding s of old)
   abbrev clusters : ℕ
   clusters = clusters_in s
 
-  going : Holding s of (going_blob old clone)
+  going : MeetsTests s of (going_blob old clone)
   going = record {
     low = was.low;
     id = was.id;
@@ -185,7 +185,7 @@ module _ (s : Super) (of clone : ℕ) (old heir : Meta) (was : Holding s of old)
         ∙ ap (option_map faults.HoleInThick) all
   ]
 
-  took : Holding s clone taking
+  took : MeetsTests s clone taking
   took = record {
     low = its.low;
     id = its.id;
@@ -200,23 +200,23 @@ module _ (s : Super) (of clone : ℕ) (old heir : Meta) (was : Holding s of old)
   }
 
 -- a replacement's new metadata
-new_is : (s : Super) (head : ℕ) (new : Meta) → Holding s head new → (m : Meta) → Some new ≡ Some m → IsHeld s head m
-new_is s head new x m is = subst (IsHeld s head) (cc is) (held s head new x)
+new_is : (s : Super) (head : ℕ) (new : Meta) → MeetsTests s head new → (m : Meta) → Some new ≡ Some m → IsStoredWell s head m
+new_is s head new x m is = subst (IsStoredWell s head) (cc is) (stored_well s head new x)
 
-none_new : (s : Super) (head : ℕ) (m : Meta) → None ≡ Some m → IsHeld s head m
+none_new : (s : Super) (head : ℕ) (m : Meta) → None ≡ Some m → IsStoredWell s head m
 none_new s head m is = absurd (cc is)
 
--- a slot of a blob that is held
-slot_inside : (s : Super) (head : ℕ) (m : Meta) → IsHeld s head m → (i cluster : ℕ) → slot m i ≡ Some cluster
+-- a slot of a blob that is stored well
+slot_inside : (s : Super) (head : ℕ) (m : Meta) → IsStoredWell s head m → (i cluster : ℕ) → slot m i ≡ Some cluster
     → IsInside (fixed_clusters_of s) (clusters_in s) cluster
 slot_inside s head m x i cluster at =
     inside_slot (fixed_clusters_of s) (clusters_in s) m i cluster x.stored.faultless at
 
 -- the laws
-pub jobs_held : (s : Super) → HoldJobs s
-jobs_held s = record {
+pub jobs_stored : (s : Super) → StoreJobs s
+jobs_stored s = record {
   snapshot = λ of head old xattrs is low can few.
-      let was = holding s of old is in (
+      let was = meets_tests s of old is in (
         new_is s head _ (begun s few of head old xattrs was low can),
         (
           new_is s head _ (filled s few of head old xattrs was low can),
@@ -227,11 +227,11 @@ jobs_held s = record {
         ),
       );
   clone = λ of head old xattrs is low can few.
-      (new_is s head _ (cloned s few of head old xattrs (holding s of old is) low can), tt);
+      (new_is s head _ (cloned s few of head old xattrs (meets_tests s of old is) low can), tt);
   erase = λ of. (none_new s of, tt);
   delete = λ of clone old heir is is_too.
-      let was = holding s of old is in
-      let its = holding s clone heir is_too in
+      let was = meets_tests s of old is in
+      let its = meets_tests s clone heir is_too in
       let a = slot_inside s of old is in
       let b = slot_inside s clone heir is_too in (
         new_is s of _ (going s of clone old heir was its a b),
