@@ -1,5 +1,5 @@
 -- What is shown where a blob is deleted, from which its one clone took over: the volumes of the step.
-use Rattle.std.proofs.Common.{◌≡◌, ◌≢◌, ◌⊎◌, ℕ, suc, ◌*◌, ◌/◌, ◌<◌, ◌≤◌, Bool, true, false, Option, Some, None, List, [], ◌∷◌}
+use Rattle.std.proofs.Common.{◌≡◌, ◌≢◌, ◌⊎◌, ℕ, suc, ◌*◌, ◌/◌, ◌<◌, ◌≤◌, true, false, Option, Some, None, [], ◌∷◌}
 use Rattle.std.proofs.Common.{length, map, refl, sym, ap, ◌∙◌, subst, inl, inr, arith}
 use Rattle.std.specs.Prelude.{if◌then◌else◌, nat_lt}
 use Rattle.std.specs.List.{range_with_len}
@@ -19,6 +19,7 @@ use Rattle.blob_meta.specs.declared.meta.Meta.{Meta}
 use Rattle.blob_meta.specs.Parents.{is_locked, parent_of, slot}
 use Rattle.blob_meta.specs.Resolving.{IsLawful}
 use Rattle.inflate_delete.specs.Clones.{clones_below}
+use Rattle.shown_volumes.specs.EmptySlots.{Any, LeavesEmpty}
 use Rattle.shown_volumes.specs.Maps.{Map, Metas}
 use Rattle.shown_volumes.specs.Shown.{content, content_by, live_of, shown_by}
 use Rattle.shown_volumes.specs.ShowsStep.{IsAtRest}
@@ -36,6 +37,7 @@ use Rattle.shown_volumes.proofs.Fitting.{
   opened,
   pages_fit,
   same_level,
+  same_still,
 }
 use Rattle.shown_volumes.proofs.HeirMaps.{empty_past, slot_behind, slot_below, slot_over}
 use Rattle.shown_volumes.proofs.Parts.{none_shown, some_shown}
@@ -189,55 +191,68 @@ module _ (f : Fixed) (base : Metas) (rest : IsAtRest f base) (of clone : ℕ) (o
         pages_fit k image f.md_len next new_levels was fits h m n (was h) is count (λ page _. refl)
 
     module _ (live : Map Xattrs) (volume : VolumeRef) (found : head_of f (shown_by f image base live) volume ≡ Some of)
-        where
-      abbrev v : Volumes
-      v = shown_by f image base live
+      where
+        abbrev v : Volumes
+        v = shown_by f image base live
 
-      abbrev x : Volume
-      x = volume_at f base rest live image of old
+        abbrev x : Volume
+        x = volume_at f base rest live image of old
 
-      is_x : v of ≡ Some x
-      is_x = shows_blob f base rest live image of old there
+        is_x : v of ≡ Some x
+        is_x = shows_blob f base rest live image of old there
 
-      abbrev w : Volumes
-      w = change f v (c.Delete volume) r.Ok
+        abbrev w : Volumes
+        w = change f v (c.Delete volume) r.Ok
 
-      abbrev parented : Volume → Volume
-      parented y = record y { parent = deleted.moved f v volume of x found is_x y.parent }
+        abbrev parented : Volume → Volume
+        parented y = record y { parent = deleted.moved f v volume of x found is_x y.parent }
 
-      -- the step's volume of a blob that was there
-      stepped : (h : ℕ) (m : Meta) → h ≢ of → base h ≡ Some m
-          → w h ≡ Some (parented (volume_at f base rest live image h m))
-      stepped h m ne is = deleted.deleted_else f v volume of x found is_x h ne
-          ∙ ap (option_map parented) (shows_blob f base rest live image h m is)
+        -- the step's volume of a blob that was there
+        stepped : (h : ℕ) (m : Meta) → h ≢ of → base h ≡ Some m
+            → w h ≡ Some (parented (volume_at f base rest live image h m))
+        stepped h m ne is = deleted.deleted_else f v volume of x found is_x h ne
+            ∙ ap (option_map parented) (shows_blob f base rest live image h m is)
 
-      at_heir : shown_by f image next (live_of w) clone ≡ w clone
-      at_heir =
-          let y = volume_at f base rest live image clone heir in
-          let same = pages clone taking (length heir.map) is_taking long_taking in
-          let parent = parent_taking ∙ sym (deleted.handed_on f v volume of x found is_x)
-          ∙ ap (deleted.moved f v volume of x found is_x) (sym child) in
-          some_shown f image next w clone taking (parented y) is_taking (stepped clone heir apart there_too)
-          (λ i. record y { pages = same i; parent = parent i })
+        at_heir : shown_by f image next (live_of w) clone ≡ w clone
+        at_heir =
+            let y = volume_at f base rest live image clone heir in
+            let same = pages clone taking (length heir.map) is_taking long_taking in
+            let parent = parent_taking ∙ sym (deleted.handed_on f v volume of x found is_x)
+            ∙ ap (deleted.moved f v volume of x found is_x) (sym child) in
+            some_shown f image next w clone taking (parented y) is_taking (stepped clone heir apart there_too)
+            (λ i. record y { pages = same i; parent = parent i })
 
-      at_other : (h : ℕ) → h ≢ of → h ≢ clone → (o : Option Meta) → base h ≡ o
-          → shown_by f image next (live_of w) h ≡ w h
-      at_other h ne other None is = none_shown f image next w h (is_other h ne other ∙ is)
-          (deleted.deleted_else f v volume of x found is_x h ne
-          ∙ ap (λ o. option_map parented (option_map (λ m. volume_at f base rest live image h m) o)) is)
-      at_other h ne other (Some m) is =
-          let y = volume_at f base rest live image h m in
-          let same = pages h m (length m.map) (is_other h ne other ∙ is) refl in
-          let parent = sym (deleted.stays f v volume of x found is_x (parent_of m) (λ e. other (only h m is e))) in
-          some_shown f image next w h m (parented y) (is_other h ne other ∙ is) (stepped h m ne is)
-          (λ i. record y { pages = same i; parent = parent i })
+        at_other : (h : ℕ) → h ≢ of → h ≢ clone → (o : Option Meta) → base h ≡ o
+            → shown_by f image next (live_of w) h ≡ w h
+        at_other h ne other None is = none_shown f image next w h (is_other h ne other ∙ is)
+            (deleted.deleted_else f v volume of x found is_x h ne
+            ∙ ap (λ o. option_map parented (option_map (λ m. volume_at f base rest live image h m) o)) is)
+        at_other h ne other (Some m) is =
+            let y = volume_at f base rest live image h m in
+            let same = pages h m (length m.map) (is_other h ne other ∙ is) refl in
+            let parent = sym (deleted.stays f v volume of x found is_x (parent_of m) (λ e. other (only h m is e))) in
+            some_shown f image next w h m (parented y) (is_other h ne other ∙ is) (stepped h m ne is)
+            (λ i. record y { pages = same i; parent = parent i })
 
-      pub shown_next : shown_by f image next (live_of w) ≡ w
-      shown_next = fun_ext (λ h. elim (cases_eq h of) [
-        | inl e ↦ none_shown f image next w h (ap next e ∙ is_gone)
-            (ap w e ∙ deleted.deleted_here f v volume of x found is_x)
-        | inr ne ↦ elim (cases_eq h clone) [
-          | inl e ↦ subst (λ n. shown_by f image next (live_of w) n ≡ w n) (sym e) at_heir
-          | inr other ↦ at_other h ne other (base h) refl
-        ]
-      ])
+        pub shown_next : shown_by f image next (live_of w) ≡ w
+        shown_next = fun_ext (λ h. elim (cases_eq h of) [
+          | inl e ↦ none_shown f image next w h (ap next e ∙ is_gone)
+              (ap w e ∙ deleted.deleted_here f v volume of x found is_x)
+          | inr ne ↦ elim (cases_eq h clone) [
+            | inl e ↦ subst (λ n. shown_by f image next (live_of w) n ≡ w n) (sym e) at_heir
+            | inr other ↦ at_other h ne other (base h) refl
+          ]
+        ])
+
+  -- a blob that isn't the clone shows what it showed where it has empty slots
+  pub leaves : (h : ℕ) → h ≢ of → h ≢ clone → LeavesEmpty f base next Any h
+  leaves h ne other page m is empty =
+      let was_there : base h ≡ Some m = sym (is_other h ne other) ∙ is in
+      record {
+        old = m;
+        there = was_there;
+        empty = empty;
+        same = λ image _. same_still f.cluster_pages image f.md_len base next old_levels new_levels (was image)
+            (fits image) h page m was_there is
+            (λ p up. long p (λ e. other (only h m was_there (up ∙ ap (λ n. Some n) e)))) (λ _ _. refl);
+      }

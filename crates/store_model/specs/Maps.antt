@@ -1,7 +1,6 @@
 -- Finite maps from heads, as functions: those of a store.
 use Rattle.std.specs.Prelude.{◌≡◌, ◌≢◌, ℕ, ◌==◌, if◌then◌else◌, Option, List}
 use Rattle.shown_volumes.specs.Maps.{Map}
-
 pub use Rattle.shown_volumes.specs.Maps.{Map, Metas, with_entry, without_entry}
 
 -- the places of each blob's chain, by its head

@@ -15,7 +15,6 @@ use Rattle.store_model.specs.Phases.{Phase, has_commit, planned_in}
 use Rattle.store_model.specs.Shown.{fixed_of, shown_by}
 use Rattle.store_model.specs.Device.{Device}
 use Rattle.store_model.specs.Rows.{Rows, Stage, with_row, entry_of, Idle, Answered, Decided, Ended}
-
 pub use Rattle.shown_volumes.specs.Shown.{live_of}
 
 -- For whom a job is done: the command of a channel, the insert of a cluster that a channel claimed, or a repair.
