@@ -1,7 +1,7 @@
 -- What is known of a job that a command asks for, before it begins.
 use Rattle.std.proofs.Common.{◌≡◌, ℕ, ◌<◌, ◌^◌, Bool, true, false, List, [], ◌∷◌, length, get_or, drop}
 use Rattle.std.proofs.Common.{All, Option, Some, None, refl, sym, ◌∙◌, ap, subst, arith, inl, inr}
-use Rattle.std.specs.Prelude.{if◌then◌else◌, is_some, nat_lt, not}
+use Rattle.std.specs.Prelude.{codes, if◌then◌else◌, is_some, nat_lt, not}
 use Rattle.std.specs.Ordering.{nat_cmp}
 use Rattle.std.specs.FinMap as map
 use Rattle.std.proofs.lemmas.Bool.{cases_Bool, both_ways}
@@ -36,7 +36,9 @@ use Rattle.store_model.specs.Phases.{page_in}
 use Rattle.store_model.specs.StoreState.{StoreState, shown}
 use Rattle.store_model.specs.Places.{held_by, AreDistinct, AreLeastClear, IsLinked, UsedPages}
 use Rattle.store_model.specs.Jobs.{places_of, with_clusters, MovesClusters}
-use Rattle.store_model.specs.Asking.{AsksFor, creates, IsJobFor, IsSyncing, resizes, syncs}
+use Rattle.store_model.specs.Asking.{AsksFor, clones, creates, IsJobFor, IsSyncing, resizes, syncs}
+use Rattle.snapshots.specs.SnapshotJobs.{clone_job, new_clone}
+use Rattle.shown_volumes.proofs.GoodMarks.{named_good}
 use Rattle.store_model.specs.RunInvariant.{CanBeWritten, IsSteady, RunsWell}
 use Rattle.store_model.proofs.ClaimedZeros.{claimed_free, zeroed_is}
 use Rattle.store_model.proofs.JobReady.{head_of, job_writable, new_of, one_change}
@@ -221,6 +223,31 @@ module _ (p : StoreState) (running : IsRunning p) (clean : HasNoMarks p.base) (r
         live = live_behind (is_live_kept k) new;
         renews = if nat_lt y.slots (length y.old.map) then head ∷ [] else [];
       }) (sym y.command_is)))
+  asked_by (clones y) =
+      let xattrs = two_xattrs (fixed_of p.super) (shown p) y.name None in
+      let made = new_clone y.parent y.old y.head xattrs in
+      let same = same_one head y.head new made zeros (clone_job y.parent y.old y.head xattrs) y.is refl in
+      let none : p.base head ≡ None = ap p.base same.head_is ∙ y.none in
+      subst IsAsked (sym none) (record {
+        commit = y.commit_is
+            ∙ ap (λ (h : ℕ). record { reply = r.Made h; live = Some xattrs; renews = h ∷ [] }) (sym same.head_is)
+            ∙ ap (λ (m : Meta). record { reply = r.Made head; live = Some m.xattrs; renews = head ∷ [] })
+            (sym same.new_is)
+            ∙ ap (λ (k : Command). record {
+              reply = r.Made head;
+              live = live_behind (is_live_kept k) new;
+              renews = head ∷ [];
+            }) (sym y.command_is);
+        xattrs = subst (λ (m : Meta). CanBeWritten m.xattrs) (sym same.new_is)
+            (two_written (fixed_of p.super) (shown p) y.name None y.named);
+        internal = subst (λ (m : Meta). CanBeWritten m.internal) (sym same.new_is)
+            (named_good [] (codes "SNAP") y.parent (omega arith)
+            (record { can = record { names = tt; short = tt }; good = tt })).can;
+        once = tt;
+        moves = moves_made p.super p.base head new none
+            (λ i. ap (λ (m : Meta). slot m i) same.new_is ∙ empty_slot (length y.old.map) i);
+        memory = subst (MayLackMemory (fixed_of p.super) (shown p)) (sym y.command_is) tt;
+      })
 
   pub asked : IsAsked (p.base head)
   asked = asked_by asks.asked

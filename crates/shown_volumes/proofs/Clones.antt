@@ -43,10 +43,12 @@ module _ (f : Fixed) (v : Volumes) (volume : VolumeRef) (name : Text) (of head :
   abbrev stepped : Volumes
   stepped = change f v (c.Clone volume name) (r.Made head)
 
-  stepped_head : stepped head ≡ Some (new_volume f v name None x.pages true false (Some of))
+  -- one more, as a copy
+  pub stepped_head : stepped head ≡ Some (new_volume f v name None x.pages true false (Some of))
   stepped_head = rw (found, eq-eqb head head refl, is) refl
 
-  stepped_else : (h : ℕ) → h ≢ head → stepped h ≡ v h
+  -- and the others as they were
+  pub stepped_else : (h : ℕ) → h ≢ head → stepped h ≡ v h
   stepped_else h ne = rw (ne_eqb h head ne) refl
 
 module _ (f : Fixed) (base : Metas) (rest : IsAtRest f base) (of head : ℕ) (old : Meta) (xattrs : Xattrs)

@@ -37,7 +37,7 @@ use Rattle.store_model.specs.Steady.{AreSteady, CanBeWritten, IsSteady}
 use Rattle.store_model.specs.RunInvariant.{RunsWell}
 use Rattle.store_model.proofs.Known.{Known}
 use Rattle.store_model.proofs.Meanwhile.{blank_reading, reading}
-use Rattle.store_model.proofs.Moved.{live_shown, live_writable}
+use Rattle.store_model.proofs.MadeLive.{lives_made, writable_made}
 use Rattle.store_model.proofs.NewBlob.{empty_slot, new_takes_none, two_written}
 use Rattle.store_model.proofs.ClaimedZeros.{claimed_inside, zeroed_fresh, zeroed_is, zeros_read}
 use Rattle.store_model.proofs.InARow.{among_range, range_among, range_differs}
@@ -204,22 +204,11 @@ module _ (known : Known) (unmarked : HasNoMarks known.p.base) where
           uuid xattrs same_two new steady
 
       lives : live_of w ≡ with_entry p.live r.head xattrs
-      lives = fun_ext (λ h. elim (cases_eq h head) [
-        | inl e ↦ ap (live_of w) e ∙ live_at ∙ sym (given_here p.live r.head xattrs h (e ∙ sym head_is))
-        | inr ne ↦
-            ap (λ o. option_map (λ (x : Volume). x.live) o) (others h ne)
-            ∙ live_shown there well.live well.no_live h
-            ∙ sym (given_elsewhere p.live r.head xattrs h (λ e. ne (e ∙ head_is)))
-      ])
+      lives = lives_made there well.live well.no_live w head xattrs live_at others
+          ∙ ap (λ h. with_entry p.live h xattrs) (sym head_is)
 
       writable : AllWritable w
-      writable h v is = elim (cases_eq h head) [
-        | inl e ↦
-            let live : Some v.live ≡ Some xattrs =
-            ap (λ o. option_map (λ (x : Volume). x.live) o) (sym is ∙ ap w e) ∙ live_at in
-            subst CanBeWritten (sym (cc live)) can
-        | inr ne ↦ live_writable there well.live h v (sym (others h ne) ∙ is)
-      ]
+      writable = writable_made there well.live well.no_live w head xattrs live_at others can
 
     step : IsStep (ReadsZeros p.super claimed) p.super p.base r p.live (c.Create name slots thick uuid) commit
     step = record {
