@@ -51,16 +51,18 @@ impl Session {
             Ok(loaded) => loaded,
             Err((_, fault)) => return Err(Fail::new(fault)),
         };
-        if loaded.marked.next_from(0).is_some() {
-            let_go(loaded);
-            return Err(Fail::new("marks are left"));
-        }
-        match Plant::start(alloc, loaded, script) {
-            Ok((plant, right)) => Ok(Session { plant, right }),
-            Err(loaded) => {
+        match loaded.marked.next_from(0) {
+            Some(_) => {
                 let_go(loaded);
-                Err(Fail::new("no memory"))
+                Err(Fail::new("marks are left"))
             }
+            None => match Plant::start(alloc, loaded, script) {
+                Ok((plant, right)) => Ok(Session { plant, right }),
+                Err(loaded) => {
+                    let_go(loaded);
+                    Err(Fail::new("no memory"))
+                }
+            },
         }
     }
 
