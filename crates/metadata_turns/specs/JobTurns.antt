@@ -11,16 +11,12 @@ use Rattle.running_store.specs.TurnMade.{TurnMade}
 use Rattle.running_store.specs.StoreInvariant.{IsRunning}
 use Rattle.metadata_turns.specs.OwnWrites.{AreOwn}
 
--- the kinds of a job's turns, but for its beginning: those of an insert's job alone, and of any other, whose
--- replacement is its commit
+-- the kinds of a job's turns, but for its beginning: those of an insert's job alone, and of any other
 abbrev pub IsOfJob : Kind → Type 0
 IsOfJob kind.inserts = Unit {0}
 IsOfJob kind.insert_ends = Unit {0}
 IsOfJob kind.insert_fails = Unit {0}
 IsOfJob kind.insert_breaks_down = Unit {0}
-IsOfJob kind.replaces_more = ⊥
-IsOfJob kind.more_fails = ⊥
-IsOfJob kind.more_breaks_off = ⊥
 IsOfJob other = (the other).OfJob
 
 -- One of these turns is made.
