@@ -40,18 +40,27 @@ none_added blobs chains old = record {
   page_count = refl;
   cluster_count = refl;
   head_count = refl;
-  pages = λ place. (λ set. inl set, λ o. elim o [
-    | inl set ↦ set
-    | inr x ↦ no_link (those_below blobs 0) chains place nothing x
-  ]);
-  clusters = λ cluster. (λ set. inl set, λ o. elim o [
-    | inl set ↦ set
-    | inr x ↦ absurd (let bad = sym (nothing x.head) ∙ x.there in cc bad)
-  ]);
-  heads = λ head. (λ set. inl set, λ o. elim o [
-    | inl set ↦ set
-    | inr some ↦ absurd (let bad = subst (λ (o : Option Meta). IsSome o) (nothing head) some in cc bad)
-  ]);
+  pages = λ place. (
+    λ set. inl set,
+    λ o. elim o [
+      | inl set ↦ set
+      | inr x ↦ no_link (those_below blobs 0) chains place nothing x
+    ],
+  );
+  clusters = λ cluster. (
+    λ set. inl set,
+    λ o. elim o [
+      | inl set ↦ set
+      | inr x ↦ absurd (let bad = sym (nothing x.head) ∙ x.there in cc bad)
+    ],
+  );
+  heads = λ head. (
+    λ set. inl set,
+    λ o. elim o [
+      | inl set ↦ set
+      | inr some ↦ absurd (let bad = subst (λ (o : Option Meta). IsSome o) (nothing head) some in cc bad)
+    ],
+  );
 }
   where
     nothing : (h : ℕ) → those_below blobs 0 h ≡ None

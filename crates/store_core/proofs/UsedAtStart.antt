@@ -189,11 +189,11 @@ module _ (s : Super) (read : Metas) (links : Chains) (metas gone marked : map.Fi
             subst (λ (o : Option Meta). IsSome o) (sym (gone_was head x.0 x.1)) refl
       ],
       λ some.
-      let x = some_of (read head) some in
-      elim (stays_or_goes read head x.0 x.1) [
-        | inl stays ↦ (adds.heads head).1 (inl ((from.masks.blobs head low).1
-            (subst (λ (o : Option Meta). IsSome o) (sym stays.there) refl)))
-        | inr goes ↦ (adds.heads head).1 (inr (subst (λ (o : Option Meta). IsSome o)
-            (sym (ap (λ (f : Metas). f head) (sym from.removes) ∙ goes)) refl))
-      ],
+          let x = some_of (read head) some in
+          elim (stays_or_goes read head x.0 x.1) [
+            | inl stays ↦ (adds.heads head).1 (inl ((from.masks.blobs head low).1
+                (subst (λ (o : Option Meta). IsSome o) (sym stays.there) refl)))
+            | inr goes ↦ (adds.heads head).1 (inr (subst (λ (o : Option Meta). IsSome o)
+                (sym (ap (λ (f : Metas). f head) (sym from.removes) ∙ goes)) refl))
+          ],
     )
