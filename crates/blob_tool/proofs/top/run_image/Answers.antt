@@ -1,6 +1,7 @@
 use Rattle.std.proofs.Common.{refl, subst, sym}
 use Rattle.blob_tool.specs.Outcome.{Outcome}
 use Rattle.blob_tool.specs.declared.status.Status.{Status}
+use Rattle.blob_tool.proofs.Complete.{done_from}
 use Rattle.blob_tool.proofs.Ending.{of_a_fault, of_a_run, still_one}
 use Rattle.blob_tool.proofs.top.run_image.Goals as goal
 
@@ -19,6 +20,26 @@ returns-in-Ok-load-clause-outcome g c =
       one_image = still_one d c.args.disk loaded.disk c.in-Ok-load.ensures.same;
       opened = opened;
     }) c.in-Ok-load.ensures.same c.play.ensures
+
+pub returns-in-Ok-load-clause-complete : goal.returns-in-Ok-load-clause-complete
+returns-in-Ok-load-clause-complete g c fails =
+    let d = g.D.PageDisk in
+    let loaded = c.in-Ok-load.loaded in
+    done_from g.S.Source c.args.script.now c.script_of.new.source d g.K.Sink c.args.out.now c.play.new.out c.args.disk
+    c.play.result.1 fails loaded c.in-Ok-load.ensures.same c.in-Ok.commands c.args.schedule.now c.play.result.0
+    (λ first opened. record {
+      script_is = c.in-Ok.ensures.text;
+      loaded = loaded;
+      as_found = record {
+        super = c.in-Ok-load.ensures.super_block;
+        says = c.in-Ok-load.ensures.found;
+        accepted = c.in-Ok-load.ensures.accepted;
+        recovered = c.in-Ok-load.ensures.recovered;
+        same = c.in-Ok-load.ensures.same;
+        one_image = still_one d c.args.disk loaded.disk c.in-Ok-load.ensures.same;
+        opened = opened;
+      };
+    }) c.play.ensures
 
 pub returns-in-Err-load-clause-outcome : goal.returns-in-Err-load-clause-outcome
 returns-in-Err-load-clause-outcome g c =
