@@ -1,5 +1,5 @@
 -- How a repair's job goes on, turn by turn.
-use Rattle.std.proofs.Common.{◌≡◌, ◌≢◌, ℕ, ◌+◌, ◌<◌, ◌≤◌, Bool, true, Option, Some, None, List, [], ◌∷◌, length, refl}
+use Rattle.std.proofs.Common.{◌≡◌, ◌≢◌, ℕ, ◌<◌, ◌≤◌, Bool, true, Option, Some, None, List, [], ◌∷◌, length, refl}
 use Rattle.std.proofs.Common.{sym, ap, ◌∙◌, subst, inl, inr, arith}
 use Rattle.std.specs.Prelude.{◌⊎◌, is_some, IsSome}
 use Rattle.std.specs.Option.{option_and_then}
@@ -15,12 +15,12 @@ use Rattle.store_model.specs.Cases as k
 use Rattle.store_model.specs.Maps.{Metas}
 use Rattle.store_model.specs.Phases.{OnlyMend, Phase, replaced, Replaces, Replacing}
 use Rattle.store_model.specs.RunInvariant.{AreStored, RunInvariant}
-use Rattle.store_model.specs.StoreState.{ForCommand, ForInsert, ForRepair, going_on, JobState, Service, StoreState}
+use Rattle.store_model.specs.StoreState.{ForCommand, ForInsert, ForRepair, going_on, JobState, StoreState}
 use Rattle.store_model.specs.StoreState.{turns_left as turns_of}
 use Rattle.store_model.specs.Turning.{Runs}
 use Rattle.store_model.proofs.Progress.{same_job, turns_here}
 use Rattle.repair_runs.specs.RepairLaws.{GoesOnMending, HasBegunToMend}
-use Rattle.repair_runs.specs.RepairRuns.{has_mark, HasNoneToMend, IsMending, IsOfInsert, IsOfRepair, marks_left, mended}
+use Rattle.repair_runs.specs.RepairRuns.{has_mark, IsMending, IsOfInsert, IsOfRepair, marks_left, mended}
 use Rattle.repair_runs.specs.RepairRuns.{replacements_in, to_mend, turns_left}
 use Rattle.repair_runs.proofs.FewerMarks.{fewer_marks}
 use Rattle.repair_runs.proofs.Replacements.{first_marked, one_replacement}

@@ -10,7 +10,7 @@ use Rattle.store_model.specs.RunInvariant.{RunInvariant}
 use Rattle.store_model.specs.StoreState.{StoreState}
 use Rattle.repair_runs.specs.RepairRuns.{IsMending, IsOfInsert, IsOfRepair, marks_left, RepairRun, turns_left}
 
--- A repair has begun: it is to mend one of the blobs that have a mark, nothing is logged, and the rows are as they were.
+-- A repair has begun: it is to mend one of the blobs with a mark, nothing is logged, and the rows are as they were.
 pub record HasBegunToMend (p q : StoreState) : Type 0 where
   pub mending : IsMending (marks_left p) q
   pub log : q.log ≡ p.log

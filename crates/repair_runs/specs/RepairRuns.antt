@@ -11,7 +11,8 @@ use Rattle.store_model.specs.StoreState.{ForRepair, JobState, StoreState, turns_
 
 -- ---- turns
 
--- a turn of a repair: it begins, or its job goes on
+-- A turn of a repair: it begins, or its job goes on. (The job of a command has turns of these kinds too, but doesn't
+-- begin by one.)
 abbrev pub IsOfRepair : Kind → Type 0
 IsOfRepair kind.begins_repair = Unit {0}
 IsOfRepair other = (the other).OfJob
