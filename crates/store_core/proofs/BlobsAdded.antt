@@ -1,5 +1,5 @@
 -- Masks to which blobs are added, head by head.
-use Rattle.std.proofs.Common.{◌≡◌, ◌≢◌, ◌⊎◌, ◌∙◌, ℕ, ◌+◌, ◌<◌, true, List, Option, Some, None, IsSome, length}
+use Rattle.std.proofs.Common.{◌≡◌, ◌≢◌, ◌⊎◌, ◌∙◌, ℕ, ◌+◌, ◌<◌, true, false, List, Option, Some, None, IsSome, length}
 use Rattle.std.proofs.Common.{refl, sym, ap, subst, inl, inr, arith}
 use Rattle.std.specs.Option.{option_and_then}
 use Rattle.std.specs.Prelude.{slice_set}
@@ -111,6 +111,9 @@ module _ (blobs : Metas) (chains : Chains) (old now : Masks) (end : ℕ)
       among = among;
     })
 
+    clusters_low : (c : ℕ) → is_among c (clusters_of m.map) ≡ true → c < length now.clusters
+    clusters_low c among = fit.clusters end m c there among
+
     -- the blob at the next head adds its head, its chain's pages and its clusters
     pub more_added : AreWith (those_below blobs (end + 1)) chains old (masks_with now end m chain)
     more_added = record {
@@ -148,8 +151,7 @@ module _ (blobs : Metas) (chains : Chains) (old now : Masks) (end : ℕ)
             ]),
           );
       clusters = λ cluster.
-          let low = λ c among. fit.clusters end m c there among in
-          let set = set_with now.clusters (clusters_of m.map) low cluster in (
+          let set = set_with now.clusters (clusters_of m.map) clusters_low cluster in (
             λ in_use. elim (set.0 in_use) [
               | inl was ↦ elim ((with.clusters cluster).0 was) [
                 | inl first ↦ inl first
