@@ -98,7 +98,11 @@ mod tests {
             kind: LineKind::Limit,
         };
         let image = Status::Image {
-            fault: LoadFault::ReadFault,
+            fault: LoadFault::NoRoom {
+                head: 0,
+                has: 0,
+                wants: 1,
+            },
         };
         let cases = [
             (Ending::Ran(Status::Good), 0, "done"),
@@ -114,7 +118,11 @@ mod tests {
                 "line 3 of the script: not such a verb",
             ),
             (Ending::Ran(big), 2, "the script is too big"),
-            (Ending::Ran(image), 3, "the image: a page could not be read"),
+            (
+                Ending::Ran(image),
+                3,
+                "the image: blob at page 0: 0 pages are clear where its repair needs 1",
+            ),
             (
                 Ending::Ran(Status::ScriptRead),
                 4,

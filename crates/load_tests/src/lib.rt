@@ -1,5 +1,7 @@
-//! Tests of `unclean_load`: each fault of an image, and a store that is loaded whole.
+//! Tests of `unclean_load`: each fault of an image, and stores that are loaded whole.
 #![tactic(auto)]
 
 #[cfg(test)]
-mod loads;
+mod faults;
+#[cfg(test)]
+mod whole_stores;

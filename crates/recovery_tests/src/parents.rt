@@ -10,7 +10,8 @@ use test_runs::play;
 fn a_volume_shows_its_parent_until_it_is_written(rt: HostRuntime) -> Result<(), Fail> {
     let disk = family(rt.alloc(), &[SNAPSHOT, CHILD])?;
     let script = b"0 read v 0 1\n0 read v 4 1\n0 df\n0 write v 1 1 9\n0 read v 0 3\n0 read s 1 1\n\
-        0 write s 0 1 1\n0 resize s 1\n0 resize v 1\n0 resize v 2\n0 readonly v\n0 write v 0 1 1\n0 put v k t:1\n0 df\n";
+        0 write s 0 1 1\n0 resize s 1\n0 resize v 1\n0 resize v 2\n0 readonly v\n\
+        0 write v 0 1 1\n0 put v k t:1\n0 df\n";
     let printed = b"0 0 page fill abababababababab\n0 1 page fill 0000000000000000\n\
         0 2 df clusters 10 of 16 pages 14 of 16\n0 3 ok\n0 4 page fill abababababababab\n\
         0 5 page fill 0000000000000009\n0 6 page fill abababababababab\n0 7 page fill abababababababab\n\

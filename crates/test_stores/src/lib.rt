@@ -8,4 +8,6 @@ pub use images::{
     LAST, NAMED, PageRow, READ_ONLY, THICK, THIN, fill, image, image_with_super, store, two_blobs,
     volume,
 };
-pub use looks::{ChainRow, expect_chains, expect_written, first_value, is_zeros};
+pub use looks::{
+    ChainRow, are_same, expect_chains, expect_rows, expect_written, first_value, is_zeros,
+};

@@ -1,5 +1,6 @@
 //! What a device is found to hold.
 
+use crate::images::{PageRow, image};
 use page_disk::{MemDisk, Page, PageDisk};
 use running_store::Loaded;
 use std::alloc::Global;
@@ -54,6 +55,16 @@ fn page_at(disk: &mut MemDisk, at: u64) -> Result<Page, Fail> {
     Ok(page)
 }
 
+/// Whether two devices hold the same pages from the first on up to another.
+pub fn are_same(one: &mut MemDisk, other: &mut MemDisk, end: u64) -> Result<bool, Fail> {
+    for at in 0..end {
+        if page_at(one, at)? != page_at(other, at)? {
+            return Ok(false);
+        }
+    }
+    Ok(true)
+}
+
 /// Whether a page of a device has zeros alone.
 pub fn is_zeros(disk: &mut MemDisk, at: u64) -> Result<bool, Fail> {
     Ok(page_at(disk, at)? == [0; 4096])
@@ -70,6 +81,22 @@ pub fn expect_written(disk: &mut MemDisk, md_pages: u32, wanted: &[u32]) -> Resu
         let is_written = md_page_at(disk, place)? != [0; 4096];
         if is_written != wanted.contains(&place) {
             return Err(Fail::new(format_args!("page {place} is written: {is_written}")));
+        }
+    }
+    Ok(())
+}
+
+/// Expects that of so many metadata pages of a device these are as given, and that the others have zeros, or fails.
+pub fn expect_rows(
+    alloc: Global,
+    disk: &mut MemDisk,
+    md_pages: u32,
+    rows: &[PageRow],
+) -> Result<(), Fail> {
+    let mut wanted = image(alloc, (disk.pages(), md_pages), rows)?;
+    for place in 0..md_pages {
+        if md_page_at(disk, place)? != md_page_at(&mut wanted, place)? {
+            return Err(Fail::new(format_args!("page {place} is another one")));
         }
     }
     Ok(())

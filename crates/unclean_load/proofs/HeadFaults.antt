@@ -50,7 +50,7 @@ module _ {D : Type 0} (d : Ghosts D) (s : Super) (first : D) where
     place_fails (fault.WritableParent blob parent) low told x = place_shown (fault.WritableParent blob parent) low told x
     place_fails (fault.ParentLoop blob) low told x = place_shown (fault.ParentLoop blob) low told x
     place_fails (fault.Shared cluster a b) low told x = place_shown (fault.Shared cluster a b) low told x
-    place_fails (fault.NotYet page) low told x = place_shown (fault.NotYet page) low told x
+    place_fails (fault.NoRoom blob has wants) low told x = place_shown (fault.NoRoom blob has wants) low told x
 
     module _ (blob : Blob) (x : SaysAt d s disk place (Some blob)) where
       says_first : IsTrue d.tells → MetaAt (region_look s (d.now first)) (region_of s) place blob.meta blob.pages
@@ -83,7 +83,7 @@ module _ {D : Type 0} (d : Ghosts D) (s : Super) (first : D) where
       add_fails (fault.WritableParent at parent) low told y = absurd y
       add_fails (fault.ParentLoop at) low told y = absurd y
       add_fails (fault.Shared cluster a b) low told y = absurd y
-      add_fails (fault.NotYet page) low told y = absurd y
+      add_fails (fault.NoRoom blob has wants) low told y = absurd y
 
     -- a failed read that was counted since is counted since the beginning
     pub counted_first : (new : D) (why : LoadFault) → IsFaultCounted (d.read_faults disk) (d.read_faults new) why
@@ -104,4 +104,4 @@ refused_uncounted old new before head m (fault.NoParentBlob blob parent) same x 
 refused_uncounted old new before head m (fault.WritableParent blob parent) same x = same
 refused_uncounted old new before head m (fault.ParentLoop blob) same x = same
 refused_uncounted old new before head m (fault.Shared cluster a b) same x = same
-refused_uncounted old new before head m (fault.NotYet page) same x = absurd x
+refused_uncounted old new before head m (fault.NoRoom blob has wants) same x = absurd x

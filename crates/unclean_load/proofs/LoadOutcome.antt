@@ -69,7 +69,7 @@ module _ (pages : ℕ) (image : Image) where
     heads_fail (fault.WritableParent blob parent) x = absurd x.shows
     heads_fail (fault.ParentLoop blob) x = absurd x.shows
     heads_fail (fault.Shared cluster a b) x = absurd x.shows
-    heads_fail (fault.NotYet page) x = absurd x.shows
+    heads_fail (fault.NoRoom head has wants) x = absurd x.shows
 
     module _ (metas : Metas) (chains : Chains)
         (whole : AreWhole (look_of (region_of s) image) (region_of s) metas chains) where
@@ -110,4 +110,4 @@ module _ (pages : ℕ) (image : Image) where
       recovery_fails (fault.Super e) x = absurd x
       recovery_fails (fault.Meta head e) x = absurd x
       recovery_fails (fault.MapsTooLarge slots) x = absurd x
-      recovery_fails (fault.NotYet page) x = absurd x
+      recovery_fails (fault.NoRoom head has wants) x = absurd x

@@ -1,5 +1,5 @@
 -- The marked blobs, gathered heads upwards.
-use Rattle.std.proofs.Common.{◌≡◌, ◌≢◌, ℕ, ◌+◌, ◌<◌, ◌≤◌, List, Option, Some, None, IsSome, refl, sym, ap, subst, ◌∙◌}
+use Rattle.std.proofs.Common.{◌≡◌, ℕ, ◌+◌, ◌<◌, ◌≤◌, List, Option, Some, None, IsSome, refl, sym, ap, subst, ◌∙◌}
 use Rattle.std.proofs.Common.{inl, inr, arith}
 use Rattle.std.specs.Option.{option_and_then, option_map}
 use Rattle.std.specs.Ordering.{nat_cmp}
@@ -25,19 +25,6 @@ unmarked_where metas h m there none = by (mark_of m) refl
         let some : marked metas h ≡ Some m =
         ap (option_and_then (λ (n : Meta). option_map (λ _. n) (mark_of n))) there ∙ ap (option_map (λ _. m)) is in
         let e = sym none ∙ some in absurd (cc e)
-
--- a head that has one of them has a blob with a mark
-pub marked_where : (metas : Metas) (h : ℕ) → IsSome (marked metas h) → (m : Meta) × (metas h ≡ Some m) × (mark_of m ≢ None)
-marked_where metas h some = by (metas h) refl some
-  where
-    has : (m : Meta) (o : Option (List ℕ)) → mark_of m ≡ o → IsSome (option_map (λ _. m) o) → mark_of m ≢ None
-    has m None is is_some = absurd (cc is_some)
-    has m (Some mark) is is_some = λ none. let e = sym is ∙ none in absurd (cc e)
-
-    by : (o : Option Meta) → metas h ≡ o → IsSome (option_and_then (λ (m : Meta). option_map (λ _. m) (mark_of m)) o)
-        → (m : Meta) × (metas h ≡ Some m) × (mark_of m ≢ None)
-    by None there is_some = absurd (cc is_some)
-    by (Some m) there is_some = (m, there, has m (mark_of m) refl is_some)
 
 -- ---- heads upwards
 

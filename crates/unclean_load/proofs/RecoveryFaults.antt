@@ -36,7 +36,7 @@ module _ (md_len : ℕ) (read : Metas) (chains : Chains) where
   pages_fail metas (fault.WritableParent blob parent) x = absurd x
   pages_fail metas (fault.ParentLoop blob) x = absurd x
   pages_fail metas (fault.Shared cluster a b) x = absurd x
-  pages_fail metas (fault.NotYet page) x = absurd x
+  pages_fail metas (fault.NoRoom head has wants) x = absurd x
 
   -- a fault of parents
   pub parents_fail : (why : LoadFault) → IsParentFault (resolved read) why → IsRecoveryFault md_len read chains why
@@ -50,7 +50,7 @@ module _ (md_len : ℕ) (read : Metas) (chains : Chains) where
   parents_fail (fault.Meta head e) x = absurd x.shows
   parents_fail (fault.MapsTooLarge slots) x = absurd x.shows
   parents_fail (fault.Shared cluster a b) x = absurd x.shows
-  parents_fail (fault.NotYet page) x = absurd x.shows
+  parents_fail (fault.NoRoom head has wants) x = absurd x.shows
 
   -- a cluster in two slots, where there is none of parents
   pub masks_fail : (right : HaveRightParents (resolved read)) (why : LoadFault)
@@ -65,4 +65,4 @@ module _ (md_len : ℕ) (read : Metas) (chains : Chains) where
   masks_fail right (fault.NoParentBlob blob parent) x = absurd x
   masks_fail right (fault.WritableParent blob parent) x = absurd x
   masks_fail right (fault.ParentLoop blob) x = absurd x
-  masks_fail right (fault.NotYet page) x = absurd x
+  masks_fail right (fault.NoRoom head has wants) x = absurd x

@@ -101,7 +101,7 @@ module _ (look : Look) (r : MdRegion) (metas : Metas) (chains : Chains) (whole :
   not_shown (fault.WritableParent blob parent) y = y
   not_shown (fault.ParentLoop blob) y = y
   not_shown (fault.Shared cluster a b) y = y
-  not_shown (fault.NotYet page) y = y
+  not_shown (fault.NoRoom head has wants) y = y
   not_shown fault.ReadFault y = y
   not_shown fault.Memory y = y
 
@@ -145,7 +145,7 @@ module _ (md_len : ℕ) (metas : Metas) (named : (head : ℕ) (m : Meta) → met
       by (fault.Meta head e) y = y
       by (fault.MapsTooLarge slots) y = y
       by (fault.Shared cluster a b) y = y
-      by (fault.NotYet page) y = y
+      by (fault.NoRoom head has wants) y = y
       by fault.ReadFault y = y
       by fault.Memory y = y
 
@@ -197,7 +197,7 @@ module _ (pages : ℕ) (image : Image) (a : IsAccepted pages image) where
   refused (fault.WritableParent blob parent) x is = no_parent_fails (fault.WritableParent blob parent) x
   refused (fault.ParentLoop blob) x is = no_parent_fails (fault.ParentLoop blob) x
   refused (fault.Shared cluster p q) x is = no_cluster_fails cluster p q x
-  refused (fault.NotYet page) x is = x
+  refused (fault.NoRoom head has wants) x is = x
   refused fault.ReadFault x is = is
   refused fault.Memory x is = is
   refused (fault.Chain head e) x is = no_head_fails (fault.Chain head e) x

@@ -1,5 +1,5 @@
 -- Which images are loaded, and the fault of one that isn't.
-use Rattle.std.specs.Prelude.{◌≡◌, ◌≢◌, ◌⊎◌, ℕ, ◌^◌, ◌<◌, ◌≤◌, None, Some}
+use Rattle.std.specs.Prelude.{◌≡◌, ◌⊎◌, ℕ, ◌^◌, ◌<◌, ◌≤◌, None, Some}
 use Rattle.page_disk.specs.Disk.{Image}
 use Rattle.super_block.specs.declared.page.Super.{Super}
 use Rattle.super_block.specs.declared.fault.SuperFault.{SuperFault}
@@ -10,8 +10,7 @@ use Rattle.store_model.specs.Maps.{Metas, Chains}
 use Rattle.store_model.specs.Regions.{region_of, look_of}
 use Rattle.store_model.specs.Scans.{Says}
 use Rattle.store_model.specs.Steady.{AreNamed}
-use Rattle.blob_meta.specs.declared.meta.Meta.{Meta}
-use Rattle.blob_meta.specs.Resolving.{IsLawful, mark_of, resolved, slots_together}
+use Rattle.blob_meta.specs.Resolving.{IsLawful, resolved, slots_together}
 use Rattle.unclean_load.specs.declared.fault.LoadFault.{LoadFault}
 use Rattle.unclean_load.specs.declared.fault.LoadFault.TheVariants as fault
 use Rattle.unclean_load.specs.Heads.{AreWhole, ShowsFirst}
@@ -34,14 +33,6 @@ pub record IsAccepted (pages : ℕ) (image : Image) : Type 0 where
   pub whole : AreWhole (look_of (region_of sup) image) (region_of sup) metas chains
   pub named : AreNamed (resolved metas)
   pub lawful : IsLawful sup.md_len (resolved metas)
-
--- A device of so many pages is accepted, and of the blobs that it says the one at this head is the first with a mark.
-pub record HasFirstMark (pages : ℕ) (image : Image) (page : ℕ) : Type 0 where
-  pub accepted : IsAccepted pages image
-  pub meta : Meta
-  pub there : accepted.metas page ≡ Some meta
-  pub marked : mark_of meta ≢ None
-  pub first : (head : ℕ) (m : Meta) → head < page → accepted.metas head ≡ Some m → mark_of m ≡ None
 
 -- ---- faults
 
@@ -83,7 +74,7 @@ IsFaultOf pages image (fault.NoParentBlob blob parent) = ParentFails pages image
 IsFaultOf pages image (fault.WritableParent blob parent) = ParentFails pages image (fault.WritableParent blob parent)
 IsFaultOf pages image (fault.ParentLoop blob) = ParentFails pages image (fault.ParentLoop blob)
 IsFaultOf pages image (fault.Shared cluster a b) = ClusterFails pages image cluster a b
-IsFaultOf pages image (fault.NotYet page) = ⊥
+IsFaultOf pages image (fault.NoRoom head has wants) = ⊥
 IsFaultOf pages image fault.ReadFault = Unit {0}
 IsFaultOf pages image fault.Memory = Unit {0}
 IsFaultOf pages image why = HeadFails pages image why

@@ -65,10 +65,10 @@ IsItemsFault r head items (fault.Meta at why) =
     (at ≡ head) × (meta_fault r.fixed r.clusters (meta_of head items) ≡ Some why)
 IsItemsFault r head items _ = ⊥
 
--- a failed read, which was counted; or another fault, and no read has failed. A load never answers `NotYet`
+-- a failed read, which was counted; or another fault, and no read has failed. A load never answers `NoRoom`
 abbrev pub IsFaultCounted : ℕ → ℕ → LoadFault → Type 0
 IsFaultCounted old new fault.ReadFault = Rose old new
-IsFaultCounted old new (fault.NotYet page) = ⊥
+IsFaultCounted old new (fault.NoRoom head has wants) = ⊥
 IsFaultCounted old new _ = new ≡ old
 
 -- ---- the blobs of a region, whatever the device tells

@@ -37,10 +37,10 @@ pub enum LoadFault {
     /// The device failed a read.
     #[error("a page could not be read")]
     ReadFault,
-    /// The blob at this head, the least, is a snapshot that was being made or removed. A load never answers this; a run
-    /// does, since it makes no repairs so far.
-    #[error("blob at page {page}: a snapshot that was being made or removed is not repaired so far")]
-    NotYet { page: u32 },
+    /// Recovery's first repair that is left gives the blob at this head metadata that needs more pages than are clear:
+    /// never an answer of `load`.
+    #[error("blob at page {head}: {has} pages are clear where its repair needs {wants}")]
+    NoRoom { head: u32, has: u32, wants: u32 },
     /// Memory ran out.
     #[error("no memory")]
     Memory,

@@ -2,7 +2,7 @@
 
 ghost use Rattle.std.specs.Prelude.{◌≡◌, ◌≤◌, ◌+◌, ℕ, [], false, IsTrue, OnOk, IfOk, IfErr, MatchResult};
 ghost use Rattle.std.specs.FinMap as map;
-ghost use Rattle.blob_meta.specs.Heads.{HasNoKeyFrom, IsNextFrom};
+ghost use Rattle.blob_meta.specs.Heads.{HasNoKeyFrom};
 ghost use Rattle.md_chain.specs.Reading.{OnlyRead};
 ghost use Rattle.running_store.specs.LoadedWhole.{IsWhole};
 ghost use Rattle.running_store.specs.Recovered.{IsLoadedFrom, IsRecovered, base_of};
@@ -10,7 +10,7 @@ ghost use Rattle.store_model.specs.Regions.{region_of, look_of};
 ghost use Rattle.store_model.specs.Scans.{Says};
 ghost use Rattle.super_block.specs.Faults.{IsFaultless};
 ghost use Rattle.super_block.specs.Page.{super_of};
-ghost use Rattle.unclean_load.specs.Accepted.{HasFirstMark, IsAccepted, IsFaultOf, IsImageFault, SuperAt};
+ghost use Rattle.unclean_load.specs.Accepted.{IsAccepted, IsFaultOf, IsImageFault, SuperAt};
 ghost use Rattle.unclean_load.specs.Heads.{AreWhole};
 ghost use Rattle.unclean_load.specs.Reading.{IsFaultCounted};
 
@@ -75,9 +75,6 @@ pub fn load<D: PageDisk>(alloc: Global, disk: D) -> Result<Loaded<D>, (D, LoadFa
         → IfOk result (λ l. Says (region_of l.sup) (base_of l.metas l.marked) (map.get l.chains) (D.now disk)) }
     ensures super_block { IsTrue D.tells → IfOk result (λ l. l.sup ≡ super_of (D.now disk 0) (D.pages disk)) }
     ensures accepted { IsTrue D.tells → IfOk result (λ _. IsAccepted (D.pages disk) (D.now disk)) }
-
-    ensures first_marked { IsTrue D.tells → IfOk result
-        (λ l. (page : ℕ) → IsNextFrom l.marked 0 page → HasFirstMark (D.pages disk) (D.now disk) page) }
 
     // Whatever the device tells, the store is what recovery makes of the metadata that was read. With no blob marked
     // there is nothing to repair, and with nothing to repair it is whole, and its metadata is what was read.

@@ -1,7 +1,6 @@
-use Rattle.std.proofs.Common.{IsSome, refl, sym, ap, subst, ◌∙◌, arith}
+use Rattle.std.proofs.Common.{refl}
 use Rattle.std.specs.FinMap as map
 use Rattle.running_store.specs.Recovered.{base_of}
-use Rattle.unclean_load.proofs.MarkedRead.{marked_where, unmarked_where}
 use Rattle.unclean_load.proofs.Refusing.{refused}
 use Rattle.unclean_load.proofs.Unrepaired.{as_read, nothing_marked, whole_unrepaired}
 use Rattle.unclean_load.proofs.loading.load.Goals as goal
@@ -14,31 +13,6 @@ returns-in-Err-clause-refused g c =
 
 pub returns-clause-found : goal.returns-clause-found
 returns-clause-found g c = λ told. (c.in-Ok.ensures.found told).says
-
-pub returns-clause-first_marked : goal.returns-clause-first_marked
-returns-clause-first_marked g c =
-    let s = c.in-Ok.store in
-    let r = s.recovered in
-    let x = c.in-Ok.ensures.recovered in
-    let base = base_of r.metas r.marked in
-    λ told page next.
-    let at = marked_where base page (subst (λ o. IsSome o) (ap (λ f. f page) (sym x.marks)) next.there) in
-    record {
-      accepted = record {
-        sup = s.sup;
-        super_at = c.in-Ok.ensures.super_block told;
-        metas = base;
-        chains = map.get r.chains;
-        whole = c.in-Ok.ensures.found told;
-        named = x.named;
-        lawful = x.lawful;
-      };
-      meta = at.0;
-      there = at.1;
-      marked = at.2;
-      first = λ h m lt there.
-          unmarked_where base h m there (ap (λ f. f h) x.marks ∙ next.none_between h (omega arith) lt);
-    }
 
 pub returns-clause-unmarked : goal.returns-clause-unmarked
 returns-clause-unmarked g c =

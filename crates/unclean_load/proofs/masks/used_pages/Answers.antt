@@ -61,7 +61,7 @@ page_fault chains head pages bits two (fault.NoParentBlob blob parent) x = absur
 page_fault chains head pages bits two (fault.WritableParent blob parent) x = absurd x
 page_fault chains head pages bits two (fault.ParentLoop blob) x = absurd x
 page_fault chains head pages bits two (fault.Shared cluster a b) x = absurd x
-page_fault chains head pages bits two (fault.NotYet page) x = absurd x
+page_fault chains head pages bits two (fault.NoRoom blob has wants) x = absurd x
 
 pub returns-in_err-mark_pages-clause-fault : goal.returns-in_err-mark_pages-clause-fault
 returns-in_err-mark_pages-clause-fault c =

@@ -21,7 +21,7 @@ own_shown metas head m (fault.Chain at e) x first = absurd x
 own_shown metas head m (fault.Meta at e) x first = absurd x
 own_shown metas head m (fault.MapsTooLarge slots) x first = absurd x
 own_shown metas head m (fault.Shared cluster a b) x first = absurd x
-own_shown metas head m (fault.NotYet page) x first = absurd x
+own_shown metas head m (fault.NoRoom blob has wants) x first = absurd x
 own_shown metas head m fault.ReadFault x first = absurd x
 own_shown metas head m fault.Memory x first = absurd x
 
