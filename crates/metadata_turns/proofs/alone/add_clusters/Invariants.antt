@@ -1,5 +1,5 @@
 use Rattle.metadata_turns.proofs.ClustersAlone.{Adds}
-use Rattle.metadata_turns.proofs.alone.add.Given as goal
+use Rattle.metadata_turns.proofs.alone.add_clusters.Given as goal
 
 -- the clusters of the slots so far are added
 abbrev pub invariant-loop-slot : goal.invariant-loop-slot

@@ -3,8 +3,8 @@ use Rattle.blob_meta.specs.Faults.{clusters_of}
 use Rattle.md_chain.specs.Chain.{is_among}
 use Rattle.store_model.specs.Places.{all_set}
 use Rattle.metadata_turns.proofs.ClustersAlone.{adds_all, adds_none, adds_one, one_of, Adds}
-use Rattle.metadata_turns.proofs.alone.add.Goals as goal
-use Rattle.metadata_turns.proofs.alone.add.Goals.{in-Some, in_default}
+use Rattle.metadata_turns.proofs.alone.add_clusters.Goals as goal
+use Rattle.metadata_turns.proofs.alone.add_clusters.Goals.{in-Some, in_default}
 
 pub set-requires : goal.set-requires
 set-requires c =
