@@ -18,6 +18,7 @@ use Rattle.metadata_turns.proofs.ClustersAlone.{set_with}
 use Rattle.metadata_turns.proofs.CutClusters.{among_slots, in_slot}
 use Rattle.store_core.specs.Removing.{masks_with, those_below, AreWith, FitMasks}
 use Rattle.store_core.proofs.Starts.{below_past, next_here, next_none, next_other}
+use Rattle.store_core.proofs.UsedAtStart.{some_of}
 
 -- what fits the masks fits masks of the same sizes
 pub fits_still : (blobs : Metas) (chains : Chains) (old now : Masks) (end : ℕ) → FitMasks blobs chains old
@@ -206,3 +207,19 @@ module _ (blobs : Metas) (chains : Chains) (old now : Masks) (end : ℕ)
             )
       ];
     }
+
+-- the next head adds its blob, where one is there
+pub added_next : (blobs : Metas) (chains : Chains) (old now next : Masks) (end : ℕ) → FitMasks blobs chains old
+    → AreWith (those_below blobs end) chains old now → (blobs end ≡ None → next ≡ now)
+    → ((m : Meta) (chain : List ℕ) → blobs end ≡ Some m → chains end ≡ Some chain
+    → next ≡ masks_with now end m chain)
+    → AreWith (those_below blobs (end + 1)) chains old next
+added_next blobs chains old now next end fit with none added = by (blobs end) refl
+  where
+    by : (o : Option Meta) → blobs end ≡ o → AreWith (those_below blobs (end + 1)) chains old next
+    by None is = subst (AreWith (those_below blobs (end + 1)) chains old) (sym (none is))
+        (same_added blobs chains old now end with is)
+    by (Some m) is =
+        let chain = some_of (chains end) (fit.chain end (subst (λ (o : Option Meta). IsSome o) (sym is) refl)) in
+        subst (AreWith (those_below blobs (end + 1)) chains old) (sym (added m chain.0 is chain.1))
+        (more_added blobs chains old now end with (fits_still blobs chains old now end fit with) m chain.0 is chain.1)

@@ -1,5 +1,5 @@
 -- What was loaded is what a store begins with.
-use Rattle.std.proofs.Common.{◌≡◌, ◌≢◌, ◌∙◌, ℕ, ◌≤◌, Bool, List, Option, Some, None, refl, sym, ap, arith}
+use Rattle.std.proofs.Common.{◌≡◌, ◌≢◌, ◌∙◌, ℕ, ◌≤◌, Bool, List, [], Option, Some, None, refl, sym, ap, arith}
 use Rattle.std.specs.Option.{option_and_then, option_map}
 use Rattle.std.specs.Ordering.{nat_cmp}
 use Rattle.std.specs.FinMap as map
@@ -27,7 +27,7 @@ module _ {D : Type 0} (loaded : Loaded D) (from : IsLoadedFrom (base_of loaded.m
 
   marked_has : (o : Option Meta) (m : Meta) → option_and_then (λ (x : Meta). option_map (λ _. x) (mark_of x)) o ≡ Some m
       → mark_of m ≢ None
-  marked_has None m is = absurd (cc is)
+  marked_has None m is none = absurd (cc is)
   marked_has (Some x) m is none = by (mark_of x) refl is
     where
       by : (mark : Option (List ℕ)) → mark_of x ≡ mark → option_map (λ _. x) mark ≡ Some m → ⊥

@@ -1,7 +1,7 @@
 -- What the loops of a start have made so far.
-use Rattle.std.proofs.Common.{◌≡◌, ℕ, ◌+◌, ◌<◌, ◌≤◌, Bool, true, false, cond, List, [], ◌∷◌, ◌++◌, length, Option, Some}
+use Rattle.std.proofs.Common.{◌≡◌, ℕ, zero, suc, ◌+◌, ◌<◌, ◌≤◌, Bool, true, false, cond, List, [], ◌∷◌, ◌++◌, length, Option, Some}
 use Rattle.std.proofs.Common.{None, refl, sym, ◌∙◌, ap, subst, ◌⊎◌, arith, inl, inr, length-append, ◌≢◌}
-use Rattle.std.specs.Prelude.{if◌then◌else◌, is_some, IsSome, nat_lt, slice_index_or, slice_set}
+use Rattle.std.specs.Prelude.{if◌then◌else◌, is_some, IsSome, nat_lt, replicate, slice_index_or, slice_set}
 use Rattle.std.specs.Option.{option_map}
 use Rattle.std.specs.Ordering.{nat_cmp}
 use Rattle.std.specs.Cmp.{nat_cmp_total}
@@ -17,7 +17,8 @@ use Rattle.volume_model.specs.declared.command.Command.{Command}
 use Rattle.blob_meta.specs.declared.meta.Meta.{Meta}
 use Rattle.io_freeze.specs.Guards.{GuardsState, no_guards, renewed}
 use Rattle.store_model.specs.Maps.{Map, Metas, with_entry}
-use Rattle.store_model.specs.Rows.{Row, Idle, Ended}
+use Rattle.volume_model.specs.declared.reply.Entry.{Entry}
+use Rattle.store_model.specs.Rows.{entries_of, Row, Idle, Ended}
 use Rattle.store_model.proofs.WithEntry.{given_here, given_elsewhere}
 use Rattle.store_core.specs.Opening.{AreGuardsAtStart, AreRows, IsLiveAtStart, row_at_start}
 use Rattle.store_core.specs.Removing.{those_below}
@@ -230,3 +231,14 @@ module _ (script : List (List Command)) (rows : List Row) (are : AreRows script 
     | inr high ↦ ap (λ (r : Row). r.claim) (get_or_past rows channel (record { left = []; stage = Ended; claim = None })
         (subst (λ n. n ≤ channel) (sym are.sixteen) high))
   ]
+
+zeros : (n i : ℕ) → slice_index_or (replicate n 0) i 0 ≡ 0
+zeros zero i = refl
+zeros (suc n) zero = refl
+zeros (suc n) (suc i) = zeros n i
+
+-- no entry is counted of an empty log
+pub none_counted : (channel : ℕ) (log : List Entry) → log ≡ []
+    → slice_index_or (replicate 16 0) channel 0 ≡ length (entries_of channel log)
+none_counted channel log is =
+    zeros 16 channel ∙ sym (ap (λ (l : List Entry). length (entries_of channel l)) is)

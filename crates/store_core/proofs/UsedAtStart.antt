@@ -34,11 +34,13 @@ chain_was blobs links h pages = by (blobs h)
     by None is = absurd (cc is)
     by (Some m) is = (refl, is)
 
-chain_is : (blobs : Metas) (links : Chains) (h : ℕ) (m : Meta) (pages : List ℕ) → blobs h ≡ Some m
+-- the chain of one of the blobs
+pub chain_is : (blobs : Metas) (links : Chains) (h : ℕ) (m : Meta) (pages : List ℕ) → blobs h ≡ Some m
     → links h ≡ Some pages → chains_of blobs links h ≡ Some pages
 chain_is blobs links h m pages there is = ap (option_and_then (λ (x : Meta). links h)) there ∙ is
 
-some_of : {X : Type 0} (o : Option X) → IsSome o → (x : X) × (o ≡ Some x)
+-- what is there is something
+pub some_of : {X : Type 0} (o : Option X) → IsSome o → (x : X) × (o ≡ Some x)
 some_of None bad = absurd (cc bad)
 some_of (Some x) is = (x, refl)
 
