@@ -43,7 +43,7 @@ use Rattle.blob_tool.specs.Closing.{Closes}
 use Rattle.blob_tool.specs.Surviving.{IsLasting}
 use Rattle.store_model.specs.StoreState.{shown}
 use Rattle.script_lang.specs.declared.schedule.Actor.{Actor}
-use Rattle.blob_tool.specs.Outcome.{HasScript, NothingWritten, Outcome, RanTo, ReadsScript}
+use Rattle.blob_tool.specs.Outcome.{EndedRepairing, HasScript, NothingWritten, Outcome, RanTo, ReadsScript}
 
 -- a device that was only read has one image still
 pub still_one : {D : Type 0} (d : disk.Ghosts D) (before after : D) → OnlyRead d before after → HasOneImage d before
@@ -93,6 +93,19 @@ module _ {S : Type 0} (s : source.Ghosts S) (script script_now : S) {D : Type 0}
   ran_to (status.Image fault) ran = absurd ran.ended
   ran_to status.ScriptRead ran = absurd ran.ended
 
+  -- and so is what repairs came to
+  in_repair : (st : Status) → EndedRepairing s script script_now d k out out_now before back st
+      → Outcome s script script_now d k out out_now before back schedule st
+  in_repair (status.Device at) x = inr (inr x)
+  in_repair status.Memory x = inr (inr x)
+  in_repair (status.Image (loading.NoRoom head has wants)) x = x
+  in_repair (status.Image _) x = absurd x.ended
+  in_repair status.Good x = absurd x.ended
+  in_repair status.OutWrite x = absurd x.ended
+  in_repair status.Usage x = absurd x.ended
+  in_repair (status.Script line kind) x = absurd x.ended
+  in_repair status.ScriptRead x = absurd x.ended
+
   -- what a run from the loaded store came to is the outcome of the call
   pub of_a_run : (commands : List (List Command)) (loaded : Loaded D) (st : Status)
       → ReadsScript s script script_now commands
@@ -101,15 +114,14 @@ module _ {S : Type 0} (s : source.Ghosts S) (script script_now : S) {D : Type 0}
       → EndedFrom d commands schedule k out out_now back loaded st → Outcome s script script_now d k out out_now
       before back schedule st
   of_a_run commands loaded st reads opens same (inl x) =
-      ran_to st (record {
-        commands = commands;
-        first = x.0;
-        started = record { script_is = reads; loaded = loaded; as_found = opens x.0 x.1 };
-        ended = x.2;
-      })
+      let started = record { script_is = reads; loaded = loaded; as_found = opens x.0 x.1 } in
+      elim x.2 [
+        | inl ended ↦ ran_to st (record { commands = commands; first = x.0; started = started; ended = ended })
+        | inr ended ↦ in_repair st (record { commands = commands; first = x.0; started = started; ended = ended })
+      ]
   of_a_run commands loaded st reads opens same (inr x) =
       subst (Outcome s script script_now d k out out_now before back schedule) (sym x.0)
-      (inr (record { quiet = x.1; device = subst (OnlyRead d before) (sym x.2) same }))
+      (inr (inl (record { quiet = x.1; device = subst (OnlyRead d before) (sym x.2) same })))
 
   -- a store that wasn't loaded
   pub of_a_fault : (fault : LoadFault) → NothingWritten s script script_now d k out out_now before back
@@ -118,8 +130,8 @@ module _ {S : Type 0} (s : source.Ghosts S) (script script_now : S) {D : Type 0}
       → (IsTrue d.tells → IsFaultOf (d.pages before) (d.now before) fault)
       → (IsTrue d.tells → IsImageFault fault → IsAccepted (d.pages before) (d.now before) → ⊥)
       → Outcome s script script_now d k out out_now before back schedule (of_loading fault)
-  of_a_fault loading.ReadFault stays script counted cause refused = inr (stays, script, refl, counted)
-  of_a_fault loading.Memory stays script counted cause refused = inr stays
+  of_a_fault loading.ReadFault stays script counted cause refused = inr (inl (stays, script, refl, counted))
+  of_a_fault loading.Memory stays script counted cause refused = inr (inl stays)
   of_a_fault (loading.Super why) stays script counted cause refused =
       (stays, script, tt, λ tells. (cause tells, refused tells tt))
   of_a_fault (loading.Chain head why) stays script counted cause refused =
@@ -136,4 +148,4 @@ module _ {S : Type 0} (s : source.Ghosts S) (script script_now : S) {D : Type 0}
       (stays, script, tt, λ tells. (cause tells, refused tells tt))
   of_a_fault (loading.Shared cluster a b) stays script counted cause refused =
       (stays, script, tt, λ tells. (cause tells, refused tells tt))
-  of_a_fault (loading.NotYet head) stays script counted cause refused = absurd counted
+  of_a_fault (loading.NoRoom head has wants) stays script counted cause refused = absurd counted

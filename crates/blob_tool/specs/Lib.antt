@@ -2,6 +2,7 @@ pub mod FormatWords
 pub mod Surviving
 pub mod Statuses
 pub mod Closing
+pub mod Repairing
 pub mod Runs
 pub mod Outcome
 pub mod FormatOutcome

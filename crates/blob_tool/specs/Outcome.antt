@@ -3,21 +3,23 @@ use Rattle.std.specs.Prelude.{◌≡◌, ◌⊎◌, ℕ, ◌<◌, ◌≤◌, ◌
 use Rattle.page_disk.specs.Disk.{Rose}
 use Rattle.page_disk.specs.declared.disk.PageDisk as disk
 use Rattle.volume_model.specs.declared.command.Command.{Command}
-use Rattle.blob_meta.specs.Repairs.{HasNoMarks}
+use Rattle.metadata_turns.specs.Repairs.{LacksForRepair}
 use Rattle.md_chain.specs.Reading.{OnlyRead}
 use Rattle.script_lang.specs.Script.{reads, IsFirstBad}
 use Rattle.script_lang.specs.declared.grammar.Grammar.TheVariants.{Served}
 use Rattle.script_lang.specs.declared.fault.LineKind.{LineKind}
 use Rattle.script_lang.specs.declared.schedule.Actor.{Actor}
 use Rattle.running_store.specs.declared.loaded.Loaded.{Loaded}
-use Rattle.running_store.specs.StoreView.{StoreView}
-use Rattle.unclean_load.specs.Accepted.{HasFirstMark, IsAccepted, IsFaultOf, IsImageFault}
+use Rattle.running_store.specs.StoreView.{state_of, StoreView}
+use Rattle.repair_runs.specs.RepairRuns.{RepairRun}
+use Rattle.unclean_load.specs.Accepted.{IsAccepted, IsFaultOf, IsImageFault}
 use Rattle.unclean_load.specs.declared.fault.LoadFault.{LoadFault}
 use Rattle.unclean_load.specs.declared.fault.LoadFault.TheVariants as fault
 use Rattle.streams.specs.declared.source.Source as source
 use Rattle.streams.specs.declared.sink.Sink as sink
 use Rattle.blob_tool.specs.declared.status.Status.{Status}
 use Rattle.blob_tool.specs.declared.status.Status.TheVariants as status
+use Rattle.blob_tool.specs.Repairing.{EndedInRepair}
 use Rattle.blob_tool.specs.Runs.{Ended, IsLoaded}
 
 -- nothing is printed, and the device that is handed back is the one that was handed in
@@ -71,6 +73,19 @@ module _ {S : Type 0} (s : source.Ghosts S) (script script_now : S) where
       pub started : Started commands first
       pub ended : Ended d commands schedule k out out_now back first status
 
+    -- a run that ended with its repairs, and what they came to
+    pub record EndedRepairing (status : Status) : Type 0 where
+      pub commands : List (List Command)
+      pub first : StoreView D
+      pub started : Started commands first
+      pub ended : EndedInRepair d k out out_now back first status
+
+    -- whatever repairs are made of an opened store, as many pages are clear as the next one needs
+    abbrev pub HasRoomForRepairs : StoreView D → Type 0
+    HasRoomForRepairs first =
+        (p : StoreView D) → RepairRun d.tells (state_of d first) (state_of d p) → p.stopped ≡ None
+        → (head has wants : ℕ) → LacksForRepair (state_of d p) head has wants → ⊥
+
     -- nothing is printed, and the device was read at most
     pub record NothingWritten : Type 0 where
       pub quiet : out_now ≡ out
@@ -89,11 +104,9 @@ module _ {S : Type 0} (s : source.Ghosts S) (script script_now : S) where
     abbrev pub IsUnread : Type 0
     IsUnread = NothingDone out out_now before back × Rose (s.faults script) (s.faults script_now)
 
-    -- The image has this fault, and isn't accepted; or it is accepted, and this is the first blob with a mark, which is
-    -- not repaired so far.
+    -- The image has this fault, and isn't accepted; or it is accepted, and a repair needs more pages than are clear.
     abbrev pub IsBadImage : LoadFault → Type 0
-    IsBadImage (fault.NotYet page) =
-        NothingWritten × HasScript × (IsTrue d.tells → HasFirstMark (d.pages before) (d.now before) page)
+    IsBadImage (fault.NoRoom head has wants) = EndedRepairing (status.Image (fault.NoRoom head has wants))
     IsBadImage why =
         NothingWritten × HasScript × IsImageFault why
         × (IsTrue d.tells → IsFaultOf (d.pages before) (d.now before) why
@@ -111,11 +124,13 @@ module _ {S : Type 0} (s : source.Ghosts S) (script script_now : S) where
     Outcome schedule (status.Image fault) = IsBadImage fault
     Outcome schedule status.ScriptRead = IsUnread
     Outcome schedule status.OutWrite = RanTo schedule status.OutWrite
-    Outcome schedule (status.Device at) = RanTo schedule (status.Device at) ⊎ IsUnloaded at
-    Outcome schedule status.Memory = RanTo schedule status.Memory ⊎ NothingWritten
+    Outcome schedule (status.Device at) =
+        RanTo schedule (status.Device at) ⊎ (IsUnloaded at ⊎ EndedRepairing (status.Device at))
+    Outcome schedule status.Memory =
+        RanTo schedule status.Memory ⊎ (NothingWritten ⊎ EndedRepairing status.Memory)
 
-    -- the source has a script and nothing else, the image is accepted and no blob of it has a mark, and no count of
-    -- faults rose in the call
+    -- the source has a script and nothing else, the image is accepted, each repair has the pages that it needs, and no
+    -- count of faults rose in the call
     pub record NothingFails : Type 0 where
       pub source_tells : IsTrue s.tells
       pub commands : List (List Command)
@@ -123,7 +138,8 @@ module _ {S : Type 0} (s : source.Ghosts S) (script script_now : S) where
       pub small : length (s.left script) ≤ 2 ^ 20
       pub device_tells : IsTrue d.tells
       pub accepted : IsAccepted (d.pages before) (d.now before)
-      pub unmarked : HasNoMarks accepted.metas
+      pub room : (commands : List (List Command)) (first : StoreView D) → Started commands first
+          → HasRoomForRepairs first
       pub source : Rose (s.faults script) (s.faults script_now) → ⊥
       pub sink : Rose (k.faults out) (k.faults out_now) → ⊥
       pub reading : Rose (d.read_faults before) (d.read_faults back) → ⊥

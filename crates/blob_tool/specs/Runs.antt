@@ -19,10 +19,11 @@ use Rattle.store_model.specs.StoreState.{Opens, shown}
 use Rattle.store_model.specs.Cases.{Kind, Run}
 use Rattle.running_store.specs.declared.loaded.Loaded.{Loaded}
 use Rattle.store_core.specs.Opening.{IsOpened}
-use Rattle.running_store.specs.StoreView.{StoreView, rows_of, state_of}
+use Rattle.running_store.specs.StoreView.{StoreView, base_of, rows_of, state_of}
 use Rattle.running_store.specs.Surviving.{HasOneImage}
-use Rattle.running_store.specs.LoadedWhole.{IsWhole as IsLoadedWhole}
+use Rattle.running_store.specs.Recovered.{IsLoadedFrom}
 use Rattle.unclean_load.specs.Accepted.{IsAccepted}
+use Rattle.blob_meta.specs.Repairs.{HasNoMarks}
 use Rattle.blob_report.specs.Text.{log_text}
 use Rattle.streams.specs.declared.sink.Sink as sink
 use Rattle.blob_tool.specs.declared.status.Status.{Status}
@@ -34,6 +35,7 @@ use Rattle.channels.specs.Actors.{actors_in_run}
 use Rattle.channels.specs.RunEnds.{ended_row}
 use Rattle.streams.specs.Printing.{IsPartOf}
 use Rattle.blob_tool.specs.Closing.{AddsNoImage}
+use Rattle.blob_tool.specs.Repairing.{AreMade, EndedInRepair}
 use Rattle.blob_tool.specs.Surviving.{IsLasting, RunSurvives}
 
 -- The turns that lead from one state of a store to another are those of the steps of a schedule, and then of rounds of
@@ -44,26 +46,29 @@ FollowsSchedule d schedule first last =
     × StoreFollows d.tells (actors_in_run schedule) (driven_at_start (state_of d first)) w
 
 module _ {D : Type 0} (d : disk.Ghosts D) (script : List (List Command)) where
-  -- A store as the device says it, whole in itself: its masks are what its chains and maps claim. It is opened with the
-  -- script.
+  -- A store as the device says it, and what recovery makes of it: the masks are what the blobs that stay claim. It is
+  -- opened with the script.
   pub record IsLoaded (before : D) (loaded : Loaded D) (first : StoreView D) : Type 0 where
     pub super : IsTrue d.tells → loaded.sup ≡ super_of (d.now before 0) (d.pages before)
     pub says : IsTrue d.tells
-        → Says (region_of loaded.sup) (map.get loaded.metas) (map.get loaded.chains) (d.now before)
+        → Says (region_of loaded.sup) (base_of loaded.metas loaded.marked) (map.get loaded.chains) (d.now before)
     pub accepted : IsTrue d.tells → IsAccepted (d.pages before) (d.now before)
-    pub whole : IsLoadedWhole loaded
+    pub recovered : IsLoadedFrom (base_of loaded.metas loaded.marked) loaded
     pub same : OnlyRead d before loaded.disk
     pub one_image : HasOneImage d before → HasOneImage d loaded.disk
     pub opened : IsOpened d loaded script first
 
   module _ (schedule : List Actor) where
     -- A run leads from one state of the store to another, in which every channel has ended and no job runs. Its turns
-    -- are those of the steps of its schedule, and then of rounds of the channels and the metadata thread. Its log is a
-    -- legal one of the script's commands, and the volumes shown at the end are its replay, unless the store stopped. Of
+    -- are repairs, until no blob has a mark, and then those of the steps of its schedule, and of rounds of the channels
+    -- and the metadata thread. Its log is a legal one of the script's commands, and the volumes shown at the end are its replay, unless the store stopped. Of
     -- a device that doesn't tell what it holds both are said but for what pages hold (`seen`).
     pub record IsRun (first last : StoreView D) : Type 0 where
       pub opens : Opens (state_of d first)
-      pub follows : FollowsSchedule d schedule first last
+      pub repaired : StoreView D
+      pub repairs : AreMade d first repaired
+      pub unmarked : HasNoMarks (base_of repaired.metas repaired.marked)
+      pub follows : FollowsSchedule d schedule repaired last
       pub turns : (kinds : List Kind) × Run d.tells (state_of d first) kinds (state_of d last)
       pub over : (channel : ℕ) → rows_of last.rows channel ≡ ended_row
       pub no_job : last.job ≡ None
@@ -115,8 +120,9 @@ module _ {D : Type 0} (d : disk.Ghosts D) (script : List (List Command)) where
       Ended first status.Memory = Played first
       Ended first _ = ⊥
 
-      -- it began, or memory ran out before: then nothing was printed, and the device is the one that was loaded
+      -- it began, and ended with its repairs or behind them; or memory ran out before: then nothing was printed, and the
+      -- device is the one that was loaded
       abbrev pub EndedFrom : Loaded D → Status → Type 0
       EndedFrom loaded s =
-          ((first : StoreView D) × IsOpened d loaded script first × Ended first s)
+          ((first : StoreView D) × IsOpened d loaded script first × (Ended first s ⊎ EndedInRepair d k out out_now back first s))
           ⊎ ((s ≡ status.Memory) × (out_now ≡ out) × (back ≡ loaded.disk))

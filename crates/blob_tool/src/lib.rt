@@ -3,6 +3,8 @@
 
 mod closing;
 mod format_words;
+mod playing;
+mod repairing;
 mod run_words;
 mod status;
 mod top;

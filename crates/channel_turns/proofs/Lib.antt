@@ -4,6 +4,7 @@ pub mod WriteMeant
 pub mod WriteAsked
 pub mod ClaimAsked
 pub mod Sent
+pub mod PagesToCopy
 pub mod PagesCopied
 pub mod Written
 pub mod ReadAsked

@@ -1,50 +1,35 @@
 -- What a channel's copy of a page comes to.
-use Rattle.std.proofs.Common.{◌≡◌, ◌≢◌, ◌⊎◌, ℕ, zero, suc, ◌+◌, ◌*◌, ◌<◌, ◌≤◌, Bool, true, false, List, ◌∷◌}
-use Rattle.std.proofs.Common.{Option, Some, None, length, refl, sym, ◌∙◌, ap, subst, arith, inl}
-use Rattle.std.proofs.Common.{add-one, IsTrue}
-use Rattle.std.specs.Prelude.{◌↔◌}
-use Rattle.std.specs.Ordering.{nat_cmp}
-use Rattle.blob_meta.specs.declared.meta.Meta.{Meta}
-use Rattle.super_block.specs.declared.page.Super.{Super}
-use Rattle.std.specs.Prelude.{if◌then◌else◌, IfSome}
+use Rattle.std.proofs.Common.{◌≡◌, ◌≢◌, ◌⊎◌, ℕ, zero, suc, ◌<◌, Bool, false, List, ◌∷◌, Option, Some, None, length}
+use Rattle.std.proofs.Common.{refl, sym, ◌∙◌, ap, subst, arith, IsTrue}
+use Rattle.std.specs.Prelude.{if◌then◌else◌}
 use Rattle.std.specs.Option.{option_map_or}
 use Rattle.std.specs.FinMap as map
-use Rattle.std.proofs.Math.Nat.{mul-le-mul_right}
 use Rattle.page_disk.specs.Disk.{Image, Rose, RoseByOne, Telling, Written}
 use Rattle.page_disk.specs.Moments.{CallsLeaveOnly}
 use Rattle.page_disk.specs.declared.disk.PageDisk.{Ghosts}
 use Rattle.page_disk.specs.declared.disk.WriteKind.TheVariants.{Plain}
 use Rattle.page_disk.proofs.Moments.{joined, kept_before}
-use Rattle.super_block.specs.Numbers.{cluster_pages_of, clusters_of}
-use Rattle.super_block.specs.Placed.{IsPlaced}
 use Rattle.volume_model.specs.Volumes.{zero_page}
 use Rattle.volume_model.specs.declared.command.Command.{Command}
 use Rattle.volume_model.specs.declared.command.Command.TheVariants as c
 use Rattle.volume_model.specs.declared.reply.Reply.TheVariants as r
-use Rattle.blob_meta.specs.Pages.{place_read}
-use Rattle.blob_meta.specs.Resolving.{resolved}
 use Rattle.store_model.specs.Cases as kind
 use Rattle.store_model.specs.Cases.{FailsToReplace, WritesOnePage}
 use Rattle.store_model.specs.Cases.Copy.{stage_left}
 use Rattle.store_model.specs.Cases.CopyFail.{copy}
 use Rattle.store_model.specs.Cases.Read.{IsRead}
-use Rattle.store_model.specs.Copying.{page_of_claim, shown_in_slot}
-use Rattle.store_model.specs.Maps.{Metas}
-use Rattle.store_model.specs.Rows.{Copying, Idle, OpenClaim, Row}
+use Rattle.store_model.specs.Copying.{page_of_claim}
+use Rattle.store_model.specs.Rows.{Copying, Idle, Row}
 use Rattle.store_model.specs.StoreState.{StoreState}
 use Rattle.store_model.specs.Touches.{no_new, puts, Touched}
 use Rattle.store_model.specs.Turning.{read_after}
-use Rattle.store_model.proofs.Used.{within}
 use Rattle.running_store.specs.Steps.{logged_on, stopped_here, with_row_at}
 use Rattle.running_store.specs.TurnMade.{TurnMade, TurnsAs}
 use Rattle.channel_turns.specs.ClaimTurns.{CopiesNow, HoldsClaim, IsOfCopy, WaitsToCopy}
 use Rattle.running_store.specs.GivingBack.{row_given_back}
-use Rattle.running_store.specs.Stages.{to_copy_in}
-use Rattle.running_store.specs.StoreInvariant.{IsRunning}
-use Rattle.running_store.specs.StoreView.{AreResolved, device_of, read_now, rows_of, state_of, StoreView}
+use Rattle.running_store.specs.StoreView.{device_of, rows_of, state_of, StoreView}
 use Rattle.channel_turns.proofs.GivenUp.{copying, disk_failed, logs_failed}
 use Rattle.running_store.proofs.GivenBack.{given_up, state_given_back}
-use Rattle.channel_turns.proofs.PagesShown.{read_content, read_low}
 use Rattle.channel_turns.proofs.ReadAsked.{content_seen}
 use Rattle.running_store.proofs.Rowing.{state_with_row}
 use Rattle.channel_turns.proofs.Written.{blank}
@@ -53,113 +38,6 @@ use Rattle.channel_turns.proofs.Written.{blank}
 pub some_left : (left : ℕ) → left ≢ 0 → Copying left ≡ stage_left left
 some_left zero some = absurd (some refl)
 some_left (suc n) some = refl
-
--- a claim with pages to copy, by what is read of its row
-abbrev pub seen_copy : {D : Type 0} (p : StoreView D) (channel : ℕ) (w : WaitsToCopy p channel) (claim : OpenClaim)
-    → (rows_of p.rows channel).claim ≡ Some claim → WaitsToCopy p channel
-seen_copy p channel w claim is = record {
-  left = w.left;
-  holds = record {
-    volume = w.holds.volume;
-    page = w.holds.page;
-    word = w.holds.word;
-    rest = w.holds.rest;
-    claim = claim;
-    row = w.holds.row ∙ ap (λ (o : Option OpenClaim). record {
-      left = c.Write w.holds.volume w.holds.page w.holds.word ∷ w.holds.rest;
-      stage = Copying (suc w.left);
-      claim = o;
-    }) (sym (ap (λ (x : Row). x.claim) w.holds.row) ∙ is);
-  };
-  few = w.few;
-}
-
-pub left_read : {D : Type 0} (p : StoreView D) (channel : ℕ) (w : WaitsToCopy p channel) (left : ℕ)
-    → Some left ≡ to_copy_in (rows_of p.rows channel).stage → left ≡ suc w.left
-left_read p channel w left is =
-    let both : Some left ≡ Some (suc w.left) = is ∙ ap (λ (x : Row). to_copy_in x.stage) w.holds.row in cc both
-
--- a test that came out so
-pub late : (b : Bool) (F : Type 0) → (IsTrue b ↔ F) → b ≡ false → F → ⊥
-late true F both is holds = absurd (cc is)
-late false F both is holds = let bad = both.1 holds in cc bad
-
--- where the page is read, by the pages of a cluster
-pub from_is : (metas : map.FinMap nat_cmp Meta) (sup : Super) (head slot page k : ℕ) → k ≡ cluster_pages_of sup
-    → (n : ℕ) → n ≡ slot * k + page
-    → place_read k (map.get metas) (sup.md_len + 1) head n
-    ≡ place_read (cluster_pages_of sup) (map.get metas) (sup.md_len + 1) head (slot * cluster_pages_of sup + page)
-from_is metas sup head slot page k pages n is =
-    ap (λ m. place_read k (map.get metas) (sup.md_len + 1) head m) is
-    ∙ ap (λ k. place_read k (map.get metas) (sup.md_len + 1) head (slot * k + page)) pages
-
--- ---- where a page is copied from and to
-
-module _ {D : Type 0} (d : Ghosts D) (p : StoreView D) (channel : ℕ) (running : IsRunning (state_of d p))
-    (runs : p.stopped ≡ None) (are : AreResolved p.metas p.marked) (w : WaitsToCopy p channel)
-    (current : map.get p.guards.generations w.holds.claim.head ≡ Some w.holds.claim.generation) where
-  abbrev s : StoreState
-  s = state_of d p
-
-  abbrev k : ℕ
-  k = cluster_pages_of p.super
-
-  abbrev claim : OpenClaim
-  claim = w.holds.claim
-
-  module _ (page : ℕ) (is_next : page + suc w.left ≡ k) (from : Option ℕ)
-      (from_is : from ≡ place_read k (map.get p.metas) (p.super.md_len + 1) claim.head (claim.slot * k + page)) where
-    -- what the slot shows is what is read there
-    shows : shown_in_slot s claim page ≡ option_map_or (read_now d p.disk) from zero_page
-    shows =
-        let n = claim.slot * k + page in
-        read_content k s.device.reads (resolved s.base) (suc p.super.md_len) n claim.head
-        ∙ ap (λ (b : Metas). option_map_or s.device.reads (place_read k b (suc p.super.md_len) claim.head n) zero_page)
-        are.resolves
-        ∙ ap (λ t. option_map_or s.device.reads (place_read k (map.get p.metas) t claim.head n) zero_page)
-        (sym (add-one p.super.md_len))
-        ∙ ap (λ (o : Option ℕ). option_map_or s.device.reads o zero_page) (sym from_is)
-
-    pub copies_now : (to : ℕ) → to ≡ claim.cluster * k + page → CopiesNow d p channel from to w.left
-    copies_now to to_is = record {
-      holds = w.holds;
-      runs = runs;
-      current = current;
-      page = page;
-      is_next = is_next;
-      content = shows;
-      to_is = sym to_is;
-    }
-
-    -- both places lie on the device
-    pub from_inside : (bound : ℕ) → p.super.device_pages ≤ bound → IfSome from (λ n. n < bound)
-    from_inside bound le = by from from_is
-      where
-        by : (o : Option ℕ)
-            → o ≡ place_read k (map.get p.metas) (p.super.md_len + 1) claim.head (claim.slot * k + page)
-            → IfSome o (λ n. n < bound)
-        by None is = tt
-        by (Some n) is =
-            let low = read_low s running runs p.metas are.resolves (p.super.md_len + 1) (claim.slot * k + page)
-            claim.head n
-            (sym is) in
-            omega (arith, low, le)
-
-    pub to_inside : (to : ℕ) → to ≡ claim.cluster * k + page → to < p.super.device_pages
-    to_inside to to_is =
-        let used = (running.facts.well runs).clusters in
-        let low = within p.clusters claim.cluster (used.claimed_too claim.cluster (inl (record {
-          channel = channel;
-          claim = claim;
-          held = ap (λ (x : Row). x.claim) w.holds.row;
-          is = refl;
-        }))) in
-        let count = used.count in
-        let le : (claim.cluster + 1) * k ≤ clusters_of p.super * k =
-        mul-le-mul_right k (omega (arith, low, count)) in
-        let on = (subst IsPlaced (sym running.facts.super) running.placed).on_device in
-        let below = is_next in
-        omega (arith, le, below, to_is, on)
 
 -- ---- the copy itself
 

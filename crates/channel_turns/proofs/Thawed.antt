@@ -15,6 +15,7 @@ freezes_none j = by j.work refl
     by : (w : Work) → j.work ≡ w → (job_seen j).freeze ≡ None
     by (work.Zeroing planned zeroed) e = rw e refl
     by (work.Writing planned written) e = rw e refl
+    by (work.Removing head freed) e = rw e refl
     by (work.Erasing erased) e = rw e refl
 
 pub thawed : (s : StoreState) (o : Option RunningJob) → s.job ≡ option_map job_seen o → IsGuarded s

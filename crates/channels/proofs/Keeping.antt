@@ -25,8 +25,8 @@ use Rattle.md_thread.proofs.TurnsRepaired.{job_kind, serving_kind, SomeTurn}
 use Rattle.channels.specs.ChannelState.{ChannelState}
 use Rattle.channels.specs.Driving.{AreChannelsOf, IsChannelOf}
 use Rattle.channels.specs.Served.{AreServed, IsServed}
-use Rattle.channels.proofs.RowSteps.{AsksUnclaimed, asked_along, ended_along, HasMetadata, IsAsked, IsAskedAt, IsLeftOf}
-use Rattle.channels.proofs.RowSteps.{row_steps, RowsStep, RowStep, stays}
+use Rattle.channels.proofs.OneRow.{AsksUnclaimed, HasMetadata, IsAsked, IsAskedAt, IsLeftOf, RowsStep, RowStep, stays}
+use Rattle.channels.proofs.RowSteps.{asked_along, ended_along, row_steps}
 
 -- ---- each turn is one of a kind
 

@@ -1,3 +1,4 @@
+pub mod OneRow
 pub mod RowSteps
 pub mod OwnTurns
 pub mod Stages

@@ -1,92 +1,26 @@
 -- What every turn leaves of each row: one that has ended stays, commands only leave it, and what is posted without a
 -- claim is a command for the metadata thread.
-use Rattle.std.proofs.Common.{◌≡◌, ◌≢◌, ◌⊎◌, inl, inr, ℕ, zero, suc, Bool, List, [], ◌∷◌, Option, Some, None, refl}
+use Rattle.std.proofs.Common.{◌≡◌, inl, inr, ℕ, zero, suc, Bool, List, [], ◌∷◌, Option, Some, None, refl}
 use Rattle.std.proofs.Common.{sym, ◌∙◌, ap, subst}
-use Rattle.std.proofs.lemmas.Bool.{cases_eq}
 use Rattle.super_block.specs.Numbers.{cluster_pages_of}
 use Rattle.volume_model.specs.declared.command.Command.{Command}
 use Rattle.volume_model.specs.declared.command.Command.TheVariants as c
-use Rattle.volume_model.specs.declared.reply.Reply.{Reply}
 use Rattle.store_model.specs.Cases as kind
 use Rattle.store_model.specs.Cases.{Kind, Run, Turn}
 use Rattle.store_model.specs.Cases.BreakDown.{BreaksDown}
 use Rattle.store_model.specs.Cases.CopyFail as tried
 use Rattle.store_model.specs.Cases.Copy.{stage_left}
 use Rattle.store_model.specs.Cases.Halt.{MayLog, stage_after}
-use Rattle.store_model.specs.Claiming.{given_back, LogsOwn, stage_behind}
-use Rattle.store_model.specs.Device.{Device}
+use Rattle.store_model.specs.Claiming.{stage_behind}
 use Rattle.store_model.specs.Phases.{Phase}
-use Rattle.store_model.specs.Rows.{Answered, Claiming, Copying, Decided, Decision, Ended, Idle, InJob, IsForMetadata}
-use Rattle.store_model.specs.Rows.{Lost}
-use Rattle.store_model.specs.Rows.{OpenClaim, Posted, Ready, Row, Rows, Stage, with_row, Won}
+use Rattle.store_model.specs.Rows.{Answered, Claiming, Copying, Decided, Decision, Ended, Idle, InJob}
+use Rattle.store_model.specs.Rows.{Lost, OpenClaim, Posted, Ready, Row, Stage, Won}
 use Rattle.store_model.specs.StoreState.{Opens, StoreState}
 use Rattle.store_model.specs.Turning.{stopped_now}
-use Rattle.store_model.proofs.RowsKept.{row_here, row_other}
+use Rattle.channels.proofs.OneRow.{goes, IsAsked, IsAskedAt, IsLive, IsUnposted, live, logged, logged_own, no_row}
+use Rattle.channels.proofs.OneRow.{one_row, RowsStep, RowStep}
 
--- ---- rows
-
--- a command for the metadata thread comes first
-pub record HasMetadata (left : List Command) : Type 0 where
-  pub command : Command
-  pub rest : List Command
-  pub is : left ≡ command ∷ rest
-  pub for : IsForMetadata command
-
--- a row without a claim asks for a command of the metadata thread's
-abbrev pub AsksUnclaimed : List Command → Option OpenClaim → Type 0
-AsksUnclaimed left None = HasMetadata left
-AsksUnclaimed left (Some claim) = Unit {0}
-
-abbrev pub IsAskedAt : List Command → Option OpenClaim → Stage → Type 0
-IsAskedAt left claim (Posted serial) = AsksUnclaimed left claim
-IsAskedAt left claim _ = Unit {0}
-
-abbrev pub IsAsked : Row → Type 0
-IsAsked row = IsAskedAt row.left row.claim row.stage
-
--- all commands are left, or all but the first
-abbrev pub IsLeftOf : List Command → List Command → Type 0
-IsLeftOf old new = (new ≡ old) ⊎ ((command : Command) × (old ≡ command ∷ new))
-
-pub record RowStep (old new : Row) : Type 0 where
-  pub ended : old.stage ≡ Ended → new ≡ old
-  pub left : IsLeftOf old.left new.left
-  pub asked : IsAsked old → IsAsked new
-
-pub stays : (row : Row) → RowStep row row
-stays row = record { ended = λ e. refl; left = inl refl; asked = λ is. is }
-
--- the stages of a row that hasn't ended
-abbrev IsLive : Stage → Type 0
-IsLive Ended = ⊥
-IsLive _ = Unit {0}
-
-live : (row : Row) (stage : Stage) → row.stage ≡ stage → IsLive stage → row.stage ≡ Ended → ⊥
-live row stage is alive e = subst IsLive (sym is ∙ e) alive
-
--- the first command is logged
-logged : (row : Row) (command : Command) (rest : List Command) (next : Stage) → row.left ≡ command ∷ rest
-    → (row.stage ≡ Ended → ⊥) → IsAskedAt rest None next
-    → RowStep row (record { left = rest; stage = next; claim = None })
-logged row command rest next left alive asked = record {
-  ended = λ e. absurd (alive e);
-  left = inr (command, left);
-  asked = λ is. asked;
-}
-
--- it is at another stage
-goes : (row : Row) (left : List Command) (next : Stage) (claim : Option OpenClaim) → left ≡ row.left
-    → (row.stage ≡ Ended → ⊥) → IsAskedAt left claim next
-    → RowStep row (record { left = left; stage = next; claim = claim })
-goes row left next claim same alive asked = record {
-  ended = λ e. absurd (alive e);
-  left = inl same;
-  asked = λ is. asked;
-}
-
--- a stage at which nothing is posted
-abbrev IsUnposted : Stage → Type 0
-IsUnposted stage = (left : List Command) (claim : Option OpenClaim) → IsAskedAt left claim stage
+-- ---- stages at which nothing is posted
 
 idle : IsUnposted Idle
 idle left claim = tt
@@ -113,47 +47,6 @@ copied zero left claim = tt
 copied (suc n) left claim = tt
 
 -- ---- turns
-
-module _ (p q : StoreState) where
-  -- each row takes a step
-  abbrev pub RowsStep : Type 0
-  RowsStep = (k : ℕ) → RowStep (p.rows k) (q.rows k)
-
-  no_row : (next : StoreState) → q ≡ next → next.rows ≡ p.rows → RowsStep
-  no_row next is rows k =
-      subst (λ (r : Rows). RowStep (p.rows k) (r k)) (sym (ap (λ (s : StoreState). s.rows) is ∙ rows))
-      (stays (p.rows k))
-
-  -- one row changes, of rows of which the others are as before
-  changed : (channel : ℕ) (rows : Rows) (now : Row) → ((k : ℕ) → k ≢ channel → rows k ≡ p.rows k)
-      → q.rows ≡ with_row rows channel now → RowStep (p.rows channel) now → RowsStep
-  changed channel rows now others is step k = elim (cases_eq k channel) [
-    | inl e ↦
-        let here : q.rows k ≡ now = ap (λ (r : Rows). r k) is ∙ row_here rows channel now k e in
-        subst (λ (r : Row). RowStep (p.rows k) r) (sym here) (subst (λ j. RowStep (p.rows j) now) (sym e) step)
-    | inr ne ↦
-        let there : q.rows k ≡ p.rows k =
-        ap (λ (r : Rows). r k) is ∙ row_other rows channel now k ne ∙ others k ne in
-        subst (λ (r : Row). RowStep (p.rows k) r) (sym there) (stays (p.rows k))
-  ]
-
-  one_row : (next : StoreState) → q ≡ next → (channel : ℕ) (now : Row) → next.rows ≡ with_row p.rows channel now
-      → RowStep (p.rows channel) now → RowsStep
-  one_row next is channel now rows step =
-      changed channel p.rows now (λ k ne. refl) (ap (λ (s : StoreState). s.rows) is ∙ rows) step
-
-  -- a claim is given back, and the write logged
-  logged_own : (mid : StoreState) → mid.rows ≡ p.rows → (row : ℕ) (stage next : Stage) (reply : Reply) (device : Device)
-      → LogsOwn mid row next reply device q → (p.rows row).stage ≡ stage → IsLive stage → IsUnposted next → RowsStep
-  logged_own mid rows row stage next reply device logs at alive plain =
-      let left : (p.rows row).left ≡ c.Write logs.volume logs.page logs.word ∷ logs.rest =
-      ap (λ (r : Rows). (r row).left) (sym rows) ∙ logs.left in
-      changed row (given_back mid row next).rows (record { left = logs.rest; stage = next; claim = None })
-      (λ k ne. row_other mid.rows row (record { left = (mid.rows row).left; stage = next; claim = None }) k ne
-      ∙ ap (λ (r : Rows). r k) rows)
-      (ap (λ (s : StoreState). s.rows) logs.next)
-      (logged (p.rows row) (c.Write logs.volume logs.page logs.word) logs.rest next left
-      (live (p.rows row) stage at alive) (plain logs.rest None))
 
 module _ (tells : Bool) (p q : StoreState) where
   -- a row that is known

@@ -31,7 +31,7 @@ use Rattle.channels.specs.Driving.{AreChannelsOf, driven, IsChannelOf, IsDriven,
 use Rattle.channels.specs.declared.driver.Driver.{Driver}
 use Rattle.channels.proofs.Acting.{held_acts, keeping_acts, sending_acts, turn_acts, with_messages}
 use Rattle.channels.proofs.Keeping.{of_channels, rows_step, still_own, still_served, turn_or_none}
-use Rattle.channels.proofs.RowSteps.{RowStep}
+use Rattle.channels.proofs.OneRow.{RowStep}
 
 -- ---- the same store
 

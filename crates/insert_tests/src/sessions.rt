@@ -51,18 +51,12 @@ impl Session {
             Ok(loaded) => loaded,
             Err((_, fault)) => return Err(Fail::new(fault)),
         };
-        match loaded.marked.next_from(0) {
-            Some(_) => {
+        match Plant::start(alloc, loaded, script) {
+            Ok((plant, right)) => Ok(Session { plant, right }),
+            Err(loaded) => {
                 let_go(loaded);
-                Err(Fail::new("marks are left"))
+                Err(Fail::new("no memory"))
             }
-            None => match Plant::start(alloc, loaded, script) {
-                Ok((plant, right)) => Ok(Session { plant, right }),
-                Err(loaded) => {
-                    let_go(loaded);
-                    Err(Fail::new("no memory"))
-                }
-            },
         }
     }
 

@@ -1,5 +1,5 @@
 -- The clusters of a blob that no other has: how they are found, and that they are freed where it is erased.
-use Rattle.std.proofs.Common.{◌≡◌, ◌≢◌, ◌↔◌, ◌⊎◌, ℕ, zero, suc, ◌+◌, ◌<◌, ◌≤◌, Bool, true, false, List, [], ◌∷◌, length, get_or, drop}
+use Rattle.std.proofs.Common.{◌≡◌, ◌≢◌, ◌↔◌, ◌⊎◌, ℕ, zero, suc, ◌+◌, ◌<◌, ◌≤◌, Bool, true, false, List, [], ◌∷◌, length, get_or, drop, replicate}
 use Rattle.std.proofs.Common.{Option, Some, None, refl, sym, ap, ◌∙◌, subst, inl, inr, arith, drop-cons, add-one}
 use Rattle.std.proofs.lemmas.Bool.{both_ways, cases_Bool, cases_eq, cases_lt, eq-eqb, ne_eqb}
 use Rattle.std.proofs.lemmas.List.{length-set}
@@ -18,7 +18,7 @@ use Rattle.store_model.specs.Steady.{AreStored, IsStored}
 use Rattle.store_model.proofs.Inside.{inside_slot}
 use Rattle.store_model.proofs.Sets.{all_set_in, all_set_out, among_first, among_later, AllBelow}
 use Rattle.store_model.proofs.WithEntry.{given_here, given_elsewhere}
-use Rattle.metadata_turns.specs.Alone.{IsMappedBeside, IsMissing}
+use Rattle.metadata_turns.specs.Alone.{HaveRoom, IsMappedBeside, IsMissing}
 use Rattle.metadata_turns.proofs.CutClusters.{among_slots, in_slot, none_behind}
 
 -- ---- a set with the clusters of a map
@@ -207,6 +207,18 @@ adds_all old slots i now le a =
 abbrev pub HasBeside : ℕ → Metas → ℕ → List Bool → Type 0
 HasBeside end base head bits = (c : ℕ) → (is_in bits c ≡ true) ↔ IsMappedBeside end base head c
 
+none_in : (n c : ℕ) → is_in (replicate n false) c ≡ false
+none_in zero c = refl
+none_in (suc n) zero = refl
+none_in (suc n) (suc c) = none_in n c
+
+-- at the begin it has none
+pub beside_start : (base : Metas) (head n : ℕ) → HasBeside 0 base head (replicate n false)
+beside_start base head n c = (
+  λ set. absurd (both_ways (is_in (replicate n false) c) (none_in n c) set),
+  λ x. absurd (let low = x.low in omega (arith, low)),
+)
+
 module _ (base : Metas) (head end : ℕ) (bits : List Bool) (has : HasBeside end base head bits) where
   further : (c : ℕ) → IsMappedBeside end base head c → IsMappedBeside (end + 1) base head c
   further c x = record {
@@ -266,3 +278,14 @@ module _ (base : Metas) (head end : ℕ) (bits : List Bool) (has : HasBeside end
           | inr differs ↦ inl ((has c).1 (before c x differs))
         ]),
       )
+
+  -- whatever is at the next head
+  pub beside_next : end ≢ head → HaveRoom base (length bits) → (after : List Bool)
+      → ((m : Meta) → base end ≡ Some m → after ≡ all_set bits (clusters_of m.map) true)
+      → (base end ≡ None → after ≡ bits) → HasBeside (end + 1) base head after
+  beside_next ne room after some none = by (base end) refl
+    where
+      by : (o : Option Meta) → base end ≡ o → HasBeside (end + 1) base head after
+      by None is = subst (HasBeside (end + 1) base head) (sym (none is)) (beside_none is)
+      by (Some m) is = subst (HasBeside (end + 1) base head) (sym (some m is))
+          (beside_more m is ne (λ c among. room end m c is among))

@@ -39,6 +39,7 @@ use Rattle.metadata_turns.proofs.AtWork.{page_of}
 use Rattle.running_store.proofs.PlainFacts.{got}
 use Rattle.running_store.proofs.Cleared.{among_get}
 use Rattle.metadata_turns.proofs.JobPlanned.{IsReady}
+use Rattle.metadata_turns.proofs.JobLaid.{laid}
 use Rattle.metadata_turns.proofs.JobPlaces.{once_each, places_from}
 
 module _ (p : StoreState) (running : IsRunning p) (runs : p.stopped ≡ None) (row : ℕ) (claim : OpenClaim)

@@ -1,5 +1,5 @@
 -- New metadata of a blob that is there, laid on its head and on pages that are taken for it: what a job begins with.
-use Rattle.std.proofs.Common.{◌≡◌, ℕ, ◌<◌, ◌^◌, true, false, All, List, [], ◌∷◌, get_or}
+use Rattle.std.proofs.Common.{◌≡◌, ℕ, ◌<◌, ◌^◌, Bool, true, false, All, List, [], ◌∷◌, get_or}
 use Rattle.std.proofs.Common.{drop, Some, None, refl, sym, ◌∙◌, ap, subst, arith, inl, inr}
 use Rattle.std.specs.Ordering.{nat_cmp}
 use Rattle.std.specs.FinMap as map

@@ -33,28 +33,49 @@ use Rattle.running_store.specs.declared.job.Serves.TheVariants as whom
 use Rattle.running_store.proofs.Maps.{insert_given, remove_given}
 use Rattle.metadata_turns.specs.Alone.{HaveRoom, IsMappedBeside, IsMissing}
 use Rattle.metadata_turns.specs.Begins.{no_effects, planned_with, IsPrepared}
-use Rattle.metadata_turns.specs.Repairs.{IsDue}
+use Rattle.metadata_turns.specs.Repairs.{IsDue, IsLackForRepair, RepairsOrNot}
 use Rattle.metadata_turns.specs.declared.preparing.Prepared.{Prepared}
+use Rattle.metadata_turns.specs.declared.repairing.RepairTurn.{RepairTurn}
+use Rattle.metadata_turns.specs.declared.repairing.RepairTurn.TheVariants as repair
 use Rattle.metadata_turns.proofs.ClustersAlone.{erased_moves, moves_same}
 use Rattle.metadata_turns.proofs.CutClusters.{in_slot}
 use Rattle.metadata_turns.proofs.JobLaid.{laid}
 
-module _ {D : Type 0} (d : Ghosts D) (p : StoreView D) (running : IsRunning (state_of d p)) (runs : p.stopped ≡ None) where
+-- what a repair lacks is what its begin comes to
+pub lack_or_not : {D : Type 0} (d : Ghosts D) (p q : StoreView D) (head : ℕ) (turn : RepairTurn)
+    → IsDue p.super.md_len (state_of d p).base head → IsLackForRepair (state_of d p) head turn → q ≡ p
+    → RepairsOrNot d p q turn
+lack_or_not d p q head (repair.NoPage at has wants) due lack same = (lack, same)
+lack_or_not d p q head repair.Memory due lack same = ((head, due), same)
+lack_or_not d p q head _ due lack same = absurd lack
+
+-- a blob that is there
+pub some_there : (o : Option Meta) → IsSome o → (m : Meta) × (o ≡ Some m)
+some_there None bad = absurd (cc bad)
+some_there (Some m) some = (m, refl)
+
+-- the store can hold each blob that is there,
+stored_base : (p : StoreState) → IsRunning p → AreStored p.super p.base
+stored_base p running = subst (λ (y : Super). AreStored y p.base) (sym running.facts.super) running.facts.stored
+
+-- so that its head is in the region
+pub heads_below : (p : StoreState) → IsRunning p → HasHeadsBelow p.super.md_len p.base
+heads_below p running head some = by (p.base head) refl some
+  where
+    by : (o : Option Meta) → p.base head ≡ o → IsSome o → head < p.super.md_len
+    by None is some = absurd (cc some)
+    by (Some m) is some = (stored_base p running head m is).low
+
+module _ {D : Type 0} (d : Ghosts D) (p : StoreView D) (running : IsRunning (state_of d p))
+    (runs : p.stopped ≡ None) where
   abbrev s : StoreState
   s = state_of d p
 
   well : RunsWell running.first s
   well = running.facts.well runs
 
-  pub stored : AreStored s.super s.base
-  stored = subst (λ (y : Super). AreStored y s.base) (sym running.facts.super) running.facts.stored
-
-  pub heads_below : HasHeadsBelow s.super.md_len s.base
-  heads_below head some = by (s.base head) refl some
-    where
-      by : (o : Option Meta) → s.base head ≡ o → IsSome o → head < s.super.md_len
-      by None is some = absurd (cc some)
-      by (Some m) is some = (stored head m is).low
+  stored : AreStored s.super s.base
+  stored = stored_base s running
 
   -- all clusters of blobs are among those that there are
   pub room : HaveRoom s.base (length p.clusters)
@@ -67,12 +88,12 @@ module _ {D : Type 0} (d : Ghosts D) (p : StoreView D) (running : IsRunning (sta
     -- the repair that is due leaves what the metadata resolves to as it is
     unseen : resolved (with_option s.base head (resolved s.base head)) ≡ resolved s.base
     unseen = fun_ext (λ h. ap (λ l. resolved (after s.base (take 1 l)) h) (sym due.1)
-        ∙ repaired_resolves s.super.md_len s.base heads_below 1 h)
+        ∙ repaired_resolves s.super.md_len s.base (heads_below s running) 1 h)
 
     -- ---- a blob that is kept
 
     module _ (are : AreResolved p.metas p.marked) (new : Meta) (there : map.get p.metas head ≡ Some new) where
-      given : resolved s.base head ≡ Some new
+      pub given : resolved s.base head ≡ Some new
       given = ap (λ (f : Metas). f head) are.resolves ∙ there
 
       pub stored_new : IsStored s.super head new

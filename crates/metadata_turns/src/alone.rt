@@ -28,7 +28,7 @@ pub(crate) fn base_at<D>(running: &Running<D>, head: u32) -> Option<&Meta>
 }
 
 /// Adds the clusters of a map to a set.
-fn add(clusters: &mut Bits, map: &SlotMap)
+pub fn add_clusters(clusters: &mut Bits, map: &SlotMap)
     requires { (c : ℕ) → is_among c (clusters_of map.now) ≡ true → c < length clusters.old }
     ensures { clusters.new ≡ all_set clusters.old (clusters_of map.now) true }
 {
@@ -48,7 +48,7 @@ fn add_at<D>(clusters: &mut Bits, running: &Running<D>, head: u32)
     ensures none { base_of running.now.metas running.now.marked head ≡ None → clusters.new ≡ clusters.old }
 {
     if let Some(meta) = base_at(running, head) {
-        add(clusters, &meta.map);
+        add_clusters(clusters, &meta.map);
     }
 }
 

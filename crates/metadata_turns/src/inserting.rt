@@ -11,7 +11,7 @@ ghost use Rattle.store_model.specs.Cases as kind;
 ghost use Rattle.store_model.specs.Claiming.{CanInsert};
 ghost use Rattle.store_model.specs.Inserting.{with_slot};
 ghost use Rattle.metadata_turns.specs.declared.inserting.InsertTurn.TheVariants.{Logged};
-ghost use Rattle.metadata_turns.specs.Inserts.{insert_job, no_effects, row_inserting, Fills, HoldsPosted, InsertsOrNot};
+ghost use Rattle.metadata_turns.specs.Inserts.{insert_job, row_inserting, Fills, HoldsPosted, InsertsOrNot};
 ghost use Rattle.metadata_turns.specs.OwnWrites.{AreOwn};
 ghost use Rattle.running_store.specs.Running.{view_of, InOrder};
 ghost use Rattle.running_store.specs.Stages.{claim_seen};

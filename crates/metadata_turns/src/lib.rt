@@ -12,6 +12,7 @@ mod preparing;
 mod repairing;
 mod telling;
 
+pub use alone::add_clusters;
 pub use answering::{answer_or_halt, live_at};
 pub use begin::{BeginTurn, begin_or_halt};
 pub use inserting::{InsertTurn, begin_insert_or_halt};

@@ -1,6 +1,7 @@
 //! The begin of a repair: what recovery found is made good, one blob at a time.
 
-ghost use Rattle.std.specs.Prelude.{◌≡◌, ◌<◌, [], None, Some, IfErr, IfNone, IfOk, IfSome, IsSome, OnErr};
+ghost use Rattle.std.specs.Prelude.{◌≡◌, ◌↔◌, ◌<◌, [], None, Some, IfErr, IfNone, IfOk, IfSome, IsSome, IsTrue};
+ghost use Rattle.std.specs.Prelude.{OnErr};
 ghost use Rattle.std.specs.FinMap as map;
 ghost use Rattle.blob_meta.specs.Repairs.{repairs};
 ghost use Rattle.metadata_turns.specs.Repairs.{with_repair, IsDue, IsLackForRepair, RepairsOrNot};
@@ -79,11 +80,18 @@ fn due_head<D: PageDisk>(running: &Running<D>) -> Option<u32>
 {
     let first = running.marked.next_from(0)?;
     for head in first..running.sup.md_len {
-        if running.marked.get(head).is_some() && running.metas.get(head).is_some() {
+        if is_kept(running, head) {
             return Some(head);
         }
     }
     Some(first)
+}
+
+/// Whether a blob has a mark, and is kept.
+fn is_kept<D>(running: &Running<D>, head: u32) -> bool
+    ensures { IsTrue result ↔ (IsSome (map.get running.now.marked head) × IsSome (map.get running.now.metas head)) }
+{
+    running.marked.get(head).is_some() && running.metas.get(head).is_some()
 }
 
 /// The job of the repair that is due, of the blob at this head, once its pages are taken. `Err` says what it lacks, and

@@ -100,8 +100,8 @@ pub(crate) fn fail_job<D: PageDisk>(running: &mut Running<D>, serves: Serves) ->
     }
 }
 
-/// The store stops behind a replacement, or in a repair: a command has its entry, and the write for which a job inserts is logged as
-/// failed.
+/// The store stops behind a replacement, or in a repair: a command has its entry, and the write for which a job inserts
+/// is logged as failed.
 pub(crate) fn break_off<D: PageDisk>(running: &mut Running<D>, serves: Serves) -> JobTurn
     requires order { InOrder D.PageDisk running.old }
     requires taken { running.old.job ≡ None }

@@ -16,7 +16,8 @@ use Rattle.run_work.specs.Reading.{asks_metadata}
 use Rattle.run_work.specs.RunState.{CommandInRun, RunSizes, RunState}
 use Rattle.run_work.specs.ServingMoves.{TakesOut, the_message}
 use Rattle.run_work.specs.Steps.{by_answer, by_begin_insert, by_begin_job, by_commit, by_drop, by_fail, by_insert}
-use Rattle.run_work.specs.Steps.{by_lose_insert, by_page, by_win, JobStep, kind_of, MessageStep, MoveKind, OneMove}
+use Rattle.run_work.specs.Steps.{by_lose_insert, by_page, by_replace, by_win, JobStep, kind_of, MessageStep, MoveKind}
+use Rattle.run_work.specs.Steps.{OneMove}
 use Rattle.run_moves.specs.DriverLaws.{IsOfChannels}
 use Rattle.run_moves.specs.DriverSteps.{JobTurn, ServingTurn}
 use Rattle.run_moves.specs.DriverSteps as turn
@@ -124,6 +125,16 @@ module _ (s : Super) (first : Volumes) (script : ℕ → List Command) (channels
         | inl x ↦ failed x.0 x.1
         | inr x ↦ record { move = by_drop x; due = refl }
       ]
+      job_moves (turn.replaces_more t) = record {
+        move = by_replace ((replacing_turns p q d).replaces_more first (has.well t.running.runs)
+            (later.well (ap (λ (v : StoreState). v.stopped) t.next ∙ t.running.runs)) told t);
+        due = refl;
+      }
+      job_moves (turn.more_fails t) = failed t.served.channel ((failing_turns p q d).more_fails t)
+      job_moves (turn.more_breaks_off t) = record {
+        move = by_drop ((failing_turns p q d).more_breaks_off t);
+        due = refl;
+      }
       job_moves (turn.inserts t) =
           let begins = (plain.inserting t.running.job t.inserting.row t.running.is t.inserting.serves).1 in
           record {

@@ -8,6 +8,7 @@ use Rattle.store_model.specs.Cases.Begin.{Begins}
 use Rattle.store_model.specs.Cases.BeginInsert.{BeginsInsert}
 use Rattle.store_model.specs.Cases.BreakDown.{BreaksDown}
 use Rattle.store_model.specs.Cases.BreakOff.{BreaksOff}
+use Rattle.store_model.specs.Cases.BreakOffMore.{MoreBreaksOff}
 use Rattle.store_model.specs.Cases.Claim.{Claims}
 use Rattle.store_model.specs.Cases.Commit.{Commits}
 use Rattle.store_model.specs.Cases.Copy.{Copies}
@@ -16,6 +17,7 @@ use Rattle.store_model.specs.Cases.CopyNotRead.{CopyNotRead}
 use Rattle.store_model.specs.Cases.End.{Ends}
 use Rattle.store_model.specs.Cases.Erase.{Erases}
 use Rattle.store_model.specs.Cases.Fail.{Fails}
+use Rattle.store_model.specs.Cases.FailMore.{MoreFails}
 use Rattle.store_model.specs.Cases.FindEmpty.{FindsEmpty}
 use Rattle.store_model.specs.Cases.FindFilled.{FindsFilled}
 use Rattle.store_model.specs.Cases.Flush.{Flushes}
@@ -35,6 +37,7 @@ use Rattle.store_model.specs.Cases.Read.{Reads}
 use Rattle.store_model.specs.Cases.Refuse.{Refuses}
 use Rattle.store_model.specs.Cases.RefuseClaim.{RefusesClaim}
 use Rattle.store_model.specs.Cases.RefuseWrite.{RefusesWrite}
+use Rattle.store_model.specs.Cases.ReplaceMore.{ReplacesMore}
 use Rattle.store_model.specs.Cases.Send.{Sends}
 use Rattle.store_model.specs.Cases.Settle.{Settles}
 use Rattle.store_model.specs.Cases.WriteFresh.{WritesFresh}
@@ -121,6 +124,9 @@ module _ (told : Bool) where
       fails : Fails p q → JobTurn
       breaks_off : BreaksOff p q → JobTurn
       breaks_down : BreaksDown p q → JobTurn
+      replaces_more : ReplacesMore told p q → JobTurn
+      more_fails : MoreFails p q → JobTurn
+      more_breaks_off : MoreBreaksOff p q → JobTurn
       inserts : Inserts told p q → JobTurn
       insert_ends : InsertEnds told p q → JobTurn
       insert_fails : InsertFails p q → JobTurn

@@ -159,9 +159,6 @@ plan_laws d = record {
       asks_read_only (state_of d p) running runs p.metas are.resolves (unmarked_base p.metas p.marked are clean) volume
       head old live
       blob.there blob.is_live meant cause;
-  read_only = λ p volume head old live running runs are blob meant cause.
-      asks_read_only (state_of d p) running runs p.metas are.resolves (base_is d p running are) volume head old live
-      blob.there blob.is_live meant cause;
   create = λ p name slots thick uuid head xattrs running runs are is_name next unrefused named.
       asks_create running.store running.first running.script (state_of d p) running.facts (running.facts.well runs)
       p.metas (shows_metas (state_of d p) running runs p.metas are.resolves) name slots thick uuid head xattrs is_name

@@ -1,6 +1,4 @@
 -- What the loops of a start have made so far.
-use Rattle.store_model.proofs.Resolved.{steady_resolved}
-use Rattle.blob_meta.specs.Resolving.{IsLawful, resolved}
 use Rattle.std.proofs.Common.{◌≡◌, ℕ, ◌+◌, ◌<◌, ◌≤◌, Bool, true, false, cond, List, [], ◌∷◌, ◌++◌, length, Option, Some}
 use Rattle.std.proofs.Common.{None, refl, sym, ◌∙◌, ap, subst, ◌⊎◌, arith, inl, inr, length-append, ◌≢◌}
 use Rattle.std.specs.Prelude.{if◌then◌else◌, is_some, IsSome, nat_lt, slice_index_or, slice_set}
@@ -14,24 +12,17 @@ use Rattle.store_model.specs.Guarding.{AreGenerations}
 use Rattle.store_model.proofs.Guarding.{one_more_numbered}
 use Rattle.std.proofs.lemmas.Bool.{cases_eq, cases_lt, le-ltb, lt-ltb}
 use Rattle.std.proofs.lemmas.List.{get_or_append_left, get_or_past, get_or_push, get_or-set_other}
-use Rattle.page_disk.specs.declared.disk.PageDisk.{Ghosts}
-use Rattle.super_block.specs.declared.page.Super.{Super}
 use Rattle.volume_model.specs.Xattrs.{Xattrs}
 use Rattle.volume_model.specs.declared.command.Command.{Command}
 use Rattle.blob_meta.specs.declared.meta.Meta.{Meta}
 use Rattle.io_freeze.specs.Guards.{GuardsState, no_guards, renewed}
 use Rattle.store_model.specs.Maps.{Map, Metas, with_entry}
-use Rattle.store_model.specs.StateLaws.{IsLoadedWith}
-use Rattle.store_model.specs.StoreState.{Opens, StoreState}
-use Rattle.store_model.specs.RunInvariant.{AreNamed, AreSteady}
 use Rattle.store_model.specs.Rows.{Row, Idle, Ended}
 use Rattle.store_model.proofs.WithEntry.{given_here, given_elsewhere}
-use Rattle.running_store.specs.declared.loaded.Loaded.{Loaded}
-use Rattle.store_core.specs.Opening.{AreGuardsAtStart, AreRows, IsLiveAtStart, opened_with, row_at_start}
-use Rattle.running_store.specs.StoreView.{base_of, rows_of, state_of, AreResolved}
-use Rattle.running_store.specs.LoadedWhole.{IsWhole}
+use Rattle.store_core.specs.Opening.{AreGuardsAtStart, AreRows, IsLiveAtStart, row_at_start}
+use Rattle.store_core.specs.Removing.{those_below}
+use Rattle.running_store.specs.StoreView.{rows_of}
 use Rattle.running_store.proofs.Maps.{insert_given}
-use Rattle.running_store.proofs.Resolved.{none_aside}
 
 -- the live attributes of the blobs whose heads are below this
 pub record LiveBelow (metas : map.FinMap nat_cmp Meta) (live : map.FinMap nat_cmp Xattrs) (end : ℕ) : Type 0 where
@@ -70,10 +61,6 @@ module _ (metas : map.FinMap nat_cmp Meta) (live : map.FinMap nat_cmp Xattrs) (e
 pub live_nothing : (metas : map.FinMap nat_cmp Meta) → LiveBelow metas map.empty 0
 live_nothing metas = record { below = λ h lt. absurd (omega (arith, lt)); none = λ h ge. map.get-empty nat_cmp h }
 
--- the blobs whose heads are below this
-abbrev pub those_below : Metas → ℕ → Metas
-those_below metas end h = if nat_lt h end then metas h else None
-
 module _ (metas : Metas) (end : ℕ) where
   pub below_in : (h : ℕ) → h < end → those_below metas end h ≡ metas h
   below_in h lt = rw (lt-ltb h end lt) refl
@@ -82,16 +69,16 @@ module _ (metas : Metas) (end : ℕ) where
   below_past h ge = rw (le-ltb h end ge) refl
 
 module _ (metas : Metas) (end : ℕ) where
-  next_here : those_below metas (end + 1) end ≡ metas end
+  pub next_here : those_below metas (end + 1) end ≡ metas end
   next_here = below_in metas (end + 1) end (omega arith)
 
-  next_other : (h : ℕ) → h ≢ end → those_below metas (end + 1) h ≡ those_below metas end h
+  pub next_other : (h : ℕ) → h ≢ end → those_below metas (end + 1) h ≡ those_below metas end h
   next_other h ne = elim (cases_lt h end) [
     | inl lt ↦ below_in metas (end + 1) h (omega (arith, lt)) ∙ sym (below_in metas end h lt)
     | inr ge ↦ below_past metas (end + 1) h (omega (arith, ge, ne)) ∙ sym (below_past metas end h ge)
   ]
 
-  next_none : metas end ≡ None → those_below metas (end + 1) ≡ those_below metas end
+  pub next_none : metas end ≡ None → those_below metas (end + 1) ≡ those_below metas end
   next_none none = fun_ext (λ h. elim (cases_eq h end) [
     | inl e ↦ ap (those_below metas (end + 1)) e ∙ next_here ∙ none ∙ sym (below_past metas end end (omega arith))
         ∙ ap (those_below metas end) (sym e)
@@ -99,15 +86,15 @@ module _ (metas : Metas) (end : ℕ) where
   ])
 
 -- the guards of the blobs whose heads are below this
-pub record GuardsBelow (metas : map.FinMap nat_cmp Meta) (guards : GuardsState) (heads end : ℕ) : Type 0 where
+pub record GuardsBelow (metas : Metas) (guards : GuardsState) (heads end : ℕ) : Type 0 where
   pub room : heads ≤ guards.room
   pub few : map.len guards.generations ≤ end
   pub drawn : guards.drawn ≤ end
   pub none : (h : ℕ) → end ≤ h → map.get guards.generations h ≡ None
-  pub generations : AreGenerations (those_below (map.get metas) end) (map.get guards.generations) guards.drawn
+  pub generations : AreGenerations (those_below metas end) (map.get guards.generations) guards.drawn
   pub none_frozen : (h : ℕ) → set.contains guards.frozen h ≡ false
 
-pub guards_nothing : (metas : map.FinMap nat_cmp Meta) (heads room : ℕ) → heads ≤ room
+pub guards_nothing : (metas : Metas) (heads room : ℕ) → heads ≤ room
     → GuardsBelow metas (no_guards room) heads 0
 guards_nothing metas heads room le = record {
   room = le;
@@ -115,23 +102,23 @@ guards_nothing metas heads room le = record {
   drawn = omega arith;
   none = λ h ge. map.get-empty nat_cmp h;
   generations = record {
-    each = λ h. ap is_some (map.get-empty nat_cmp h) ∙ sym (ap is_some (below_past (map.get metas) 0 h (omega arith)));
+    each = λ h. ap is_some (map.get-empty nat_cmp h) ∙ sym (ap is_some (below_past metas 0 h (omega arith)));
     low = λ h number is. absurd (let bad = sym (map.get-empty nat_cmp h) ∙ is in cc bad);
     differ = λ h k number is too. absurd (let bad = sym (map.get-empty nat_cmp h) ∙ is in cc bad);
   };
   none_frozen = λ h. set.contains-empty nat_cmp h;
 }
 
-module _ (metas : map.FinMap nat_cmp Meta) (guards : GuardsState) (room end : ℕ)
+module _ (metas : Metas) (guards : GuardsState) (room end : ℕ)
     (so_far : GuardsBelow metas guards room end) where
-  pub guards_same : map.get metas end ≡ None → GuardsBelow metas guards room (end + 1)
+  pub guards_same : metas end ≡ None → GuardsBelow metas guards room (end + 1)
   guards_same is = record {
     room = so_far.room;
     few = omega (arith, so_far.few);
     drawn = omega (arith, so_far.drawn);
     none = λ h ge. so_far.none h (omega (arith, ge));
     generations = subst (λ (base : Metas). AreGenerations base (map.get guards.generations) guards.drawn)
-        (sym (next_none (map.get metas) end is)) so_far.generations;
+        (sym (next_none metas end is)) so_far.generations;
     none_frozen = so_far.none_frozen;
   }
 
@@ -139,7 +126,7 @@ module _ (metas : map.FinMap nat_cmp Meta) (guards : GuardsState) (room end : �
   more true n e le = omega (arith, e, le)
   more false n e le = omega (arith, e, le)
 
-  pub guards_more : IsSome (map.get metas end) → GuardsBelow metas (renewed guards end) room (end + 1)
+  pub guards_more : IsSome (metas end) → GuardsBelow metas (renewed guards end) room (end + 1)
   guards_more some = record {
     room = so_far.room;
     few = more (map.contains_key guards.generations end) (map.len guards.generations)
@@ -149,11 +136,11 @@ module _ (metas : map.FinMap nat_cmp Meta) (guards : GuardsState) (room end : �
         ∙ given_elsewhere (map.get guards.generations) end (guards.drawn + 1) h (λ e. omega (arith, e, ge))
         ∙ so_far.none h (omega (arith, ge));
     generations =
-        subst (λ (g : Map ℕ). AreGenerations (those_below (map.get metas) (end + 1)) g (guards.drawn + 1)) (sym given)
-        (one_more_numbered (those_below (map.get metas) end) (those_below (map.get metas) (end + 1)) end
+        subst (λ (g : Map ℕ). AreGenerations (those_below metas (end + 1)) g (guards.drawn + 1)) (sym given)
+        (one_more_numbered (those_below metas end) (those_below metas (end + 1)) end
         (map.get guards.generations) guards.drawn
-        (subst IsSome (sym (next_here (map.get metas) end)) some)
-        (λ h ne. ap is_some (next_other (map.get metas) end h ne)) so_far.generations);
+        (subst IsSome (sym (next_here metas end)) some)
+        (λ h ne. ap is_some (next_other metas end h ne)) so_far.generations);
     none_frozen = so_far.none_frozen;
   }
     where
@@ -161,17 +148,17 @@ module _ (metas : map.FinMap nat_cmp Meta) (guards : GuardsState) (room end : �
           ≡ with_entry (map.get guards.generations) end (guards.drawn + 1)
       given = insert_given guards.generations end (guards.drawn + 1)
 
-  pub guards_all : ((h : ℕ) → end ≤ h → map.get metas h ≡ None) → AreGuardsAtStart metas guards
+  pub guards_all : ((h : ℕ) → end ≤ h → metas h ≡ None) → AreGuardsAtStart metas guards
   guards_all past = record {
     generations =
         subst (λ (base : Metas). AreGenerations base (map.get guards.generations) guards.drawn) all so_far.generations;
     none_frozen = so_far.none_frozen;
   }
     where
-      all : those_below (map.get metas) end ≡ map.get metas
+      all : those_below metas end ≡ metas
       all = fun_ext (λ h. elim (cases_lt h end) [
-        | inl lt ↦ below_in (map.get metas) end h lt
-        | inr ge ↦ below_past (map.get metas) end h ge ∙ sym (past h ge)
+        | inl lt ↦ below_in metas end h lt
+        | inr ge ↦ below_past metas end h ge ∙ sym (past h ge)
       ])
 
 -- the rows of the channels below this, and the script that is left
@@ -243,66 +230,3 @@ module _ (script : List (List Command)) (rows : List Row) (are : AreRows script 
     | inr high ↦ ap (λ (r : Row). r.claim) (get_or_past rows channel (record { left = []; stage = Ended; claim = None })
         (subst (λ n. n ≤ channel) (sym are.sixteen) high))
   ]
-
--- what was loaded is what a store begins with
-module _ {D : Type 0} (d : Ghosts D) (loaded : Loaded D) (live : map.FinMap nat_cmp Xattrs) (guards : GuardsState)
-    (rows : List Row) (guarded : AreGuardsAtStart loaded.metas guards) where
-  resolved_is : IsWhole loaded → resolved (map.get loaded.metas) ≡ map.get loaded.metas
-  resolved_is whole = steady_resolved loaded.sup (map.get loaded.metas) whole.steady
-
-  -- no blob has a mark
-  pub base_at_start : IsWhole loaded → base_of loaded.metas loaded.marked ≡ map.get loaded.metas
-  base_at_start whole = none_aside loaded.metas loaded.marked whole.none_marked
-
-  pub resolved_at_start : IsWhole loaded → AreResolved loaded.metas loaded.marked
-  resolved_at_start whole = record {
-    marks = λ h m is. absurd (let none : map.get loaded.marked h ≡ None =
-        ap (λ (marked : map.FinMap nat_cmp Meta). map.get marked h) whole.none_marked ∙ map.get-empty nat_cmp h in
-        cc (none, is));
-    resolves = ap resolved (base_at_start whole) ∙ resolved_is whole;
-  }
-
-  -- the state at the start, where the device says this metadata
-  abbrev with_base : Metas → StoreState
-  with_base base = record (state_of d (opened_with d loaded live guards rows)) { base = base }
-
-  pub is_loaded_with : IsWhole loaded → IsLiveAtStart loaded.metas live
-      → IsLoadedWith loaded.sup (state_of d (opened_with d loaded live guards rows))
-  is_loaded_with whole is =
-      subst (λ (base : Metas). IsLoadedWith loaded.sup (with_base base)) (sym (base_at_start whole)) (record {
-        super = refl;
-        stored = λ head m there. (whole.steady head m there).stored;
-        named = subst AreNamed (sym (resolved_is whole)) (λ head m there. (whole.steady head m there).named);
-        few = whole.lawful.few;
-        lawful = subst (IsLawful loaded.sup.md_len) (sym (resolved_is whole)) whole.lawful;
-        chains = whole.chains;
-        pages = whole.masks.pages;
-        clusters = whole.masks.clusters;
-        live = λ head m some. is head ∙ ap (option_map (λ (x : Meta). x.xattrs))
-            (sym (ap (λ (x : Map Meta). x head) (resolved_is whole)) ∙ some);
-        no_live = λ head none. is head ∙ ap (option_map (λ (x : Meta). x.xattrs))
-            (sym (ap (λ (x : Map Meta). x head) (resolved_is whole)) ∙ none);
-        generations = guarded.generations;
-      })
-
-  pub it_opens : (script : List (List Command)) → AreRows script rows
-      → Opens (state_of d (opened_with d loaded live guards rows))
-  it_opens script are = record {
-    waits = rows_wait script rows are;
-    unclaimed = rows_unclaimed script rows are;
-    log = refl;
-    marks = refl;
-    filling = refl;
-    job = refl;
-    frozen = guarded.none_frozen;
-    stopped = refl;
-  }
-
-none_by : (s : Super) (metas : Metas) → AreSteady s metas → (head : ℕ) → s.md_len ≤ head → (found : Option Meta)
-    → metas head ≡ found → metas head ≡ None
-none_by s metas all head past None is = is
-none_by s metas all head past (Some m) is = absurd (omega (arith, (all head m is).stored.low, past))
-
--- no blob's head lies past the metadata pages
-pub none_past : (s : Super) (metas : Metas) → AreSteady s metas → (head : ℕ) → s.md_len ≤ head → metas head ≡ None
-none_past s metas all head past = none_by s metas all head past (metas head) refl

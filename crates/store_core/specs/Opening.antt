@@ -1,5 +1,5 @@
 -- How a running store begins.
-use Rattle.std.specs.Prelude.{◌≡◌, ℕ, ◌+◌, ◌<◌, ◌≤◌, ◌^◌, nat_lt, vec_capacity, false, if◌then◌else◌, List, [], ◌∷◌}
+use Rattle.std.specs.Prelude.{◌≡◌, ℕ, ◌+◌, ◌<◌, ◌≤◌, ◌^◌, nat_lt, vec_capacity, Bool, false, if◌then◌else◌, List, [], ◌∷◌}
 use Rattle.std.specs.Prelude.{length, None, slice_index_or}
 use Rattle.std.specs.Option.{option_map}
 use Rattle.std.specs.Ordering.{nat_cmp}
@@ -11,19 +11,21 @@ use Rattle.volume_model.specs.declared.command.Command.{Command}
 use Rattle.blob_meta.specs.declared.meta.Meta.{Meta}
 use Rattle.io_freeze.specs.Guards.{GuardsState}
 use Rattle.store_model.specs.Guarding.{AreGenerations}
+use Rattle.store_model.specs.Maps.{Metas}
+use Rattle.store_model.specs.Places.{Unclaimed, UsedClusters, UsedPages}
 use Rattle.store_model.specs.Rows.{Row, Idle, Ended}
 use Rattle.running_store.specs.declared.loaded.Loaded.{Loaded}
 use Rattle.store_core.specs.declared.starting.AtStart.{AtStart}
 use Rattle.running_store.specs.Running.{left_in}
-use Rattle.running_store.specs.StoreView.{StoreView, rows_of}
+use Rattle.running_store.specs.StoreView.{StoreView, base_of, rows_of}
 
 -- each blob's attributes are live as they are synced
 abbrev pub IsLiveAtStart : map.FinMap nat_cmp Meta → map.FinMap nat_cmp Xattrs → Type 0
 IsLiveAtStart metas live = (head : ℕ) → map.get live head ≡ option_map (λ m. m.xattrs) (map.get metas head)
 
 -- each blob has a generation of its own, and none is frozen
-pub record AreGuardsAtStart (metas : map.FinMap nat_cmp Meta) (guards : GuardsState) : Type 0 where
-  pub generations : AreGenerations (map.get metas) (map.get guards.generations) guards.drawn
+pub record AreGuardsAtStart (base : Metas) (guards : GuardsState) : Type 0 where
+  pub generations : AreGenerations base (map.get guards.generations) guards.drawn
   pub none_frozen : (head : ℕ) → set.contains guards.frozen head ≡ false
 
 -- the row of a channel of the script, or of a number past its channels
@@ -40,19 +42,19 @@ pub record AreRows (script : List (List Command)) (rows : List Row) : Type 0 whe
   pub each : (channel : ℕ) → channel < 16 → rows_of rows channel ≡ row_at_start script channels channel
   pub above : (channel : ℕ) → nat_lt channel channels ≡ false → slice_index_or script channel [] ≡ []
 
--- the state of a store that was loaded so, with these live attributes, guards and rows, of which nothing is posted or
--- logged
+-- the state of a store that was loaded so, with these live attributes, guards and rows, and these pages and clusters in
+-- use, of which nothing is posted or logged
 abbrev pub opened_with : {D : Type 0} → Ghosts D → Loaded D → map.FinMap nat_cmp Xattrs → GuardsState → List Row
-    → StoreView D
-opened_with d loaded live guards rows = record {
+    → List Bool → List Bool → StoreView D
+opened_with d loaded live guards rows pages clusters = record {
   disk = loaded.disk;
   super = loaded.sup;
   metas = loaded.metas;
   marked = loaded.marked;
   chains = loaded.chains;
   live = live;
-  pages = loaded.masks.pages;
-  clusters = loaded.masks.clusters;
+  pages = pages;
+  clusters = clusters;
   rows = rows;
   job = None;
   guards = guards;
@@ -62,19 +64,23 @@ opened_with d loaded live guards rows = record {
   stopped = None;
 }
 
--- A store as it was loaded, with a script of which nothing is posted.
+-- A store as it was loaded, with a script of which nothing is posted. In use is what any blob that was read has, those
+-- that recovery removes among them.
 pub record IsOpened {D : Type 0} (d : Ghosts D) (loaded : Loaded D) (script : List (List Command))
     (p : StoreView D) : Type 0 where
   pub live : IsLiveAtStart loaded.metas p.live
-  pub guards : AreGuardsAtStart loaded.metas p.guards
+  pub guards : AreGuardsAtStart (base_of loaded.metas loaded.marked) p.guards
   pub rows : AreRows script p.rows
-  pub at : p ≡ opened_with d loaded p.live p.guards p.rows
+  pub pages : UsedPages loaded.sup.md_len p.pages (map.get loaded.chains) []
+  pub clusters : UsedClusters loaded.sup p.clusters (base_of loaded.metas loaded.marked) Unclaimed
+  pub at : p ≡ opened_with d loaded p.live p.guards p.rows p.pages p.clusters
 
--- What a start takes memory for: the log has room for every command, and one mark more.
-pub record IsAtStart (metas : map.FinMap nat_cmp Meta) (script : List (List Command)) (clock : ℕ)
+-- What a start takes memory for, where this metadata stays and all that was read has these heads: the log has room for
+-- every command, and one mark more.
+pub record IsAtStart (metas : map.FinMap nat_cmp Meta) (base : Metas) (script : List (List Command)) (clock : ℕ)
     (b : AtStart) : Type 0 where
   pub live : IsLiveAtStart metas b.live
-  pub guards : AreGuardsAtStart metas b.guards
+  pub guards : AreGuardsAtStart base b.guards
   pub rows : AreRows script b.rows.items
   pub log : b.entries.items ≡ []
   pub marks : b.marks.items ≡ clock ∷ []

@@ -1,12 +1,15 @@
 //! What a running store is made of at its start.
 
-ghost use Rattle.std.specs.Prelude.{◌≡◌, ◌+◌, ◌<◌, ◌≤◌, ◌^◌, ℕ, List, None, IfOk, IfSome};
+ghost use Rattle.std.specs.Prelude.{◌≡◌, ◌+◌, ◌<◌, ◌≤◌, ◌^◌, ℕ, List, [], is_some, None, IfOk, IfSome};
 ghost use Rattle.std.specs.FinMap as map;
 ghost use Rattle.volume_model.specs.declared.command.Command.{Command as ACommand};
 ghost use Rattle.store_core.specs.Opening.{AreGuardsAtStart, AreRows, IsAtStart, IsLiveAtStart, opened_with};
-ghost use Rattle.running_store.specs.Running.{view_of, AreHeads, InOrder, left_in};
-ghost use Rattle.running_store.specs.StoreView.{base_of, AreResolved};
+ghost use Rattle.running_store.specs.Recovered.{IsLoadedFrom};
+ghost use Rattle.running_store.specs.Running.{view_of, InOrder, left_in};
+ghost use Rattle.running_store.specs.StoreView.{base_of};
+ghost use Rattle.store_model.specs.Places.{Unclaimed, UsedClusters, UsedPages};
 
+use crate::removed::with_blobs;
 use blob_meta::{HeadMap, Metas};
 use io_freeze::Guards;
 use out_of_memory::Memory;
@@ -31,15 +34,17 @@ pub(crate) struct AtStart {
 pub(crate) fn parts_at_start(
     alloc: Global,
     metas: &Metas,
+    marked: &Metas,
     md_len: u32,
     script: Script,
     clock: u64,
 ) -> Result<AtStart, Memory>
-    requires { (head : ℕ) → md_len ≤ head → map.get metas.now head ≡ None }
-    ensures { IfOk result (IsAtStart metas.now script clock) }
+    requires stay { (head : ℕ) → md_len ≤ head → map.get metas.now head ≡ None }
+    requires read { (head : ℕ) → md_len ≤ head → base_of metas.now marked.now head ≡ None }
+    ensures { IfOk result (IsAtStart metas.now (base_of metas.now marked.now) script clock) }
 {
     let live = live_at_start(alloc, metas, md_len)?;
-    let guards = guards_at_start(alloc, metas, md_len)?;
+    let guards = guards_at_start(alloc, metas, marked, md_len)?;
     let rows = rows_at_start(alloc, script)?;
     let Some(count) = count_left(rows.as_slice()) else {
         return Err(Memory);
@@ -56,25 +61,29 @@ pub(crate) fn parts_at_start(
     })
 }
 
-/// A store as it was loaded, with these parts, of which nothing is posted.
+/// A store as it was loaded, with these parts, of which nothing is posted. What the blobs have that recovery removes is
+/// in use too.
 pub(crate) fn running_at_start<D: PageDisk>(
     alloc: Global,
     loaded: Loaded<D>,
     parts: AtStart,
 ) -> Running<D>
-    requires parts { (script : List (List ACommand)) × IsAtStart loaded.metas script (D.clock loaded.disk) parts }
+    requires parts { (script : List (List ACommand))
+        × IsAtStart loaded.metas (base_of loaded.metas loaded.marked) script (D.clock loaded.disk) parts }
     requires inside { loaded.sup.md_start + loaded.sup.md_len ≤ D.pages loaded.disk }
     requires device { loaded.sup.device_pages ≤ D.pages loaded.disk }
-    requires heads { AreHeads loaded.sup.md_len (base_of loaded.metas loaded.marked) loaded.masks.blobs }
-    requires resolves { AreResolved loaded.metas loaded.marked }
-    ensures at { view_of result ≡ opened_with D.PageDisk loaded parts.live parts.guards parts.rows.items }
+    requires recovered { IsLoadedFrom (base_of loaded.metas loaded.marked) loaded }
+    ensures at { view_of result ≡ opened_with D.PageDisk loaded parts.live parts.guards parts.rows.items
+        result.pages.bits result.clusters.bits }
+    ensures pages { UsedPages loaded.sup.md_len result.pages.bits (map.get loaded.chains) [] }
+    ensures clusters { UsedClusters loaded.sup result.clusters.bits (base_of loaded.metas loaded.marked) Unclaimed }
     ensures order { InOrder D.PageDisk result }
 {
     let Loaded {
         disk,
         sup,
         metas,
-        removed: _,
+        removed,
         marked,
         chains,
         repairs: _,
@@ -85,7 +94,7 @@ pub(crate) fn running_at_start<D: PageDisk>(
         pages,
         clusters,
         blobs: heads,
-    } = masks;
+    } = with_blobs(masks, &removed, &chains, sup.md_len);
     let AtStart {
         live,
         guards,
@@ -133,16 +142,28 @@ pub(crate) fn live_at_start(
     Ok(live)
 }
 
-/// The guards of all blobs of a store with so many metadata pages, of which none is frozen.
-pub(crate) fn guards_at_start(alloc: Global, metas: &Metas, md_len: u32) -> Result<Guards, Memory>
-    requires { (head : ℕ) → md_len ≤ head → map.get metas.now head ≡ None }
-    ensures { IfOk result (AreGuardsAtStart metas.now) }
+/// Whether a blob was read at a head: one with a mark, or one of these.
+fn was_read(metas: &Metas, marked: &Metas, head: u32) -> bool
+    ensures { result ≡ is_some (base_of metas.now marked.now head) }
+{
+    marked.get(head).is_some() || metas.get(head).is_some()
+}
+
+/// The guards of all blobs that were read of a store with so many metadata pages, of which none is frozen.
+pub(crate) fn guards_at_start(
+    alloc: Global,
+    metas: &Metas,
+    marked: &Metas,
+    md_len: u32,
+) -> Result<Guards, Memory>
+    requires { (head : ℕ) → md_len ≤ head → base_of metas.now marked.now head ≡ None }
+    ensures { IfOk result (AreGuardsAtStart (base_of metas.now marked.now)) }
 {
     // Room for one more than can ever be: where every page is a head, a new blob lacks a page, and not memory.
     let room = md_len.saturating_add(1);
     let mut guards = Guards::new(alloc, room)?;
     for head in 0..md_len {
-        if metas.get(head).is_some() {
+        if was_read(metas, marked, head) {
             guards.add(head);
         }
     }

@@ -1,38 +1,45 @@
 use Rattle.std.proofs.Common.{refl, subst, sym}
-use Rattle.std.specs.FinMap as map
-use Rattle.store_model.specs.Maps.{Metas}
-use Rattle.store_model.specs.Regions.{region_of}
-use Rattle.store_model.specs.Scans.{Says}
 use Rattle.blob_tool.specs.Outcome.{Outcome}
 use Rattle.blob_tool.specs.declared.status.Status.{Status}
+use Rattle.blob_tool.proofs.Complete.{done_from}
 use Rattle.blob_tool.proofs.Ending.{of_a_fault, of_a_run, still_one}
-use Rattle.blob_tool.proofs.FirstMark.{no_first_mark}
 use Rattle.blob_tool.proofs.top.run_image.Goals as goal
 
-pub returns-in-Some-clause-complete : goal.returns-in-Some-clause-complete
-returns-in-Some-clause-complete g c =
-    let d = g.D.PageDisk in
-    λ fails. no_first_mark (d.pages c.args.disk) (d.now c.args.disk) c.in-Some.page fails.accepted fails.unmarked
-    (c.in-Ok-load.ensures.first_marked fails.device_tells c.in-Some.page c.in-Some.ensures.some)
-
-pub returns-in-None-clause-outcome : goal.returns-in-None-clause-outcome
-returns-in-None-clause-outcome g c =
+pub returns-in-Ok-load-clause-outcome : goal.returns-in-Ok-load-clause-outcome
+returns-in-Ok-load-clause-outcome g c =
     let d = g.D.PageDisk in
     let loaded = c.in-Ok-load.loaded in
-    let nothing = c.in-Ok-load.ensures.unmarked c.in-None.ensures.none in
     of_a_run g.S.Source c.args.script.now c.script_of.new.source d g.K.Sink c.args.out.now c.play.new.out c.args.disk
     c.play.result.1 c.args.schedule.now c.in-Ok.commands loaded c.play.result.0 c.in-Ok.ensures.text
     (λ first opened. record {
       super = c.in-Ok-load.ensures.super_block;
-      says = λ told.
-          subst (λ (m : Metas). Says (region_of loaded.sup) m (map.get loaded.chains) (d.now c.args.disk))
-          (c.in-Ok-load.ensures.as_read nothing) (c.in-Ok-load.ensures.found told);
+      says = c.in-Ok-load.ensures.found;
       accepted = c.in-Ok-load.ensures.accepted;
-      whole = c.in-Ok-load.ensures.whole nothing;
+      recovered = c.in-Ok-load.ensures.recovered;
       same = c.in-Ok-load.ensures.same;
       one_image = still_one d c.args.disk loaded.disk c.in-Ok-load.ensures.same;
       opened = opened;
     }) c.in-Ok-load.ensures.same c.play.ensures
+
+pub returns-in-Ok-load-clause-complete : goal.returns-in-Ok-load-clause-complete
+returns-in-Ok-load-clause-complete g c fails =
+    let d = g.D.PageDisk in
+    let loaded = c.in-Ok-load.loaded in
+    done_from g.S.Source c.args.script.now c.script_of.new.source d g.K.Sink c.args.out.now c.play.new.out c.args.disk
+    c.play.result.1 fails loaded c.in-Ok-load.ensures.same c.in-Ok.commands c.args.schedule.now c.play.result.0
+    (λ first opened. record {
+      script_is = c.in-Ok.ensures.text;
+      loaded = loaded;
+      as_found = record {
+        super = c.in-Ok-load.ensures.super_block;
+        says = c.in-Ok-load.ensures.found;
+        accepted = c.in-Ok-load.ensures.accepted;
+        recovered = c.in-Ok-load.ensures.recovered;
+        same = c.in-Ok-load.ensures.same;
+        one_image = still_one d c.args.disk loaded.disk c.in-Ok-load.ensures.same;
+        opened = opened;
+      };
+    }) c.play.ensures
 
 pub returns-in-Err-load-clause-outcome : goal.returns-in-Err-load-clause-outcome
 returns-in-Err-load-clause-outcome g c =

@@ -6,8 +6,8 @@ use Rattle.channel_turns.specs.ClaimTurns.{CopiesNow}
 use Rattle.running_store.specs.Stages.{claim_seen, to_copy_in}
 use Rattle.running_store.specs.Running.{view_of}
 use Rattle.running_store.specs.StoreView.{state_of}
-use Rattle.channel_turns.proofs.PagesCopied.{copies_now, copy_lost, from_inside, from_is, late, left_read}
-use Rattle.channel_turns.proofs.PagesCopied.{seen_copy, to_inside}
+use Rattle.channel_turns.proofs.PagesCopied.{copy_lost}
+use Rattle.channel_turns.proofs.PagesToCopy.{copies_now, from_inside, from_is, late, left_read, seen_copy, to_inside}
 use Rattle.channel_turns.proofs.PagesShown.{heads_fit}
 use Rattle.running_store.proofs.Rowing.{row_read}
 use Rattle.channel_turns.proofs.copying.copy_next.Goals as goal

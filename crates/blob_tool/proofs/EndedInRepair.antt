@@ -1,0 +1,61 @@
+-- How a run ends with its repairs.
+use Rattle.std.proofs.Common.{◌≡◌, ◌∙◌, ℕ, List, [], length, Option, Some, None, IsTrue, refl, sym, ap, subst}
+use Rattle.page_disk.specs.Disk.{Rose, Telling}
+use Rattle.page_disk.specs.declared.disk.PageDisk.{Ghosts}
+use Rattle.volume_model.specs.declared.reply.Entry.{Entry}
+use Rattle.running_store.specs.StoreInvariant.{StoreInvariant}
+use Rattle.running_store.specs.StoreView.{state_of, StoreView, WithOpening}
+use Rattle.store_model.specs.StateLaws.{StopLaws}
+use Rattle.streams.specs.declared.sink.Sink as sink
+use Rattle.unclean_load.specs.Accepted.{StoresAreAccepted}
+use Rattle.blob_tool.specs.Closing.{AddsNoImage}
+use Rattle.blob_tool.specs.Repairing.{status_of_repairs, EndedInRepair, EndsRepairs, Repaired}
+use Rattle.blob_tool.specs.declared.repairing.RepairsEnd.{RepairsEnd}
+use Rattle.blob_tool.specs.declared.repairing.RepairsEnd.TheVariants as end
+use Rattle.blob_tool.specs.declared.status.Status.{Status}
+use Rattle.blob_tool.proofs.Closed.{closing_adds}
+use Rattle.blob_tool.proofs.WholeRun.{survives}
+
+module _ {D : Type 0} (d : Ghosts D) (accepts : StoresAreAccepted)
+    (law : IsTrue d.tells → Telling d.now d.images d.since d.clock) (stops : StopLaws) (b : WithOpening D)
+    (kept : StoreInvariant d b) {K : Type 0} (k : sink.Ghosts K) (out : K) where
+  abbrev first : StoreView D
+  first = b.opening
+
+  unlogged : (how : RepairsEnd) → EndsRepairs d first b.at how → b.at.log ≡ []
+  unlogged how ends = ends.made.unlogged ∙ kept.began.log
+
+  adds : AddsNoImage d b.at.disk b.at.disk
+  adds = closing_adds d b.at.disk b.at.disk law 0 (Some 0) (Some 0) (refl, refl)
+
+  repaired : (how : RepairsEnd) → EndsRepairs d first b.at how → Repaired d k out out b.at.disk first
+  repaired how ends = record {
+    last = b.at;
+    made = ends.made;
+    device = refl;
+    quiet = refl;
+    unlogged = unlogged how ends;
+    survives = survives d accepts law b kept b.at.disk adds;
+  }
+
+  abbrev IsEnded : Option Status → Type 0
+  IsEnded None = ⊥
+  IsEnded (Some st) = EndedInRepair d k out out b.at.disk first st
+
+  -- what repairs that leave no run came to
+  pub ended_in_repair : (how : RepairsEnd) (st : Status) → status_of_repairs how ≡ Some st
+      → EndsRepairs d first b.at how → EndedInRepair d k out out b.at.disk first st
+  ended_in_repair end.Repaired st is ends = absurd (cc is)
+  ended_in_repair end.Stopped st is ends =
+      let halted : b.at.stopped ≡ Some 0 =
+      ends.ended ∙ ap (λ (log : List Entry). Some (length log)) (unlogged end.Stopped ends) in
+      subst IsEnded is
+      (repaired end.Stopped ends, refl, halted, counted halted)
+    where
+      counted : b.at.stopped ≡ Some 0 → Rose (d.write_faults first.disk) (d.write_faults b.at.disk)
+      counted halted = stops.counted d.tells (state_of d first) (state_of d b.at) kept.run.0 0 kept.run.1
+          kept.began.stopped halted
+  ended_in_repair (end.NoRoom head has wants) st is ends =
+      subst IsEnded is (repaired (end.NoRoom head has wants) ends, ends.ended.0, ends.ended.1)
+  ended_in_repair end.Memory st is ends =
+      subst IsEnded is (repaired end.Memory ends, ends.ended)

@@ -1,0 +1,101 @@
+use Rattle.std.proofs.Common.{◌≡◌, ◌+◌, ◌<◌, List, [], Some, None, refl, sym, ap, ◌∙◌, subst, arith, length, drop, ◌∷◌}
+use Rattle.std.specs.Option.{option_map}
+use Rattle.pools.specs.declared.pool.Pool.{Pool}
+use Rattle.pools.specs.Pool.{PoolState}
+use Rattle.md_chain.proofs.Fitting.{some_parts}
+use Rattle.store_model.specs.Cases.BeginRepair.{BeginsRepair}
+use Rattle.running_store.specs.Jobs.{job_seen, IsHeaded}
+use Rattle.running_store.specs.Running.{view_of, IsRoomy, WillResolveBy}
+use Rattle.running_store.specs.StoreView.{state_of}
+use Rattle.running_store.specs.declared.job.RunningJob.{RunningJob}
+use Rattle.running_store.specs.declared.job.Serves.TheVariants as whom
+use Rattle.metadata_turns.specs.Begins.{plain_job}
+use Rattle.metadata_turns.specs.Repairs.{with_repair}
+use Rattle.metadata_turns.proofs.JobPlanned.{all_fit}
+use Rattle.metadata_turns.proofs.RepairBegins.{given, has_chain, mends, mends_to, stored_new}
+use Rattle.metadata_turns.proofs.repairing.mend.Goals as goal
+
+pub items_of-requires-clause-xattrs : goal.items_of-requires-clause-xattrs
+items_of-requires-clause-xattrs g c = all_fit c.args.new.xattrs
+    ((stored_new g.D.PageDisk (view_of c.args.running.now) c.requires.running c.requires.runs
+    (ap (λ o. option_map job_seen o) c.requires.no_job) c.args.head c.requires.due c.requires.order.resolves
+    c.args.new c.requires.kept).xattrs)
+
+pub items_of-requires-clause-internal : goal.items_of-requires-clause-internal
+items_of-requires-clause-internal g c = all_fit c.args.new.internal
+    ((stored_new g.D.PageDisk (view_of c.args.running.now) c.requires.running c.requires.runs
+    (ap (λ o. option_map job_seen o) c.requires.no_job) c.args.head c.requires.due c.requires.order.resolves
+    c.args.new c.requires.kept).internal)
+
+pub prepare-requires-clause-there : goal.prepare-requires-clause-there
+prepare-requires-clause-there g c = λ _. has_chain g.D.PageDisk (view_of c.args.running.now) c.requires.running
+    c.requires.runs (ap (λ o. option_map job_seen o) c.requires.no_job) c.args.head c.requires.due
+    c.requires.order.resolves c.args.new c.requires.kept
+
+pub prepare-requires-clause-xattrs : goal.prepare-requires-clause-xattrs
+prepare-requires-clause-xattrs g c = all_fit c.args.new.xattrs
+    ((stored_new g.D.PageDisk (view_of c.args.running.now) c.requires.running c.requires.runs
+    (ap (λ o. option_map job_seen o) c.requires.no_job) c.args.head c.requires.due c.requires.order.resolves
+    c.args.new c.requires.kept).xattrs)
+
+pub prepare-requires-clause-internal : goal.prepare-requires-clause-internal
+prepare-requires-clause-internal g c = all_fit c.args.new.internal
+    ((stored_new g.D.PageDisk (view_of c.args.running.now) c.requires.running c.requires.runs
+    (ap (λ o. option_map job_seen o) c.requires.no_job) c.args.head c.requires.due c.requires.order.resolves
+    c.args.new c.requires.kept).internal)
+
+pub returns-then-has-wants-clause-lack : goal.returns-then-has-wants-clause-lack
+returns-then-has-wants-clause-lack g c =
+    let some = some_parts 4072 c.in_ok-items.items in
+    let wants = c.pages_needed-wants.ensures in
+    record {
+      due = c.requires.due;
+      new = c.args.new;
+      given = given g.D.PageDisk (view_of c.args.running.now) c.requires.running c.requires.runs
+          (ap (λ o. option_map job_seen o) c.requires.no_job) c.args.head c.requires.due c.requires.order.resolves
+          c.args.new c.requires.kept;
+      needs = record {
+        items = c.in_ok-items.items;
+        are = c.in_ok-items.ensures.are;
+        chain = omega (arith, some, wants);
+      };
+      clear = c.clear_count-has.ensures;
+      lacking = c.if-has-wants.true;
+    }
+
+pub returns-in-Ok-clause-begins : goal.returns-in-Ok-clause-begins
+returns-in-Ok-clause-begins g c =
+    let d = g.D.PageDisk in
+    let p = view_of c.args.running.now in
+    let x = c.in-Ok.prepared in
+    subst (λ (j : RunningJob). BeginsRepair (state_of d p)
+    (state_of d (with_repair (record p { pages = c.prepare.new.pages.bits }) j)))
+    {x = plain_job whom.Repair x c.args.head c.args.new} (sym c.alone.ensures)
+    (mends d p c.requires.running c.requires.runs (ap (λ o. option_map job_seen o) c.requires.no_job) c.args.head
+    c.requires.due c.requires.order.resolves c.args.new c.requires.kept c.prepare.new.pages.bits x
+    c.in-Ok.ensures.prepared)
+
+pub returns-in-Ok-clause-headed : goal.returns-in-Ok-clause-headed
+returns-in-Ok-clause-headed g c =
+    let x = c.in-Ok.prepared in
+    let chain = c.in-Ok.ensures.prepared.taken.laid_on.chain in
+    subst IsHeaded {x = plain_job whom.Repair x c.args.head c.args.new} (sym c.alone.ensures) (
+      record { headed = chain ∙ ap (λ l. c.args.head ∷ l) (sym (ap (drop 1) chain)); once = tt },
+      record { live = refl; renews = refl; freed = refl; claimed = refl; rooms = refl },
+    )
+
+pub returns-in-Ok-clause-roomy : goal.returns-in-Ok-clause-roomy
+returns-in-Ok-clause-roomy g c =
+    let r = c.args.running.now in
+    subst (IsRoomy r.metas r.chains r.live r.guards)
+    {x = plain_job whom.Repair c.in-Ok.prepared c.args.head c.args.new} (sym c.alone.ensures)
+    (record { blob = tt; number = λ bad. absurd (cc bad) })
+
+pub returns-in-Ok-clause-will_resolve : goal.returns-in-Ok-clause-will_resolve
+returns-in-Ok-clause-will_resolve g c =
+    let p = view_of c.args.running.now in
+    let x = c.in-Ok.prepared in
+    subst (WillResolveBy p.metas p.marked) {x = plain_job whom.Repair x c.args.head c.args.new} (sym c.alone.ensures)
+    (mends_to g.D.PageDisk p c.requires.running c.requires.runs (ap (λ o. option_map job_seen o) c.requires.no_job)
+    c.args.head c.requires.due c.requires.order.resolves c.args.new c.requires.kept c.prepare.new.pages.bits x
+    c.in-Ok.ensures.prepared)

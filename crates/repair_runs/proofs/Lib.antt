@@ -1,0 +1,3 @@
+pub mod FewerMarks
+pub mod Replacements
+pub mod Mending

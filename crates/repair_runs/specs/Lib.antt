@@ -1,0 +1,2 @@
+pub mod RepairRuns
+pub mod RepairLaws
