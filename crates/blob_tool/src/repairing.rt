@@ -67,7 +67,7 @@ fn mend_one<D: PageDisk>(plant: &mut Plant<D>, right: &mut MdRight) -> Option<Re
     requires right { right.old ≡ plant.old.right }
     requires no_job { plant.old.at.job ≡ None }
     requires runs { plant.old.at.stopped ≡ None }
-    ensures { EndsOrMendsOne D.PageDisk plant.old.at plant.new.at result }
+    ensures goes_on { EndsOrMendsOne D.PageDisk plant.old.at plant.new.at result }
     ensures opening { plant.new.opening ≡ plant.old.opening }
     ensures right { (right.new ≡ right.old) × (plant.new.right ≡ plant.old.right) }
 {
@@ -93,7 +93,7 @@ pub(crate) fn repair<D: PageDisk>(plant: &mut Plant<D>, right: &mut MdRight) -> 
     requires right { right.old ≡ plant.old.right }
     requires no_job { plant.old.at.job ≡ None }
     requires runs { plant.old.at.stopped ≡ None }
-    ensures { EndsRepairs D.PageDisk plant.old.at plant.new.at result }
+    ensures ended { EndsRepairs D.PageDisk plant.old.at plant.new.at result }
     ensures opening { plant.new.opening ≡ plant.old.opening }
     ensures right { (right.new ≡ right.old) × (plant.new.right ≡ plant.old.right) }
 {

@@ -1,8 +1,6 @@
-use Rattle.std.proofs.Common.{ℕ, ◌<◌, ◌≤◌, ◌+◌, ◌^◌, Bool, List, [], length, refl, subst, sym}
-use Rattle.std.specs.Prelude.{vec_capacity}
+use Rattle.std.proofs.Common.{ℕ, Bool, List, [], length, refl, ap, arith, subst, sym}
 use Rattle.std.specs.FinMap as map
 use Rattle.volume_model.specs.declared.reply.Entry.{Entry}
-use Rattle.running_store.specs.Running.{left_in}
 use Rattle.running_store.specs.StoreView.{base_of}
 use Rattle.store_model.specs.Places.{Unclaimed, UsedClusters, UsedPages}
 use Rattle.store_core.proofs.LoadedStarts.{resolved_at_start}
@@ -37,16 +35,18 @@ pub returns-clause-order : goal.returns-clause-order
 returns-clause-order g c =
     let l = c.args.loaded in
     let parts = c.requires.parts.1 in
-    let left = left_in c.args.parts.rows.items in
+    let no_entry = ap (λ (log : List Entry). length log) parts.log in
+    let one_mark = ap (λ (marks : List ℕ). length marks) parts.marks in
+    let log_room = parts.log_room in
+    let marks_room = parts.marks_room in
+    let few = parts.few in
     record {
       inside = c.requires.inside;
       device = c.requires.device;
       sixteen = parts.rows.sixteen;
-      entries = subst (λ (log : List Entry). length log + left ≤ vec_capacity c.args.parts.entries) (sym parts.log)
-          parts.log_room;
-      marks = subst (λ (marks : List ℕ). length marks + left ≤ vec_capacity c.args.parts.marks) (sym parts.marks)
-          parts.marks_room;
-      few = subst (λ (log : List Entry). length log + left < 2 ^ 31) (sym parts.log) parts.few;
+      entries = omega (arith, no_entry, log_room);
+      marks = omega (arith, one_mark, marks_room);
+      few = omega (arith, no_entry, few);
       counts = refl;
       counted = λ channel low. none_counted channel c.args.parts.entries.items parts.log;
       no_page = c.new.ensures.none_open;
