@@ -1,9 +1,8 @@
 -- Masks to which blobs are added, head by head.
-use Rattle.std.proofs.Common.{◌≡◌, ◌≢◌, ◌⊎◌, ◌∙◌, ℕ, ◌+◌, ◌<◌, true, false, List, Option, Some, None, IsSome, length}
+use Rattle.std.proofs.Common.{◌≡◌, ◌≢◌, ◌∙◌, ℕ, ◌+◌, ◌<◌, true, false, List, Option, Some, None, IsSome, length}
 use Rattle.std.proofs.Common.{refl, sym, ap, subst, inl, inr, arith}
 use Rattle.std.specs.Option.{option_and_then}
-use Rattle.std.specs.Prelude.{slice_set}
-use Rattle.std.proofs.lemmas.Bool.{cases_eq, cases_lt, lt-ltb}
+use Rattle.std.proofs.lemmas.Bool.{cases_eq}
 use Rattle.std.proofs.lemmas.List.{get_or-set_same, get_or-set_other, length-set}
 use Rattle.bit_array.specs.Bits.{is_in}
 use Rattle.super_block.specs.declared.masks.Masks.{Masks}
@@ -11,7 +10,7 @@ use Rattle.blob_meta.specs.declared.meta.Meta.{Meta}
 use Rattle.blob_meta.specs.Faults.{clusters_of}
 use Rattle.md_chain.specs.Chain.{is_among}
 use Rattle.store_model.specs.Maps.{Metas, Chains}
-use Rattle.store_model.specs.Places.{IsLinked, IsMapped}
+use Rattle.store_model.specs.Places.{IsLinked}
 use Rattle.store_model.proofs.Sets.{length_all_set}
 use Rattle.running_store.specs.Recovered.{chains_of}
 use Rattle.metadata_turns.proofs.ClustersAlone.{set_with}

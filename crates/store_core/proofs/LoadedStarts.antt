@@ -9,14 +9,14 @@ use Rattle.volume_model.specs.declared.command.Command.{Command}
 use Rattle.blob_meta.specs.declared.meta.Meta.{Meta}
 use Rattle.blob_meta.specs.Resolving.{mark_of, resolved}
 use Rattle.io_freeze.specs.Guards.{GuardsState}
-use Rattle.store_model.specs.Maps.{Map, Metas}
+use Rattle.store_model.specs.Maps.{Metas}
 use Rattle.store_model.specs.Places.{Unclaimed, UsedClusters, UsedPages}
 use Rattle.store_model.specs.Rows.{Row}
 use Rattle.store_model.specs.StateLaws.{IsLoadedWith}
-use Rattle.store_model.specs.StoreState.{Opens, StoreState}
+use Rattle.store_model.specs.StoreState.{Opens}
 use Rattle.store_model.proofs.Resolved.{resolved_of}
 use Rattle.running_store.specs.declared.loaded.Loaded.{Loaded}
-use Rattle.running_store.specs.Recovered.{base_of, marked, IsLoadedFrom}
+use Rattle.running_store.specs.Recovered.{base_of, IsLoadedFrom}
 use Rattle.running_store.specs.StoreView.{state_of, AreResolved}
 use Rattle.store_core.specs.Opening.{AreGuardsAtStart, AreRows, IsLiveAtStart, opened_with}
 use Rattle.store_core.proofs.Starts.{rows_unclaimed, rows_wait}

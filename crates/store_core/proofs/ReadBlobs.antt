@@ -1,9 +1,9 @@
 -- What was read of a store: each blob stays, maybe without its marks, or is one that recovery removes.
-use Rattle.std.proofs.Common.{◌≡◌, ◌⊎◌, ◌∙◌, ℕ, Bool, true, false, Option, Some, None, IsSome, refl, sym, ap, inl, inr}
+use Rattle.std.proofs.Common.{◌≡◌, ◌⊎◌, ◌∙◌, ℕ, Bool, true, false, Option, Some, None, ap, inl, inr}
 use Rattle.std.specs.Prelude.{if◌then◌else◌, not}
 use Rattle.std.specs.Option.{option_map_or}
 use Rattle.blob_meta.specs.declared.meta.Meta.{Meta}
-use Rattle.blob_meta.specs.Repairs.{is_removed, keeps, removed}
+use Rattle.blob_meta.specs.Repairs.{is_removed, removed}
 use Rattle.blob_meta.specs.Resolving.{resolved, without_marks}
 use Rattle.blob_meta.proofs.Fates.{fate, Fate}
 use Rattle.store_model.specs.Maps.{Metas}

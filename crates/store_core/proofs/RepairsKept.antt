@@ -1,5 +1,5 @@
 -- What is kept of a running store where a repair begins, or doesn't.
-use Rattle.std.proofs.Common.{◌≡◌, subst, sym}
+use Rattle.std.proofs.Common.{subst, sym}
 use Rattle.page_disk.specs.declared.disk.PageDisk.{Ghosts}
 use Rattle.store_model.specs.Cases.{Kind}
 use Rattle.store_model.specs.Cases as kind

@@ -1,7 +1,7 @@
 -- What the loops of a start have made so far.
 use Rattle.std.proofs.Common.{◌≡◌, ℕ, zero, suc, ◌+◌, ◌<◌, ◌≤◌, Bool, true, false, cond, List, [], ◌∷◌, ◌++◌, length}
-use Rattle.std.proofs.Common.{Option, Some, None, refl, sym, ◌∙◌, ap, subst, ◌⊎◌, arith, inl, inr, length-append, ◌≢◌}
-use Rattle.std.specs.Prelude.{if◌then◌else◌, is_some, IsSome, nat_lt, replicate, slice_index_or, slice_set}
+use Rattle.std.proofs.Common.{Some, None, refl, sym, ◌∙◌, ap, subst, ◌⊎◌, arith, inl, inr, length-append, ◌≢◌}
+use Rattle.std.specs.Prelude.{is_some, IsSome, nat_lt, replicate, slice_index_or, slice_set}
 use Rattle.std.specs.Option.{option_map}
 use Rattle.std.specs.Ordering.{nat_cmp}
 use Rattle.std.specs.Cmp.{nat_cmp_total}

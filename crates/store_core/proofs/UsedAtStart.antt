@@ -1,5 +1,5 @@
 -- What is in use at a start: what the blobs that stay claim, and what those that recovery removes have.
-use Rattle.std.proofs.Common.{◌≡◌, ◌↔◌, ◌⊎◌, ◌∙◌, ℕ, ◌<◌, ◌≤◌, true, List, [], length, Option, Some, None, IsSome}
+use Rattle.std.proofs.Common.{◌≡◌, ◌↔◌, ◌∙◌, ℕ, ◌<◌, ◌≤◌, true, List, [], length, Option, Some, None, IsSome}
 use Rattle.std.proofs.Common.{refl, sym, ap, subst, inl, inr, arith}
 use Rattle.std.specs.Option.{option_and_then}
 use Rattle.std.specs.Ordering.{nat_cmp}
@@ -12,13 +12,11 @@ use Rattle.super_block.specs.declared.masks.Masks.{Masks}
 use Rattle.blob_meta.specs.declared.job.Replacement.{Replacement}
 use Rattle.blob_meta.specs.declared.meta.Meta.{Meta}
 use Rattle.blob_meta.specs.Resolving.{resolved}
-use Rattle.md_chain.specs.Chain.{is_among}
 use Rattle.store_model.specs.Maps.{Metas, Chains}
 use Rattle.store_model.specs.Places.{IsLinked, IsMapped, Unclaimed, UsedClusters, UsedPages}
 use Rattle.store_model.specs.Regions.{region_of}
 use Rattle.store_model.proofs.Inside.{inside_slot}
 use Rattle.store_model.proofs.Resolved.{resolved_mapped, resolved_of, slot_of}
-use Rattle.running_store.specs.LoadedWhole.{AreMasks}
 use Rattle.running_store.specs.Recovered.{chains_of, IsRecovered}
 use Rattle.metadata_turns.proofs.CutClusters.{in_slot}
 use Rattle.store_core.specs.Removing.{those_below, AreWith, FitMasks}
