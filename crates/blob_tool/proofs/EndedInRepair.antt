@@ -4,12 +4,13 @@ use Rattle.page_disk.specs.Disk.{Rose, Telling}
 use Rattle.page_disk.specs.declared.disk.PageDisk.{Ghosts}
 use Rattle.volume_model.specs.declared.reply.Entry.{Entry}
 use Rattle.running_store.specs.StoreInvariant.{StoreInvariant}
-use Rattle.running_store.specs.StoreView.{state_of, StoreView, WithOpening}
+use Rattle.blob_meta.specs.Repairs.{HasNoMarks}
+use Rattle.running_store.specs.StoreView.{base_of, state_of, StoreView, WithOpening}
 use Rattle.store_model.specs.StateLaws.{StopLaws}
 use Rattle.streams.specs.declared.sink.Sink as sink
 use Rattle.unclean_load.specs.Accepted.{StoresAreAccepted}
 use Rattle.blob_tool.specs.Closing.{AddsNoImage}
-use Rattle.blob_tool.specs.Repairing.{status_of_repairs, EndedInRepair, EndsRepairs, Repaired}
+use Rattle.blob_tool.specs.Repairing.{status_of_repairs, EndedInRepair, EndsRepairs, IsEndOfRepairs, Repaired}
 use Rattle.blob_tool.specs.declared.repairing.RepairsEnd.{RepairsEnd}
 use Rattle.blob_tool.specs.declared.repairing.RepairsEnd.TheVariants as end
 use Rattle.blob_tool.specs.declared.status.Status.{Status}
@@ -45,6 +46,7 @@ module _ {D : Type 0} (d : Ghosts D) (accepts : StoresAreAccepted)
   -- what repairs that leave no run came to
   pub ended_in_repair : (how : RepairsEnd) (st : Status) → status_of_repairs how ≡ Some st
       → EndsRepairs d first b.at how → EndedInRepair d k out out b.at.disk first st
+  unfolding repaired
   ended_in_repair end.Repaired st is ends = absurd (cc is)
   ended_in_repair end.Stopped st is ends =
       let halted : b.at.stopped ≡ Some 0 =
@@ -59,3 +61,11 @@ module _ {D : Type 0} (d : Ghosts D) (accepts : StoresAreAccepted)
       subst IsEnded is (repaired (end.NoRoom head has wants) ends, ends.ended.0, ends.ended.1)
   ended_in_repair end.Memory st is ends =
       subst IsEnded is (repaired end.Memory ends, ends.ended)
+
+-- where a run follows, no repair is left
+pub none_left : {D : Type 0} (d : Ghosts D) (q : StoreView D) (how : RepairsEnd) → status_of_repairs how ≡ None
+    → IsEndOfRepairs d q how → (q.stopped ≡ None) × HasNoMarks (base_of q.metas q.marked)
+none_left d q end.Repaired is ended = ended
+none_left d q end.Stopped is ended = absurd (cc is)
+none_left d q (end.NoRoom head has wants) is ended = absurd (cc is)
+none_left d q end.Memory is ended = absurd (cc is)

@@ -1,13 +1,15 @@
 -- What repairs have come to, turn by turn.
 use Rattle.std.proofs.Common.{◌≡◌, ◌⊎◌, ◌∙◌, ℕ, ◌<◌, ◌∷◌, List, [], length, Some, None, refl, sym, ap, subst}
 use Rattle.std.proofs.Common.{inl, inr}
+use Rattle.std.proofs.Common.{Option, true, false}
+use Rattle.std.specs.Prelude.{is_some}
 use Rattle.std.specs.List.{All}
 use Rattle.std.proofs.lemmas.List.Elements.{All-head, All-tail}
 use Rattle.page_disk.specs.declared.disk.PageDisk.{Ghosts}
 use Rattle.volume_model.specs.declared.reply.Entry.{Entry}
 use Rattle.metadata_turns.specs.JobTurns.{IsOfJob, TurnsJob}
 use Rattle.repair_runs.specs.RepairLaws.{GoesOnMending, RepairLaws}
-use Rattle.repair_runs.specs.RepairRuns.{turns_left, IsMending, IsOfInsert, IsOfRepair, RepairRun}
+use Rattle.repair_runs.specs.RepairRuns.{marks_left, turns_left, IsMending, IsOfInsert, IsOfRepair, RepairRun}
 use Rattle.running_store.specs.StoreInvariant.{opening_script, StoreInvariant}
 use Rattle.running_store.specs.StoreView.{rows_of, state_of, StoreView, WithOpening}
 use Rattle.store_model.specs.Cases.{Kind, Run, the}
@@ -15,7 +17,10 @@ use Rattle.store_model.specs.Cases as kind
 use Rattle.store_model.specs.Cases.BeginRepair.{BeginsRepair}
 use Rattle.store_model.specs.Rows.{Rows}
 use Rattle.store_model.specs.StoreState.{shown, JobState, StoreState}
-use Rattle.blob_tool.specs.Repairing.{AreMade, IsStoppedNow, Mends}
+use Rattle.blob_meta.specs.Repairs.{repairs}
+use Rattle.store_model.proofs.Repairing.{repaired_unmarked}
+use Rattle.blob_tool.specs.Repairing.{AreMade, EndsRepairs, IsStoppedNow, Mends}
+use Rattle.blob_tool.specs.declared.repairing.RepairsEnd.TheVariants as end
 
 -- a job's kind of turn is any job's, or an insert's
 of_kind : (k : Kind) → IsOfJob k → (the k).OfJob ⊎ IsOfInsert k
@@ -31,7 +36,23 @@ module _ {D : Type 0} (d : Ghosts D) where
     pub run : RepairRun d.tells (state_of d p) (state_of d q)
     pub unlogged : q.log ≡ p.log
     pub rows : rows_of q.rows ≡ rows_of p.rows
-    pub after : ((q.stopped ≡ None) × IsMending marks (state_of d q)) ⊎ (IsStoppedNow d p q × (q.job ≡ None))
+    pub after : ((q.stopped ≡ None) × IsMending marks (state_of d q)) ⊎ (IsStoppedNow q × (q.job ≡ None))
+
+  -- A repair's job is being finished: it has made some of its turns, by the one right of the store.
+  pub record IsFinishing (old now : WithOpening D) (right : ℕ) : Type 0 where
+    pub kept : StoreInvariant d now
+    pub mends : (marks : ℕ) → IsMending marks (state_of d old.at) → MendsSoFar marks old.at now.at
+    pub opening : now.opening ≡ old.opening
+    pub own : right ≡ now.right
+    pub same : now.right ≡ old.right
+
+  -- Repairs are being made, one after another, and no job runs between two of them.
+  pub record IsRepairing (old now : WithOpening D) (right : ℕ) : Type 0 where
+    pub made : AreMade d old.at now.at
+    pub runs : now.at.stopped ≡ None
+    pub opening : now.opening ≡ old.opening
+    pub own : right ≡ now.right
+    pub same : now.right ≡ old.right
 
   -- no repair is made so far
   pub none_made : (laws : RepairLaws) (p : StoreView D) → p.job ≡ None → AreMade d p p
@@ -133,3 +154,39 @@ module _ {D : Type 0} (d : Ghosts D) where
         rows = λ channel. x.made.rows channel ∙ ap (λ (rows : Rows). rows channel) begun.rows;
         no_job = x.made.no_job;
       }
+
+  -- the store stopped in the job
+  pub stops_mending : (p q : StoreView D) (marks at : ℕ) → Mends d p q marks → q.stopped ≡ Some at → IsStoppedNow q
+  stops_mending p q marks at x is = elim x.either [
+    | inl stopped ↦ stopped
+    | inr runs ↦ absurd (let bad = sym is ∙ runs.0 in cc bad)
+  ]
+
+  -- it didn't, and fewer blobs have a mark
+  pub fewer_marks : (p q : StoreView D) (marks : ℕ) → Mends d p q marks → q.stopped ≡ None
+      → marks_left (state_of d q) < marks
+  fewer_marks p q marks x is = elim x.either [
+    | inl stopped ↦ absurd (let bad = sym is ∙ stopped in cc bad)
+    | inr runs ↦ runs.1
+  ]
+
+  -- no repair is left
+  pub repairs_ended : (laws : RepairLaws) (b : WithOpening D) → StoreInvariant d b → (q : StoreView D)
+      → b.at.stopped ≡ None → b.at.job ≡ None → repairs b.at.super.md_len (state_of d b.at).base ≡ [] → q ≡ b.at
+      → EndsRepairs d b.at q end.Repaired
+  repairs_ended laws b kept q runs no_job none same =
+      let repaired = laws.clean b.opening.super (shown (state_of d b.opening)) (opening_script b.opening)
+      (state_of d b.at) kept.facts none in
+      subst (λ (v : StoreView D). EndsRepairs d b.at v end.Repaired) (sym same) (record {
+        made = none_made laws b.at no_job;
+        ended = (runs, repaired_unmarked (state_of d b.at) repaired runs no_job);
+      })
+
+-- a job runs, or none does
+pub running_job : (o : Option JobState) → is_some o ≡ true → (job : JobState) × (o ≡ Some job)
+running_job None is = absurd (cc is)
+running_job (Some job) is = (job, refl)
+
+pub no_job_runs : (o : Option JobState) → is_some o ≡ false → o ≡ None
+no_job_runs None is = refl
+no_job_runs (Some job) is = absurd (cc is)

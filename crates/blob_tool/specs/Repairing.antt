@@ -16,6 +16,17 @@ use Rattle.blob_tool.specs.declared.status.Status.{Status}
 use Rattle.blob_tool.specs.declared.status.Status.TheVariants as status
 use Rattle.unclean_load.specs.declared.fault.LoadFault.TheVariants as fault
 
+-- a store stopped, behind its entries so far
+abbrev pub IsStoppedNow : {D : Type 0} → StoreView D → Type 0
+IsStoppedNow q = q.stopped ≡ Some (length q.log)
+
+-- how repairs ended: none is left, the store stopped, or the next can't be made
+abbrev pub IsEndOfRepairs : {D : Type 0} → Ghosts D → StoreView D → RepairsEnd → Type 0
+IsEndOfRepairs d q end.Repaired = (q.stopped ≡ None) × HasNoMarks (base_of q.metas q.marked)
+IsEndOfRepairs d q end.Stopped = IsStoppedNow q
+IsEndOfRepairs d q (end.NoRoom head has wants) = (q.stopped ≡ None) × LacksForRepair (state_of d q) head has wants
+IsEndOfRepairs d q end.Memory = q.stopped ≡ None
+
 module _ {D : Type 0} (d : Ghosts D) (p q : StoreView D) where
   -- Repairs alone lead from one state of the store to another, in which no job runs. Nothing is logged, and the rows
   -- are as they were.
@@ -25,26 +36,15 @@ module _ {D : Type 0} (d : Ghosts D) (p q : StoreView D) where
     pub rows : (channel : ℕ) → rows_of q.rows channel ≡ rows_of p.rows channel
     pub no_job : q.job ≡ None
 
-  -- a store stopped, behind its entries so far
-  abbrev pub IsStoppedNow : Type 0
-  IsStoppedNow = q.stopped ≡ Some (length q.log)
-
   -- A repair's job is made to its end: fewer blobs than this have a mark then, or the store stopped.
   pub record Mends (n : ℕ) : Type 0 where
     pub made : AreMade
-    pub either : IsStoppedNow ⊎ ((q.stopped ≡ None) × (marks_left (state_of d q) < n))
-
-  -- how repairs ended: none is left, the store stopped, or the next can't be made
-  abbrev pub IsEndOfRepairs : RepairsEnd → Type 0
-  IsEndOfRepairs end.Repaired = (q.stopped ≡ None) × HasNoMarks (base_of q.metas q.marked)
-  IsEndOfRepairs end.Stopped = IsStoppedNow
-  IsEndOfRepairs (end.NoRoom head has wants) = (q.stopped ≡ None) × LacksForRepair (state_of d q) head has wants
-  IsEndOfRepairs end.Memory = q.stopped ≡ None
+    pub either : IsStoppedNow q ⊎ ((q.stopped ≡ None) × (marks_left (state_of d q) < n))
 
   -- Repairs were made, and so they ended.
   pub record EndsRepairs (how : RepairsEnd) : Type 0 where
     pub made : AreMade
-    pub ended : IsEndOfRepairs how
+    pub ended : IsEndOfRepairs d q how
 
   -- Repairs ended, or one was made, and fewer blobs have a mark.
   abbrev pub EndsOrMendsOne : Option RepairsEnd → Type 0

@@ -49,7 +49,7 @@ fn finish_job<D: PageDisk>(plant: &mut Plant<D>, right: &mut MdRight)
     requires runs { plant.old.at.stopped ≡ None }
     requires mending { (n : ℕ) × IsMending n (state_of D.PageDisk plant.old.at) }
     ensures mended { (n : ℕ) → IsMending n (state_of D.PageDisk plant.old.at)
-        → Mends D.PageDisk n plant.old.at plant.new.at }
+        → Mends D.PageDisk plant.old.at plant.new.at n }
     ensures no_job { plant.new.at.job ≡ None }
     ensures opening { plant.new.opening ≡ plant.old.opening }
     ensures right { (right.new ≡ right.old) × (plant.new.right ≡ plant.old.right) }
