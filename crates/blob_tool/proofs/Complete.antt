@@ -1,5 +1,5 @@
 -- A run in which nothing fails is printed whole, or memory runs out.
-use Rattle.std.proofs.Common.{◌≡◌, ◌⊎◌, ℕ, List, sym, subst, ap, ◌∙◌, inl, inr}
+use Rattle.std.proofs.Common.{◌≡◌, List, sym, subst, ap, ◌∙◌, inl, inr}
 use Rattle.page_disk.specs.Disk.{Rose}
 use Rattle.page_disk.specs.declared.disk.PageDisk as disk
 use Rattle.streams.specs.declared.source.Source as source

@@ -22,13 +22,17 @@ returns-in-Some g c =
     let opened = subst (IsOpened d c.args.loaded c.args.script) same c.in-Ok.ensures.opened in
     let ends = subst (λ (p : StoreView g.row.D.Denot). EndsRepairs d p b.at c.repair-end.result) same
     c.repair-end.ensures.ended in
-    inl (b.opening, opened, inr (
-      subst (λ (x : g.row.D.Denot). EndedInRepair d k out out x b.opening c.in-Some.status)
+    inl (
+      b.opening,
+      opened,
+      inr (
+          subst (λ (x : g.row.D.Denot). EndedInRepair d k out out x b.opening c.in-Some.status)
           (sym c.device_left.ensures.disk)
           (ended_in_repair d c.stores_are_accepted.ensures g.met.D.PageDisk.telling c.state_stops.ensures b
           c.device_left.ensures.kept k out c.repair-end.result c.in-Some.status (sym c.status.ensures ∙ c.in-Some.is)
           ends)
-    ))
+          ),
+    )
 
 pub returns-in-None : goal.returns-in-None
 returns-in-None g c =
@@ -38,7 +42,11 @@ returns-in-None g c =
     let opened = subst (IsOpened d c.args.loaded c.args.script) same c.in-Ok.ensures.opened in
     let ends = subst (λ (p : StoreView g.row.D.Denot). EndsRepairs d p b.at c.repair-end.result) same
     c.repair-end.ensures.ended in
-    inl (b.opening, opened, inl (
-      c.run_repaired.ensures c.args.script opened.rows ends.made
+    inl (
+      b.opening,
+      opened,
+      inl (
+          c.run_repaired.ensures c.args.script opened.rows ends.made
           (none_left d b.at c.repair-end.result (sym c.status.ensures ∙ c.in-None.is) ends.ended).1
-    ))
+          ),
+    )

@@ -1,4 +1,4 @@
-use Rattle.std.proofs.Common.{◌≡◌, List, [], ◌++◌, OnOk, ap, length, sym, subst, ◌∙◌, arith}
+use Rattle.std.proofs.Common.{◌≡◌, List, ◌++◌, OnOk, ap, length, sym, subst, ◌∙◌, arith}
 use Rattle.volume_model.specs.declared.reply.Entry.{Entry}
 use Rattle.blob_report.specs.Text.{log_text}
 use Rattle.streams.specs.Printing.{IsPartOf}
