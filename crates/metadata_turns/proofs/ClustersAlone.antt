@@ -1,5 +1,6 @@
 -- The clusters of a blob that no other has: how they are found, and that they are freed where it is erased.
-use Rattle.std.proofs.Common.{◌≡◌, ◌≢◌, ◌↔◌, ◌⊎◌, ℕ, zero, suc, ◌+◌, ◌<◌, ◌≤◌, Bool, true, false, List, [], ◌∷◌, length, get_or, drop, replicate}
+use Rattle.std.proofs.Common.{◌≡◌, ◌≢◌, ◌↔◌, ◌⊎◌, ℕ, zero, suc, ◌+◌, ◌<◌, ◌≤◌, Bool, true, List, [], ◌∷◌, length}
+use Rattle.std.proofs.Common.{get_or, drop}
 use Rattle.std.proofs.Common.{Option, Some, None, refl, sym, ap, ◌∙◌, subst, inl, inr, arith, drop-cons, add-one}
 use Rattle.std.proofs.lemmas.Bool.{both_ways, cases_Bool, cases_eq, cases_lt, eq-eqb, ne_eqb}
 use Rattle.std.proofs.lemmas.List.{length-set}
@@ -14,7 +15,7 @@ use Rattle.store_model.specs.Jobs.{MovesClusters}
 use Rattle.store_model.specs.Maps.{Metas, with_entry, without_entry}
 use Rattle.store_model.specs.Places.{all_set, IsMapped}
 use Rattle.store_model.specs.Regions.{region_of}
-use Rattle.store_model.specs.Steady.{AreStored, IsStored}
+use Rattle.store_model.specs.Steady.{AreStored}
 use Rattle.store_model.proofs.Inside.{inside_slot}
 use Rattle.store_model.proofs.Sets.{all_set_in, all_set_out, among_first, among_later, AllBelow}
 use Rattle.store_model.proofs.WithEntry.{given_here, given_elsewhere}
@@ -206,18 +207,6 @@ adds_all old slots i now le a =
 -- the set has the clusters of the blobs so far
 abbrev pub HasBeside : ℕ → Metas → ℕ → List Bool → Type 0
 HasBeside end base head bits = (c : ℕ) → (is_in bits c ≡ true) ↔ IsMappedBeside end base head c
-
-none_in : (n c : ℕ) → is_in (replicate n false) c ≡ false
-none_in zero c = refl
-none_in (suc n) zero = refl
-none_in (suc n) (suc c) = none_in n c
-
--- at the begin it has none
-pub beside_start : (base : Metas) (head n : ℕ) → HasBeside 0 base head (replicate n false)
-beside_start base head n c = (
-  λ set. absurd (both_ways (is_in (replicate n false) c) (none_in n c) set),
-  λ x. absurd (let low = x.low in omega (arith, low)),
-)
 
 module _ (base : Metas) (head end : ℕ) (bits : List Bool) (has : HasBeside end base head bits) where
   further : (c : ℕ) → IsMappedBeside end base head c → IsMappedBeside (end + 1) base head c

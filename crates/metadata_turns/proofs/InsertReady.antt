@@ -1,28 +1,19 @@
 -- What is known of an insert before its job begins: the metadata that is to be written, and the pages on which it is
 -- laid.
-use Rattle.std.proofs.Common.{◌≡◌, ◌⊎◌, ℕ, ◌<◌, ◌^◌, true, false, All, List, [], ◌∷◌, get_or}
-use Rattle.std.proofs.Common.{drop, Some, None, refl, sym, ◌∙◌, ap, subst, arith, inl, inr, Bool}
+use Rattle.std.proofs.Common.{◌≡◌, ◌⊎◌, ℕ, ◌<◌, true, false, List, [], ◌∷◌}
+use Rattle.std.proofs.Common.{drop, Some, None, refl, sym, subst, arith, inl, inr, Bool}
 use Rattle.std.specs.Ordering.{nat_cmp}
 use Rattle.std.specs.FinMap as map
-use Rattle.std.proofs.lemmas.Bool.{both_ways, cases_Bool}
-use Rattle.bit_array.specs.Bits.{is_in}
 use Rattle.super_block.specs.declared.page.Super.{Super}
 use Rattle.super_block.specs.Placed.{IsPlaced}
 use Rattle.blob_meta.specs.Repairs.{HasNoMarks}
 use Rattle.blob_meta.specs.declared.meta.Meta.{Meta}
-use Rattle.blob_meta.specs.Says.{meta_of}
-use Rattle.blob_meta.proofs.Inverse.{says}
 use Rattle.md_chain.specs.Chain.{is_among}
-use Rattle.md_chain.specs.Packing.{parts_of}
-use Rattle.md_chain.specs.Planned.{written_items}
-use Rattle.md_chain.specs.declared.plan.PlannedPage.{PlannedPage}
-use Rattle.md_chain.proofs.Saying.{written_say}
 use Rattle.store_model.specs.Claiming.{CanInsert}
 use Rattle.store_model.specs.Inserting.{with_slot}
-use Rattle.store_model.specs.Jobs.{places_of, MovesClusters}
+use Rattle.store_model.specs.Jobs.{MovesClusters}
 use Rattle.store_model.specs.Maps.{with_entry}
-use Rattle.store_model.specs.Phases.{page_in}
-use Rattle.store_model.specs.Places.{AreDistinct, HasClaim, held_by, IsLinked, IsMapped, UsedPages}
+use Rattle.store_model.specs.Places.{HasClaim, IsMapped}
 use Rattle.store_model.specs.Regions.{region_of}
 use Rattle.store_model.specs.Rows.{OpenClaim}
 use Rattle.store_model.specs.RunInvariant.{IsSteady, RunsWell}
@@ -30,17 +21,13 @@ use Rattle.store_model.specs.StoreState.{StoreState}
 use Rattle.store_model.proofs.InsertedBlob.{inserted_steady, inserted_mapped, mapped_still, mapped_then}
 use Rattle.store_model.proofs.Inside.{IsInside}
 use Rattle.store_model.proofs.Resolved.{steady_unmarked}
-use Rattle.store_model.proofs.Sets.{among_either, among_first, are_distinct, were_clear}
+use Rattle.store_model.proofs.Sets.{among_either, among_first}
 use Rattle.store_model.proofs.Used.{within}
-use Rattle.metadata_turns.specs.Begins.{IsPrepared, IsTaken}
+use Rattle.metadata_turns.specs.Begins.{IsPrepared}
 use Rattle.running_store.specs.StoreInvariant.{IsRunning}
 use Rattle.metadata_turns.specs.declared.preparing.Prepared.{Prepared}
-use Rattle.metadata_turns.proofs.AtWork.{page_of}
-use Rattle.running_store.proofs.PlainFacts.{got}
-use Rattle.running_store.proofs.Cleared.{among_get}
 use Rattle.metadata_turns.proofs.JobPlanned.{IsReady}
 use Rattle.metadata_turns.proofs.JobLaid.{laid}
-use Rattle.metadata_turns.proofs.JobPlaces.{once_each, places_from}
 
 module _ (p : StoreState) (running : IsRunning p) (runs : p.stopped ≡ None) (row : ℕ) (claim : OpenClaim)
     (held : (p.rows row).claim ≡ Some claim) where

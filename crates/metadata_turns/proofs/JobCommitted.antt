@@ -31,7 +31,8 @@ use Rattle.metadata_turns.specs.JobTurns.{with_job, IsAtWork, TurnsJob}
 use Rattle.running_store.specs.declared.job.Serves.{Serves}
 use Rattle.running_store.specs.declared.job.Serves.TheVariants as whom
 use Rattle.metadata_turns.proofs.AtWork.{step}
-use Rattle.metadata_turns.proofs.HeadReplaced.{adopted_view, after_none, after_some, numbered, planned_is, todo_is, touched}
+use Rattle.metadata_turns.proofs.HeadReplaced.{adopted_view, after_none, after_some, numbered, planned_is, todo_is}
+use Rattle.metadata_turns.proofs.HeadReplaced.{touched}
 use Rattle.metadata_turns.proofs.JobTurned.{channel_low, command, entered, entry, fails_case, rest, row, row_left}
 use Rattle.running_store.proofs.Maps.{insert_given}
 use Rattle.running_store.proofs.Resolved.{base_given}

@@ -150,7 +150,8 @@ pub broke_off : {D : Type 0} (d : Ghosts D) (p : StoreView D) (serves : Serves) 
     → TurnsJob d (with_job p (erasing_for serves old erased)) q
 broke_off d p (whom.Command channel) old erased w disk place at at_is touches phase others todo_is put fails q is =
     broke_off_by d p (whom.Command channel) old erased w (waits_for_none
-    (state_of d (with_job p (erasing_for (whom.Command channel) old erased))) w.running w.not_stopped channel old erased)
+    (state_of d (with_job p (erasing_for (whom.Command channel) old erased))) w.running w.not_stopped channel old
+    erased)
     disk place at at_is touches phase others todo_is put fails q is
 broke_off d p whom.Repair old erased w disk place at at_is touches phase others todo_is put fails q is =
     broke_off_by d p whom.Repair old erased w refl disk place at at_is touches phase others todo_is put fails q is
@@ -222,8 +223,8 @@ freed_all d p (whom.Command channel) old erased w disk place at at_is touches ne
     freed_by d p (whom.Command channel) (λ row bad. cc bad) old erased w disk place at at_is touches next last moves
     durable bits is q won
 freed_all d p whom.Repair old erased w disk place at at_is touches next last moves durable bits is q won =
-    freed_by d p whom.Repair (λ row bad. cc bad) old erased w disk place at at_is touches next last moves durable bits is
-    q won
+    freed_by d p whom.Repair (λ row bad. cc bad) old erased w disk place at at_is touches next last moves durable bits
+    is q won
 freed_all d p (whom.Insert channel) old erased w disk place at at_is touches next last moves durable bits is q won =
     let serves = whom.Insert channel in
     let now = erasing_for serves old erased in

@@ -26,7 +26,8 @@ use Rattle.metadata_turns.specs.Telling.{let_go_at}
 use Rattle.running_store.specs.declared.job.Planned.{Planned}
 use Rattle.running_store.specs.declared.job.Serves.{Serves}
 use Rattle.running_store.specs.declared.job.Serves.TheVariants as whom
-use Rattle.metadata_turns.proofs.HeadReplaced.{adopted_view, after_none, after_some, numbered, planned_is, todo_is, touched}
+use Rattle.metadata_turns.proofs.HeadReplaced.{adopted_view, after_none, after_some, numbered, planned_is, todo_is}
+use Rattle.metadata_turns.proofs.HeadReplaced.{touched}
 use Rattle.metadata_turns.proofs.InsertFailed.{fails_insert, inserting, waits, command as write_of}
 use Rattle.metadata_turns.proofs.JobTurned.{entered, first_low, first_to_insert}
 use Rattle.running_store.proofs.Maps.{insert_given}

@@ -1,6 +1,6 @@
 -- New metadata of a blob that is there, laid on its head and on pages that are taken for it: what a job begins with.
 use Rattle.std.proofs.Common.{◌≡◌, ℕ, ◌<◌, ◌^◌, Bool, true, false, All, List, [], ◌∷◌, get_or}
-use Rattle.std.proofs.Common.{drop, Some, None, refl, sym, ◌∙◌, ap, subst, arith, inl, inr}
+use Rattle.std.proofs.Common.{drop, Some, None, sym, ◌∙◌, ap, subst, arith, inl, inr}
 use Rattle.std.specs.Ordering.{nat_cmp}
 use Rattle.std.specs.FinMap as map
 use Rattle.std.proofs.lemmas.Bool.{both_ways, cases_Bool}

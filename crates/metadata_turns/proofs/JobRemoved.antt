@@ -1,6 +1,6 @@
 -- What a job's replacement makes of the store by which a blob is erased.
 use Rattle.std.proofs.Common.{◌≡◌, ◌≢◌, ℕ, ◌+◌, ◌<◌, Bool, true, false, All, List, [], ◌∷◌, length, Option, Some, None}
-use Rattle.std.proofs.Common.{refl, sym, ◌∙◌, ap, subst, get_or, IsTrue, arith, cond}
+use Rattle.std.proofs.Common.{refl, sym, ◌∙◌, ap, subst, get_or, IsTrue, arith}
 use Rattle.std.specs.Prelude.{if◌then◌else◌, not, slice_set, ◌&&◌}
 use Rattle.std.specs.FinMap as map
 use Rattle.std.specs.FinSet as set
@@ -14,8 +14,6 @@ use Rattle.page_disk.specs.Moments.{CallsLeaveOnly, IsReplaced}
 use Rattle.page_disk.specs.declared.disk.PageDisk.{Ghosts}
 use Rattle.volume_model.specs.Volumes.{zero_page}
 use Rattle.io_freeze.specs.Guards.{removed}
-use Rattle.md_chain.specs.Chain.{is_among}
-use Rattle.md_chain.specs.declared.plan.PlannedPage.{PlannedPage}
 use Rattle.store_model.specs.Cases.{FailsToReplace, WritesOnePage}
 use Rattle.store_model.specs.Cases as kind
 use Rattle.store_model.specs.Guarding.{frozen_behind}
@@ -44,7 +42,8 @@ use Rattle.running_store.proofs.Without.{base_gone}
 -- ---- whom it serves
 
 -- it isn't an insert
-no_insert : (serves : Serves) (freed : List ℕ) → IsRemovedFor serves freed → (row : ℕ) → service_of serves ≢ ForInsert row
+no_insert : (serves : Serves) (freed : List ℕ) → IsRemovedFor serves freed → (row : ℕ)
+    → service_of serves ≢ ForInsert row
 no_insert (whom.Command channel) freed fits row bad = cc bad
 no_insert (whom.Insert channel) freed fits row bad = fits
 no_insert whom.Repair freed fits row bad = cc bad
@@ -167,7 +166,8 @@ module _ {D : Type 0} (d : Ghosts D) (p : StoreView D) (serves : Serves) (head :
 
     -- no blob is frozen, nor is one then
     still_unfrozen : set.contains (set.remove p.guards.frozen head) ≡ s.frozen
-    still_unfrozen = fun_ext (λ q. set.contains-remove nat_cmp_total p.guards.frozen head q ∙ by q (eq_by_cmp nat_cmp q head))
+    still_unfrozen = fun_ext (λ q.
+        set.contains-remove nat_cmp_total p.guards.frozen head q ∙ by q (eq_by_cmp nat_cmp q head))
       where
         by : (q : ℕ) (b : Bool) → (not b && set.contains p.guards.frozen q) ≡ s.frozen q
         by q true = sym (ap (λ (f : ℕ → Bool). f q) unfrozen)

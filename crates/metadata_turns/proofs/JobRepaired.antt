@@ -1,7 +1,7 @@
 -- What the replacement of a repair's job makes of the store, where the blob is kept.
 use Rattle.std.proofs.Common.{◌≡◌, ℕ, ◌+◌, ◌<◌, Bool, false, List, [], ◌∷◌, length, Option, Some, None, refl, sym, ◌∙◌}
 use Rattle.std.proofs.Common.{ap, subst, drop, IsTrue, arith}
-use Rattle.std.specs.Prelude.{is_some, slice_get, ◌||◌, if◌then◌else◌}
+use Rattle.std.specs.Prelude.{is_some, slice_get, ◌||◌}
 use Rattle.std.specs.FinMap as map
 use Rattle.std.proofs.Math.Path.{fun_ext}
 use Rattle.page_disk.specs.Disk.{Only}
@@ -25,7 +25,8 @@ use Rattle.running_store.specs.StoreView.{StoreView, device_of, state_of}
 use Rattle.running_store.specs.declared.job.Planned.{Planned}
 use Rattle.running_store.specs.declared.job.Serves.{Serves}
 use Rattle.running_store.specs.declared.job.Serves.TheVariants as whom
-use Rattle.metadata_turns.proofs.HeadReplaced.{adopted_view, after_none, after_some, numbered, planned_is, todo_is, touched}
+use Rattle.metadata_turns.proofs.HeadReplaced.{adopted_view, after_none, after_some, numbered, planned_is, todo_is}
+use Rattle.metadata_turns.proofs.HeadReplaced.{touched}
 use Rattle.running_store.proofs.Maps.{insert_given}
 use Rattle.running_store.proofs.Resolved.{base_given}
 

@@ -1,9 +1,10 @@
 -- The clusters of a map that a set doesn't have, as they are found slot by slot.
-use Rattle.std.proofs.Common.{◌≡◌, ◌≢◌, ◌↔◌, ◌⊎◌, ℕ, zero, suc, ◌+◌, ◌<◌, ◌≤◌, Bool, true, false, List, [], ◌∷◌, ◌++◌, length}
+use Rattle.std.proofs.Common.{◌≡◌, ◌↔◌, ◌⊎◌, ℕ, zero, suc, ◌+◌, ◌<◌, Bool, true, false, List, [], ◌∷◌, ◌++◌}
+use Rattle.std.proofs.Common.{length}
 use Rattle.std.proofs.Common.{Option, Some, None, refl, sym, ap, ◌∙◌, subst, inl, inr, arith, add-one, get_or, take}
 use Rattle.std.specs.Prelude.{slice_set}
 use Rattle.std.proofs.lemmas.Bool.{both_ways, cases_Bool, cases_eq}
-use Rattle.std.proofs.lemmas.List.{get_or-set_other, get_or-set_same, length-set, take_all}
+use Rattle.std.proofs.lemmas.List.{get_or-set_other, get_or-set_same, length-set}
 use Rattle.bit_array.specs.Bits.{is_in}
 use Rattle.blob_meta.specs.Faults.{clusters_of}
 use Rattle.md_chain.specs.Chain.{is_among}
@@ -95,14 +96,6 @@ pub record Finds (old : List Bool) (slots : List (Option ℕ)) (i : ℕ) (now : 
   pub are : (c : ℕ) → (is_among c places ≡ true) ↔ IsMissing old (take i slots) c
   pub has : (c : ℕ) → (is_in now c ≡ true) ↔ ((is_in old c ≡ true) ⊎ (is_among c places ≡ true))
 
-pub finds_start : (old : List Bool) (slots : List (Option ℕ)) → Finds old slots 0 old []
-finds_start old slots = record {
-  count = refl;
-  once = tt;
-  are = λ c. (λ bad. absurd (cc bad), λ bad. absurd (let none = bad.0 in cc none));
-  has = λ c. (λ set. inl set, λ o. elim o [ inl set ↦ set | inr bad ↦ absurd (cc bad) ]);
-}
-
 module _ (old : List Bool) (slots : List (Option ℕ)) (i : ℕ) (d : Option ℕ) (now : List Bool) (places : List ℕ)
     (low : i < length slots) (f : Finds old slots i now places) where
   next : (c : ℕ) → (is_among c (clusters_of (take (i + 1) slots)) ≡ true)
@@ -182,10 +175,3 @@ module _ (old : List Bool) (slots : List (Option ℕ)) (i : ℕ) (d : Option ℕ
               )
         ];
       }
-
--- all slots are looked at
-pub finds_all : (old : List Bool) (slots : List (Option ℕ)) (i : ℕ) (now : List Bool) (places : List ℕ)
-    → length slots ≤ i → Finds old slots i now places
-    → (c : ℕ) → (is_among c places ≡ true) ↔ IsMissing old slots c
-finds_all old slots i now places le f c =
-    subst (λ (l : List (Option ℕ)). (is_among c places ≡ true) ↔ IsMissing old l c) (take_all i slots le) (f.are c)

@@ -1,23 +1,22 @@
 -- The begin of a repair, as a case, and what its job leads to.
-use Rattle.std.proofs.Common.{◌≡◌, ◌≢◌, ◌↔◌, ℕ, ◌<◌, Bool, true, false, List, [], ◌∷◌, Option, Some, None, refl, sym, ap, ◌∙◌, subst}
-use Rattle.std.proofs.Common.{drop, length, inl, inr}
+use Rattle.std.proofs.Common.{◌≡◌, ◌≢◌, ◌↔◌, ℕ, ◌<◌, Bool, true, false, List, ◌∷◌, Option, Some, None, refl, sym, ap}
+use Rattle.std.proofs.Common.{◌∙◌, subst}
+use Rattle.std.proofs.Common.{length, inl, inr}
 use Rattle.std.specs.Prelude.{is_some, take, IsSome}
 use Rattle.std.specs.FinMap as map
-use Rattle.std.specs.Ordering.{nat_cmp}
 use Rattle.std.proofs.Math.Path.{fun_ext}
 use Rattle.std.proofs.lemmas.Bool.{cases_eq, eq-eqb, ne_eqb}
 use Rattle.bit_array.specs.Bits.{is_in}
 use Rattle.page_disk.specs.declared.disk.PageDisk.{Ghosts}
 use Rattle.super_block.specs.declared.page.Super.{Super}
 use Rattle.blob_meta.specs.declared.meta.Meta.{Meta}
-use Rattle.blob_meta.specs.Faults.{clusters_of}
 use Rattle.blob_meta.specs.Repairs.{after, HasHeadsBelow}
 use Rattle.blob_meta.specs.Resolving.{resolved}
 use Rattle.blob_meta.proofs.RepairsInTurn.{repaired_resolves}
 use Rattle.md_chain.specs.Chain.{is_among}
 use Rattle.store_model.specs.Cases.BeginRepair.{BeginsRepair}
 use Rattle.store_model.specs.Jobs.{IsJobPlanned}
-use Rattle.store_model.specs.Maps.{with_entry, with_option, without_entry, Metas}
+use Rattle.store_model.specs.Maps.{with_option, without_entry, Metas}
 use Rattle.store_model.specs.RunInvariant.{AreStored, RunsWell}
 use Rattle.store_model.specs.Steady.{IsStored}
 use Rattle.store_model.specs.StoreState.{StoreState}
@@ -27,7 +26,7 @@ use Rattle.store_model.proofs.WithEntry.{given_elsewhere, given_here}
 use Rattle.running_store.specs.Jobs.{erasure_of, removing_for, replacing_of, writing_for}
 use Rattle.running_store.specs.Running.{WillResolve, WillResolveWithout}
 use Rattle.running_store.specs.StoreInvariant.{IsRunning}
-use Rattle.running_store.specs.StoreView.{base_of, state_of, AreResolved, StoreView}
+use Rattle.running_store.specs.StoreView.{state_of, AreResolved, StoreView}
 use Rattle.running_store.specs.declared.job.Planned.{Planned}
 use Rattle.running_store.specs.declared.job.Serves.TheVariants as whom
 use Rattle.running_store.proofs.Maps.{insert_given, remove_given}
@@ -196,7 +195,8 @@ module _ {D : Type 0} (d : Ghosts D) (p : StoreView D) (running : IsRunning (sta
           new = sym gone;
           chain = chain;
           unerased = λ bad. absurd (cc bad);
-          planned = subst (λ (o : Option Meta). IsJobPlanned s.super s.pages o (erasure_of head freed behind)) (sym gone)
+          planned = subst (λ (o : Option Meta). IsJobPlanned s.super s.pages o (erasure_of head freed behind))
+              (sym gone)
               (refl, refl, refl);
           clusters = erased_moves s.super s.base stored head old there bits bits_are freed freed_are;
         };

@@ -1,5 +1,5 @@
 -- The repair that is due: that of the least marked blob that is kept, or else that of the least that is removed.
-use Rattle.std.proofs.Common.{◌≡◌, ◌≢◌, ℕ, zero, suc, ◌+◌, ◌<◌, ◌≤◌, Bool, true, false, Option, Some, None, List, [], ◌∷◌}
+use Rattle.std.proofs.Common.{◌≡◌, ℕ, zero, suc, ◌+◌, ◌<◌, ◌≤◌, Bool, true, false, Option, Some, None, List, [], ◌∷◌}
 use Rattle.std.proofs.Common.{◌++◌, refl, sym, ap, ◌∙◌, subst, inl, inr, arith}
 use Rattle.std.specs.Prelude.{filter, is_some, not, IsSome}
 use Rattle.std.specs.Prelude.{map as map_list}
@@ -9,7 +9,7 @@ use Rattle.std.specs.Ordering.{nat_cmp}
 use Rattle.std.specs.FinMap as map
 use Rattle.std.proofs.lemmas.Bool.{both_ways, cases_lt}
 use Rattle.blob_meta.specs.declared.meta.Meta.{Meta}
-use Rattle.blob_meta.specs.Heads.{HasNoKeyFrom, IsNextFrom}
+use Rattle.blob_meta.specs.Heads.{IsNextFrom}
 use Rattle.blob_meta.specs.Resolving.{mark_of, resolved}
 use Rattle.blob_meta.specs.Repairs.{has_kept_mark, heads_where, is_removed, keeps, repair_at, repairs, HasHeadsBelow}
 use Rattle.blob_meta.proofs.Fates.{fate, kept_absent, Fate}
@@ -136,8 +136,7 @@ module _ (metas marked : map.FinMap nat_cmp Meta) (are : AreResolved metas marke
             let passes : has_kept_mark base h ≡ true =
             kept_test h (Some true) (ap (option_map (λ (m : Meta). is_some (map.get metas h))) is
             ∙ ap (λ (b : Bool). Some b) there) in
-            let x = first_where md_len (has_kept_mark base) h low passes (λ k lt. not_kept h k none lt) in
-            (
+            let x = first_where md_len (has_kept_mark base) h low passes (λ k lt. not_kept h k none lt) in (
               map_list (repair_at base) (x.0 ++ heads_where md_len (is_removed base)),
               ap (λ hs. map_list (repair_at base) (hs ++ heads_where md_len (is_removed base))) x.1,
             )
@@ -164,8 +163,8 @@ module _ (metas marked : map.FinMap nat_cmp Meta) (are : AreResolved metas marke
               removed_test h (Some false) (ap (option_map (λ (m : Meta). is_some (map.get metas h))) is
               ∙ ap (λ (o : Option Meta). Some (is_some o)) (none h low some)) in
               let x = first_where md_len (is_removed base) h low passes
-              (λ k lt. removed_test k None (ap (option_map (λ (m : Meta). is_some (map.get metas k))) (first k lt))) in
-              (
+              (λ k lt. removed_test k None
+              (ap (option_map (λ (m : Meta). is_some (map.get metas k))) (first k lt))) in (
                 map_list (repair_at base) x.0,
                 ap (λ hs. map_list (repair_at base) (hs ++ heads_where md_len (is_removed base))) no_kept
                     ∙ ap (map_list (repair_at base)) x.1,

@@ -15,8 +15,8 @@ abbrev pub let_go_at : {D : Type 0} → StoreView D → ℕ → Stage → StoreV
 let_go_at p channel stage =
     with_row_at p channel (record { left = (rows_of p.rows channel).left; stage = stage; claim = None })
 
--- Once a replacement is made: the command is logged with its reply; the row of an insert, which has its cluster, goes on
--- at this stage.
+-- Once a replacement is made: the command is logged with its reply; the row of an insert, which has its cluster, goes
+-- on at this stage; no row waits for a repair.
 abbrev pub IsTold : Serves → Reply → Stage → {D : Type 0} → StoreView D → StoreView D → ℕ → Type 0
 IsTold (whom.Command channel) reply next p q mark = IsEntered p q channel reply mark
 IsTold (whom.Insert channel) reply next p q mark = q ≡ let_go_at p channel next

@@ -69,7 +69,11 @@ pub(crate) fn clusters_beside<D>(running: &Running<D>, head: u32) -> Result<Bits
 }
 
 /// The clusters of a map that a set doesn't have, each once. The set has them then.
-pub(crate) fn missing(alloc: Global, clusters: &mut Bits, map: &SlotMap) -> Result<PlaceList, Memory>
+pub(crate) fn missing(
+    alloc: Global,
+    clusters: &mut Bits,
+    map: &SlotMap,
+) -> Result<PlaceList, Memory>
     requires { (c : ℕ) → is_among c (clusters_of map.now) ≡ true → c < length clusters.old }
     ensures once { IfOk result AreDistinct }
     ensures are { IfOk result (λ places. (c : ℕ) → (is_among c places ≡ true) ↔ IsMissing clusters.old map.now c) }

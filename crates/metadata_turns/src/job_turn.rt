@@ -1,8 +1,8 @@
 //! The turns of the running job.
 
 ghost use Rattle.std.specs.Prelude.{◌≡◌, ◌<◌, ◌+◌, Some, None, IsSome, length, drop};
-ghost use Rattle.running_store.specs.Jobs.{erasing_for, removing_for, writing_for, zeroing_job, IsMatched, IsMatchedFor};
-ghost use Rattle.running_store.specs.Jobs.{IsRemovedFor};
+ghost use Rattle.running_store.specs.Jobs.{erasing_for, removing_for, writing_for, zeroing_job, IsMatched};
+ghost use Rattle.running_store.specs.Jobs.{IsMatchedFor, IsRemovedFor};
 ghost use Rattle.metadata_turns.specs.JobTurns.{answer_of, with_job, IsAtWork, TurnsJob};
 ghost use Rattle.metadata_turns.specs.OwnWrites.{AreOwn};
 ghost use Rattle.metadata_turns.specs.declared.job_turn.JobTurn.TheVariants.{Stopped};

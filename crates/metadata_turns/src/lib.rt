@@ -1,4 +1,5 @@
-//! The turns of the metadata thread: it answers commands in memory, begins jobs, and makes the phases of the running job.
+//! The turns of the metadata thread: it answers commands in memory, begins jobs and repairs, and makes the phases of
+//! the running job.
 #![tactic(auto)]
 
 mod adopting;

@@ -83,8 +83,8 @@ pub(crate) fn fail<D: PageDisk>(running: &mut Running<D>, channel: u8) -> JobTur
     turn
 }
 
-/// The store stops before a job's replacement is made: what waits for the job is logged as failed, and nothing waits for
-/// a repair.
+/// The store stops before a job's replacement is made: what waits for the job is logged as failed. Nothing waits for a
+/// repair.
 pub(crate) fn fail_job<D: PageDisk>(running: &mut Running<D>, serves: Serves) -> JobTurn
     requires order { InOrder D.PageDisk running.old }
     requires taken { running.old.job ≡ None }

@@ -1,4 +1,4 @@
-use Rattle.std.proofs.Common.{◌≡◌, ◌∙◌, ℕ, sym, subst}
+use Rattle.std.proofs.Common.{◌∙◌, sym, subst}
 use Rattle.running_store.specs.StoreView.{base_of}
 use Rattle.store_model.specs.Maps.{Metas}
 use Rattle.metadata_turns.specs.Alone.{HaveRoom}

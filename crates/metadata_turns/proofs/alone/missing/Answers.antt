@@ -1,4 +1,4 @@
-use Rattle.std.proofs.Common.{◌≡◌, ◌+◌, ◌++◌, ◌∷◌, ◌<◌, ℕ, Bool, List, [], Option, None, true, false, length, sym, ◌∙◌, subst}
+use Rattle.std.proofs.Common.{◌≡◌, ◌+◌, ◌<◌, ℕ, Bool, List, Option, None, true, false, length, sym, ◌∙◌, subst}
 use Rattle.std.proofs.Common.{arith, get_or, Some}
 use Rattle.std.specs.Prelude.{slice_set}
 use Rattle.bit_array.specs.Bits.{is_in}

@@ -1,4 +1,5 @@
-use Rattle.std.proofs.Common.{◌≡◌, ◌<◌, ◌≤◌, ◌∙◌, All, Bool, true, false, List, [], length, sym, ap, subst, arith, IfErr}
+use Rattle.std.proofs.Common.{◌≡◌, ◌<◌, ◌≤◌, ◌∙◌, All, Bool, true, false, List, [], length, sym, ap, subst, arith}
+use Rattle.std.proofs.Common.{IfErr}
 use Rattle.std.proofs.Common.{Result}
 use Rattle.std.specs.Prelude.{not}
 use Rattle.std.specs.Option.{option_map}
@@ -21,7 +22,9 @@ use Rattle.running_store.specs.declared.job.RunningJob.{RunningJob}
 use Rattle.running_store.proofs.Resolved.{unmarked_base}
 use Rattle.metadata_turns.proofs.JobPlaces.{clear_again, taken_in_use}
 use Rattle.metadata_turns.proofs.JobBegin.{same_pool}
-use Rattle.metadata_turns.proofs.JobTaken.{first_cluster, has_one, internal_fit, job_begins, job_resolves, lacks_clusters, lacks_pages, next_head, no_memory, once, slots_within, was, xattrs_fit}
+use Rattle.metadata_turns.proofs.JobTaken.{first_cluster, has_one, internal_fit, job_begins, job_resolves}
+use Rattle.metadata_turns.proofs.JobTaken.{lacks_clusters, lacks_pages, next_head, no_memory, once, slots_within, was}
+use Rattle.metadata_turns.proofs.JobTaken.{xattrs_fit}
 use Rattle.metadata_turns.proofs.begin.job_for.Goals as goal
 
 pub fill_slots-requires-clause-within : goal.fill_slots-requires-clause-within

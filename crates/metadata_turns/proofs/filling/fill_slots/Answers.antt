@@ -1,4 +1,5 @@
-use Rattle.std.proofs.Common.{◌≡◌, ◌<◌, ◌∙◌, All, Bool, true, false, List, length, refl, sym, ap, subst, inl, inr, arith}
+use Rattle.std.proofs.Common.{◌≡◌, ◌<◌, ◌∙◌, All, Bool, true, false, List, length, refl, sym, ap, subst, inl, inr}
+use Rattle.std.proofs.Common.{arith}
 use Rattle.bit_array.specs.Bits.{is_in}
 use Rattle.pools.specs.Pool.{clear_in}
 use Rattle.store_model.specs.Jobs.{with_clusters, AreForZeros}

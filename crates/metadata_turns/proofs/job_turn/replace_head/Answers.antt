@@ -17,7 +17,8 @@ use Rattle.running_store.specs.Jobs.{writing_for, IsMatchedFor}
 use Rattle.metadata_turns.specs.Telling.{HasRow}
 use Rattle.metadata_turns.specs.JobTurns.{IsAtWork}
 use Rattle.running_store.proofs.PlainFacts.{got, on_err, on_ok}
-use Rattle.metadata_turns.proofs.HeadReplaced.{base_there, chain_there, freed_in_use, guarded_there, head_below, live_there, none_roomy}
+use Rattle.metadata_turns.proofs.HeadReplaced.{base_there, chain_there, freed_in_use, guarded_there, head_below}
+use Rattle.metadata_turns.proofs.HeadReplaced.{live_there, none_roomy}
 use Rattle.metadata_turns.proofs.HeadReplaced.{unguarded}
 use Rattle.metadata_turns.proofs.HeadTold.{done_answer, failed_head, head_done, head_more, made, matched, more_answer}
 use Rattle.metadata_turns.proofs.HeadTold.{ReplacesHead}

@@ -1,8 +1,6 @@
-use Rattle.std.proofs.Common.{◌≡◌, ◌<◌, ℕ, Some, None, refl, sym, ap, ◌∙◌, subst}
-use Rattle.std.specs.Prelude.{is_some, length, option_copied, IsSome}
-use Rattle.std.specs.FinMap as map
+use Rattle.std.proofs.Common.{◌≡◌, ◌<◌, ℕ, Some, sym, ap, ◌∙◌, subst}
+use Rattle.std.specs.Prelude.{is_some, option_copied}
 use Rattle.std.specs.Option.{option_map}
-use Rattle.blob_meta.specs.declared.meta.Meta.{Meta}
 use Rattle.running_store.specs.Jobs.{job_seen}
 use Rattle.running_store.specs.Running.{view_of}
 use Rattle.running_store.specs.StoreView.{base_of}

@@ -1,7 +1,5 @@
-use Rattle.std.proofs.Common.{◌≡◌, ◌+◌, ◌<◌, List, [], Some, None, refl, sym, ap, ◌∙◌, subst, arith, length, drop, ◌∷◌}
+use Rattle.std.proofs.Common.{refl, sym, ap, ◌∙◌, subst, arith, drop, ◌∷◌}
 use Rattle.std.specs.Option.{option_map}
-use Rattle.pools.specs.declared.pool.Pool.{Pool}
-use Rattle.pools.specs.Pool.{PoolState}
 use Rattle.md_chain.proofs.Fitting.{some_parts}
 use Rattle.store_model.specs.Cases.BeginRepair.{BeginsRepair}
 use Rattle.running_store.specs.Jobs.{job_seen, IsHeaded}
