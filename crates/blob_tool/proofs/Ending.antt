@@ -29,14 +29,7 @@ use Rattle.md_chain.specs.Reading.{OnlyRead}
 use Rattle.running_store.specs.declared.loaded.Loaded.{Loaded}
 use Rattle.store_core.specs.Opening.{IsOpened}
 use Rattle.running_store.specs.StoreView.{StoreView, state_of}
-use Rattle.running_store.specs.Surviving.{HasOneImage, HoldsMetadata}
-use Rattle.running_store.specs.Recovered.{base_of}
-use Rattle.std.specs.FinMap as map
-use Rattle.super_block.specs.Faults.{super_fault}
-use Rattle.super_block.specs.Page.{super_of}
-use Rattle.store_model.specs.Recovers.{IsSameStore}
-use Rattle.store_model.specs.Regions.{region_of}
-use Rattle.store_model.specs.Scans.{Says}
+use Rattle.running_store.specs.Surviving.{HasOneImage}
 use Rattle.unclean_load.specs.declared.fault.LoadFault.{LoadFault}
 use Rattle.unclean_load.specs.declared.fault.LoadFault.TheVariants as loading
 use Rattle.unclean_load.specs.Accepted.{IsAccepted, IsFaultOf, IsImageFault}
@@ -63,23 +56,6 @@ still_one d before after same one = (
     λ is. (same.images one.0 c).1 ((one.1 c).1 (is ∙ same.now one.0)),
   ),
 )
-
--- a loaded store holds the metadata that was read
-pub holds_loaded : {D : Type 0} (d : disk.Ghosts D) (before : D) (loaded : Loaded D)
-    → IsAccepted (d.pages before) (d.now before) → loaded.sup ≡ super_of (d.now before 0) (d.pages before)
-    → Says (region_of loaded.sup) (base_of loaded.metas loaded.marked) (map.get loaded.chains) (d.now before)
-    → d.now loaded.disk ≡ d.now before → loaded.sup.device_pages ≡ d.pages before
-    → HoldsMetadata loaded.sup (base_of loaded.metas loaded.marked) (map.get loaded.chains) (d.now loaded.disk)
-holds_loaded d before loaded accepted is says now pages =
-    let s = loaded.sup in
-    let image = d.now before in
-    subst (HoldsMetadata s (base_of loaded.metas loaded.marked) (map.get loaded.chains)) (sym now) (record {
-      store = record {
-        faultless = subst (λ n. super_fault (image 0) n ≡ None) (sym pages) accepted.super_at.faultless;
-        same = subst (λ n. IsSameStore s (super_of (image 0) n)) (sym pages) (subst (IsSameStore s) is refl);
-      };
-      says = says;
-    })
 
 module _ {D : Type 0} (d : disk.Ghosts D) (script : List (List Command)) (schedule : List Actor) {K : Type 0}
     (k : sink.Ghosts K) (out out_now : K) (back : D) (first : StoreView D) where

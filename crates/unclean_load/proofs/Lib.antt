@@ -18,4 +18,3 @@ pub mod ChainsOf
 pub mod RecoveryFaults
 pub mod Recovery
 pub mod MarkedRead
-pub mod Unrepaired

@@ -10,6 +10,12 @@ use Rattle.blob_meta.specs.Resolving.{resolved}
 use Rattle.md_chain.specs.Chain.{Look}
 use Rattle.md_chain.specs.declared.fault.ChainFault.{ChainFault}
 use Rattle.md_chain.specs.declared.fault.ChainFault.TheVariants as chain
+use Rattle.page_disk.specs.declared.disk.PageDisk.{Ghosts}
+use Rattle.super_block.specs.Faults.{super_fault}
+use Rattle.super_block.specs.Page.{super_of}
+use Rattle.running_store.specs.Surviving.{HoldsMetadata}
+use Rattle.store_model.specs.Recovers.{IsSameStore}
+use Rattle.store_model.specs.Scans.{Says}
 use Rattle.store_model.specs.Maps.{Metas, Chains}
 use Rattle.store_model.specs.Regions.{MdRegion, region_of, look_of}
 use Rattle.store_model.proofs.Scanning.{apart}
@@ -51,6 +57,23 @@ whole_region look r metas chains below none no_chain = record {
   ];
   few = below.few;
 }
+
+-- ---- the image of a store
+
+-- an image that says metadata holds it as that of its store, and so does one that is the same
+pub holds_metadata : {D : Type 0} (d : Ghosts D) (before after : D) (s : Super) (metas : Metas) (chains : Chains)
+    → SuperAt (d.pages before) (d.now before) s → s.device_pages ≡ d.pages before
+    → Says (region_of s) metas chains (d.now before) → d.now after ≡ d.now before
+    → HoldsMetadata s metas chains (d.now after)
+holds_metadata d before after s metas chains at pages says same =
+    let image = d.now before in
+    subst (HoldsMetadata s metas chains) (sym same) (record {
+      store = record {
+        faultless = subst (λ n. super_fault (image 0) n ≡ None) (sym pages) at.faultless;
+        same = subst (λ n. IsSameStore s (super_of (image 0) n)) (sym pages) (subst (IsSameStore s) at.is refl);
+      };
+      says = says;
+    })
 
 -- ---- faults of an image
 

@@ -13,19 +13,6 @@ use Rattle.store_model.proofs.WithEntry.{given_here, given_elsewhere}
 use Rattle.running_store.specs.Recovered.{marked}
 use Rattle.running_store.proofs.Maps.{insert_given}
 
--- ---- one blob
-
--- a head that has none of the marked blobs has one without mark, or none
-pub unmarked_where : (metas : Metas) (h : ℕ) (m : Meta) → metas h ≡ Some m → marked metas h ≡ None → mark_of m ≡ None
-unmarked_where metas h m there none = by (mark_of m) refl
-  where
-    by : (o : Option (List ℕ)) → mark_of m ≡ o → mark_of m ≡ None
-    by None is = is
-    by (Some mark) is =
-        let some : marked metas h ≡ Some m =
-        ap (option_and_then (λ (n : Meta). option_map (λ _. n) (mark_of n))) there ∙ ap (option_map (λ _. m)) is in
-        let e = sym none ∙ some in absurd (cc e)
-
 -- ---- heads upwards
 
 -- of the heads below one a map has just the marked blobs

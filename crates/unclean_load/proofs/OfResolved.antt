@@ -1,7 +1,7 @@
 -- What resolved metadata has of the metadata as it was read.
 use Rattle.std.proofs.Common.{◌≡◌, ℕ, ◌-◌, ◌^◌, ◌<◌, ◌≤◌, Bool, true, false, cond, List, [], ◌∷◌, length}
 use Rattle.std.proofs.Common.{Option, Some, None, IsSome, refl, sym, ap, subst, ◌∙◌, inl, inr, arith}
-use Rattle.std.specs.Prelude.{codes, find, ◌&&◌, ◌||◌, not, ◌==◌, if◌then◌else◌}
+use Rattle.std.specs.Prelude.{codes, find, ◌&&◌, ◌||◌, not, ◌==◌}
 use Rattle.std.specs.Option.{option_and_then, option_map, option_map_or, option_or}
 use Rattle.std.specs.Str.{bytes_eq}
 use Rattle.std.proofs.lemmas.Bool.{cases_Bool, eqb-true}
@@ -14,7 +14,7 @@ use Rattle.blob_meta.specs.declared.fault.MetaFault.{MetaFault}
 use Rattle.blob_meta.specs.declared.fault.MetaFault.TheVariants as fault
 use Rattle.descriptors.specs.Runs.{at_most}
 use Rattle.blob_meta.specs.Faults.{bad_mark, first_some, hole_in_thick, is_bad_mark, map_fault, unknown_flag}
-use Rattle.blob_meta.specs.Repairs.{HasHeadsBelow, HasNoMarks, removed}
+use Rattle.blob_meta.specs.Repairs.{HasHeadsBelow}
 use Rattle.blob_meta.specs.Resolving.{mark_of, resolved, slots_together, without_marks}
 use Rattle.blob_meta.proofs.Fates.{Fate, fate}
 use Rattle.blob_meta.proofs.MarksLifted.{no_mark}
@@ -212,21 +212,3 @@ base_again read head = by (fate read head)
         ap (λ o. option_or o (resolved read head)) (is_marked x.blob x.mark x.there x.marked) ∙ sym x.there
     by (inr (inr (inr x))) =
         ap (λ o. option_or o (resolved read head)) (is_marked x.blob x.mark x.there x.marked) ∙ sym x.there
-
--- where no blob has a mark, none is marked, and none is removed
-pub none_marked : (read : Metas) → HasNoMarks read → (head : ℕ) → marked read head ≡ None
-none_marked read none head = by (read head) refl
-  where
-    by : (o : Option Meta) → read head ≡ o
-        → option_and_then (λ (m : Meta). option_map (λ _. m) (mark_of m)) o ≡ None
-    by None there = refl
-    by (Some m) there = ap (option_map (λ _. m)) (none head m there)
-
-pub none_removed : (read : Metas) → HasNoMarks read → (head : ℕ) → removed read head ≡ None
-none_removed read none head = by (fate read head)
-  where
-    by : Fate read head → removed read head ≡ None
-    by (inl x) = ap (λ k. if option_map_or not k false then read head else None) x.keeps_is
-    by (inr (inl x)) = ap (λ k. if option_map_or not k false then read head else None) x.keeps_is
-    by (inr (inr (inl x))) = let e = sym x.marked ∙ none head x.blob x.there in absurd (cc e)
-    by (inr (inr (inr x))) = let e = sym x.marked ∙ none head x.blob x.there in absurd (cc e)

@@ -1,11 +1,10 @@
 //! A store, loaded whole.
 
-ghost use Rattle.std.specs.Prelude.{◌≡◌, ◌≤◌, ◌+◌, ℕ, [], false, IsTrue, OnOk, IfOk, IfErr, MatchResult};
+ghost use Rattle.std.specs.Prelude.{◌≡◌, ◌≤◌, ◌+◌, false, IsTrue, OnOk, IfOk, IfErr, MatchResult};
 ghost use Rattle.std.specs.FinMap as map;
-ghost use Rattle.blob_meta.specs.Heads.{HasNoKeyFrom};
 ghost use Rattle.md_chain.specs.Reading.{OnlyRead};
-ghost use Rattle.running_store.specs.LoadedWhole.{IsWhole};
 ghost use Rattle.running_store.specs.Recovered.{IsLoadedFrom, IsRecovered, base_of};
+ghost use Rattle.running_store.specs.Surviving.{HoldsMetadata};
 ghost use Rattle.store_model.specs.Regions.{region_of, look_of};
 ghost use Rattle.store_model.specs.Scans.{Says};
 ghost use Rattle.super_block.specs.Faults.{IsFaultless};
@@ -18,7 +17,6 @@ use crate::fault::LoadFault;
 use crate::recovering::{Recovered, recover};
 use crate::super_page::super_on;
 use crate::walking::{Blobs, blobs_on};
-use blob_meta::marks_alone_are_repaired;
 use page_disk::PageDisk;
 use running_store::Loaded;
 use std::alloc::Global;
@@ -75,13 +73,11 @@ pub fn load<D: PageDisk>(alloc: Global, disk: D) -> Result<Loaded<D>, (D, LoadFa
         → IfOk result (λ l. Says (region_of l.sup) (base_of l.metas l.marked) (map.get l.chains) (D.now disk)) }
     ensures super_block { IsTrue D.tells → IfOk result (λ l. l.sup ≡ super_of (D.now disk 0) (D.pages disk)) }
     ensures accepted { IsTrue D.tells → IfOk result (λ _. IsAccepted (D.pages disk) (D.now disk)) }
+    ensures holds { IsTrue D.tells → IfOk result
+        (λ l. HoldsMetadata l.sup (base_of l.metas l.marked) (map.get l.chains) (D.now l.disk)) }
 
-    // Whatever the device tells, the store is what recovery makes of the metadata that was read. With no blob marked
-    // there is nothing to repair, and with nothing to repair it is whole, and its metadata is what was read.
+    // Whatever the device tells, the store is what recovery makes of the metadata that was read.
     ensures recovered { IfOk result (λ l. IsLoadedFrom (base_of l.metas l.marked) l) }
-    ensures unmarked { IfOk result (λ l. HasNoKeyFrom l.marked 0 → l.repairs ≡ []) }
-    ensures whole { IfOk result (λ l. l.repairs ≡ [] → IsWhole l) }
-    ensures as_read { IfOk result (λ l. l.repairs ≡ [] → base_of l.metas l.marked ≡ map.get l.metas) }
     ensures read_whole { IfOk result (λ l. l.quick ≡ false) }
     ensures faultless { IfOk result (λ l. IsFaultless l.sup) }
     ensures device_pages { IfOk result (λ l. l.sup.device_pages ≡ D.pages l.disk) }
@@ -102,7 +98,6 @@ pub fn load<D: PageDisk>(alloc: Global, disk: D) -> Result<Loaded<D>, (D, LoadFa
         Ok(store) => store,
         Err(fault) => return Err((disk, fault)),
     };
-    marks_alone_are_repaired();
     Ok(Loaded {
         disk,
         sup: store.sup,

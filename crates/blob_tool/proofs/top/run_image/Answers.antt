@@ -1,17 +1,9 @@
-use Rattle.std.proofs.Common.{◌∙◌, refl, subst, sym}
+use Rattle.std.proofs.Common.{refl, subst, sym}
 use Rattle.blob_tool.specs.Outcome.{Outcome}
 use Rattle.blob_tool.specs.declared.status.Status.{Status}
 use Rattle.blob_tool.proofs.Complete.{done_from}
-use Rattle.blob_tool.proofs.Ending.{holds_loaded, of_a_fault, of_a_run, still_one}
+use Rattle.blob_tool.proofs.Ending.{of_a_fault, of_a_run, still_one}
 use Rattle.blob_tool.proofs.top.run_image.Goals as goal
-
-pub play-requires-clause-holds : goal.play-requires-clause-holds
-play-requires-clause-holds g c told =
-    let d = g.D.PageDisk in
-    let loaded = c.in-Ok-load.loaded in
-    holds_loaded d c.args.disk loaded (c.in-Ok-load.ensures.accepted told) (c.in-Ok-load.ensures.super_block told)
-    (c.in-Ok-load.ensures.found told) (c.in-Ok-load.ensures.same.now told)
-    (c.in-Ok-load.ensures.device_pages ∙ c.in-Ok-load.ensures.same.pages)
 
 pub returns-in-Ok-load-clause-outcome : goal.returns-in-Ok-load-clause-outcome
 returns-in-Ok-load-clause-outcome g c =
