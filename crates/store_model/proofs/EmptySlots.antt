@@ -38,11 +38,8 @@ use Rattle.store_model.proofs.Cut.{slot_kept, slot_past}
 use Rattle.store_model.proofs.Elsewhere.{IsChildless, same_elsewhere, through}
 use Rattle.store_model.proofs.SameMaps.{content_alike, IsPlacedAlike}
 use Rattle.store_model.proofs.Resolved.{steady_resolved}
-use Rattle.store_model.proofs.WithEntry.{given_elsewhere, given_here}
-
--- whatever an image holds
-abbrev pub Any : Image → Type 0
-Any image = Unit {0}
+use Rattle.shown_volumes.proofs.WithEntry.{given_elsewhere, given_here}
+pub use Rattle.shown_volumes.specs.EmptySlots.{Any}
 
 -- with the same maps and parents
 module _ (s : Super) (metas others : Metas) (alike : (h : ℕ) → IsPlacedAlike (others h) (metas h)) where
