@@ -19,7 +19,7 @@ use Rattle.blob_meta.specs.declared.meta.Meta.{Meta}
 use Rattle.blob_meta.specs.Parents.{is_read_only, parent_of}
 use Rattle.blob_meta.specs.Resolving.{IsLawful, slots_together}
 use Rattle.snapshots.specs.SnapshotJobs.{clone_job}
-use Rattle.shown_volumes.specs.EmptySlots.{Any, LeavesEmpty}
+use Rattle.shown_volumes.specs.EmptySlots.{Anything, LeavesEmpty}
 use Rattle.shown_volumes.specs.JobLaws.{IsClear, ShowsClone}
 use Rattle.shown_volumes.specs.Maps.{Map, Metas}
 use Rattle.shown_volumes.specs.Shown.{content, content_by, live_of, shown_by}
@@ -185,7 +185,7 @@ module _ (f : Fixed) (base : Metas) (rest : IsAtRest f base) (of head : ℕ) (ol
       ])
 
   -- a blob that isn't the clone shows what it showed where it has empty slots
-  leaves : (h : ℕ) → h ≢ head → LeavesEmpty f base next Any h
+  leaves : (h : ℕ) → h ≢ head → LeavesEmpty f base next Anything h
   leaves h ne page m is empty =
       let was_there : base h ≡ Some m = sym (is_other h ne) ∙ is in
       record {

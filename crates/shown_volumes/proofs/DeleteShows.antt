@@ -19,7 +19,7 @@ use Rattle.blob_meta.specs.declared.meta.Meta.{Meta}
 use Rattle.blob_meta.specs.Parents.{is_locked, parent_of, slot}
 use Rattle.blob_meta.specs.Resolving.{IsLawful}
 use Rattle.inflate_delete.specs.Clones.{clones_below}
-use Rattle.shown_volumes.specs.EmptySlots.{Any, LeavesEmpty}
+use Rattle.shown_volumes.specs.EmptySlots.{Anything, LeavesEmpty}
 use Rattle.shown_volumes.specs.Maps.{Map, Metas}
 use Rattle.shown_volumes.specs.Shown.{content, content_by, live_of, shown_by}
 use Rattle.shown_volumes.specs.ShowsStep.{IsAtRest}
@@ -245,7 +245,7 @@ module _ (f : Fixed) (base : Metas) (rest : IsAtRest f base) (of clone : ℕ) (o
         ])
 
   -- a blob that isn't the clone shows what it showed where it has empty slots
-  pub leaves : (h : ℕ) → h ≢ of → h ≢ clone → LeavesEmpty f base next Any h
+  pub leaves : (h : ℕ) → h ≢ of → h ≢ clone → LeavesEmpty f base next Anything h
   leaves h ne other page m is empty =
       let was_there : base h ≡ Some m = sym (is_other h ne other) ∙ is in
       record {

@@ -19,7 +19,7 @@ use Rattle.blob_meta.specs.Resolving.{IsLawful, resolved}
 use Rattle.blob_meta.proofs.Fates.{resolved_absent}
 use Rattle.inflate_delete.specs.Clones.{clones_below}
 use Rattle.inflate_delete.specs.DeleteJobs.{erase_job}
-use Rattle.shown_volumes.specs.EmptySlots.{Any, LeavesEmpty}
+use Rattle.shown_volumes.specs.EmptySlots.{Anything, LeavesEmpty}
 use Rattle.shown_volumes.specs.JobLaws.{ShowsErase}
 use Rattle.shown_volumes.specs.Maps.{Map, Metas, without_entry}
 use Rattle.shown_volumes.specs.Shown.{content, live_of, shown_by}
@@ -148,7 +148,7 @@ module _ (f : Fixed) (base : Metas) (rest : IsAtRest f base) (of : ℕ) (old : M
         ])
 
   -- every other blob shows what it showed where it has empty slots
-  leaves : (h : ℕ) → LeavesEmpty f base next Any h
+  leaves : (h : ℕ) → LeavesEmpty f base next Anything h
   leaves h page m is empty = record {
     old = m;
     there = was_there h m is;

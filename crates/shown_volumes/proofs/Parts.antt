@@ -15,7 +15,7 @@ use Rattle.blob_meta.specs.declared.meta.Meta.{Meta}
 use Rattle.blob_meta.specs.Resolving.{IsLawful, resolved}
 use Rattle.shown_volumes.specs.Maps.{Map, Metas}
 use Rattle.shown_volumes.specs.Shown.{live_of, or_empty, shown_by, volume_of}
-use Rattle.shown_volumes.specs.EmptySlots.{Any, LeavesEmpty}
+use Rattle.shown_volumes.specs.EmptySlots.{Anything, LeavesEmpty}
 use Rattle.shown_volumes.specs.ShowsStep.{IsAtRest, part_of, replaces, ShowsStep}
 use Rattle.shown_volumes.proofs.Marked.{as_before}
 
@@ -24,7 +24,7 @@ pub rest_resolved : (f : Fixed) (base : Metas) → IsAtRest f base → resolved 
 rest_resolved f base rest = fun_ext (λ h. as_before base base rest.unmarked h refl)
 
 -- the same metadata leaves empty slots as they are
-unchanged : (f : Fixed) (base : Metas) (h : ℕ) → LeavesEmpty f base base Any h
+unchanged : (f : Fixed) (base : Metas) (h : ℕ) → LeavesEmpty f base base Anything h
 unchanged f base h page m is empty = record { old = m; there = is; empty = empty; same = λ image _. refl }
 
 -- a head that is neither the first of some nor one of the others
@@ -44,7 +44,7 @@ pub shows_step : (f : Fixed) (base : Metas) (live : Map Xattrs) (command : Comma
     → ((image : Image)
     → shown_by f image next (live_of (change f (shown_by f image base live) command reply))
     ≡ change f (shown_by f image base live) command reply)
-    → ((h : ℕ) → replaces job h ≡ false → LeavesEmpty f base next Any h)
+    → ((h : ℕ) → replaces job h ≡ false → LeavesEmpty f base next Anything h)
     → ShowsStep f base live command reply job
 shows_step f base live command reply job next rest early late lawful shows leaves = record {
   lawful = λ count le. elim (cases_lt count job.commit) [
@@ -63,10 +63,10 @@ shows_step f base live command reply job next rest early late lawful shows leave
   finished = λ count ge le.
       late count ge le ∙ sym (late job.commit (omega arith) (omega (arith, ge, le)));
   leaves = λ count le h out.
-      subst (λ (m : Metas). LeavesEmpty f m (resolved (part_of job base count)) Any h)
+      subst (λ (m : Metas). LeavesEmpty f m (resolved (part_of job base count)) Anything h)
       (sym (rest_resolved f base rest)) (elim (cases_lt count job.commit) [
-        | inl lt ↦ subst (λ (m : Metas). LeavesEmpty f base m Any h) (sym (early count lt)) (unchanged f base h)
-        | inr ge ↦ subst (λ (m : Metas). LeavesEmpty f base m Any h) (sym (late count ge le)) (leaves h out)
+        | inl lt ↦ subst (λ (m : Metas). LeavesEmpty f base m Anything h) (sym (early count lt)) (unchanged f base h)
+        | inr ge ↦ subst (λ (m : Metas). LeavesEmpty f base m Anything h) (sym (late count ge le)) (leaves h out)
       ]);
 }
 

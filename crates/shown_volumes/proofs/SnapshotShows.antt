@@ -18,7 +18,7 @@ use Rattle.blob_meta.specs.declared.meta.Meta.{Meta}
 use Rattle.blob_meta.specs.Faults.{is_thin}
 use Rattle.blob_meta.specs.Parents.{parent_of, slot}
 use Rattle.blob_meta.specs.Resolving.{IsLawful, slots_together}
-use Rattle.shown_volumes.specs.EmptySlots.{Any, LeavesEmpty}
+use Rattle.shown_volumes.specs.EmptySlots.{Anything, LeavesEmpty}
 use Rattle.shown_volumes.specs.JobLaws.{IsClear}
 use Rattle.shown_volumes.specs.Maps.{Map, Metas}
 use Rattle.shown_volumes.specs.Shown.{content, content_by, live_of, or_empty, shown_by, volume_of}
@@ -230,7 +230,7 @@ module _ (f : Fixed) (base : Metas) (rest : IsAtRest f base) (of head : ℕ) (ol
       ])
 
   -- a blob that is neither the volume nor the snapshot shows what it showed where it has empty slots
-  pub leaves : (h : ℕ) → h ≢ head → h ≢ of → LeavesEmpty f base next Any h
+  pub leaves : (h : ℕ) → h ≢ head → h ≢ of → LeavesEmpty f base next Anything h
   leaves h ne other page m is empty =
       let was_there : base h ≡ Some m = sym (is_other h ne other) ∙ is in
       record {

@@ -23,6 +23,6 @@ LeavesEmpty f metas later Held head =
     (page : ℕ) (m : Meta) → later head ≡ Some m → slot m (page / f.cluster_pages) ≡ None
     → WasEmpty f metas later Held head page
 
--- whatever an image holds
-abbrev pub Any : Image → Type 0
-Any image = Unit {0}
+-- nothing is known of what an image holds
+abbrev pub Anything : Image → Type 0
+Anything image = Unit {0}

@@ -13,7 +13,7 @@ use Rattle.blob_meta.specs.declared.job.Job.{Job}
 use Rattle.blob_meta.specs.declared.meta.Meta.{Meta}
 use Rattle.blob_meta.specs.Repairs.{after, HasHeadsBelow, HasNoMarks}
 use Rattle.blob_meta.specs.Resolving.{IsLawful, resolved}
-use Rattle.shown_volumes.specs.EmptySlots.{Any, LeavesEmpty}
+use Rattle.shown_volumes.specs.EmptySlots.{Anything, LeavesEmpty}
 use Rattle.shown_volumes.specs.Maps.{Map, Metas}
 use Rattle.shown_volumes.specs.Shown.{live_of, shown_by}
 
@@ -60,4 +60,4 @@ pub record ShowsStep (f : Fixed) (base : Metas) (live : Map Xattrs) (command : C
   pub finished : (count : ℕ) → job.commit ≤ count → count ≤ length job.list
       → resolved (part_of job base count) ≡ resolved (part_of job base job.commit)
   pub leaves : (count : ℕ) → count ≤ length job.list → (h : ℕ) → replaces job h ≡ false
-      → LeavesEmpty f (resolved base) (resolved (part_of job base count)) Any h
+      → LeavesEmpty f (resolved base) (resolved (part_of job base count)) Anything h

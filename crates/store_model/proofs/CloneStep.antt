@@ -38,7 +38,7 @@ use Rattle.store_model.specs.Copying.{LeavesEmpty}
 use Rattle.store_model.specs.Jobs.{IsStep, ReadsZeros, shown_of}
 use Rattle.store_model.specs.Steady.{AreSteady, CanBeWritten, IsSteady}
 use Rattle.store_model.specs.RunInvariant.{RunsWell}
-use Rattle.store_model.proofs.EmptySlots.{Any}
+use Rattle.store_model.proofs.EmptySlots.{Anything}
 use Rattle.store_model.proofs.Known.{Known}
 use Rattle.store_model.proofs.MadeLive.{lives_made, writable_made}
 use Rattle.store_model.proofs.Meanwhile.{blank_reading, reading}
@@ -173,7 +173,8 @@ module _ (known : Known) (unmarked : HasNoMarks known.p.base) where
           (others image) can;
       renews = (ap (λ (m : Metas). is_some (m head)) base_now ∙ ap is_some (given_here p.base head new head refl), tt);
       numbers = λ makes. subst (λ h. is_among h (head ∷ []) ≡ true) (sym head_is) (among_first head []);
-      leaves = λ h out. subst (λ (m : Metas). LeavesEmpty p.super (resolved p.base) (resolved m) Any h) (sym base_now)
+      leaves = λ h out.
+          subst (λ (m : Metas). LeavesEmpty p.super (resolved p.base) (resolved m) Anything h) (sym base_now)
           (shows_step.leaves 1 (omega arith) h out);
     }
 

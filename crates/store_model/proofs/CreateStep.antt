@@ -28,7 +28,7 @@ use Rattle.store_model.specs.Phases.{Committing, replaced, Replacing}
 use Rattle.store_model.specs.StoreState.{live_of, shown, StoreState}
 use Rattle.store_model.specs.Asking.{IsCreateJob}
 use Rattle.store_model.proofs.ShowsGiven.{none_childless}
-use Rattle.store_model.proofs.EmptySlots.{Any, leaves_elsewhere, leaves_resolved}
+use Rattle.store_model.proofs.EmptySlots.{Anything, leaves_elsewhere, leaves_resolved}
 use Rattle.store_model.specs.Copying.{LeavesEmpty}
 use Rattle.store_model.specs.Jobs.{IsStep, ReadsZeros, shown_of, with_clusters}
 use Rattle.store_model.specs.Steady.{AreSteady, CanBeWritten, IsSteady}
@@ -220,9 +220,9 @@ module _ (known : Known) (unmarked : HasNoMarks known.p.base) where
       renews = (ap (λ (m : Metas). is_some (m head)) base_now ∙ ap is_some (given_here p.base head new head refl), tt);
       numbers = λ makes. subst (λ h. is_among h (head ∷ []) ≡ true) (sym head_is) (among_first head []);
       leaves = λ h out.
-          leaves_resolved p.super p.base (replaced p.base r) Any h (base_steady known unmarked)
+          leaves_resolved p.super p.base (replaced p.base r) Anything h (base_steady known unmarked)
           (subst (AreSteady p.super) (sym base_now) steady)
-          (subst (λ (m : Metas). LeavesEmpty p.super p.base m Any h) (sym base_now)
+          (subst (λ (m : Metas). LeavesEmpty p.super p.base m Anything h) (sym base_now)
           (leaves_elsewhere p.super p.base head new
           (none_childless p.base head (base_lawful known unmarked).parents none) h (not_first h head [] out).0));
     }
