@@ -18,8 +18,8 @@ const CLONES: Cut = Cut {
 /// The metadata pages of the store, just enough. With them clusters 0 and 1 are fixed.
 const MD_PAGES: u32 = 3;
 
-/// Before the commands, and after each. Loading reads the super block, three metadata pages, and a chain of one page. No
-/// command has a fresh page behind its head: it flushes, writes the head, and flushes.
+/// Before the commands, and after each. Loading reads the super block, three metadata pages, and a chain of one page.
+/// No command has a fresh page behind its head: it flushes, writes the head, and flushes.
 const POINTS: &[Point] = &[
     Point {
         calls: 0,

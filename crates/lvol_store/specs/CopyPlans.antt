@@ -20,8 +20,8 @@ IsClone (c.Clone volume name) = Unit {0}
 IsClone _ = ⊥
 
 module _ (metas : map.FinMap nat_cmp Meta) (sup : Super) where
-  -- A clone of the blob that is meant, at a head, with the attributes that a new volume has beside all volumes that show
-  -- the metadata.
+  -- A clone of the blob that is meant, at a head, with the attributes that a new volume has beside all volumes that
+  -- show the metadata.
   pub record Clones (head : ℕ) (volume : VolumeRef) (name : Text) (job : Job) : Type 0 where
     pub parent : ℕ
     pub old : Meta
