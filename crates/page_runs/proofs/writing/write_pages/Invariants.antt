@@ -1,5 +1,5 @@
-use Rattle.store_format.proofs.Filling.{Filling}
-use Rattle.store_format.proofs.formatting.write_pages.Given as goal
+use Rattle.page_runs.proofs.Filling.{Filling}
+use Rattle.page_runs.proofs.writing.write_pages.Given as goal
 
 -- the pages so far, and no other
 abbrev pub invariant-loop-index : goal.invariant-loop-index
