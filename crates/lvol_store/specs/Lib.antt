@@ -1,3 +1,4 @@
 pub mod Names
 pub mod Plans
 pub mod SlotPlans
+pub mod CopyPlans

@@ -3,12 +3,14 @@
 #![tactic(auto)]
 
 mod attributes;
+mod cloning;
 mod creating;
 mod resizing;
 mod slots;
 mod words;
 
 pub use attributes::{plan_put, plan_readonly, plan_sync};
+pub use cloning::plan_clone;
 pub use creating::{plan_create, store_uuid};
 pub use resizing::plan_resize;
 pub use volume_model::uuid_for;

@@ -42,15 +42,17 @@ pub answerable : (command : Command) → IsServedByMetadata command
     → ((volume : VolumeRef) (key value : Text) → command ≡ c.Put volume key value → ⊥)
     → ((volume : VolumeRef) → command ≡ c.Sync volume → ⊥)
     → ((volume : VolumeRef) → command ≡ c.ReadOnly volume → ⊥)
-    → ((volume : VolumeRef) (slots : ℕ) → command ≡ c.Resize volume slots → ⊥) → IsAnswerable command
-answerable (c.SetX volume key value) is create put sync read_only resize = inl (tt, tt)
-answerable (c.DelX volume key) is create put sync read_only resize = inl (tt, tt)
-answerable (c.GetX volume key) is create put sync read_only resize = inl (tt, tt)
-answerable c.Df is create put sync read_only resize = inr refl
-answerable (c.Create name slots thick uuid) is create put sync read_only resize = absurd (create name slots thick uuid
-    refl)
-answerable (c.Put volume key value) is create put sync read_only resize = absurd (put volume key value refl)
-answerable (c.Sync volume) is create put sync read_only resize = absurd (sync volume refl)
-answerable (c.ReadOnly volume) is create put sync read_only resize = absurd (read_only volume refl)
-answerable (c.Resize volume slots) is create put sync read_only resize = absurd (resize volume slots refl)
-answerable _ is create put sync read_only resize = absurd is
+    → ((volume : VolumeRef) (slots : ℕ) → command ≡ c.Resize volume slots → ⊥)
+    → ((volume : VolumeRef) (name : Text) → command ≡ c.Clone volume name → ⊥) → IsAnswerable command
+answerable (c.SetX volume key value) is create put sync read_only resize clone = inl (tt, tt)
+answerable (c.DelX volume key) is create put sync read_only resize clone = inl (tt, tt)
+answerable (c.GetX volume key) is create put sync read_only resize clone = inl (tt, tt)
+answerable c.Df is create put sync read_only resize clone = inr refl
+answerable (c.Create name slots thick uuid) is create put sync read_only resize clone =
+    absurd (create name slots thick uuid refl)
+answerable (c.Put volume key value) is create put sync read_only resize clone = absurd (put volume key value refl)
+answerable (c.Sync volume) is create put sync read_only resize clone = absurd (sync volume refl)
+answerable (c.ReadOnly volume) is create put sync read_only resize clone = absurd (read_only volume refl)
+answerable (c.Resize volume slots) is create put sync read_only resize clone = absurd (resize volume slots refl)
+answerable (c.Clone volume name) is create put sync read_only resize clone = absurd (clone volume name refl)
+answerable _ is create put sync read_only resize clone = absurd is

@@ -1,4 +1,4 @@
--- What is planned for a create or a resize is what the command asks for.
+-- What is planned for a create, a resize or a clone is what the command asks for.
 use Rattle.std.proofs.Common.{◌≡◌, ℕ, Bool, List, Option, Some, None, Result, Ok, Err}
 use Rattle.std.proofs.Common.{sym, subst, inl, inr}
 use Rattle.std.specs.Prelude.{IfOk, IfErr}
@@ -22,6 +22,8 @@ use Rattle.blob_meta.specs.declared.job.Job.{Job}
 use Rattle.blob_meta.specs.Find.{is_meant, IsLeast}
 use Rattle.blob_meta.specs.ShownBy.{IsFirstRefusal, IsHeadMeant, ShowsMetas}
 use Rattle.blob_meta.specs.Jobs.{create_job, resize_job}
+use Rattle.snapshots.specs.SnapshotJobs.{clone_job}
+use Rattle.lvol_store.specs.CopyPlans.{Clones, ClonesAsAsked}
 use Rattle.lvol_store.specs.SlotPlans.{Creates, PlansCreate, PlansResize, RefusesFirst, Resizes}
 use Rattle.store_model.specs.Shown.{fixed_of}
 use Rattle.store_model.specs.StoreState.{shown}
@@ -133,3 +135,30 @@ module _ {D : Type 0} (d : Ghosts D) (p : StoreView D) where
           → IfErr planned (RefusesFirst metas sup command) → IsPlanOf d p command (Some planned)) (sym e)
           (by_plan (c.Resize volume slots) tt (λ metas sup. PlansResize metas sup (c.Resize volume slots))
           (resize_asks volume slots))
+
+    module _ (made : (volume : VolumeRef) (name : Text) (parent : ℕ) (old : Meta) (head : ℕ) (xattrs : Xattrs)
+        → IsName name → IsHeadMeant p.metas p.super volume (Some parent) → map.get p.metas parent ≡ Some old
+        → IsNextHead p.super.md_len p.pages head → IsFirstRefusal p.metas p.super (c.Clone volume name) None
+        → ((f : Fixed) (v : Volumes) → ShowsMetas f p.super p.metas v → two_xattrs f v name None ≡ xattrs)
+        → IsJobOf (state_of d p) (c.Clone volume name) (clone_job parent old head xattrs)) where
+      clone_asks : (head : ℕ) → IsNextHead p.super.md_len p.pages head → (volume : VolumeRef) (name : Text) (job : Job)
+          → Clones p.metas p.super head volume name job → IsFirstRefusal p.metas p.super (c.Clone volume name) None
+          → IsJobOf (state_of d p) (c.Clone volume name) job
+      clone_asks head next volume name job plan first =
+          subst (λ (job : Job). IsJobOf (state_of d p) (c.Clone volume name) job) (sym plan.job_is)
+          (made volume name plan.parent plan.old head plan.xattrs plan.is_name plan.meant plan.there next first
+          plan.named)
+
+      -- what is planned for a clone
+      pub clone_plan : (head : ℕ) → IsNextHead p.super.md_len p.pages head → (command : Command) (volume : VolumeRef)
+          (name : Text) → command ≡ c.Clone volume name → (planned : Result Job Reply)
+          → IfOk planned (ClonesAsAsked metas sup head command)
+          → IfOk planned (λ job. IsFirstRefusal metas sup command None)
+          → IfErr planned (RefusesFirst metas sup command) → IsPlanOf d p command (Some planned)
+      clone_plan head next command volume name e =
+          subst
+          (λ (command : Command). (planned : Result Job Reply) → IfOk planned (ClonesAsAsked metas sup head command)
+          → IfOk planned (λ job. IsFirstRefusal metas sup command None)
+          → IfErr planned (RefusesFirst metas sup command) → IsPlanOf d p command (Some planned)) (sym e)
+          (by_plan (c.Clone volume name) tt (λ metas sup. ClonesAsAsked metas sup head (c.Clone volume name))
+          (clone_asks head next volume name))

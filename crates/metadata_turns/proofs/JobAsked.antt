@@ -1,15 +1,10 @@
 -- What is known of a job that a command asks for, before it begins.
-use Rattle.std.proofs.Common.{◌≡◌, ℕ, ◌<◌, ◌^◌, Bool, true, false, List, [], ◌∷◌, length, get_or, drop}
-use Rattle.std.proofs.Common.{All, Option, Some, None, refl, sym, ◌∙◌, ap, subst, arith, inl, inr}
-use Rattle.std.specs.Prelude.{if◌then◌else◌, is_some, nat_lt, not}
-use Rattle.std.specs.Ordering.{nat_cmp}
-use Rattle.std.specs.FinMap as map
-use Rattle.std.proofs.lemmas.Bool.{cases_Bool, both_ways}
+use Rattle.std.proofs.Common.{◌≡◌, ℕ, ◌<◌, Bool, false, List, [], ◌∷◌, length, drop}
+use Rattle.std.proofs.Common.{Option, Some, None, refl, sym, ◌∙◌, ap, subst, arith}
+use Rattle.std.specs.Prelude.{codes, if◌then◌else◌, is_some, nat_lt}
 use Rattle.std.proofs.lemmas.List.{take_all}
 use Rattle.std.proofs.lemmas.Bool.Decides.{nat_tests}
-use Rattle.bit_array.specs.Bits.{is_in}
 use Rattle.super_block.specs.declared.page.Super.{Super}
-use Rattle.super_block.specs.Placed.{IsPlaced}
 use Rattle.volume_model.specs.Xattrs.{Xattrs}
 use Rattle.volume_model.specs.Volumes.{two_xattrs}
 use Rattle.volume_model.specs.Steps.{MayLackMemory}
@@ -22,42 +17,26 @@ use Rattle.blob_meta.specs.Jobs.{create_job, job_of_one, new_meta, resize_job, r
 use Rattle.blob_meta.specs.Faults.{clusters_of}
 use Rattle.blob_meta.specs.Parents.{slot}
 use Rattle.blob_meta.specs.Repairs.{HasNoMarks}
-use Rattle.blob_meta.specs.Resolving.{mark_of}
-use Rattle.blob_meta.specs.Says.{meta_of}
-use Rattle.blob_meta.proofs.Inverse.{says}
-use Rattle.md_chain.specs.Chain.{is_among}
-use Rattle.md_chain.specs.Packing.{parts_of}
-use Rattle.md_chain.specs.Planned.{written_items}
-use Rattle.md_chain.specs.declared.plan.PlannedPage.{PlannedPage}
-use Rattle.md_chain.proofs.Saying.{written_say}
 use Rattle.store_model.specs.Maps.{with_entry}
 use Rattle.store_model.specs.Shown.{fixed_of}
-use Rattle.store_model.specs.Phases.{page_in}
 use Rattle.store_model.specs.StoreState.{StoreState, shown}
-use Rattle.store_model.specs.Places.{held_by, AreDistinct, AreLeastClear, IsLinked, UsedPages}
-use Rattle.store_model.specs.Jobs.{places_of, with_clusters, MovesClusters}
-use Rattle.store_model.specs.Asking.{AsksFor, creates, IsJobFor, IsSyncing, resizes, syncs}
+use Rattle.store_model.specs.Places.{AreDistinct, AreLeastClear}
+use Rattle.store_model.specs.Jobs.{with_clusters, MovesClusters}
+use Rattle.store_model.specs.Asking.{AsksFor, clones, creates, IsJobFor, IsSyncing, resizes, syncs}
+use Rattle.snapshots.specs.SnapshotJobs.{clone_job, new_clone}
+use Rattle.shown_volumes.proofs.GoodMarks.{named_good}
 use Rattle.store_model.specs.RunInvariant.{CanBeWritten, IsSteady, RunsWell}
-use Rattle.store_model.proofs.ClaimedZeros.{claimed_free, zeroed_is}
-use Rattle.store_model.proofs.JobReady.{head_of, job_writable, new_of, one_change}
+use Rattle.store_model.proofs.JobReady.{job_writable}
 use Rattle.store_model.proofs.Cut.{cut, is_cut as is_taken, length_cut}
 use Rattle.store_model.proofs.OneReplacement.{base_lawful, base_steady}
 use Rattle.store_model.proofs.Known.{Known}
 use Rattle.store_model.proofs.NewBlob.{empty_slot, two_written}
-use Rattle.store_model.proofs.Sets.{among_either, among_first, are_distinct, were_clear}
-use Rattle.store_model.proofs.ZeroSlots.{each_claimed}
-use Rattle.metadata_turns.specs.Begins.{job_with_zeros, taken_for, AsksToWrite, IsPrepared, IsTaken}
+use Rattle.metadata_turns.specs.Begins.{job_with_zeros, AsksToWrite}
 use Rattle.running_store.specs.Effects.{cut_clusters, is_cut, is_live_kept, live_behind}
 use Rattle.running_store.specs.StoreInvariant.{IsRunning}
-use Rattle.metadata_turns.specs.declared.preparing.Prepared.{Prepared}
-use Rattle.metadata_turns.proofs.AtWork.{page_of}
-use Rattle.running_store.proofs.PlainFacts.{got}
-use Rattle.running_store.proofs.Cleared.{among_get}
 use Rattle.metadata_turns.proofs.CutClusters.{cut_moves, cut_once}
-use Rattle.metadata_turns.proofs.FilledMoves.{filled_moves}
-use Rattle.metadata_turns.proofs.JobPlaces.{once_each, places_from}
-use Rattle.metadata_turns.proofs.SlotsOfZeros.{can_be_filled, with_none, CanBeFilled}
-use Rattle.metadata_turns.proofs.JobPlanned.{commit_by, moves_made, same_one, IsReady}
+use Rattle.metadata_turns.proofs.SlotsOfZeros.{with_none}
+use Rattle.metadata_turns.proofs.JobPlanned.{commit_by, moves_made, same_one}
 
 -- a map of all its slots
 whole_cut : (map : List (Option ℕ)) → cut map (length map) None ≡ map
@@ -69,7 +48,7 @@ ltb-irrefl n = grind (arith, nat_tests)
 module _ (p : StoreState) (running : IsRunning p) (clean : HasNoMarks p.base) (runs : p.stopped ≡ None)
     (command : Command) (head : ℕ) (new : Meta)
     (zeros : List ℕ) (asks : AsksToWrite p command head new zeros) where
-  abbrev known : Known
+  abbrev pub known : Known
   known = record {
     s = running.store;
     placed = running.placed;
@@ -223,169 +202,31 @@ module _ (p : StoreState) (running : IsRunning p) (clean : HasNoMarks p.base) (r
         live = live_behind (is_live_kept k) new;
         renews = if nat_lt y.slots (length y.old.map) then head ∷ [] else [];
       }) (sym y.command_is)))
+  asked_by (clones y) =
+      let xattrs = two_xattrs (fixed_of p.super) (shown p) y.name None in
+      let made = new_clone y.parent y.old y.head xattrs in
+      let same = same_one head y.head new made zeros (clone_job y.parent y.old y.head xattrs) y.is refl in
+      let none : p.base head ≡ None = ap p.base same.head_is ∙ y.none in
+      subst IsAsked (sym none) (record {
+        commit = y.commit_is
+            ∙ ap (λ (h : ℕ). record { reply = r.Made h; live = Some xattrs; renews = h ∷ [] }) (sym same.head_is)
+            ∙ ap (λ (m : Meta). record { reply = r.Made head; live = Some m.xattrs; renews = head ∷ [] })
+            (sym same.new_is)
+            ∙ ap (λ (k : Command). record {
+              reply = r.Made head;
+              live = live_behind (is_live_kept k) new;
+              renews = head ∷ [];
+            }) (sym y.command_is);
+        xattrs = subst (λ (m : Meta). CanBeWritten m.xattrs) (sym same.new_is)
+            (two_written (fixed_of p.super) (shown p) y.name None y.named);
+        internal = subst (λ (m : Meta). CanBeWritten m.internal) (sym same.new_is)
+            (named_good [] (codes "SNAP") y.parent (omega arith)
+            (record { can = record { names = tt; short = tt }; good = tt })).can;
+        once = tt;
+        moves = moves_made p.super p.base head new none
+            (λ i. ap (λ (m : Meta). slot m i) same.new_is ∙ empty_slot (length y.old.map) i);
+        memory = subst (MayLackMemory (fixed_of p.super) (shown p)) (sym y.command_is) tt;
+      })
 
   pub asked : IsAsked (p.base head)
   asked = asked_by asks.asked
-
-  -- ---- its slots of zeros
-
-  pub fillable : CanBeFilled p.base new zeros
-  fillable =
-      let is = one_change p command (job_with_zeros head new zeros) asks.commit asks.asked in
-      let same = same_one head (head_of p command _ asks.commit asks.asked) new
-      (new_of p command _ asks.commit asks.asked) zeros _ is refl in
-      subst (λ (m : Meta). CanBeFilled p.base m zeros) (sym same.new_is)
-      (subst (CanBeFilled p.base (new_of p command _ asks.commit asks.asked)) (sym (ap (λ (j : Job). j.zero) is))
-      (can_be_filled p command _ asks.commit asks.asked))
-
-  -- each of them is a slot of the new map
-  pub zeros_within : All (λ i. i < length new.map) zeros
-  zeros_within k d lt = (fillable.empty (get_or zeros k d) (among_get zeros k d lt)).0
-
-  placed : IsPlaced p.super
-  placed = subst IsPlaced (sym running.facts.super) running.placed
-
-  -- cluster 0 is none that a slot can hold
-  pub first_in_use : is_in p.clusters 0 ≡ true
-  first_in_use = well.clusters.fixed 0 placed.some_fixed
-      (let some = placed.some_fixed in let le = placed.fixed_clusters in omega (arith, some, le))
-
-  module _ (claimed : List ℕ) (least : AreLeastClear p.clusters claimed)
-      (one_each : length claimed ≡ length zeros) where
-    -- the clusters that are claimed for these slots are in the map then, and all else moves as without them
-    pub moves_filled : MovesClusters p.super p.base (with_entry p.base head (with_clusters new zeros claimed))
-        (cut_clusters (p.base head) new) claimed
-    moves_filled = filled_moves p.super p.base head new (with_clusters new zeros claimed)
-        (cut_clusters (p.base head) new) claimed asked.moves
-        (zeroed_is known runs claimed least head new zeros fillable.distinct fillable.empty fillable.had)
-        (each_claimed new zeros claimed fillable.distinct fillable.empty one_each)
-        (claimed_free known runs claimed least)
-
-  -- ---- its chain
-
-  chain_where : (there : Bool) → is_some (p.chains head) ≡ there → is_some (p.base head) ≡ there
-  chain_where there is = by (p.base head) refl
-    where
-      by : (o : Option Meta) → p.base head ≡ o → is_some (p.base head) ≡ there
-      by None none = ap is_some none ∙ sym (ap is_some (well.chains.none head none)) ∙ is
-      by (Some m) some = ap is_some some ∙ sym (ap is_some (well.chains.chain head m some).1) ∙ is
-
-  -- a blob has one exactly where it is there
-  pub there_is : is_some (p.base head) ≡ is_some (p.chains head)
-  there_is = chain_where (is_some (p.chains head)) refl
-
-  pub has_chain : is_some (p.chains head) ≡ true → (behind : List ℕ) × (p.chains head ≡ Some (head ∷ behind))
-  has_chain some = by (p.base head) refl
-    where
-      by : (o : Option Meta) → p.base head ≡ o → (behind : List ℕ) × (p.chains head ≡ Some (head ∷ behind))
-      by None none = absurd (let bad = sym (there_is ∙ some) ∙ ap is_some none in cc bad)
-      by (Some m) there = well.chains.chain head m there
-
-  small : p.super.md_len < 2 ^ 32
-  small =
-      let few = placed.few_md_pages in
-      omega (arith, few)
-
-  -- ---- laid on pages
-
-  module _ (no_job : p.job ≡ None) (makes : Bool) (was : is_some (p.chains head) ≡ not makes) where
-    used : UsedPages p.super.md_len p.pages p.chains []
-    used = subst (UsedPages p.super.md_len p.pages p.chains) (ap held_by no_job) well.pages
-
-    module _ (fresh : List ℕ) (least : AreLeastClear p.pages (taken_for makes head fresh)) where
-      as_made : makes ≡ true → AreLeastClear p.pages (head ∷ fresh)
-      as_made e = subst (λ (b : Bool). AreLeastClear p.pages (taken_for b head fresh)) e least
-
-      as_there : makes ≡ false → AreLeastClear p.pages fresh
-      as_there e = subst (λ (b : Bool). AreLeastClear p.pages (taken_for b head fresh)) e least
-
-      chain_there : makes ≡ false → (behind : List ℕ) × (p.chains head ≡ Some (head ∷ behind))
-      chain_there e = has_chain (was ∙ ap not e)
-
-      -- the head of a blob that is there is in use
-      head_apart : makes ≡ false → is_among head fresh ≡ false
-      head_apart e = elim (cases_Bool (is_among head fresh)) [
-        | inl among ↦
-            let chain = chain_there e in
-            let linked : IsLinked p.chains head = record {
-              head = head;
-              pages = head ∷ chain.0;
-              chain = chain.1;
-              among = among_first head chain.0;
-            } in
-            absurd (both_ways (is_in p.pages head) (were_clear p.pages fresh (as_there e) head among).clear
-            (used.linked head linked))
-        | inr out ↦ out
-      ]
-
-      pub all_differ : AreDistinct (head ∷ fresh)
-      all_differ = elim (cases_Bool makes) [
-        | inl e ↦ are_distinct p.pages (head ∷ fresh) (as_made e)
-        | inr e ↦ (head_apart e, are_distinct p.pages fresh (as_there e))
-      ]
-
-      pub head_low : head < p.super.md_len
-      head_low = elim (cases_Bool makes) [
-        | inl e ↦ subst (λ n. head < n) used.count (as_made e).0.within
-        | inr e ↦ well.chains.low head head (head ∷ (chain_there e).0) (chain_there e).1
-            (among_first head (chain_there e).0)
-      ]
-
-      below : (x : ℕ) → is_among x (head ∷ fresh) ≡ true → x < p.super.md_len
-      below x among = elim (among_either x head fresh among) [
-        | inl first ↦ subst (λ y. y < p.super.md_len) (sym first) head_low
-        | inr later ↦ elim (cases_Bool makes) [
-          | inl e ↦ subst (λ n. x < n) used.count (were_clear p.pages (head ∷ fresh) (as_made e) x among).below
-          | inr e ↦ subst (λ n. x < n) used.count (were_clear p.pages fresh (as_there e) x later).below
-        ]
-      ]
-
-      pub all_low : All (λ x. x < p.super.md_len) (head ∷ fresh)
-      all_low k d lt = below (get_or (head ∷ fresh) k d) (among_get (head ∷ fresh) k d lt)
-
-    module _ (claimed : List ℕ) (least : AreLeastClear p.clusters claimed) (one_each : length claimed ≡ length zeros)
-        (chains : map.FinMap nat_cmp (List ℕ)) (after : List Bool) (x : Prepared)
-        (is : IsPrepared chains head (with_clusters new zeros claimed) makes p.pages after x) where
-      abbrev later : Meta
-      later = with_clusters new zeros claimed
-
-      t : IsTaken is.items head makes p.pages after x.laid
-      t = is.taken
-
-      planned_places : places_of x.laid.pages ≡ head ∷ t.fresh
-      planned_places = ap places_of t.laid_on.pages ∙ places_from head 0 head t.fresh (parts_of is.items) t.count
-
-      planned_pages : All (λ (q : PlannedPage). page_in x.laid.pages q.place ≡ q.page) x.laid.pages
-      planned_pages k d lt = page_of x.laid.pages k (get_or x.laid.pages k d)
-          (subst AreDistinct (sym planned_places) (all_differ t.fresh t.least)) (got x.laid.pages k d lt)
-
-      whole : IsSteady p.super head later
-      whole = steady claimed least one_each (head_low t.fresh t.least)
-
-      -- and has no mark
-      pub unmarked : mark_of later ≡ None
-      unmarked = whole.unmarked
-
-      says_new : later ≡ meta_of head (written_items is.items)
-      says_new = sym (written_say head is.items is.plannable
-          ∙ says head later is.items whole.stored.id whole.stored.clear whole.stored.xattrs.names
-          whole.stored.internal.names is.are)
-
-      ready_at : IsReady p head later makes after x.laid.pages t.fresh
-      ready_at = record {
-        needs = record { items = is.items; are = is.are; chain = sym t.count };
-        least = t.least;
-        taken = t.taken;
-        packed = record { items = is.items; are = is.are; pages = t.laid_on.pages };
-        planned = record {
-          items = written_items is.items;
-          chain = t.laid_on.reads (page_in x.laid.pages) p.super.md_len small
-              (once_each (head ∷ t.fresh) (all_differ t.fresh t.least)) (all_low t.fresh t.least) planned_pages;
-          meta_is = says_new;
-          faultless = whole.stored.faultless;
-        };
-        places = planned_places;
-      }
-
-      pub ready : IsReady p head (with_clusters new zeros claimed) makes after x.laid.pages (drop 1 x.laid.chain)
-      ready = subst (IsReady p head later makes after x.laid.pages) (sym (ap (drop 1) t.laid_on.chain)) ready_at

@@ -30,7 +30,8 @@ use Rattle.running_store.specs.Zeroing.{pages_of}
 use Rattle.running_store.specs.Steps.{logged_at, IsPostedAt}
 use Rattle.running_store.specs.declared.job.Planned.{Planned}
 use Rattle.running_store.proofs.Entered.{disk_same, entered}
-use Rattle.metadata_turns.proofs.JobAsked.{asked, moves_filled, there_is, IsAsked}
+use Rattle.metadata_turns.proofs.JobAsked.{asked, IsAsked}
+use Rattle.metadata_turns.proofs.JobPrepared.{moves_filled, there_is}
 use Rattle.metadata_turns.proofs.JobPlanned.{commit_by, IsReady}
 use Rattle.running_store.proofs.Rowing.{rows_set}
 use Rattle.running_store.proofs.ZeroPages.{from_start}

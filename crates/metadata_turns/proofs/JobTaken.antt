@@ -33,8 +33,8 @@ use Rattle.running_store.specs.declared.effects.Effects.{Effects}
 use Rattle.running_store.specs.declared.job.Rooms.{Rooms}
 use Rattle.running_store.specs.declared.job.RunningJob.{RunningJob}
 use Rattle.metadata_turns.specs.declared.preparing.Prepared.{Prepared}
-use Rattle.metadata_turns.proofs.JobAsked.{asked, first_in_use, has_chain, ready, there_is, unmarked, zeros_within}
-use Rattle.metadata_turns.proofs.JobAsked.{IsAsked}
+use Rattle.metadata_turns.proofs.JobAsked.{asked, IsAsked}
+use Rattle.metadata_turns.proofs.JobPrepared.{first_in_use, has_chain, ready, there_is, unmarked, zeros_within}
 use Rattle.metadata_turns.proofs.JobPlanned.{all_fit}
 use Rattle.metadata_turns.proofs.JobBegin.{begun, why_unprepared}
 use Rattle.metadata_turns.proofs.SlotsOfZeros.{with_none}

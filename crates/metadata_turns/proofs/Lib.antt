@@ -6,6 +6,7 @@ pub mod FilledMoves
 pub mod SlotsOfZeros
 pub mod JobPlanned
 pub mod JobAsked
+pub mod JobPrepared
 pub mod JobBegin
 pub mod JobTaken
 pub mod AtWork

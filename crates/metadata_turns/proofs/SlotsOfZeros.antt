@@ -8,7 +8,7 @@ use Rattle.blob_meta.specs.declared.meta.Meta.{Meta}
 use Rattle.blob_meta.specs.Faults.{is_thin}
 use Rattle.blob_meta.specs.Parents.{slot}
 use Rattle.md_chain.specs.Chain.{is_among}
-use Rattle.store_model.specs.Asking.{creates, resizes, syncs, IsJobFor}
+use Rattle.store_model.specs.Asking.{clones, creates, resizes, syncs, IsJobFor}
 use Rattle.store_model.specs.Jobs.{with_clusters}
 use Rattle.store_model.specs.Maps.{Metas}
 use Rattle.store_model.specs.Phases.{Committing}
@@ -94,4 +94,9 @@ can_be_filled p command changes commit (resizes x) = record {
     place = i;
     in_slot = slot_was x.old.map x.slots i c at;
   };
+}
+can_be_filled p command changes commit (clones x) = record {
+  distinct = tt;
+  empty = λ i among. absurd (cc among);
+  had = λ i c at. absurd (let bad = sym (empty_slot (length x.old.map) i) ∙ at in cc bad);
 }

@@ -11,7 +11,7 @@ use Rattle.volume_model.specs.declared.reply.Msg.{Msg}
 use Rattle.blob_meta.specs.declared.job.Job.{Job as Changes}
 use Rattle.blob_meta.specs.declared.job.Replacement.{Replacement}
 use Rattle.blob_meta.specs.declared.meta.Meta.{Meta}
-use Rattle.store_model.specs.Asking.{creates, IsJobFor, IsSyncing, resizes, syncs}
+use Rattle.store_model.specs.Asking.{clones, creates, IsJobFor, IsSyncing, resizes, syncs}
 use Rattle.store_model.specs.Cases.Begin.{Begins}
 use Rattle.store_model.specs.Cases.BeginInsert.{BeginsInsert}
 use Rattle.store_model.specs.Cases.LoseInsert.{LosesInsert}
@@ -89,6 +89,7 @@ module _ (p : StoreState) where
   job_asks command changes commit (syncs x) = syncing_asks command x.asks.syncing
   job_asks command changes commit (creates x) = ap (command_in_run p.super) x.command_is
   job_asks command changes commit (resizes x) = ap (command_in_run p.super) x.command_is
+  job_asks command changes commit (clones x) = ap (command_in_run p.super) x.command_is
 
   -- its changes are one replacement, which is the commit
   pub record IsOne (changes : Changes) : Type 0 where
@@ -110,6 +111,11 @@ module _ (p : StoreState) where
     first = ap (λ (y : Changes). y.commit) x.is;
   }
   job_of_one command changes commit (resizes x) = record {
+    only = _;
+    list = ap (λ (y : Changes). y.list) x.is;
+    first = ap (λ (y : Changes). y.commit) x.is;
+  }
+  job_of_one command changes commit (clones x) = record {
     only = _;
     list = ap (λ (y : Changes). y.list) x.is;
     first = ap (λ (y : Changes). y.commit) x.is;

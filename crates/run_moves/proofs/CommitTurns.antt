@@ -22,7 +22,7 @@ use Rattle.store_model.specs.RunInvariant.{RunsWell}
 use Rattle.store_model.specs.Shown.{fixed_of}
 use Rattle.store_model.specs.StoreState.{going_on, JobState, live_of, shown}
 use Rattle.store_model.specs.StoreState.{StoreState, waiting}
-use Rattle.store_model.proofs.Faultless.{none_first, passes}
+use Rattle.shown_volumes.proofs.MapTests.{passes}
 use Rattle.store_model.proofs.WithEntry.{given_elsewhere, given_here}
 use Rattle.run_work.specs.JobMoves.{CommitMove, ReplacesBlob}
 use Rattle.run_work.specs.Reading.{job_left, logged_at}
@@ -61,7 +61,7 @@ short_map l false is none = absurd (never_none _ _ is none)
 pub few_slots : (s : Super) (head : ℕ) (m : Meta) → IsStored s head m → length m.map ≤ 2 ^ 20
 few_slots s head m stored =
     let was = passes (region_of s).fixed (region_of s).clusters m stored.faultless in
-    short_map m.map (nat_le (length m.map) (2 ^ 20)) refl (none_first (too_large m.map) _ was.map).0
+    short_map m.map (nat_le (length m.map) (2 ^ 20)) refl was.few
 
 -- ---- blobs with generations
 

@@ -1,8 +1,10 @@
 //! Tests of the program's calls over a device in memory: the verbs on attributes, new volumes, volumes that are thick
-//! or get another number of slots, pages that are read and written, channels that take turns, new
-//! stores, and each status.
+//! or get another number of slots, clones, pages that are read and written, channels that take turns, new stores, and
+//! each status.
 #![tactic(auto)]
 
+#[cfg(test)]
+mod clones;
 #[cfg(test)]
 mod failures;
 #[cfg(test)]

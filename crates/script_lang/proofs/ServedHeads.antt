@@ -53,7 +53,7 @@ slots_served _ volume slots = tt
 name_served : (verb : Verb) (volume : VolumeRef) (name : List ℕ) → serves Served verb ≡ true
     → IfOk (alone (on_name verb volume name)) AreServed
 name_served v.Snapshot volume name s = absurd (false≢true s)
-name_served v.Clone volume name s = absurd (false≢true s)
+name_served v.Clone volume name s = one_served_alone _ tt
 name_served v.Rename volume name s = absurd (false≢true s)
 name_served _ volume name s = tt
 

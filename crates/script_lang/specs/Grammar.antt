@@ -18,5 +18,6 @@ serves g.Served v.Put = true
 serves g.Served v.Sync = true
 serves g.Served v.ReadOnly = true
 serves g.Served v.Resize = true
+serves g.Served v.Clone = true
 serves g.Served v.Df = true
 serves g.Served verb = false

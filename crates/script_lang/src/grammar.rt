@@ -32,6 +32,7 @@ impl Grammar {
                     | Verb::Sync
                     | Verb::ReadOnly
                     | Verb::Resize
+                    | Verb::Clone
                     | Verb::Df
             ),
         }

@@ -240,6 +240,8 @@ fn lines_as_served(rt: HostRuntime) -> Result<(), Fail> {
         (b"0 write v 0 257 7", b"1 Number"),
         (b"0 write v 0 1", b"1 Form"),
         (b"0 snapshot v s", b"1 Verb"),
+        (b"0 clone v c", b"0 clone v c;"),
+        (b"0 clone v @1", b"1 Volume"),
         (b"0 readonly v", b"0 readonly v;"),
         (b"0 readonly", b"1 Form"),
         (b"0 resize @0 fat", b"1 Number"),

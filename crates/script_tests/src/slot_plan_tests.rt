@@ -1,11 +1,14 @@
-//! Plans of creates and resizes, each cause of a refusal, and uuids of names.
+//! Plans of creates, clones and resizes, each cause of a refusal, and uuids of names.
 
 ghost use Rattle.blob_meta.specs.SlotCounts.{IsCreate, IsResize};
+ghost use Rattle.lvol_store.specs.CopyPlans.{IsClone};
 
 use crate::plan_tests::{told, volume};
-use blob_meta::{Flags, Job, Meta, Metas};
+use blob_meta::{Flags, Job, Meta, Metas, parent_of};
 use descriptors::SlotMap;
-use lvol_store::{check_name, parse_uuid, plan_create, plan_resize, store_uuid, uuid_for};
+use lvol_store::{
+    check_name, parse_uuid, plan_clone, plan_create, plan_resize, store_uuid, uuid_for,
+};
 use out_of_memory::Memory;
 use std::alloc::Global;
 use std::test::Fail;
@@ -77,6 +80,12 @@ fn create(name: Name, slots: u64, thick: bool, uuid: Option<[u8; 16]>) -> Comman
         thick,
         uuid,
     }
+}
+
+fn clone_of(volume: VolumeRef, name: Name) -> Command
+    ensures { IsClone result }
+{
+    Command::Clone { volume, name }
 }
 
 fn resize(volume: VolumeRef, slots: u64) -> Command
@@ -169,6 +178,48 @@ fn creates_are_planned_or_refused(rt: HostRuntime) -> Result<(), Fail> {
         plan.as_slice(),
         b"9 name=v\0 uuid=80e2434c-466c-59a0-a364-5d8d01601338\0 flags 1 slots zero".as_slice()
     );
+    Ok(())
+}
+
+#[test]
+fn clones_are_planned_or_refused(rt: HostRuntime) -> Result<(), Fail> {
+    let alloc = rt.alloc();
+    let metas = metas(alloc)?;
+    let sup = Layout::plan(64, 4, Some(16))?.new_super((1 << 32) + 2, [0; 16]);
+    let cases: &[(u32, &[u8], &[u8], &[u8])] = &[
+        (
+            0,
+            b"fixed",
+            b"v",
+            b"9 name=v\0 uuid=98487c0f-efa2-5b6a-ab3e-3f7187dfcaee\0 flags 1 slots - - - zero",
+        ),
+        (
+            6,
+            b"",
+            b"store",
+            b"9 name=store\0 uuid=da63599b-b92b-598d-9e3f-032e55362006\0 flags 1 slots - - - zero",
+        ),
+        (0, b"none", b"thin", b"NoVolume"),
+        (9, b"", b"v", b"NoVolume"),
+        (0, b"thin", b"thin", b"NotReadOnly"),
+        (2, b"", b"v", b"NotReadOnly"),
+        (0, b"fixed", b"clone", b"NameTaken"),
+    ];
+    for (head, of, name, wanted) in cases {
+        let Ok(name) = check_name(name) else {
+            continue;
+        };
+        let plan = plan_clone(alloc, &metas, &sup, &clone_of(volume(*head, of), name), 9);
+        assert_eq!(rt; told_whole(alloc, &plan)?.as_slice(), *wanted);
+        if let Ok(job) = &plan {
+            for replacement in job.list.as_slice() {
+                assert_eq!(rt;
+                    replacement.new.as_ref().and_then(|meta| parent_of(meta)),
+                    Some(6)
+                );
+            }
+        }
+    }
     Ok(())
 }
 

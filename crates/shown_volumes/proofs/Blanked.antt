@@ -5,7 +5,6 @@ use Rattle.std.specs.Option.{option_map}
 use Rattle.std.proofs.lemmas.List.FromFn.{length-map-range_with_len}
 use Rattle.page_disk.specs.Disk.{Image}
 use Rattle.volume_model.specs.Blank.{blank, blanked}
-use Rattle.volume_model.specs.Steps.{change}
 use Rattle.volume_model.specs.Volumes.{Fixed, two_xattrs, Volume, Volumes, zero_page}
 use Rattle.volume_model.specs.Xattrs.{Text, Xattrs}
 use Rattle.volume_model.specs.declared.command.Command.TheVariants as c

@@ -1,5 +1,5 @@
 -- A clone's job shows the volumes as they were, and from its commit on those of the step.
-use Rattle.std.proofs.Common.{◌≡◌, ◌≢◌, ℕ, suc, ◌+◌, ◌*◌, ◌/◌, ◌^◌, ◌<◌, ◌≤◌, true, false, Option, Some, None, List, length}
+use Rattle.std.proofs.Common.{◌≡◌, ◌≢◌, ℕ, suc, ◌+◌, ◌*◌, ◌/◌, ◌^◌, ◌<◌, ◌≤◌, true, false, Option, Some, None, length}
 use Rattle.std.proofs.Common.{map, refl, sym, ap, ◌∙◌, subst, inl, inr, arith}
 use Rattle.std.specs.Prelude.{◌==◌, if◌then◌else◌, nat_lt}
 use Rattle.std.specs.List.{range_with_len}
@@ -19,16 +19,18 @@ use Rattle.blob_meta.specs.declared.meta.Meta.{Meta}
 use Rattle.blob_meta.specs.Parents.{is_read_only, parent_of}
 use Rattle.blob_meta.specs.Resolving.{IsLawful, slots_together}
 use Rattle.snapshots.specs.SnapshotJobs.{clone_job}
+use Rattle.shown_volumes.specs.EmptySlots.{Anything, LeavesEmpty}
 use Rattle.shown_volumes.specs.JobLaws.{IsClear, ShowsClone}
 use Rattle.shown_volumes.specs.Maps.{Map, Metas}
-use Rattle.shown_volumes.specs.Shown.{content, content_by, live_of, or_empty, shown_by, volume_of}
+use Rattle.shown_volumes.specs.Shown.{content, content_by, live_of, shown_by}
 use Rattle.shown_volumes.specs.ShowsStep.{IsAskedOf, IsAtRest, ShowsStep}
 use Rattle.shown_volumes.proofs.Blanked.{blank_shown, two_same}
 use Rattle.shown_volumes.proofs.BlobsShown.{shows_blob, slots_fit, volume_at}
 use Rattle.shown_volumes.proofs.CloneLawful as law
 use Rattle.shown_volumes.proofs.EmptyMaps.{empty_slot}
 use Rattle.shown_volumes.proofs.Fitting.{Contents, Fits, from_parent, in_empty, opened, pages_fit, same_level}
-use Rattle.shown_volumes.proofs.Parts.{none_shown, rest_resolved, shows_step, some_shown}
+use Rattle.shown_volumes.proofs.Fitting.{same_still}
+use Rattle.shown_volumes.proofs.Parts.{none_shown, not_first, rest_resolved, shows_step, some_shown}
 use Rattle.shown_volumes.proofs.Passing.{clone_read_only, clone_room}
 use Rattle.shown_volumes.proofs.Ranks.{Levels, levels}
 use Rattle.shown_volumes.proofs.SlotSums.{slots_in}
@@ -41,10 +43,12 @@ module _ (f : Fixed) (v : Volumes) (volume : VolumeRef) (name : Text) (of head :
   abbrev stepped : Volumes
   stepped = change f v (c.Clone volume name) (r.Made head)
 
-  stepped_head : stepped head ≡ Some (new_volume f v name None x.pages true false (Some of))
+  -- one more, as a copy
+  pub stepped_head : stepped head ≡ Some (new_volume f v name None x.pages true false (Some of))
   stepped_head = rw (found, eq-eqb head head refl, is) refl
 
-  stepped_else : (h : ℕ) → h ≢ head → stepped h ≡ v h
+  -- and the others as they were
+  pub stepped_else : (h : ℕ) → h ≢ head → stepped h ≡ v h
   stepped_else h ne = rw (ne_eqb h head ne) refl
 
 module _ (f : Fixed) (base : Metas) (rest : IsAtRest f base) (of head : ℕ) (old : Meta) (xattrs : Xattrs)
@@ -180,6 +184,19 @@ module _ (f : Fixed) (base : Metas) (rest : IsAtRest f base) (of head : ℕ) (ol
         | inr ne ↦ at_other h ne (base h) refl
       ])
 
+  -- a blob that isn't the clone shows what it showed where it has empty slots
+  leaves : (h : ℕ) → h ≢ head → LeavesEmpty f base next Anything h
+  leaves h ne page m is empty =
+      let was_there : base h ≡ Some m = sym (is_other h ne) ∙ is in
+      record {
+        old = m;
+        there = was_there;
+        empty = empty;
+        same = λ image _. same_still f.cluster_pages image f.md_len base next old_levels new_levels (both image)
+            (fits image) h page m was_there is (λ p up. ap slots_in (is_other p (not_new h p m was_there up)))
+            (λ p up. both_else image p page (not_new h p m was_there up));
+      }
+
 module _ (f : Fixed) (base : Metas) (live : Map Xattrs) (image : Image) (volume : VolumeRef) (name : Text)
     (of head : ℕ) (old : Meta) (rest : IsAtRest f base) (clear : IsClear f base head)
     (asked : IsAskedOf f (shown_by f image base live) base (c.Clone volume name) of old) where
@@ -209,13 +226,15 @@ module _ (f : Fixed) (base : Metas) (live : Map Xattrs) (image : Image) (volume 
       (c.Clone volume name) ∙ asked.found)
       (two_same f (shown_by f other base live) (shown_by f image base live) (blank_shown f base live other image) name
       None))
+      (λ h out. leaves f base rest of head old two asked.there clear on room h (not_first h head _ out).0)
 
 -- the law
 pub clone_shows : (f : Fixed) (base : Metas) (live : Map Xattrs) (image : Image) (volume : VolumeRef) (name : Text)
-    (of head : ℕ) (old : Meta) → ShowsClone f base live image volume name of head old
-clone_shows f base live image volume name of head old rest clear =
+    (of head : ℕ) (old : Meta) (xattrs : Xattrs) → ShowsClone f base live image volume name of head old xattrs
+clone_shows f base live image volume name of head old xattrs rest clear =
     subst (λ (m : Metas). IsAskedOf f (shown_by f image m live) base (c.Clone volume name) of old
-    → ShowsStep f base live (c.Clone volume name) (r.Made head)
-    (clone_job of old head (two_xattrs f (shown_by f image m live) name None)))
+    → two_xattrs f (shown_by f image m live) name None ≡ xattrs
+    → ShowsStep f base live (c.Clone volume name) (r.Made head) (clone_job of old head xattrs))
     (sym (rest_resolved f base rest))
-    (λ asked. step f base live image volume name of head old rest clear asked)
+    (λ asked are. subst (λ (xs : Xattrs). ShowsStep f base live (c.Clone volume name) (r.Made head)
+    (clone_job of old head xs)) are (step f base live image volume name of head old rest clear asked))

@@ -1,5 +1,5 @@
 -- With a blob deleted, from which its one clone took over, metadata is lawful.
-use Rattle.std.proofs.Common.{◌≡◌, ◌≢◌, ◌⊎◌, ℕ, ◌+◌, ◌<◌, ◌≤◌, true, false, Option, Some, None, List, [], ◌∷◌, length, refl}
+use Rattle.std.proofs.Common.{◌≡◌, ◌≢◌, ◌⊎◌, ℕ, ◌<◌, true, false, Option, Some, None, [], ◌∷◌, length, refl}
 use Rattle.std.proofs.Common.{sym, ap, ◌∙◌, subst, inl, inr, arith}
 use Rattle.std.specs.Option.{option_or}
 use Rattle.std.proofs.lemmas.Bool.{cases_eq}
@@ -8,7 +8,7 @@ use Rattle.blob_meta.specs.declared.meta.Meta.{Meta}
 use Rattle.blob_meta.specs.Parents.{is_locked, is_read_only, parent_of, slot}
 use Rattle.blob_meta.specs.Resolving.{IsLawful}
 use Rattle.inflate_delete.specs.Clones.{clones_below}
-use Rattle.shown_volumes.specs.Maps.{Metas, with_entry, without_entry}
+use Rattle.shown_volumes.specs.Maps.{Metas, with_entry}
 use Rattle.shown_volumes.specs.ShowsStep.{IsAtRest}
 use Rattle.shown_volumes.proofs.DeleteParts as parts
 use Rattle.shown_volumes.proofs.HeirMaps.{filled_within, long_over, slot_over}
@@ -75,7 +75,8 @@ module _ (f : Fixed) (base : Metas) (rest : IsAtRest f base) (of clone : ℕ) (o
       ⊎ ((h ≡ clone) × (slot old i ≡ Some cluster)))
 
   of_two : (i cluster : ℕ) → (o : Option ℕ) → slot heir i ≡ o → option_or o (slot old i) ≡ Some cluster
-      → ((m : Meta) × (base clone ≡ Some m) × (slot m i ≡ Some cluster)) ⊎ ((clone ≡ clone) × (slot old i ≡ Some cluster))
+      → ((m : Meta) × (base clone ≡ Some m) × (slot m i ≡ Some cluster))
+      ⊎ ((clone ≡ clone) × (slot old i ≡ Some cluster))
   of_two i cluster None is got = inr (refl, got)
   of_two i cluster (Some x) is got = inl (heir, there_too, is ∙ got)
 

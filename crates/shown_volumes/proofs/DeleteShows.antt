@@ -1,5 +1,5 @@
 -- What is shown where a blob is deleted, from which its one clone took over: the volumes of the step.
-use Rattle.std.proofs.Common.{◌≡◌, ◌≢◌, ◌⊎◌, ℕ, suc, ◌*◌, ◌/◌, ◌<◌, ◌≤◌, Bool, true, false, Option, Some, None, List, [], ◌∷◌}
+use Rattle.std.proofs.Common.{◌≡◌, ◌≢◌, ◌⊎◌, ℕ, suc, ◌*◌, ◌/◌, ◌<◌, ◌≤◌, true, false, Option, Some, None, [], ◌∷◌}
 use Rattle.std.proofs.Common.{length, map, refl, sym, ap, ◌∙◌, subst, inl, inr, arith}
 use Rattle.std.specs.Prelude.{if◌then◌else◌, nat_lt}
 use Rattle.std.specs.List.{range_with_len}
@@ -19,6 +19,7 @@ use Rattle.blob_meta.specs.declared.meta.Meta.{Meta}
 use Rattle.blob_meta.specs.Parents.{is_locked, parent_of, slot}
 use Rattle.blob_meta.specs.Resolving.{IsLawful}
 use Rattle.inflate_delete.specs.Clones.{clones_below}
+use Rattle.shown_volumes.specs.EmptySlots.{Anything, LeavesEmpty}
 use Rattle.shown_volumes.specs.Maps.{Map, Metas}
 use Rattle.shown_volumes.specs.Shown.{content, content_by, live_of, shown_by}
 use Rattle.shown_volumes.specs.ShowsStep.{IsAtRest}
@@ -36,6 +37,7 @@ use Rattle.shown_volumes.proofs.Fitting.{
   opened,
   pages_fit,
   same_level,
+  same_still,
 }
 use Rattle.shown_volumes.proofs.HeirMaps.{empty_past, slot_behind, slot_below, slot_over}
 use Rattle.shown_volumes.proofs.Parts.{none_shown, some_shown}
@@ -241,3 +243,16 @@ module _ (f : Fixed) (base : Metas) (rest : IsAtRest f base) (of clone : ℕ) (o
             | inr other ↦ at_other h ne other (base h) refl
           ]
         ])
+
+  -- a blob that isn't the clone shows what it showed where it has empty slots
+  pub leaves : (h : ℕ) → h ≢ of → h ≢ clone → LeavesEmpty f base next Anything h
+  leaves h ne other page m is empty =
+      let was_there : base h ≡ Some m = sym (is_other h ne other) ∙ is in
+      record {
+        old = m;
+        there = was_there;
+        empty = empty;
+        same = λ image _. same_still f.cluster_pages image f.md_len base next old_levels new_levels (was image)
+            (fits image) h page m was_there is
+            (λ p up. long p (λ e. other (only h m was_there (up ∙ ap (λ n. Some n) e)))) (λ _ _. refl);
+      }

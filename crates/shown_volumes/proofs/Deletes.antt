@@ -1,5 +1,5 @@
 -- A delete's job, of a blob with one clone, shows the volumes as they were, and from its commit on those of the step.
-use Rattle.std.proofs.Common.{◌≡◌, ◌⊎◌, ℕ, ◌<◌, ◌≤◌, Bool, true, false, Option, Some, None, List, [], ◌∷◌, length, refl, sym, ap}
+use Rattle.std.proofs.Common.{◌≡◌, ◌⊎◌, ℕ, ◌≤◌, Bool, true, false, Some, [], ◌∷◌, length, refl, sym, ap}
 use Rattle.std.proofs.Common.{◌∙◌, subst, inl, inr, arith}
 use Rattle.std.specs.Prelude.{◌&&◌, nat_lt}
 use Rattle.std.specs.Option.{option_map_or}
@@ -13,7 +13,7 @@ use Rattle.volume_model.specs.declared.command.VolumeRef.{VolumeRef}
 use Rattle.volume_model.specs.declared.reply.Reply.TheVariants as r
 use Rattle.volume_model.proofs.Blank.{same_named}
 use Rattle.blob_meta.specs.declared.meta.Meta.{Meta}
-use Rattle.blob_meta.specs.Parents.{is_locked, parent_of}
+use Rattle.blob_meta.specs.Parents.{is_locked}
 use Rattle.inflate_delete.specs.Clones.{clones_below}
 use Rattle.inflate_delete.specs.DeleteJobs.{delete_job}
 use Rattle.shown_volumes.specs.JobLaws.{ShowsDelete}
@@ -25,7 +25,7 @@ use Rattle.shown_volumes.proofs.BlobsShown.{shows_blob, volume_at}
 use Rattle.shown_volumes.proofs.Childless.{clones_shown}
 use Rattle.shown_volumes.proofs.DeleteParts as parts
 use Rattle.shown_volumes.proofs.DeleteShows as shows
-use Rattle.shown_volumes.proofs.Parts.{rest_resolved, shows_step}
+use Rattle.shown_volumes.proofs.Parts.{not_first, rest_resolved, shows_step}
 use Rattle.shown_volumes.proofs.Passing.{delete_long, delete_unlocked}
 use Rattle.shown_volumes.proofs.SlotSums.{slots_at_shown, slots_in, slots_shown}
 
@@ -86,6 +86,10 @@ module _ (f : Fixed) (base : Metas) (live : Map Xattrs) (image : Image) (volume 
       (λ other. shows.shown_next f base rest of clone old heir asked.there there_too one unlocked between other live
       volume (same_named f (shown_by f other base live) v (blank_shown f base live other image) (c.Delete volume)
       ∙ asked.found))
+      (λ h out.
+      let first = not_first h of _ out in
+      shows.leaves f base rest of clone old heir asked.there there_too one unlocked between h first.0
+      (not_first h clone _ first.1).0)
 
 -- the law
 pub delete_shows : (f : Fixed) (base : Metas) (live : Map Xattrs) (image : Image) (volume : VolumeRef) (of : ℕ)

@@ -1,7 +1,6 @@
 -- The erasure of a blob without clones shows the volumes as they were, and then those of the step.
-use Rattle.std.proofs.Common.{◌≡◌, ◌≢◌, ℕ, zero, suc, ◌+◌, ◌*◌, ◌/◌, ◌^◌, ◌<◌, ◌≤◌, Option, Some, None, List, [], length, map}
+use Rattle.std.proofs.Common.{◌≡◌, ◌≢◌, ℕ, zero, suc, ◌<◌, ◌≤◌, Option, Some, None, [], length}
 use Rattle.std.proofs.Common.{refl, sym, ap, ◌∙◌, subst, inl, inr, arith}
-use Rattle.std.specs.List.{range_with_len}
 use Rattle.std.specs.Option.{option_map}
 use Rattle.std.proofs.lemmas.Bool.{cases_eq}
 use Rattle.std.proofs.Math.Path.{fun_ext}
@@ -20,6 +19,7 @@ use Rattle.blob_meta.specs.Resolving.{IsLawful, resolved}
 use Rattle.blob_meta.proofs.Fates.{resolved_absent}
 use Rattle.inflate_delete.specs.Clones.{clones_below}
 use Rattle.inflate_delete.specs.DeleteJobs.{erase_job}
+use Rattle.shown_volumes.specs.EmptySlots.{Anything, LeavesEmpty}
 use Rattle.shown_volumes.specs.JobLaws.{ShowsErase}
 use Rattle.shown_volumes.specs.Maps.{Map, Metas, without_entry}
 use Rattle.shown_volumes.specs.Shown.{content, live_of, shown_by}
@@ -28,7 +28,7 @@ use Rattle.shown_volumes.proofs.Blanked.{blank_shown}
 use Rattle.shown_volumes.proofs.BlobsShown.{shows_blob, volume_at}
 use Rattle.shown_volumes.proofs.Childless.{none_counted}
 use Rattle.shown_volumes.proofs.DeletedVolumes as deleted
-use Rattle.shown_volumes.proofs.Fitting.{Contents, Fits, opened, pages_fit, same_level}
+use Rattle.shown_volumes.proofs.Fitting.{Contents, Fits, opened, pages_fit, same_level, same_still}
 use Rattle.shown_volumes.proofs.Marked.{as_before}
 use Rattle.shown_volumes.proofs.Parts.{none_shown, rest_resolved, shows_step, some_shown}
 use Rattle.shown_volumes.proofs.Ranks.{Levels, levels}
@@ -131,12 +131,13 @@ module _ (f : Fixed) (base : Metas) (rest : IsAtRest f base) (of : ℕ) (old : M
             ∙ ap (λ o. option_map parented (option_map (λ m. volume_at f base rest live image h m) o)) is)
         at_other h ne (Some m) is =
             let y = volume_at f base rest live image h m in
-            let same = pages_fit k image f.md_len next new_levels was fits h m (length m.map) (was h) (is_other h ne ∙ is)
-            refl (λ page _. refl) in
+            let same = pages_fit k image f.md_len next new_levels was fits h m (length m.map) (was h)
+            (is_other h ne ∙ is) refl (λ page _. refl) in
             let parent = deleted.stays f v volume of x found is_x (parent_of m) (λ e. childless h of m is e refl) in
             some_shown f image next w h m y (is_other h ne ∙ is)
-            (deleted.deleted_else f v volume of x found is_x h ne ∙ ap (option_map parented) (shows_blob f base rest live
-            image h m is) ∙ (λ i. Some (record y { parent = parent i })))
+            (deleted.deleted_else f v volume of x found is_x h ne
+            ∙ ap (option_map parented) (shows_blob f base rest live image h m is)
+            ∙ (λ i. Some (record y { parent = parent i })))
             (λ i. record y { pages = same i })
 
         shown_next : shown_by f image next (live_of w) ≡ w
@@ -145,6 +146,17 @@ module _ (f : Fixed) (base : Metas) (rest : IsAtRest f base) (of : ℕ) (old : M
               (ap w e ∙ deleted.deleted_here f v volume of x found is_x)
           | inr ne ↦ at_other h ne (base h) refl
         ])
+
+  -- every other blob shows what it showed where it has empty slots
+  leaves : (h : ℕ) → LeavesEmpty f base next Anything h
+  leaves h page m is empty = record {
+    old = m;
+    there = was_there h m is;
+    empty = empty;
+    same = λ image _. same_still f.cluster_pages image f.md_len base next old_levels new_levels (was image) (fits image)
+        h page m (was_there h m is) is (λ p up. ap slots_in (is_other p (childless h p m (was_there h m is) up)))
+        (λ _ _. refl);
+  }
 
 module _ (f : Fixed) (base : Metas) (live : Map Xattrs) (image : Image) (volume : VolumeRef) (of : ℕ) (old : Meta)
     (rest : IsAtRest f base) (none : clones_below f.md_len base of ≡ [])
@@ -156,6 +168,7 @@ module _ (f : Fixed) (base : Metas) (live : Map Xattrs) (image : Image) (volume 
       (λ other. shown_next f base rest of old asked.there none other live volume
       (same_named f (shown_by f other base live) (shown_by f image base live) (blank_shown f base live other image)
       (c.Delete volume) ∙ asked.found))
+      (λ h out. leaves f base rest of old asked.there none h)
 
 -- the law
 pub erase_shows : (f : Fixed) (base : Metas) (live : Map Xattrs) (image : Image) (volume : VolumeRef) (of : ℕ)

@@ -49,7 +49,8 @@ module _ (k : ℕ) (image : Image) (page : ℕ) where
       where
         at : (b : Bool) → nat_lt page (k * m) ≡ b
             → (if nat_lt page (k * m) then y else zero_page) ≡ (if nat_lt page (k * m) then x else zero_page)
-        at true is = ap (λ (z : Page). if nat_lt page (k * m) then z else zero_page) (same (grind (arith, nat_tests, is)))
+        at true is =
+            ap (λ (z : Page). if nat_lt page (k * m) then z else zero_page) (same (grind (arith, nat_tests, is)))
         at false is = rw is refl
 
     -- the page, by the number of slots
@@ -88,7 +89,8 @@ module _ (k : ℕ) (image : Image) (md_len : ℕ) (metas : Metas) (levels : Leve
   pub opened : (h page : ℕ) (m : Meta) → metas h ≡ Some m → now h page ≡ content_by k image metas now page m
   opened h page m there =
       let most = levels.most h in
-      enough k image md_len metas levels page (suc md_len) (suc (suc md_len)) h (omega (arith, most)) (omega (arith, most))
+      enough k image md_len metas levels page (suc md_len) (suc (suc md_len)) h (omega (arith, most))
+      (omega (arith, most))
       ∙ ap (λ o. option_map_or (content_by k image metas now page) o zero_page) there
 
   -- Contents fit if each blob shows, on its own pages, what its slots and its parent give.
@@ -108,7 +110,8 @@ module _ (k : ℕ) (image : Image) (md_len : ℕ) (metas : Metas) (levels : Leve
         → content k image metas times h page ≡ shows h page
     fits_after zero h page m low there lt = absurd (omega (arith, low))
     fits_after (suc times) h page m low there lt =
-        ap (λ o. option_map_or (content_by k image metas (λ p q. content k image metas times p q) page) o zero_page) there
+        ap (λ o. option_map_or (content_by k image metas (λ p q. content k image metas times p q) page) o zero_page)
+        there
         ∙ same_level k image page metas metas shows (λ p q. content k image metas times p q) m m refl refl
         (λ _ _. refl)
         (λ p of has.
@@ -131,3 +134,36 @@ module _ (k : ℕ) (image : Image) (md_len : ℕ) (metas : Metas) (levels : Leve
         let less : page < k * length m.map = omega (arith, lt) in
         fits_is h page m there less ∙ same page (rw (sym long) less))
         ∙ ap (λ i. map show (range_with_len 0 (k * i))) long
+
+-- ---- a blob whose metadata stays
+
+module _ (k : ℕ) (image : Image) (md_len : ℕ) (metas later : Metas) (levels : Levels md_len metas)
+    (new_levels : Levels md_len later) (shows : Contents) (fits : Fits k image md_len later new_levels shows) where
+  -- a parent that is as long as it was, and shows what it showed, does so whatever fits
+  parent_still : (p page : ℕ) → slots_in (later p) ≡ slots_in (metas p)
+      → shows p page ≡ content k image metas (suc md_len) p page → page < k * slots_in (metas p)
+      → content k image later (suc md_len) p page ≡ content k image metas (suc md_len) p page
+  parent_still p page long same lt = at (later p) refl
+    where
+      at : (o : Option Meta) → later p ≡ o
+          → content k image later (suc md_len) p page ≡ content k image metas (suc md_len) p page
+      at None none =
+          let bare : slots_in (later p) ≡ 0 = ap slots_in none in
+          absurd (nothing (slots_in (metas p)) (sym long ∙ bare) lt)
+        where
+          nothing : (n : ℕ) → n ≡ 0 → page < k * n → ⊥
+          nothing n is lt = let least : page < k * 0 = rw (sym is) lt in omega (arith, least)
+      at (Some m) is =
+          let whole : length m.map ≡ slots_in (metas p) = sym (ap slots_in is) ∙ long in
+          fits_is k image md_len later new_levels shows fits p page m is (rw whole lt) ∙ same
+
+  -- so the blob shows at each page what it showed
+  pub same_still : (h page : ℕ) (m : Meta) → metas h ≡ Some m → later h ≡ Some m
+      → ((p : ℕ) → parent_of m ≡ Some p → slots_in (later p) ≡ slots_in (metas p))
+      → ((p : ℕ) → parent_of m ≡ Some p → shows p page ≡ content k image metas (suc md_len) p page)
+      → content k image later (suc md_len) h page ≡ content k image metas (suc md_len) h page
+  same_still h page m there is long same =
+      opened k image md_len later new_levels h page m is
+      ∙ same_level k image page metas later (content k image metas (suc md_len)) (content k image later (suc md_len)) m
+      m refl refl long (λ p of lt. parent_still p page (long p of) (same p of) lt)
+      ∙ sym (opened k image md_len metas levels h page m there)

@@ -25,3 +25,10 @@ pub mod DeleteParts
 pub mod DeleteLawful
 pub mod DeleteShows
 pub mod Deletes
+pub mod Inside
+pub mod Written
+pub mod MapTests
+pub mod GoodMarks
+pub mod WellStored
+pub mod StoredJobs
+pub mod PartsStored

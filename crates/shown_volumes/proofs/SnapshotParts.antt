@@ -1,5 +1,5 @@
 -- What the metadata is resolved to after each replacement of a snapshot's job.
-use Rattle.std.proofs.Common.{◌≡◌, ◌≢◌, ℕ, zero, suc, ◌^◌, ◌<◌, ◌≤◌, true, false, Option, Some, None, [], refl, sym, ap, ◌∙◌}
+use Rattle.std.proofs.Common.{◌≡◌, ◌≢◌, ℕ, zero, suc, ◌^◌, ◌<◌, ◌≤◌, true, false, Some, None, [], refl, sym, ap, ◌∙◌}
 use Rattle.std.proofs.Common.{inl, inr, arith}
 use Rattle.std.specs.Prelude.{codes}
 use Rattle.std.proofs.lemmas.Bool.{cases_eq}
@@ -26,7 +26,8 @@ use Rattle.shown_volumes.proofs.WithEntry.{given_elsewhere, given_here}
 module _ (f : Fixed) (base : Metas) (rest : IsAtRest f base) where
   -- heads fit into ids
   pub low_head : (h : ℕ) (m : Meta) → base h ≡ Some m → h < 2 ^ 32
-  low_head h m there = let low = rest.heads_below h (rw there refl) in let few = rest.few_heads in omega (arith, low, few)
+  low_head h m there =
+      let low = rest.heads_below h (rw there refl) in let few = rest.few_heads in omega (arith, low, few)
 
   -- no blob has for its parent one that isn't there
   pub orphan : (head : ℕ) → base head ≡ None → (h p : ℕ) (m : Meta) → base h ≡ Some m → parent_of m ≡ Some p → p ≢ head

@@ -1,6 +1,6 @@
 -- What is shown with a snapshot that is made: the volumes of the step.
-use Rattle.std.proofs.Common.{◌≡◌, ◌≢◌, ℕ, suc, ◌+◌, ◌*◌, ◌/◌, ◌%◌, ◌^◌, ◌<◌, ◌≤◌, Bool, true, false, not, Option, Some, None}
-use Rattle.std.proofs.Common.{List, length, map, refl, sym, ap, ◌∙◌, subst, inl, inr, arith}
+use Rattle.std.proofs.Common.{◌≡◌, ◌≢◌, ℕ, suc, ◌+◌, ◌*◌, ◌/◌, ◌%◌, ◌^◌, ◌<◌, ◌≤◌, Bool, true, false, not, Option, Some}
+use Rattle.std.proofs.Common.{None, length, map, refl, sym, ap, ◌∙◌, subst, inl, inr, arith}
 use Rattle.std.specs.Prelude.{◌==◌, if◌then◌else◌, nat_lt}
 use Rattle.std.specs.List.{range_with_len}
 use Rattle.std.specs.Option.{option_map, option_map_or}
@@ -9,7 +9,7 @@ use Rattle.std.proofs.lemmas.Bool.Decides.{nat_tests}
 use Rattle.std.proofs.Math.Path.{fun_ext}
 use Rattle.page_disk.specs.Disk.{Image}
 use Rattle.volume_model.specs.Steps.{change, new_volume}
-use Rattle.volume_model.specs.Volumes.{Fixed, head_of, Page, two_xattrs, Volume, Volumes, zero_page}
+use Rattle.volume_model.specs.Volumes.{Fixed, head_of, two_xattrs, Volume, Volumes, zero_page}
 use Rattle.volume_model.specs.Xattrs.{Text, Xattrs}
 use Rattle.volume_model.specs.declared.command.Command.TheVariants as c
 use Rattle.volume_model.specs.declared.command.VolumeRef.{VolumeRef}
@@ -18,12 +18,14 @@ use Rattle.blob_meta.specs.declared.meta.Meta.{Meta}
 use Rattle.blob_meta.specs.Faults.{is_thin}
 use Rattle.blob_meta.specs.Parents.{parent_of, slot}
 use Rattle.blob_meta.specs.Resolving.{IsLawful, slots_together}
+use Rattle.shown_volumes.specs.EmptySlots.{Anything, LeavesEmpty}
 use Rattle.shown_volumes.specs.JobLaws.{IsClear}
-use Rattle.shown_volumes.specs.Maps.{Map, Metas, with_entry}
+use Rattle.shown_volumes.specs.Maps.{Map, Metas}
 use Rattle.shown_volumes.specs.Shown.{content, content_by, live_of, or_empty, shown_by, volume_of}
 use Rattle.shown_volumes.specs.ShowsStep.{IsAtRest}
 use Rattle.shown_volumes.proofs.EmptyMaps.{empty_slot}
 use Rattle.shown_volumes.proofs.Fitting.{Contents, Fits, from_parent, in_empty, opened, pages_fit, same_level}
+use Rattle.shown_volumes.proofs.Fitting.{same_still}
 use Rattle.shown_volumes.proofs.Parts.{none_shown, some_shown}
 use Rattle.shown_volumes.proofs.Ranks.{Levels, levels}
 use Rattle.shown_volumes.proofs.SlotSums.{slots_in}
@@ -207,8 +209,9 @@ module _ (f : Fixed) (base : Metas) (rest : IsAtRest f base) (of head : ℕ) (ol
       at_other : (h : ℕ) → h ≢ head → h ≢ of → (o : Option Meta) → base h ≡ o
           → shown_by f image next (live_of w) h ≡ w h
       at_other h ne other None none =
-          none_shown f image next w h (is_other h ne other ∙ none) (stepped_else f v volume name of head x found is_x h ne
-          other ∙ ap (λ o. option_map (λ m. volume_of k image base f.md_len (or_empty (live h)) h m) o) none)
+          none_shown f image next w h (is_other h ne other ∙ none)
+          (stepped_else f v volume name of head x found is_x h ne other
+          ∙ ap (λ o. option_map (λ m. volume_of k image base f.md_len (or_empty (live h)) h m) o) none)
       at_other h ne other (Some m) is =
           let same = pages h m (length m.map) h (is_other h ne other ∙ is) refl (λ page _. both_else h page ne) in
           let y = volume_of k image base f.md_len (or_empty (live h)) h m in
@@ -225,3 +228,16 @@ module _ (f : Fixed) (base : Metas) (rest : IsAtRest f base) (of head : ℕ) (ol
           | inr other ↦ at_other h ne other (base h) refl
         ]
       ])
+
+  -- a blob that is neither the volume nor the snapshot shows what it showed where it has empty slots
+  pub leaves : (h : ℕ) → h ≢ head → h ≢ of → LeavesEmpty f base next Anything h
+  leaves h ne other page m is empty =
+      let was_there : base h ≡ Some m = sym (is_other h ne other) ∙ is in
+      record {
+        old = m;
+        there = was_there;
+        empty = empty;
+        same = λ image _. same_still f.cluster_pages image f.md_len base next old_levels new_levels (both image)
+            (fits image) h page m was_there is (λ p up. long p (not_new h p m was_there up))
+            (λ p up. both_else image p page (not_new h p m was_there up));
+      }

@@ -1,5 +1,5 @@
 -- A snapshot's job shows the volumes as they were, and from its commit on those of the step.
-use Rattle.std.proofs.Common.{ℕ, ◌+◌, ◌^◌, ◌≤◌, None, length, sym, ◌∙◌, subst}
+use Rattle.std.proofs.Common.{◌≡◌, ℕ, ◌+◌, ◌^◌, ◌≤◌, None, length, sym, ◌∙◌, subst}
 use Rattle.page_disk.specs.Disk.{Image}
 use Rattle.volume_model.specs.Volumes.{Fixed, two_xattrs}
 use Rattle.volume_model.specs.Xattrs.{Text, Xattrs}
@@ -16,7 +16,7 @@ use Rattle.shown_volumes.specs.Shown.{shown_by}
 use Rattle.shown_volumes.specs.ShowsStep.{IsAskedOf, IsAtRest, ShowsStep}
 use Rattle.shown_volumes.proofs.BlobsShown.{shows_blob, slots_fit, volume_at}
 use Rattle.shown_volumes.proofs.Blanked.{blank_shown, two_same}
-use Rattle.shown_volumes.proofs.Parts.{rest_resolved, shows_step}
+use Rattle.shown_volumes.proofs.Parts.{not_first, rest_resolved, shows_step}
 use Rattle.shown_volumes.proofs.Passing.{snapshot_room}
 use Rattle.shown_volumes.proofs.SnapshotParts as parts
 use Rattle.shown_volumes.proofs.SnapshotShows as shows
@@ -43,13 +43,18 @@ module _ (f : Fixed) (base : Metas) (live : Map Xattrs) (image : Image) (volume 
       (c.Snapshot volume name) ∙ asked.found)
       (two_same f (shown_by f other base live) (shown_by f image base live) (blank_shown f base live other image) name
       None))
+      (λ h out.
+      let first = not_first h head _ out in
+      let second = not_first h of _ (not_first h head _ first.1).1 in
+      shows.leaves f base rest of head old two asked.there clear room h first.0 second.0)
 
 -- the law
 pub snapshot_shows : (f : Fixed) (base : Metas) (live : Map Xattrs) (image : Image) (volume : VolumeRef) (name : Text)
-    (of head : ℕ) (old : Meta) → ShowsSnapshot f base live image volume name of head old
-snapshot_shows f base live image volume name of head old rest clear =
+    (of head : ℕ) (old : Meta) (xattrs : Xattrs) → ShowsSnapshot f base live image volume name of head old xattrs
+snapshot_shows f base live image volume name of head old xattrs rest clear =
     subst (λ (m : Metas). IsAskedOf f (shown_by f image m live) base (c.Snapshot volume name) of old
-    → ShowsStep f base live (c.Snapshot volume name) (r.Made head)
-    (snapshot_job of old head (two_xattrs f (shown_by f image m live) name None)))
+    → two_xattrs f (shown_by f image m live) name None ≡ xattrs
+    → ShowsStep f base live (c.Snapshot volume name) (r.Made head) (snapshot_job of old head xattrs))
     (sym (rest_resolved f base rest))
-    (λ asked. step f base live image volume name of head old rest clear asked)
+    (λ asked are. subst (λ (xs : Xattrs). ShowsStep f base live (c.Snapshot volume name) (r.Made head)
+    (snapshot_job of old head xs)) are (step f base live image volume name of head old rest clear asked))

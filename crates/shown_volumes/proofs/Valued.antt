@@ -1,10 +1,10 @@
 -- The values of attributes once one is set or taken away; and the heads that ids name.
-use Rattle.std.proofs.Common.{◌≡◌, ℕ, ◌+◌, ◌-◌, ◌<◌, ◌^◌, true, false, Option, Some, None, List, [], ◌∷◌, refl, sym, ap, ◌∙◌}
+use Rattle.std.proofs.Common.{◌≡◌, ℕ, ◌+◌, ◌-◌, ◌<◌, ◌^◌, true, false, Option, Some, None, [], ◌∷◌, refl, sym, ap, ◌∙◌}
 use Rattle.std.proofs.Common.{inl, inr, arith}
 use Rattle.std.specs.Prelude.{codes, nat_lt, if◌then◌else◌}
 use Rattle.std.specs.Option.{option_and_then, option_map_or}
 use Rattle.std.specs.Str.{bytes_eq}
-use Rattle.std.proofs.lemmas.Bool.{cases_Bool, false≢true}
+use Rattle.std.proofs.lemmas.Bool.{cases_Bool}
 use Rattle.std.proofs.lemmas.Bool.Decides.{nat_tests}
 use Rattle.std.proofs.lemmas.Slice.Eq.{bytes_eq-Decides}
 use Rattle.page_fields.proofs.Laws.{number_is}
@@ -12,7 +12,6 @@ use Rattle.volume_model.specs.Xattrs.{Text, Xattrs, value_of, with_value, withou
 use Rattle.volume_model.specs.declared.text.Xattr.{Xattr}
 use Rattle.blob_meta.specs.declared.meta.Meta.{Meta}
 use Rattle.blob_meta.specs.Parents.{head_of_id, named_in, parent_of}
-use Rattle.blob_meta.specs.Resolving.{mark_of}
 use Rattle.snapshots.specs.Marks.{id_bytes, with_named, with_parent_of}
 
 -- ---- one key
@@ -131,10 +130,11 @@ mark_named internal head =
 
 module _ (internal : Xattrs) (m : Meta) where
   -- with the parent of a blob, or none where it has none
-  abbrev with_its : Option Text → Xattrs
+  abbrev pub with_its : Option Text → Xattrs
   with_its o = option_map_or (λ id. with_value internal (codes "SNAP") id) o (without internal (codes "SNAP"))
 
-  snap_given : (o : Option Text) → value_of (with_its o) (codes "SNAP") ≡ o
+  -- whose id is the value of SNAP
+  pub snap_given : (o : Option Text) → value_of (with_its o) (codes "SNAP") ≡ o
   snap_given (Some id) = value_set internal (codes "SNAP") id
   snap_given None = none_without internal (codes "SNAP")
 

@@ -19,22 +19,22 @@ pub record IsClear (f : Fixed) (base : Metas) (head : ℕ) : Type 0 where
   pub low : head < f.md_len
 
 module _ (f : Fixed) (base : Metas) (live : Map Xattrs) (image : Image) (volume : VolumeRef) (name : Text) (of head : ℕ)
-    (old : Meta) where
-  -- the attributes of a new volume of the name
-  abbrev two : Xattrs
-  two = two_xattrs f (shown_in f base live image) name None
+    (old : Meta) (xattrs : Xattrs) where
+  -- these are the attributes of a new volume of the name
+  abbrev pub IsNamedSo : Type 0
+  IsNamedSo = two_xattrs f (shown_in f base live image) name None ≡ xattrs
 
   -- a snapshot of the blob at a head, made at another
   abbrev pub ShowsSnapshot : Type 0
   ShowsSnapshot = IsAtRest f base → IsClear f base head
-      → IsAskedOf f (shown_in f base live image) base (c.Snapshot volume name) of old
-      → ShowsStep f base live (c.Snapshot volume name) (r.Made head) (snapshot_job of old head two)
+      → IsAskedOf f (shown_in f base live image) base (c.Snapshot volume name) of old → IsNamedSo
+      → ShowsStep f base live (c.Snapshot volume name) (r.Made head) (snapshot_job of old head xattrs)
 
   -- a clone of it
   abbrev pub ShowsClone : Type 0
   ShowsClone = IsAtRest f base → IsClear f base head
-      → IsAskedOf f (shown_in f base live image) base (c.Clone volume name) of old
-      → ShowsStep f base live (c.Clone volume name) (r.Made head) (clone_job of old head two)
+      → IsAskedOf f (shown_in f base live image) base (c.Clone volume name) of old → IsNamedSo
+      → ShowsStep f base live (c.Clone volume name) (r.Made head) (clone_job of old head xattrs)
 
 module _ (f : Fixed) (base : Metas) (live : Map Xattrs) (image : Image) (volume : VolumeRef) (of : ℕ) (old : Meta) where
   -- the erasure of the blob at a head that has no clone

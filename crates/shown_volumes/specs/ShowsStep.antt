@@ -1,6 +1,7 @@
 -- What the metadata of each part of a job shows: the volumes as they were up to its commit, and then those of its
 -- command's step.
-use Rattle.std.specs.Prelude.{◌≡◌, ℕ, ◌^◌, ◌<◌, ◌≤◌, length, take, Some, None}
+use Rattle.std.specs.Prelude.{◌≡◌, ℕ, ◌^◌, ◌<◌, ◌≤◌, ◌==◌, Bool, false, length, take, Some, None}
+use Rattle.std.specs.List.{list_any}
 use Rattle.page_disk.specs.Disk.{Image}
 use Rattle.volume_model.specs.Volumes.{Fixed, Volumes}
 use Rattle.volume_model.specs.Xattrs.{Xattrs}
@@ -12,6 +13,7 @@ use Rattle.blob_meta.specs.declared.job.Job.{Job}
 use Rattle.blob_meta.specs.declared.meta.Meta.{Meta}
 use Rattle.blob_meta.specs.Repairs.{after, HasHeadsBelow, HasNoMarks}
 use Rattle.blob_meta.specs.Resolving.{IsLawful, resolved}
+use Rattle.shown_volumes.specs.EmptySlots.{Anything, LeavesEmpty}
 use Rattle.shown_volumes.specs.Maps.{Map, Metas}
 use Rattle.shown_volumes.specs.Shown.{live_of, shown_by}
 
@@ -32,6 +34,10 @@ shown_in f base live image = shown_by f image (resolved base) live
 abbrev pub part_of : Job → Metas → ℕ → Metas
 part_of job base count = after base (take count job.list)
 
+-- one of the job's replacements is of the blob at this head
+abbrev pub replaces : Job → ℕ → Bool
+replaces job h = list_any (λ x. x.head == h) job.list
+
 -- In these volumes the command is one on the blob at a head, and isn't refused.
 pub record IsAskedOf (f : Fixed) (v : Volumes) (base : Metas) (command : Command) (head : ℕ) (old : Meta) : Type 0 where
   pub found : named_head f v command ≡ Some head
@@ -39,7 +45,9 @@ pub record IsAskedOf (f : Fixed) (v : Volumes) (base : Metas) (command : Command
   pub passed : refusal f v command ≡ None
 
 -- After any number of a job's replacements the metadata is lawful, and shows what was shown, or, from the commit on,
--- the volumes of the command's step, whose attributes are live as the step leaves them.
+-- the volumes of the command's step, whose attributes are live as the step leaves them: recovery undoes what is done of
+-- the job before the commit, and finishes what is left of it from then on. An empty slot of a blob that the job doesn't
+-- replace was empty, and shows what it showed.
 pub record ShowsStep (f : Fixed) (base : Metas) (live : Map Xattrs) (command : Command) (reply : Reply) (job : Job)
     : Type 0 where
   pub lawful : (count : ℕ) → count ≤ length job.list → IsLawful f.md_len (resolved (part_of job base count))
@@ -48,3 +56,8 @@ pub record ShowsStep (f : Fixed) (base : Metas) (live : Map Xattrs) (command : C
   pub since : (count : ℕ) → job.commit ≤ count → count ≤ length job.list → (image : Image)
       → shown_in f (part_of job base count) (live_of (change f (shown_in f base live image) command reply)) image
       ≡ change f (shown_in f base live image) command reply
+  pub undone : (count : ℕ) → count < job.commit → resolved (part_of job base count) ≡ resolved base
+  pub finished : (count : ℕ) → job.commit ≤ count → count ≤ length job.list
+      → resolved (part_of job base count) ≡ resolved (part_of job base job.commit)
+  pub leaves : (count : ℕ) → count ≤ length job.list → (h : ℕ) → replaces job h ≡ false
+      → LeavesEmpty f (resolved base) (resolved (part_of job base count)) Anything h

@@ -20,9 +20,9 @@ pub record Copies (metas : map.FinMap nat_cmp Meta) (volume head : ℕ) (name : 
   pub job_is : job ≡ job_of volume old head xattrs
 
 -- a snapshot of the blob at a head, at another
-abbrev pub IsSnapshotJob : map.FinMap nat_cmp Meta → ℕ → ℕ → Text → List ℕ → Job → Type 0
-IsSnapshotJob metas volume head name uuid job = Copies metas volume head name uuid snapshot_job job
+abbrev pub PlansSnapshot : map.FinMap nat_cmp Meta → ℕ → ℕ → Text → List ℕ → Job → Type 0
+PlansSnapshot metas volume head name uuid job = Copies metas volume head name uuid snapshot_job job
 
 -- a clone of the blob at a head, at another
-abbrev pub IsCloneJob : map.FinMap nat_cmp Meta → ℕ → ℕ → Text → List ℕ → Job → Type 0
-IsCloneJob metas volume head name uuid job = Copies metas volume head name uuid clone_job job
+abbrev pub PlansClone : map.FinMap nat_cmp Meta → ℕ → ℕ → Text → List ℕ → Job → Type 0
+PlansClone metas volume head name uuid job = Copies metas volume head name uuid clone_job job

@@ -5,7 +5,7 @@ ghost use Rattle.std.specs.FinMap as map;
 ghost use Rattle.volume_model.specs.declared.command.Command.TheVariants as c;
 ghost use Rattle.snapshots.specs.RefusedAt.{IsFirstAt, RefusesFirstAt};
 ghost use Rattle.snapshots.specs.SnapshotJobs as j;
-ghost use Rattle.snapshots.specs.SnapshotPlans.{IsCloneJob};
+ghost use Rattle.snapshots.specs.SnapshotPlans.{PlansClone};
 
 use crate::marks::with_named;
 use crate::refusing::refusal_of_clone;
@@ -42,7 +42,7 @@ fn clone_of(
     uuid: [u8; 16],
 ) -> Result<Job, Memory>
     requires { map.get metas.now volume ≡ Some old.now }
-    ensures { IfOk result (IsCloneJob metas.now volume head name.now uuid) }
+    ensures { IfOk result (PlansClone metas.now volume head name.now uuid) }
 {
     let xattrs = named_xattrs(alloc, name, uuid)?;
     let new = new_clone(alloc, volume, old, head, xattrs)?;
@@ -62,7 +62,7 @@ pub fn plan_clone(
     uuid: [u8; 16],
 ) -> Result<Job, Reply>
     requires { IsSome (map.get metas.now volume) }
-    ensures job { IfOk result (IsCloneJob metas.now volume new name.now uuid) }
+    ensures job { IfOk result (PlansClone metas.now volume new name.now uuid) }
     ensures unrefused { IfOk result
         (λ job. IsFirstAt metas.now sup.now volume (λ meant. c.Clone meant name.now) None) }
     ensures refused { IfErr result

@@ -5,7 +5,7 @@ ghost use Rattle.std.specs.FinMap as map;
 ghost use Rattle.volume_model.specs.declared.command.Command.TheVariants as c;
 ghost use Rattle.snapshots.specs.RefusedAt.{IsFirstAt, RefusesFirstAt};
 ghost use Rattle.snapshots.specs.SnapshotJobs as j;
-ghost use Rattle.snapshots.specs.SnapshotPlans.{IsSnapshotJob};
+ghost use Rattle.snapshots.specs.SnapshotPlans.{PlansSnapshot};
 
 use crate::marks::{with_named, with_parent_of};
 use crate::refusing::refusal_of_snapshot;
@@ -115,7 +115,7 @@ fn snapshot(
     uuid: [u8; 16],
 ) -> Result<Job, Memory>
     requires { map.get metas.now volume ≡ Some old.now }
-    ensures { IfOk result (IsSnapshotJob metas.now volume head name.now uuid) }
+    ensures { IfOk result (PlansSnapshot metas.now volume head name.now uuid) }
 {
     let xattrs = named_xattrs(alloc, name, uuid)?;
     snapshot_job(alloc, volume, old, head, &xattrs)
@@ -134,7 +134,7 @@ pub fn plan_snapshot(
     uuid: [u8; 16],
 ) -> Result<Job, Reply>
     requires { IsSome (map.get metas.now volume) }
-    ensures job { IfOk result (IsSnapshotJob metas.now volume new name.now uuid) }
+    ensures job { IfOk result (PlansSnapshot metas.now volume new name.now uuid) }
     ensures unrefused { IfOk result
         (λ job. IsFirstAt metas.now sup.now volume (λ meant. c.Snapshot meant name.now) None) }
     ensures refused { IfErr result

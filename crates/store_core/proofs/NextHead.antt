@@ -1,4 +1,4 @@
--- The head that is next is a new blob's, and a create asks for its job there.
+-- The head that is next is a new blob's, and a create or a clone asks for its job there.
 use Rattle.std.proofs.Common.{◌≡◌, ℕ, Bool, true, false, List, [], ◌∷◌, Option, Some, None, refl, sym, ap, ◌∙◌, inl, inr}
 use Rattle.std.proofs.Common.{arith}
 use Rattle.std.specs.Ordering.{nat_cmp}
@@ -8,12 +8,14 @@ use Rattle.bit_array.specs.Bits.{is_in}
 use Rattle.volume_model.specs.Names.{IsName}
 use Rattle.volume_model.specs.Xattrs.{Text, Xattrs}
 use Rattle.volume_model.specs.Volumes.{Fixed, two_xattrs, Volumes}
+use Rattle.volume_model.specs.declared.command.VolumeRef.{VolumeRef}
 use Rattle.volume_model.specs.declared.command.Command.TheVariants as c
 use Rattle.volume_model.specs.declared.reply.Reply.TheVariants as r
 use Rattle.blob_meta.specs.declared.meta.Meta.{Meta}
 use Rattle.blob_meta.specs.Jobs.{create_job, new_meta}
-use Rattle.blob_meta.specs.ShownBy.{IsFirstRefusal, ShowsMetas}
-use Rattle.store_model.specs.Asking.{creates}
+use Rattle.blob_meta.specs.ShownBy.{IsFirstRefusal, IsHeadMeant, ShowsMetas}
+use Rattle.snapshots.specs.SnapshotJobs.{clone_job, new_clone}
+use Rattle.store_model.specs.Asking.{clones, creates}
 use Rattle.store_model.specs.Shown.{fixed_of}
 use Rattle.store_model.specs.StoreState.{StoreState, shown}
 use Rattle.store_model.specs.RunInvariant.{RunInvariant, RunsWell}
@@ -79,6 +81,45 @@ module _ (s : Super) (first : Volumes) (script : ℕ → List _) (p : StoreState
                     head = head;
                     none = no_blob head next;
                     is = ap (λ xs. create_job head xs thick slots) same;
+                    commit_is = ap (λ xs. record { reply = r.Made head; live = Some xs; renews = head ∷ [] }) same;
+                  });
+              next = λ none. fresh_head head next;
+            };
+      }
+
+  -- a clone that nothing refuses asks for one too, whose parent is the blob that is meant
+  pub asks_clone : (metas : map.FinMap nat_cmp Meta) → ShowsMetas (fixed_of p.super) p.super metas (shown p)
+      → (volume : VolumeRef) (name : Text) (parent : ℕ) (old : Meta) (head : ℕ) (xattrs : Xattrs) → IsName name
+      → IsHeadMeant metas p.super volume (Some parent) → p.base parent ≡ Some old
+      → IsNextHead p.super.md_len p.pages head → IsFirstRefusal metas p.super (c.Clone volume name) None
+      → ((f : Fixed) (v : Volumes) → ShowsMetas f p.super metas v → two_xattrs f v name None ≡ xattrs)
+      → IsJobOf p (c.Clone volume name) (clone_job parent old head xattrs)
+  asks_clone metas shows volume name parent old head xattrs is_name meant there next unrefused named =
+      let same : xattrs ≡ two_xattrs (fixed_of p.super) (shown p) name None =
+      sym (named (fixed_of p.super) (shown p) shows) in
+      record {
+        head = head;
+        new = new_clone parent old head xattrs;
+        zeros = [];
+        is = refl;
+        asks =
+            record {
+              commit = record { reply = r.Made head; live = Some xattrs; renews = head ∷ [] };
+              asked =
+                  clones
+                  (record {
+                    volume = volume;
+                    name = name;
+                    named = is_name;
+                    command_is = refl;
+                    asked = unrefused (fixed_of p.super) (shown p) shows;
+                    parent = parent;
+                    found = meant (fixed_of p.super) (shown p) shows;
+                    old = old;
+                    there = there;
+                    head = head;
+                    none = no_blob head next;
+                    is = ap (λ xs. clone_job parent old head xs) same;
                     commit_is = ap (λ xs. record { reply = r.Made head; live = Some xs; renews = head ∷ [] }) same;
                   });
               next = λ none. fresh_head head next;

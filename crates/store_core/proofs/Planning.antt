@@ -27,7 +27,7 @@ use Rattle.metadata_turns.specs.Begins.{IsJobOf}
 use Rattle.store_model.proofs.Synced.{edited_here}
 use Rattle.store_core.specs.Planning.{PlanLaws}
 use Rattle.running_store.specs.StoreView.{state_of}
-use Rattle.store_core.proofs.NextHead.{asks_create}
+use Rattle.store_core.proofs.NextHead.{asks_clone, asks_create}
 use Rattle.running_store.proofs.Showing.{shows_metas}
 use Rattle.running_store.proofs.Resolved.{unmarked_base}
 use Rattle.metadata_turns.proofs.Answered.{found, live_same}
@@ -167,4 +167,8 @@ plan_laws d = record {
       asks_resize (state_of d p) p.metas (shows_metas (state_of d p) running runs p.metas are.resolves) volume slots
       head
       old job (ap (λ (m : Map Meta). m head) (unmarked_base p.metas p.marked are clean) ∙ there) meant unrefused is;
+  clone = λ p volume name parent old head xattrs running runs are clean is_name meant there next unrefused named.
+      asks_clone running.store running.first running.script (state_of d p) running.facts (running.facts.well runs)
+      p.metas (shows_metas (state_of d p) running runs p.metas are.resolves) volume name parent old head xattrs is_name
+      meant (ap (λ (m : Map Meta). m parent) (unmarked_base p.metas p.marked are clean) ∙ there) next unrefused named;
 }

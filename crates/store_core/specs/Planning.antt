@@ -15,6 +15,7 @@ use Rattle.blob_meta.specs.Asked.{IsFirstCause, IsLiveOf, ShowsLive}
 use Rattle.blob_meta.specs.Jobs.{create_job, resize_job}
 use Rattle.blob_meta.specs.Repairs.{HasNoMarks}
 use Rattle.blob_meta.specs.ShownBy.{IsFirstRefusal, IsHeadMeant, ShowsMetas}
+use Rattle.snapshots.specs.SnapshotJobs.{clone_job}
 use Rattle.store_model.specs.Shown.{fixed_of}
 use Rattle.store_model.specs.StoreState.{shown}
 use Rattle.store_model.specs.Asking.{AsksFor}
@@ -81,3 +82,12 @@ pub record PlanLaws {D : Type 0} (d : Ghosts D) : Type 0 where
       → HasNoMarks (base_of p.metas p.marked) → IsHeadMeant p.metas p.super volume (Some head)
       → map.get p.metas head ≡ Some old → IsFirstRefusal p.metas p.super (c.Resize volume slots) None
       → job ≡ resize_job head old slots → IsJobOf (state_of d p) (c.Resize volume slots) job
+  -- A clone that nothing refuses asks for a blob at the head that is next, with as many empty slots as the blob that is
+  -- meant, which is its parent, and with the attributes that a new volume has beside those that are shown.
+  pub clone : (p : StoreView D) (volume : VolumeRef) (name : Text) (parent : ℕ) (old : Meta) (head : ℕ)
+      (xattrs : Xattrs) → IsRunning (state_of d p) → p.stopped ≡ None → AreResolved p.metas p.marked
+      → HasNoMarks (base_of p.metas p.marked) → IsName name → IsHeadMeant p.metas p.super volume (Some parent)
+      → map.get p.metas parent ≡ Some old → IsNextHead p.super.md_len p.pages head
+      → IsFirstRefusal p.metas p.super (c.Clone volume name) None
+      → ((f : Fixed) (v : Volumes) → ShowsMetas f p.super p.metas v → two_xattrs f v name None ≡ xattrs)
+      → IsJobOf (state_of d p) (c.Clone volume name) (clone_job parent old head xattrs)

@@ -12,7 +12,7 @@ use Rattle.store_model.specs.Shown.{fixed_of}
 use Rattle.store_model.specs.StoreState.{StoreState, shown}
 use Rattle.blob_meta.specs.declared.job.Job.{Job as Changes}
 use Rattle.store_model.specs.Phases.{Committing}
-use Rattle.store_model.specs.Asking.{AsksFor, IsJobFor, IsSyncing, syncs, creates, resizes}
+use Rattle.store_model.specs.Asking.{AsksFor, clones, IsJobFor, IsSyncing, syncs, creates, resizes}
 use Rattle.store_model.specs.Cases.{IsCauseReply, IsRefusedAtBegin, IsRefusedBy}
 
 -- ---- refusals
@@ -57,6 +57,10 @@ may_lack p command changes commit (resizes x) =
     let lack : Allowed (fixed_of p.super) (shown p) (c.Resize x.volume x.slots) r.NoPage =
     (ap (refusal (fixed_of p.super) (shown p)) (sym x.command_is) ∙ x.asked, tt) in
     subst (λ (k : Command). Allowed (fixed_of p.super) (shown p) k r.NoPage) (sym x.command_is) lack
+may_lack p command changes commit (clones x) =
+    let lack : Allowed (fixed_of p.super) (shown p) (c.Clone x.volume x.name) r.NoPage =
+    (ap (refusal (fixed_of p.super) (shown p)) (sym x.command_is) ∙ x.asked, tt) in
+    subst (λ (k : Command). Allowed (fixed_of p.super) (shown p) k r.NoPage) (sym x.command_is) lack
 
 -- and one that asks for slots of zeros may find too few clusters
 may_be_full : (p : StoreState) (command : Command) (changes : Changes) (commit : Committing)
@@ -72,6 +76,8 @@ may_be_full p command changes commit (resizes x) fewer =
     let full : Allowed (fixed_of p.super) (shown p) (c.Resize x.volume x.slots) r.Full =
     (ap (refusal (fixed_of p.super) (shown p)) (sym x.command_is) ∙ x.asked, tt) in
     subst (λ (k : Command). Allowed (fixed_of p.super) (shown p) k r.Full) (sym x.command_is) full
+may_be_full p command changes commit (clones x) fewer =
+    absurd (let none = ap (λ (y : Changes). length y.zero) x.is in omega (arith, fewer, none))
 
 pub is_allowed : (p : StoreState) (command : Command) (reply : Reply) → IsRefusedAtBegin p command reply
     → Allowed (fixed_of p.super) (shown p) command reply

@@ -1,17 +1,15 @@
 -- What a create asks for: a steady blob, and what each image shows with it.
 use Rattle.std.proofs.Common.{◌≡◌, ℕ, ◌+◌, ◌<◌, ◌≤◌, ◌^◌, Bool, true, false, List, [], ◌∷◌, length}
 use Rattle.std.proofs.Common.{Option}
-use Rattle.std.proofs.Common.{Some, None, refl, sym, ap, ◌∙◌, subst, inl, inr, arith}
+use Rattle.std.proofs.Common.{Some, None, refl, sym, ap, ◌∙◌, subst, arith}
 use Rattle.std.specs.Prelude.{if◌then◌else◌, is_some}
 use Rattle.md_chain.specs.Chain.{is_among}
 use Rattle.std.specs.List.{range_with_len}
 use Rattle.std.specs.Option.{option_map}
-use Rattle.std.proofs.lemmas.Bool.{cases_eq}
 use Rattle.std.proofs.lemmas.Bool.Decides.{nat_tests}
 use Rattle.std.proofs.lemmas.List.{length-replicate}
-use Rattle.std.proofs.Math.Path.{fun_ext}
 use Rattle.page_disk.specs.Disk.{Image}
-use Rattle.volume_model.specs.Volumes.{all_slots, Fixed, two_xattrs, Volume, Volumes}
+use Rattle.volume_model.specs.Volumes.{all_slots, Fixed, two_xattrs, Volumes}
 use Rattle.volume_model.specs.Xattrs.{Text, Xattrs}
 use Rattle.volume_model.specs.Refusals.{is_taken, is_too_large, refusal}
 use Rattle.volume_model.specs.Steps.{Allowed, change}
@@ -30,14 +28,14 @@ use Rattle.store_model.specs.Phases.{Committing, replaced, Replacing}
 use Rattle.store_model.specs.StoreState.{live_of, shown, StoreState}
 use Rattle.store_model.specs.Asking.{IsCreateJob}
 use Rattle.store_model.proofs.ShowsGiven.{none_childless}
-use Rattle.store_model.proofs.EmptySlots.{Any, leaves_elsewhere, leaves_resolved}
+use Rattle.store_model.proofs.EmptySlots.{Anything, leaves_elsewhere, leaves_resolved}
 use Rattle.store_model.specs.Copying.{LeavesEmpty}
 use Rattle.store_model.specs.Jobs.{IsStep, ReadsZeros, shown_of, with_clusters}
 use Rattle.store_model.specs.Steady.{AreSteady, CanBeWritten, IsSteady}
 use Rattle.store_model.specs.RunInvariant.{RunsWell}
 use Rattle.store_model.proofs.Known.{Known}
 use Rattle.store_model.proofs.Meanwhile.{blank_reading, reading}
-use Rattle.store_model.proofs.Moved.{live_shown, live_writable}
+use Rattle.store_model.proofs.MadeLive.{lives_made, writable_made}
 use Rattle.store_model.proofs.NewBlob.{empty_slot, new_takes_none, two_written}
 use Rattle.store_model.proofs.ClaimedZeros.{claimed_inside, zeroed_fresh, zeroed_is, zeros_read}
 use Rattle.store_model.proofs.InARow.{among_range, range_among, range_differs}
@@ -54,7 +52,7 @@ use Rattle.shown_volumes.proofs.SlotSums.{all_shown, slots_given, slots_in}
 use Rattle.shown_volumes.proofs.Blanked.{two_same}
 use Rattle.shown_volumes.proofs.Passing.{none_holds}
 use Rattle.store_model.proofs.Writable.{AllWritable}
-use Rattle.shown_volumes.proofs.WithEntry.{given_here, given_elsewhere}
+use Rattle.shown_volumes.proofs.WithEntry.{given_here}
 use Rattle.store_model.proofs.Sets.{among_first, not_first}
 
 -- the slots of a new blob that get clusters of zeros
@@ -204,22 +202,11 @@ module _ (known : Known) (unmarked : HasNoMarks known.p.base) where
           uuid xattrs same_two new steady
 
       lives : live_of w ≡ with_entry p.live r.head xattrs
-      lives = fun_ext (λ h. elim (cases_eq h head) [
-        | inl e ↦ ap (live_of w) e ∙ live_at ∙ sym (given_here p.live r.head xattrs h (e ∙ sym head_is))
-        | inr ne ↦
-            ap (λ o. option_map (λ (x : Volume). x.live) o) (others h ne)
-            ∙ live_shown there well.live well.no_live h
-            ∙ sym (given_elsewhere p.live r.head xattrs h (λ e. ne (e ∙ head_is)))
-      ])
+      lives = lives_made there well.live well.no_live w head xattrs live_at others
+          ∙ ap (λ h. with_entry p.live h xattrs) (sym head_is)
 
       writable : AllWritable w
-      writable h v is = elim (cases_eq h head) [
-        | inl e ↦
-            let live : Some v.live ≡ Some xattrs =
-            ap (λ o. option_map (λ (x : Volume). x.live) o) (sym is ∙ ap w e) ∙ live_at in
-            subst CanBeWritten (sym (cc live)) can
-        | inr ne ↦ live_writable there well.live h v (sym (others h ne) ∙ is)
-      ]
+      writable = writable_made there well.live well.no_live w head xattrs live_at others can
 
     step : IsStep (ReadsZeros p.super claimed) p.super p.base r p.live (c.Create name slots thick uuid) commit
     step = record {
@@ -233,9 +220,9 @@ module _ (known : Known) (unmarked : HasNoMarks known.p.base) where
       renews = (ap (λ (m : Metas). is_some (m head)) base_now ∙ ap is_some (given_here p.base head new head refl), tt);
       numbers = λ makes. subst (λ h. is_among h (head ∷ []) ≡ true) (sym head_is) (among_first head []);
       leaves = λ h out.
-          leaves_resolved p.super p.base (replaced p.base r) Any h (base_steady known unmarked)
+          leaves_resolved p.super p.base (replaced p.base r) Anything h (base_steady known unmarked)
           (subst (AreSteady p.super) (sym base_now) steady)
-          (subst (λ (m : Metas). LeavesEmpty p.super p.base m Any h) (sym base_now)
+          (subst (λ (m : Metas). LeavesEmpty p.super p.base m Anything h) (sym base_now)
           (leaves_elsewhere p.super p.base head new
           (none_childless p.base head (base_lawful known unmarked).parents none) h (not_first h head [] out).0));
     }

@@ -1,18 +1,18 @@
 -- Lists that are cut to a length, or lengthened to it by one value; maps among them.
-use Rattle.std.proofs.Common.{◌≡◌, ℕ, zero, suc, ◌-◌, ◌<◌, ◌≤◌, Bool, true, false, List, [], ◌∷◌, ◌++◌, length, Option}
+use Rattle.std.proofs.Common.{◌≡◌, ℕ, zero, suc, ◌-◌, ◌<◌, ◌≤◌, Bool, List, [], ◌∷◌, ◌++◌, length, Option}
 use Rattle.std.proofs.Common.{Some, None, refl, sym, ap, ◌∙◌, inl, inr, arith, length-append, subst}
-use Rattle.std.specs.Prelude.{find, if◌then◌else◌, is_none, nat_lt, replicate, slice_get, slice_index_or, take}
-use Rattle.std.specs.List.{position, position_or_len}
+use Rattle.std.specs.Prelude.{find, if◌then◌else◌, is_none, replicate, slice_get, take}
+use Rattle.std.specs.List.{position}
 use Rattle.std.specs.Option.{option_and_then}
-use Rattle.std.proofs.lemmas.Bool.{cases_lt, false≢true, lt-ltb}
+use Rattle.std.proofs.lemmas.Bool.{cases_lt, false≢true}
 use Rattle.std.proofs.lemmas.List.{append-nil, get_or-take, length-replicate, length-take-le, take_all}
 use Rattle.std.proofs.lemmas.List.Quantifiers.{position-Some}
-use Rattle.std.proofs.lemmas.List.Sums.{fails_before_first}
 use Rattle.std.proofs.lemmas.Option.{slice_get_past}
 use Rattle.blob_meta.specs.Faults.{clusters_of, is_outside}
 use Rattle.blob_meta.proofs.ClustersOutside.{clusters-append}
-use Rattle.store_model.proofs.Inside.{passes}
+use Rattle.shown_volumes.proofs.Inside.{passes}
 use Rattle.store_model.proofs.NewBlob.{empty_slot, none_in}
+pub use Rattle.shown_volumes.proofs.MapTests.{all_full, slot_in}
 
 -- so many elements: the first ones, and then as many of this value as are wanting
 abbrev pub cut : {X : Type 0} → List X → ℕ → X → List X
@@ -47,10 +47,6 @@ get_take (x ∷ xs) (suc n) zero lt = refl
 get_take (x ∷ xs) (suc n) (suc i) lt = get_take xs n i (omega (arith, lt))
 
 -- ---- maps
-
--- the cluster in a slot of a map
-abbrev pub slot_in : List (Option ℕ) → ℕ → Option ℕ
-slot_in map i = option_and_then (λ s. s) (slice_get map i)
 
 slot_longer : (map : List (Option ℕ)) (n i : ℕ) → slot_in (map ++ replicate n None) i ≡ slot_in map i
 slot_longer [] n i = empty_slot n i
@@ -107,15 +103,6 @@ module _ (fixed clusters : ℕ) where
         ap (λ m. find (is_outside fixed clusters) (clusters_of m)) (is_cut map slots None le)
         ∙ inside_take map slots none
   ]
-
--- no slot of a map without a hole is empty
-pub all_full : (map : List (Option ℕ)) → position is_none map ≡ None → (i : ℕ) → i < length map
-    → is_none (slice_index_or map i None) ≡ false
-all_full map none i lt = elim (cases_lt (position_or_len is_none map) (length map)) [
-  | inl some ↦ absurd (let t : nat_lt (position_or_len is_none map) (length map) ≡ true = lt-ltb _ _ some in
-      let bad : Some (position_or_len is_none map) ≡ None = sym (rw t refl) ∙ none in cc bad)
-  | inr past ↦ fails_before_first is_none map i None (omega (arith, past, lt))
-]
 
 pub full_cut : (map : List (Option ℕ)) (n : ℕ) → n ≤ length map → position is_none map ≡ None
     → position is_none (take n map) ≡ None

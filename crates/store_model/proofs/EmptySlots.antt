@@ -38,11 +38,8 @@ use Rattle.store_model.proofs.Cut.{slot_kept, slot_past}
 use Rattle.store_model.proofs.Elsewhere.{IsChildless, same_elsewhere, through}
 use Rattle.store_model.proofs.SameMaps.{content_alike, IsPlacedAlike}
 use Rattle.store_model.proofs.Resolved.{steady_resolved}
-use Rattle.store_model.proofs.WithEntry.{given_elsewhere, given_here}
-
--- whatever an image holds
-abbrev pub Any : Image → Type 0
-Any image = Unit {0}
+use Rattle.shown_volumes.proofs.WithEntry.{given_elsewhere, given_here}
+pub use Rattle.shown_volumes.specs.EmptySlots.{Anything}
 
 -- with the same maps and parents
 module _ (s : Super) (metas others : Metas) (alike : (h : ℕ) → IsPlacedAlike (others h) (metas h)) where
@@ -65,7 +62,7 @@ module _ (s : Super) (metas others : Metas) (alike : (h : ℕ) → IsPlacedAlike
   was h page m (Some n) None is same there empty = absurd is
   was h page m None q is same there empty = absurd (cc same)
 
-  pub leaves_alike : (h : ℕ) → LeavesEmpty s metas others Any h
+  pub leaves_alike : (h : ℕ) → LeavesEmpty s metas others Anything h
   leaves_alike h page m is empty =
       let x = was h page m (others h) (metas h) (alike h) is refl empty in
       record {
@@ -77,7 +74,7 @@ module _ (s : Super) (metas others : Metas) (alike : (h : ℕ) → IsPlacedAlike
 
 -- of other blobs than one that is nobody's parent
 pub leaves_elsewhere : (s : Super) (metas : Metas) (head : ℕ) (new : Meta) → IsChildless metas head → (h : ℕ) → h ≢ head
-    → LeavesEmpty s metas (with_entry metas head new) Any h
+    → LeavesEmpty s metas (with_entry metas head new) Anything h
 leaves_elsewhere s metas head new childless h ne page m is empty = record {
   old = m;
   there = sym (given_elsewhere metas head new h ne) ∙ is;
@@ -123,7 +120,7 @@ module _ (s : Super) (metas : Metas) (head : ℕ) (old : Meta) (there : metas he
           (same_elsewhere k metas nexts head (λ q other. given_elsewhere metas head next q other) childless image image
           (λ _ _ _ _ _ _ _. refl) s.md_len page) there (parent_of old) refl)
 
-  pub leaves_given : LeavesEmpty s metas nexts Any head
+  pub leaves_given : LeavesEmpty s metas nexts Anything head
   leaves_given page m is empty =
       let one : next ≡ m = let both = sym (given_here metas head next head refl) ∙ is in cc both in
       let none : slot next (page / k) ≡ None = ap (λ (x : Meta). slot x (page / k)) one ∙ empty in

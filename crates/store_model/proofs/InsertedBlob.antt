@@ -24,8 +24,8 @@ use Rattle.store_model.specs.Regions.{region_of}
 use Rattle.store_model.specs.Steady.{IsSteady}
 use Rattle.store_model.proofs.Cut.{all_full}
 use Rattle.store_model.proofs.Inserted.{get_set_here}
-use Rattle.store_model.proofs.Inside.{IsInside, none_of_map, passes}
-use Rattle.store_model.proofs.Faultless.{all_pass, none_first, passes as all_passes}
+use Rattle.shown_volumes.proofs.Inside.{IsInside, none_of_map, passes}
+use Rattle.shown_volumes.proofs.MapTests.{all_pass, passes as all_passes}
 use Rattle.shown_volumes.proofs.Ranges.{get_set_other}
 use Rattle.shown_volumes.proofs.SlotSums.{slots_given, slots_in}
 use Rattle.shown_volumes.proofs.WithEntry.{given_here, given_elsewhere}
@@ -88,13 +88,11 @@ module _ (old : Meta) (i cluster : ℕ) (within : i < length old.map) (empty : s
       → meta_fault fixed clusters next ≡ None
   still_passes fixed clusters inside none =
       let was = all_passes fixed clusters old none in
-      let large = none_first (too_large old.map) _ was.map in
-      let out = none_first (cluster_outside fixed clusters old.map) [] large.1 in
       let few : too_large next.map ≡ None =
-      ap too_long (length-set old.map i (Some cluster)) ∙ large.0 in
+      ap too_long (length-set old.map i (Some cluster)) ∙ was.few in
       let held : cluster_outside fixed clusters next.map ≡ None =
       ap (option_map faults.ClusterOutside) (inside_set fixed clusters cluster inside old.map i within
-      (none_of_map faults.ClusterOutside (find (is_outside fixed clusters) (clusters_of old.map)) out.0)) in
+      (none_of_map faults.ClusterOutside (find (is_outside fixed clusters) (clusters_of old.map)) was.map)) in
       let is = thin was.full in
       all_pass _ _ _ _ was.flags (rw (few, held) refl) (rw is refl) was.marks
     where

@@ -35,12 +35,14 @@ use Rattle.store_model.specs.Shown.{fixed_of}
 use Rattle.store_model.specs.Phases.{Committing, Replacing, taken_by}
 use Rattle.store_model.specs.Places.{AreLeastClear}
 use Rattle.store_model.specs.StoreState.{shown, StoreState}
-use Rattle.store_model.specs.Asking.{creates, IsJobFor, resizes, syncs}
+use Rattle.store_model.specs.Asking.{clones, creates, IsJobFor, resizes, syncs}
 use Rattle.store_model.specs.Maps.{Metas}
 use Rattle.store_model.specs.Jobs.{with_clusters, IsLaid, LacksPages, LacksPagesFor}
 use Rattle.blob_meta.specs.Faults.{is_thin}
 use Rattle.store_model.specs.Steady.{IsSteady}
 use Rattle.store_model.specs.RunInvariant.{RunsWell}
+use Rattle.snapshots.specs.SnapshotJobs.{new_clone}
+use Rattle.store_model.proofs.CloneStep.{clone_ready}
 use Rattle.store_model.proofs.CreateStep.{create_ready, new_zeros}
 use Rattle.store_model.proofs.Known.{Known}
 use Rattle.store_model.proofs.LeftToDo.{chain_new, chain_there}
@@ -64,18 +66,21 @@ module _ (p : StoreState) (command : Command) (changes : Changes) (commit : Comm
   head_of (syncs x) = x.head
   head_of (creates x) = x.head
   head_of (resizes x) = x.head
+  head_of (clones x) = x.head
 
   abbrev pub new_of : IsJobFor p command changes commit → Meta
   new_of (syncs x) = x.new
   new_of (creates x) =
       new_meta x.head (two_xattrs (fixed_of p.super) (shown p) x.name x.uuid) x.thick x.slots
   new_of (resizes x) = resized_meta x.old x.slots
+  new_of (clones x) = new_clone x.parent x.old x.head (two_xattrs (fixed_of p.super) (shown p) x.name None)
 
   -- the slots that get clusters of zeros
   abbrev pub zeros_of : IsJobFor p command changes commit → List ℕ
   zeros_of (syncs x) = []
   zeros_of (creates x) = new_zeros x.thick x.slots
   zeros_of (resizes x) = added_zeros (is_thin x.old.flags) (length x.old.map) x.slots
+  zeros_of (clones x) = []
 
   -- the metadata with these clusters in them
   abbrev pub with_claimed : IsJobFor p command changes commit → List ℕ → Meta
@@ -87,6 +92,7 @@ module _ (p : StoreState) (command : Command) (changes : Changes) (commit : Comm
   one_change (syncs x) = x.is
   one_change (creates x) = x.is
   one_change (resizes x) = x.is
+  one_change (clones x) = x.is
 
 none_long : (l : List ℕ) → length l ≡ 0 → l ≡ []
 none_long [] e = refl
@@ -147,6 +153,13 @@ module _ (known : Known) where
   job_ready unmarked runs command changes commit (resizes y) claimed least one_each r laid =
       resize_ready known unmarked runs command changes commit y claimed least one_each r laid.head laid.new
       (there_not_made runs claimed r _ laid y.old (ap p.base laid.head ∙ y.there))
+  job_ready unmarked runs command changes commit (clones y) claimed least one_each r laid =
+      subst (λ l. IsReady p l command commit (new_of p command changes commit (clones y)) r)
+      (sym (none_long claimed one_each))
+      (clone_ready known unmarked runs command changes commit y
+      (subst (λ h. h < p.super.md_len) laid.head
+      (made_low runs claimed r _ laid (none_made runs claimed r _ laid (ap p.base laid.head ∙ y.none))
+      laid.planned.least)) r laid.head laid.new)
 
   -- the metadata that it asks for can be written, before it is laid on pages
   pub job_writable : HasNoMarks p.base → p.stopped ≡ None → (command : Command) (changes : Changes)
@@ -199,3 +212,5 @@ module _ (known : Known) where
           (bare_at y.head (with_claimed p command changes commit (creates y) claimed) true) refl refl).steady
       by (resizes y) long low = (resize_ready known unmarked runs command changes commit y claimed least long
           (bare_at y.head (with_claimed p command changes commit (resizes y) claimed) false) refl refl refl).steady
+      by (clones y) long low = (clone_ready known unmarked runs command changes commit y low
+          (bare_at y.head (new_of p command changes commit (clones y)) true) refl refl).steady

@@ -1,9 +1,8 @@
 -- The metadata of a new blob: it is steady, and with it the metadata of all blobs is lawful.
-use Rattle.std.proofs.Common.{◌≡◌, ◌⊎◌, ℕ, ◌<◌, ◌≤◌, ◌^◌, Bool, true, false, List, [], ◌∷◌, length}
+use Rattle.std.proofs.Common.{◌≡◌, ◌⊎◌, ℕ, ◌<◌, ◌≤◌, ◌^◌, Bool, true, false, List, [], ◌∷◌}
 use Rattle.std.proofs.Common.{Option, None, refl, sym, ◌∙◌, inl, inr, arith, length-append}
-use Rattle.std.specs.Prelude.{if◌then◌else◌, nat_le, replicate}
+use Rattle.std.specs.Prelude.{if◌then◌else◌, replicate}
 use Rattle.std.specs.Option.{option_map_or}
-use Rattle.std.proofs.lemmas.Bool.{le-leb}
 use Rattle.std.proofs.lemmas.List.{length-replicate}
 use Rattle.super_block.specs.declared.page.Super.{Super}
 use Rattle.volume_model.proofs.UuidTexts.{length-uuid_text}
@@ -13,15 +12,13 @@ use Rattle.volume_model.specs.Volumes.{Fixed, store_uuid, two_xattrs, Volumes}
 use Rattle.volume_model.specs.Xattrs.{Text, Xattrs}
 use Rattle.blob_meta.specs.declared.meta.Flags.{Flags}
 use Rattle.blob_meta.specs.Faults.{hole_in_thick, map_fault}
-use Rattle.blob_meta.specs.Faults.{too_large, unknown_flag}
 use Rattle.blob_meta.specs.Jobs.{new_meta}
-use Rattle.blob_meta.specs.Says.{without_bit_1}
 use Rattle.store_model.specs.Maps.{Metas}
 use Rattle.store_model.specs.Regions.{region_of}
 use Rattle.store_model.specs.Steady.{CanBeWritten, IsSteady}
-use Rattle.store_model.proofs.Faultless.{all_pass}
 use Rattle.store_model.proofs.LawfulGiven.{TakesNone}
 pub use Rattle.shown_volumes.proofs.EmptyMaps.{none_in, empty_slot}
+pub use Rattle.shown_volumes.proofs.MapTests.{all_pass, clear_flags, few_pass, known_flags}
 
 -- ---- its attributes
 
@@ -40,26 +37,12 @@ two_written f v name uuid named = record {
 
 -- ---- its map
 
-pub few_pass : (slots : ℕ) (map : List (Option ℕ)) → length map ≡ slots → slots ≤ 2 ^ 20 → too_large map ≡ None
-few_pass slots map count few = let le : nat_le (length map) (2 ^ 20) ≡ true = le-leb (length map) (2 ^ 20)
-    (omega (arith, count, few)) in rw le refl
-
 new_passes : (fixed clusters slots : ℕ) → slots ≤ 2 ^ 20 → map_fault fixed clusters (replicate slots None) ≡ None
 new_passes fixed clusters slots few =
     rw (few_pass slots (replicate slots None) (length-replicate slots None) few, none_in slots) refl
 
 new_flags : Bool → Flags
 new_flags thick = record { invalid = if thick then 0 else 1; data_ro = 0; md_ro = 0 }
-
--- its flags are known ones
-pub known_flags : (thick : Bool) → unknown_flag (new_meta 0 [] thick 0).flags ≡ None
-known_flags true = refl
-known_flags false = refl
-
--- and have no other bit
-pub clear_flags : (thick : Bool) → without_bit_1 (if thick then 0 else 1) ≡ (if thick then 0 else 1)
-clear_flags true = refl
-clear_flags false = refl
 
 no_hole : (thick : Bool) (slots : ℕ) → (thick ≡ false) ⊎ (slots ≡ 0)
     → hole_in_thick (new_meta 0 [] thick 0).flags (replicate slots None) ≡ None

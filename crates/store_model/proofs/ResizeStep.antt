@@ -33,7 +33,7 @@ use Rattle.store_model.specs.Steady.{AreSteady, CanBeWritten, IsSteady}
 use Rattle.store_model.specs.RunInvariant.{RunsWell}
 use Rattle.store_model.specs.Places.{AreLeastClear}
 use Rattle.store_model.proofs.Sets.{among_first}
-use Rattle.store_model.proofs.EmptySlots.{Any, leaves_elsewhere, leaves_given, leaves_resolved, resized_empty}
+use Rattle.store_model.proofs.EmptySlots.{Anything, leaves_elsewhere, leaves_given, leaves_resolved, resized_empty}
 use Rattle.store_model.proofs.ClaimedZeros.{zeros_read}
 use Rattle.store_model.proofs.ZeroSlots.{other_slot, AreEmpty, IsZeroedAt}
 use Rattle.store_model.proofs.ZeroedBlob.{volume_zeroed, IsZeroed}
@@ -202,9 +202,9 @@ module _ (known : Known) (unmarked : HasNoMarks known.p.base) where
       ]
 
     -- its empty slots, if none is cut, and those of others show what they showed
-    left_empty : (h : ℕ) → is_among h renews ≡ false → LeavesEmpty p.super p.base all Any h
+    left_empty : (h : ℕ) → is_among h renews ≡ false → LeavesEmpty p.super p.base all Anything h
     left_empty h out = elim (cases_eq h head) [
-      | inl e ↦ subst (LeavesEmpty p.super p.base all Any) (sym e)
+      | inl e ↦ subst (LeavesEmpty p.super p.base all Anything) (sym e)
           (leaves_given p.super p.base head old there childless new (ap (λ (m : Meta). parent_of m) zeroed.rest)
           (λ i none. resized_empty old slots (elim (cases_lt slots (length old.map)) [
             | inl cut ↦ absurd (false≢true (sym (subst (λ n. is_among n renews ≡ false) e out)
@@ -229,9 +229,9 @@ module _ (known : Known) (unmarked : HasNoMarks known.p.base) where
       renews = renews_there (nat_lt slots (length old.map));
       numbers = λ makes. absurd (false≢true (sym not_made ∙ makes));
       leaves = λ h out.
-          leaves_resolved p.super p.base (replaced p.base r) Any h (base_steady known unmarked)
+          leaves_resolved p.super p.base (replaced p.base r) Anything h (base_steady known unmarked)
           (subst (AreSteady p.super) (sym base_now) steady)
-          (subst (λ (m : Metas). LeavesEmpty p.super p.base m Any h) (sym base_now) (left_empty h out));
+          (subst (λ (m : Metas). LeavesEmpty p.super p.base m Anything h) (sym base_now) (left_empty h out));
     }
 
     pub ready : IsReady p claimed (c.Resize volume slots) commit new r

@@ -14,8 +14,8 @@ use Rattle.store_model.specs.Maps.{Metas}
 use Rattle.store_model.specs.Regions.{region_of}
 use Rattle.store_model.specs.Steady.{IsSteady}
 use Rattle.store_model.proofs.Cut.{length_cut, slot_was}
-use Rattle.store_model.proofs.Faultless.{passes}
-use Rattle.store_model.proofs.Inside.{inside_slot, none_of_map}
+use Rattle.shown_volumes.proofs.Inside.{inside_slot, none_of_map}
+use Rattle.shown_volumes.proofs.MapTests.{passes}
 use Rattle.store_model.proofs.ZeroedBlob.{IsSteadyBut}
 use Rattle.std.proofs.lemmas.Bool.Decides.{nat_tests}
 use Rattle.store_model.proofs.LawfulGiven.{TakesNone}

@@ -1,32 +1,23 @@
 -- The metadata that is shown, by that which the device says: each blob is one that is there, as it is or without its
 -- marks, so that the store can hold it where it can hold all that is there.
-use Rattle.std.proofs.Common.{◌≡◌, ◌⊎◌, ℕ, ◌+◌, ◌-◌, ◌^◌, ◌≤◌, Bool, true, false, List, [], ◌∷◌, length, Option, Some}
+use Rattle.std.proofs.Common.{◌≡◌, ◌⊎◌, ℕ, Bool, true, false, List, Option, Some}
 use Rattle.std.proofs.Common.{None, refl}
 use Rattle.std.proofs.Common.{sym, ◌∙◌, ap, subst, inl, inr}
-use Rattle.std.specs.Prelude.{codes, filter, find, if◌then◌else◌, not}
-use Rattle.std.specs.List.{AllByRecursion}
-use Rattle.std.specs.Option.{option_and_then, option_map, option_map_or}
-use Rattle.std.specs.Str.{bytes_eq}
-use Rattle.std.proofs.lemmas.Bool.{cases_Bool}
+use Rattle.std.specs.Prelude.{codes, if◌then◌else◌}
+use Rattle.std.specs.Option.{option_and_then, option_map_or}
 use Rattle.std.proofs.Math.Path.{fun_ext}
 use Rattle.super_block.specs.declared.page.Super.{Super}
-use Rattle.volume_model.specs.Xattrs.{Text, Xattrs, without}
-use Rattle.volume_model.specs.declared.text.Xattr.{Xattr}
-use Rattle.blob_meta.specs.declared.fault.MetaFault.{MetaFault}
-use Rattle.blob_meta.specs.declared.fault.MetaFault.TheVariants as faults
-use Rattle.descriptors.specs.Runs.{at_most}
+use Rattle.volume_model.specs.Xattrs.{without}
 use Rattle.blob_meta.specs.declared.meta.Meta.{Meta}
-use Rattle.blob_meta.specs.Faults.{bad_mark, is_bad_mark, meta_fault}
-use Rattle.blob_meta.specs.Items.{HasDistinctNames}
 use Rattle.blob_meta.specs.Parents.{slot}
 use Rattle.blob_meta.specs.Repairs.{HasNoMarks}
 use Rattle.blob_meta.specs.Resolving.{is_kept, mark_of, resolved, resolved_one, without_marks}
 use Rattle.store_model.specs.Maps.{Metas}
-use Rattle.store_model.proofs.Faultless.{all_pass, passes}
-use Rattle.store_model.proofs.Inside.{none_of_map}
+use Rattle.shown_volumes.proofs.GoodMarks.{AreGood, good_of, none_bad, without_good}
+use Rattle.shown_volumes.proofs.MapTests.{all_pass, passes}
 use Rattle.store_model.specs.Places.{IsMapped}
 use Rattle.store_model.specs.Regions.{region_of}
-use Rattle.store_model.specs.Steady.{AreNamed, AreSteady, AreStored, CanBeWritten, IsStored}
+use Rattle.store_model.specs.Steady.{AreNamed, AreSteady, AreStored, IsStored}
 
 -- ---- metadata without marks is resolved as it is
 
@@ -101,78 +92,24 @@ resolved_mapped metas cluster x =
       in_slot = slot_of x.meta o.old x.place cluster (map_of metas x.head x.meta o) x.in_slot;
     }
 
--- ---- without marks
-
-module _ (test : Xattr → Bool) where
-  all_filtered : (P : Xattr → Type 0) (xs : List Xattr) → AllByRecursion P xs → AllByRecursion P (filter test xs)
-  all_filtered P [] all = all
-  all_filtered P (x ∷ xs) all = elim (cases_Bool (test x)) [
-    | inl passes ↦ rw passes (all.0, all_filtered P xs all.1)
-    | inr fails ↦ rw fails (all_filtered P xs all.1)
-  ]
-
-  distinct_filtered : (xs : List Xattr) → HasDistinctNames xs → HasDistinctNames (filter test xs)
-  distinct_filtered [] all = all
-  distinct_filtered (x ∷ xs) all = elim (cases_Bool (test x)) [
-    | inl passes ↦ rw passes (all_filtered (λ y. bytes_eq x.key y.key ≡ false) xs all.0, distinct_filtered xs all.1)
-    | inr fails ↦ rw fails (distinct_filtered xs all.1)
-  ]
-
-  -- what is found nowhere isn't found among those that pass
-  none_filtered : (bad : Xattr → Bool) (xs : List Xattr) → find bad xs ≡ None → find bad (filter test xs) ≡ None
-  none_filtered bad [] none = refl
-  none_filtered bad (x ∷ xs) none = elim (cases_Bool (bad x)) [
-    | inl is_bad ↦ absurd (let found : find bad (x ∷ xs) ≡ Some x = rw is_bad refl in
-        let e = sym none ∙ found in cc e)
-    | inr fine ↦
-        let skips : find bad (x ∷ xs) ≡ find bad xs = rw fine refl in
-        let later : find bad xs ≡ None = sym skips ∙ none in
-        elim (cases_Bool (test x)) [
-          | inl passes ↦ rw passes (rw fine (none_filtered bad xs later))
-          | inr fails ↦ rw fails (none_filtered bad xs later)
-        ]
-  ]
-
-  written_filtered : (xs : List Xattr) → CanBeWritten xs → CanBeWritten (filter test xs)
-  written_filtered xs can = record {
-    names = distinct_filtered xs can.names;
-    short = all_filtered (λ (x : Xattr). length x.key + length x.value ≤ 4063) xs can.short;
-  }
-
-written_without : (xs : Xattrs) (key : Text) → CanBeWritten xs → CanBeWritten (without xs key)
-written_without xs key = written_filtered (λ x. not (bytes_eq x.key key)) xs
-
--- ---- faults
-
-marks_fine : (xs : List Xattr) (test : Xattr → Bool) → bad_mark xs ≡ None → bad_mark (filter test xs) ≡ None
-marks_fine xs test none =
-    ap (λ o. option_map fault_of o)
-    (none_filtered test is_bad_mark xs (none_of_map fault_of (find is_bad_mark xs) none))
-  where
-    fault_of : Xattr → MetaFault
-    fault_of x = faults.BadMark x.key (at_most (2 ^ 32 - 1) (length x.value))
-
-fine_without : (fixed clusters : ℕ) (m : Meta) → meta_fault fixed clusters m ≡ None
-    → meta_fault fixed clusters (without_marks m) ≡ None
-fine_without fixed clusters m fine =
-    let was = passes fixed clusters m fine in
-    all_pass _ _ _ _ was.flags was.map was.full
-    (marks_fine (without m.internal (codes "SNAPRM")) (λ x. not (bytes_eq x.key (codes "SNAPTMP")))
-    (marks_fine m.internal (λ x. not (bytes_eq x.key (codes "SNAPRM"))) was.marks))
-
 -- ---- what the store can hold
 
 -- without its marks a blob can be held still
 pub lifted_stored : (s : Super) (head : ℕ) (m : Meta) → IsStored s head m → IsStored s head (without_marks m)
-lifted_stored s head m x = record {
-  low = x.low;
-  id = x.id;
-  clear = x.clear;
-  xattrs = x.xattrs;
-  internal = written_without (without m.internal (codes "SNAPRM")) (codes "SNAPTMP")
-      (written_without m.internal (codes "SNAPRM") x.internal);
-  faultless = fine_without (region_of s).fixed (region_of s).clusters m x.faultless;
-}
+lifted_stored s head m x =
+    let was = passes (region_of s).fixed (region_of s).clusters m x.faultless in
+    let good : AreGood (without_marks m).internal =
+    without_good (without m.internal (codes "SNAPRM")) (codes "SNAPTMP") (without_good m.internal (codes "SNAPRM")
+    (record { can = x.internal; good = good_of m.internal was.marks })) in
+    record {
+      low = x.low;
+      id = x.id;
+      clear = x.clear;
+      xattrs = x.xattrs;
+      internal = good.can;
+      faultless = all_pass _ _ _ _ was.flags (rw (was.few, was.map) refl) was.full
+          (none_bad (without_marks m).internal good.good);
+    }
 
 -- so can all resolved metadata
 pub resolved_stored : (s : Super) (metas : Metas) → AreStored s metas → AreStored s (resolved metas)

@@ -23,8 +23,8 @@ use Rattle.store_model.specs.Cases.{read_after}
 use Rattle.store_model.specs.Agreeing.{AgreeOn}
 use Rattle.store_model.specs.Steady.{AreStored}
 use Rattle.store_model.proofs.Contents.{HasParents, same_content}
-use Rattle.store_model.proofs.Inside.{inside_slot}
 use Rattle.store_model.proofs.Resolved.{resolved_stored}
+use Rattle.shown_volumes.proofs.Inside.{inside_slot}
 pub use Rattle.store_model.proofs.Resolved.{steady_resolved}
 pub use Rattle.shown_volumes.specs.Shown.{or_empty}
 

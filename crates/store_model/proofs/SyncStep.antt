@@ -35,7 +35,7 @@ use Rattle.store_model.proofs.OneReplacement.{
   ready_by,
 }
 use Rattle.store_model.proofs.Synced.{alike_synced, syncs_to, shown_synced}
-use Rattle.store_model.proofs.EmptySlots.{Any, leaves_alike, leaves_resolved}
+use Rattle.store_model.proofs.EmptySlots.{Anything, leaves_alike, leaves_resolved}
 use Rattle.store_model.specs.Copying.{LeavesEmpty}
 use Rattle.store_model.proofs.LiveSynced.{live_synced}
 use Rattle.volume_model.specs.declared.command.Command.{Command}
@@ -126,9 +126,9 @@ module _ (known : Known) (unmarked : HasNoMarks known.p.base) where
       renews = tt;
       numbers = λ makes. absurd (false≢true (sym there ∙ makes));
       leaves = λ h _.
-          leaves_resolved p.super p.base (replaced p.base r) Any h (base_steady known unmarked)
+          leaves_resolved p.super p.base (replaced p.base r) Anything h (base_steady known unmarked)
           (subst (AreSteady p.super) (sym base_now) (all_steady known unmarked head new one_steady))
-          (subst (λ (m : Metas). LeavesEmpty p.super p.base m Any h) (sym base_now)
+          (subst (λ (m : Metas). LeavesEmpty p.super p.base m Anything h) (sym base_now)
           (leaves_alike p.super p.base (with_entry p.base head new)
           (alike_synced p.base head asks.old new asks.after.synced (flags_after command asks.old.flags)
           asks.there asks.new_is) h));

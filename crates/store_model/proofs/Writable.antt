@@ -2,87 +2,26 @@
 use Rattle.std.proofs.Common.{◌≡◌, ◌≢◌, ℕ, ◌+◌, ◌≤◌, Bool, false, List, [], ◌∷◌, length, Option, Some, None, refl}
 use Rattle.std.proofs.Common.{sym, ◌∙◌, ap, subst, arith, inl, inr}
 use Rattle.std.specs.Prelude.{nat_lt, ◌||◌}
-use Rattle.std.specs.List.{AllByRecursion, find}
+use Rattle.std.specs.List.{find}
 use Rattle.std.specs.Option.{option_map}
-use Rattle.std.specs.Str.{bytes_eq}
-use Rattle.std.proofs.lemmas.Bool.{cases_Bool, cases_eq}
+use Rattle.std.proofs.lemmas.Bool.{cases_eq}
 use Rattle.std.proofs.lemmas.Bool.Decides.{nat_tests}
-use Rattle.std.proofs.lemmas.Slice.Eq.{bytes_eq-Decides}
 use Rattle.volume_model.specs.Volumes.{Fixed, Volume, Volumes, head_of, is_super}
 use Rattle.volume_model.specs.Xattrs.{Xattrs, with_value, without}
 use Rattle.volume_model.specs.Refusals.{is_reserved, refusal}
 use Rattle.volume_model.specs.Steps.{Allowed, change, edited_at, IsRefusal}
-use Rattle.volume_model.specs.declared.text.Xattr.{Xattr}
 use Rattle.volume_model.specs.declared.command.VolumeRef.{VolumeRef}
 use Rattle.volume_model.specs.declared.command.Command.{Command}
 use Rattle.volume_model.specs.declared.command.Command.TheVariants as c
 use Rattle.volume_model.specs.declared.reply.Reply.{Reply}
 use Rattle.volume_model.specs.declared.reply.Reply.TheVariants as r
-use Rattle.blob_meta.specs.Items.{HasDistinctNames}
-pub use Rattle.shown_volumes.proofs.Passing.{none_holds}
 use Rattle.store_model.specs.Cases.{IsInMemory, live_of}
 use Rattle.store_model.specs.RunInvariant.{CanBeWritten}
 use Rattle.store_model.proofs.Refusals.{RefusalsChangeNothing}
 use Rattle.store_model.proofs.Synced.{edited_here, edited_there}
 use Rattle.store_model.proofs.Shows.{or_empty}
-
--- a name that is none of these, nor the new one's, is none with it
-apart : (name : List ℕ) (xs : List Xattr) (key value : List ℕ)
-    → bytes_eq name key ≡ false → AllByRecursion (λ y. bytes_eq name y.key ≡ false) xs
-    → AllByRecursion (λ y. bytes_eq name y.key ≡ false) (with_value xs key value)
-apart name [] key value ne h = (ne, tt)
-apart name (x ∷ xs) key value ne h = elim (cases_Bool (bytes_eq x.key key)) [
-  | inl same ↦ rw same (h.0, h.1)
-  | inr other ↦ rw other (h.0, apart name xs key value ne h.1)
-]
-
-pub distinct_with : (xs : List Xattr) (key value : List ℕ) → HasDistinctNames xs
-    → HasDistinctNames (with_value xs key value)
-distinct_with [] key value h = (tt, tt)
-distinct_with (x ∷ xs) key value h = elim (cases_Bool (bytes_eq x.key key)) [
-  | inl same ↦ rw same (h.0, h.1)
-  | inr other ↦ rw other (apart x.key xs key value other h.0, distinct_with xs key value h.1)
-]
-
--- ---- lists of attributes
-
-abbrev IsShort : Xattr → Type 0
-IsShort x = length x.key + length x.value ≤ 4063
-
-short_with : (xs : Xattrs) (key value : List ℕ) → length key + length value ≤ 4063 → AllByRecursion IsShort xs
-    → AllByRecursion IsShort (with_value xs key value)
-short_with [] key value fits all = (fits, tt)
-short_with (x ∷ xs) key value fits all = elim (cases_Bool (bytes_eq x.key key)) [
-  | inl same ↦
-      let is : x.key ≡ key = (bytes_eq-Decides x.key key).0 same in
-      let one : length x.key + length value ≤ 4063 = subst (λ k. length k + length value ≤ 4063) (sym is) fits in
-      rw same (one, all.1)
-  | inr other ↦ rw other (all.0, short_with xs key value fits all.1)
-]
-
-all_without : (P : Xattr → Type 0) (xs : Xattrs) (key : List ℕ) → AllByRecursion P xs
-    → AllByRecursion P (without xs key)
-all_without P [] key all = tt
-all_without P (x ∷ xs) key all = elim (cases_Bool (bytes_eq x.key key)) [
-  | inl same ↦ rw same (all_without P xs key all.1)
-  | inr other ↦ rw other (all.0, all_without P xs key all.1)
-]
-
-distinct_without : (xs : Xattrs) (key : List ℕ) → HasDistinctNames xs → HasDistinctNames (without xs key)
-distinct_without [] key h = tt
-distinct_without (x ∷ xs) key h = elim (cases_Bool (bytes_eq x.key key)) [
-  | inl same ↦ rw same (distinct_without xs key h.1)
-  | inr other ↦ rw other (all_without (λ y. bytes_eq x.key y.key ≡ false) xs key h.0, distinct_without xs key h.1)
-]
-
-pub written_with : (xs : Xattrs) (key value : List ℕ) → length key + length value ≤ 4063 → CanBeWritten xs
-    → CanBeWritten (with_value xs key value)
-written_with xs key value fits can =
-    record { names = distinct_with xs key value can.names; short = short_with xs key value fits can.short }
-
-pub written_without : (xs : Xattrs) (key : List ℕ) → CanBeWritten xs → CanBeWritten (without xs key)
-written_without xs key can =
-    record { names = distinct_without xs key can.names; short = all_without IsShort xs key can.short }
+pub use Rattle.shown_volumes.proofs.Passing.{none_holds}
+pub use Rattle.shown_volumes.proofs.Written.{distinct_with, written_with, written_without}
 
 -- ---- what a cause says that doesn't hold
 

@@ -1,11 +1,9 @@
 -- A blob with claimed clusters in slots that were empty: it is steady, all metadata is lawful with it, and it shows
 -- what it showed where the clusters read as zeros and so did the slots.
-use Rattle.std.proofs.Common.{[], ◌≡◌, ◌≢◌, ◌⊎◌, ℕ, zero, suc, ◌+◌, ◌*◌, ◌/◌, ◌%◌, ◌<◌, ◌≤◌, ◌^◌, Bool, true, false}
-use Rattle.std.proofs.Common.{List, ◌∷◌}
+use Rattle.std.proofs.Common.{◌≡◌, ◌≢◌, ◌⊎◌, ℕ, suc, ◌+◌, ◌*◌, ◌/◌, ◌%◌, ◌<◌, ◌≤◌, ◌^◌, Bool, true, false}
+use Rattle.std.proofs.Common.{List}
 use Rattle.std.proofs.Common.{length, map, Option, Some, None, refl, sym, ap, ◌∙◌, subst, inl, inr, arith}
-use Rattle.std.specs.Prelude.{find, is_none, slice_index_or, IsSome}
-use Rattle.std.specs.List.{position, range_with_len}
-use Rattle.std.proofs.lemmas.List.Quantifiers.{position-Some}
+use Rattle.std.specs.List.{range_with_len}
 use Rattle.std.specs.Option.{option_map_or}
 use Rattle.std.proofs.lemmas.Bool.{cases_eq}
 use Rattle.std.proofs.Math.Path.{fun_ext}
@@ -14,13 +12,12 @@ use Rattle.volume_model.specs.Volumes.{Page, zero_page}
 use Rattle.volume_model.specs.Xattrs.{Xattrs}
 use Rattle.blob_meta.specs.declared.meta.Meta.{Meta}
 use Rattle.super_block.specs.declared.page.Super.{Super}
-use Rattle.blob_meta.specs.Faults.{bad_mark, clusters_of, hole_in_thick, is_outside, map_fault, unknown_flag}
+use Rattle.blob_meta.specs.Faults.{bad_mark, hole_in_thick, is_outside, map_fault, unknown_flag}
 use Rattle.blob_meta.specs.Says.{without_bit_1}
 use Rattle.md_chain.specs.Chain.{blob_id}
 use Rattle.store_model.specs.Regions.{region_of}
 use Rattle.store_model.specs.Steady.{CanBeWritten, IsSteady, IsUnmarked, NamesHead}
-use Rattle.store_model.proofs.Faultless.{all_pass}
-use Rattle.store_model.proofs.NewBlob.{clear_flags, empty_slot, few_pass, known_flags}
+use Rattle.shown_volumes.proofs.EmptyMaps.{empty_slot}
 use Rattle.blob_meta.specs.Jobs.{new_meta}
 use Rattle.std.proofs.lemmas.List.{length-replicate}
 use Rattle.blob_meta.specs.Parents.{is_read_only, parent_of, slot}
@@ -29,10 +26,19 @@ use Rattle.md_chain.specs.Chain.{is_among}
 use Rattle.store_model.specs.Maps.{Metas, with_entry}
 use Rattle.store_model.specs.Places.{IsMapped}
 use Rattle.store_model.specs.Shown.{content, content_by, volume_of}
-use Rattle.store_model.proofs.Cut.{all_full, slot_in}
 use Rattle.store_model.proofs.Elsewhere.{IsChildless, same_elsewhere, through}
 use Rattle.shown_volumes.proofs.WithEntry.{given_here, given_elsewhere}
 use Rattle.store_model.proofs.ZeroSlots.{IsZeroedAt}
+pub use Rattle.shown_volumes.proofs.MapTests.{
+  all_filled,
+  all_inside,
+  all_pass,
+  clear_flags,
+  few_pass,
+  known_flags,
+  slot_filled,
+  slot_in,
+}
 
 -- What is known of it: but for the map it is the same, each slot is as it was or has a claimed cluster, and no cluster
 -- is in two of them.
@@ -183,46 +189,6 @@ module _ (md_len : ℕ) (metas : Metas) (head : ℕ) (m later : Meta) (claimed :
         let a = had h x hx in law.falls h p a.old a.was (sym (ap (λ (y : Meta). parent_of y) a.rest) ∙ of);
     few = few;
   }
-
--- ---- its map
-
--- no cluster of a map lies outside
-pub all_inside : (fixed clusters : ℕ) (map : List (Option ℕ))
-    → ((i c : ℕ) → slot_in map i ≡ Some c → is_outside fixed clusters c ≡ false)
-    → find (is_outside fixed clusters) (clusters_of map) ≡ None
-all_inside fixed clusters [] inside = refl
-all_inside fixed clusters (None ∷ map) inside = all_inside fixed clusters map (λ i. inside (suc i))
-all_inside fixed clusters (Some c ∷ map) inside =
-    rw (inside 0 c refl) (all_inside fixed clusters map (λ i. inside (suc i)))
-
-slot_get : (map : List (Option ℕ)) (i : ℕ) → slot_in map i ≡ slice_index_or map i None
-slot_get [] i = refl
-slot_get (x ∷ map) zero = refl
-slot_get (x ∷ map) (suc i) = slot_get map i
-
--- a map whose slots are all filled has no hole
-pub all_filled : (map : List (Option ℕ)) → ((i : ℕ) → i < length map → IsSome (slot_in map i))
-    → position is_none map ≡ None
-all_filled map filled = by (position is_none map) refl
-  where
-    some_not : (o : Option ℕ) → IsSome o → is_none o ≡ true → ⊥
-    some_not None some none = cc some
-    some_not (Some x) some none = cc none
-
-    by : (o : Option ℕ) → position is_none map ≡ o → position is_none map ≡ None
-    by None is = is
-    by (Some i) is =
-        let some = position-Some is_none map i None is in
-        absurd (some_not (slot_in map i) (filled i some.0) (ap is_none (slot_get map i) ∙ some.1))
-
--- and the other way round
-pub slot_filled : (map : List (Option ℕ)) → position is_none map ≡ None → (i : ℕ) → i < length map
-    → IsSome (slot_in map i)
-slot_filled map none i lt = some_of (slot_in map i) (ap is_none (slot_get map i) ∙ all_full map none i lt)
-  where
-    some_of : (o : Option ℕ) → is_none o ≡ false → IsSome o
-    some_of None is = absurd (cc is)
-    some_of (Some x) is = refl
 
 -- ---- it is steady
 

@@ -14,6 +14,7 @@ use Rattle.blob_meta.specs.declared.meta.Meta.{Meta}
 use Rattle.blob_meta.specs.declared.job.Job.{Job as Changes}
 use Rattle.blob_meta.specs.Jobs.{create_job, job_of_one, resize_job}
 use Rattle.blob_meta.specs.Parents.{read_only}
+use Rattle.snapshots.specs.SnapshotJobs.{clone_job}
 use Rattle.store_model.specs.Shown.{fixed_of}
 use Rattle.store_model.specs.Phases.{Committing}
 use Rattle.store_model.specs.StoreState.{StoreState, shown}
@@ -74,6 +75,29 @@ pub record IsCreateJob (p : StoreState) (command : Command) (changes : Changes) 
     renews = head ∷ [];
   }
 
+-- ---- a clone
+
+-- A clone that nothing refuses makes a blob at a head where none is, whose parent is the blob that the command means,
+-- with the attributes `name` and `uuid` alone, as they are read and as they are synced, and with a generation.
+pub record IsCloneJob (p : StoreState) (command : Command) (changes : Changes) (commit : Committing) : Type 0 where
+  pub volume : VolumeRef
+  pub name : Text
+  pub named : IsName name
+  pub command_is : command ≡ c.Clone volume name
+  pub asked : refusal (fixed_of p.super) (shown p) command ≡ None
+  pub parent : ℕ
+  pub found : named_head (fixed_of p.super) (shown p) command ≡ Some parent
+  pub old : Meta
+  pub there : p.base parent ≡ Some old
+  pub head : ℕ
+  pub none : p.base head ≡ None
+  pub is : changes ≡ clone_job parent old head (two_xattrs (fixed_of p.super) (shown p) name None)
+  pub commit_is : commit ≡ record {
+    reply = r.Made head;
+    live = Some (two_xattrs (fixed_of p.super) (shown p) name None);
+    renews = head ∷ [];
+  }
+
 -- ---- another number of slots
 
 -- A resize that nothing refuses cuts the map of the blob that it means, or adds empty slots. Its attributes stay as
@@ -99,3 +123,4 @@ pub data IsJobFor (p : StoreState) (command : Command) (changes : Changes) (comm
   syncs : IsSyncJob p command changes commit → IsJobFor p command changes commit
   creates : IsCreateJob p command changes commit → IsJobFor p command changes commit
   resizes : IsResizeJob p command changes commit → IsJobFor p command changes commit
+  clones : IsCloneJob p command changes commit → IsJobFor p command changes commit

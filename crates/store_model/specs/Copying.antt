@@ -1,5 +1,5 @@
 -- The old content of a slot, as it is copied into the cluster that is claimed for it.
-use Rattle.std.specs.Prelude.{◌≡◌, ℕ, suc, ◌+◌, ◌*◌, ◌/◌, ◌<◌, None, Some}
+use Rattle.std.specs.Prelude.{◌≡◌, ℕ, suc, ◌+◌, ◌*◌, ◌<◌, None, Some}
 use Rattle.page_disk.specs.Disk.{Image}
 use Rattle.super_block.specs.declared.page.Super.{Super}
 use Rattle.super_block.specs.Numbers.{cluster_pages_of}
@@ -8,27 +8,16 @@ use Rattle.blob_meta.specs.declared.meta.Meta.{Meta}
 use Rattle.blob_meta.specs.Parents.{slot}
 use Rattle.blob_meta.specs.Resolving.{resolved}
 use Rattle.store_model.specs.Maps.{Metas}
-use Rattle.store_model.specs.Shown.{content}
+use Rattle.shown_volumes.specs.EmptySlots as slots
+use Rattle.store_model.specs.Shown.{content, fixed_of}
 use Rattle.store_model.specs.Rows.{Copying, InJob, OpenClaim, Posted, Ready, Stage}
 use Rattle.store_model.specs.StoreState.{StoreState}
 
 -- ---- empty slots
 
--- A slot of a blob is empty in this metadata, and shows at this page what it shows with later metadata, by what an
--- image holds.
-pub record WasEmpty (s : Super) (metas later : Metas) (Held : Image → Type 0) (head page : ℕ) : Type 0 where
-  pub old : Meta
-  pub there : metas head ≡ Some old
-  pub empty : slot old (page / cluster_pages_of s) ≡ None
-  pub same : (image : Image) → Held image
-      → content (cluster_pages_of s) image later (suc s.md_len) head page
-      ≡ content (cluster_pages_of s) image metas (suc s.md_len) head page
-
 -- each slot of a blob that is empty with later metadata was empty, and shows what it showed
 abbrev pub LeavesEmpty : Super → Metas → Metas → (Image → Type 0) → ℕ → Type 0
-LeavesEmpty s metas later Held head =
-    (page : ℕ) (m : Meta) → later head ≡ Some m → slot m (page / cluster_pages_of s) ≡ None
-    → WasEmpty s metas later Held head page
+LeavesEmpty s = slots.LeavesEmpty (fixed_of s)
 
 -- ---- open claims
 

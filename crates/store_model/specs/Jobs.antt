@@ -29,6 +29,7 @@ use Rattle.store_model.specs.Phases.{Phase, Committing, with_live, Marks, Zeros,
 use Rattle.store_model.specs.Phases.{Replacing, page_in, held_in, taken_in, has_commit, replaced, rechained, behind}
 use Rattle.store_model.specs.Phases.{chain_before, OnlyMend}
 use Rattle.store_model.specs.StoreState.{ForCommand, ForInsert, ForRepair, JobState, live_of, Service, StoreState}
+pub use Rattle.shown_volumes.specs.EmptySlots.{Anything}
 pub use Rattle.store_model.specs.Laid.{AllTake, AreLaid, IsErasure, IsJobPlanned, IsLaid, IsPacked, IsPlannedFor}
 pub use Rattle.store_model.specs.Laid.{LacksPages, LacksPagesFor, MovesClusters, Needs, places_of, Takes}
 pub use Rattle.store_model.specs.ZeroedClusters.{AreForZeros, AreZeroed, pages_in, ReadsZeros, with_clusters}
@@ -82,10 +83,6 @@ Keeps base [] = Unit {0}
 Keeps base (Replaces r commit ∷ rest) = IsUnseen base r × Keeps (replaced base r) rest
 Keeps base (_ ∷ rest) = Keeps base rest
 
--- nothing is known of what a device holds
-abbrev pub Anything : Image → Type 0
-Anything image = Unit {0}
-
 -- On whatever device, the command, one for the metadata thread, may be done with this reply, and may fail; then, on a
 -- device of which this is known, the metadata shows its step, and has the blobs whose generations are renewed, a new
 -- one among them.
@@ -109,7 +106,7 @@ pub record IsStep (Holds : Image → Type 0) (s : Super) (base : Metas) (replaci
   pub numbers : replacing.makes ≡ true → is_among replacing.head commit.renews ≡ true
   -- what is copied of a slot stays its content: an empty one of a blob whose generation stays shows what it showed
   pub leaves : (head : ℕ) → is_among head commit.renews ≡ false
-      → LeavesEmpty s (resolved base) (resolved (replaced base replacing)) (λ image. Unit {0}) head
+      → LeavesEmpty s (resolved base) (resolved (replaced base replacing)) Anything head
 
 -- The volumes are shown as they are up to the commit, and from it on as the command's step makes them, whatever a
 -- device holds of which this is known at the first replacement. Behind it nothing needs to be known.

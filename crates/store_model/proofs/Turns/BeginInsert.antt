@@ -26,7 +26,7 @@ use Rattle.store_model.proofs.Claims.{differ_still, used_still, with_row_same}
 use Rattle.store_model.proofs.Copies.{copied_same, row_no_more}
 use Rattle.store_model.proofs.Guarding.{claims_drawn_still, guarded_begun}
 use Rattle.store_model.proofs.Heads.{replaced_is}
-use Rattle.store_model.proofs.Inside.{IsInside}
+use Rattle.shown_volumes.proofs.Inside.{IsInside}
 use Rattle.store_model.proofs.InsertedBlob.{inserted_steady, lawful_inserted, slots_inserted}
 use Rattle.store_model.proofs.Known.{Known}
 use Rattle.store_model.proofs.LeftToDo.{no_place, chain_new}

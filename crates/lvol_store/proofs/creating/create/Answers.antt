@@ -1,11 +1,9 @@
-use Rattle.std.proofs.Common.{Some, sym, ap, ◌∙◌, subst}
-use Rattle.std.specs.Option.{option_map_or}
+use Rattle.std.proofs.Common.{sym, ◌∙◌, subst}
 use Rattle.std.proofs.lemmas.Result.{IfOk-weaker}
-use Rattle.volume_model.specs.Uuids.{default_uuid}
-use Rattle.volume_model.specs.Volumes.{two_xattrs}
 use Rattle.volume_model.specs.declared.command.Command.{Command}
 use Rattle.blob_meta.specs.declared.job.Job.{Job}
 use Rattle.lvol_store.specs.SlotPlans.{PlansCreate}
+use Rattle.lvol_store.proofs.NewNames.{named_new}
 use Rattle.lvol_store.proofs.creating.create.Goals as goal
 
 pub returns : goal.returns
@@ -19,9 +17,7 @@ returns c =
       is_name = c.named_xattrs.ensures.name;
       xattrs = c.in_ok-xattrs.xattrs;
       named = λ f v s. sym (c.in_ok-xattrs.ensures.two f v
-          ∙ ap (λ uuid. two_xattrs f v name (Some uuid)) (c.uuid_of_new-uuid.ensures
-          ∙ ap (λ store. option_map_or (λ bytes. bytes) given (default_uuid store name))
-          (sym (c.store_uuid.ensures f v s))));
+          ∙ named_new f v name given _ _ (c.store_uuid.ensures f v s) c.uuid_of_new-uuid.ensures);
       job_is = is;
     }))
     c.make_blob.ensures

@@ -1,13 +1,13 @@
 use Rattle.std.proofs.Common.{sym}
 use Rattle.std.proofs.lemmas.Result.{IfOk-weaker}
 use Rattle.blob_meta.specs.declared.job.Job.{Job}
-use Rattle.snapshots.specs.SnapshotPlans.{IsSnapshotJob}
+use Rattle.snapshots.specs.SnapshotPlans.{PlansSnapshot}
 use Rattle.snapshots.proofs.snapshotting.snapshot.Goals as goal
 
 pub returns : goal.returns
 returns c =
     IfOk-weaker c.snapshot_job.result _
-    (IsSnapshotJob c.args.metas.now c.args.volume c.args.head c.args.name.now c.args.uuid)
+    (PlansSnapshot c.args.metas.now c.args.volume c.args.head c.args.name.now c.args.uuid)
     (λ (job : Job) is. record {
       old = c.args.old.now;
       there = c.requires;
