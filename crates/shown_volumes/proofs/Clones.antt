@@ -1,5 +1,5 @@
 -- A clone's job shows the volumes as they were, and from its commit on those of the step.
-use Rattle.std.proofs.Common.{◌≡◌, ◌≢◌, ℕ, suc, ◌+◌, ◌*◌, ◌/◌, ◌^◌, ◌<◌, ◌≤◌, true, false, Option, Some, None, length}
+use Rattle.std.proofs.Common.{◌≡◌, ◌≢◌, ℕ, zero, suc, ◌+◌, ◌*◌, ◌/◌, ◌^◌, ◌<◌, ◌≤◌, true, false, Option, Some, None, length}
 use Rattle.std.proofs.Common.{map, refl, sym, ap, ◌∙◌, subst, inl, inr, arith}
 use Rattle.std.specs.Prelude.{◌==◌, if◌then◌else◌, nat_lt}
 use Rattle.std.specs.List.{range_with_len}
@@ -23,7 +23,7 @@ use Rattle.shown_volumes.specs.EmptySlots.{Anything, LeavesEmpty}
 use Rattle.shown_volumes.specs.JobLaws.{IsClear, ShowsClone}
 use Rattle.shown_volumes.specs.Maps.{Map, Metas}
 use Rattle.shown_volumes.specs.Shown.{content, content_by, live_of, shown_by}
-use Rattle.shown_volumes.specs.ShowsStep.{IsAskedOf, IsAtRest, ShowsStep}
+use Rattle.shown_volumes.specs.ShowsStep.{IsAskedOf, IsAtRest, part_of, ShowsStep}
 use Rattle.shown_volumes.proofs.Blanked.{blank_shown, two_same}
 use Rattle.shown_volumes.proofs.BlobsShown.{shows_blob, slots_fit, volume_at}
 use Rattle.shown_volumes.proofs.CloneLawful as law
@@ -215,12 +215,18 @@ module _ (f : Fixed) (base : Metas) (live : Map Xattrs) (image : Image) (volume 
       (clone_room f (shown_by f image base live) volume name of y asked.found
       (shows_blob f base rest live image of old asked.there) asked.passed)
 
+  few : (count : ℕ) → count ≤ 1
+      → slots_together f.md_len (part_of (clone_job of old head two) base count) ≤ 2 ^ 24
+  few zero le = rest.lawful.few
+  few (suc zero) le = (lawful f base rest of head old two asked.there clear on room).few
+  few (suc (suc count)) le = absurd (omega (arith, le))
+
   step : ShowsStep f base live (c.Clone volume name) (r.Made head) (clone_job of old head two)
   step = shows_step f base live (c.Clone volume name) (r.Made head) (clone_job of old head two)
       (law.next f base rest of head old two asked.there clear) rest
       (law.early f base rest of head old two asked.there clear)
       (law.late f base rest of head old two asked.there clear)
-      (lawful f base rest of head old two asked.there clear on room)
+      (lawful f base rest of head old two asked.there clear on room) few
       (λ other. shown_next f base rest of head old two asked.there clear on room other live volume name
       (same_named f (shown_by f other base live) (shown_by f image base live) (blank_shown f base live other image)
       (c.Clone volume name) ∙ asked.found)

@@ -12,7 +12,7 @@ use Rattle.volume_model.specs.declared.reply.Reply.{Reply}
 use Rattle.blob_meta.specs.declared.job.Job.{Job}
 use Rattle.blob_meta.specs.declared.meta.Meta.{Meta}
 use Rattle.blob_meta.specs.Repairs.{after, HasHeadsBelow, HasNoMarks}
-use Rattle.blob_meta.specs.Resolving.{IsLawful, resolved}
+use Rattle.blob_meta.specs.Resolving.{IsLawful, resolved, slots_together}
 use Rattle.shown_volumes.specs.EmptySlots.{Anything, LeavesEmpty}
 use Rattle.shown_volumes.specs.Maps.{Map, Metas}
 use Rattle.shown_volumes.specs.Shown.{live_of, shown_by}
@@ -51,6 +51,8 @@ pub record IsAskedOf (f : Fixed) (v : Volumes) (base : Metas) (command : Command
 pub record ShowsStep (f : Fixed) (base : Metas) (live : Map Xattrs) (command : Command) (reply : Reply) (job : Job)
     : Type 0 where
   pub lawful : (count : ℕ) → count ≤ length job.list → IsLawful f.md_len (resolved (part_of job base count))
+  -- marked blobs counted too
+  pub few : (count : ℕ) → count ≤ length job.list → slots_together f.md_len (part_of job base count) ≤ 2 ^ 24
   pub before : (count : ℕ) → count < job.commit → (image : Image)
       → shown_in f (part_of job base count) live image ≡ shown_in f base live image
   pub since : (count : ℕ) → job.commit ≤ count → count ≤ length job.list → (image : Image)

@@ -40,7 +40,7 @@ use Rattle.store_model.specs.Steady.{AreSteady, CanBeWritten, IsSteady}
 use Rattle.store_model.specs.RunInvariant.{RunsWell}
 use Rattle.store_model.proofs.EmptySlots.{Anything}
 use Rattle.store_model.proofs.Known.{Known}
-use Rattle.store_model.proofs.MadeLive.{lives_made, writable_made}
+use Rattle.store_model.proofs.MadeLive.{lives_made, made_commit, writable_made}
 use Rattle.store_model.proofs.Meanwhile.{blank_reading, reading}
 use Rattle.store_model.proofs.NewBlob.{two_written}
 use Rattle.store_model.proofs.OneReplacement.{all_steady, base_is, base_lawful, base_steady, IsReady, ready_by}
@@ -77,7 +77,7 @@ module _ (known : Known) (unmarked : HasNoMarks known.p.base) where
     all = with_entry p.base head new
 
     abbrev commit : Committing
-    commit = record { reply = r_.Made head; live = Some xattrs; renews = head ∷ [] }
+    commit = made_commit head xattrs
 
     can : CanBeWritten xattrs
     can = subst CanBeWritten are (two_written f (shown p) name None named)
@@ -157,9 +157,8 @@ module _ (known : Known) (unmarked : HasNoMarks known.p.base) where
       shows_new = ap (λ (m : Metas). shown_of p.super m (live_of w) image) base_now
           ∙ shows_step.since 1 (omega arith) (omega arith) image
 
-      lives : live_of w ≡ with_entry p.live r.head xattrs
+      lives : live_of w ≡ with_entry p.live head xattrs
       lives = lives_made now well.live well.no_live w head xattrs live_at others
-          ∙ ap (λ h. with_entry p.live h xattrs) (sym head_is)
 
     step : IsStep (ReadsZeros p.super []) p.super p.base r p.live (c.Clone volume name) commit
     step = record {

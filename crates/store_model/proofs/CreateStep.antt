@@ -35,7 +35,7 @@ use Rattle.store_model.specs.Steady.{AreSteady, CanBeWritten, IsSteady}
 use Rattle.store_model.specs.RunInvariant.{RunsWell}
 use Rattle.store_model.proofs.Known.{Known}
 use Rattle.store_model.proofs.Meanwhile.{blank_reading, reading}
-use Rattle.store_model.proofs.MadeLive.{lives_made, writable_made}
+use Rattle.store_model.proofs.MadeLive.{lives_made, made_commit, writable_made}
 use Rattle.store_model.proofs.NewBlob.{empty_slot, new_takes_none, two_written}
 use Rattle.store_model.proofs.ClaimedZeros.{claimed_inside, zeroed_fresh, zeroed_is, zeros_read}
 use Rattle.store_model.proofs.InARow.{among_range, range_among, range_differs}
@@ -96,7 +96,7 @@ module _ (known : Known) (unmarked : HasNoMarks known.p.base) where
     all = with_entry p.base head new
 
     abbrev commit : Committing
-    commit = record { reply = r_.Made head; live = Some xattrs; renews = head ∷ [] }
+    commit = made_commit head xattrs
 
     zeros_differ : (b : Bool) → AreDistinct (new_zeros b slots)
     zeros_differ true = range_differs 0 slots
@@ -201,9 +201,8 @@ module _ (known : Known) (unmarked : HasNoMarks known.p.base) where
       others = w_elsewhere there (base_steady known unmarked) (base_lawful known unmarked) head none name slots thick
           uuid xattrs same_two new steady
 
-      lives : live_of w ≡ with_entry p.live r.head xattrs
+      lives : live_of w ≡ with_entry p.live head xattrs
       lives = lives_made there well.live well.no_live w head xattrs live_at others
-          ∙ ap (λ h. with_entry p.live h xattrs) (sym head_is)
 
       writable : AllWritable w
       writable = writable_made there well.live well.no_live w head xattrs live_at others can

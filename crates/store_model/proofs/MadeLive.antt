@@ -1,16 +1,26 @@
 -- The attributes as they are read behind a commit that makes a blob.
-use Rattle.std.proofs.Common.{◌≡◌, ◌≢◌, ℕ, Some, sym, ap, ◌∙◌, subst, inl, inr}
+use Rattle.std.proofs.Common.{◌≡◌, ◌≢◌, ◌∷◌, [], ℕ, Some, sym, ap, ◌∙◌, subst, inl, inr}
 use Rattle.std.specs.Option.{option_map}
 use Rattle.std.proofs.lemmas.Bool.{cases_eq}
 use Rattle.std.proofs.Math.Path.{fun_ext}
 use Rattle.volume_model.specs.Volumes.{Volume, Volumes}
 use Rattle.volume_model.specs.Xattrs.{Xattrs}
+use Rattle.volume_model.specs.declared.reply.Reply.TheVariants as r
 use Rattle.store_model.specs.Maps.{with_entry}
+use Rattle.store_model.specs.Phases.{Committing}
 use Rattle.store_model.specs.Steady.{CanBeWritten}
 use Rattle.store_model.specs.StoreState.{live_of, shown, StoreState}
 use Rattle.store_model.proofs.Moved.{HaveLive, live_shown, live_writable, NoOtherLive}
 use Rattle.store_model.proofs.Writable.{AllWritable}
 use Rattle.shown_volumes.proofs.WithEntry.{given_here, given_elsewhere}
+
+-- what the commit makes that makes a blob at a head, with these attributes
+abbrev pub made_commit : ℕ → Xattrs → Committing
+made_commit head xattrs = record {
+  reply = r.Made head;
+  live = Some (record { head = head; xattrs = Some xattrs });
+  renews = head ∷ [];
+}
 
 -- the volumes shown with one more, which has these attributes
 module _ (p : StoreState) (have_live : HaveLive p) (no_live : NoOtherLive p) (w : Volumes) (head : ℕ) (xattrs : Xattrs)

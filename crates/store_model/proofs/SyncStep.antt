@@ -41,9 +41,10 @@ use Rattle.store_model.proofs.LiveSynced.{live_synced}
 use Rattle.volume_model.specs.declared.command.Command.{Command}
 use Rattle.volume_model.specs.declared.command.Command.TheVariants as c
 
--- what the commit of such metadata makes
-abbrev pub sync_commit : Meta → Committing
-sync_commit new = record { reply = r_.Ok; live = Some new.xattrs; renews = [] }
+-- what the commit of such metadata at a head makes
+abbrev pub sync_commit : ℕ → Meta → Committing
+sync_commit head new =
+    record { reply = r_.Ok; live = Some (record { head = head; xattrs = Some new.xattrs }); renews = [] }
 
 syncs_metadata : (command : Command) → IsSyncing command → IsForMetadata command
 syncs_metadata (c.Put volume key value) is = tt
@@ -60,7 +61,7 @@ module _ (known : Known) (unmarked : HasNoMarks known.p.base) where
     well = facts.well runs
 
     abbrev commit : Committing
-    commit = sync_commit new
+    commit = sync_commit head new
 
     one_steady : IsSteady p.super head new
     one_steady = new_steady p.super command head asks.old new asks.after.synced
@@ -121,7 +122,7 @@ module _ (known : Known) (unmarked : HasNoMarks known.p.base) where
       may_fail = λ image. (may image).fail;
       shows = λ image holds. shows_new image;
       lives = λ image. sym (live_synced (here image) well.live well.no_live command head new
-          (asks_here image) new.xattrs refl) ∙ ap (λ h. with_entry p.live h new.xattrs) (sym head_is);
+          (asks_here image) new.xattrs refl);
       writable = writable_new;
       renews = tt;
       numbers = λ makes. absurd (false≢true (sym there ∙ makes));

@@ -52,7 +52,11 @@ pub record IsSyncJob (p : StoreState) (command : Command) (changes : Changes) (c
   pub new : Meta
   pub is : changes ≡ job_of_one head new
   pub asks : AsksFor p command head new
-  pub commit_is : commit ≡ record { reply = r.Ok; live = Some new.xattrs; renews = [] }
+  pub commit_is : commit ≡ record {
+    reply = r.Ok;
+    live = Some (record { head = head; xattrs = Some new.xattrs });
+    renews = [];
+  }
 
 -- ---- a new blob
 
@@ -71,7 +75,7 @@ pub record IsCreateJob (p : StoreState) (command : Command) (changes : Changes) 
   pub is : changes ≡ create_job head (two_xattrs (fixed_of p.super) (shown p) name uuid) thick slots
   pub commit_is : commit ≡ record {
     reply = r.Made head;
-    live = Some (two_xattrs (fixed_of p.super) (shown p) name uuid);
+    live = Some (record { head = head; xattrs = Some (two_xattrs (fixed_of p.super) (shown p) name uuid) });
     renews = head ∷ [];
   }
 
@@ -94,7 +98,7 @@ pub record IsCloneJob (p : StoreState) (command : Command) (changes : Changes) (
   pub is : changes ≡ clone_job parent old head (two_xattrs (fixed_of p.super) (shown p) name None)
   pub commit_is : commit ≡ record {
     reply = r.Made head;
-    live = Some (two_xattrs (fixed_of p.super) (shown p) name None);
+    live = Some (record { head = head; xattrs = Some (two_xattrs (fixed_of p.super) (shown p) name None) });
     renews = head ∷ [];
   }
 
