@@ -1,6 +1,6 @@
 -- What the metadata is resolved to after each replacement of a delete's job, of a blob with one clone.
 use Rattle.std.proofs.Common.{◌≡◌, ◌≢◌, ℕ, zero, suc, ◌+◌, ◌*◌, ◌/◌, ◌^◌, ◌<◌, ◌≤◌, true, false, Some, None, refl}
-use Rattle.std.proofs.Common.{Option, length, [], ◌∷◌, sym, ap, ◌∙◌, inl, inr, arith}
+use Rattle.std.proofs.Common.{Option, length, [], ◌∷◌, subst, sym, ap, ◌∙◌, inl, inr, arith}
 use Rattle.std.specs.Prelude.{codes}
 use Rattle.std.specs.Option.{option_map_or}
 use Rattle.std.proofs.lemmas.Bool.{cases_eq}
@@ -11,6 +11,7 @@ use Rattle.volume_model.specs.Xattrs.{Text, Xattrs, value_of, without}
 use Rattle.blob_meta.specs.declared.job.Job.{Job}
 use Rattle.blob_meta.specs.declared.meta.Meta.{Meta}
 use Rattle.blob_meta.specs.Parents.{is_locked, is_read_only, parent_of}
+use Rattle.blob_meta.specs.Repairs.{HasNoMarks}
 use Rattle.blob_meta.specs.Resolving.{IsLawful, mark_of, resolved, slots_together, without_marks}
 use Rattle.blob_meta.proofs.Fates.{resolved_absent, resolved_unmarked}
 use Rattle.blob_meta.proofs.ResolvedBlobs.{not_made, not_removed}
@@ -25,7 +26,7 @@ use Rattle.shown_volumes.proofs.Marked.{as_before, by_mark, given_other, given_s
 use Rattle.shown_volumes.proofs.SnapshotParts.{low_head}
 use Rattle.shown_volumes.proofs.SlotSums.{slots_at_most, slots_in}
 use Rattle.shown_volumes.proofs.Valued.{mark_given, parent_given, value_set, without_none, without_set}
-use Rattle.shown_volumes.proofs.WithEntry.{given_elsewhere, given_here, gone_elsewhere, gone_here}
+use Rattle.shown_volumes.proofs.WithEntry.{given_cases, given_elsewhere, given_here, gone_elsewhere, gone_here}
 
 module _ (f : Fixed) (base : Metas) (rest : IsAtRest f base) (of clone : ℕ) (old heir : Meta)
     (there : base of ≡ Some old) (there_too : base clone ≡ Some heir)
@@ -172,6 +173,16 @@ module _ (f : Fixed) (base : Metas) (rest : IsAtRest f base) (of clone : ℕ) (o
   late (suc (suc zero)) ge le = after_second
   late (suc (suc (suc zero))) ge le = after_third
   late (suc (suc (suc (suc count)))) ge le = absurd (omega (arith, le))
+
+  -- in the end no blob is marked
+  pub unmarked : HasNoMarks third
+  unmarked h m is = elim (cases_eq h of) [
+    | inl e ↦ let bad : None ≡ Some m = sym (gone_here second of h e) ∙ is in absurd (cc bad)
+    | inr ne ↦ given_cases first clone taking (λ q o. o ≡ Some m → mark_of m ≡ None) h
+        (λ took. let one : taking ≡ m = cc took in subst (λ (n : Meta). mark_of n ≡ None) one mark_taking)
+        (λ _ was. rest.unmarked h m (sym (given_elsewhere base of going h ne) ∙ was))
+        (sym (gone_elsewhere second of h ne) ∙ is)
+  ]
 
   -- ---- slots
 

@@ -170,6 +170,7 @@ module _ (f : Fixed) (base : Metas) (live : Map Xattrs) (image : Image) (volume 
   step = shows_step f base live (c.Delete volume) r.Ok (erase_job of) (without_entry base of) rest
       (early f base rest of old asked.there none) (late f base rest of old asked.there none)
       (lawful f base rest of old asked.there none) few
+      (λ h m is. rest.unmarked h m (was_there f base rest of old asked.there none h m is))
       (λ other. shown_next f base rest of old asked.there none other live volume
       (same_named f (shown_by f other base live) (shown_by f image base live) (blank_shown f base live other image)
       (c.Delete volume) ∙ asked.found))

@@ -1,6 +1,6 @@
 -- What the metadata is resolved to after each replacement of a snapshot's job.
 use Rattle.std.proofs.Common.{◌≡◌, ◌≢◌, ℕ, zero, suc, ◌^◌, ◌<◌, ◌≤◌, true, false, Some, None, [], refl, sym, ap, ◌∙◌}
-use Rattle.std.proofs.Common.{Option, length, inl, inr, arith}
+use Rattle.std.proofs.Common.{Option, length, inl, inr, arith, subst}
 use Rattle.std.specs.Prelude.{codes}
 use Rattle.std.proofs.lemmas.Bool.{cases_eq}
 use Rattle.std.proofs.lemmas.List.{length-replicate}
@@ -10,6 +10,7 @@ use Rattle.volume_model.specs.Xattrs.{Xattrs}
 use Rattle.blob_meta.specs.declared.job.Job.{Job}
 use Rattle.blob_meta.specs.declared.meta.Meta.{Meta}
 use Rattle.blob_meta.specs.Parents.{parent_of}
+use Rattle.blob_meta.specs.Repairs.{HasNoMarks}
 use Rattle.blob_meta.specs.Resolving.{mark_of, resolved, slots_together, without_marks}
 use Rattle.blob_meta.proofs.Fates.{resolved_unmarked}
 use Rattle.blob_meta.proofs.MarksLifted.{no_mark, same_parent}
@@ -21,7 +22,7 @@ use Rattle.shown_volumes.specs.ShowsStep.{IsAtRest, part_of}
 use Rattle.shown_volumes.proofs.Marked.{as_before, by_mark, given_other, given_same}
 use Rattle.shown_volumes.proofs.SlotSums.{slots_at_most, slots_in}
 use Rattle.shown_volumes.proofs.Valued.{mark_given, mark_named, parent_given, parent_named}
-use Rattle.shown_volumes.proofs.WithEntry.{given_elsewhere, given_here}
+use Rattle.shown_volumes.proofs.WithEntry.{given_cases, given_elsewhere, given_here}
 
 -- ---- metadata at rest
 
@@ -160,6 +161,14 @@ module _ (f : Fixed) (base : Metas) (rest : IsAtRest f base) (of head : ℕ) (ol
   late (suc (suc (suc zero))) ge le = after_third
   late (suc (suc (suc (suc zero)))) ge le = after_fourth
   late (suc (suc (suc (suc (suc count))))) ge le = absurd (omega (arith, le))
+
+  -- in the end no blob is marked
+  pub unmarked : HasNoMarks fourth
+  unmarked h m = given_cases third head made (λ q o. o ≡ Some m → mark_of m ≡ None) h
+      (λ is. let one : made ≡ m = cc is in subst (λ (n : Meta). mark_of n ≡ None) one (no_mark filled))
+      (λ ne. given_cases second of emptied (λ q o. o ≡ Some m → mark_of m ≡ None) h
+      (λ is. let one : emptied ≡ m = cc is in subst (λ (n : Meta). mark_of n ≡ None) one mark_emptied)
+      (λ _ is. rest.unmarked h m (sym (second_else h ne) ∙ is)))
 
   -- ---- slots
 

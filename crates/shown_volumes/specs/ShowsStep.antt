@@ -47,7 +47,7 @@ pub record IsAskedOf (f : Fixed) (v : Volumes) (base : Metas) (command : Command
 -- After any number of a job's replacements the metadata is lawful, and shows what was shown, or, from the commit on,
 -- the volumes of the command's step, whose attributes are live as the step leaves them: recovery undoes what is done of
 -- the job before the commit, and finishes what is left of it from then on. An empty slot of a blob that the job doesn't
--- replace was empty, and shows what it showed.
+-- replace was empty, and shows what it showed. In the end no blob is marked.
 pub record ShowsStep (f : Fixed) (base : Metas) (live : Map Xattrs) (command : Command) (reply : Reply) (job : Job)
     : Type 0 where
   pub lawful : (count : ℕ) → count ≤ length job.list → IsLawful f.md_len (resolved (part_of job base count))
@@ -61,5 +61,6 @@ pub record ShowsStep (f : Fixed) (base : Metas) (live : Map Xattrs) (command : C
   pub undone : (count : ℕ) → count < job.commit → resolved (part_of job base count) ≡ resolved base
   pub finished : (count : ℕ) → job.commit ≤ count → count ≤ length job.list
       → resolved (part_of job base count) ≡ resolved (part_of job base job.commit)
+  pub unmarked : HasNoMarks (part_of job base (length job.list))
   pub leaves : (count : ℕ) → count ≤ length job.list → (h : ℕ) → replaces job h ≡ false
       → LeavesEmpty f (resolved base) (resolved (part_of job base count)) Anything h

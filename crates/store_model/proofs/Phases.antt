@@ -4,7 +4,7 @@ use Rattle.std.proofs.Common.{append_assoc}
 use Rattle.std.proofs.lemmas.List.{append-nil}
 use Rattle.store_model.specs.Phases.{Erases, Frees, Marks, Replaces, Writes, Zeros}
 use Rattle.store_model.specs.Phases.{Phase, has_commit, held_in, taken_in, erasing, writing, planned_in}
-use Rattle.store_model.specs.Phases.{behind, OnlyMend}
+use Rattle.store_model.specs.Phases.{behind, OnlyMend, replaced}
 use Rattle.super_block.specs.declared.page.Super.{Super}
 use Rattle.store_model.specs.Maps.{Metas, Chains, Map}
 use Rattle.store_model.specs.StoreState.{StoreState}
@@ -163,6 +163,19 @@ pub does_reached : (Holds : Image → Type 0) (s : Super) (base : Metas) (live :
     → Does Holds s base live command (writing fresh rest) → Does Holds s base live command rest
 does_reached Holds s base live command [] rest does = does
 does_reached Holds s base live command (p ∷ ps) rest does = does_reached Holds s base live command ps rest does
+
+-- what does a command has its commit to come
+pub does_commit : (Holds : Image → Type 0) (s : Super) (base : Metas) (live : Map Xattrs) (command : Command)
+    (todo : List Phase) → Does Holds s base live command todo → has_commit todo ≡ true
+does_commit Holds s base live command [] does = absurd does
+does_commit Holds s base live command (Marks ∷ rest) does = does_commit Holds s base live command rest does
+does_commit Holds s base live command (Zeros page ∷ rest) does = does_commit Holds s base live command rest does
+does_commit Holds s base live command (Writes place ∷ rest) does = does_commit Holds s base live command rest does
+does_commit Holds s base live command (Replaces r None ∷ rest) does =
+    does_commit Anything s (replaced base r) live command rest does.1
+does_commit Holds s base live command (Replaces r (Some commit) ∷ rest) does = refl
+does_commit Holds s base live command (Erases place ∷ rest) does = does_commit Holds s base live command rest does
+does_commit Holds s base live command (Frees place old ∷ rest) does = does_commit Holds s base live command rest does
 
 -- what is known of all devices is known of these
 pub does_anywhere : (Holds : Image → Type 0) (s : Super) (base : Metas) (live : Map Xattrs) (command : Command)
