@@ -51,10 +51,10 @@ fn rename(alloc: Global, head: u32, old: &Meta, name: &Name) -> Result<Job, Memo
 }
 
 /// Plans that the blob that is meant, by head or by name, gets another name: its metadata with that name, and all else
-/// as it was last synced, so that what is pending stays so. No blob is made, so the head for a new one isn't used. `Err`
-/// is the first cause for which the rename is refused, or `Memory`: `NoVolume` where no blob is meant, `Reserved` for
-/// the super blob, `ReadOnly` for a blob that is read-only, and `NameTaken` where a blob other than the super blob, be
-/// it this one, has the name.
+/// as it was last synced, so that what is pending stays so. No blob is made, so the head for a new one isn't used.
+/// `Err` is the first cause for which the rename is refused, or `Memory`: `NoVolume` where no blob is meant, `Reserved`
+/// for the super blob, `ReadOnly` for a blob that is read-only, and `NameTaken` where a blob other than the super blob,
+/// be it this one, has the name.
 pub fn plan_rename(
     alloc: Global,
     metas: &Metas,
