@@ -5,6 +5,7 @@ pub mod CutClusters
 pub mod FilledMoves
 pub mod SlotsOfZeros
 pub mod JobPlanned
+pub mod LiveBehind
 pub mod JobAsked
 pub mod JobPrepared
 pub mod JobBegin

@@ -226,7 +226,7 @@ module _ (known : Known) where
     job_ready changes (syncs y) = subst Ready (sym y.is) (unclaimed (one_of y.head y.new) refl
         (one_ready unmarked runs command commit [] (given y.head y.new) y.new refl
         (λ r laid. subst (λ (m : Committing). IsReady p [] command m y.new r) (sym y.commit_is)
-        (sync_ready known unmarked runs command y.head y.new y.asks r laid.head laid.new
+        (sync_ready known unmarked runs command y.head y.new y.live y.asks r laid.head laid.new
         (there_not_made runs [] r (given y.head y.new) laid y.asks.old
         (ap p.base laid.head ∙ y.asks.there)))) list))
     job_ready changes (creates y) = subst Ready (sym y.is) (λ one_each laid.
