@@ -24,7 +24,12 @@ fn renames_are_planned_or_refused(rt: HostRuntime) -> Result<(), Fail> {
         (0, b"thin", b"w", b"5 name=w\0 flags 1 slots - - - zero"),
         (7, b"", b"longer", b"7 name=longer\0 flags 0 slots 5 6 zero"),
         // The super blob's name is free.
-        (0, b"clone", b"store", b"8 name=store\0 flags 1 slots - zero"),
+        (
+            0,
+            b"clone",
+            b"store",
+            b"8 name=store\0 flags 1 slots - zero",
+        ),
         (0, b"none", b"thin", b"NoVolume"),
         (9, b"", b"w", b"NoVolume"),
         (0, b"store", b"w", b"NoVolume"),
