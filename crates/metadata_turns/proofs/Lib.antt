@@ -1,4 +1,5 @@
 pub mod Answered
+pub mod Told
 pub mod AnswerMade
 pub mod JobPlaces
 pub mod CutClusters
