@@ -17,7 +17,7 @@ use Rattle.store_model.proofs.Used.{within}
 use Rattle.running_store.specs.StoreInvariant.{IsRunning}
 use Rattle.running_store.proofs.Cleared.{among_get}
 use Rattle.running_store.proofs.PlainFacts.{got}
-use Rattle.running_store.specs.declared.job.Planned.{Planned}
+use Rattle.running_store.specs.declared.replacements.Planned.{Planned}
 use Rattle.running_store.specs.Jobs.{commit_for, commit_of, erasing_for, erasing_job, replacing_of, writing_for}
 use Rattle.running_store.specs.Jobs.{writing_job}
 use Rattle.store_model.specs.Phases.{page_in, held_in, Erases, Frees, Phase, Replacing, erasing, has_commit, taken_in}

@@ -25,7 +25,7 @@ use Rattle.running_store.specs.Jobs.{commit_for, erasing_for, job_seen, replacin
 use Rattle.running_store.specs.declared.job.RunningJob.{RunningJob}
 use Rattle.running_store.specs.Running.{live_given}
 use Rattle.running_store.specs.StoreView.{base_of, AreResolved, StoreView, state_of}
-use Rattle.running_store.specs.declared.job.Planned.{Planned}
+use Rattle.running_store.specs.declared.replacements.Planned.{Planned}
 use Rattle.running_store.specs.declared.job.Serves.{Serves}
 use Rattle.metadata_turns.proofs.AtWork.{can, drop_end, has_meta, head_low, head_page, well}
 use Rattle.metadata_turns.proofs.AtWork.{chain_there as chain_before, none_there as none_before}

@@ -15,7 +15,7 @@ use Rattle.metadata_turns.specs.JobTurns.{answer_of, with_job, IsAtWork, TurnsJo
 use Rattle.running_store.specs.Jobs.{erasing_for, reply_of, writing_for, IsMatchedFor, IsMatched}
 use Rattle.running_store.specs.StoreView.{StoreView, device_of}
 use Rattle.metadata_turns.specs.Telling.{HasFailed, IsTold}
-use Rattle.running_store.specs.declared.job.Planned.{Planned}
+use Rattle.running_store.specs.declared.replacements.Planned.{Planned}
 use Rattle.running_store.specs.declared.job.Serves.{Serves}
 use Rattle.running_store.specs.declared.job.Serves.TheVariants as whom
 use Rattle.metadata_turns.proofs.HeadReplaced.{adopted_view, answer_done, answer_more}

@@ -28,7 +28,7 @@ use Rattle.running_store.specs.StoreView.{StoreView, device_of, rows_of, state_o
 use Rattle.running_store.specs.GivingBack.{claim_cleared, IsGivenUp}
 use Rattle.metadata_turns.specs.Telling.{let_go_at}
 use Rattle.running_store.specs.TurnMade.{TurnMade, TurnsAs}
-use Rattle.running_store.specs.declared.job.Planned.{Planned}
+use Rattle.running_store.specs.declared.replacements.Planned.{Planned}
 use Rattle.running_store.specs.declared.job.Serves.TheVariants as whom
 use Rattle.metadata_turns.specs.declared.preparing.Prepared.{Prepared}
 use Rattle.metadata_turns.specs.Begins.{IsPrepared, IsUnprepared}

@@ -28,7 +28,7 @@ use Rattle.running_store.specs.StoreInvariant.{IsRunning}
 use Rattle.running_store.specs.StoreView.{StoreView, rows_of, state_of}
 use Rattle.running_store.specs.Zeroing.{pages_of}
 use Rattle.running_store.specs.Steps.{logged_at, IsPostedAt}
-use Rattle.running_store.specs.declared.job.Planned.{Planned}
+use Rattle.running_store.specs.declared.replacements.Planned.{Planned}
 use Rattle.running_store.proofs.Entered.{disk_same, entered}
 use Rattle.metadata_turns.proofs.JobAsked.{asked, IsAsked}
 use Rattle.metadata_turns.proofs.JobPrepared.{moves_filled, there_is}

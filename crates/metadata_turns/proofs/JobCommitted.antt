@@ -37,7 +37,7 @@ use Rattle.metadata_turns.proofs.JobTurned.{channel_low, command, entered, entry
 use Rattle.running_store.proofs.Maps.{insert_given}
 use Rattle.running_store.proofs.Resolved.{base_given}
 use Rattle.running_store.proofs.Rowing.{state_logged}
-use Rattle.running_store.specs.declared.job.Planned.{Planned}
+use Rattle.running_store.specs.declared.replacements.Planned.{Planned}
 use Rattle.store_model.specs.Phases.{erasing, Phase, Replaces, page_in, with_live}
 use Rattle.store_model.specs.Places.{all_set}
 use Rattle.std.specs.Ordering.{nat_cmp}

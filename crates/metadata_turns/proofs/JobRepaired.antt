@@ -22,7 +22,7 @@ use Rattle.metadata_turns.specs.JobTurns.{stopped_at, with_job, IsAtWork, TurnsJ
 use Rattle.running_store.specs.Jobs.{erasing_for, replacing_of, writing_for, AreNone}
 use Rattle.running_store.specs.Running.{live_given}
 use Rattle.running_store.specs.StoreView.{StoreView, device_of, state_of}
-use Rattle.running_store.specs.declared.job.Planned.{Planned}
+use Rattle.running_store.specs.declared.replacements.Planned.{Planned}
 use Rattle.running_store.specs.declared.job.Serves.{Serves}
 use Rattle.running_store.specs.declared.job.Serves.TheVariants as whom
 use Rattle.metadata_turns.proofs.HeadReplaced.{adopted_view, after_none, after_some, numbered, planned_is, todo_is}

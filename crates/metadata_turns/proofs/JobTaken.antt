@@ -30,7 +30,7 @@ use Rattle.running_store.specs.Running.{WillResolve}
 use Rattle.running_store.specs.StoreView.{base_of, AreResolved, StoreView, rows_of, state_of}
 use Rattle.running_store.specs.Steps.{Asks, IsPostedAt}
 use Rattle.running_store.specs.declared.effects.Effects.{Effects}
-use Rattle.running_store.specs.declared.job.Rooms.{Rooms}
+use Rattle.running_store.specs.declared.replacements.Rooms.{Rooms}
 use Rattle.running_store.specs.declared.job.RunningJob.{RunningJob}
 use Rattle.metadata_turns.specs.declared.preparing.Prepared.{Prepared}
 use Rattle.metadata_turns.proofs.JobAsked.{asked, IsAsked}

@@ -31,7 +31,7 @@ use Rattle.metadata_turns.proofs.InsertFailed.{waits as waits_to_insert}
 use Rattle.running_store.proofs.Rowing.{state_logged}
 use Rattle.running_store.specs.GivingBack.{claim_cleared, IsEntered, IsGivenUp}
 use Rattle.store_model.specs.Phases.{Phase, Writes, writing}
-use Rattle.running_store.specs.declared.job.Planned.{Planned}
+use Rattle.running_store.specs.declared.replacements.Planned.{Planned}
 use Rattle.running_store.specs.declared.job.Serves.{Serves}
 use Rattle.running_store.specs.declared.job.Serves.TheVariants as whom
 use Rattle.running_store.specs.Jobs.{writing_for, writing_job}

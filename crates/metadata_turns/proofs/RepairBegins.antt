@@ -27,7 +27,7 @@ use Rattle.running_store.specs.Jobs.{erasure_of, removing_for, replacing_of, wri
 use Rattle.running_store.specs.Running.{WillResolve, WillResolveWithout}
 use Rattle.running_store.specs.StoreInvariant.{IsRunning}
 use Rattle.running_store.specs.StoreView.{state_of, AreResolved, StoreView}
-use Rattle.running_store.specs.declared.job.Planned.{Planned}
+use Rattle.running_store.specs.declared.replacements.Planned.{Planned}
 use Rattle.running_store.specs.declared.job.Serves.TheVariants as whom
 use Rattle.running_store.proofs.Maps.{insert_given, remove_given}
 use Rattle.metadata_turns.specs.Alone.{HaveRoom, IsMappedBeside, IsMissing}

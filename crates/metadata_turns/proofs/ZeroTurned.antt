@@ -34,7 +34,7 @@ use Rattle.running_store.specs.Zeroing.{next_zeroed, pages_from, IsLeft}
 use Rattle.metadata_turns.specs.JobTurns.{stopped_at, with_job, IsAtWork, TurnsJob}
 use Rattle.running_store.specs.Steps.{logged_at}
 use Rattle.running_store.specs.StoreView.{StoreView, device_of, rows_of, state_of}
-use Rattle.running_store.specs.declared.job.Planned.{Planned}
+use Rattle.running_store.specs.declared.replacements.Planned.{Planned}
 use Rattle.running_store.specs.declared.job.Zeroed.{Zeroed}
 use Rattle.running_store.proofs.Rowing.{state_logged}
 use Rattle.metadata_turns.proofs.JobTurned.{entered, entered_plainly}

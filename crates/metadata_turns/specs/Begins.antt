@@ -37,7 +37,7 @@ use Rattle.metadata_turns.specs.declared.preparing.Prepared.{Prepared}
 use Rattle.running_store.specs.declared.job.RunningJob.{RunningJob}
 use Rattle.running_store.specs.declared.job.Serves.{Serves}
 use Rattle.running_store.specs.declared.job.Work.TheVariants as work
-use Rattle.running_store.specs.declared.job.Planned.{Planned}
+use Rattle.running_store.specs.declared.replacements.Planned.{Planned}
 
 -- a blob's chain, of its head and the places behind it
 abbrev pub HasChain : map.FinMap nat_cmp (List ℕ) → ℕ → Type 0

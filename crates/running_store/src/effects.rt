@@ -6,7 +6,7 @@ ghost use Rattle.blob_meta.specs.Faults.{clusters_of};
 ghost use Rattle.running_store.specs.Effects.{cut_clusters, is_cut, is_live_kept, AreEffects};
 ghost use Rattle.running_store.specs.Running.{HasRoom, HasRooms};
 
-use crate::job::Rooms;
+use crate::replacements::Rooms;
 use crate::running::Running;
 use blob_meta::Meta;
 use out_of_memory::Memory;

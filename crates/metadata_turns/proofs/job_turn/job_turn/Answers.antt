@@ -16,7 +16,7 @@ use Rattle.running_store.specs.Running.{view_of}
 use Rattle.running_store.specs.StoreView.{state_of}
 use Rattle.metadata_turns.proofs.AtWork.{pages_planned, some_erasing}
 use Rattle.metadata_turns.proofs.job_turn.job_turn.Goals as goal
-use Rattle.running_store.specs.declared.job.Planned.{Planned}
+use Rattle.running_store.specs.declared.replacements.Planned.{Planned}
 use Rattle.store_model.specs.Phases.{writing, Replaces, erasing}
 
 -- what is seen of the job that was taken out

@@ -10,7 +10,7 @@ use Rattle.store_model.specs.Rows.{Row}
 use Rattle.running_store.specs.Running.{view_of, AreHeads, InOrder}
 use Rattle.running_store.specs.Stages.{stage_seen}
 use Rattle.running_store.specs.StoreView.{base_of, device_of, StoreView}
-use Rattle.running_store.specs.declared.job.Planned.{Planned}
+use Rattle.running_store.specs.declared.replacements.Planned.{Planned}
 use Rattle.running_store.specs.declared.job.Serves.{Serves}
 use Rattle.std.specs.Prelude.{if◌then◌else◌, is_some, slice_set, true}
 use Rattle.running_store.specs.Jobs.{writing_for, IsMatchedFor}
