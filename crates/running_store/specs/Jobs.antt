@@ -1,6 +1,6 @@
 -- What contracts see of the running job.
 use Rattle.std.specs.Prelude.{◌≡◌, ℕ, ◌<◌, if◌then◌else◌, is_some, Bool, true, false, List, [], ◌∷◌, ◌++◌, Option, None}
-use Rattle.std.specs.Prelude.{Some, drop, take}
+use Rattle.std.specs.Prelude.{Some, drop, length, take}
 use Rattle.std.specs.List.{AllByRecursion}
 use Rattle.std.specs.Ordering.{nat_cmp}
 use Rattle.std.specs.FinMap as map
@@ -259,4 +259,4 @@ IsHeaded j = headed j.work × MayFollow j.serves j.later.items
     headed (work.Zeroing planned zeroed) = IsZeroedFor j.serves planned zeroed
     headed (work.Writing planned written) = IsMatchedFor j.serves planned
     headed (work.Removing head freed) = IsRemovedFor j.serves freed
-    headed (work.Erasing erased) = Unit {0}
+    headed (work.Erasing erased) = erased < length j.old
