@@ -10,7 +10,8 @@ use Rattle.store_model.specs.StoreState.{JobState, StoreState, planned_at, waiti
 use Rattle.running_store.specs.declared.job.Serves.{Serves}
 use Rattle.running_store.specs.declared.job.Serves.TheVariants as whom
 use Rattle.store_model.specs.Places.{held_by, AreDistinct}
-use Rattle.store_model.specs.Jobs.{gained_by, places_of, IsServed, JobStands, CanReplace, Does, IsStep, Lays, ReadsZeros}
+use Rattle.store_model.specs.Jobs.{gained_by, places_of, IsServed, JobStands, CanReplace, Does, IsStep, Lays}
+use Rattle.store_model.specs.Jobs.{ReadsZeros}
 use Rattle.store_model.specs.RunInvariant.{RunsWell}
 use Rattle.store_model.proofs.Sets.{among_first, among_later}
 use Rattle.store_model.proofs.Used.{within}

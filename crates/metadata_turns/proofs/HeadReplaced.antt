@@ -132,7 +132,8 @@ module _ {D : Type 0} (d : Ghosts D) (p : StoreView D) (serves : Serves) (planne
       by None is = is
       by (Some m) is =
           let chain = runs_well.chains.chain planned.head m is in
-          absurd (let bad = sym (none_before s at_work.running at_work.not_stopped serves planned old written more refl new)
+          absurd (let bad =
+          sym (none_before s at_work.running at_work.not_stopped serves planned old written more refl new)
           ∙ chain.1 in cc bad)
 
   pub unguarded : makes ≡ true → map.get p.guards.generations planned.head ≡ None

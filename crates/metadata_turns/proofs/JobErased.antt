@@ -1,5 +1,6 @@
 -- What a turn of a job makes of the store behind a replacement: old pages are erased, and given back with the last.
-use Rattle.std.proofs.Common.{◌≡◌, ◌≢◌, ℕ, suc, ◌+◌, ◌<◌, Bool, All, List, [], ◌∷◌, length, Option, Some, None, refl, sym, ◌∙◌}
+use Rattle.std.proofs.Common.{◌≡◌, ◌≢◌, ℕ, suc, ◌+◌, ◌<◌, Bool, All, List, [], ◌∷◌, length, Option, Some, None, refl}
+use Rattle.std.proofs.Common.{sym, ◌∙◌}
 use Rattle.std.proofs.Common.{ap, subst, add-one, IsTrue, true, false}
 use Rattle.std.specs.Prelude.{slice_get}
 use Rattle.bit_array.specs.Bits.{is_in}
@@ -162,7 +163,8 @@ module _ {D : Type 0} (d : Ghosts D) (p : StoreView D) (serves : Serves) (old : 
                 inserting = inserting d p k w channel inserts refl;
                 device = device_of d disk;
                 moves = moved;
-                next = ap (λ (rows : Rows). record t { rows = rows; job = left; pages = bits; device = device_of d disk })
+                next = ap (λ (rows : Rows).
+                    record t { rows = rows; job = left; pages = bits; device = device_of d disk })
                     (rows_set p.rows channel given (first_low p channel x))
                     ∙ ap (λ b. record t {
                       rows = with_row (rows_of p.rows) channel given;

@@ -1,5 +1,6 @@
 -- A job of which a write or a flush failed: the store stops, and what waits for it is logged.
-use Rattle.std.proofs.Common.{◌≡◌, ℕ, ◌+◌, ◌<◌, Bool, true, false, List, ◌∷◌, length, Option, Some, None, refl, sym, ◌∙◌}
+use Rattle.std.proofs.Common.{◌≡◌, ℕ, ◌+◌, ◌<◌, Bool, true, false, List, ◌∷◌, length, Option, Some, None, refl, sym}
+use Rattle.std.proofs.Common.{◌∙◌}
 use Rattle.std.proofs.Common.{ap, subst}
 use Rattle.std.proofs.Math.Path.{fun_ext}
 use Rattle.page_disk.specs.Disk.{Written}
@@ -18,7 +19,8 @@ use Rattle.store_model.specs.Cases.InsertFail as insert
 use Rattle.store_model.specs.Jobs.{IsServed, JobStands}
 use Rattle.store_model.specs.Phases.{has_commit, page_in, Committing, Phase, Replaces, Replacing}
 use Rattle.store_model.specs.Rows.{InJob, Row}
-use Rattle.store_model.specs.StoreState.{ForCommand, ForInsert, ForRepair, JobState, logged, Service, StoreState, waiting}
+use Rattle.store_model.specs.StoreState.{ForCommand, ForInsert, ForRepair, JobState, logged, Service, StoreState}
+use Rattle.store_model.specs.StoreState.{waiting}
 use Rattle.store_model.proofs.Guarding.{none_frozen_by}
 use Rattle.store_model.proofs.Shaped.{waits_for_commit, waits_no_more}
 use Rattle.running_store.specs.Jobs.{waits_for_job}
@@ -72,7 +74,8 @@ module _ {D : Type 0} (d : Ghosts D) (p : StoreView D) (j : JobState) (w : IsAtW
       entry q is = entered_plainly (stopped_at (record p { disk = disk })) q channel r.Fault (d.clock disk)
           (ap (λ (x : Row). x.claim) row) is command rest row_left
 
-      pub next : state_of d fault ≡ logged (record s { stopped = Some (length p.log); job = None; frozen = λ head. false })
+      pub next : state_of d fault
+          ≡ logged (record s { stopped = Some (length p.log); job = None; frozen = λ head. false })
           channel command rest r.Fault (device_of d disk)
       next = state_logged d (stopped_at (record p { disk = disk })) channel command rest r.Fault channel_low
           ∙ ap (λ (f : ℕ → Bool). logged (record s { stopped = Some (length p.log); job = None; frozen = f }) channel

@@ -1,5 +1,6 @@
 -- What a replacement of a job makes of the store that is no commit, of a command's job or a repair's.
-use Rattle.std.proofs.Common.{◌≡◌, ◌≢◌, ℕ, ◌+◌, Bool, true, false, List, [], ◌∷◌, length, Option, Some, None, refl, sym, ◌∙◌}
+use Rattle.std.proofs.Common.{◌≡◌, ◌≢◌, ℕ, ◌+◌, Bool, true, false, List, [], ◌∷◌, length, Option, Some, None, refl}
+use Rattle.std.proofs.Common.{sym, ◌∙◌}
 use Rattle.std.proofs.Common.{ap, subst, drop, IsTrue}
 use Rattle.std.specs.Prelude.{if◌then◌else◌, is_some, slice_get, ◌||◌}
 use Rattle.std.specs.FinMap as map

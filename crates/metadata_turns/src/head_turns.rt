@@ -1,7 +1,8 @@
 //! The turns of a job in which a head's page is replaced.
 
 ghost use Rattle.std.specs.Prelude.{◌≡◌, ◌∷◌, length, drop};
-ghost use Rattle.running_store.specs.Jobs.{erases_laid, phases_in, removing_for, waits_for_job, writes_laid, writing_for};
+ghost use Rattle.running_store.specs.Jobs.{erases_laid, phases_in, removing_for, waits_for_job, writes_laid};
+ghost use Rattle.running_store.specs.Jobs.{writing_for};
 ghost use Rattle.running_store.specs.Jobs.{IsMatchedFor, IsRemovedFor, MayFollow};
 ghost use Rattle.metadata_turns.specs.JobTurns.{answer_of, with_job, IsAtWork, TurnsJob};
 ghost use Rattle.running_store.specs.Running.{view_of, HaveRoom, InOrder, WillResolveAll};

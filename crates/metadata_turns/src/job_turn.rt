@@ -29,8 +29,8 @@ pub enum JobTurn {
     Stopped(u32),
 }
 
-/// What a job has beside its next replacement: for whom it is done, and which channel waits for it; the places that stood
-/// behind the head before that, and the replacements that come behind it.
+/// What a job has beside its next replacement: for whom it is done, and which channel waits for it; the places that
+/// stood behind the head before that, and the replacements that come behind it.
 #[derive(Drop)]
 pub(crate) struct Beside {
     pub(crate) serves: Serves,

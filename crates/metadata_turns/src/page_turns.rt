@@ -1,7 +1,8 @@
 //! The turns of a job in which another page is written: of a claimed cluster, a fresh or an old one.
 
 ghost use Rattle.std.specs.Prelude.{◌≡◌, ◌<◌, ◌+◌, ◌∷◌, length, true};
-ghost use Rattle.running_store.specs.Jobs.{erasing_for, phases_in, waits_for_job, writes_laid, writing_for, zeroing_job};
+ghost use Rattle.running_store.specs.Jobs.{erasing_for, phases_in, waits_for_job, writes_laid, writing_for};
+ghost use Rattle.running_store.specs.Jobs.{zeroing_job};
 ghost use Rattle.running_store.specs.Jobs.{IsMatched, IsMatchedFor, MayFollow};
 ghost use Rattle.running_store.specs.declared.job.Serves.TheVariants.{Command};
 ghost use Rattle.metadata_turns.specs.JobTurns.{answer_of, with_job, IsAtWork, TurnsJob};

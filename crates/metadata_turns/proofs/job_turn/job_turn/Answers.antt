@@ -1,4 +1,5 @@
-use Rattle.std.proofs.Common.{zero, suc, ◌≡◌, ◌≤◌, ℕ, Option, Some, List, [], ◌∷◌, length, drop, take, refl, sym, ◌∙◌, ap}
+use Rattle.std.proofs.Common.{zero, suc, ◌≡◌, ◌≤◌, ℕ, Option, Some, List, [], ◌∷◌, length, drop, take, refl, sym, ◌∙◌}
+use Rattle.std.proofs.Common.{ap}
 use Rattle.std.proofs.Common.{subst, arith, IfSome, ◌⊎◌, inl, inr, true}
 use Rattle.std.specs.Option.{option_and_then, option_map}
 use Rattle.store_model.specs.Phases.{writing, erasing, Phase, Replaces}
@@ -84,34 +85,39 @@ not_zeroed serves planned zeroed (inr repair) known = subst (λ x. IsZeroedFor x
 
 pub zero-requires-clause-matched : goal.zero-requires-clause-matched
 zero-requires-clause-matched g c =
-    (for_command _ _ _ _ c.in-Command.is (known_work IsHeaded c.args.running.now.job c.take.result c.in-Some.field-0 _
-    c.take.ensures.value c.in-Some.is c.in-Zeroing.is c.requires.order.headed).0).0
+    (for_command _ _ _ _ c.in-Command.is
+    (known_work IsHeaded c.args.running.now.job c.take.result c.in-Some.field-0 _ c.take.ensures.value c.in-Some.is
+    c.in-Zeroing.is c.requires.order.headed).0).0
 
 pub zero-requires-clause-commits : goal.zero-requires-clause-commits
 zero-requires-clause-commits g c =
-    (for_command _ _ _ _ c.in-Command.is (known_work IsHeaded c.args.running.now.job c.take.result c.in-Some.field-0 _
-    c.take.ensures.value c.in-Some.is c.in-Zeroing.is c.requires.order.headed).0).2
+    (for_command _ _ _ _ c.in-Command.is
+    (known_work IsHeaded c.args.running.now.job c.take.result c.in-Some.field-0 _ c.take.ensures.value c.in-Some.is
+    c.in-Zeroing.is c.requires.order.headed).0).2
 
 pub zero-requires-clause-clusters : goal.zero-requires-clause-clusters
 zero-requires-clause-clusters g c =
-    (for_command _ _ _ _ c.in-Command.is (known_work IsHeaded c.args.running.now.job c.take.result c.in-Some.field-0 _
-    c.take.ensures.value c.in-Some.is c.in-Zeroing.is c.requires.order.headed).0).1.clusters
+    (for_command _ _ _ _ c.in-Command.is
+    (known_work IsHeaded c.args.running.now.job c.take.result c.in-Some.field-0 _ c.take.ensures.value c.in-Some.is
+    c.in-Zeroing.is c.requires.order.headed).0).1.clusters
 
 pub zero-requires-clause-pages : goal.zero-requires-clause-pages
 zero-requires-clause-pages g c =
-    (for_command _ _ _ _ c.in-Command.is (known_work IsHeaded c.args.running.now.job c.take.result c.in-Some.field-0 _
-    c.take.ensures.value c.in-Some.is c.in-Zeroing.is c.requires.order.headed).0).1.pages
+    (for_command _ _ _ _ c.in-Command.is
+    (known_work IsHeaded c.args.running.now.job c.take.result c.in-Some.field-0 _ c.take.ensures.value c.in-Some.is
+    c.in-Zeroing.is c.requires.order.headed).0).1.pages
 
 pub zero-requires-clause-follows : goal.zero-requires-clause-follows
 zero-requires-clause-follows g c =
-    subst (λ x. MayFollow x c.in-Some.field-0.later.items) c.in-Command.is (known_work IsHeaded c.args.running.now.job c.take.result c.in-Some.field-0 _
-    c.take.ensures.value c.in-Some.is c.in-Zeroing.is c.requires.order.headed).1
+    subst (λ x. MayFollow x c.in-Some.field-0.later.items) c.in-Command.is
+    (known_work IsHeaded c.args.running.now.job c.take.result c.in-Some.field-0 _ c.take.ensures.value c.in-Some.is
+    c.in-Zeroing.is c.requires.order.headed).1
 
 pub zero-requires-clause-roomy : goal.zero-requires-clause-roomy
 zero-requires-clause-roomy g c =
     (known_work (IsRoomy c.args.running.now.metas c.args.running.now.chains c.args.running.now.live
-    c.args.running.now.guards) c.args.running.now.job c.take.result c.in-Some.field-0 _ c.take.ensures.value c.in-Some.is
-    c.in-Zeroing.is c.requires.order.roomy)
+    c.args.running.now.guards) c.args.running.now.job c.take.result c.in-Some.field-0 _ c.take.ensures.value
+    c.in-Some.is c.in-Zeroing.is c.requires.order.roomy)
 
 pub zero-requires-clause-will_resolve : goal.zero-requires-clause-will_resolve
 zero-requires-clause-will_resolve g c =
@@ -121,8 +127,8 @@ zero-requires-clause-will_resolve g c =
 pub write_fresh-requires-clause-roomy : goal.write_fresh-requires-clause-roomy
 write_fresh-requires-clause-roomy g c =
     (known_work (IsRoomy c.args.running.now.metas c.args.running.now.chains c.args.running.now.live
-    c.args.running.now.guards) c.args.running.now.job c.take.result c.in-Some.field-0 _ c.take.ensures.value c.in-Some.is
-    c.in-Writing.is c.requires.order.roomy)
+    c.args.running.now.guards) c.args.running.now.job c.take.result c.in-Some.field-0 _ c.take.ensures.value
+    c.in-Some.is c.in-Writing.is c.requires.order.roomy)
 
 pub write_fresh-requires-clause-will_resolve : goal.write_fresh-requires-clause-will_resolve
 write_fresh-requires-clause-will_resolve g c =
@@ -132,8 +138,8 @@ write_fresh-requires-clause-will_resolve g c =
 pub replace_head-requires-clause-roomy : goal.replace_head-requires-clause-roomy
 replace_head-requires-clause-roomy g c =
     (known_work (IsRoomy c.args.running.now.metas c.args.running.now.chains c.args.running.now.live
-    c.args.running.now.guards) c.args.running.now.job c.take.result c.in-Some.field-0 _ c.take.ensures.value c.in-Some.is
-    c.in-Writing.is c.requires.order.roomy)
+    c.args.running.now.guards) c.args.running.now.job c.take.result c.in-Some.field-0 _ c.take.ensures.value
+    c.in-Some.is c.in-Writing.is c.requires.order.roomy)
 
 pub replace_head-requires-clause-will_resolve : goal.replace_head-requires-clause-will_resolve
 replace_head-requires-clause-will_resolve g c =
@@ -143,8 +149,8 @@ replace_head-requires-clause-will_resolve g c =
 pub remove_head-requires-clause-roomy : goal.remove_head-requires-clause-roomy
 remove_head-requires-clause-roomy g c =
     (known_work (IsRoomy c.args.running.now.metas c.args.running.now.chains c.args.running.now.live
-    c.args.running.now.guards) c.args.running.now.job c.take.result c.in-Some.field-0 _ c.take.ensures.value c.in-Some.is
-    c.in-Removing.is c.requires.order.roomy)
+    c.args.running.now.guards) c.args.running.now.job c.take.result c.in-Some.field-0 _ c.take.ensures.value
+    c.in-Some.is c.in-Removing.is c.requires.order.roomy)
 
 pub remove_head-requires-clause-will_resolve : goal.remove_head-requires-clause-will_resolve
 remove_head-requires-clause-will_resolve g c =
@@ -154,8 +160,8 @@ remove_head-requires-clause-will_resolve g c =
 pub erase-requires-clause-roomy : goal.erase-requires-clause-roomy
 erase-requires-clause-roomy g c =
     (known_work (IsRoomy c.args.running.now.metas c.args.running.now.chains c.args.running.now.live
-    c.args.running.now.guards) c.args.running.now.job c.take.result c.in-Some.field-0 _ c.take.ensures.value c.in-Some.is
-    c.in-Erasing.is c.requires.order.roomy)
+    c.args.running.now.guards) c.args.running.now.job c.take.result c.in-Some.field-0 _ c.take.ensures.value
+    c.in-Some.is c.in-Erasing.is c.requires.order.roomy)
 
 pub erase-requires-clause-will_resolve : goal.erase-requires-clause-will_resolve
 erase-requires-clause-will_resolve g c =
@@ -165,8 +171,8 @@ erase-requires-clause-will_resolve g c =
 pub free-requires-clause-roomy : goal.free-requires-clause-roomy
 free-requires-clause-roomy g c =
     (known_work (IsRoomy c.args.running.now.metas c.args.running.now.chains c.args.running.now.live
-    c.args.running.now.guards) c.args.running.now.job c.take.result c.in-Some.field-0 _ c.take.ensures.value c.in-Some.is
-    c.in-Erasing.is c.requires.order.roomy)
+    c.args.running.now.guards) c.args.running.now.job c.take.result c.in-Some.field-0 _ c.take.ensures.value
+    c.in-Some.is c.in-Erasing.is c.requires.order.roomy)
 
 pub free-requires-clause-will_resolve : goal.free-requires-clause-will_resolve
 free-requires-clause-will_resolve g c =
