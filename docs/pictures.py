@@ -57,7 +57,8 @@ CRATES = {
     "md_queue": (1, 1, 9), "io_freeze": (3, 3, 9), "store_model": (4, 4, 9),
     "md_chain": (2, 2, 10), "pools": (4, 4, 10), "shown_volumes": (6, 6, 10),
     "md_page": (3, 3, 11), "inflate_delete": (6, 6, 11), "snapshots": (6, 6, 12), "blob_meta": (1, 1, 13),
-    "descriptors": (1, 1, 14), "super_block": (3, 3, 14), "run_work": (6, 6, 14),
+    "clean_stop": (4, 4, 13), "descriptors": (1, 1, 14), "super_block": (3, 3, 14), "page_runs": (4, 4, 14),
+    "run_work": (6, 6, 14),
     "volume_model": (1, 1, 15), "page_fields": (3, 3, 15), "bit_array": (4, 4, 15),
     "page_disk": (2, 6, 16), "out_of_memory": (1, 2, 17), "crc32c": (3, 6, 17),
 }

@@ -1,5 +1,5 @@
-//! Tests of the crates that a store's pages stand on: `page_fields`, `md_page`, `super_block`, `bit_array`, `pools` and
-//! `io_freeze`.
+//! Tests of the crates that a store's pages stand on: `page_fields`, `md_page`, `super_block`, `clean_stop`,
+//! `bit_array`, `pools` and `io_freeze`.
 #![tactic(auto)]
 
 #[cfg(test)]
@@ -10,5 +10,7 @@ mod masks;
 mod page;
 #[cfg(test)]
 mod pool;
+#[cfg(test)]
+mod stops;
 #[cfg(test)]
 mod super_page;

@@ -26,7 +26,7 @@ fn least_clear_number(rt: HostRuntime) -> Result<(), Fail> {
 }
 
 /// A set of numbers below `len` with these three.
-fn set_of_three(alloc: Global, len: u32, a: u32, b: u32, c: u32) -> Result<Bits, Memory>
+pub fn set_of_three(alloc: Global, len: u32, a: u32, b: u32, c: u32) -> Result<Bits, Memory>
     requires a_in { a < len }
     requires b_in { b < len }
     requires c_in { c < len }

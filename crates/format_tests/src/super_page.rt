@@ -8,7 +8,7 @@ use super_block::{
 };
 
 /// A store of 64 pages with clusters of 4 pages and 16 metadata pages, as it is when it is new.
-fn small() -> Super {
+pub fn small() -> Super {
     Super {
         device_pages: 64,
         signature: *b"SPDKBLOB",

@@ -1,0 +1,5 @@
+mod Places
+mod Supers
+mod Written
+mod Unloading
+mod Read
