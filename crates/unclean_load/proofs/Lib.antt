@@ -18,3 +18,4 @@ pub mod ChainsOf
 pub mod RecoveryFaults
 pub mod Recovery
 pub mod MarkedRead
+pub mod Quick

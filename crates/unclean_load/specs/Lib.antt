@@ -5,3 +5,4 @@ pub mod Sharing
 pub mod Parents
 pub mod Walks
 pub mod Accepted
+pub mod Quick

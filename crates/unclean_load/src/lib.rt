@@ -1,4 +1,4 @@
-//! Loading a store by reading every metadata page.
+//! Loading a store by reading every metadata page, and when its masks would do.
 #![tactic(auto)]
 
 mod fault;
@@ -13,5 +13,5 @@ mod super_page;
 mod walking;
 
 pub use fault::LoadFault;
-pub use laws::stores_are_accepted;
+pub use laws::{clean_stores_are_quick, stores_are_accepted};
 pub use loading::load;
