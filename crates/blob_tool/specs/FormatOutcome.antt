@@ -2,6 +2,7 @@
 use Rattle.std.specs.Prelude.{◌≡◌, ℕ, ◌-◌, List, ◌++◌, Option, Some, None, IsTrue}
 use Rattle.page_disk.specs.Disk.{Only, Rose}
 use Rattle.page_disk.specs.declared.disk.PageDisk as disk
+use Rattle.page_runs.specs.Writing.{IsBetween, SameBut}
 use Rattle.super_block.specs.Layout.{layout_of, md_pages_of, plan_fault}
 use Rattle.super_block.specs.declared.layout.Layout.{Layout}
 use Rattle.super_block.specs.declared.fault.SuperFault.{SuperFault}
@@ -9,7 +10,6 @@ use Rattle.volume_model.specs.declared.reply.Df.{Df}
 use Rattle.unclean_load.specs.declared.fault.LoadFault.{LoadFault}
 use Rattle.unclean_load.specs.declared.fault.LoadFault.TheVariants as loading
 use Rattle.blob_report.specs.Text.{space_text}
-use Rattle.store_format.specs.Filling.{SameBut}
 use Rattle.store_format.specs.NewStore.{md_end_of, IsNewStore, LoadsEmpty, Writes}
 use Rattle.streams.specs.Printing.{IsPartOf}
 use Rattle.streams.specs.declared.sink.Sink as sink
@@ -53,7 +53,7 @@ module _ {D : Type 0} (d : disk.Ghosts D) (before back : D) (format : Format) wh
     pub one_image : IsTrue d.tells → Only (d.now back) (d.images back)
     pub store : IsTrue d.tells → IsNewStore plan (d.now back)
     pub loads : IsTrue d.tells → LoadsEmpty plan (d.now back)
-    pub behind : IsTrue d.tells → SameBut 0 (md_end_of plan) (d.now before) (d.now back)
+    pub behind : IsTrue d.tells → SameBut (IsBetween 0 (md_end_of plan)) (d.now before) (d.now back)
     pub writes : Writes d plan before back
 
   module _ {K : Type 0} (k : sink.Ghosts K) (out out_now : K) where

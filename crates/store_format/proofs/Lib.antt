@@ -1,3 +1,2 @@
-mod Filling
 mod Regions
 mod NewStore

@@ -25,7 +25,7 @@ use Rattle.store_model.specs.Recovers.{IsSameStore}
 use Rattle.store_model.specs.Regions.{look_of, region_of}
 use Rattle.store_model.specs.Scans.{is_head, Says}
 use Rattle.unclean_load.specs.Accepted.{IsAccepted, StoresAreAccepted}
-use Rattle.store_format.specs.Filling.{SameBut, WritesOnly}
+use Rattle.page_runs.specs.Writing.{IsBetween, SameBut, WritesOnly}
 use Rattle.store_format.specs.NewStore.{md_end_of, first_super, no_blob, no_chain, zero_page, HasNewRegions, IsNewStore}
 use Rattle.store_format.specs.NewStore.{IsUnderWay, LoadsEmpty, Writes}
 
@@ -66,13 +66,15 @@ module _ (plan : Layout) (laid : IsLaidOut plan) (old new : Image) (page : List 
       record { super = ap (λ (i : Image). i 0) is ∙ with_page-here old 0 page ∙ bytes; regions = regions_stay regions }
 
   -- behind the metadata region each page is as at first
-  pub behind_too : (first : Image) → SameBut 1 (md_end_of plan) first old → SameBut 0 (md_end_of plan) first new
-  behind_too first same p (inl before) = absurd (omega (arith, before))
-  behind_too first same p (inr behind) = stays p (λ e. absurd (omega (arith, e, behind, laid))) ∙ same p (inr behind)
+  pub behind_too : (first : Image) → SameBut (IsBetween 1 (md_end_of plan)) first old
+      → SameBut (IsBetween 0 (md_end_of plan)) first new
+  behind_too first same p out =
+      stays p (λ e. out (omega (arith, e), omega (arith, e, laid)))
+      ∙ same p (λ at. out (omega (arith, at), at.1))
 
 -- what power that fails while the super block is replaced may leave
 under_way : {D : Type 0} (d : Ghosts D) (law : Telling d.now d.images d.since d.clock) (plan : Layout) → IsLaidOut plan
-    → (first mid : D) → IsTrue d.tells → WritesOnly d 1 (md_end_of plan) first mid
+    → (first mid : D) → IsTrue d.tells → WritesOnly d (IsBetween 1 (md_end_of plan)) first mid
     → HasNewRegions plan (d.now mid) → (page : List ℕ) → page ≡ super_bytes (first_super plan) → (image : Image)
     → IsReplaced (d.images mid) (d.now mid) 0 page image → IsUnderWay plan (d.images first) image
 under_way d law plan laid first mid told only regions page bytes image (inl held) = inl (only.images told image held)
@@ -85,7 +87,7 @@ under_way d law plan laid first mid told only regions page bytes image (inr is) 
 
 -- the regions are written, and then the super block is replaced, or that fails
 pub writes : {D : Type 0} (d : Ghosts D) → (IsTrue d.tells → Telling d.now d.images d.since d.clock) → (plan : Layout)
-    → IsLaidOut plan → (first mid last : D) → WritesOnly d 1 (md_end_of plan) first mid
+    → IsLaidOut plan → (first mid last : D) → WritesOnly d (IsBetween 1 (md_end_of plan)) first mid
     → (IsTrue d.tells → HasNewRegions plan (d.now mid))
     → (page : List ℕ) → page ≡ super_bytes (first_super plan)
     → CallsLeaveOnly d mid last (IsReplaced (d.images mid) (d.now mid) 0 page)

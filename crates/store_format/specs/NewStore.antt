@@ -13,7 +13,7 @@ use Rattle.store_model.specs.Regions.{region_of}
 use Rattle.store_model.specs.Scans.{Says}
 use Rattle.store_model.specs.Surviving.{HoldsMetadata}
 use Rattle.unclean_load.specs.Accepted.{IsAccepted}
-use Rattle.store_format.specs.Filling.{IsAnyBut}
+use Rattle.page_runs.specs.Writing.{IsAnyBut, IsBetween}
 
 -- the super block of a new store: no super blob, and of no kind
 abbrev pub first_super : Layout → Super
@@ -46,7 +46,8 @@ md_end_of plan = plan.md_start + plan.md_pages
 -- masks and of the metadata region has changed, or the new store.
 abbrev pub IsUnderWay : Layout → Images → Images
 IsUnderWay plan images image =
-    IsAnyBut 1 (md_end_of plan) images image ⊎ (IsNewStore plan image × IsAnyBut 0 (md_end_of plan) images image)
+    IsAnyBut (IsBetween 1 (md_end_of plan)) images image
+    ⊎ (IsNewStore plan image × IsAnyBut (IsBetween 0 (md_end_of plan)) images image)
 
 -- no head has metadata
 abbrev pub no_blob : Metas

@@ -5,62 +5,36 @@ ghost use Rattle.page_disk.specs.Disk.{HasCause, Only};
 ghost use Rattle.super_block.specs.Faults.{super_fault};
 ghost use Rattle.super_block.specs.Layout.{IsPlanned, new_masks};
 ghost use Rattle.super_block.specs.Page.{super_bytes, super_of};
-ghost use Rattle.store_format.specs.Filling.{Filled, HasPages, SameBut, WritesOnly};
+ghost use Rattle.page_runs.specs.Writing.{IsBetween, SameBut, WritesOnly};
 ghost use Rattle.store_format.specs.NewStore.{first_super, md_end_of, HasNewRegions, IsNewStore, LoadsEmpty, Writes};
 
-use crate::content::Content;
-use page_disk::{DiskFault, Page, PageDisk, WriteKind, replace_page};
+use page_disk::{DiskFault, Page, PageDisk, replace_page};
+use page_runs::{Content, write_pages};
 use store_model::scans;
 use super_block::{Layout, Masks, layouts_are_placed, write_super};
 use unclean_load::stores_are_accepted;
 
-/// Writes so many pages of the content from a start on.
-fn write_pages<D: PageDisk>(
-    disk: &mut D,
-    start: u32,
-    count: u32,
-    content: &Content,
-) -> Result<(), DiskFault>
-    requires inside { start + count ≤ D.pages disk.old }
-    requires enough { HasPages content.now count }
-    ensures filled { IsTrue D.tells → OnOk result (Filled content.now start count (D.now disk.new)) }
-    ensures only { WritesOnly D.PageDisk start (start + count) disk.old disk.new }
-    ensures faults { HasCause (D.write_faults disk.old) (D.write_faults disk.new) result }
-{
-    let mut page = [0; 4096];
-    for index in 0..count {
-        content.put(index, &mut page);
-        disk.write(u64::from(start) + u64::from(index), &page, WriteKind::Plain)?;
-    }
-    Ok(())
-}
-
 /// Writes zeros to all metadata pages, and then the masks.
-fn write_regions<D: PageDisk>(disk: &mut D, layout: &Layout, masks: Masks) -> Result<(), DiskFault>
+fn write_regions<D: PageDisk>(disk: &mut D, layout: &Layout, masks: &Masks) -> Result<(), DiskFault>
     requires planned { IsPlanned layout.now }
-    requires masks { masks ≡ new_masks layout.now }
+    requires masks { masks.now ≡ new_masks layout.now }
     requires device { D.pages disk.old ≡ layout.now.device_pages }
     ensures regions { IsTrue D.tells → OnOk result (HasNewRegions layout.now (D.now disk.new)) }
-    ensures only { WritesOnly D.PageDisk 1 (md_end_of layout.now) disk.old disk.new }
+    ensures only { WritesOnly D.PageDisk (IsBetween 1 (md_end_of layout.now)) disk.old disk.new }
     ensures faults { HasCause (D.write_faults disk.old) (D.write_faults disk.new) result }
 {
     layouts_are_placed();
-    let Masks {
-        pages,
-        clusters,
-        blobs,
-    } = masks;
     let pages = Content::Mask {
         kind: 0,
-        bits: pages,
+        bits: &masks.pages,
     };
     let clusters = Content::Mask {
         kind: 1,
-        bits: clusters,
+        bits: &masks.clusters,
     };
     let blobs = Content::Mask {
         kind: 2,
-        bits: blobs,
+        bits: &masks.blobs,
     };
     write_pages(disk, layout.md_start, layout.md_pages, &Content::Zeros)?;
     write_pages(disk, layout.page_mask_start, layout.page_mask_len, &pages)?;
@@ -98,7 +72,7 @@ pub fn write_store<D: PageDisk>(
     requires device { D.pages disk.old ≡ layout.now.device_pages }
     ensures store { IsTrue D.tells → OnOk result (IsNewStore layout.now (D.now disk.new)) }
     ensures loads { IsTrue D.tells → OnOk result (LoadsEmpty layout.now (D.now disk.new)) }
-    ensures behind { IsTrue D.tells → OnOk result (SameBut 0 (md_end_of layout.now) (D.now disk.old) (D.now disk.new)) }
+    ensures behind { IsTrue D.tells → OnOk result (SameBut (IsBetween 0 (md_end_of layout.now)) (D.now disk.old) (D.now disk.new)) }
     ensures one_image { IsTrue D.tells → OnOk result (Only (D.now disk.new) (D.images disk.new)) }
     ensures writes { Writes D.PageDisk layout.now disk.old disk.new }
     ensures faults { HasCause (D.write_faults disk.old) (D.write_faults disk.new) result }
@@ -106,7 +80,7 @@ pub fn write_store<D: PageDisk>(
     layouts_are_placed();
     scans();
     stores_are_accepted();
-    write_regions(disk, layout, masks)?;
+    write_regions(disk, layout, &masks)?;
     replace_page(disk, 0, &super_page(layout))?;
     Ok(())
 }

@@ -1,7 +1,6 @@
 //! An empty store is written to a device.
 #![tactic(auto)]
 
-mod content;
 mod formatting;
 
 pub use formatting::write_store;
