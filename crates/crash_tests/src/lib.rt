@@ -16,6 +16,8 @@ mod points;
 #[cfg(test)]
 mod power;
 #[cfg(test)]
+mod renames;
+#[cfg(test)]
 mod settled;
 #[cfg(test)]
 mod slots;

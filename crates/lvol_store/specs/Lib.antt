@@ -2,3 +2,4 @@ pub mod Names
 pub mod Plans
 pub mod SlotPlans
 pub mod CopyPlans
+pub mod RenamePlans

@@ -5,6 +5,7 @@
 mod attributes;
 mod cloning;
 mod creating;
+mod renaming;
 mod resizing;
 mod slots;
 mod words;
@@ -12,6 +13,7 @@ mod words;
 pub use attributes::{plan_put, plan_readonly, plan_sync};
 pub use cloning::plan_clone;
 pub use creating::{plan_create, store_uuid};
+pub use renaming::plan_rename;
 pub use resizing::plan_resize;
 pub use volume_model::uuid_for;
 pub use words::{BadName, LvolFault, check_name, parse_uuid, uuid_in};

@@ -174,7 +174,7 @@ answered_by first p metas command head xattrs e well in_memory named live_is sho
     (x.none f (shown p) shows) x.does
 
 -- an answer that changes no volume
-unchanging : (first : Volumes) (p : StoreState) → RunsWell first p → (command : Command) (reply : Reply)
+pub unchanging : (first : Volumes) (p : StoreState) → RunsWell first p → (command : Command) (reply : Reply)
     → Allowed (fixed_of p.super) (shown p) command reply → IsQuiet reply
     → change (fixed_of p.super) (shown p) command reply ≡ shown p
     → Answered (fixed_of p.super) (shown p) p.live command reply None
@@ -195,13 +195,6 @@ answered_memory first p (c.Info volume) well is = unchanging first p well (c.Inf
 answered_memory first p c.List well is = unchanging first p well c.List r.Memory tt tt refl
 answered_memory first p c.Df well is = unchanging first p well c.Df r.Memory tt tt refl
 answered_memory first p _ well is = absurd is
-
--- how much is free answers a `df`
-pub answered_df : (first : Volumes) (p : StoreState) (command : Command) (df : Df) → RunsWell first p → command ≡ c.Df
-    → Answered (fixed_of p.super) (shown p) p.live command (r.Df df) None
-answered_df first p command df well is =
-    subst (λ (k : Command). Answered (fixed_of p.super) (shown p) p.live k (r.Df df) None) (sym is)
-    (unchanging first p well c.Df (r.Df df) (refl, tt) tt refl)
 
 -- a command on attributes says nothing of what is free
 pub not_df : (f : Fixed) (v : Volumes) (command : Command) (reply : Reply) → IsAsked command

@@ -32,9 +32,10 @@ use Rattle.store_model.proofs.OneReplacement.{base_lawful, base_steady}
 use Rattle.store_model.proofs.Known.{Known}
 use Rattle.store_model.proofs.NewBlob.{empty_slot, two_written}
 use Rattle.metadata_turns.specs.Begins.{job_with_zeros, AsksToWrite}
-use Rattle.running_store.specs.Effects.{cut_clusters, is_cut, is_live_kept, live_behind}
+use Rattle.running_store.specs.Effects.{cut_clusters, is_cut, live_behind}
 use Rattle.running_store.specs.StoreInvariant.{IsRunning}
 use Rattle.metadata_turns.proofs.CutClusters.{cut_moves, cut_once}
+use Rattle.metadata_turns.proofs.LiveBehind.{synced_live}
 use Rattle.metadata_turns.proofs.SlotsOfZeros.{with_none}
 use Rattle.metadata_turns.proofs.JobPlanned.{commit_by, moves_made, same_one}
 
@@ -81,7 +82,7 @@ module _ (p : StoreState) (running : IsRunning p) (clean : HasNoMarks p.base) (r
   -- what is known of it, whichever verb asks
   pub record IsAsked (before : Option Meta) : Type 0 where
     pub commit : asks.commit
-        ≡ commit_by (is_some before) head (is_cut before new) (live_behind (is_live_kept command) new)
+        ≡ commit_by (is_some before) head (is_cut before new) (live_behind command (p.live head) new)
     pub xattrs : CanBeWritten new.xattrs
     pub internal : CanBeWritten new.internal
     pub once : AreDistinct (cut_clusters before new)
@@ -95,24 +96,19 @@ module _ (p : StoreState) (running : IsRunning p) (clean : HasNoMarks p.base) (r
       by (c.Put volume key value) is = tt
       by (c.Sync volume) is = tt
       by (c.ReadOnly volume) is = tt
+      by (c.Rename volume name) is = tt
       by _ is = absurd is
 
-  -- a verb that syncs makes its attributes read
-  live_synced : IsSyncing command → live_behind (is_live_kept command) new ≡ Some new.xattrs
-  live_synced is = by command is
-    where
-      by : (k : Command) → IsSyncing k → live_behind (is_live_kept k) new ≡ Some new.xattrs
-      by (c.Put volume key value) is = refl
-      by (c.Sync volume) is = refl
-      by (c.ReadOnly volume) is = refl
-      by _ is = absurd is
+  -- behind a verb that syncs its attributes are read as it makes them
+  live_synced : (live : Xattrs) → AsksFor p command head new live → live_behind command (p.live head) new ≡ Some live
+  live_synced live asks = synced_live p well.live well.no_live command head new live asks
 
   -- of a blob that is there, with its slots cut or others added
   asked_there : (old : Meta) → p.base head ≡ Some old → (slots : ℕ) → new.map ≡ cut old.map slots None
       → CanBeWritten new.xattrs → new.internal ≡ old.internal → MayLackMemory (fixed_of p.super) (shown p) command
       → asks.commit ≡ record {
         reply = r.Ok;
-        live = live_behind (is_live_kept command) new;
+        live = live_behind command (p.live head) new;
         renews = if nat_lt slots (length old.map) then head ∷ [] else [];
       } → IsAsked (Some old)
   asked_there old there slots map_is xattrs internal memory commit =
@@ -123,7 +119,7 @@ module _ (p : StoreState) (running : IsRunning p) (clean : HasNoMarks p.base) (r
       record {
         commit = commit ∙ ap (λ n. record {
           reply = r.Ok;
-          live = live_behind (is_live_kept command) new;
+          live = live_behind command (p.live head) new;
           renews = if nat_lt n (length old.map) then head ∷ [] else [];
         }) (sym long);
         xattrs = xattrs;
@@ -143,22 +139,21 @@ module _ (p : StoreState) (running : IsRunning p) (clean : HasNoMarks p.base) (r
   asked_by : IsJobFor p command (job_with_zeros head new zeros) asks.commit → IsAsked (p.base head)
   asked_by (syncs y) =
       let same = same_one head y.head new y.new zeros (job_of_one y.head y.new) y.is refl in
-      let mine : AsksFor p command head new = subst (λ h. AsksFor p command h new) (sym same.head_is)
-      (subst (AsksFor p command y.head) (sym same.new_is) y.asks) in
+      let mine : AsksFor p command head new y.live = subst (λ h. AsksFor p command h new y.live) (sym same.head_is)
+      (subst (λ (m : Meta). AsksFor p command y.head m y.live) (sym same.new_is) y.asks) in
       let kept : new.map ≡ cut mine.old.map (length mine.old.map) None =
       ap (λ (m : Meta). m.map) mine.new_is ∙ sym (whole_cut mine.old.map) in
       subst IsAsked (sym mine.there) (asked_there mine.old mine.there (length mine.old.map) kept
       (bare_xattrs (ap (λ (j : Job). j.zero) y.is) (there_low mine.old mine.there))
       (ap (λ (m : Meta). m.internal) mine.new_is) (may_lack y.asks.syncing)
       (y.commit_is
-      ∙ ap (λ (m : Meta). record { reply = r.Ok; live = Some m.xattrs; renews = [] }) (sym same.new_is)
-      ∙ ap (λ (b : Bool). record { reply = r.Ok; live = Some new.xattrs; renews = if b then head ∷ [] else [] })
+      ∙ ap (λ (b : Bool). record { reply = r.Ok; live = Some y.live; renews = if b then head ∷ [] else [] })
       (sym (ltb-irrefl (length mine.old.map)))
       ∙ ap (λ (o : Option Xattrs). record {
         reply = r.Ok;
         live = o;
         renews = if nat_lt (length mine.old.map) (length mine.old.map) then head ∷ [] else [];
-      }) (sym (live_synced y.asks.syncing))))
+      }) (sym (live_synced y.live mine))))
   asked_by (creates y) =
       let xattrs = two_xattrs (fixed_of p.super) (shown p) y.name y.uuid in
       let made = new_meta y.head xattrs y.thick y.slots in
@@ -171,7 +166,7 @@ module _ (p : StoreState) (running : IsRunning p) (clean : HasNoMarks p.base) (r
             (sym same.new_is)
             ∙ ap (λ (k : Command). record {
               reply = r.Made head;
-              live = live_behind (is_live_kept k) new;
+              live = live_behind k (p.live head) new;
               renews = head ∷ [];
             }) (sym y.command_is);
         xattrs = subst (λ (m : Meta). CanBeWritten m.xattrs) (sym same.new_is)
@@ -199,7 +194,7 @@ module _ (p : StoreState) (running : IsRunning p) (clean : HasNoMarks p.base) (r
       (sym same.head_is)
       ∙ ap (λ (k : Command). record {
         reply = r.Ok;
-        live = live_behind (is_live_kept k) new;
+        live = live_behind k (p.live head) new;
         renews = if nat_lt y.slots (length y.old.map) then head ∷ [] else [];
       }) (sym y.command_is)))
   asked_by (clones y) =
@@ -214,7 +209,7 @@ module _ (p : StoreState) (running : IsRunning p) (clean : HasNoMarks p.base) (r
             (sym same.new_is)
             ∙ ap (λ (k : Command). record {
               reply = r.Made head;
-              live = live_behind (is_live_kept k) new;
+              live = live_behind k (p.live head) new;
               renews = head ∷ [];
             }) (sym y.command_is);
         xattrs = subst (λ (m : Meta). CanBeWritten m.xattrs) (sym same.new_is)

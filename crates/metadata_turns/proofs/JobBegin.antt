@@ -3,7 +3,7 @@ use Rattle.std.proofs.Common.{◌≡◌, ℕ, ◌+◌, ◌<◌, Bool, true, fals
 use Rattle.std.proofs.Common.{Option, Some, None, refl, sym, ◌∙◌, ap, subst, append-nil, arith}
 use Rattle.store_model.specs.Jobs.{with_clusters, AreForZeros, LacksPages, LacksPagesFor, MovesClusters}
 use Rattle.store_model.specs.Maps.{with_entry, Metas}
-use Rattle.running_store.specs.Effects.{is_cut, is_live_kept, live_behind, numbered_by, AreEffects}
+use Rattle.running_store.specs.Effects.{is_cut, live_behind, numbered_by, AreEffects}
 use Rattle.std.specs.Prelude.{◌||◌, if◌then◌else◌, is_some, not, slice_index_or, slice_set}
 use Rattle.std.proofs.lemmas.List.{get_or_default}
 use Rattle.page_disk.specs.declared.disk.PageDisk.{Ghosts}
@@ -146,7 +146,11 @@ module _ {D : Type 0} (d : Ghosts D) (p : StoreView D) (channel : ℕ) (low : ch
       todo = map Zeros pages ++ (writing_job channel planned old 0).todo;
     }
 
-    pub begun : AreEffects (s.base planned.head) (is_live_kept command) bare claimed planned.effects
+    -- the attributes as they are read from the commit on, if they are others
+    abbrev live : Option Xattrs
+    live = live_behind command (s.live planned.head) bare
+
+    pub begun : AreEffects (s.base planned.head) live bare claimed planned.effects
         → AreLeastClear p.clusters claimed → length claimed ≡ length zeros → planned.new ≡ filled
         → (cluster_pages : ℕ) → cluster_pages ≡ cluster_pages_of p.super
         → is_some (s.chains planned.head) ≡ not makes
@@ -172,11 +176,9 @@ module _ {D : Type 0} (d : Ghosts D) (p : StoreView D) (channel : ℕ) (low : ch
           commit = commit_of planned;
           asked = subst (IsJobFor s command (job_with_zeros planned.head bare zeros))
               (known.commit
-              ∙ ap (λ (b : Bool). commit_by b planned.head (is_cut (s.base planned.head) bare)
-              (live_behind (is_live_kept command) bare)) there
-              ∙ ap (λ (b : Bool). commit_by (not makes) planned.head b
-              (live_behind (is_live_kept command) bare)) (sym effects.renews)
-              ∙ ap (commit_by (not makes) planned.head planned.effects.renews) (sym effects.live)
+              ∙ ap (λ (b : Bool). commit_by b planned.head (is_cut (s.base planned.head) bare) live) there
+              ∙ ap (λ (b : Bool). commit_by (not makes) planned.head b live) (sym effects.renews)
+              ∙ ap (commit_by (not makes) planned.head planned.effects.renews) (sym effects.live_is)
               ∙ commit_is makes planned.head planned.effects.renews planned.effects.live) asks.asked;
           claimed = claimed;
           clusters = least;

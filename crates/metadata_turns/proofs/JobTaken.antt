@@ -24,7 +24,7 @@ use Rattle.store_model.proofs.ZeroSlots.{zeroed_rest}
 use Rattle.running_store.specs.Jobs.{begun_job, job_seen}
 use Rattle.metadata_turns.specs.Begins.{planned_with, with_begun, AsksToWrite, HasChain, IsFreshHead, IsPrepared}
 use Rattle.metadata_turns.specs.Begins.{IsUnprepared}
-use Rattle.running_store.specs.Effects.{cut_clusters, is_live_kept, live_behind, AreEffects}
+use Rattle.running_store.specs.Effects.{cut_clusters, live_behind, AreEffects}
 use Rattle.running_store.specs.StoreInvariant.{IsRunning}
 use Rattle.running_store.specs.Running.{WillResolve}
 use Rattle.running_store.specs.StoreView.{base_of, AreResolved, StoreView, rows_of, state_of}
@@ -164,8 +164,8 @@ module _ {D : Type 0} (d : Ghosts D) (p : StoreView D) (channel : ℕ) (posted :
           }
 
       -- the job begins, once all that it needs is taken
-      pub job_begins : channel < length p.rows → length zeros ≤ length claimed → (e : Effects) (kept : Bool)
-          → kept ≡ is_live_kept command → AreEffects (s.base head) kept new [] e
+      pub job_begins : channel < length p.rows → length zeros ≤ length claimed → (e : Effects)
+          → AreEffects (s.base head) (live_behind command (s.live head) new) new [] e
           → IfNone e.rooms (IsSome (s.chains head)) → IfSome e.rooms (λ _. s.chains head ≡ None)
           → (pages clusters : List Bool) → clusters ≡ all_set p.clusters claimed true → (x : Prepared)
           → IsPrepared p.chains head later (is_some e.rooms) p.pages pages x → (cluster_pages : ℕ)
@@ -173,7 +173,7 @@ module _ {D : Type 0} (d : Ghosts D) (p : StoreView D) (channel : ℕ) (posted :
           → job_seen job
           ≡ begun_job channel (planned_with x head later (record e { claimed = claimed })) x.old cluster_pages
           → Begins s (state_of d (with_begun (record p { pages = pages; clusters = clusters }) channel job))
-      job_begins low all e kept kept_is effects some none pages clusters set x prepared cluster_pages each job seen =
+      job_begins low all e effects some none pages clusters set x prepared cluster_pages each job seen =
           let one_each = as_many all in
           let there = was e.rooms some none in
           let with_its : IsPrepared p.chains head (with_clusters new zeros claimed) (is_some e.rooms) p.pages pages x =
@@ -181,7 +181,7 @@ module _ {D : Type 0} (d : Ghosts D) (p : StoreView D) (channel : ℕ) (posted :
           let begins = begun d p channel low posted runs running clean no_job
           (planned_with x head later (record e { claimed = claimed })) x.old new zeros asks
           (record {
-            live = effects.live ∙ ap (λ (b : Bool). live_behind b new) kept_is;
+            live_is = effects.live_is;
             renews = effects.renews;
             freed = effects.freed;
             claimed = refl;

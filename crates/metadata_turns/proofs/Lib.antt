@@ -1,10 +1,12 @@
 pub mod Answered
+pub mod Told
 pub mod AnswerMade
 pub mod JobPlaces
 pub mod CutClusters
 pub mod FilledMoves
 pub mod SlotsOfZeros
 pub mod JobPlanned
+pub mod LiveBehind
 pub mod JobAsked
 pub mod JobPrepared
 pub mod JobBegin

@@ -15,6 +15,7 @@ use Rattle.blob_meta.specs.Asked.{asked_volume, IsAttributeCause, IsFirstCause, 
 use Rattle.blob_meta.specs.Find.{is_meant, IsLeast}
 use Rattle.blob_meta.specs.ShownBy.{IsHeadMeant}
 use Rattle.store_model.specs.Cases.{IsInMemory}
+use Rattle.metadata_turns.specs.Infos.{IsQuestion}
 use Rattle.metadata_turns.specs.declared.answering.Effect.{Effect}
 use Rattle.metadata_turns.specs.declared.answering.NewLive.{NewLive}
 
@@ -22,9 +23,9 @@ use Rattle.metadata_turns.specs.declared.answering.NewLive.{NewLive}
 abbrev pub IsAsked : Command → Type 0
 IsAsked command = IsOnAttributes command × IsInMemory command
 
--- such a command, or one that asks how much is free
+-- such a command, or one that asks what there is
 abbrev pub IsAnswerable : Command → Type 0
-IsAnswerable command = IsAsked command ⊎ (command ≡ c.Df)
+IsAnswerable command = IsAsked command ⊎ IsQuestion command
 
 -- What is found of the volume that a command names: its head, where it is there, and its live attributes.
 pub record IsFound (metas : map.FinMap nat_cmp Meta) (sup : Super) (live : map.FinMap nat_cmp Xattrs)

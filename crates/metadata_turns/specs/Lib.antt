@@ -6,3 +6,4 @@ pub mod Begins
 pub mod Alone
 pub mod Repairs
 pub mod Inserts
+pub mod Infos

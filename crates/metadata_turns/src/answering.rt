@@ -6,15 +6,16 @@ ghost use Rattle.std.specs.Option.{option_and_then};
 ghost use Rattle.blob_meta.specs.Asked.{HasValue, IsLiveOf, IsOnAttributes};
 ghost use Rattle.store_model.specs.Cases.{IsInMemory};
 ghost use Rattle.store_model.specs.Cases as kind;
-ghost use Rattle.volume_model.specs.declared.command.Command.TheVariants.{Df as DfCommand};
 ghost use Rattle.super_block.specs.Faults.{IsFaultless};
 ghost use Rattle.metadata_turns.specs.Answering.{ComesTo, DoesVerb, IsAnswerable, IsAsked};
+ghost use Rattle.metadata_turns.specs.Infos.{IsQuestion};
 ghost use Rattle.running_store.specs.StoreInvariant.{IsRunning};
 ghost use Rattle.running_store.specs.TurnMade.{TurnMade};
 ghost use Rattle.running_store.specs.Running.{view_of, InOrder};
 ghost use Rattle.running_store.specs.StoreView.{rows_of, state_of};
 ghost use Rattle.running_store.specs.Steps.{decided, Asks, IsPostedAt, OnlyRow};
 
+use crate::infos::reply_to;
 use blob_meta::{HeadMap, Metas, asked_volume, find, refusal_of};
 use out_of_memory::Memory;
 use page_disk::PageDisk;
@@ -153,12 +154,12 @@ fn answer_on_attributes<D: PageDisk>(running: &mut Running<D>, channel: u8)
     }
 }
 
-/// Answers the posted command of a channel by how much is free.
-fn answer_df<D: PageDisk>(running: &mut Running<D>, channel: u8)
+/// Answers the posted command of a channel that asks what there is.
+fn answer_question<D: PageDisk>(running: &mut Running<D>, channel: u8)
     requires order { InOrder D.PageDisk running.old }
     requires channel { channel < 16 }
     requires posted { IsPostedAt (view_of running.old) channel }
-    requires asks { Asks (view_of running.old) channel (λ command. command ≡ DfCommand) }
+    requires asks { Asks (view_of running.old) channel IsQuestion }
     requires running { IsRunning (state_of D.PageDisk (view_of running.old)) }
     requires faultless { IsFaultless running.old.sup }
     requires runs { running.old.stopped ≡ None }
@@ -168,8 +169,11 @@ fn answer_df<D: PageDisk>(running: &mut Running<D>, channel: u8)
         (decided (rows_of running.old.rows.items channel)) }
     ensures order { InOrder D.PageDisk running.new }
 {
-    let df = running.df();
-    log(running, channel, Reply::Df(df));
+    let command = first_of(&running.rows, channel);
+    match reply_to(running, command) {
+        Ok(reply) => log(running, channel, reply),
+        Err(Memory) => log(running, channel, Reply::Memory),
+    }
 }
 
 /// Answers the posted command of a channel in memory.
@@ -188,7 +192,7 @@ pub(crate) fn answer<D: PageDisk>(running: &mut Running<D>, channel: u8)
     ensures order { InOrder D.PageDisk running.new }
 {
     match first_of(&running.rows, channel) {
-        Command::Df => answer_df(running, channel),
+        Command::Info { .. } | Command::List | Command::Df => answer_question(running, channel),
         _ => answer_on_attributes(running, channel),
     }
 }

@@ -20,9 +20,7 @@ use crate::filling::fill_slots;
 use crate::preparing::{lack_beside_clusters, prepare};
 use blob_meta::{Job, Meta, Replacement};
 use page_disk::PageDisk;
-use running_store::{
-    Running, RunningJob, clear_places, effects_of, first_of, halt, keeps_live, log,
-};
+use running_store::{Running, RunningJob, clear_places, effects_of, first_of, halt, log};
 use volume_model::{Reply, SlotList};
 
 /// What the begin of a job comes to.
@@ -107,8 +105,8 @@ fn job_for<D: PageDisk>(
     ensures rows { running.new.rows ≡ running.old.rows }
     ensures order { InOrder D.PageDisk running.new }
 {
-    let live_kept = keeps_live(first_of(running.rows.as_slice(), channel));
-    let mut effects = effects_of(running, live_kept, head, &new)?;
+    let command = first_of(running.rows.as_slice(), channel);
+    let mut effects = effects_of(running, command, head, &new)?;
     let makes = effects.rooms.is_some();
     effects.claimed = fill_slots(running.alloc, &mut running.clusters, &mut new, zeros)?;
     if effects.claimed.len() < zeros.len() {

@@ -7,6 +7,7 @@ mod alone;
 mod answering;
 mod begin;
 mod filling;
+mod infos;
 mod inserting;
 mod job_turn;
 mod preparing;

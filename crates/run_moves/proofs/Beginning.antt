@@ -81,6 +81,7 @@ module _ (p : StoreState) where
   syncing_asks (c.Put volume key value) is = refl
   syncing_asks (c.Sync volume) is = refl
   syncing_asks (c.ReadOnly volume) is = refl
+  syncing_asks (c.Rename volume name) is = refl
   syncing_asks _ is = absurd is
 
   -- a job's command is one for the metadata thread

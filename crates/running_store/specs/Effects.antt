@@ -1,36 +1,20 @@
 -- What the commit of new metadata does besides giving it to its blob.
-use Rattle.std.specs.Prelude.{
-  ◌≡◌,
-  ℕ,
-  ◌||◌,
-  nat_lt,
-  if◌then◌else◌,
-  is_some,
-  Bool,
-  false,
-  true,
-  List,
-  [],
-  ◌∷◌,
-  drop,
-  length,
-}
+use Rattle.std.specs.Prelude.{◌≡◌, ℕ, ◌||◌, nat_lt, if◌then◌else◌, is_some, Bool, false, List, [], ◌∷◌, drop, length}
 use Rattle.std.specs.Prelude.{Option, None, Some}
-use Rattle.volume_model.specs.Xattrs.{Xattrs}
+use Rattle.std.specs.Option.{option_map}
+use Rattle.volume_model.specs.Xattrs.{Xattrs, name_key, with_nul, with_value}
 use Rattle.volume_model.specs.declared.command.Command.{Command}
 use Rattle.volume_model.specs.declared.command.Command.TheVariants as c
 use Rattle.blob_meta.specs.declared.meta.Meta.{Meta}
 use Rattle.blob_meta.specs.Faults.{clusters_of}
 use Rattle.running_store.specs.declared.effects.Effects.{Effects}
 
--- whether a command leaves the attributes of its volume as they are read
-abbrev pub is_live_kept : Command → Bool
-is_live_kept (c.Resize volume slots) = true
-is_live_kept _ = false
-
--- the attributes as they are read from a commit on: those that are written, if they aren't kept
-abbrev pub live_behind : Bool → Meta → Option Xattrs
-live_behind kept new = if kept then None else Some new.xattrs
+-- The attributes of a blob as they are read from the commit of a command on, if they are others than these: a resize
+-- leaves them, a rename gives them the name, and else they are those that are written.
+abbrev pub live_behind : Command → Option Xattrs → Meta → Option Xattrs
+live_behind (c.Resize volume slots) live new = None
+live_behind (c.Rename volume name) live new = option_map (λ xattrs. with_value xattrs name_key (with_nul name)) live
+live_behind _ live new = Some new.xattrs
 
 -- whether a blob that is there has fewer slots than before
 abbrev pub is_cut : Option Meta → Meta → Bool
@@ -42,11 +26,11 @@ abbrev pub cut_clusters : Option Meta → Meta → List ℕ
 cut_clusters None new = []
 cut_clusters (Some old) new = clusters_of (drop (length new.map) old.map)
 
--- They are those of new metadata in place of old, whose attributes are read from then on, or not, with these clusters
--- claimed for it.
-pub record AreEffects (old : Option Meta) (live_kept : Bool) (new : Meta) (clusters : List ℕ) (e : Effects) : Type 0
+-- They are those of new metadata in place of old, behind which these attributes are read, if they are others, with
+-- these clusters claimed for it.
+pub record AreEffects (old : Option Meta) (live : Option Xattrs) (new : Meta) (clusters : List ℕ) (e : Effects) : Type 0
   where
-    pub live : e.live ≡ live_behind live_kept new
+    pub live_is : e.live ≡ live
     pub renews : e.renews ≡ is_cut old new
     pub freed : e.freed ≡ cut_clusters old new
     pub claimed : e.claimed ≡ clusters

@@ -3,7 +3,9 @@
 ghost use Rattle.std.specs.Prelude.{◌≡◌, [], None, IfOk, IfSome, IfNone, IsSome, option_copied};
 ghost use Rattle.std.specs.FinMap as map;
 ghost use Rattle.blob_meta.specs.Faults.{clusters_of};
-ghost use Rattle.running_store.specs.Effects.{cut_clusters, is_cut, is_live_kept, AreEffects};
+ghost use Rattle.std.specs.Option.{option_map};
+ghost use Rattle.volume_model.specs.Xattrs.{name_key, with_nul as with_nul_said, with_value};
+ghost use Rattle.running_store.specs.Effects.{cut_clusters, is_cut, live_behind, AreEffects};
 ghost use Rattle.running_store.specs.Running.{HasRoom, HasRooms};
 
 use crate::job::Rooms;
@@ -11,7 +13,7 @@ use crate::running::Running;
 use blob_meta::Meta;
 use out_of_memory::Memory;
 use std::alloc::Global;
-use volume_model::{Command, PlaceList, TryCopy, XattrList};
+use volume_model::{Command, Name, PlaceList, TryCopy, XattrList, with_nul};
 
 /// What the commit of a job does besides giving a blob its new metadata and its chain.
 #[derive(Drop)]
@@ -28,22 +30,16 @@ pub struct Effects {
     pub rooms: Option<Rooms>,
 }
 
-/// Whether a command leaves the attributes of its volume as they are read.
-pub fn keeps_live(command: &Command) -> bool
-    ensures { result ≡ is_live_kept command.now }
-{
-    matches!(command, Command::Resize { .. })
-}
-
-/// What the commit of new metadata at a head does, whose attributes are read from then on, or not; no cluster is
-/// claimed so far. (Want of memory too if no generation is left for the blob.)
+/// What the commit of a command does, which gives the blob at a head new metadata; no cluster is claimed so far. (Want
+/// of memory too if no generation is left for the blob.)
 pub fn effects_of<D>(
     running: &Running<D>,
-    live_kept: bool,
+    command: &Command,
     head: u32,
     new: &Meta,
 ) -> Result<Effects, Memory>
-    ensures are { IfOk result (AreEffects (map.get running.now.metas head) live_kept new.now []) }
+    ensures are { IfOk result (AreEffects (map.get running.now.metas head)
+        (live_behind command.now (map.get running.now.live head) new.now) new.now []) }
     ensures there { IfOk result (λ e. IfNone e.rooms (IsSome (map.get running.now.chains head))) }
     ensures new { IfOk result (λ e. IfSome e.rooms (λ rooms. map.get running.now.chains head ≡ None)) }
     ensures room { IfOk result
@@ -53,11 +49,7 @@ pub fn effects_of<D>(
     if renews && !running.guards.can_renew() {
         return Err(Memory);
     }
-    let live = if live_kept {
-        None
-    } else {
-        Some(new.xattrs.try_copy(running.alloc)?)
-    };
+    let live = live_from(running, command, head, new)?;
     let rooms = rooms_for(running, head)?;
     Ok(Effects {
         live,
@@ -66,6 +58,39 @@ pub fn effects_of<D>(
         claimed: PlaceList::new(running.alloc),
         rooms,
     })
+}
+
+/// The attributes of the blob at a head as they are read from the commit of a command on, if they are others.
+fn live_from<D>(
+    running: &Running<D>,
+    command: &Command,
+    head: u32,
+    new: &Meta,
+) -> Result<Option<XattrList>, Memory>
+    ensures { IfOk result
+        (λ live. live ≡ live_behind command.now (map.get running.now.live head) new.now) }
+{
+    match command {
+        Command::Resize { .. } => Ok(None),
+        Command::Rename { name, .. } => renamed(running.alloc, running.live.get(head), name),
+        _ => Ok(Some(new.xattrs.try_copy(running.alloc)?)),
+    }
+}
+
+/// These attributes with the name.
+fn renamed(
+    alloc: Global,
+    live: Option<&XattrList>,
+    name: &Name,
+) -> Result<Option<XattrList>, Memory>
+    ensures { IfOk result (λ new. new
+        ≡ option_map (λ xattrs. with_value xattrs name_key (with_nul_said name.now)) (option_copied live.entry)) }
+{
+    let Some(live) = live else {
+        return Ok(None);
+    };
+    let value = with_nul(alloc, name.bytes())?;
+    Ok(Some(live.with_value(alloc, b"name", value.as_slice())?))
 }
 
 /// Whether slots are cut where a blob gets new metadata, and the clusters of these slots.

@@ -22,7 +22,7 @@ mod taking;
 
 pub use clearing::clear_places;
 pub use device::{flush_once, read_at, replace, write_last, write_one};
-pub use effects::{Effects, effects_of, keeps_live};
+pub use effects::{Effects, effects_of};
 pub use giving_back::{give_back, give_up, give_up_here};
 pub use job::{Planned, RunningJob, Serves, Work, Zeroed, waiting_for};
 pub use loaded::Loaded;

@@ -16,8 +16,8 @@ use Rattle.script_lang.specs.declared.grammar.Grammar.TheVariants.{Served}
 use Rattle.script_lang.specs.declared.verb.Verb.{Verb}
 use Rattle.script_lang.specs.declared.verb.Verb.TheVariants as v
 use Rattle.script_lang.specs.Commands.{commands_of, command_of, alone, plain, command_on_volume, on_slots, on_name}
-use Rattle.script_lang.specs.Commands.{on_key, on_value, creation, command_on, command_of_name, page_by_page, read_at, read_commands}
-use Rattle.script_lang.specs.Commands.{write_at, write_commands}
+use Rattle.script_lang.specs.Commands.{on_key, on_value, creation, command_on, command_of_name, page_by_page, read_at}
+use Rattle.script_lang.specs.Commands.{read_commands, write_at, write_commands}
 use Rattle.script_lang.specs.Forms.{says_values}
 use Rattle.script_lang.specs.Grammar.{serves}
 use Rattle.script_lang.specs.Lines.{says, says_verb, commands_said}
@@ -32,7 +32,7 @@ one_served_alone command on = All-cons IsServed command [] on (All-nil IsServed)
 
 plain_served : (verb : Verb) → serves Served verb ≡ true → IfOk (alone (plain verb)) AreServed
 plain_served v.Flush s = one_served_alone c.Flush tt
-plain_served v.List s = absurd (false≢true s)
+plain_served v.List s = one_served_alone c.List tt
 plain_served v.Df s = one_served_alone c.Df tt
 plain_served _ s = tt
 
@@ -43,7 +43,7 @@ volume_served v.Inflate volume s = absurd (false≢true s)
 volume_served v.Decouple volume s = absurd (false≢true s)
 volume_served v.Delete volume s = absurd (false≢true s)
 volume_served v.ReadOnly volume s = one_served_alone _ tt
-volume_served v.Info volume s = absurd (false≢true s)
+volume_served v.Info volume s = one_served_alone _ tt
 volume_served _ volume s = tt
 
 slots_served : (verb : Verb) (volume : VolumeRef) (slots : ℕ) → IfOk (alone (on_slots verb volume slots)) AreServed
@@ -54,7 +54,7 @@ name_served : (verb : Verb) (volume : VolumeRef) (name : List ℕ) → serves Se
     → IfOk (alone (on_name verb volume name)) AreServed
 name_served v.Snapshot volume name s = absurd (false≢true s)
 name_served v.Clone volume name s = one_served_alone _ tt
-name_served v.Rename volume name s = absurd (false≢true s)
+name_served v.Rename volume name s = one_served_alone _ tt
 name_served _ volume name s = tt
 
 key_served : (verb : Verb) (volume : VolumeRef) (key : List ℕ) → IfOk (alone (on_key verb volume key)) AreServed

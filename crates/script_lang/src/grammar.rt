@@ -33,6 +33,9 @@ impl Grammar {
                     | Verb::ReadOnly
                     | Verb::Resize
                     | Verb::Clone
+                    | Verb::Rename
+                    | Verb::Info
+                    | Verb::List
                     | Verb::Df
             ),
         }

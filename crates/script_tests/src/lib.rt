@@ -11,6 +11,8 @@ mod limit_tests;
 #[cfg(test)]
 mod plan_tests;
 #[cfg(test)]
+mod rename_plan_tests;
+#[cfg(test)]
 mod report_tests;
 #[cfg(test)]
 mod schedule_tests;

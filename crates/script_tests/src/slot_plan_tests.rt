@@ -51,7 +51,7 @@ fn blob(
 
 /// The super blob with a uuid at 2, a thin blob at 5, a read-only one at 6, a thick one at 7, and at 8 one whose parent
 /// at 6 has more slots.
-fn metas(alloc: Global) -> Result<Metas, Memory> {
+pub fn metas(alloc: Global) -> Result<Metas, Memory> {
     let mut metas = Metas::new(alloc);
     let mut super_blob = blob(alloc, 2, b"store", (1, 0), 0)?;
     super_blob.xattrs = xattrs(
@@ -105,7 +105,7 @@ fn push_numbers(text: &mut Vec<u8>, alloc: Global, numbers: &[Option<u32>]) -> R
 }
 
 /// A plan with its attributes, its slots, and those that get a cluster of zeros; or the reply.
-fn told_whole(alloc: Global, plan: &Result<Job, Reply>) -> Result<Vec<u8>, Fail> {
+pub fn told_whole(alloc: Global, plan: &Result<Job, Reply>) -> Result<Vec<u8>, Fail> {
     let mut text = told(alloc, plan)?;
     let Ok(job) = plan else {
         return Ok(text);

@@ -39,16 +39,17 @@ syncing_may : (f : Fixed) (v : Volumes) (command : Command) → IsSyncing comman
 syncing_may f v (c.Put volume key value) is asked = record { done = (asked, tt); lack = (asked, tt); fail = tt }
 syncing_may f v (c.Sync volume) is asked = record { done = (asked, tt); lack = (asked, tt); fail = tt }
 syncing_may f v (c.ReadOnly volume) is asked = record { done = (asked, tt); lack = (asked, tt); fail = tt }
+syncing_may f v (c.Rename volume name) is asked = record { done = (asked, tt); lack = (asked, tt); fail = tt }
 syncing_may f v _ is asked = absurd is
 
-pub asks_may : (p : StoreState) (command : Command) (head : ℕ) (new : _) → AsksFor p command head new
+pub asks_may : (p : StoreState) (command : Command) (head : ℕ) (new : _) (live : _) → AsksFor p command head new live
     → May (fixed_of p.super) (shown p) command
-asks_may p command head new a = syncing_may (fixed_of p.super) (shown p) command a.syncing a.asked
+asks_may p command head new live a = syncing_may (fixed_of p.super) (shown p) command a.syncing a.asked
 
 -- each verb that asks for a job may lack pages
 may_lack : (p : StoreState) (command : Command) (changes : Changes) (commit : Committing)
     → IsJobFor p command changes commit → Allowed (fixed_of p.super) (shown p) command r.NoPage
-may_lack p command changes commit (syncs x) = (asks_may p command x.head x.new x.asks).lack
+may_lack p command changes commit (syncs x) = (asks_may p command x.head x.new x.live x.asks).lack
 may_lack p command changes commit (creates x) =
     let lack : Allowed (fixed_of p.super) (shown p) (c.Create x.name x.slots x.thick x.uuid) r.NoPage =
     (ap (refusal (fixed_of p.super) (shown p)) (sym x.command_is) ∙ x.asked, tt) in

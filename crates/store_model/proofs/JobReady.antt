@@ -143,7 +143,7 @@ module _ (known : Known) where
   job_ready unmarked runs command changes commit (syncs y) claimed least one_each r laid =
       subst (λ l. IsReady p l command commit y.new r) (sym (none_long claimed one_each))
       (subst (λ (c : Committing). IsReady p [] command c y.new r) (sym y.commit_is)
-      (sync_ready known unmarked runs command y.head y.new y.asks r laid.head laid.new
+      (sync_ready known unmarked runs command y.head y.new y.live y.asks r laid.head laid.new
       (there_not_made runs claimed r _ laid y.asks.old (ap p.base laid.head ∙ y.asks.there))))
   job_ready unmarked runs command changes commit (creates y) claimed least one_each r laid =
       create_ready known unmarked runs command changes commit y claimed least one_each
@@ -206,7 +206,7 @@ module _ (known : Known) where
           → IsSteady p.super (head_of p command changes commit asked)
           (with_claimed p command changes commit asked claimed)
       by (syncs y) long low =
-          (sync_ready known unmarked runs command y.head y.new y.asks (bare_at y.head y.new false) refl refl
+          (sync_ready known unmarked runs command y.head y.new y.live y.asks (bare_at y.head y.new false) refl refl
           refl).steady
       by (creates y) long low = (create_ready known unmarked runs command changes commit y claimed least long low
           (bare_at y.head (with_claimed p command changes commit (creates y) claimed) true) refl refl).steady

@@ -19,26 +19,23 @@ use Rattle.store_model.proofs.Synced.{syncs_to, SyncsTo}
 use Rattle.store_model.proofs.Moved.{HaveLive, live_shown, NoOtherLive}
 
 module _ (p : StoreState) (have_live : HaveLive p) (no_live : NoOtherLive p)
-    (command : Command) (head : ℕ) (new : Meta) (asks : AsksFor p command head new) where
+    (command : Command) (head : ℕ) (new : Meta) (live : Xattrs) (asks : AsksFor p command head new live) where
   abbrev w : Volumes
   w = change (fixed_of p.super) (shown p) command r.Ok
 
   to : SyncsTo (shown p) w command head asks.after
   to = syncs_to (fixed_of p.super) (shown p) command head asks.after asks.syncing asks.found asks.step
 
-  synced_here : live_of w head ≡ Some new.xattrs
-  synced_here =
-      let l : asks.after.live ≡ asks.after.synced = ap (λ (x : Volume). x.live) to.is in
-      let n : new.xattrs ≡ asks.after.synced = ap (λ (m : Meta). m.xattrs) asks.new_is in
-      ap (λ o. option_map (λ (x : Volume). x.live) o) asks.step ∙ ap (λ (xs : Xattrs). Some xs) (l ∙ sym n)
+  synced_here : live_of w head ≡ Some live
+  synced_here = ap (λ o. option_map (λ (x : Volume). x.live) o) asks.step ∙ ap (λ (xs : Xattrs). Some xs)
+      (sym asks.live_is)
 
   synced_there : (k : ℕ) → k ≢ head → live_of w k ≡ p.live k
   synced_there k ne =
       ap (λ o. option_map (λ (x : Volume). x.live) o) (to.others k ne) ∙ live_shown p have_live no_live k
 
-  pub live_synced : (xs : Xattrs) → xs ≡ new.xattrs → with_entry p.live head xs ≡ live_of w
-  live_synced xs same = fun_ext (λ k. elim (cases_eq k head) [
-    | inl e ↦ given_here p.live head xs k e ∙ ap (λ (l : Xattrs). Some l) same ∙ sym synced_here
-        ∙ sym (ap (live_of w) e)
-    | inr ne ↦ given_elsewhere p.live head xs k ne ∙ sym (synced_there k ne)
+  pub live_synced : with_entry p.live head live ≡ live_of w
+  live_synced = fun_ext (λ k. elim (cases_eq k head) [
+    | inl e ↦ given_here p.live head live k e ∙ sym synced_here ∙ sym (ap (live_of w) e)
+    | inr ne ↦ given_elsewhere p.live head live k ne ∙ sym (synced_there k ne)
   ])

@@ -24,10 +24,6 @@ use Rattle.std.specs.Option.{option_map, option_map_or}
 use Rattle.std.proofs.Math.Path.{fun_ext}
 use Rattle.volume_model.specs.Volumes.{Volume, Volumes}
 use Rattle.volume_model.specs.Xattrs.{Xattrs}
-use Rattle.volume_model.specs.Refusals.{refusal}
-use Rattle.volume_model.specs.Steps.{change, named_head}
-use Rattle.volume_model.specs.declared.command.Command.{Command}
-use Rattle.volume_model.specs.declared.reply.Reply.TheVariants as r
 use Rattle.super_block.specs.declared.page.Super.{Super}
 use Rattle.blob_meta.specs.declared.meta.Meta.{Meta}
 use Rattle.blob_meta.specs.Resolving.{resolved}
@@ -40,28 +36,11 @@ use Rattle.page_disk.specs.Disk.{Image}
 use Rattle.super_block.specs.Numbers.{cluster_pages_of}
 use Rattle.md_chain.specs.Chain.{is_among}
 use Rattle.store_model.specs.Jobs.{AreZeroed, gained_by, inserted_by, JobStands, Puts, zeros_in}
-use Rattle.store_model.specs.Asking.{AsksFor}
 use Rattle.store_model.specs.Cases.{live_of}
 use Rattle.store_model.specs.RunInvariant.{CanBeWritten, RunsWell}
 use Rattle.store_model.proofs.Shows.{or_empty}
 use Rattle.store_model.proofs.Writable.{AllWritable, OnlyLive}
 use Rattle.store_model.specs.Phases.{Erases, Frees, has_commit, Marks, Phase, Replaces, Writes, Zeros}
-
-module _ (p q : StoreState) (super : q.super ≡ p.super) (base : q.base ≡ p.base) (same : shown q ≡ shown p) where
-  pub asks_same : (command : Command) (head : ℕ) (new : Meta) → AsksFor p command head new → AsksFor q command head new
-  asks_same command head new a = record {
-    syncing = a.syncing;
-    asked = ap (λ (x : Super). refusal (fixed_of x) (shown q) command) super
-        ∙ ap (λ (v : Volumes). refusal (fixed_of p.super) v command) same ∙ a.asked;
-    found = ap (λ (x : Super). named_head (fixed_of x) (shown q) command) super
-        ∙ ap (λ (v : Volumes). named_head (fixed_of p.super) v command) same ∙ a.found;
-    old = a.old;
-    there = ap (λ (m : Map Meta). m head) base ∙ a.there;
-    after = a.after;
-    step = ap (λ (x : Super). change (fixed_of x) (shown q) command r.Ok head) super
-        ∙ ap (λ (v : Volumes). change (fixed_of p.super) v command r.Ok head) same ∙ a.step;
-    new_is = a.new_is;
-  }
 
 -- what is read of claimed clusters is read still
 pub zeroed_still : (s : Super) (claimed zeros : List ℕ) (image other : Image)

@@ -1,5 +1,6 @@
 -- The metadata with one blob's attributes replaced: it is steady still, it is lawful, and has the same clusters.
-use Rattle.std.proofs.Common.{◌≡◌, ℕ, length, Option, Some, None, refl, sym, ◌∙◌, ap, subst, inl, inr}
+use Rattle.std.proofs.Common.{◌≡◌, ℕ, ◌+◌, ◌≤◌, [], ◌∷◌, length, length-append, Option, Some, None, refl, sym, ◌∙◌, ap}
+use Rattle.std.proofs.Common.{arith, subst, inl, inr}
 use Rattle.std.specs.List.{range_with_len, sum_by}
 use Rattle.std.specs.Prelude.{codes, true}
 use Rattle.std.specs.Option.{option_map, option_map_or, option_and_then}
@@ -7,7 +8,8 @@ use Rattle.std.proofs.lemmas.Bool.{cases_eq}
 use Rattle.std.proofs.Math.Path.{fun_ext}
 use Rattle.super_block.specs.declared.page.Super.{Super}
 use Rattle.volume_model.specs.Volumes.{Fixed, Volume, Volumes}
-use Rattle.volume_model.specs.Xattrs.{Xattrs, value_of, with_value}
+use Rattle.volume_model.specs.Names.{IsName}
+use Rattle.volume_model.specs.Xattrs.{Text, Xattrs, name_key, value_of, with_nul, with_value}
 use Rattle.volume_model.specs.Refusals.{refusal}
 use Rattle.volume_model.specs.Steps.{change, named_head}
 use Rattle.volume_model.specs.declared.command.Command.{Command}
@@ -24,35 +26,53 @@ use Rattle.store_model.specs.RunInvariant.{CanBeWritten, IsSteady, AreSteady}
 use Rattle.store_model.proofs.FlagsAfter.{clear_after, faultless_after, read_only_stays}
 use Rattle.store_model.proofs.WithEntry.{given_all, given_here, given_elsewhere}
 use Rattle.store_model.proofs.LawfulGiven.{TakesNone}
-use Rattle.store_model.proofs.Synced.{edited_here}
-use Rattle.store_model.proofs.Writable.{AllWritable, written_with, put_within}
+use Rattle.store_model.proofs.Synced.{edited_from, edited_here}
+use Rattle.store_model.proofs.Writable.{written_with, put_within}
 
 -- ---- what a command syncs can be written
 
-after_edit : (edit : Volume → Volume) (o : Option Volume) (after : Volume) → option_map edit o ≡ Some after
-    → (x : Volume) × (o ≡ Some x) × (after ≡ edit x)
-after_edit edit None after is = absurd (cc is)
-after_edit edit (Some x) after is = (x, refl, cc is)
+-- a name fits
+name_fits : (name : Text) → IsName name → length name_key + length (with_nul name) ≤ 4063
+name_fits name named =
+    let long = length-append name (0 ∷ []) in
+    let most = named.most in
+    omega (arith, long, most)
 
-pub synced_written : (f : Fixed) (v : Volumes) (command : Command) (head : ℕ) (after : Volume) → AllWritable v
-    → IsSyncing command → refusal f v command ≡ None → named_head f v command ≡ Some head
-    → change f v command r.Ok head ≡ Some after → CanBeWritten after.synced
+-- the attributes of a volume, as they are read and as they are synced
+pub record AreWritable (x : Volume) : Type 0 where
+  pub live : CanBeWritten x.live
+  pub synced : CanBeWritten x.synced
+
+pub synced_written : (f : Fixed) (v : Volumes) (command : Command) (head : ℕ) (after : Volume)
+    → ((x : Volume) → v head ≡ Some x → AreWritable x) → IsSyncing command → refusal f v command ≡ None
+    → named_head f v command ≡ Some head → change f v command r.Ok head ≡ Some after → AreWritable after
 synced_written f v (c.Put volume key value) head after writable is asked found step =
     let edit = λ (x : Volume). record x { live = with_value x.live key value; synced = with_value x.live key value } in
-    let from = after_edit edit (v head) after (sym (edited_here f v _ edit head found) ∙ step) in
+    let from = edited_from edit (v head) after (sym (edited_here f v _ edit head found) ∙ step) in
     let made : CanBeWritten (with_value from.0.live key value) = written_with from.0.live key value
-    (put_within f v volume head from.0 found from.1 key value asked) (writable head from.0 from.1) in
-    subst (λ (x : Volume). CanBeWritten x.synced) (sym from.2) made
+    (put_within f v volume head from.0 found from.1 key value asked) (writable from.0 from.1).live in
+    subst AreWritable (sym from.2) (record { live = made; synced = made })
 synced_written f v (c.Sync volume) head after writable is asked found step =
     let edit = λ (x : Volume). record x { synced = x.live } in
-    let from = after_edit edit (v head) after (sym (edited_here f v _ edit head found) ∙ step) in
-    let made : CanBeWritten from.0.live = writable head from.0 from.1 in
-    subst (λ (x : Volume). CanBeWritten x.synced) (sym from.2) made
+    let from = edited_from edit (v head) after (sym (edited_here f v _ edit head found) ∙ step) in
+    let can = (writable from.0 from.1).live in
+    subst AreWritable (sym from.2) (record { live = can; synced = can })
 synced_written f v (c.ReadOnly volume) head after writable is asked found step =
     let edit = λ (x : Volume). record x { synced = x.live; read_only = true } in
-    let from = after_edit edit (v head) after (sym (edited_here f v _ edit head found) ∙ step) in
-    let made : CanBeWritten from.0.live = writable head from.0 from.1 in
-    subst (λ (x : Volume). CanBeWritten x.synced) (sym from.2) made
+    let from = edited_from edit (v head) after (sym (edited_here f v _ edit head found) ∙ step) in
+    let can = (writable from.0 from.1).live in
+    subst AreWritable (sym from.2) (record { live = can; synced = can })
+synced_written f v (c.Rename volume name) head after writable is asked found step =
+    let edit = λ (x : Volume). record x {
+      live = with_value x.live name_key (with_nul name);
+      synced = with_value x.synced name_key (with_nul name);
+    } in
+    let from = edited_from edit (v head) after (sym (edited_here f v _ edit head found) ∙ step) in
+    let can = writable from.0 from.1 in
+    subst AreWritable (sym from.2) (record {
+      live = written_with from.0.live name_key (with_nul name) (name_fits name is) can.live;
+      synced = written_with from.0.synced name_key (with_nul name) (name_fits name is) can.synced;
+    })
 synced_written f v _ head after writable is asked found step = absurd is
 
 pub new_steady : (s : Super) (command : Command) (head : ℕ) (old new : Meta) (xattrs : Xattrs) → IsSteady s head old

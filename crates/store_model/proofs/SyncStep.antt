@@ -8,7 +8,7 @@ use Rattle.store_model.specs.Jobs.{IsStep, ReadsZeros, shown_of}
 use Rattle.store_model.specs.Asking.{AsksFor, flags_after, IsSyncing}
 use Rattle.store_model.specs.Rows.{IsForMetadata}
 use Rattle.store_model.proofs.Known.{Known}
-use Rattle.store_model.proofs.Moved.{all_writable, live_writable}
+use Rattle.store_model.proofs.Moved.{live_writable}
 use Rattle.store_model.specs.Phases.{Replacing, replaced}
 use Rattle.store_model.specs.Phases.{Committing}
 use Rattle.volume_model.specs.declared.reply.Reply.TheVariants as r_
@@ -22,7 +22,11 @@ use Rattle.store_model.proofs.StateKept.{May, asks_may}
 use Rattle.store_model.specs.Maps.{Metas, with_entry}
 use Rattle.volume_model.specs.Volumes.{Volumes, Volume}
 use Rattle.store_model.proofs.Meanwhile.{asks_reading, reading}
-use Rattle.store_model.proofs.Replaced.{new_steady, slots_same, synced_written, takes_none}
+use Rattle.store_model.proofs.Replaced.{new_steady, slots_same, synced_written, takes_none, AreWritable}
+use Rattle.store_model.proofs.Shows.{or_empty}
+use Rattle.store_model.proofs.ShowsGiven.{by, shown_is}
+use Rattle.std.specs.Option.{option_map}
+use Rattle.volume_model.specs.Xattrs.{Xattrs}
 use Rattle.volume_model.specs.Steps.{change}
 use Rattle.store_model.specs.Shown.{fixed_of}
 use Rattle.store_model.proofs.OneReplacement.{
@@ -41,32 +45,49 @@ use Rattle.store_model.proofs.LiveSynced.{live_synced}
 use Rattle.volume_model.specs.declared.command.Command.{Command}
 use Rattle.volume_model.specs.declared.command.Command.TheVariants as c
 
--- what the commit of such metadata makes
-abbrev pub sync_commit : Meta → Committing
-sync_commit new = record { reply = r_.Ok; live = Some new.xattrs; renews = [] }
+-- what the commit of such metadata makes, behind which these attributes are read
+abbrev pub sync_commit : Xattrs → Committing
+sync_commit live = record { reply = r_.Ok; live = Some live; renews = [] }
 
 syncs_metadata : (command : Command) → IsSyncing command → IsForMetadata command
 syncs_metadata (c.Put volume key value) is = tt
 syncs_metadata (c.Sync volume) is = tt
 syncs_metadata (c.ReadOnly volume) is = tt
+syncs_metadata (c.Rename volume name) is = tt
 syncs_metadata _ is = absurd is
 
 module _ (known : Known) (unmarked : HasNoMarks known.p.base) where
   open known use {first, p, facts}
 
-  module _ (runs : p.stopped ≡ None) (command : Command) (head : ℕ) (new : Meta) (asks : AsksFor p command head new)
-      (r : Replacing) (head_is : r.head ≡ head) (new_is : r.new ≡ Some new) (there : r.makes ≡ false) where
+  module _ (runs : p.stopped ≡ None) (command : Command) (head : ℕ) (new : Meta) (live : Xattrs)
+      (asks : AsksFor p command head new live) (r : Replacing) (head_is : r.head ≡ head) (new_is : r.new ≡ Some new)
+      (there : r.makes ≡ false) where
     well : RunsWell first p
     well = facts.well runs
 
     abbrev commit : Committing
-    commit = sync_commit new
+    commit = sync_commit live
+
+    -- the attributes of the blob, whatever a device holds
+    were_writable : (image : Image) (x : Volume) → shown (reading p image) head ≡ Some x → AreWritable x
+    were_writable image x is =
+        let now = reading p image in
+        let was : Volume = by now (base_steady known unmarked) p.base (or_empty (p.live head)) head asks.old in
+        let same : was ≡ x =
+        let both = sym (shown_is now (base_steady known unmarked) head
+        ∙ ap (λ o. option_map (by now (base_steady known unmarked) p.base (or_empty (p.live head)) head) o) asks.there)
+        ∙ is in cc both in
+        record {
+          live = live_writable now well.live head x is;
+          synced = subst (λ (y : Volume). CanBeWritten y.synced) same
+              (base_steady known unmarked head asks.old asks.there).stored.xattrs;
+        }
 
     one_steady : IsSteady p.super head new
     one_steady = new_steady p.super command head asks.old new asks.after.synced
         (base_steady known unmarked head asks.old asks.there)
         asks.new_is (synced_written (fixed_of p.super) (shown p) command head asks.after
-        (all_writable first p well) asks.syncing asks.asked asks.found asks.step)
+        (were_writable p.device.reads) asks.syncing asks.asked asks.found asks.step).synced
 
     base_now : replaced p.base r ≡ with_entry p.base head new
     base_now = base_is known unmarked head new one_steady r head_is new_is
@@ -85,28 +106,25 @@ module _ (known : Known) (unmarked : HasNoMarks known.p.base) where
       abbrev w : Volumes
       w = change (fixed_of p.super) (shown here) command r_.Ok
 
-      asks_here : AsksFor here command head new
-      asks_here = asks_reading p image command head new asks
+      asks_here : AsksFor here command head new live
+      asks_here = asks_reading p image command head new live asks
 
       may : May (fixed_of p.super) (shown here) command
-      may = asks_may here command head new asks_here
+      may = asks_may here command head new live asks_here
 
       shows_new : shown_of p.super (replaced p.base r) (live_of w) image ≡ w
       shows_new =
           ap (λ (m : Metas). shown_of p.super m (live_of w) image) base_now
-          ∙ shown_synced p.super here refl (base_steady known unmarked) command head new asks_here
+          ∙ shown_synced p.super here refl (base_steady known unmarked) command head new live asks_here
           (all_steady known unmarked head new one_steady)
 
       writable_new : AllWritable w
       writable_new h v is = elim (cases_eq h head) [
         | inl e ↦
-            let to = syncs_to (fixed_of p.super)
-            (shown here) command head asks_here.after asks_here.syncing asks_here.found asks_here.step in
             let same : asks_here.after ≡ v = let both = sym asks_here.step ∙ ap w (sym e) ∙ is in cc both in
             let written = synced_written (fixed_of p.super) (shown here) command head asks_here.after
-            (live_writable here well.live) asks_here.syncing asks_here.asked asks_here.found asks_here.step in
-            let l : asks_here.after.live ≡ asks_here.after.synced = ap (λ (x : Volume). x.live) to.is in
-            subst (λ (x : Volume). CanBeWritten x.live) same (subst CanBeWritten (sym l) written)
+            (were_writable image) asks_here.syncing asks_here.asked asks_here.found asks_here.step in
+            subst (λ (x : Volume). CanBeWritten x.live) same written.live
         | inr ne ↦
             let to = syncs_to (fixed_of p.super)
             (shown here) command head asks_here.after asks_here.syncing asks_here.found asks_here.step in
@@ -120,8 +138,8 @@ module _ (known : Known) (unmarked : HasNoMarks known.p.base) where
       allowed = λ image. (may image).done;
       may_fail = λ image. (may image).fail;
       shows = λ image holds. shows_new image;
-      lives = λ image. sym (live_synced (here image) well.live well.no_live command head new
-          (asks_here image) new.xattrs refl) ∙ ap (λ h. with_entry p.live h new.xattrs) (sym head_is);
+      lives = λ image. sym (live_synced (here image) well.live well.no_live command head new live (asks_here image))
+          ∙ ap (λ h. with_entry p.live h live) (sym head_is);
       writable = writable_new;
       renews = tt;
       numbers = λ makes. absurd (false≢true (sym there ∙ makes));

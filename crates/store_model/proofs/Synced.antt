@@ -9,7 +9,7 @@ use Rattle.page_disk.specs.Disk.{Image}
 use Rattle.super_block.specs.declared.page.Super.{Super}
 use Rattle.super_block.specs.Numbers.{cluster_pages_of}
 use Rattle.volume_model.specs.Volumes.{Fixed, Volume, Volumes}
-use Rattle.volume_model.specs.Xattrs.{Xattrs, with_value}
+use Rattle.volume_model.specs.Xattrs.{Xattrs, name_key, with_nul, with_value}
 use Rattle.volume_model.specs.Steps.{change, edited_at, named_head}
 use Rattle.volume_model.specs.declared.command.Command.{Command}
 use Rattle.volume_model.specs.declared.command.Command.TheVariants as c
@@ -44,38 +44,39 @@ pub record SyncsTo (v w : Volumes) (command : Command) (head : ℕ) (after : Vol
   pub before : Volume
   pub was : v head ≡ Some before
   pub is : after ≡ record before {
-    live = after.synced;
+    live = after.live;
     synced = after.synced;
     read_only = read_only_after command before.read_only;
   }
   pub others : (k : ℕ) → k ≢ head → w k ≡ v k
 
-edited_from : (edit : Volume → Volume) (o : Option Volume) (after : Volume) → option_map edit o ≡ Some after
+-- what a volume was before its edit
+pub edited_from : (edit : Volume → Volume) (o : Option Volume) (after : Volume) → option_map edit o ≡ Some after
     → (before : Volume) × (o ≡ Some before) × (after ≡ edit before)
 edited_from edit None after is = absurd (cc is)
 edited_from edit (Some x) after is = (x, refl, cc is)
 
--- the edit of a volume that syncs these attributes
-abbrev syncing_edit : Command → (Volume → Xattrs) → Volume → Volume
-syncing_edit command new x =
-    record x { live = new x; synced = new x; read_only = read_only_after command x.read_only }
+-- the edit of a volume that makes these attributes live, and syncs these
+abbrev syncing_edit : Command → (Volume → Xattrs) → (Volume → Xattrs) → Volume → Volume
+syncing_edit command live synced x =
+    record x { live = live x; synced = synced x; read_only = read_only_after command x.read_only }
 
-syncs_by : (f : Fixed) (v w : Volumes) (command : Command) (o : Option ℕ) (new : Volume → Xattrs) (head : ℕ)
-    (after : Volume) → o ≡ Some head → w ≡ edited_at f v o (syncing_edit command new)
+syncs_by : (f : Fixed) (v w : Volumes) (command : Command) (o : Option ℕ) (live synced : Volume → Xattrs) (head : ℕ)
+    (after : Volume) → o ≡ Some head → w ≡ edited_at f v o (syncing_edit command live synced)
     → w head ≡ Some after → SyncsTo v w command head after
-syncs_by f v w command o new head after found w_is step =
-    let edit = syncing_edit command new in
+syncs_by f v w command o live synced head after found w_is step =
+    let edit = syncing_edit command live synced in
     let from = edited_from edit (v head) after
     (sym (edited_here f v o edit head found) ∙ sym (ap (λ (u : Volumes). u head) w_is) ∙ step) in
     record {
       before = from.0;
       was = from.1;
       is = from.2
-          ∙ ap (λ (l : Xattrs). record from.0 {
-            live = l;
-            synced = l;
+          ∙ ap (λ (x : Volume). record from.0 {
+            live = x.live;
+            synced = x.synced;
             read_only = read_only_after command from.0.read_only;
-          }) (sym (ap (λ (x : Volume). x.synced) from.2));
+          }) (sym from.2);
       others = λ k ne. ap (λ (u : Volumes). u k) w_is ∙ edited_there f v o edit head found k ne;
     }
 
@@ -83,19 +84,24 @@ pub syncs_to : (f : Fixed) (v : Volumes) (command : Command) (head : ℕ) (after
     → named_head f v command ≡ Some head → change f v command r.Ok head ≡ Some after
     → SyncsTo v (change f v command r.Ok) command head after
 syncs_to f v (c.Put volume key value) head after is found step =
-    syncs_by f v _ (c.Put volume key value) _ (λ x. with_value x.live key value) head after found refl step
+    syncs_by f v _ (c.Put volume key value) _ (λ x. with_value x.live key value) (λ x. with_value x.live key value)
+    head after found refl step
 syncs_to f v (c.Sync volume) head after is found step =
-    syncs_by f v _ (c.Sync volume) _ (λ x. x.live) head after found (fun_ext (λ k. same k)) step
+    syncs_by f v _ (c.Sync volume) _ (λ x. x.live) (λ x. x.live) head after found (fun_ext (λ k. same k)) step
   where
     same : (k : ℕ) → change f v (c.Sync volume) r.Ok k
-        ≡ edited_at f v (named_head f v (c.Sync volume)) (syncing_edit (c.Sync volume) (λ x. x.live)) k
+        ≡ edited_at f v (named_head f v (c.Sync volume)) (syncing_edit (c.Sync volume) (λ x. x.live) (λ x. x.live)) k
     same k = refl
 syncs_to f v (c.ReadOnly volume) head after is found step =
-    syncs_by f v _ (c.ReadOnly volume) _ (λ x. x.live) head after found (fun_ext (λ k. same k)) step
+    syncs_by f v _ (c.ReadOnly volume) _ (λ x. x.live) (λ x. x.live) head after found (fun_ext (λ k. same k)) step
   where
     same : (k : ℕ) → change f v (c.ReadOnly volume) r.Ok k
-        ≡ edited_at f v (named_head f v (c.ReadOnly volume)) (syncing_edit (c.ReadOnly volume) (λ x. x.live)) k
+        ≡ edited_at f v (named_head f v (c.ReadOnly volume))
+        (syncing_edit (c.ReadOnly volume) (λ x. x.live) (λ x. x.live)) k
     same k = refl
+syncs_to f v (c.Rename volume name) head after is found step =
+    syncs_by f v _ (c.Rename volume name) _ (λ x. with_value x.live name_key (with_nul name))
+    (λ x. with_value x.synced name_key (with_nul name)) head after found refl step
 syncs_to f v _ head after is found step = absurd is
 
 -- of what a blob that syncs shows, its attributes and its flags alone are others
@@ -138,7 +144,7 @@ alike_synced metas head old new xattrs flags there is h = elim (cases_eq h head)
     itself (Some m) = (refl, refl)
 
 module _ (s : Super) (p : StoreState) (super : p.super ≡ s) (steady : AreSteady s p.base) (command : Command)
-    (head : ℕ) (new : Meta) (asks : AsksFor p command head new)
+    (head : ℕ) (new : Meta) (live : Xattrs) (asks : AsksFor p command head new live)
     (new_steady : AreSteady s (with_entry p.base head new)) where
   abbrev k : ℕ
   k = cluster_pages_of s
@@ -175,38 +181,30 @@ module _ (s : Super) (p : StoreState) (super : p.super ≡ s) (steady : AreStead
       sym to.was ∙ shown_is head
       ∙ ap (λ o. option_map (by p.base (or_empty (p.live head)) head) o) asks.there in
       let x : to.before ≡ was_shown = let e = was in cc e in
-      let l : asks.after.live ≡ asks.after.synced = ap (λ (y : Volume). y.live) to.is in
       ap (λ (m : Meta). Some (by (with_entry p.base head new) asks.after.live head m)) asks.new_is
       ∙ ap (λ (v : Volume). Some v) (volume_alike k p.device.reads p.base (with_entry p.base head new) alike s.md_len
       asks.after.live (or_empty (p.live head)) head asks.old asks.after.synced flags)
-      ∙ ap (λ (xs : Xattrs). Some (record was_shown {
-        live = xs;
-        synced = asks.after.synced;
-        thin = is_thin flags;
-        read_only = is_read_only flags;
-        locked = is_locked flags;
-      })) l
       ∙ ap (λ (b : Bool). Some (record was_shown {
-        live = asks.after.synced;
+        live = asks.after.live;
         synced = asks.after.synced;
         thin = b;
         read_only = is_read_only flags;
         locked = is_locked flags;
       })) (thin_after command asks.old.flags)
       ∙ ap (λ (b : Bool). Some (record was_shown {
-        live = asks.after.synced;
+        live = asks.after.live;
         synced = asks.after.synced;
         read_only = b;
         locked = is_locked flags;
       })) (read_only_flags command asks.old.flags)
       ∙ ap (λ (b : Bool). Some (record was_shown {
-        live = asks.after.synced;
+        live = asks.after.live;
         synced = asks.after.synced;
         read_only = read_only_after command was_shown.read_only;
         locked = b;
       })) (locked_after command asks.old.flags)
       ∙ ap (λ (y : Volume). Some (record y {
-        live = asks.after.synced;
+        live = asks.after.live;
         synced = asks.after.synced;
         read_only = read_only_after command y.read_only;
       })) (sym x)

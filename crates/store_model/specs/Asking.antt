@@ -2,7 +2,7 @@
 use Rattle.std.specs.Prelude.{◌≡◌, ℕ, nat_lt, if◌then◌else◌, Bool, [], ◌∷◌, List, length, Option, Some, None}
 use Rattle.volume_model.specs.Names.{IsName}
 use Rattle.volume_model.specs.Volumes.{two_xattrs, Volume}
-use Rattle.volume_model.specs.Xattrs.{Text}
+use Rattle.volume_model.specs.Xattrs.{Text, Xattrs}
 use Rattle.volume_model.specs.Steps.{change, named_head}
 use Rattle.volume_model.specs.Refusals.{refusal}
 use Rattle.volume_model.specs.declared.command.Command.{Command}
@@ -21,11 +21,12 @@ use Rattle.store_model.specs.StoreState.{StoreState, shown}
 
 -- ---- verbs that sync
 
--- the verbs that replace a blob's metadata so that its attributes are synced
+-- the verbs that replace a blob's metadata so that its attributes are synced: all of them, or its new name alone
 abbrev pub IsSyncing : Command → Type 0
 IsSyncing (c.Put volume key value) = Unit {0}
 IsSyncing (c.Sync volume) = Unit {0}
 IsSyncing (c.ReadOnly volume) = Unit {0}
+IsSyncing (c.Rename volume name) = IsName name
 IsSyncing _ = ⊥
 
 -- the flags behind them: one of these verbs makes the volume read-only
@@ -33,9 +34,10 @@ abbrev pub flags_after : Command → Flags → Flags
 flags_after (c.ReadOnly volume) flags = read_only flags
 flags_after _ flags = flags
 
--- A command that nothing refuses, with the blob that it means and the metadata that it makes: as it was, but for its
--- flags where the command changes them, and that the attributes are those which the step makes synced.
-pub record AsksFor (p : StoreState) (command : Command) (head : ℕ) (new : Meta) : Type 0 where
+-- A command that nothing refuses, with the blob that it means, the metadata that it makes, and the attributes that are
+-- read from then on. The metadata is as it was, but for its flags where the command changes them, and that its
+-- attributes are those which the step makes synced; those which are read are the step's live ones.
+pub record AsksFor (p : StoreState) (command : Command) (head : ℕ) (new : Meta) (live : Xattrs) : Type 0 where
   pub syncing : IsSyncing command
   pub asked : refusal (fixed_of p.super) (shown p) command ≡ None
   pub found : named_head (fixed_of p.super) (shown p) command ≡ Some head
@@ -44,15 +46,17 @@ pub record AsksFor (p : StoreState) (command : Command) (head : ℕ) (new : Meta
   pub after : Volume
   pub step : change (fixed_of p.super) (shown p) command r.Ok head ≡ Some after
   pub new_is : new ≡ record old { xattrs = after.synced; flags = flags_after command old.flags }
+  pub live_is : live ≡ after.live
 
--- A verb that syncs has one replacement, with which the blob's attributes are read as they are synced, and renews no
--- generation.
+-- A verb that syncs has one replacement, behind which the blob's attributes are read as the step makes them, and renews
+-- no generation.
 pub record IsSyncJob (p : StoreState) (command : Command) (changes : Changes) (commit : Committing) : Type 0 where
   pub head : ℕ
   pub new : Meta
+  pub live : Xattrs
   pub is : changes ≡ job_of_one head new
-  pub asks : AsksFor p command head new
-  pub commit_is : commit ≡ record { reply = r.Ok; live = Some new.xattrs; renews = [] }
+  pub asks : AsksFor p command head new live
+  pub commit_is : commit ≡ record { reply = r.Ok; live = Some live; renews = [] }
 
 -- ---- a new blob
 

@@ -13,7 +13,9 @@ use Rattle.store_model.specs.Places.{all_set, AreDistinct}
 use Rattle.store_model.specs.Rows.{Row}
 use Rattle.store_model.proofs.Sets.{are_distinct}
 use Rattle.metadata_turns.specs.Begins.{IsPrepared}
-use Rattle.running_store.specs.Effects.{cut_clusters, is_live_kept, AreEffects}
+use Rattle.std.specs.FinMap as map
+use Rattle.volume_model.specs.declared.command.Command.{Command}
+use Rattle.running_store.specs.Effects.{cut_clusters, live_behind, AreEffects}
 use Rattle.running_store.specs.Jobs.{job_seen}
 use Rattle.running_store.specs.Running.{view_of}
 use Rattle.running_store.specs.StoreView.{rows_of, state_of}
@@ -143,23 +145,25 @@ returns-in-Ok-clause-begins g c =
     let as_many = c.if-len.false in
     let all : length c.args.zeros.now ≤ length c.in_ok-effects-2.field-0 = omega (arith, claimed, wanted, as_many) in
     let waits = c.requires.posted.waits in
-    let kept : c.keeps_live-live_kept.result ≡ is_live_kept waits.command =
-    c.keeps_live-live_kept.ensures ∙ ap is_live_kept
-    (c.first_of.ensures waits.command waits.rest
+    let asked : c.first_of-command.result.now ≡ waits.command =
+    c.first_of-command.ensures waits.command waits.rest
     (ap (λ (rows : List Row). (rows_of rows c.args.channel).left) c.as_slice.ensures.value
-    ∙ ap (λ (r : Row). r.left) waits.row)) in
+    ∙ ap (λ (r : Row). r.left) waits.row) in
     let prepared = subst (λ (b : Bool). IsPrepared c.args.running.now.chains c.args.head c.fill_slots.new.new b
     c.args.running.now.pages.bits c.prepare.new.pages.bits c.in-Ok.prepared) c.is_some-makes.ensures
     c.in-Ok.ensures.prepared in
-    let are = subst (λ (m : Metas). AreEffects (m c.args.head) c.keeps_live-live_kept.result c.args.new []
+    let live = λ (k : Command). live_behind k (map.get p.live c.args.head) c.args.new in
+    let are = subst (λ (m : Metas). AreEffects (m c.args.head) (live waits.command) c.args.new []
     c.in_ok-effects.effects)
-    (sym (unmarked_base p.metas p.marked c.requires.order.resolves c.requires.unmarked)) c.in_ok-effects.ensures.are in
+    (sym (unmarked_base p.metas p.marked c.requires.order.resolves c.requires.unmarked))
+    (subst (λ (k : Command). AreEffects (map.get p.metas c.args.head) (live k) c.args.new [] c.in_ok-effects.effects)
+    asked c.in_ok-effects.ensures.are) in
     job_begins g.D.PageDisk (view_of c.args.running.now) c.args.channel c.requires.posted c.requires.running
     c.requires.unmarked c.requires.runs c.args.head c.args.new c.args.zeros.now c.requires.asks
     c.in_ok-effects-2.field-0 c.in_ok-effects-2.ensures.claimed
     c.fill_slots.new.new c.in_ok-effects-2.ensures.filled
     (ap (λ o. option_map job_seen o) c.requires.no_job) low all c.in_ok-effects.effects
-    c.keeps_live-live_kept.result kept are c.in_ok-effects.ensures.there
+    are c.in_ok-effects.ensures.there
     c.in_ok-effects.ensures.new c.prepare.new.pages.bits c.fill_slots.new.clusters.bits
     c.in_ok-effects-2.ensures.bits c.in-Ok.prepared prepared c.cluster_pages-cluster_pages.result
     c.cluster_pages-cluster_pages.ensures.value c.job.result c.job.ensures.seen
