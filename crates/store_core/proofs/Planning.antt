@@ -111,65 +111,66 @@ module _ (p : StoreState) (running : IsRunning p) (runs : p.stopped ≡ None) (m
   }
 
 -- a rename of a blob that is there, whatever its live attributes are
-asks_rename : (p : StoreState) (metas : map.FinMap nat_cmp Meta) → ShowsMetas (fixed_of p.super) p.super metas (shown p)
-    → (volume : VolumeRef) (name : Text) (head : ℕ) (old : Meta) (job : Job) → p.base head ≡ Some old
-    → resolved p.base head ≡ Some old → IsName name → IsHeadMeant metas p.super volume (Some head)
-    → IsFirstRefusal metas p.super (c.Rename volume name) None
-    → job ≡ job_of_one head (record old { xattrs = with_value old.xattrs name_key (with_nul name) })
-    → IsJobOf p (c.Rename volume name) job
-asks_rename p metas shows volume name head old job there resolves named meant unrefused is =
-    record {
-      head = head;
-      new = record old { xattrs = with_value old.xattrs name_key (with_nul name) };
-      zeros = [];
-      is = is;
-      asks =
-          record {
-            commit = record { reply = r.Ok; live = Some (edit here).live; renews = [] };
-            asked =
-                syncs
-                (record {
-                  head = head;
-                  new = record old { xattrs = with_value old.xattrs name_key (with_nul name) };
-                  live = (edit here).live;
-                  is = refl;
-                  asks =
-                      record {
-                        syncing = named;
-                        asked = unrefused f v shows;
-                        found = meant f v shows;
-                        old = old;
-                        there = there;
-                        after = edit here;
-                        step = edited_here f v (head_of f v volume) edit head (meant f v shows)
-                            ∙ ap (option_map edit) here_is;
-                        new_is = refl;
-                        live_is = refl;
-                      };
-                  commit_is = refl;
-                });
-            next = λ none. absurd (let bad = sym none ∙ there in cc bad);
-          };
-    }
-  where
-    abbrev f : Fixed
-    f = fixed_of p.super
+module _ (p : StoreState) (metas : map.FinMap nat_cmp Meta)
+    (shows : ShowsMetas (fixed_of p.super) p.super metas (shown p)) (volume : VolumeRef)
+    (name : Text) (head : ℕ) (old : Meta) (there : p.base head ≡ Some old)
+    (resolves : resolved p.base head ≡ Some old) (named : IsName name)
+    (meant : IsHeadMeant metas p.super volume (Some head))
+    (unrefused : IsFirstRefusal metas p.super (c.Rename volume name) None) where
+  abbrev edit : Volume → Volume
+  edit x = record x {
+    live = with_value x.live name_key (with_nul name);
+    synced = with_value x.synced name_key (with_nul name);
+  }
 
-    abbrev v : Volumes
-    v = shown p
+  -- the volume
+  abbrev named_here : Volume
+  named_here = volume_of (fixed_of p.super).cluster_pages p.device.reads (resolved p.base) p.super.md_len
+      (or_empty (p.live head)) head old
 
-    -- the volume, and with the name
-    abbrev here : Volume
-    here = volume_of f.cluster_pages p.device.reads (resolved p.base) p.super.md_len (or_empty (p.live head)) head old
+  is_here : shown p head ≡ Some named_here
+  is_here = rw resolves refl
 
-    here_is : v head ≡ Some here
-    here_is = rw resolves refl
+  abbrev new_name : Meta
+  new_name = record old { xattrs = with_value old.xattrs name_key (with_nul name) }
 
-    abbrev edit : Volume → Volume
-    edit x = record x {
-      live = with_value x.live name_key (with_nul name);
-      synced = with_value x.synced name_key (with_nul name);
-    }
+  asks_name : AsksFor p (c.Rename volume name) head new_name (edit named_here).live
+  asks_name = record {
+    syncing = named;
+    asked = unrefused (fixed_of p.super) (shown p) shows;
+    found = meant (fixed_of p.super) (shown p) shows;
+    old = old;
+    there = there;
+    after = edit named_here;
+    step = edited_here (fixed_of p.super) (shown p) (head_of (fixed_of p.super) (shown p) volume) edit head
+        (meant (fixed_of p.super) (shown p) shows) ∙ ap (option_map edit) is_here;
+    new_is = refl;
+    live_is = refl;
+  }
+
+  asks_rename : (job : Job) → job ≡ job_of_one head new_name → IsJobOf p (c.Rename volume name) job
+  asks_rename job is =
+      record {
+        head = head;
+        new = new_name;
+        zeros = [];
+        is = is;
+        asks =
+            record {
+              commit = record { reply = r.Ok; live = Some (edit named_here).live; renews = [] };
+              asked =
+                  syncs
+                  (record {
+                    head = head;
+                    new = new_name;
+                    live = (edit named_here).live;
+                    is = refl;
+                    asks = asks_name;
+                    commit_is = refl;
+                  });
+              next = λ none. absurd (let bad = sym none ∙ there in cc bad);
+            };
+      }
 
 -- a resize of a blob that is there
 asks_resize : (p : StoreState) (metas : map.FinMap nat_cmp Meta) → ShowsMetas (fixed_of p.super) p.super metas (shown p)
@@ -228,8 +229,8 @@ plan_laws d = record {
       blob.there blob.is_live meant cause;
   rename = λ p volume name head old job running runs are clean is_name meant there unrefused is.
       asks_rename (state_of d p) p.metas (shows_metas (state_of d p) running runs p.metas are.resolves) volume name head
-      old job (ap (λ (m : Map Meta). m head) (unmarked_base p.metas p.marked are clean) ∙ there)
-      (ap (λ (m : Map Meta). m head) are.resolves ∙ there) is_name meant unrefused is;
+      old (ap (λ (m : Map Meta). m head) (unmarked_base p.metas p.marked are clean) ∙ there)
+      (ap (λ (m : Map Meta). m head) are.resolves ∙ there) is_name meant unrefused job is;
   create = λ p name slots thick uuid head xattrs running runs are is_name next unrefused named.
       asks_create running.store running.first running.script (state_of d p) running.facts (running.facts.well runs)
       p.metas (shows_metas (state_of d p) running runs p.metas are.resolves) name slots thick uuid head xattrs is_name
