@@ -7,7 +7,8 @@ use Rattle.std.specs.Ordering.{nat_cmp}
 use Rattle.std.specs.FinMap as map
 use Rattle.page_disk.specs.declared.disk.PageDisk.{Ghosts}
 use Rattle.volume_model.specs.Volumes.{Fixed, Volume, Volumes, head_of}
-use Rattle.volume_model.specs.Xattrs.{Text, Xattrs, with_value}
+use Rattle.volume_model.specs.Names.{IsName}
+use Rattle.volume_model.specs.Xattrs.{Text, Xattrs, name_key, with_nul, with_value}
 use Rattle.volume_model.specs.Steps.{edited_at}
 use Rattle.volume_model.specs.declared.command.VolumeRef.{VolumeRef}
 use Rattle.volume_model.specs.declared.command.Command.TheVariants as c
@@ -17,13 +18,14 @@ use Rattle.blob_meta.specs.Asked.{IsFirstCause}
 use Rattle.blob_meta.specs.Resolving.{resolved}
 use Rattle.blob_meta.specs.ShownBy.{IsFirstRefusal, IsHeadMeant, ShowsMetas}
 use Rattle.blob_meta.specs.declared.job.Job.{Job}
-use Rattle.blob_meta.specs.Jobs.{resize_job, resized_meta}
+use Rattle.blob_meta.specs.Jobs.{job_of_one, resize_job, resized_meta}
 use Rattle.volume_model.specs.declared.reply.Reply.TheVariants as r
 use Rattle.store_model.specs.Maps.{Map}
-use Rattle.store_model.specs.Shown.{fixed_of}
+use Rattle.store_model.specs.Shown.{fixed_of, volume_of}
 use Rattle.store_model.specs.StoreState.{StoreState, shown}
-use Rattle.store_model.specs.Asking.{resizes, AsksFor}
+use Rattle.store_model.specs.Asking.{resizes, syncs, AsksFor}
 use Rattle.metadata_turns.specs.Begins.{IsJobOf}
+use Rattle.store_model.proofs.Shows.{or_empty}
 use Rattle.store_model.proofs.Synced.{edited_here}
 use Rattle.store_core.specs.Planning.{PlanLaws}
 use Rattle.running_store.specs.StoreView.{state_of}
@@ -67,6 +69,7 @@ module _ (p : StoreState) (running : IsRunning p) (runs : p.stopped ≡ None) (m
 
   pub asks_put : (key value : Text) → IsFirstCause metas p.super (Some live) (c.Put volume key value) None
       → AsksFor p (c.Put volume key value) head (record old { xattrs = with_value live key value })
+      (with_value live key value)
   asks_put key value cause = record {
     syncing = tt;
     asked = cause f v (record { shows = shows; live_is = live_of_it });
@@ -76,10 +79,11 @@ module _ (p : StoreState) (running : IsRunning p) (runs : p.stopped ≡ None) (m
     after = record here.0 { live = with_value here.0.live key value; synced = with_value here.0.live key value };
     step = edited_now (λ x. record x { live = with_value x.live key value; synced = with_value x.live key value });
     new_is = ap (λ (xs : Xattrs). record old { xattrs = with_value xs key value }) (sym here.2);
+    live_is = ap (λ (xs : Xattrs). with_value xs key value) (sym here.2);
   }
 
   pub asks_sync : IsFirstCause metas p.super (Some live) (c.Sync volume) None
-      → AsksFor p (c.Sync volume) head (record old { xattrs = live })
+      → AsksFor p (c.Sync volume) head (record old { xattrs = live }) live
   asks_sync cause = record {
     syncing = tt;
     asked = cause f v (record { shows = shows; live_is = live_of_it });
@@ -89,10 +93,11 @@ module _ (p : StoreState) (running : IsRunning p) (runs : p.stopped ≡ None) (m
     after = record here.0 { synced = here.0.live };
     step = edited_now (λ x. record x { synced = x.live });
     new_is = ap (λ (xs : Xattrs). record old { xattrs = xs }) (sym here.2);
+    live_is = sym here.2;
   }
 
   pub asks_read_only : IsFirstCause metas p.super (Some live) (c.ReadOnly volume) None
-      → AsksFor p (c.ReadOnly volume) head (record old { xattrs = live; flags = read_only old.flags })
+      → AsksFor p (c.ReadOnly volume) head (record old { xattrs = live; flags = read_only old.flags }) live
   asks_read_only cause = record {
     syncing = tt;
     asked = cause f v (record { shows = shows; live_is = live_of_it });
@@ -102,7 +107,70 @@ module _ (p : StoreState) (running : IsRunning p) (runs : p.stopped ≡ None) (m
     after = record here.0 { synced = here.0.live; read_only = true };
     step = edited_now (λ x. record x { synced = x.live; read_only = true });
     new_is = ap (λ (xs : Xattrs). record old { xattrs = xs; flags = read_only old.flags }) (sym here.2);
+    live_is = sym here.2;
   }
+
+-- a rename of a blob that is there, whatever its live attributes are
+module _ (p : StoreState) (metas : map.FinMap nat_cmp Meta)
+    (shows : ShowsMetas (fixed_of p.super) p.super metas (shown p)) (volume : VolumeRef)
+    (name : Text) (head : ℕ) (old : Meta) (there : p.base head ≡ Some old)
+    (resolves : resolved p.base head ≡ Some old) (named : IsName name)
+    (meant : IsHeadMeant metas p.super volume (Some head))
+    (unrefused : IsFirstRefusal metas p.super (c.Rename volume name) None) where
+  abbrev edit : Volume → Volume
+  edit x = record x {
+    live = with_value x.live name_key (with_nul name);
+    synced = with_value x.synced name_key (with_nul name);
+  }
+
+  -- the volume
+  abbrev named_here : Volume
+  named_here = volume_of (fixed_of p.super).cluster_pages p.device.reads (resolved p.base) p.super.md_len
+      (or_empty (p.live head)) head old
+
+  is_here : shown p head ≡ Some named_here
+  is_here = rw resolves refl
+
+  abbrev new_name : Meta
+  new_name = record old { xattrs = with_value old.xattrs name_key (with_nul name) }
+
+  asks_name : AsksFor p (c.Rename volume name) head new_name (edit named_here).live
+  asks_name = record {
+    syncing = named;
+    asked = unrefused (fixed_of p.super) (shown p) shows;
+    found = meant (fixed_of p.super) (shown p) shows;
+    old = old;
+    there = there;
+    after = edit named_here;
+    step = edited_here (fixed_of p.super) (shown p) (head_of (fixed_of p.super) (shown p) volume) edit head
+        (meant (fixed_of p.super) (shown p) shows) ∙ ap (option_map edit) is_here;
+    new_is = refl;
+    live_is = refl;
+  }
+
+  asks_rename : (job : Job) → job ≡ job_of_one head new_name → IsJobOf p (c.Rename volume name) job
+  asks_rename job is =
+      record {
+        head = head;
+        new = new_name;
+        zeros = [];
+        is = is;
+        asks =
+            record {
+              commit = record { reply = r.Ok; live = Some (edit named_here).live; renews = [] };
+              asked =
+                  syncs
+                  (record {
+                    head = head;
+                    new = new_name;
+                    live = (edit named_here).live;
+                    is = refl;
+                    asks = asks_name;
+                    commit_is = refl;
+                  });
+              next = λ none. absurd (let bad = sym none ∙ there in cc bad);
+            };
+      }
 
 -- a resize of a blob that is there
 asks_resize : (p : StoreState) (metas : map.FinMap nat_cmp Meta) → ShowsMetas (fixed_of p.super) p.super metas (shown p)
@@ -159,6 +227,10 @@ plan_laws d = record {
       asks_read_only (state_of d p) running runs p.metas are.resolves (unmarked_base p.metas p.marked are clean) volume
       head old live
       blob.there blob.is_live meant cause;
+  rename = λ p volume name head old job running runs are clean is_name meant there unrefused is.
+      asks_rename (state_of d p) p.metas (shows_metas (state_of d p) running runs p.metas are.resolves) volume name head
+      old (ap (λ (m : Map Meta). m head) (unmarked_base p.metas p.marked are clean) ∙ there)
+      (ap (λ (m : Map Meta). m head) are.resolves ∙ there) is_name meant unrefused job is;
   create = λ p name slots thick uuid head xattrs running runs are is_name next unrefused named.
       asks_create running.store running.first running.script (state_of d p) running.facts (running.facts.well runs)
       p.metas (shows_metas (state_of d p) running runs p.metas are.resolves) name slots thick uuid head xattrs is_name

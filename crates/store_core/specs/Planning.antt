@@ -2,7 +2,7 @@
 use Rattle.std.specs.Prelude.{◌≡◌, ℕ, Bool, List, Option, Some, None}
 use Rattle.std.specs.FinMap as map
 use Rattle.page_disk.specs.declared.disk.PageDisk.{Ghosts}
-use Rattle.volume_model.specs.Xattrs.{Text, Xattrs, with_value}
+use Rattle.volume_model.specs.Xattrs.{Text, Xattrs, name_key, with_nul, with_value}
 use Rattle.volume_model.specs.Names.{IsName}
 use Rattle.volume_model.specs.Volumes.{Fixed, two_xattrs, Volumes}
 use Rattle.volume_model.specs.declared.command.VolumeRef.{VolumeRef}
@@ -12,7 +12,7 @@ use Rattle.blob_meta.specs.Parents.{read_only}
 use Rattle.blob_meta.specs.declared.meta.Meta.{Meta}
 use Rattle.blob_meta.specs.declared.job.Job.{Job}
 use Rattle.blob_meta.specs.Asked.{IsFirstCause, IsLiveOf, ShowsLive}
-use Rattle.blob_meta.specs.Jobs.{create_job, resize_job}
+use Rattle.blob_meta.specs.Jobs.{create_job, job_of_one, resize_job}
 use Rattle.blob_meta.specs.Repairs.{HasNoMarks}
 use Rattle.blob_meta.specs.ShownBy.{IsFirstRefusal, IsHeadMeant, ShowsMetas}
 use Rattle.snapshots.specs.SnapshotJobs.{clone_job}
@@ -53,20 +53,29 @@ pub record PlanLaws {D : Type 0} (d : Ghosts D) : Type 0 where
       → IsHeadMeant p.metas p.super volume (Some head)
       → IsFirstCause p.metas p.super (Some live) (c.Put volume key value) None
       → AsksFor (state_of d p) (c.Put volume key value) head (record old { xattrs = with_value live key value })
+      (with_value live key value)
   -- and a sync for that with the live ones
   pub sync : (p : StoreView D) (volume : VolumeRef) (head : ℕ) (old : Meta) (live : Xattrs)
       → IsRunning (state_of d p) → p.stopped ≡ None → AreResolved p.metas p.marked
       → HasNoMarks (base_of p.metas p.marked) → HasBlob p head old live
       → IsHeadMeant p.metas p.super volume (Some head)
       → IsFirstCause p.metas p.super (Some live) (c.Sync volume) None
-      → AsksFor (state_of d p) (c.Sync volume) head (record old { xattrs = live })
+      → AsksFor (state_of d p) (c.Sync volume) head (record old { xattrs = live }) live
   -- and one that makes the volume read-only for that with its flags besides.
   pub read_only : (p : StoreView D) (volume : VolumeRef) (head : ℕ) (old : Meta) (live : Xattrs)
       → IsRunning (state_of d p) → p.stopped ≡ None → AreResolved p.metas p.marked
       → HasNoMarks (base_of p.metas p.marked) → HasBlob p head old live
       → IsHeadMeant p.metas p.super volume (Some head)
       → IsFirstCause p.metas p.super (Some live) (c.ReadOnly volume) None
-      → AsksFor (state_of d p) (c.ReadOnly volume) head (record old { xattrs = live; flags = read_only old.flags })
+      → AsksFor (state_of d p) (c.ReadOnly volume) head (record old { xattrs = live; flags = read_only old.flags }) live
+  -- A rename that nothing refuses asks for the metadata as it is, with the name in place of the one that was last
+  -- synced.
+  pub rename : (p : StoreView D) (volume : VolumeRef) (name : Text) (head : ℕ) (old : Meta) (job : Job)
+      → IsRunning (state_of d p) → p.stopped ≡ None → AreResolved p.metas p.marked
+      → HasNoMarks (base_of p.metas p.marked) → IsName name → IsHeadMeant p.metas p.super volume (Some head)
+      → map.get p.metas head ≡ Some old → IsFirstRefusal p.metas p.super (c.Rename volume name) None
+      → job ≡ job_of_one head (record old { xattrs = with_value old.xattrs name_key (with_nul name) })
+      → IsJobOf (state_of d p) (c.Rename volume name) job
   -- A create that nothing refuses asks for a blob at the head that is next, with the attributes that a new volume has
   -- beside those that are shown; where it is thick, each of its slots is to get a cluster of zeros.
   pub create : (p : StoreView D) (name : Text) (slots : ℕ) (thick : Bool) (uuid : Option (List ℕ)) (head : ℕ)
@@ -75,8 +84,8 @@ pub record PlanLaws {D : Type 0} (d : Ghosts D) : Type 0 where
       → IsFirstRefusal p.metas p.super (c.Create name slots thick uuid) None
       → ((f : Fixed) (v : Volumes) → ShowsMetas f p.super p.metas v → two_xattrs f v name uuid ≡ xattrs)
       → IsJobOf (state_of d p) (c.Create name slots thick uuid) (create_job head xattrs thick slots)
-  -- A resize that nothing refuses asks for the slots of the blob that is meant to be cut, or for empty ones behind them,
-  -- each of which is to get a cluster of zeros where the blob isn't thin.
+  -- A resize that nothing refuses asks for the slots of the blob that is meant to be cut, or for empty ones behind
+  -- them, each of which is to get a cluster of zeros where the blob isn't thin.
   pub resize : (p : StoreView D) (volume : VolumeRef) (slots head : ℕ) (old : Meta) (job : Job)
       → IsRunning (state_of d p) → p.stopped ≡ None → AreResolved p.metas p.marked
       → HasNoMarks (base_of p.metas p.marked) → IsHeadMeant p.metas p.super volume (Some head)
