@@ -10,7 +10,7 @@ use page_disk::{CallKind, FaultDisk, MemDisk, Page, PageDisk, WriteKind};
 use std::alloc::Global;
 use std::process::Abort;
 use std::test::Fail;
-use super_block::{Masks, Super, read_super, write_super};
+use super_block::{Masks, read_super, write_super};
 
 /// The pages that the tests look at beside the super block and the masks: those behind the masks' regions and in them,
 /// metadata and data.

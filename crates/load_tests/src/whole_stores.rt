@@ -8,7 +8,7 @@ use std::alloc::Global;
 use std::test::Fail;
 use super_block::Masks;
 use test_stores::{LAST, PageRow, THIN, image};
-use unclean_load::load;
+use unclean_load::{clean_stores_are_quick, load};
 
 /// An attribute `name` of value `a`.
 const NAME: &[u8] = b"\x02\x0a\0\0\0\x04\0\x02\0namea\0";
@@ -88,6 +88,7 @@ fn a_blob_with_a_chain_of_three_pages_is_loaded_whole(rt: HostRuntime) -> Result
 
 #[test]
 fn the_masks_have_what_a_chain_of_three_pages_uses(rt: HostRuntime) -> Result<(), Fail> {
+    clean_stores_are_quick();
     let (_, _, masks, quick) = whole(rt.alloc())?;
     let table = [
         (&masks.pages, "[2, 3, 9]"),

@@ -43,16 +43,21 @@ pub answerable : (command : Command) → IsServedByMetadata command
     → ((volume : VolumeRef) → command ≡ c.Sync volume → ⊥)
     → ((volume : VolumeRef) → command ≡ c.ReadOnly volume → ⊥)
     → ((volume : VolumeRef) (slots : ℕ) → command ≡ c.Resize volume slots → ⊥)
-    → ((volume : VolumeRef) (name : Text) → command ≡ c.Clone volume name → ⊥) → IsAnswerable command
-answerable (c.SetX volume key value) is create put sync read_only resize clone = inl (tt, tt)
-answerable (c.DelX volume key) is create put sync read_only resize clone = inl (tt, tt)
-answerable (c.GetX volume key) is create put sync read_only resize clone = inl (tt, tt)
-answerable c.Df is create put sync read_only resize clone = inr refl
-answerable (c.Create name slots thick uuid) is create put sync read_only resize clone =
+    → ((volume : VolumeRef) (name : Text) → command ≡ c.Clone volume name → ⊥)
+    → ((volume : VolumeRef) (name : Text) → command ≡ c.Rename volume name → ⊥) → IsAnswerable command
+answerable (c.SetX volume key value) is create put sync read_only resize clone rename = inl (tt, tt)
+answerable (c.DelX volume key) is create put sync read_only resize clone rename = inl (tt, tt)
+answerable (c.GetX volume key) is create put sync read_only resize clone rename = inl (tt, tt)
+answerable (c.Info volume) is create put sync read_only resize clone rename = inr tt
+answerable c.List is create put sync read_only resize clone rename = inr tt
+answerable c.Df is create put sync read_only resize clone rename = inr tt
+answerable (c.Create name slots thick uuid) is create put sync read_only resize clone rename =
     absurd (create name slots thick uuid refl)
-answerable (c.Put volume key value) is create put sync read_only resize clone = absurd (put volume key value refl)
-answerable (c.Sync volume) is create put sync read_only resize clone = absurd (sync volume refl)
-answerable (c.ReadOnly volume) is create put sync read_only resize clone = absurd (read_only volume refl)
-answerable (c.Resize volume slots) is create put sync read_only resize clone = absurd (resize volume slots refl)
-answerable (c.Clone volume name) is create put sync read_only resize clone = absurd (clone volume name refl)
-answerable _ is create put sync read_only resize clone = absurd is
+answerable (c.Put volume key value) is create put sync read_only resize clone rename =
+    absurd (put volume key value refl)
+answerable (c.Sync volume) is create put sync read_only resize clone rename = absurd (sync volume refl)
+answerable (c.ReadOnly volume) is create put sync read_only resize clone rename = absurd (read_only volume refl)
+answerable (c.Resize volume slots) is create put sync read_only resize clone rename = absurd (resize volume slots refl)
+answerable (c.Clone volume name) is create put sync read_only resize clone rename = absurd (clone volume name refl)
+answerable (c.Rename volume name) is create put sync read_only resize clone rename = absurd (rename volume name refl)
+answerable _ is create put sync read_only resize clone rename = absurd is

@@ -36,12 +36,12 @@ use Rattle.md_thread.specs.Tasks.{IsPlanOf}
 use Rattle.md_thread.proofs.Planned.{IsFor}
 
 -- what a verb that syncs asks for is to be written
-to_write : (p : StoreState) (command : Command) (head : ℕ) (new : Meta) → AsksFor p command head new
-    → AsksToWrite p command head new []
-to_write p command head new asks =
+to_write : (p : StoreState) (command : Command) (head : ℕ) (new : Meta) (live : Xattrs)
+    → AsksFor p command head new live → AsksToWrite p command head new []
+to_write p command head new live asks =
     record {
-      commit = record { reply = r.Ok; live = Some new.xattrs; renews = [] };
-      asked = syncs (record { head = head; new = new; is = refl; asks = asks; commit_is = refl });
+      commit = record { reply = r.Ok; live = Some live; renews = [] };
+      asked = syncs (record { head = head; new = new; live = live; is = refl; asks = asks; commit_is = refl });
       next = λ none. let e : None ≡ Some asks.old = sym none ∙ asks.there in absurd (cc e);
     }
 
@@ -73,12 +73,12 @@ module _ {D : Type 0} (d : Ghosts D) (laws : PlanLaws d) (p : StoreView D) (runn
       )
 
   -- the job that remakes the metadata of the volume that a command asks for is what the command asks for
-  remade : (command : Command) (volume : VolumeRef) (head : Option ℕ) (live : Xattrs) (made : Meta → Meta) (job : Job)
-      → (found : IsFound p.metas p.super p.live command head (Some live)) → found.volume ≡ volume
+  remade : (command : Command) (volume : VolumeRef) (head : Option ℕ) (live later : Xattrs) (made : Meta → Meta)
+      (job : Job) → (found : IsFound p.metas p.super p.live command head (Some live)) → found.volume ≡ volume
       → Remakes p.metas p.super volume made job
       → ((at : ℕ) (old : Meta) → HasBlob p at old live → IsHeadMeant p.metas p.super volume (Some at)
-      → AsksFor (state_of d p) command at (made old)) → IsFor d p command job
-  remade command volume head live made job found asked plan asks =
+      → AsksFor (state_of d p) command at (made old) later) → IsFor d p command job
+  remade command volume head live later made job found asked plan asks =
       let at = at_plan head live plan.head plan.old found asked plan.meant plan.there in (
         record { head = plan.head; new = made plan.old; zeros = []; is = plan.job_is },
         record {
@@ -86,7 +86,7 @@ module _ {D : Type 0} (d : Ghosts D) (laws : PlanLaws d) (p : StoreView D) (runn
           new = made plan.old;
           zeros = [];
           is = plan.job_is;
-          asks = to_write (state_of d p) command plan.head _ (asks plan.head plan.old at.0 at.1);
+          asks = to_write (state_of d p) command plan.head _ later (asks plan.head plan.old at.0 at.1);
         },
       )
 
@@ -96,8 +96,8 @@ module _ {D : Type 0} (d : Ghosts D) (laws : PlanLaws d) (p : StoreView D) (runn
       → PlansPut p.metas p.super o (c.Put volume key value) job
       → IsFirstCause p.metas p.super o (c.Put volume key value) None → IsFor d p (c.Put volume key value) job
   put_job volume key value head (Some live) job found plan cause =
-      remade (c.Put volume key value) volume head live (λ old. record old { xattrs = with_value live key value }) job
-      found (let e = found.asked in cc e) plan
+      remade (c.Put volume key value) volume head live (with_value live key value)
+      (λ old. record old { xattrs = with_value live key value }) job found (let e = found.asked in cc e) plan
       (λ at old blob meant. laws.put p volume at key value old live running runs are clean blob meant cause)
   put_job volume key value head None job found plan cause = absurd plan
 
@@ -106,7 +106,7 @@ module _ {D : Type 0} (d : Ghosts D) (laws : PlanLaws d) (p : StoreView D) (runn
       → IsFound p.metas p.super p.live (c.Sync volume) head o → PlansSync p.metas p.super o (c.Sync volume) job
       → IsFirstCause p.metas p.super o (c.Sync volume) None → IsFor d p (c.Sync volume) job
   sync_job volume head (Some live) job found plan cause =
-      remade (c.Sync volume) volume head live (λ old. record old { xattrs = live }) job found
+      remade (c.Sync volume) volume head live live (λ old. record old { xattrs = live }) job found
       (let e = found.asked in cc e) plan
       (λ at old blob meant. laws.sync p volume at old live running runs are clean blob meant cause)
   sync_job volume head None job found plan cause = absurd plan
@@ -117,7 +117,7 @@ module _ {D : Type 0} (d : Ghosts D) (laws : PlanLaws d) (p : StoreView D) (runn
       → PlansReadOnly p.metas p.super o (c.ReadOnly volume) job
       → IsFirstCause p.metas p.super o (c.ReadOnly volume) None → IsFor d p (c.ReadOnly volume) job
   read_only_job volume head (Some live) job found plan cause =
-      remade (c.ReadOnly volume) volume head live
+      remade (c.ReadOnly volume) volume head live live
       (λ old. record old { xattrs = live; flags = read_only old.flags }) job found
       (let e = found.asked in cc e) plan
       (λ at old blob meant. laws.read_only p volume at old live running runs are clean blob meant cause)
@@ -127,6 +127,7 @@ module _ {D : Type 0} (d : Ghosts D) (laws : PlanLaws d) (p : StoreView D) (runn
   lacks_memory (c.Put volume key value) is = tt
   lacks_memory (c.Sync volume) is = tt
   lacks_memory (c.ReadOnly volume) is = tt
+  lacks_memory (c.Rename volume name) is = tt
   lacks_memory _ is = absurd is
 
   by_cause : (command : Command) (reply : Reply) → IsAttributeCause reply

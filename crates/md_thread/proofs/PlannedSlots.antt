@@ -1,4 +1,4 @@
--- What is planned for a create, a resize or a clone is what the command asks for.
+-- What is planned for a create, a resize, a clone or a rename is what the command asks for.
 use Rattle.std.proofs.Common.{◌≡◌, ℕ, Bool, List, Option, Some, None, Result, Ok, Err}
 use Rattle.std.proofs.Common.{sym, subst, inl, inr}
 use Rattle.std.specs.Prelude.{IfOk, IfErr}
@@ -21,9 +21,10 @@ use Rattle.blob_meta.specs.declared.meta.Meta.{Meta}
 use Rattle.blob_meta.specs.declared.job.Job.{Job}
 use Rattle.blob_meta.specs.Find.{is_meant, IsLeast}
 use Rattle.blob_meta.specs.ShownBy.{IsFirstRefusal, IsHeadMeant, ShowsMetas}
-use Rattle.blob_meta.specs.Jobs.{create_job, resize_job}
+use Rattle.blob_meta.specs.Jobs.{create_job, job_of_one, resize_job}
 use Rattle.snapshots.specs.SnapshotJobs.{clone_job}
 use Rattle.lvol_store.specs.CopyPlans.{Clones, ClonesAsAsked}
+use Rattle.lvol_store.specs.RenamePlans.{renamed, PlansRename, Renames}
 use Rattle.lvol_store.specs.SlotPlans.{Creates, PlansCreate, PlansResize, RefusesFirst, Resizes}
 use Rattle.store_model.specs.Shown.{fixed_of}
 use Rattle.store_model.specs.StoreState.{shown}
@@ -162,3 +163,26 @@ module _ {D : Type 0} (d : Ghosts D) (p : StoreView D) where
           → IfErr planned (RefusesFirst metas sup command) → IsPlanOf d p command (Some planned)) (sym e)
           (by_plan (c.Clone volume name) tt (λ metas sup. ClonesAsAsked metas sup head (c.Clone volume name))
           (clone_asks head next volume name))
+
+    module _ (given_name : (volume : VolumeRef) (name : Text) (head : ℕ) (old : Meta) (job : Job) → IsName name
+        → IsHeadMeant p.metas p.super volume (Some head) → map.get p.metas head ≡ Some old
+        → IsFirstRefusal p.metas p.super (c.Rename volume name) None → job ≡ job_of_one head (renamed old name)
+        → IsJobOf (state_of d p) (c.Rename volume name) job) where
+      rename_asks : (volume : VolumeRef) (name : Text) (job : Job) → Renames p.metas p.super volume name job
+          → IsFirstRefusal p.metas p.super (c.Rename volume name) None
+          → IsJobOf (state_of d p) (c.Rename volume name) job
+      rename_asks volume name job plan first =
+          given_name volume name plan.head plan.old job plan.is_name plan.meant plan.there first plan.job_is
+
+      -- what is planned for a rename
+      pub rename_plan : (command : Command) (volume : VolumeRef) (name : Text) → command ≡ c.Rename volume name
+          → (planned : Result Job Reply) → IfOk planned (PlansRename metas sup command)
+          → IfOk planned (λ job. IsFirstRefusal metas sup command None)
+          → IfErr planned (RefusesFirst metas sup command) → IsPlanOf d p command (Some planned)
+      rename_plan command volume name e =
+          subst
+          (λ (command : Command). (planned : Result Job Reply) → IfOk planned (PlansRename metas sup command)
+          → IfOk planned (λ job. IsFirstRefusal metas sup command None)
+          → IfErr planned (RefusesFirst metas sup command) → IsPlanOf d p command (Some planned)) (sym e)
+          (by_plan (c.Rename volume name) tt (λ metas sup. PlansRename metas sup (c.Rename volume name))
+          (rename_asks volume name))

@@ -10,7 +10,9 @@ ghost use Rattle.running_store.specs.Steps.{Asks};
 ghost use Rattle.running_store.specs.StoreView.{base_of, state_of};
 
 use blob_meta::{Job, least_heads_are_meant};
-use lvol_store::{plan_clone, plan_create, plan_put, plan_readonly, plan_resize, plan_sync};
+use lvol_store::{
+    plan_clone, plan_create, plan_put, plan_readonly, plan_rename, plan_resize, plan_sync,
+};
 use page_disk::PageDisk;
 use std::alloc::Global;
 use store_core::{MdRight, Plant, Request, plans};
@@ -63,6 +65,7 @@ fn planned<D: PageDisk>(
         Command::Create { .. } => Some(plan_create(alloc, metas, sup, command, new)),
         Command::Resize { .. } => Some(plan_resize(alloc, metas, sup, command, new)),
         Command::Clone { .. } => Some(plan_clone(alloc, metas, sup, command, new)),
+        Command::Rename { .. } => Some(plan_rename(alloc, metas, sup, command, new)),
         _ => None,
     }
 }

@@ -1,7 +1,7 @@
 use Rattle.std.specs.Option.{option_copied}
 use Rattle.md_thread.proofs.Planned.{answerable, is_running}
 use Rattle.md_thread.proofs.PlannedAttributes.{live_given, put_plan, read_only_plan, sync_plan}
-use Rattle.md_thread.proofs.PlannedSlots.{clone_plan, create_plan, resize_plan}
+use Rattle.md_thread.proofs.PlannedSlots.{clone_plan, create_plan, rename_plan, resize_plan}
 use Rattle.md_thread.proofs.tasks.planned.Goals as goal
 
 pub plan_put-requires-clause-live : goal.plan_put-requires-clause-live
@@ -106,7 +106,19 @@ returns-in-Clone g c =
     c.next_head-new.result c.next_head-new.ensures c.args.command.now c.in-Clone.volume c.in-Clone.name c.in-Clone.is
     c.plan_clone.result c.plan_clone.ensures.job c.plan_clone.ensures.unrefused c.plan_clone.ensures.refused
 
+pub returns-in-Rename : goal.returns-in-Rename
+returns-in-Rename g c =
+    let d = g.D.PageDisk in
+    let p = c.args.plant.now.at in
+    let running = is_running d c.args.plant.now c.keeps.ensures in
+    rename_plan d p c.metas-metas.result.now c.sup-sup.result.now c.metas-metas.ensures c.sup-sup.ensures
+    (c.plans.ensures.shows_all p running c.requires.runs c.resolves.ensures)
+    (λ volume name head old job. c.plans.ensures.rename p volume name head old job running c.requires.runs
+    c.resolves.ensures c.requires.unmarked)
+    c.args.command.now c.in-Rename.volume c.in-Rename.name c.in-Rename.is
+    c.plan_rename.result c.plan_rename.ensures.job c.plan_rename.ensures.unrefused c.plan_rename.ensures.refused
+
 pub returns-in_default : goal.returns-in_default
 returns-in_default g c =
     answerable c.args.command.now c.requires.served c.in_default.not-Create c.in_default.not-Put c.in_default.not-Sync
-    c.in_default.not-ReadOnly c.in_default.not-Resize c.in_default.not-Clone
+    c.in_default.not-ReadOnly c.in_default.not-Resize c.in_default.not-Clone c.in_default.not-Rename
