@@ -6,4 +6,7 @@ pub mod Repairing
 pub mod Runs
 pub mod Outcome
 pub mod FormatOutcome
+pub mod GenerateWords
+pub mod GenerateOutcome
+pub mod Commands
 pub mod RunWords

@@ -37,6 +37,11 @@ of_run (Some at) printed = status.Device at
 of_run None (Err printing.Sink) = status.OutWrite
 of_run None (Ok done) = status.Good
 
+-- a text that couldn't be printed whole
+abbrev pub of_printing : PrintFault → Status
+of_printing printing.Sink = status.OutWrite
+of_printing printing.Memory = status.Memory
+
 -- the status of words that are no command
 abbrev pub is_usage : Status → Bool
 is_usage status.Usage = true
@@ -56,3 +61,10 @@ comes_of_format (status.Image fault) = true
 comes_of_format (status.Device at) = true
 comes_of_format status.Memory = true
 comes_of_format _ = false
+
+-- those that are answered to `generate`
+abbrev pub comes_of_generate : Status → Bool
+comes_of_generate status.Good = true
+comes_of_generate status.OutWrite = true
+comes_of_generate status.Memory = true
+comes_of_generate _ = false

@@ -3,6 +3,9 @@
 
 mod closing;
 mod format_words;
+mod formatting;
+mod generate_words;
+mod generating;
 mod playing;
 mod repairing;
 mod run_words;

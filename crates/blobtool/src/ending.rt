@@ -41,8 +41,8 @@ impl Ending {
 }
 
 /// The commands.
-const USAGE: &str =
-    "usage: blobtool run IMAGE, or blobtool format IMAGE [--cluster BYTES] [--md-pages N]";
+const USAGE: &str = "usage: blobtool run IMAGE [--schedule LIST], or blobtool format IMAGE [--cluster BYTES] \
+     [--md-pages N], or blobtool generate NUMBER SIZE";
 
 /// What is wrong with a line, in words.
 fn wrong(kind: LineKind) -> &'static str {
@@ -109,7 +109,8 @@ mod tests {
             (
                 Ending::Ran(Status::Usage),
                 1,
-                "usage: blobtool run IMAGE, or blobtool format IMAGE [--cluster BYTES] [--md-pages N]",
+                "usage: blobtool run IMAGE [--schedule LIST], or blobtool format IMAGE [--cluster BYTES] \
+                 [--md-pages N], or blobtool generate NUMBER SIZE",
             ),
             (Ending::NotText, 1, "a word is not UTF-8"),
             (

@@ -1,5 +1,6 @@
-//! Runs a script from standard input on the store in an image file, and prints its log to standard output; or writes a
-//! new store into the file, and prints its line. Any exit status other than 0 comes with one line on standard error.
+//! Runs a script from standard input on the store in an image file, and prints its log to standard output; writes a new
+//! store into the file, and prints its line; or prints a generated script. Any exit status other than 0 comes with one
+//! line on standard error.
 #![tactic(auto)]
 
 mod ending;
@@ -38,10 +39,19 @@ fn perform<D: PageDisk + Drop + Send>(rt: &HostRuntime, words: &[String], disk: 
     Ending::Ran(status)
 }
 
-/// Opens the image that the second word names. Where there is no such word the device has no pages.
+/// The image that the words name: the second word, but for `generate`, which uses none.
+fn image_of(words: &[String]) -> Option<&str> {
+    match words {
+        [verb, ..] if verb.as_str() == "generate" => None,
+        [_, image, ..] => Some(image.as_str()),
+        _ => None,
+    }
+}
+
+/// Opens the image that the words name. Where they name none the device has no pages.
 fn start(rt: &HostRuntime, words: &[String]) -> Ending {
-    match words.get(1) {
-        Some(image) => match open(rt, image.as_str()) {
+    match image_of(words) {
+        Some(image) => match open(rt, image) {
             Ok(disk) => perform(rt, words, disk),
             Err(error) => Ending::NotOpened(error),
         },
