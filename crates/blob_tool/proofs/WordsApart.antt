@@ -1,6 +1,6 @@
 -- No words are two commands, since the first word of each command is its own.
-use Rattle.std.proofs.Common.{◌≡◌, ◌∙◌, ◌&&◌, if◌then◌else◌, ℕ, Bool, true, false, List, [], ◌∷◌, Option, None, Some, refl}
-use Rattle.std.proofs.Common.{sym}
+use Rattle.std.proofs.Common.{◌≡◌, ◌∙◌, ◌&&◌, if◌then◌else◌, ℕ, Bool, true, false, List, [], ◌∷◌, Option, None, Some}
+use Rattle.std.proofs.Common.{refl, sym}
 use Rattle.std.specs.Prelude.{codes, map, String, string_bytes}
 use Rattle.std.specs.Str.{bytes_eq}
 use Rattle.std.specs.declared.alloc.Global.{Global}
@@ -8,6 +8,7 @@ use Rattle.std.proofs.lemmas.Slice.Eq.{bytes_eq-Decides}
 use Rattle.script_lang.specs.declared.schedule.Actor.{Actor}
 use Rattle.blob_tool.specs.FormatWords.{format_in, options_in}
 use Rattle.blob_tool.specs.GenerateWords.{generated_script_in, generate_in}
+use Rattle.blob_tool.specs.ListWords.{asks_to_list}
 use Rattle.blob_tool.specs.RunWords.{is_run, is_schedule, AreSteps, AsksToRun, AskForNoRun}
 use Rattle.blob_tool.specs.declared.format_words.Format.{Format}
 use Rattle.blob_tool.specs.declared.generate_words.GeneratedScript.{GeneratedScript}
@@ -39,7 +40,8 @@ generate_verb [] script is = cc is
 generate_verb (verb ∷ []) script is = cc is
 generate_verb (verb ∷ number ∷ []) script is = cc is
 generate_verb (verb ∷ number ∷ size ∷ []) script is =
-    meant (string_bytes verb) (codes "generate") (generated_script_in (string_bytes number) (string_bytes size)) script is
+    meant (string_bytes verb) (codes "generate") (generated_script_in (string_bytes number) (string_bytes size)) script
+    is
 generate_verb (verb ∷ number ∷ size ∷ more ∷ words) script is = cc is
 
 module _ (steps : List Actor) (t : Option (Option (List ℕ))) where
@@ -74,8 +76,26 @@ pub generate_is_no_run : (words : List (String Global)) (script : GeneratedScrip
 generate_is_no_run words script is steps asks =
     let e = sym (generate_verb words script is) ∙ run_verb words steps asks in cc e
 
+list_verb : (words : List (String Global)) → asks_to_list words ≡ true → verb_of words ≡ codes "list"
+list_verb [] is = cc is
+list_verb (verb ∷ []) is = cc is
+list_verb (verb ∷ image ∷ []) is = (bytes_eq-Decides (string_bytes verb) (codes "list")).0 is
+list_verb (verb ∷ image ∷ more ∷ words) is = cc is
+
 -- and those ask for no `format`
 pub generate_is_no_format : (words : List (String Global)) (format : Format) (script : GeneratedScript)
     → format_in words ≡ Some format → generate_in words ≡ Some script → ⊥
 generate_is_no_format words format script is asks =
     let e = sym (format_verb words format is) ∙ generate_verb words script asks in cc e
+
+-- words that ask for a listing ask for no `run`, no `format` and no generated script
+pub list_is_no_run : (words : List (String Global)) → asks_to_list words ≡ true → AskForNoRun words
+list_is_no_run words is steps asks = let e = sym (list_verb words is) ∙ run_verb words steps asks in cc e
+
+pub list_is_no_format : (words : List (String Global)) (format : Format) → format_in words ≡ Some format
+    → asks_to_list words ≡ true → ⊥
+list_is_no_format words format is asks = let e = sym (format_verb words format is) ∙ list_verb words asks in cc e
+
+pub list_is_no_generate : (words : List (String Global)) (script : GeneratedScript) → generate_in words ≡ Some script
+    → asks_to_list words ≡ true → ⊥
+list_is_no_generate words script is asks = let e = sym (generate_verb words script is) ∙ list_verb words asks in cc e

@@ -1,5 +1,7 @@
 pub mod FormatWords
 pub mod Surviving
+pub mod Found
+pub mod Untouched
 pub mod Statuses
 pub mod Closing
 pub mod Repairing
@@ -8,5 +10,7 @@ pub mod Outcome
 pub mod FormatOutcome
 pub mod GenerateWords
 pub mod GenerateOutcome
+pub mod ListWords
+pub mod ListOutcome
 pub mod Commands
 pub mod RunWords

@@ -53,14 +53,14 @@ IsRunDone status.Good = Unit {0}
 IsRunDone status.Memory = Unit {0}
 IsRunDone _ = ⊥
 
--- those that are answered to `format`
-abbrev pub comes_of_format : Status → Bool
-comes_of_format status.Good = true
-comes_of_format status.OutWrite = true
-comes_of_format (status.Image fault) = true
-comes_of_format (status.Device at) = true
-comes_of_format status.Memory = true
-comes_of_format _ = false
+-- those that are answered to a command that reads no script
+abbrev pub comes_without_script : Status → Bool
+comes_without_script status.Good = true
+comes_without_script status.OutWrite = true
+comes_without_script (status.Image fault) = true
+comes_without_script (status.Device at) = true
+comes_without_script status.Memory = true
+comes_without_script _ = false
 
 -- those that are answered to `generate`
 abbrev pub comes_of_generate : Status → Bool

@@ -42,7 +42,7 @@ impl Ending {
 
 /// The commands.
 const USAGE: &str = "usage: blobtool run IMAGE [--schedule LIST], or blobtool format IMAGE [--cluster BYTES] \
-     [--md-pages N], or blobtool generate NUMBER SIZE";
+     [--md-pages N], or blobtool list IMAGE, or blobtool generate NUMBER SIZE";
 
 /// What is wrong with a line, in words.
 fn wrong(kind: LineKind) -> &'static str {
@@ -110,7 +110,7 @@ mod tests {
                 Ending::Ran(Status::Usage),
                 1,
                 "usage: blobtool run IMAGE [--schedule LIST], or blobtool format IMAGE [--cluster BYTES] \
-                 [--md-pages N], or blobtool generate NUMBER SIZE",
+                 [--md-pages N], or blobtool list IMAGE, or blobtool generate NUMBER SIZE",
             ),
             (Ending::NotText, 1, "a word is not UTF-8"),
             (

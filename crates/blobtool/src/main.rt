@@ -1,6 +1,6 @@
 //! Runs a script from standard input on the store in an image file, and prints its log to standard output; writes a new
-//! store into the file, and prints its line; or prints a generated script. Any exit status other than 0 comes with one
-//! line on standard error.
+//! store into the file, and prints its line; prints the store in the file and its volumes; or prints a generated
+//! script. Any exit status other than 0 comes with one line on standard error.
 #![tactic(auto)]
 
 mod ending;

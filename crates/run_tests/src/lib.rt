@@ -1,6 +1,6 @@
 //! Tests of the program's calls over a device in memory: the verbs on attributes, new volumes, volumes that are thick
 //! or get another number of slots, clones, pages that are read and written, channels that take turns, new stores,
-//! generated scripts, and each status.
+//! listings, generated scripts, and each status.
 #![tactic(auto)]
 
 #[cfg(test)]
@@ -11,6 +11,8 @@ mod failures;
 mod formats;
 #[cfg(test)]
 mod generated_scripts;
+#[cfg(test)]
+mod listings;
 #[cfg(test)]
 mod page_faults;
 #[cfg(test)]

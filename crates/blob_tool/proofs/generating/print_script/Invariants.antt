@@ -5,6 +5,6 @@ use Rattle.blob_tool.proofs.generating.print_script.Given as goal
 abbrev pub invariant-loop : goal.invariant-loop
 invariant-loop g l =
     (IsTrue g.K.Sink.tells
-    → g.K.Sink.written l.out ≡ g.K.Sink.written l.fn.out ++ generated_lines l.script.number l.counter)
-    × (g.K.Sink.faults l.fn.out ≤ g.K.Sink.faults l.out) × (l.generator.number ≡ l.script.number)
+    → g.K.Sink.written l.out ≡ g.K.Sink.written l.fn.out ++ generated_lines l.fn.script.number l.counter)
+    × (g.K.Sink.faults l.fn.out ≤ g.K.Sink.faults l.out) × (l.generator.number ≡ l.fn.script.number)
     × (l.generator.line ≡ l.counter)
