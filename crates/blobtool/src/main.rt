@@ -5,14 +5,15 @@
 
 mod ending;
 mod file_disk;
+mod image;
 mod std_sink;
 mod std_source;
 
 use blob_tool::{Status, blobtool};
 use ending::Ending;
 use file_disk::FileDisk;
+use image::{Access, OpenFault};
 use page_disk::{MemDisk, PageDisk};
-use std::fs::File;
 use std::process::ExitCode;
 use std::{env, io};
 use std_sink::StdSink;
@@ -27,8 +28,9 @@ fn words(rt: &HostRuntime) -> io::Result<Vec<String>> {
     Ok(words)
 }
 
-fn open(rt: &HostRuntime, image: &str) -> io::Result<FileDisk> {
-    FileDisk::new(File::options().read(true).write(true).open(rt, image)?)
+/// The disk over the file of an image, which is locked for as long as the disk is there.
+fn open(rt: &HostRuntime, image: &str, access: Access) -> Result<FileDisk, OpenFault> {
+    Ok(FileDisk::new(image::open(rt, image, access)?)?)
 }
 
 /// Does what the words say over the standard streams and this device.
@@ -48,10 +50,18 @@ fn image_of(words: &[String]) -> Option<&str> {
     }
 }
 
+/// What the words ask to do with their image: `list` alone writes nothing.
+fn access_of(words: &[String]) -> Access {
+    match words {
+        [verb, ..] if verb.as_str() == "list" => Access::Read,
+        _ => Access::Write,
+    }
+}
+
 /// Opens the image that the words name. Where they name none the device has no pages.
 fn start(rt: &HostRuntime, words: &[String]) -> Ending {
     match image_of(words) {
-        Some(image) => match open(rt, image) {
+        Some(image) => match open(rt, image, access_of(words)) {
             Ok(disk) => perform(rt, words, disk),
             Err(error) => Ending::NotOpened(error),
         },
