@@ -63,4 +63,3 @@ pub(crate) fn format_image<K: Sink, D: PageDisk>(
         Err(SinkFault) => (Status::OutWrite, disk),
     }
 }
-

@@ -35,8 +35,9 @@ pub fn generate_in(words: &[String]) -> Option<GeneratedScript>
     ensures size { IfSome result (λ script. script.size ≤ 65000) }
 {
     match words {
-        [verb, number, size] if verb.as_str() == "generate" =>
-            { generated_script(number.as_str(), size.as_str()) }
+        [verb, number, size] if verb.as_str() == "generate" => {
+            generated_script(number.as_str(), size.as_str())
+        }
         _ => None,
     }
 }

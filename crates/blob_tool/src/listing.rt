@@ -26,11 +26,7 @@ fn text_of<D>(alloc: Global, loaded: &Loaded<D>) -> Result<Vec<u8>, NoMemory>
 }
 
 /// Loads the store of the device, and prints it and its volumes. The device is read and nothing else.
-pub(crate) fn list_image<K: Sink, D: PageDisk>(
-    alloc: Global,
-    out: &mut K,
-    disk: D,
-) -> (Status, D)
+pub(crate) fn list_image<K: Sink, D: PageDisk>(alloc: Global, out: &mut K, disk: D) -> (Status, D)
     ensures { ListEnded D.PageDisk disk result.1 K.Sink out.old out.new result.0 }
 {
     let loaded = match load(alloc, disk) {

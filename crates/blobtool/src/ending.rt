@@ -1,7 +1,7 @@
 //! How the program ends: its exit status, and the line that it prints to standard error.
 
-use blob_tool::{LineKind, Status};
 use crate::image::OpenFault;
+use blob_tool::{LineKind, Status};
 use std::fmt::{Display, Formatter, Result, Write};
 use std::io;
 
@@ -42,7 +42,8 @@ impl Ending {
 }
 
 /// The commands.
-const USAGE: &str = "usage: blobtool run IMAGE [--schedule LIST], or blobtool format IMAGE [--cluster BYTES] \
+const USAGE: &str =
+    "usage: blobtool run IMAGE [--schedule LIST], or blobtool format IMAGE [--cluster BYTES] \
      [--md-pages N], or blobtool list IMAGE, or blobtool generate NUMBER SIZE";
 
 /// What is wrong with a line, in words.

@@ -8,7 +8,8 @@ use test_runs::{Call, expect_printed, perform};
 /// The words, which writes to the output fail, the status, and what is printed.
 type Case = (&'static str, &'static [u64], &'static str, &'static [u8]);
 
-const SCRIPT: &[u8] = b"0 create v0 8 thin\n1 create v1 8 thin\n2 create v2 8 thin\n3 create v3 8 thin\n\
+const SCRIPT: &[u8] =
+    b"0 create v0 8 thin\n1 create v1 8 thin\n2 create v2 8 thin\n3 create v3 8 thin\n\
     2 flush\n1 write v1 11 1 5627\n2 write v2 20 1 4086\n";
 
 const VOLUMES: &[u8] =

@@ -105,7 +105,11 @@ fn a_listing_that_fails_says_why(rt: HostRuntime) -> Result<(), TestFail> {
         kind: CallKind::Read,
         nth: 3,
     };
-    let ran = list(alloc, &[], FaultDisk::new(store(alloc)?, vec![in alloc; fail]?))?;
+    let ran = list(
+        alloc,
+        &[],
+        FaultDisk::new(store(alloc)?, vec![in alloc; fail]?),
+    )?;
     expect_status(alloc, &ran, "Device { at: 0 }")?;
     expect_printed(&ran.out, b"")?;
     let ran = list(alloc, &[], MemDisk::new(alloc, 64, 0)?)?;
