@@ -1,101 +1,85 @@
--- No words are two commands, since the first word of each command is its own.
-use Rattle.std.proofs.Common.{◌≡◌, ◌∙◌, ◌&&◌, if◌then◌else◌, ℕ, Bool, true, false, List, [], ◌∷◌, Option, None, Some}
-use Rattle.std.proofs.Common.{refl, sym}
-use Rattle.std.specs.Prelude.{codes, map, String, string_bytes}
-use Rattle.std.specs.Str.{bytes_eq}
+-- No words are two commands.
+use Rattle.std.proofs.Common.{◌≡◌, true, List, Option, None, Some}
+use Rattle.std.specs.Prelude.{String}
 use Rattle.std.specs.declared.alloc.Global.{Global}
-use Rattle.std.proofs.lemmas.Slice.Eq.{bytes_eq-Decides}
+use Rattle.command_words.specs.Words.{asked_in, format, generate, list, run, Asked}
 use Rattle.script_lang.specs.declared.schedule.Actor.{Actor}
-use Rattle.blob_tool.specs.FormatWords.{format_in, options_in}
-use Rattle.blob_tool.specs.GenerateWords.{generated_script_in, generate_in}
-use Rattle.blob_tool.specs.ListWords.{asks_to_list}
-use Rattle.blob_tool.specs.RunWords.{is_run, is_schedule, AreSteps, AsksToRun, AskForNoRun}
+use Rattle.blob_tool.specs.FormatWords.{format_asked, format_in}
+use Rattle.blob_tool.specs.GenerateWords.{generate_asked, generate_in}
+use Rattle.blob_tool.specs.ListWords.{asks_to_list, list_asked}
+use Rattle.blob_tool.specs.RunWords.{schedule_asked, AreSteps, AskForNoRun}
 use Rattle.blob_tool.specs.declared.format_words.Format.{Format}
 use Rattle.blob_tool.specs.declared.generate_words.GeneratedScript.{GeneratedScript}
 
-abbrev verb_of : List (String Global) → List ℕ
-verb_of [] = []
-verb_of (verb ∷ words) = string_bytes verb
+module _ (steps : List Actor) where
+  no_run_of_format : (asked : Option Asked) (new : Format) → format_asked asked ≡ Some new
+      → AreSteps (schedule_asked asked) steps → ⊥
+  no_run_of_format (Some (run schedule)) new is asks = cc is
+  no_run_of_format (Some (format cluster md_pages)) new is asks = asks
+  no_run_of_format (Some list) new is asks = asks
+  no_run_of_format (Some (generate number size)) new is asks = asks
+  no_run_of_format None new is asks = asks
 
--- what is asked for only where a test holds
-chosen : {X : Type 0} (test : Bool) (asked : Option X) (x : X) → (if test then asked else None) ≡ Some x → test ≡ true
-chosen true asked x is = refl
-chosen false asked x is = cc is
+  no_run_of_generate : (asked : Option Asked) (script : GeneratedScript) → generate_asked asked ≡ Some script
+      → AreSteps (schedule_asked asked) steps → ⊥
+  no_run_of_generate (Some (run schedule)) script is asks = cc is
+  no_run_of_generate (Some (format cluster md_pages)) script is asks = asks
+  no_run_of_generate (Some list) script is asks = asks
+  no_run_of_generate (Some (generate number size)) script is asks = asks
+  no_run_of_generate None script is asks = asks
 
--- a verb that is tested is the one that is meant
-meant : {X : Type 0} (verb wanted : List ℕ) (asked : Option X) (x : X)
-    → (if bytes_eq verb wanted then asked else None) ≡ Some x → verb ≡ wanted
-meant verb wanted asked x is = (bytes_eq-Decides verb wanted).0 (chosen (bytes_eq verb wanted) asked x is)
+  no_run_of_list : (asked : Option Asked) → list_asked asked ≡ true → AreSteps (schedule_asked asked) steps → ⊥
+  no_run_of_list (Some (run schedule)) is asks = cc is
+  no_run_of_list (Some (format cluster md_pages)) is asks = asks
+  no_run_of_list (Some list) is asks = asks
+  no_run_of_list (Some (generate number size)) is asks = asks
+  no_run_of_list None is asks = asks
 
-format_verb : (words : List (String Global)) (format : Format) → format_in words ≡ Some format
-    → verb_of words ≡ codes "format"
-format_verb [] format is = cc is
-format_verb (verb ∷ []) format is = cc is
-format_verb (verb ∷ image ∷ options) format is =
-    meant (string_bytes verb) (codes "format") (options_in (map string_bytes options)) format is
+no_format_of_generate : (asked : Option Asked) (new : Format) (script : GeneratedScript) → format_asked asked ≡ Some new
+    → generate_asked asked ≡ Some script → ⊥
+no_format_of_generate (Some (run schedule)) new script is asks = cc is
+no_format_of_generate (Some (format cluster md_pages)) new script is asks = cc asks
+no_format_of_generate (Some list) new script is asks = cc is
+no_format_of_generate (Some (generate number size)) new script is asks = cc is
+no_format_of_generate None new script is asks = cc is
 
-generate_verb : (words : List (String Global)) (script : GeneratedScript) → generate_in words ≡ Some script
-    → verb_of words ≡ codes "generate"
-generate_verb [] script is = cc is
-generate_verb (verb ∷ []) script is = cc is
-generate_verb (verb ∷ number ∷ []) script is = cc is
-generate_verb (verb ∷ number ∷ size ∷ []) script is =
-    meant (string_bytes verb) (codes "generate") (generated_script_in (string_bytes number) (string_bytes size)) script
-    is
-generate_verb (verb ∷ number ∷ size ∷ more ∷ words) script is = cc is
+no_format_of_list : (asked : Option Asked) (new : Format) → format_asked asked ≡ Some new → list_asked asked ≡ true → ⊥
+no_format_of_list (Some (run schedule)) new is asks = cc is
+no_format_of_list (Some (format cluster md_pages)) new is asks = cc asks
+no_format_of_list (Some list) new is asks = cc is
+no_format_of_list (Some (generate number size)) new is asks = cc is
+no_format_of_list None new is asks = cc is
 
-module _ (steps : List Actor) (t : Option (Option (List ℕ))) where
-  asked : (test : Bool) → AreSteps (if test then t else None) steps → test ≡ true
-  asked true asks = refl
-  asked false asks = absurd asks
-
-  asked_with : (test option : Bool) → AreSteps (if test && option then t else None) steps → test ≡ true
-  asked_with true option asks = refl
-  asked_with false option asks = absurd asks
-
-run_verb : (words : List (String Global)) (steps : List Actor) → AsksToRun words steps → verb_of words ≡ codes "run"
-run_verb [] steps asks = absurd asks
-run_verb (verb ∷ []) steps asks = absurd asks
-run_verb (verb ∷ image ∷ []) steps asks =
-    (bytes_eq-Decides (string_bytes verb) (codes "run")).0 (asked steps (Some None) (is_run verb) asks)
-run_verb (verb ∷ image ∷ option ∷ []) steps asks = absurd asks
-run_verb (verb ∷ image ∷ option ∷ list ∷ []) steps asks =
-    (bytes_eq-Decides (string_bytes verb) (codes "run")).0
-    (asked_with steps (Some (Some (string_bytes list))) (is_run verb) (is_schedule option) asks)
-run_verb (verb ∷ image ∷ option ∷ list ∷ more ∷ words) steps asks = absurd asks
+no_generate_of_list : (asked : Option Asked) (script : GeneratedScript) → generate_asked asked ≡ Some script
+    → list_asked asked ≡ true → ⊥
+no_generate_of_list (Some (run schedule)) script is asks = cc is
+no_generate_of_list (Some (format cluster md_pages)) script is asks = cc is
+no_generate_of_list (Some list) script is asks = cc is
+no_generate_of_list (Some (generate number size)) script is asks = cc asks
+no_generate_of_list None script is asks = cc is
 
 -- words that ask for a `format` ask for no `run`
-pub format_is_no_run : (words : List (String Global)) (format : Format) → format_in words ≡ Some format
-    → AskForNoRun words
-format_is_no_run words format is steps asks =
-    let e = sym (format_verb words format is) ∙ run_verb words steps asks in cc e
+pub format_is_no_run : (words : List (String Global)) (new : Format) → format_in words ≡ Some new → AskForNoRun words
+format_is_no_run words new is steps asks = no_run_of_format steps (asked_in words) new is asks
 
 -- nor do those that ask for a generated script
 pub generate_is_no_run : (words : List (String Global)) (script : GeneratedScript) → generate_in words ≡ Some script
     → AskForNoRun words
-generate_is_no_run words script is steps asks =
-    let e = sym (generate_verb words script is) ∙ run_verb words steps asks in cc e
-
-list_verb : (words : List (String Global)) → asks_to_list words ≡ true → verb_of words ≡ codes "list"
-list_verb [] is = cc is
-list_verb (verb ∷ []) is = cc is
-list_verb (verb ∷ image ∷ []) is = (bytes_eq-Decides (string_bytes verb) (codes "list")).0 is
-list_verb (verb ∷ image ∷ more ∷ words) is = cc is
+generate_is_no_run words script is steps asks = no_run_of_generate steps (asked_in words) script is asks
 
 -- and those ask for no `format`
-pub generate_is_no_format : (words : List (String Global)) (format : Format) (script : GeneratedScript)
-    → format_in words ≡ Some format → generate_in words ≡ Some script → ⊥
-generate_is_no_format words format script is asks =
-    let e = sym (format_verb words format is) ∙ generate_verb words script asks in cc e
+pub generate_is_no_format : (words : List (String Global)) (new : Format) (script : GeneratedScript)
+    → format_in words ≡ Some new → generate_in words ≡ Some script → ⊥
+generate_is_no_format words new script is asks = no_format_of_generate (asked_in words) new script is asks
 
 -- words that ask for a listing ask for no `run`, no `format` and no generated script
 pub list_is_no_run : (words : List (String Global)) → asks_to_list words ≡ true → AskForNoRun words
-list_is_no_run words is steps asks = let e = sym (list_verb words is) ∙ run_verb words steps asks in cc e
+list_is_no_run words is steps asks = no_run_of_list steps (asked_in words) is asks
 
-pub list_is_no_format : (words : List (String Global)) (format : Format) → format_in words ≡ Some format
+pub list_is_no_format : (words : List (String Global)) (new : Format) → format_in words ≡ Some new
     → asks_to_list words ≡ true → ⊥
-list_is_no_format words format is asks = let e = sym (format_verb words format is) ∙ list_verb words asks in cc e
+list_is_no_format words new is asks = no_format_of_list (asked_in words) new is asks
 
 pub list_is_no_generate : (words : List (String Global)) (script : GeneratedScript) → generate_in words ≡ Some script
     → asks_to_list words ≡ true → ⊥
-list_is_no_generate words script is asks = let e = sym (generate_verb words script is) ∙ list_verb words asks in cc e
+list_is_no_generate words script is asks = no_generate_of_list (asked_in words) script is asks

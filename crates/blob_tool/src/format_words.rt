@@ -1,10 +1,11 @@
-//! The words of `format`.
+//! What `format` is asked for with.
 
-ghost use Rattle.std.specs.Prelude.{◌≡◌, map, string_bytes};
+ghost use Rattle.std.specs.Prelude.{◌≡◌, option_map};
 ghost use Rattle.std.specs.Option.{option_copied};
-ghost use Rattle.blob_tool.specs.FormatWords.{cluster_in, md_pages_in, of_options as of_options_said, options_in};
-ghost use Rattle.blob_tool.specs.FormatWords.{format_in as format_said};
+ghost use Rattle.command_words.specs.Words.{as_read};
+ghost use Rattle.blob_tool.specs.FormatWords.{cluster_in, format_asked, md_pages_in, of_options as of_options_said};
 
+use command_words::CommandWords;
 use script_lang::number_below;
 
 /// What a new store is to be like.
@@ -57,30 +58,12 @@ fn of_options(cluster: Option<&str>, pages: Option<&str>) -> Option<Format>
     })
 }
 
-/// What the options behind the image ask for: they stand in any order, each at most once.
-fn options(words: &[String]) -> Option<Format>
-    ensures { result ≡ options_in (map string_bytes words.now) }
+/// The new store that is asked for; `None` where none is, or an option isn't of its form.
+pub fn format_in(asked: Option<CommandWords<'_>>) -> Option<Format>
+    ensures { result ≡ format_asked (option_map as_read asked) }
 {
-    match words {
-        [] => of_options(None, None),
-        [name, x] if name.as_str() == "--cluster" => of_options(Some(x.as_str()), None),
-        [name, x] if name.as_str() == "--md-pages" => of_options(None, Some(x.as_str())),
-        [a, x, b, y] if a.as_str() == "--cluster" && b.as_str() == "--md-pages" => {
-            of_options(Some(x.as_str()), Some(y.as_str()))
-        }
-        [a, x, b, y] if a.as_str() == "--md-pages" && b.as_str() == "--cluster" => {
-            of_options(Some(y.as_str()), Some(x.as_str()))
-        }
-        _ => None,
-    }
-}
-
-/// What `format IMAGE` with its options asks for; `None` where the words aren't such a command.
-pub fn format_in(words: &[String]) -> Option<Format>
-    ensures { result ≡ format_said words.now }
-{
-    match words {
-        [verb, _image, rest @ ..] if verb.as_str() == "format" => options(rest),
+    match asked {
+        Some(CommandWords::Format { cluster, md_pages }) => of_options(cluster, md_pages),
         _ => None,
     }
 }

@@ -1,8 +1,10 @@
-//! The words of `generate`.
+//! What `generate` is asked for with.
 
-ghost use Rattle.std.specs.Prelude.{◌≡◌, ◌<◌, ◌≤◌, ◌^◌, IfSome};
-ghost use Rattle.blob_tool.specs.GenerateWords.{generated_script_in, generate_in as generate_said};
+ghost use Rattle.std.specs.Prelude.{◌≡◌, ◌<◌, ◌≤◌, ◌^◌, option_map, IfSome};
+ghost use Rattle.command_words.specs.Words.{as_read};
+ghost use Rattle.blob_tool.specs.GenerateWords.{generate_asked, generated_script_in};
 
+use command_words::CommandWords;
 use script_lang::number_below;
 
 /// Which generated script is asked for.
@@ -28,15 +30,14 @@ fn generated_script(number: &str, size: &str) -> Option<GeneratedScript>
     })
 }
 
-/// The script that `generate NUMBER SIZE` asks for; `None` where the words aren't such a command.
-pub fn generate_in(words: &[String]) -> Option<GeneratedScript>
-    ensures script { result ≡ generate_said words.now }
+/// The generated script that is asked for; `None` where none is, or a number isn't of its form.
+pub fn generate_in(asked: Option<CommandWords<'_>>) -> Option<GeneratedScript>
+    ensures script { result ≡ generate_asked (option_map as_read asked) }
     ensures number { IfSome result (λ script. script.number < 2 ^ 31) }
     ensures size { IfSome result (λ script. script.size ≤ 65000) }
 {
-    match words {
-        [verb, number, size] if verb.as_str() == "generate" =>
-            { generated_script(number.as_str(), size.as_str()) }
+    match asked {
+        Some(CommandWords::Generate { number, size }) => generated_script(number, size),
         _ => None,
     }
 }

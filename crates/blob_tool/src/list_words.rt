@@ -1,14 +1,14 @@
-//! The words of `list`.
+//! Whether a listing is asked for.
 
-ghost use Rattle.std.specs.Prelude.{◌≡◌};
-ghost use Rattle.blob_tool.specs.ListWords.{asks_to_list as list_said};
+ghost use Rattle.std.specs.Prelude.{◌≡◌, option_map};
+ghost use Rattle.command_words.specs.Words.{as_read};
+ghost use Rattle.blob_tool.specs.ListWords.{list_asked};
 
-/// Whether the words are `list IMAGE`.
-pub fn asks_to_list(words: &[String]) -> bool
-    ensures { result ≡ list_said words.now }
+use command_words::CommandWords;
+
+/// Whether a listing is asked for.
+pub fn asks_to_list(asked: Option<CommandWords<'_>>) -> bool
+    ensures { result ≡ list_asked (option_map as_read asked) }
 {
-    match words {
-        [verb, _image] => verb.as_str() == "list",
-        _ => false,
-    }
+    matches!(asked, Some(CommandWords::List))
 }

@@ -1,9 +1,11 @@
-//! The words of `run`.
+//! What `run` is asked for with.
 
-ghost use Rattle.std.specs.Prelude.{IfOk, Some};
+ghost use Rattle.std.specs.Prelude.{option_map, IfOk, Some};
 ghost use Rattle.std.specs.Option.{option_copied};
-ghost use Rattle.blob_tool.specs.RunWords.{schedule_text, FindsSchedule};
+ghost use Rattle.command_words.specs.Words.{as_read};
+ghost use Rattle.blob_tool.specs.RunWords.{schedule_asked, FindsSchedule};
 
+use command_words::CommandWords;
 use out_of_memory::Memory;
 use script_lang::{Schedule, ScheduleFault, parse_schedule};
 use std::alloc::Global;
@@ -22,15 +24,16 @@ fn schedule_of(alloc: Global, text: Option<&str>) -> Result<Option<Schedule>, Me
     }
 }
 
-/// The schedule with which `run IMAGE` is asked for, by `--schedule LIST` behind the image, or an empty one; `None`
-/// where the words aren't such a command.
-pub(crate) fn schedule_in(alloc: Global, words: &[String]) -> Result<Option<Schedule>, Memory>
-    ensures { IfOk result (FindsSchedule (schedule_text words.now)) }
+/// The schedule with which a `run` is asked for, without a text an empty one; `None` where none is asked for, or the
+/// text is no schedule.
+pub(crate) fn schedule_in(
+    alloc: Global,
+    asked: Option<CommandWords<'_>>,
+) -> Result<Option<Schedule>, Memory>
+    ensures { IfOk result (FindsSchedule (schedule_asked (option_map as_read asked))) }
 {
-    match words {
-        [verb, _image] if verb.as_str() == "run" => schedule_of(alloc, None),
-        [verb, _image, option, list] if verb.as_str() == "run" && option.as_str() == "--schedule" =>
-            { schedule_of(alloc, Some(list.as_str())) }
+    match asked {
+        Some(CommandWords::Run { schedule }) => schedule_of(alloc, schedule),
         _ => Ok(None),
     }
 }

@@ -1,0 +1,22 @@
+use Rattle.std.proofs.Common.{ap, ap₂, ◌∙◌}
+use Rattle.std.proofs.lemmas.Result.{IfOk-weaker}
+use Rattle.clap.specs.Simple.{App, with_subcommand}
+use Rattle.command_words.proofs.command_line.command_line.Goals as goal
+
+pub returns : goal.returns
+returns c = record {
+  app = IfOk-weaker c.subcommand-4.result _ _
+      (λ r added. added.shape c.in_ok-generate_line.ensures.local
+      ∙ ap₂ with_subcommand
+      (c.in_ok-subcommand-3.ensures.shape c.in_ok-list_line.ensures.local
+      ∙ ap₂ with_subcommand
+      (c.in_ok-subcommand-2.ensures.shape c.in_ok-format_line.ensures.local
+      ∙ ap₂ with_subcommand
+      (c.in_ok-subcommand.ensures.shape c.in_ok-run_line.ensures.local
+      ∙ ap₂ with_subcommand c.without_commands.ensures.app
+      (ap (λ (a : App). a.top) c.in_ok-run_line.ensures.app))
+      (ap (λ (a : App). a.top) c.in_ok-format_line.ensures.app))
+      (ap (λ (a : App). a.top) c.in_ok-list_line.ensures.app))
+      (ap (λ (a : App). a.top) c.in_ok-generate_line.ensures.app))
+      c.subcommand-4.ensures;
+}
