@@ -1,0 +1,43 @@
+//! Replays device calls over a file: reads them from standard input, a line each (`r PAGE`, `w PAGE` or `f`), and then
+//! makes just these, on pages of 4096 bytes. The time of a run of `blobtool` is compared with that of its bare calls.
+#![tactic(auto)]
+
+mod calls;
+
+use anyhow::{Result, bail};
+use calls::Call;
+use std::env;
+use std::fs::File;
+use std::io::Read;
+
+const USAGE: &str = "usage: call_replay IMAGE < CALLS";
+
+/// The image that the words name.
+fn image(rt: &HostRuntime) -> Result<File> {
+    let mut words = env::args(rt)?.skip(1);
+    match (words.next(), words.next()) {
+        (Some(path), None) => Ok(File::options().read(true).write(true).open(rt, path.as_str())?),
+        _ => bail!("{USAGE}"),
+    }
+}
+
+/// The calls that standard input lists.
+fn calls(rt: &HostRuntime) -> Result<Vec<Call>> {
+    let mut text = String::new(rt.alloc());
+    rt.stdin().read_to_string(&mut text)?;
+    let mut calls = Vec::new(rt.alloc());
+    for line in text.as_str().lines() {
+        calls.push(Call::read_from(line)?)?;
+    }
+    Ok(calls)
+}
+
+fn main(rt: HostRuntime) -> Result<()> {
+    let file = image(&rt)?;
+    let calls = calls(&rt)?;
+    for call in calls.as_slice() {
+        call.make(&file)?;
+    }
+    println!(rt; "{} calls", calls.len())?;
+    Ok(())
+}
