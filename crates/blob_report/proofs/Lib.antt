@@ -1,3 +1,4 @@
 pub mod Firsts
 pub mod Infos
 pub mod PageTexts
+pub mod StoreTexts

@@ -1,3 +1,4 @@
 pub mod Pieces
 pub mod PageText
 pub mod Text
+pub mod StoreText

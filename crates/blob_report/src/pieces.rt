@@ -18,7 +18,7 @@ pub enum Piece<'a> {
     /// A number that may be long, in decimal.
     Long(u64),
     /// `@` and a head, or `-` where there is none.
-    Head(Option<u32>),
+    Head(Option<u64>),
     /// Any bytes as they are shown: each that can't be seen as `\x` and two hexadecimal digits.
     Shown(&'a [u8]),
     /// Each byte as two hexadecimal digits.
@@ -106,7 +106,7 @@ fn push_shown(bytes: &[u8], into: &mut Vec<u8>) -> Result<(), Memory>
 }
 
 /// Appends `@` and a head, or `-`. After `Memory` what was there still stands first.
-fn push_head(head: Option<u32>, into: &mut Vec<u8>) -> Result<(), Memory>
+fn push_head(head: Option<u64>, into: &mut Vec<u8>) -> Result<(), Memory>
     ensures ok { OnOk result (into.new.items ≡ into.old.items ++ head_text head) }
     ensures kept { take (length into.old.items) into.new.items ≡ into.old.items }
 {
@@ -115,7 +115,7 @@ fn push_head(head: Option<u32>, into: &mut Vec<u8>) -> Result<(), Memory>
         return Ok(());
     };
     into.push(b'@')?;
-    push_number(u64::from(head), into)
+    push_number(head, into)
 }
 
 /// Appends a piece. After `Memory` what was there still stands first.

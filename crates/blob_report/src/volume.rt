@@ -9,17 +9,27 @@ use out_of_memory::Memory;
 use volume_model::Info;
 
 /// How a volume's slots are filled.
-fn filling(thin: bool) -> &'static [u8]
+pub fn filling(thin: bool) -> &'static [u8]
     ensures { result.now ≡ filling_text thin }
 {
     if thin { b" thin" } else { b" thick" }
 }
 
 /// Whether a volume can be written.
-fn writing(read_only: bool) -> &'static [u8]
+pub fn writing(read_only: bool) -> &'static [u8]
     ensures { result.now ≡ writing_text read_only }
 {
     if read_only { b" ro" } else { b" rw" }
+}
+
+/// The head of a volume's parent.
+fn parent_head(info: &Info) -> Option<u64>
+    ensures { result ≡ info.now.parent }
+{
+    match info.parent {
+        Some(head) => Some(u64::from(head)),
+        None => None,
+    }
 }
 
 /// Appends what is known of a volume. After `Memory` nothing is appended.
@@ -35,7 +45,7 @@ pub fn push_info(info: &Info, into: &mut Vec<u8>) -> Result<(), Memory>
         Words(b" slots "),
         Long(info.slots),
         Words(b" parent "),
-        Head(info.parent),
+        Head(parent_head(info)),
         Words(filling(info.thin)),
         Words(writing(info.read_only)),
         Words(b" xattrs "),

@@ -43,19 +43,9 @@ use Rattle.blob_tool.specs.Closing.{Closes}
 use Rattle.blob_tool.specs.Surviving.{IsLasting}
 use Rattle.store_model.specs.StoreState.{shown}
 use Rattle.script_lang.specs.declared.schedule.Actor.{Actor}
-use Rattle.blob_tool.specs.Outcome.{EndedRepairing, HasScript, NothingWritten, Outcome, RanTo}
+use Rattle.blob_tool.specs.Outcome.{EndedRepairing, HasScript, Outcome, RanTo}
+use Rattle.blob_tool.specs.Untouched.{NothingWritten}
 use Rattle.blob_tool.specs.Outcome.{ReadsScript, Started}
-
--- a device that was only read has one image still
-pub still_one : {D : Type 0} (d : disk.Ghosts D) (before after : D) → OnlyRead d before after → HasOneImage d before
-    → HasOneImage d after
-still_one d before after same one = (
-  one.0,
-  λ c. (
-    λ held. (one.1 c).0 ((same.images one.0 c).0 held) ∙ sym (same.now one.0),
-    λ is. (same.images one.0 c).1 ((one.1 c).1 (is ∙ same.now one.0)),
-  ),
-)
 
 module _ {D : Type 0} (d : disk.Ghosts D) (script : List (List Command)) (schedule : List Actor) {K : Type 0}
     (k : sink.Ghosts K) (out out_now : K) (back : D) (first : StoreView D) where
@@ -126,7 +116,7 @@ module _ {S : Type 0} (s : source.Ghosts S) (script script_now : S) {D : Type 0}
       (inr (inl (record { quiet = x.1; device = subst (OnlyRead d before) (sym x.2) same })))
 
   -- a store that wasn't loaded
-  pub of_a_fault : (fault : LoadFault) → NothingWritten s script script_now d k out out_now before back
+  pub of_a_fault : (fault : LoadFault) → NothingWritten d before out out_now back
       → HasScript s script script_now d k out out_now before back
       → IsFaultCounted (d.read_faults before) (d.read_faults back) fault
       → (IsTrue d.tells → IsFaultOf (d.pages before) (d.now before) fault)
@@ -135,19 +125,19 @@ module _ {S : Type 0} (s : source.Ghosts S) (script script_now : S) {D : Type 0}
   of_a_fault loading.ReadFault stays script counted cause refused = inr (inl (stays, script, refl, counted))
   of_a_fault loading.Memory stays script counted cause refused = inr (inl stays)
   of_a_fault (loading.Super why) stays script counted cause refused =
-      (stays, script, tt, λ tells. (cause tells, refused tells tt))
+      (stays, script, (tt, λ tells. (cause tells, refused tells tt)))
   of_a_fault (loading.Chain head why) stays script counted cause refused =
-      (stays, script, tt, λ tells. (cause tells, refused tells tt))
+      (stays, script, (tt, λ tells. (cause tells, refused tells tt)))
   of_a_fault (loading.Meta head why) stays script counted cause refused =
-      (stays, script, tt, λ tells. (cause tells, refused tells tt))
+      (stays, script, (tt, λ tells. (cause tells, refused tells tt)))
   of_a_fault (loading.MapsTooLarge slots) stays script counted cause refused =
-      (stays, script, tt, λ tells. (cause tells, refused tells tt))
+      (stays, script, (tt, λ tells. (cause tells, refused tells tt)))
   of_a_fault (loading.NoParentBlob blob parent) stays script counted cause refused =
-      (stays, script, tt, λ tells. (cause tells, refused tells tt))
+      (stays, script, (tt, λ tells. (cause tells, refused tells tt)))
   of_a_fault (loading.WritableParent blob parent) stays script counted cause refused =
-      (stays, script, tt, λ tells. (cause tells, refused tells tt))
+      (stays, script, (tt, λ tells. (cause tells, refused tells tt)))
   of_a_fault (loading.ParentLoop blob) stays script counted cause refused =
-      (stays, script, tt, λ tells. (cause tells, refused tells tt))
+      (stays, script, (tt, λ tells. (cause tells, refused tells tt)))
   of_a_fault (loading.Shared cluster a b) stays script counted cause refused =
-      (stays, script, tt, λ tells. (cause tells, refused tells tt))
+      (stays, script, (tt, λ tells. (cause tells, refused tells tt)))
   of_a_fault (loading.NoRoom head has wants) stays script counted cause refused = absurd counted

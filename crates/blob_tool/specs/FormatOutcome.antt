@@ -13,7 +13,7 @@ use Rattle.blob_report.specs.Text.{space_text}
 use Rattle.store_format.specs.NewStore.{md_end_of, IsNewStore, LoadsEmpty, Writes}
 use Rattle.streams.specs.Printing.{IsPartOf}
 use Rattle.streams.specs.declared.sink.Sink as sink
-use Rattle.blob_tool.specs.Outcome.{NothingDone}
+use Rattle.blob_tool.specs.Untouched.{NothingDone}
 use Rattle.blob_tool.specs.declared.format_words.Format.{Format}
 use Rattle.blob_tool.specs.declared.status.Status.{Status}
 use Rattle.blob_tool.specs.declared.status.Status.TheVariants as status

@@ -1,9 +1,16 @@
 pub mod FormatWords
 pub mod Surviving
+pub mod Found
+pub mod Untouched
 pub mod Statuses
 pub mod Closing
 pub mod Repairing
 pub mod Runs
 pub mod Outcome
 pub mod FormatOutcome
+pub mod GenerateWords
+pub mod GenerateOutcome
+pub mod ListWords
+pub mod ListOutcome
+pub mod Commands
 pub mod RunWords

@@ -21,11 +21,7 @@ use Rattle.blob_tool.specs.declared.status.Status.{Status}
 use Rattle.blob_tool.specs.declared.status.Status.TheVariants as status
 use Rattle.blob_tool.specs.Repairing.{EndedInRepair}
 use Rattle.blob_tool.specs.Runs.{Ended, IsLoaded}
-
--- nothing is printed, and the device that is handed back is the one that was handed in
-pub record NothingDone {D K : Type 0} (out out_now : K) (before back : D) : Type 0 where
-  pub quiet : out_now ≡ out
-  pub device : back ≡ before
+use Rattle.blob_tool.specs.Untouched.{IsRefused, NothingDone, NothingWritten}
 
 module _ {S : Type 0} (s : source.Ghosts S) (script script_now : S) where
   -- the script's text: all that the source had
@@ -86,11 +82,6 @@ module _ {S : Type 0} (s : source.Ghosts S) (script script_now : S) where
         (p : StoreView D) → RepairRun d.tells (state_of d first) (state_of d p) → p.stopped ≡ None
         → (head has wants : ℕ) → LacksForRepair (state_of d p) head has wants → ⊥
 
-    -- nothing is printed, and the device was read at most
-    pub record NothingWritten : Type 0 where
-      pub quiet : out_now ≡ out
-      pub device : OnlyRead d before back
-
     -- the text was a script, whatever the device holds
     pub record HasScript : Type 0 where
       pub commands : List (List Command)
@@ -107,14 +98,13 @@ module _ {S : Type 0} (s : source.Ghosts S) (script script_now : S) where
     -- The image has this fault, and isn't accepted; or it is accepted, and a repair needs more pages than are clear.
     abbrev pub IsBadImage : LoadFault → Type 0
     IsBadImage (fault.NoRoom head has wants) = EndedRepairing (status.Image (fault.NoRoom head has wants))
-    IsBadImage why =
-        NothingWritten × HasScript × IsImageFault why
-        × (IsTrue d.tells → IsFaultOf (d.pages before) (d.now before) why
-        × (IsAccepted (d.pages before) (d.now before) → ⊥))
+    IsBadImage why = NothingWritten d before out out_now back × HasScript × IsRefused d before why
 
     -- a read of the device failed while the store was loaded
     abbrev pub IsUnloaded : ℕ → Type 0
-    IsUnloaded at = NothingWritten × HasScript × (at ≡ 0) × Rose (d.read_faults before) (d.read_faults back)
+    IsUnloaded at =
+        NothingWritten d before out out_now back × HasScript × (at ≡ 0)
+        × Rose (d.read_faults before) (d.read_faults back)
 
     -- what each status says of a run that was asked for by a schedule
     abbrev pub Outcome : List Actor → Status → Type 0
@@ -127,7 +117,7 @@ module _ {S : Type 0} (s : source.Ghosts S) (script script_now : S) where
     Outcome schedule (status.Device at) =
         RanTo schedule (status.Device at) ⊎ (IsUnloaded at ⊎ EndedRepairing (status.Device at))
     Outcome schedule status.Memory =
-        RanTo schedule status.Memory ⊎ (NothingWritten ⊎ EndedRepairing status.Memory)
+        RanTo schedule status.Memory ⊎ (NothingWritten d before out out_now back ⊎ EndedRepairing status.Memory)
 
     -- the source has a script and nothing else, the image is accepted, each repair has the pages that it needs, and no
     -- count of faults rose in the call

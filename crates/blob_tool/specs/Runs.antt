@@ -37,6 +37,7 @@ use Rattle.streams.specs.Printing.{IsPartOf}
 use Rattle.blob_tool.specs.Closing.{AddsNoImage}
 use Rattle.blob_tool.specs.Repairing.{AreMade, EndedInRepair}
 use Rattle.blob_tool.specs.Surviving.{IsLasting, RunSurvives}
+use Rattle.blob_tool.specs.Found.{IsFound}
 
 -- The turns that lead from one state of a store to another are those of the steps of a schedule, and then of rounds of
 -- the channels and the metadata thread until all have ended. No message is on its way at first.
@@ -46,16 +47,9 @@ FollowsSchedule d schedule first last =
     × StoreFollows d.tells (actors_in_run schedule) (driven_at_start (state_of d first)) w
 
 module _ {D : Type 0} (d : disk.Ghosts D) (script : List (List Command)) where
-  -- A store as the device says it, and what recovery makes of it: the masks are what the blobs that stay claim. It is
-  -- opened with the script.
+  -- a store is found on the device, and opened with the script
   pub record IsLoaded (before : D) (loaded : Loaded D) (first : StoreView D) : Type 0 where
-    pub super : IsTrue d.tells → loaded.sup ≡ super_of (d.now before 0) (d.pages before)
-    pub says : IsTrue d.tells
-        → Says (region_of loaded.sup) (base_of loaded.metas loaded.marked) (map.get loaded.chains) (d.now before)
-    pub accepted : IsTrue d.tells → IsAccepted (d.pages before) (d.now before)
-    pub recovered : IsLoadedFrom (base_of loaded.metas loaded.marked) loaded
-    pub same : OnlyRead d before loaded.disk
-    pub one_image : HasOneImage d before → HasOneImage d loaded.disk
+    pub found : IsFound d before loaded
     pub opened : IsOpened d loaded script first
 
   module _ (schedule : List Actor) where

@@ -37,6 +37,11 @@ of_run (Some at) printed = status.Device at
 of_run None (Err printing.Sink) = status.OutWrite
 of_run None (Ok done) = status.Good
 
+-- a text that couldn't be printed whole
+abbrev pub of_printing : PrintFault → Status
+of_printing printing.Sink = status.OutWrite
+of_printing printing.Memory = status.Memory
+
 -- the status of words that are no command
 abbrev pub is_usage : Status → Bool
 is_usage status.Usage = true
@@ -48,11 +53,18 @@ IsRunDone status.Good = Unit {0}
 IsRunDone status.Memory = Unit {0}
 IsRunDone _ = ⊥
 
--- those that are answered to `format`
-abbrev pub comes_of_format : Status → Bool
-comes_of_format status.Good = true
-comes_of_format status.OutWrite = true
-comes_of_format (status.Image fault) = true
-comes_of_format (status.Device at) = true
-comes_of_format status.Memory = true
-comes_of_format _ = false
+-- those that are answered to a command that reads no script
+abbrev pub comes_without_script : Status → Bool
+comes_without_script status.Good = true
+comes_without_script status.OutWrite = true
+comes_without_script (status.Image fault) = true
+comes_without_script (status.Device at) = true
+comes_without_script status.Memory = true
+comes_without_script _ = false
+
+-- those that are answered to `generate`
+abbrev pub comes_of_generate : Status → Bool
+comes_of_generate status.Good = true
+comes_of_generate status.OutWrite = true
+comes_of_generate status.Memory = true
+comes_of_generate _ = false

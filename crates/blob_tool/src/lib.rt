@@ -3,6 +3,11 @@
 
 mod closing;
 mod format_words;
+mod formatting;
+mod generate_words;
+mod generating;
+mod list_words;
+mod listing;
 mod playing;
 mod repairing;
 mod run_words;

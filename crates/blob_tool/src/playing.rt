@@ -31,7 +31,7 @@ use unclean_load::stores_are_accepted;
 use volume_model::Script;
 
 /// The device of a loaded store.
-fn disk_of<D>(loaded: Loaded<D>) -> D
+pub(crate) fn disk_of<D>(loaded: Loaded<D>) -> D
     ensures { result ≡ loaded.disk }
 {
     let Loaded {

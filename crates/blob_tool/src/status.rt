@@ -73,6 +73,20 @@ impl From<LoadFault> for Status {
     }
 }
 
+impl From<PrintFault> for Status {
+    ghost use Rattle.std.specs.Prelude.{◌≡◌};
+    ghost use Rattle.blob_tool.specs.Statuses.{of_printing};
+
+    ghost from_gives = { λ fault status. status ≡ of_printing fault };
+
+    fn from(fault: PrintFault) -> Status {
+        match fault {
+            PrintFault::Sink => Status::OutWrite,
+            PrintFault::Memory => Status::Memory,
+        }
+    }
+}
+
 impl Status {
     ghost use Rattle.std.specs.Prelude.{◌≡◌};
     ghost use Rattle.blob_tool.specs.Statuses.{of_run};

@@ -1,5 +1,6 @@
 //! How the program ends: its exit status, and the line that it prints to standard error.
 
+use crate::image::OpenFault;
 use blob_tool::{LineKind, Status};
 use std::fmt::{Display, Formatter, Result, Write};
 use std::io;
@@ -11,8 +12,8 @@ pub enum Ending {
     Ran(Status),
     /// A word isn't UTF-8.
     NotText,
-    /// The image could not be opened.
-    NotOpened(io::Error),
+    /// The image isn't had.
+    NotOpened(OpenFault),
 }
 
 impl Ending {
@@ -42,7 +43,8 @@ impl Ending {
 
 /// The commands.
 const USAGE: &str =
-    "usage: blobtool run IMAGE, or blobtool format IMAGE [--cluster BYTES] [--md-pages N]";
+    "usage: blobtool run IMAGE [--schedule LIST], or blobtool format IMAGE [--cluster BYTES] \
+     [--md-pages N], or blobtool list IMAGE, or blobtool generate NUMBER SIZE";
 
 /// What is wrong with a line, in words.
 fn wrong(kind: LineKind) -> &'static str {
@@ -75,7 +77,12 @@ impl Display for Ending {
             }
             Ending::Ran(Status::Memory) => write!(f, "no memory"),
             Ending::NotText => write!(f, "a word is not UTF-8"),
-            Ending::NotOpened(error) => write!(f, "the image could not be opened: {error}"),
+            Ending::NotOpened(OpenFault::InUse) => {
+                write!(f, "the image is in use by another program")
+            }
+            Ending::NotOpened(OpenFault::Failed(error)) => {
+                write!(f, "the image could not be opened: {error}")
+            }
         }
     }
 }
@@ -109,7 +116,8 @@ mod tests {
             (
                 Ending::Ran(Status::Usage),
                 1,
-                "usage: blobtool run IMAGE, or blobtool format IMAGE [--cluster BYTES] [--md-pages N]",
+                "usage: blobtool run IMAGE [--schedule LIST], or blobtool format IMAGE [--cluster BYTES] \
+                 [--md-pages N], or blobtool list IMAGE, or blobtool generate NUMBER SIZE",
             ),
             (Ending::NotText, 1, "a word is not UTF-8"),
             (
@@ -139,9 +147,14 @@ mod tests {
                 "the image failed after 7 commands",
             ),
             (
-                Ending::NotOpened(missing),
+                Ending::NotOpened(OpenFault::Failed(missing)),
                 6,
                 "the image could not be opened: entity not found",
+            ),
+            (
+                Ending::NotOpened(OpenFault::InUse),
+                6,
+                "the image is in use by another program",
             ),
             (Ending::Ran(Status::Memory), 7, "no memory"),
         ];

@@ -21,7 +21,7 @@ pub struct FileDisk {
 }
 
 impl FileDisk {
-    /// The disk over a file that was opened to be read and written.
+    /// The disk over a file that was opened to be read, and maybe to be written: else each write is a fault.
     pub fn new(file: File) -> io::Result<FileDisk> {
         let pages = file.metadata()?.len() / 4096;
         Ok(FileDisk {

@@ -1,17 +1,19 @@
-//! Runs a script from standard input on the store in an image file, and prints its log to standard output; or writes a
-//! new store into the file, and prints its line. Any exit status other than 0 comes with one line on standard error.
+//! Runs a script from standard input on the store in an image file, and prints its log to standard output; writes a new
+//! store into the file, and prints its line; prints the store in the file and its volumes; or prints a generated
+//! script. Any exit status other than 0 comes with one line on standard error.
 #![tactic(auto)]
 
 mod ending;
 mod file_disk;
+mod image;
 mod std_sink;
 mod std_source;
 
 use blob_tool::{Status, blobtool};
 use ending::Ending;
 use file_disk::FileDisk;
+use image::{Access, OpenFault};
 use page_disk::{MemDisk, PageDisk};
-use std::fs::File;
 use std::process::ExitCode;
 use std::{env, io};
 use std_sink::StdSink;
@@ -26,8 +28,9 @@ fn words(rt: &HostRuntime) -> io::Result<Vec<String>> {
     Ok(words)
 }
 
-fn open(rt: &HostRuntime, image: &str) -> io::Result<FileDisk> {
-    FileDisk::new(File::options().read(true).write(true).open(rt, image)?)
+/// The disk over the file of an image, which is locked for as long as the disk is there.
+fn open(rt: &HostRuntime, image: &str, access: Access) -> Result<FileDisk, OpenFault> {
+    Ok(FileDisk::new(image::open(rt, image, access)?)?)
 }
 
 /// Does what the words say over the standard streams and this device.
@@ -38,10 +41,27 @@ fn perform<D: PageDisk + Drop + Send>(rt: &HostRuntime, words: &[String], disk: 
     Ending::Ran(status)
 }
 
-/// Opens the image that the second word names. Where there is no such word the device has no pages.
+/// The image that the words name: the second word, but for `generate`, which uses none.
+fn image_of(words: &[String]) -> Option<&str> {
+    match words {
+        [verb, ..] if verb.as_str() == "generate" => None,
+        [_, image, ..] => Some(image.as_str()),
+        _ => None,
+    }
+}
+
+/// What the words ask to do with their image: `list` alone writes nothing.
+fn access_of(words: &[String]) -> Access {
+    match words {
+        [verb, ..] if verb.as_str() == "list" => Access::Read,
+        _ => Access::Write,
+    }
+}
+
+/// Opens the image that the words name. Where they name none the device has no pages.
 fn start(rt: &HostRuntime, words: &[String]) -> Ending {
-    match words.get(1) {
-        Some(image) => match open(rt, image.as_str()) {
+    match image_of(words) {
+        Some(image) => match open(rt, image, access_of(words)) {
             Ok(disk) => perform(rt, words, disk),
             Err(error) => Ending::NotOpened(error),
         },

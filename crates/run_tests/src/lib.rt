@@ -1,6 +1,6 @@
 //! Tests of the program's calls over a device in memory: the verbs on attributes, new volumes, volumes that are thick
 //! or get another number of slots, clones, volumes that are renamed or told, pages that are read and written, channels
-//! that take turns, new stores, and each status.
+//! that take turns, new stores, listings, generated scripts, and each status.
 #![tactic(auto)]
 
 #[cfg(test)]
@@ -9,6 +9,10 @@ mod clones;
 mod failures;
 #[cfg(test)]
 mod formats;
+#[cfg(test)]
+mod generated_scripts;
+#[cfg(test)]
+mod listings;
 #[cfg(test)]
 mod names;
 #[cfg(test)]

@@ -2,7 +2,8 @@ use Rattle.std.proofs.Common.{refl, subst, sym}
 use Rattle.blob_tool.specs.Outcome.{Outcome}
 use Rattle.blob_tool.specs.declared.status.Status.{Status}
 use Rattle.blob_tool.proofs.Complete.{done_from}
-use Rattle.blob_tool.proofs.Ending.{of_a_fault, of_a_run, still_one}
+use Rattle.blob_tool.proofs.Ending.{of_a_fault, of_a_run}
+use Rattle.blob_tool.proofs.FoundStore.{found_by}
 use Rattle.blob_tool.proofs.top.run_image.Goals as goal
 
 pub returns-in-Ok-load-clause-outcome : goal.returns-in-Ok-load-clause-outcome
@@ -12,12 +13,8 @@ returns-in-Ok-load-clause-outcome g c =
     of_a_run g.S.Source c.args.script.now c.script_of.new.source d g.K.Sink c.args.out.now c.play.new.out c.args.disk
     c.play.result.1 c.args.schedule.now c.in-Ok.commands loaded c.play.result.0 c.in-Ok.ensures.text
     (λ first opened. record {
-      super = c.in-Ok-load.ensures.super_block;
-      says = c.in-Ok-load.ensures.found;
-      accepted = c.in-Ok-load.ensures.accepted;
-      recovered = c.in-Ok-load.ensures.recovered;
-      same = c.in-Ok-load.ensures.same;
-      one_image = still_one d c.args.disk loaded.disk c.in-Ok-load.ensures.same;
+      found = found_by d c.args.disk loaded c.in-Ok-load.ensures.super_block c.in-Ok-load.ensures.found
+          c.in-Ok-load.ensures.accepted c.in-Ok-load.ensures.recovered c.in-Ok-load.ensures.same;
       opened = opened;
     }) c.in-Ok-load.ensures.same c.play.ensures
 
@@ -31,12 +28,8 @@ returns-in-Ok-load-clause-complete g c fails =
       script_is = c.in-Ok.ensures.text;
       loaded = loaded;
       as_found = record {
-        super = c.in-Ok-load.ensures.super_block;
-        says = c.in-Ok-load.ensures.found;
-        accepted = c.in-Ok-load.ensures.accepted;
-        recovered = c.in-Ok-load.ensures.recovered;
-        same = c.in-Ok-load.ensures.same;
-        one_image = still_one d c.args.disk loaded.disk c.in-Ok-load.ensures.same;
+        found = found_by d c.args.disk loaded c.in-Ok-load.ensures.super_block c.in-Ok-load.ensures.found
+            c.in-Ok-load.ensures.accepted c.in-Ok-load.ensures.recovered c.in-Ok-load.ensures.same;
         opened = opened;
       };
     }) c.play.ensures

@@ -1,7 +1,7 @@
 use Rattle.std.proofs.Common.{◌≡◌, ℕ, refl, sym, ap, ◌∙◌}
 use Rattle.super_block.specs.Layout.{layout_of}
 use Rattle.super_block.specs.declared.layout.Layout.{Layout}
-use Rattle.blob_tool.proofs.top.format_image.Goals as goal
+use Rattle.blob_tool.proofs.formatting.format_image.Goals as goal
 
 pages_of_layout : (pages cluster_pages md_pages : ℕ) → (layout_of pages cluster_pages md_pages).device_pages ≡ pages
 unfolding layout_of

@@ -1,0 +1,51 @@
+-- What a listing came to.
+use Rattle.std.proofs.Common.{◌≡◌, ◌++◌, IsTrue, Result, Ok, Err, OnOk, OnErr, refl, sym, subst}
+use Rattle.page_disk.specs.Disk.{Rose}
+use Rattle.page_disk.specs.declared.disk.PageDisk as disk
+use Rattle.md_chain.specs.Reading.{OnlyRead}
+use Rattle.streams.specs.declared.sink.Sink as sink
+use Rattle.unclean_load.specs.Accepted.{IsAccepted, IsFaultOf, IsImageFault}
+use Rattle.unclean_load.specs.Reading.{IsFaultCounted}
+use Rattle.unclean_load.specs.declared.fault.LoadFault.{LoadFault}
+use Rattle.unclean_load.specs.declared.fault.LoadFault.TheVariants as loading
+use Rattle.blob_tool.specs.ListOutcome.{ListEnded}
+use Rattle.blob_tool.specs.Untouched.{NothingWritten}
+use Rattle.blob_tool.specs.Statuses.{of_loading}
+use Rattle.blob_tool.specs.declared.status.Status.{Status}
+use Rattle.blob_tool.specs.declared.status.Status.TheVariants as status
+
+module _ {D : Type 0} (d : disk.Ghosts D) {K : Type 0} (k : sink.Ghosts K) (out out_now : K) (before back : D) where
+  -- a store that wasn't loaded
+  pub unlisted : (fault : LoadFault) → NothingWritten d before out out_now back
+      → IsFaultCounted (d.read_faults before) (d.read_faults back) fault
+      → (IsTrue d.tells → IsFaultOf (d.pages before) (d.now before) fault)
+      → (IsTrue d.tells → IsImageFault fault → IsAccepted (d.pages before) (d.now before) → ⊥)
+      → ListEnded d before back k out out_now (of_loading fault)
+  unlisted loading.ReadFault stays counted cause refused = (stays, refl, counted)
+  unlisted loading.Memory stays counted cause refused = stays
+  unlisted (loading.Super why) stays counted cause refused = (stays, (tt, λ tells. (cause tells, refused tells tt)))
+  unlisted (loading.Chain head why) stays counted cause refused = (stays, (tt, λ tells. (cause tells, refused tells tt)))
+  unlisted (loading.Meta head why) stays counted cause refused = (stays, (tt, λ tells. (cause tells, refused tells tt)))
+  unlisted (loading.MapsTooLarge slots) stays counted cause refused =
+      (stays, (tt, λ tells. (cause tells, refused tells tt)))
+  unlisted (loading.NoParentBlob blob parent) stays counted cause refused =
+      (stays, (tt, λ tells. (cause tells, refused tells tt)))
+  unlisted (loading.WritableParent blob parent) stays counted cause refused =
+      (stays, (tt, λ tells. (cause tells, refused tells tt)))
+  unlisted (loading.ParentLoop blob) stays counted cause refused = (stays, (tt, λ tells. (cause tells, refused tells tt)))
+  unlisted (loading.Shared cluster a b) stays counted cause refused =
+      (stays, (tt, λ tells. (cause tells, refused tells tt)))
+  unlisted (loading.NoRoom head has wants) stays counted cause refused = absurd counted
+
+  -- whatever came of it, the device was only read
+  pub only_read : (st : Status) → ListEnded d before back k out out_now st → OnlyRead d before back
+  only_read status.Good ended =
+      subst (OnlyRead d before) (sym ended.listed.device) ended.listed.found.same
+  only_read status.OutWrite ended =
+      subst (OnlyRead d before) (sym ended.listed.device) ended.listed.found.same
+  only_read (status.Image fault) ended = ended.0.device
+  only_read (status.Device at) ended = ended.0.device
+  only_read status.Memory ended = ended.device
+  only_read status.Usage ended = absurd ended
+  only_read (status.Script line kind) ended = absurd ended
+  only_read status.ScriptRead ended = absurd ended

@@ -1,0 +1,43 @@
+//! The words of `generate`.
+
+ghost use Rattle.std.specs.Prelude.{◌≡◌, ◌<◌, ◌≤◌, ◌^◌, IfSome};
+ghost use Rattle.blob_tool.specs.GenerateWords.{generated_script_in, generate_in as generate_said};
+
+use script_lang::number_below;
+
+/// Which generated script is asked for.
+#[derive(Clone, Copy, Debug, PartialEq, Eq)]
+pub struct GeneratedScript {
+    /// Its number, below 2^31, from which its lines are drawn.
+    pub number: u32,
+    /// How many lines are drawn, at most 65,000.
+    pub size: u32,
+}
+
+/// The script of this number and this size.
+fn generated_script(number: &str, size: &str) -> Option<GeneratedScript>
+    ensures script { result ≡ generated_script_in number.now size.now }
+    ensures number { IfSome result (λ script. script.number < 2 ^ 31) }
+    ensures size { IfSome result (λ script. script.size ≤ 65000) }
+{
+    let number = number_below(1 << 31, number.as_bytes())?;
+    let size = number_below(65_001, size.as_bytes())?;
+    Some(GeneratedScript {
+        number: number as u32,
+        size: size as u32,
+    })
+}
+
+/// The script that `generate NUMBER SIZE` asks for; `None` where the words aren't such a command.
+pub fn generate_in(words: &[String]) -> Option<GeneratedScript>
+    ensures script { result ≡ generate_said words.now }
+    ensures number { IfSome result (λ script. script.number < 2 ^ 31) }
+    ensures size { IfSome result (λ script. script.size ≤ 65000) }
+{
+    match words {
+        [verb, number, size] if verb.as_str() == "generate" => {
+            generated_script(number.as_str(), size.as_str())
+        }
+        _ => None,
+    }
+}
