@@ -2,4 +2,5 @@ pub mod Names
 pub mod Plans
 pub mod SlotPlans
 pub mod CopyPlans
+pub mod DeletePlans
 pub mod RenamePlans

@@ -3,16 +3,18 @@
 #![tactic(auto)]
 
 mod attributes;
-mod cloning;
+mod copying;
 mod creating;
+mod deleting;
 mod renaming;
 mod resizing;
 mod slots;
 mod words;
 
 pub use attributes::{plan_put, plan_readonly, plan_sync};
-pub use cloning::plan_clone;
+pub use copying::{plan_clone, plan_snapshot};
 pub use creating::{plan_create, store_uuid};
+pub use deleting::plan_delete;
 pub use renaming::plan_rename;
 pub use resizing::plan_resize;
 pub use volume_model::uuid_for;

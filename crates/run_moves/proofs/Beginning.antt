@@ -1,5 +1,5 @@
 -- The turns of the metadata thread in which an insert is lost, or a job begins.
-use Rattle.std.proofs.Common.{◌≡◌, ℕ, ◌+◌, ◌*◌, ◌≤◌, Bool, true, false, List, [], ◌∷◌, ◌++◌, length}
+use Rattle.std.proofs.Common.{◌≡◌, ℕ, ◌+◌, ◌*◌, ◌<◌, ◌≤◌, Bool, true, false, List, [], ◌∷◌, ◌++◌, length}
 use Rattle.std.proofs.Common.{Option, Some, None, refl, sym, ap, ◌∙◌, subst, arith}
 use Rattle.std.specs.Prelude.{map, if◌then◌else◌}
 use Rattle.std.specs.Option.{option_map}
@@ -11,7 +11,8 @@ use Rattle.volume_model.specs.declared.reply.Msg.{Msg}
 use Rattle.blob_meta.specs.declared.job.Job.{Job as Changes}
 use Rattle.blob_meta.specs.declared.job.Replacement.{Replacement}
 use Rattle.blob_meta.specs.declared.meta.Meta.{Meta}
-use Rattle.store_model.specs.Asking.{clones, creates, IsJobFor, IsSyncing, resizes, syncs}
+use Rattle.inflate_delete.specs.DeletePlans.{IsJobBeside}
+use Rattle.store_model.specs.Asking.{clones, creates, deletes, IsJobFor, IsSyncing, resizes, snapshots, syncs}
 use Rattle.store_model.specs.Cases.Begin.{Begins}
 use Rattle.store_model.specs.Cases.BeginInsert.{BeginsInsert}
 use Rattle.store_model.specs.Cases.LoseInsert.{LosesInsert}
@@ -30,49 +31,19 @@ use Rattle.run_work.specs.Work.{replacements_in}
 use Rattle.run_moves.specs.Projection.{claim_in_run, command_in_run, job_in_run}
 use Rattle.run_moves.specs.Projection.{phase_in_run, phases_in_run, row_in_run, run_state_of, RunMessages, stage_in_run}
 use Rattle.run_moves.specs.ServingTurns.{BeginningTurns, IsMeasured, ServesRow, with_taken}
-use Rattle.run_moves.specs.Sizes.{replacement_turns, sizes_of}
+use Rattle.run_moves.specs.Sizes.{most_replacements, replacement_turns, sizes_of}
 use Rattle.store_model.proofs.Phases.{commit_behind}
 use Rattle.run_moves.proofs.DoomedClaims.{doomed_claim}
 use Rattle.run_moves.proofs.JobPhases as phases
+use Rattle.run_moves.proofs.ListCounted as counts
 use Rattle.run_moves.proofs.Moved.{changes_row}
 
--- ---- a job that is laid on pages
-
-module _ (p : StoreState) (measured : IsMeasured p) (claimed : List ℕ) (x : Replacement) (r : Replacing)
-    (laid : IsLaid p.super p.base p.chains p.pages claimed x r) where
-  fresh_taken : (b : Bool) (fresh : List ℕ) (head : ℕ) → length fresh ≤ length (if b then head ∷ fresh else fresh)
-  fresh_taken true fresh head = omega arith
-  fresh_taken false fresh head = omega arith
-
-  fresh_few : (o : Option Meta) → IsJobPlanned p.super p.pages o r
-      → length r.fresh ≤ p.super.md_len
-  fresh_few (Some m) planned =
-      let a = phases.few_clear p.pages (taken_by r) planned.least in
-      let b = fresh_taken r.makes r.fresh r.head in
-      let e = measured.pages in
-      omega (arith, a, b, e)
-  fresh_few None planned =
-      let e : length r.fresh ≡ 0 = ap length planned.0 in
-      omega (arith, e)
-
-  old_few : (b : Bool) → r.makes ≡ b → length r.old ≤ p.super.md_len
-  old_few true makes = let e : length r.old ≡ 0 = ap length (laid.unerased makes) in omega (arith, e)
-  old_few false there =
-      let chain : p.chains r.head ≡ Some (r.head ∷ r.old) =
-      laid.chain ∙ ap (λ b. if b then None else Some (r.head ∷ r.old)) there in
-      let few = phases.few_below (r.head ∷ r.old) p.super.md_len
-      (measured.chains.differ r.head (r.head ∷ r.old) chain)
-      (λ y among. measured.chains.low r.head y (r.head ∷ r.old) chain among) in
-      omega (arith, few)
-
-  -- one replacement has no more turns than there may be
-  pub replacement_short : (commit : Option Committing)
-      → length (phases_of r commit []) ≤ replacement_turns p.super
-  replacement_short commit =
-      let a = fresh_few x.new laid.planned in
-      let b = old_few r.makes refl in
-      let l = phases.length_phases r commit in
-      omega (arith, a, b, l)
+-- no chain of a store has more places than there are metadata pages
+chains_short : (p : StoreState) → IsMeasured p → counts.AreShort p.super p.chains
+chains_short p measured head places is =
+    let few = phases.few_below places p.super.md_len (measured.chains.differ head places is)
+    (λ x among. measured.chains.low head x places is among) in
+    omega (arith, few)
 
 -- ---- the command of a job
 
@@ -91,36 +62,37 @@ module _ (p : StoreState) where
   job_asks command changes commit (creates x) = ap (command_in_run p.super) x.command_is
   job_asks command changes commit (resizes x) = ap (command_in_run p.super) x.command_is
   job_asks command changes commit (clones x) = ap (command_in_run p.super) x.command_is
+  job_asks command changes commit (snapshots x) = ap (command_in_run p.super) x.command_is
+  job_asks command changes commit (deletes x) = ap (command_in_run p.super) x.command_is
 
-  -- its changes are one replacement, which is the commit
-  pub record IsOne (changes : Changes) : Type 0 where
-    pub only : Replacement
-    pub list : changes.list ≡ only ∷ []
-    pub first : changes.commit ≡ 1
+  -- it has few replacements, of which one is its commit
+  pub record AreFew (changes : Changes) : Type 0 where
+    pub some : 0 < changes.commit
+    pub within : changes.commit ≤ length changes.list
+    pub few : length changes.list ≤ most_replacements
 
-  -- every job has one replacement
-  pub job_of_one : (command : Command) (changes : Changes) (commit : Committing) → IsJobFor p command changes commit
-      → IsOne changes
-  job_of_one command changes commit (syncs x) = record {
-    only = _;
-    list = ap (λ (y : Changes). y.list) x.is;
-    first = ap (λ (y : Changes). y.commit) x.is;
-  }
-  job_of_one command changes commit (creates x) = record {
-    only = _;
-    list = ap (λ (y : Changes). y.list) x.is;
-    first = ap (λ (y : Changes). y.commit) x.is;
-  }
-  job_of_one command changes commit (resizes x) = record {
-    only = _;
-    list = ap (λ (y : Changes). y.list) x.is;
-    first = ap (λ (y : Changes). y.commit) x.is;
-  }
-  job_of_one command changes commit (clones x) = record {
-    only = _;
-    list = ap (λ (y : Changes). y.list) x.is;
-    first = ap (λ (y : Changes). y.commit) x.is;
-  }
+  few_as : (changes other : Changes) → changes ≡ other → AreFew other → AreFew changes
+  few_as changes other is few = subst AreFew (sym is) few
+
+  pub job_few : (command : Command) (changes : Changes) (commit : Committing) → IsJobFor p command changes commit
+      → AreFew changes
+  job_few command changes commit (syncs x) = few_as changes _ x.is
+      (record { some = omega arith; within = omega arith; few = omega arith })
+  job_few command changes commit (creates x) = few_as changes _ x.is
+      (record { some = omega arith; within = omega arith; few = omega arith })
+  job_few command changes commit (resizes x) = few_as changes _ x.is
+      (record { some = omega arith; within = omega arith; few = omega arith })
+  job_few command changes commit (clones x) = few_as changes _ x.is
+      (record { some = omega arith; within = omega arith; few = omega arith })
+  job_few command changes commit (snapshots x) = few_as changes _ x.is
+      (record { some = omega arith; within = omega arith; few = omega arith })
+  job_few command changes commit (deletes x) = by x.clones x.is
+    where
+      by : (clones_of : List ℕ) → IsJobBeside p.base x.of x.old clones_of changes → AreFew changes
+      by [] is = few_as changes _ is (record { some = omega arith; within = omega arith; few = omega arith })
+      by (clone ∷ []) is =
+          few_as changes _ is.2 (record { some = omega arith; within = omega arith; few = omega arith })
+      by (clone ∷ other ∷ rest) is = absurd is
 
 frozen_same : (frozen : ℕ → Bool) (o : Option ℕ) → freezing frozen o ≡ frozen_set frozen o true
 frozen_same frozen None = refl
@@ -176,7 +148,10 @@ module _ (p q : StoreState) (d : RunMessages) (held : Option Msg) (waiting : Lis
         written = [];
         todo = todo;
       } in
-      let short = replacement_short p measured _ _ t.replacing t.laid None in
+      let turns = counts.replacement_short p.super p.base p.chains p.pages _ _ t.replacing t.laid measured.pages
+      (chains_short p measured) in
+      let all = phases.length_phases t.replacing None [] in
+      let short : length todo ≤ replacement_turns p.super = omega (arith, turns, all) in
       let long = length-map todo (phase_in_run (ForInsert t.posted.row)) in (
         record {
           won = claim_in_run t.posted.claim;
@@ -192,7 +167,7 @@ module _ (p q : StoreState) (d : RunMessages) (held : Option Msg) (waiting : Lis
           thaws = refl;
           short = subst (λ n. n ≤ replacement_turns p.super) (sym long) short;
           plain = phases.replacements_writing (ForInsert t.posted.row) t.replacing.fresh _
-              ∙ phases.replacements_erasing (ForInsert t.posted.row) t.replacing.old t.replacing.old;
+              ∙ phases.replacements_erasing (ForInsert t.posted.row) t.replacing.old t.replacing.old [];
           inserts = phases.decision_writing (ForInsert t.posted.row) t.replacing.fresh _;
           next = changes_row p q e t.posted.row p.device.reads _ _ (Some job) p.frozen
               (ap (λ (r : Row). row_at (row_in_run p.super r) AtInJob) (sym t.posted.is))
@@ -214,51 +189,56 @@ module _ (p q : StoreState) (d : RunMessages) (held : Option Msg) (waiting : Lis
       todo = todo;
     }
 
-    -- what a run sees of the job's phases
-    record AreCounted (todo : List Phase) : Type 0 where
-      committed : has_commit todo ≡ true
-      short : length todo ≤ clusters_of p.super * cluster_pages_of p.super + replacement_turns p.super
-      few : replacements_in (phases_in_run (ForCommand t.posted.channel) todo) ≤ 1
-
     claimed_few : length t.claimed * cluster_pages_of p.super ≤ clusters_of p.super * cluster_pages_of p.super
     claimed_few =
         let a = phases.few_clear p.clusters t.claimed t.clusters in
         let b : length t.claimed ≤ clusters_of p.super = subst (λ n. length t.claimed ≤ n) measured.clusters a in
         grind (arith, b)
 
-    one_counted : (x : Replacement) (r : Replacing)
-        → IsLaid p.super p.base p.chains p.pages t.claimed x r → AreCounted (commit_phases (r ∷ []) 1)
-    one_counted x r laid =
-        let behind = phases_of r (Some t.commit) [] in
+    abbrev made : List Replacement
+    made = with_zeroed t.changes.list t.changes.zero t.claimed
+
+    abbrev behind : List Phase
+    behind = todo_of t.list t.changes.commit t.commit
+
+    few : AreFew p t.changes
+    few = job_few p t.posted.command t.changes t.commit t.asked
+
+    as_long : (list : List Replacement) → length (with_zeroed list t.changes.zero t.claimed) ≡ length list
+    as_long [] = refl
+    as_long (x ∷ xs) = refl
+
+    long : length t.list ≡ length t.changes.list
+    long = counts.laid_length p.super t.commit p.base p.chains p.pages t.claimed made t.list t.laid
+        ∙ as_long t.changes.list
+
+    committed : has_commit (commit_phases t.list t.changes.commit) ≡ true
+    committed = phases.commit_zeroing (pages_in p.super t.claimed) behind
+        ∙ counts.list_commits p.super t.commit t.list t.changes.commit few.some
+        (let a = few.within in let b = long in omega (arith, a, b))
+
+    short : length (commit_phases t.list t.changes.commit)
+        ≤ clusters_of p.super * cluster_pages_of p.super + most_replacements * replacement_turns p.super
+    short =
         let a = length-append (zeroing p.super t.claimed) behind in
         let b = phases.length_zeroing p.super t.claimed in
-        let f = replacement_short p measured t.claimed x r laid (Some t.commit) in
+        let c = counts.list_short p.super t.commit p.base p.chains p.pages t.claimed made t.list t.changes.commit t.laid
+        measured.pages (chains_short p measured) in
+        let d = as_long t.changes.list in
+        let e = few.few in
+        let f : length made * replacement_turns p.super ≤ most_replacements * replacement_turns p.super =
+        grind (arith, d, e) in
         let g = claimed_few in
-        record {
-          committed = phases.commit_zeroing (pages_in p.super t.claimed) behind
-              ∙ commit_behind r.fresh (Replaces r (Some t.commit) ∷ erasing r.old r.old []);
-          short = omega (arith, a, b, f, g);
-          few =
-              let z = phases.replacements_zeroing (ForCommand t.posted.channel) (pages_in p.super t.claimed) behind in
-              let w = phases.replacements_writing (ForCommand t.posted.channel) r.fresh
-              (Replaces r (Some t.commit) ∷ erasing r.old r.old []) in
-              let o = phases.replacements_erasing (ForCommand t.posted.channel) r.old r.old in
-              omega (arith, z, w, o);
-        }
+        omega (arith, a, b, c, f, g)
 
-    laid_counted : (x : Replacement) (list : List Replacing)
-        → AreLaid p.super p.base p.chains p.pages t.claimed (x ∷ []) list → AreCounted (commit_phases list 1)
-    laid_counted x (r ∷ []) laid = one_counted x r laid.0
-    laid_counted x (r ∷ s ∷ rs) laid = absurd laid.1
-    laid_counted x [] laid = absurd laid
-
-    counted : AreCounted (commit_phases t.list t.changes.commit)
-    counted =
-        let one = job_of_one p t.posted.command t.changes t.commit t.asked in
-        subst (λ n. AreCounted (commit_phases t.list n)) (sym one.first)
-        (laid_counted _ t.list
-        (subst (λ l. AreLaid p.super p.base p.chains p.pages t.claimed (with_zeroed l t.changes.zero t.claimed) t.list)
-        one.list t.laid))
+    replaces_few : replacements_in (phases_in_run (ForCommand t.posted.channel)
+        (commit_phases t.list t.changes.commit)) ≤ most_replacements
+    replaces_few =
+        let a = phases.replacements_zeroing (ForCommand t.posted.channel) (pages_in p.super t.claimed) behind in
+        let b = counts.list_replaces p.super t.commit t.posted.channel t.list t.changes.commit in
+        let c = long in
+        let d = few.few in
+        omega (arith, a, b, c, d)
 
     pub begins_so : (serves : ServesRow p q d held waiting t.posted.channel) → BeginsSo t.posted.channel serves
     begins_so serves =
@@ -276,10 +256,11 @@ module _ (p q : StoreState) (d : RunMessages) (held : Option Msg) (waiting : Lis
             fill = d.fill;
             begins = for_message refl serves;
             job = job_in_run (seen_job todo);
-            waits = ap (λ b. if b then Some t.posted.channel else None) counted.committed;
-            short = subst (λ n. n ≤ clusters_of p.super * cluster_pages_of p.super + replacement_turns p.super)
-                (sym (length-map todo (phase_in_run (ForCommand t.posted.channel)))) counted.short;
-            few = counted.few;
+            waits = ap (λ b. if b then Some t.posted.channel else None) committed;
+            short = subst (λ n. n ≤ clusters_of p.super * cluster_pages_of p.super
+                + most_replacements * replacement_turns p.super)
+                (sym (length-map todo (phase_in_run (ForCommand t.posted.channel)))) short;
+            few = replaces_few;
             next = changes_row p q e t.posted.channel p.device.reads _ _ (Some (seen_job todo))
                 (freezing p.frozen t.changes.freeze)
                 (ap (λ x. record {

@@ -3,82 +3,33 @@ use Rattle.std.proofs.Common.{◌≡◌, ℕ, ◌+◌, ◌^◌, ◌≤◌, Bool,
 use Rattle.std.proofs.Common.{Some, None, refl, sym, ap, ◌∙◌, subst, arith}
 use Rattle.std.specs.Prelude.{if◌then◌else◌, is_some, map, nat_le}
 use Rattle.std.specs.Option.{option_and_then, option_map}
-use Rattle.std.proofs.lemmas.Bool.Decides.{nat_tests}
-use Rattle.super_block.specs.declared.page.Super.{Super}
 use Rattle.volume_model.specs.Steps.{change}
 use Rattle.volume_model.specs.Volumes.{Volumes}
-use Rattle.blob_meta.specs.Faults.{too_large}
-use Rattle.blob_meta.specs.declared.meta.Meta.{Meta}
 use Rattle.store_model.specs.Cases.Commit.{Commits}
-use Rattle.store_model.specs.Guarding.{all_renewed, AreGenerations, frozen_behind}
+use Rattle.store_model.specs.Guarding.{AreGenerations, frozen_behind}
 use Rattle.store_model.specs.Jobs.{Does, gained_by, IsServed, JobStands, Lays}
 use Rattle.store_model.specs.Jobs.{ReadsZeros}
-use Rattle.store_model.specs.Steady.{IsStored}
-use Rattle.store_model.specs.Maps.{Map, Metas, with_entry}
-use Rattle.store_model.specs.Phases.{has_commit, Replaces}
-use Rattle.store_model.specs.Regions.{region_of}
+use Rattle.store_model.specs.Maps.{Map, Metas}
+use Rattle.store_model.specs.Phases.{has_commit, replaced, Replaces}
+use Rattle.store_model.specs.WithReplaced.{generations_with}
 use Rattle.store_model.specs.Rows.{IsForMetadata, Row}
 use Rattle.store_model.specs.RunInvariant.{RunsWell}
 use Rattle.store_model.specs.Shown.{fixed_of}
 use Rattle.store_model.specs.StoreState.{going_on, JobState, live_of, shown}
 use Rattle.store_model.specs.StoreState.{StoreState, waiting}
-use Rattle.shown_volumes.proofs.MapTests.{passes}
-use Rattle.store_model.proofs.WithEntry.{given_elsewhere, given_here}
 use Rattle.run_work.specs.JobMoves.{CommitMove, ReplacesBlob}
 use Rattle.run_work.specs.Reading.{job_left, logged_at}
 use Rattle.run_work.specs.RunState.{AtDecided, MetadataCommand}
-use Rattle.run_work.specs.Work.{empty_in, empty_slots}
 use Rattle.run_work.specs.ChannelMoves.{moved_row}
 use Rattle.run_moves.specs.JobTurns.{IsJobMoveOf}
 use Rattle.run_moves.specs.Projection.{blob_in_run, blobs_in_run, command_in_run, heads_found, job_in_run}
 use Rattle.run_moves.specs.Projection.{phases_in_run}
 use Rattle.run_moves.specs.Projection.{run_by, run_state_of, RunMessages, stage_in_run}
 use Rattle.run_moves.specs.Sizes.{sizes_of}
+use Rattle.run_moves.proofs.BlobReplaced.{replaces_blob}
 use Rattle.run_moves.proofs.ChannelWrites.{asks}
 use Rattle.run_moves.proofs.JobTurning.{frozen_on, goes_on}
 use Rattle.run_moves.proofs.Moved.{decided_row, rows_moved}
-
--- ---- slots of a blob
-
-empties_few : (l : List (Option ℕ)) → empty_slots (map is_some l) ≤ length l
-empties_few [] = omega arith
-empties_few (None ∷ l) = let e = empties_few l in omega (arith, e)
-empties_few (Some x ∷ l) = let e = empties_few l in omega (arith, e)
-
-pub empties_by : (o : Option ℕ) (m : Meta) → empty_in (option_map (blob_in_run m) o) ≤ length m.map
-empties_by None m = omega arith
-empties_by (Some n) m = empties_few m.map
-
-never_none : {X : Type 0} (b : Bool) (x : X) → b ≡ false → (if b then None else Some x) ≡ None → ⊥
-never_none true x is none = cc is
-never_none false x is none = cc none
-
-short_map : (l : List (Option ℕ)) (b : Bool) → nat_le (length l) (2 ^ 20) ≡ b → too_large l ≡ None → length l ≤ 2 ^ 20
-short_map l true is none = grind (arith, nat_tests, is)
-short_map l false is none = absurd (never_none _ _ is none)
-
--- a map that a load takes has no more slots than a blob may have
-pub few_slots : (s : Super) (head : ℕ) (m : Meta) → IsStored s head m → length m.map ≤ 2 ^ 20
-few_slots s head m stored =
-    let was = passes (region_of s).fixed (region_of s).clusters m stored.faultless in
-    short_map m.map (nat_le (length m.map) (2 ^ 20)) refl was.few
-
--- ---- blobs with generations
-
--- how many slots are empty doesn't depend on the generation
-abbrev pub empties_of : Option Meta → ℕ
-empties_of None = 0
-empties_of (Some m) = empty_slots (map is_some m.map)
-
-module _ (base : Metas) (generations : Map ℕ) (drawn : ℕ) (are : AreGenerations base generations drawn) where
-  by_both : (o : Option Meta) (g : Option ℕ) → is_some g ≡ is_some o
-      → empty_in (option_and_then (λ m. option_map (blob_in_run m) g) o) ≡ empties_of o
-  by_both None g same = refl
-  by_both (Some m) (Some n) same = refl
-  by_both (Some m) None same = absurd (cc same)
-
-  pub empties_are : (head : ℕ) → empty_in (blobs_in_run base generations head) ≡ empties_of (base head)
-  empties_are head = by_both (base head) (generations head) (are.each head)
 
 -- ---- the turn
 
@@ -104,9 +55,6 @@ module _ (p q : StoreState) (d : RunMessages) (first : Volumes) (well : RunsWell
         (Replaces t.replacing (Some t.commit) ∷ t.running.rest)
     lays = subst (Lays p.super p.base p.chains (gained_by p.rows job) job.written) t.running.next stands.lays
 
-    stored : IsStored p.super t.replacing.head t.new
-    stored = lays.0.stored t.new t.new_is
-
     commands_same : served.command ≡ t.served.command
     commands_same =
         let lists : served.command ∷ served.rest ≡ t.served.command ∷ t.served.rest =
@@ -117,10 +65,10 @@ module _ (p q : StoreState) (d : RunMessages) (first : Volumes) (well : RunsWell
     asks_so = asks p.super t.served.command (subst IsForMetadata commands_same does.0.metadata)
 
     abbrev base_new : Metas
-    base_new = with_entry p.base t.replacing.head t.new
+    base_new = replaced p.base t.replacing
 
     abbrev generations_new : Map ℕ
-    generations_new = all_renewed p.generations p.drawn t.commit.renews
+    generations_new = generations_with p.generations p.drawn t.replacing t.commit.renews
 
     generations_are : AreGenerations base_new generations_new (p.drawn + length t.commit.renews)
     generations_are =
@@ -128,20 +76,8 @@ module _ (p q : StoreState) (d : RunMessages) (first : Volumes) (well : RunsWell
 
     replaces : ReplacesBlob (sizes_of p.super) (blobs_in_run p.base p.generations)
         (blobs_in_run base_new generations_new)
-    replaces = record {
-      head = t.replacing.head;
-      inside = stored.low;
-      few =
-          let here = given_here p.base t.replacing.head t.new t.replacing.head refl in
-          let less = empties_by (generations_new t.replacing.head) t.new in
-          let long = few_slots p.super t.replacing.head t.new stored in
-          let same = ap (λ o. empty_in (option_and_then (λ m. option_map (blob_in_run m)
-          (generations_new t.replacing.head)) o)) here in
-          subst (λ n. n ≤ 2 ^ 20) (sym same) (omega (arith, less, long));
-      others = λ h ne. empties_are base_new generations_new (p.drawn + length t.commit.renews) generations_are h
-          ∙ ap empties_of (given_elsewhere p.base t.replacing.head t.new h ne)
-          ∙ sym (empties_are p.base p.generations p.drawn well.generations h);
-    }
+    replaces = replaces_blob p first well (gained_by p.rows job) job.written t.replacing lays.0 generations_new
+        (p.drawn + length t.commit.renews) generations_are
 
     -- a commit
     pub commits_move : IsJobMoveOf p q d CommitMove t.served.channel

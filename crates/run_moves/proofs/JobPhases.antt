@@ -76,12 +76,12 @@ length_erasing old [] others = omega arith
 length_erasing old (p ∷ []) others = omega arith
 length_erasing old (p ∷ q ∷ ps) others = let e = length_erasing old (q ∷ ps) others in omega (arith, e)
 
--- those of one replacement, the last
-pub length_phases : (r : Replacing) (commit : Option Committing)
-    → length (phases_of r commit []) ≡ length r.fresh + suc (length r.old)
-length_phases r commit =
-    let a = length_writing r.fresh (Replaces r commit ∷ erasing r.old r.old []) in
-    let b = length_erasing r.old r.old [] in
+-- those of one replacement, and others
+pub length_phases : (r : Replacing) (commit : Option Committing) (others : List Phase)
+    → length (phases_of r commit others) ≡ length r.fresh + suc (length r.old) + length others
+length_phases r commit others =
+    let a = length_writing r.fresh (Replaces r commit ∷ erasing r.old r.old others) in
+    let b = length_erasing r.old r.old others in
     omega (arith, a, b)
 
 -- pages of claimed clusters, a turn each
@@ -109,11 +109,12 @@ module _ (serves : Service) where
   replacements_writing (p ∷ ps) others = replacements_writing ps others
 
   -- nor are old pages
-  pub replacements_erasing : (old places : List ℕ)
-      → replacements_in (phases_in_run serves (erasing old places [])) ≡ 0
-  replacements_erasing old [] = refl
-  replacements_erasing old (p ∷ []) = refl
-  replacements_erasing old (p ∷ q ∷ ps) = replacements_erasing old (q ∷ ps)
+  pub replacements_erasing : (old places : List ℕ) (others : List Phase)
+      → replacements_in (phases_in_run serves (erasing old places others))
+      ≡ replacements_in (phases_in_run serves others)
+  replacements_erasing old [] others = refl
+  replacements_erasing old (p ∷ []) others = refl
+  replacements_erasing old (p ∷ q ∷ ps) others = replacements_erasing old (q ∷ ps) others
 
   -- nor are pages of zeros
   pub replacements_zeroing : (pages : List ℕ) (others : List Phase)

@@ -3,10 +3,12 @@ pub mod BlobsMeant
 pub mod ChannelLogs
 pub mod ChannelWrites
 pub mod JobPhases
+pub mod ListCounted
 pub mod Answering
 pub mod DoomedClaims
 pub mod Beginning
 pub mod JobTurning
+pub mod BlobReplaced
 pub mod CommitTurns
 pub mod ReplacingMore
 pub mod Replacing

@@ -4,7 +4,8 @@ use Rattle.std.proofs.Common.{◌∙◌, subst, arith}
 use Rattle.std.specs.Option.{option_map}
 use Rattle.volume_model.specs.Volumes.{Volumes}
 use Rattle.blob_meta.specs.declared.meta.Meta.{Meta}
-use Rattle.store_model.specs.Cases.ReplaceMore.{generations_with, made_by, ReplacesMore}
+use Rattle.store_model.specs.Cases.ReplaceMore.{ReplacesMore}
+use Rattle.store_model.specs.WithReplaced.{generations_with, made_by}
 use Rattle.store_model.specs.Guarding.{AreGenerations, frozen_behind}
 use Rattle.store_model.specs.Jobs.{CanReplace, gained_by, Lays}
 use Rattle.store_model.specs.Maps.{Map, Metas}
@@ -23,7 +24,7 @@ use Rattle.run_moves.specs.JobTurns.{IsJobMove}
 use Rattle.run_moves.specs.Projection.{blobs_in_run, heads_found, job_in_run, phases_in_run, replacement_for}
 use Rattle.run_moves.specs.Projection.{run_by, run_state_of, RunMessages}
 use Rattle.run_moves.specs.Sizes.{sizes_of}
-use Rattle.run_moves.proofs.CommitTurns.{empties_are, empties_by, empties_of, few_slots}
+use Rattle.run_moves.proofs.BlobReplaced.{replaces_blob}
 use Rattle.run_moves.proofs.JobTurning.{frozen_on, goes_on, nothing_left, waits_on}
 
 -- it is no insert's
@@ -52,7 +53,7 @@ module _ (p q : StoreState) (d : RunMessages) (first : Volumes) (well : RunsWell
   base_new = replaced p.base r
 
   abbrev generations_new : Map ℕ
-  generations_new = generations_with p.generations p.drawn r
+  generations_new = generations_with p.generations p.drawn r (made_by r)
 
   can : CanReplace p.super p.base p.chains (gained_by p.rows job) job.written r
   can = (subst (Lays p.super p.base p.chains (gained_by p.rows job) job.written) t.running.next
@@ -61,36 +62,10 @@ module _ (p q : StoreState) (d : RunMessages) (first : Volumes) (well : RunsWell
   generations_are : AreGenerations base_new generations_new (p.drawn + length (made_by r))
   generations_are = subst (λ (v : StoreState). AreGenerations v.base v.generations v.drawn) t.next later.generations
 
-  -- the blob that is there then, if one is, has no more slots than a blob may have
-  few : empty_in (blobs_in_run base_new generations_new r.head) ≤ 2 ^ 20
-  few = subst (λ n. n ≤ 2 ^ 20) (sym (empties_are base_new generations_new (p.drawn + length (made_by r))
-      generations_are r.head ∙ ap empties_of (option_here p.base r.head r.new r.head refl))) (by r.new refl)
-    where
-      by : (o : Option Meta) → r.new ≡ o → empties_of o ≤ 2 ^ 20
-      by None none = omega arith
-      by (Some new) is =
-          let less = empties_by (Some 0) new in
-          let long = few_slots p.super r.head new (can.stored new is) in
-          omega (arith, less, long)
-
-  low : r.head < p.super.md_len
-  low = by r.new refl
-    where
-      by : (o : Option Meta) → r.new ≡ o → r.head < p.super.md_len
-      by None none = well.chains.low r.head r.head (r.head ∷ r.old) (can.chain ∙ chain_there r (can.gone none).1)
-          (among_first r.head r.old)
-      by (Some new) is = (can.stored new is).low
-
   replaces : ReplacesBlob (sizes_of p.super) (blobs_in_run p.base p.generations)
       (blobs_in_run base_new generations_new)
-  replaces = record {
-    head = r.head;
-    inside = low;
-    few = few;
-    others = λ h ne. empties_are base_new generations_new (p.drawn + length (made_by r)) generations_are h
-        ∙ ap empties_of (option_elsewhere p.base r.head r.new h ne)
-        ∙ sym (empties_are p.base p.generations p.drawn well.generations h);
-  }
+  replaces = replaces_blob p first well (gained_by p.rows job) job.written r can generations_new
+      (p.drawn + length (made_by r)) generations_are
 
   -- the replacement
   pub replaces_more_moves : IsJobMove p q d ReplaceMove

@@ -8,13 +8,17 @@ use Rattle.run_work.specs.RunState.{RunSizes}
 abbrev pub replacement_turns : Super → ℕ
 replacement_turns s = 2 * s.md_len + 1
 
--- a job of a command has one replacement, before which each page of each claimed cluster is zeroed
+-- the most replacements of a job: those of a snapshot
+abbrev pub most_replacements : ℕ
+most_replacements = 4
+
+-- a job of a command has so many replacements at most, before which each page of each claimed cluster is zeroed
 abbrev pub sizes_of : Super → RunSizes
 sizes_of s = record {
   pages = cluster_pages_of s;
   insert_turns = replacement_turns s;
-  job_turns = clusters_of s * cluster_pages_of s + replacement_turns s;
-  replacements = 1;
+  job_turns = clusters_of s * cluster_pages_of s + most_replacements * replacement_turns s;
+  replacements = most_replacements;
   slots = 2 ^ 20;
   rows = 17;
   heads = s.md_len;

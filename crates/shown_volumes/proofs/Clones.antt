@@ -1,6 +1,6 @@
 -- A clone's job shows the volumes as they were, and from its commit on those of the step.
-use Rattle.std.proofs.Common.{◌≡◌, ◌≢◌, ℕ, suc, ◌+◌, ◌*◌, ◌/◌, ◌^◌, ◌<◌, ◌≤◌, true, false, Option, Some, None, length}
-use Rattle.std.proofs.Common.{map, refl, sym, ap, ◌∙◌, subst, inl, inr, arith}
+use Rattle.std.proofs.Common.{◌≡◌, ◌≢◌, ℕ, zero, suc, ◌+◌, ◌*◌, ◌/◌, ◌^◌, ◌<◌, ◌≤◌, true, false, Option, Some, None, length}
+use Rattle.std.proofs.Common.{[], map, refl, sym, ap, ◌∙◌, subst, inl, inr, arith}
 use Rattle.std.specs.Prelude.{◌==◌, if◌then◌else◌, nat_lt}
 use Rattle.std.specs.List.{range_with_len}
 use Rattle.std.specs.Option.{option_map, option_map_or}
@@ -17,13 +17,14 @@ use Rattle.volume_model.specs.declared.reply.Reply.TheVariants as r
 use Rattle.volume_model.proofs.Blank.{same_named}
 use Rattle.blob_meta.specs.declared.meta.Meta.{Meta}
 use Rattle.blob_meta.specs.Parents.{is_read_only, parent_of}
-use Rattle.blob_meta.specs.Resolving.{IsLawful, slots_together}
-use Rattle.snapshots.specs.SnapshotJobs.{clone_job}
+use Rattle.blob_meta.specs.Repairs.{HasNoMarks}
+use Rattle.blob_meta.specs.Resolving.{IsLawful, mark_of, slots_together}
+use Rattle.snapshots.specs.SnapshotJobs.{clone_job, new_clone}
 use Rattle.shown_volumes.specs.EmptySlots.{Anything, LeavesEmpty}
 use Rattle.shown_volumes.specs.JobLaws.{IsClear, ShowsClone}
 use Rattle.shown_volumes.specs.Maps.{Map, Metas}
 use Rattle.shown_volumes.specs.Shown.{content, content_by, live_of, shown_by}
-use Rattle.shown_volumes.specs.ShowsStep.{IsAskedOf, IsAtRest, ShowsStep}
+use Rattle.shown_volumes.specs.ShowsStep.{IsAskedOf, IsAtRest, part_of, ShowsStep}
 use Rattle.shown_volumes.proofs.Blanked.{blank_shown, two_same}
 use Rattle.shown_volumes.proofs.BlobsShown.{shows_blob, slots_fit, volume_at}
 use Rattle.shown_volumes.proofs.CloneLawful as law
@@ -34,6 +35,7 @@ use Rattle.shown_volumes.proofs.Parts.{none_shown, not_first, rest_resolved, sho
 use Rattle.shown_volumes.proofs.Passing.{clone_read_only, clone_room}
 use Rattle.shown_volumes.proofs.Ranks.{Levels, levels}
 use Rattle.shown_volumes.proofs.SlotSums.{slots_in}
+use Rattle.shown_volumes.proofs.Valued.{mark_named}
 use Rattle.shown_volumes.proofs.WithEntry.{given_cases, given_elsewhere, given_here}
 
 -- ---- the step's volumes
@@ -215,12 +217,23 @@ module _ (f : Fixed) (base : Metas) (live : Map Xattrs) (image : Image) (volume 
       (clone_room f (shown_by f image base live) volume name of y asked.found
       (shows_blob f base rest live image of old asked.there) asked.passed)
 
+  few : (count : ℕ) → count ≤ 1
+      → slots_together f.md_len (part_of (clone_job of old head two) base count) ≤ 2 ^ 24
+  few zero le = rest.lawful.few
+  few (suc zero) le = (lawful f base rest of head old two asked.there clear on room).few
+  few (suc (suc count)) le = absurd (omega (arith, le))
+
+  unmarked : HasNoMarks (part_of (clone_job of old head two) base 1)
+  unmarked h m = given_cases base head (new_clone of old head two) (λ q o. o ≡ Some m → mark_of m ≡ None) h
+      (λ is. let one : new_clone of old head two ≡ m = cc is in
+      subst (λ (n : Meta). mark_of n ≡ None) one (mark_named [] of)) (λ _ is. rest.unmarked h m is)
+
   step : ShowsStep f base live (c.Clone volume name) (r.Made head) (clone_job of old head two)
   step = shows_step f base live (c.Clone volume name) (r.Made head) (clone_job of old head two)
       (law.next f base rest of head old two asked.there clear) rest
       (law.early f base rest of head old two asked.there clear)
       (law.late f base rest of head old two asked.there clear)
-      (lawful f base rest of head old two asked.there clear on room)
+      (lawful f base rest of head old two asked.there clear on room) few unmarked
       (λ other. shown_next f base rest of head old two asked.there clear on room other live volume name
       (same_named f (shown_by f other base live) (shown_by f image base live) (blank_shown f base live other image)
       (c.Clone volume name) ∙ asked.found)

@@ -1,6 +1,6 @@
 -- What the metadata is resolved to after each replacement of a delete's job, of a blob with one clone.
 use Rattle.std.proofs.Common.{◌≡◌, ◌≢◌, ℕ, zero, suc, ◌+◌, ◌*◌, ◌/◌, ◌^◌, ◌<◌, ◌≤◌, true, false, Some, None, refl}
-use Rattle.std.proofs.Common.{[], ◌∷◌, sym, ap, ◌∙◌, inl, inr, arith}
+use Rattle.std.proofs.Common.{Option, length, [], ◌∷◌, subst, sym, ap, ◌∙◌, inl, inr, arith}
 use Rattle.std.specs.Prelude.{codes}
 use Rattle.std.specs.Option.{option_map_or}
 use Rattle.std.proofs.lemmas.Bool.{cases_eq}
@@ -11,7 +11,8 @@ use Rattle.volume_model.specs.Xattrs.{Text, Xattrs, value_of, without}
 use Rattle.blob_meta.specs.declared.job.Job.{Job}
 use Rattle.blob_meta.specs.declared.meta.Meta.{Meta}
 use Rattle.blob_meta.specs.Parents.{is_locked, is_read_only, parent_of}
-use Rattle.blob_meta.specs.Resolving.{IsLawful, mark_of, resolved, without_marks}
+use Rattle.blob_meta.specs.Repairs.{HasNoMarks}
+use Rattle.blob_meta.specs.Resolving.{IsLawful, mark_of, resolved, slots_together, without_marks}
 use Rattle.blob_meta.proofs.Fates.{resolved_absent, resolved_unmarked}
 use Rattle.blob_meta.proofs.ResolvedBlobs.{not_made, not_removed}
 use Rattle.snapshots.specs.Marks.{id_bytes, with_named}
@@ -20,10 +21,12 @@ use Rattle.inflate_delete.specs.DeleteJobs.{delete_job, going_blob, heir_of}
 use Rattle.shown_volumes.specs.Maps.{Metas, with_entry, without_entry}
 use Rattle.shown_volumes.specs.ShowsStep.{IsAtRest, part_of}
 use Rattle.shown_volumes.proofs.Childless.{counted_parent, one_counted}
+use Rattle.shown_volumes.proofs.HeirMaps.{long_over}
 use Rattle.shown_volumes.proofs.Marked.{as_before, by_mark, given_other, given_same}
 use Rattle.shown_volumes.proofs.SnapshotParts.{low_head}
+use Rattle.shown_volumes.proofs.SlotSums.{slots_at_most, slots_in}
 use Rattle.shown_volumes.proofs.Valued.{mark_given, parent_given, value_set, without_none, without_set}
-use Rattle.shown_volumes.proofs.WithEntry.{given_elsewhere, given_here, gone_elsewhere, gone_here}
+use Rattle.shown_volumes.proofs.WithEntry.{given_cases, given_elsewhere, given_here, gone_elsewhere, gone_here}
 
 module _ (f : Fixed) (base : Metas) (rest : IsAtRest f base) (of clone : ℕ) (old heir : Meta)
     (there : base of ≡ Some old) (there_too : base clone ≡ Some heir)
@@ -170,3 +173,64 @@ module _ (f : Fixed) (base : Metas) (rest : IsAtRest f base) (of clone : ℕ) (o
   late (suc (suc zero)) ge le = after_second
   late (suc (suc (suc zero))) ge le = after_third
   late (suc (suc (suc (suc count)))) ge le = absurd (omega (arith, le))
+
+  -- in the end no blob is marked
+  pub unmarked : HasNoMarks third
+  unmarked h m is = elim (cases_eq h of) [
+    | inl e ↦ let bad : None ≡ Some m = sym (gone_here second of h e) ∙ is in absurd (cc bad)
+    | inr ne ↦ given_cases first clone taking (λ q o. o ≡ Some m → mark_of m ≡ None) h
+        (λ took. let one : taking ≡ m = cc took in subst (λ (n : Meta). mark_of n ≡ None) one mark_taking)
+        (λ _ was. rest.unmarked h m (sym (given_elsewhere base of going h ne) ∙ was))
+        (sym (gone_elsewhere second of h ne) ∙ is)
+  ]
+
+  -- ---- slots
+
+  -- the blob, its clone and all others have as many slots as they had, or none
+  less : (metas : Metas) → slots_in (metas of) ≤ length old.map → slots_in (metas clone) ≤ length heir.map
+      → ((h : ℕ) → h ≢ of → h ≢ clone → metas h ≡ base h) → (h : ℕ) → slots_in (metas h) ≤ slots_in (base h)
+  less metas at_of at_clone others h = elim (cases_eq h of) [
+    | inl e ↦
+        let now : slots_in (metas h) ≡ slots_in (metas of) = ap (λ n. slots_in (metas n)) e in
+        let was : slots_in (base h) ≡ length old.map = ap slots_in (ap base e ∙ there) in
+        omega (arith, now, was, at_of)
+    | inr ne ↦ elim (cases_eq h clone) [
+      | inl e ↦
+          let now : slots_in (metas h) ≡ slots_in (metas clone) = ap (λ n. slots_in (metas n)) e in
+          let was : slots_in (base h) ≡ length heir.map = ap slots_in (ap base e ∙ there_too) in
+          omega (arith, now, was, at_clone)
+      | inr other ↦
+          let now : slots_in (metas h) ≡ slots_in (base h) = ap slots_in (others h ne other) in omega (arith, now)
+    ]
+  ]
+
+  at_most : (o : Option Meta) (n slots : ℕ) → slots_in o ≡ n → n ≤ slots → slots_in o ≤ slots
+  at_most o n slots is le = omega (arith, is, le)
+
+  first_clone : first clone ≡ Some heir
+  first_clone = given_elsewhere base of going clone apart ∙ there_too
+
+  third_clone : third clone ≡ Some taking
+  third_clone = gone_elsewhere second of clone apart ∙ second_clone
+
+  -- maps have few slots together after each replacement, as they had
+  pub few : (count : ℕ) → count ≤ 3 → slots_together f.md_len (part_of job base count) ≤ 2 ^ 24
+  few count le = slots_at_most f.md_len base (part_of job base count) (by count le) law.few
+    where
+      long : length taking.map ≤ length heir.map
+      long = let same = long_over heir old in omega (arith, same)
+
+      by : (count : ℕ) → count ≤ 3 → (h : ℕ) → slots_in (part_of job base count h) ≤ slots_in (base h)
+      by zero le = λ h. omega arith
+      by (suc zero) le = less first
+          (at_most (first of) (length old.map) _ (ap slots_in (given_here base of going of refl)) (omega arith))
+          (at_most (first clone) (length heir.map) _ (ap slots_in first_clone) (omega arith))
+          (λ h ne other. given_elsewhere base of going h ne)
+      by (suc (suc zero)) le = less second
+          (at_most (second of) (length old.map) _ (ap slots_in second_of) (omega arith))
+          (at_most (second clone) (length taking.map) _ (ap slots_in second_clone) long) second_else
+      by (suc (suc (suc zero))) le = less third
+          (at_most (third of) 0 _ (ap slots_in (gone_here second of of refl)) (omega arith))
+          (at_most (third clone) (length taking.map) _ (ap slots_in third_clone) long)
+          (λ h ne other. gone_elsewhere second of h ne ∙ second_else h ne other)
+      by (suc (suc (suc (suc count)))) le = absurd (omega (arith, le))

@@ -83,6 +83,8 @@ module _ (f : Fixed) (base : Metas) (live : Map Xattrs) (image : Image) (volume 
       (parts.early f base rest of clone old heir asked.there there_too one unlocked)
       (parts.late f base rest of clone old heir asked.there there_too one unlocked)
       (shows.lawful f base rest of clone old heir asked.there there_too one unlocked between)
+      (parts.few f base rest of clone old heir asked.there there_too one unlocked)
+      (parts.unmarked f base rest of clone old heir asked.there there_too one unlocked)
       (λ other. shows.shown_next f base rest of clone old heir asked.there there_too one unlocked between other live
       volume (same_named f (shown_by f other base live) v (blank_shown f base live other image) (c.Delete volume)
       ∙ asked.found))

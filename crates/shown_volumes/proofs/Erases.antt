@@ -1,5 +1,5 @@
 -- The erasure of a blob without clones shows the volumes as they were, and then those of the step.
-use Rattle.std.proofs.Common.{◌≡◌, ◌≢◌, ℕ, zero, suc, ◌<◌, ◌≤◌, Option, Some, None, [], length}
+use Rattle.std.proofs.Common.{◌≡◌, ◌≢◌, ℕ, zero, suc, ◌^◌, ◌<◌, ◌≤◌, Option, Some, None, [], length}
 use Rattle.std.proofs.Common.{refl, sym, ap, ◌∙◌, subst, inl, inr, arith}
 use Rattle.std.specs.Option.{option_map}
 use Rattle.std.proofs.lemmas.Bool.{cases_eq}
@@ -15,7 +15,7 @@ use Rattle.volume_model.proofs.Blank.{same_named}
 use Rattle.blob_meta.specs.declared.job.Job.{Job}
 use Rattle.blob_meta.specs.declared.meta.Meta.{Meta}
 use Rattle.blob_meta.specs.Parents.{parent_of}
-use Rattle.blob_meta.specs.Resolving.{IsLawful, resolved}
+use Rattle.blob_meta.specs.Resolving.{IsLawful, resolved, slots_together}
 use Rattle.blob_meta.proofs.Fates.{resolved_absent}
 use Rattle.inflate_delete.specs.Clones.{clones_below}
 use Rattle.inflate_delete.specs.DeleteJobs.{erase_job}
@@ -161,10 +161,16 @@ module _ (f : Fixed) (base : Metas) (rest : IsAtRest f base) (of : ℕ) (old : M
 module _ (f : Fixed) (base : Metas) (live : Map Xattrs) (image : Image) (volume : VolumeRef) (of : ℕ) (old : Meta)
     (rest : IsAtRest f base) (none : clones_below f.md_len base of ≡ [])
     (asked : IsAskedOf f (shown_by f image base live) base (c.Delete volume) of old) where
+  few : (count : ℕ) → count ≤ 1 → slots_together f.md_len (part_of (erase_job of) base count) ≤ 2 ^ 24
+  few zero le = rest.lawful.few
+  few (suc zero) le = (lawful f base rest of old asked.there none).few
+  few (suc (suc count)) le = absurd (omega (arith, le))
+
   step : ShowsStep f base live (c.Delete volume) r.Ok (erase_job of)
   step = shows_step f base live (c.Delete volume) r.Ok (erase_job of) (without_entry base of) rest
       (early f base rest of old asked.there none) (late f base rest of old asked.there none)
-      (lawful f base rest of old asked.there none)
+      (lawful f base rest of old asked.there none) few
+      (λ h m is. rest.unmarked h m (was_there f base rest of old asked.there none h m is))
       (λ other. shown_next f base rest of old asked.there none other live volume
       (same_named f (shown_by f other base live) (shown_by f image base live) (blank_shown f base live other image)
       (c.Delete volume) ∙ asked.found))

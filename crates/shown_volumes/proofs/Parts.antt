@@ -1,5 +1,5 @@
 -- From what each part of a job is resolved to, to what it shows.
-use Rattle.std.proofs.Common.{◌≡◌, ◌≢◌, ℕ, ◌<◌, ◌≤◌, ◌==◌, ◌||◌, Bool, false, length, Some, None, refl}
+use Rattle.std.proofs.Common.{◌≡◌, ◌≢◌, ℕ, ◌^◌, ◌<◌, ◌≤◌, ◌==◌, ◌||◌, Bool, false, length, Some, None, refl}
 use Rattle.std.proofs.Common.{sym, ap, ◌∙◌, subst, inl, inr, arith}
 use Rattle.std.specs.Option.{option_map}
 use Rattle.std.proofs.lemmas.Bool.{cases_Bool, cases_lt, eq-eqb, false≢true}
@@ -12,7 +12,8 @@ use Rattle.volume_model.specs.declared.command.Command.{Command}
 use Rattle.volume_model.specs.declared.reply.Reply.{Reply}
 use Rattle.blob_meta.specs.declared.job.Job.{Job}
 use Rattle.blob_meta.specs.declared.meta.Meta.{Meta}
-use Rattle.blob_meta.specs.Resolving.{IsLawful, resolved}
+use Rattle.blob_meta.specs.Repairs.{HasNoMarks}
+use Rattle.blob_meta.specs.Resolving.{IsLawful, resolved, slots_together}
 use Rattle.shown_volumes.specs.Maps.{Map, Metas}
 use Rattle.shown_volumes.specs.Shown.{live_of, or_empty, shown_by, volume_of}
 use Rattle.shown_volumes.specs.EmptySlots.{Anything, LeavesEmpty}
@@ -41,12 +42,16 @@ pub shows_step : (f : Fixed) (base : Metas) (live : Map Xattrs) (command : Comma
     → ((count : ℕ) → count < job.commit → resolved (part_of job base count) ≡ base)
     → ((count : ℕ) → job.commit ≤ count → count ≤ length job.list → resolved (part_of job base count) ≡ next)
     → IsLawful f.md_len next
+    → ((count : ℕ) → count ≤ length job.list → slots_together f.md_len (part_of job base count) ≤ 2 ^ 24)
+    → HasNoMarks (part_of job base (length job.list))
     → ((image : Image)
     → shown_by f image next (live_of (change f (shown_by f image base live) command reply))
     ≡ change f (shown_by f image base live) command reply)
     → ((h : ℕ) → replaces job h ≡ false → LeavesEmpty f base next Anything h)
     → ShowsStep f base live command reply job
-shows_step f base live command reply job next rest early late lawful shows leaves = record {
+shows_step f base live command reply job next rest early late lawful few unmarked shows leaves = record {
+  few = few;
+  unmarked = unmarked;
   lawful = λ count le. elim (cases_lt count job.commit) [
     | inl lt ↦ subst (λ (m : Metas). IsLawful f.md_len m) (sym (early count lt)) rest.lawful
     | inr ge ↦ subst (λ (m : Metas). IsLawful f.md_len m) (sym (late count ge le)) lawful

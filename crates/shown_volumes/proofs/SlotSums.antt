@@ -1,5 +1,5 @@
 -- The slots of all maps together, where one map is another, and those of the volumes that are shown.
-use Rattle.std.proofs.Common.{◌≡◌, ◌≢◌, ℕ, zero, suc, ◌+◌, ◌*◌, ◌/◌, ◌<◌, ◌≤◌, length, Option, Some, None}
+use Rattle.std.proofs.Common.{◌≡◌, ◌≢◌, ℕ, zero, suc, ◌+◌, ◌*◌, ◌/◌, ◌^◌, ◌<◌, ◌≤◌, length, Option, Some, None}
 use Rattle.std.proofs.Common.{[], refl, sym, ap, ◌∙◌, inl, inr, arith}
 use Rattle.std.specs.List.{range_with_len, sum_by}
 use Rattle.std.specs.Option.{option_map, option_map_or}
@@ -48,6 +48,16 @@ module _ (f g : ℕ → ℕ) where
             omega (arith, gs, fs, rest, here)
       ]
 
+  -- smaller numbers have a smaller sum
+  sum_at_most : (a n : ℕ) → ((q : ℕ) → g q ≤ f q) → sum_by g (range_with_len a n) ≤ sum_by f (range_with_len a n)
+  sum_at_most a zero less = omega arith
+  sum_at_most a (suc n) less =
+      let gs = sum_by-cons g a (range_with_len (a + 1) n) in
+      let fs = sum_by-cons f a (range_with_len (a + 1) n) in
+      let rest = sum_at_most (a + 1) n less in
+      let here = less a in
+      omega (arith, gs, fs, rest, here)
+
 -- ---- maps
 
 -- how many slots a blob has
@@ -69,6 +79,12 @@ slots_gone md_len metas head low =
     (omega (arith, low)) (λ q ne. ap slots_in (gone_elsewhere metas head q ne)) in
     let none : slots_in (without_entry metas head head) ≡ 0 = ap slots_in (gone_here metas head head refl) in
     omega (arith, sum, none)
+
+-- maps of which none has more slots have no more together
+pub slots_at_most : (md_len : ℕ) (metas other : Metas) → ((h : ℕ) → slots_in (other h) ≤ slots_in (metas h))
+    → slots_together md_len metas ≤ 2 ^ 24 → slots_together md_len other ≤ 2 ^ 24
+slots_at_most md_len metas other less few =
+    let below = sum_at_most (λ h. slots_in (metas h)) (λ h. slots_in (other h)) 0 md_len less in omega (arith, below, few)
 
 -- ---- volumes
 

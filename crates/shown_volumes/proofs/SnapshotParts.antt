@@ -1,15 +1,17 @@
 -- What the metadata is resolved to after each replacement of a snapshot's job.
 use Rattle.std.proofs.Common.{◌≡◌, ◌≢◌, ℕ, zero, suc, ◌^◌, ◌<◌, ◌≤◌, true, false, Some, None, [], refl, sym, ap, ◌∙◌}
-use Rattle.std.proofs.Common.{inl, inr, arith}
+use Rattle.std.proofs.Common.{Option, length, inl, inr, arith, subst}
 use Rattle.std.specs.Prelude.{codes}
 use Rattle.std.proofs.lemmas.Bool.{cases_eq}
+use Rattle.std.proofs.lemmas.List.{length-replicate}
 use Rattle.std.proofs.Math.Path.{fun_ext}
 use Rattle.volume_model.specs.Volumes.{Fixed, is_given_head}
 use Rattle.volume_model.specs.Xattrs.{Xattrs}
 use Rattle.blob_meta.specs.declared.job.Job.{Job}
 use Rattle.blob_meta.specs.declared.meta.Meta.{Meta}
 use Rattle.blob_meta.specs.Parents.{parent_of}
-use Rattle.blob_meta.specs.Resolving.{mark_of, resolved, without_marks}
+use Rattle.blob_meta.specs.Repairs.{HasNoMarks}
+use Rattle.blob_meta.specs.Resolving.{mark_of, resolved, slots_together, without_marks}
 use Rattle.blob_meta.proofs.Fates.{resolved_unmarked}
 use Rattle.blob_meta.proofs.MarksLifted.{no_mark, same_parent}
 use Rattle.snapshots.specs.Marks.{id_bytes, with_named}
@@ -18,8 +20,9 @@ use Rattle.shown_volumes.specs.JobLaws.{IsClear}
 use Rattle.shown_volumes.specs.Maps.{Metas, with_entry}
 use Rattle.shown_volumes.specs.ShowsStep.{IsAtRest, part_of}
 use Rattle.shown_volumes.proofs.Marked.{as_before, by_mark, given_other, given_same}
+use Rattle.shown_volumes.proofs.SlotSums.{slots_at_most, slots_in}
 use Rattle.shown_volumes.proofs.Valued.{mark_given, mark_named, parent_given, parent_named}
-use Rattle.shown_volumes.proofs.WithEntry.{given_elsewhere, given_here}
+use Rattle.shown_volumes.proofs.WithEntry.{given_cases, given_elsewhere, given_here}
 
 -- ---- metadata at rest
 
@@ -158,3 +161,77 @@ module _ (f : Fixed) (base : Metas) (rest : IsAtRest f base) (of head : ℕ) (ol
   late (suc (suc (suc zero))) ge le = after_third
   late (suc (suc (suc (suc zero)))) ge le = after_fourth
   late (suc (suc (suc (suc (suc count))))) ge le = absurd (omega (arith, le))
+
+  -- in the end no blob is marked
+  pub unmarked : HasNoMarks fourth
+  unmarked h m = given_cases third head made (λ q o. o ≡ Some m → mark_of m ≡ None) h
+      (λ is. let one : made ≡ m = cc is in subst (λ (n : Meta). mark_of n ≡ None) one (no_mark filled))
+      (λ ne. given_cases second of emptied (λ q o. o ≡ Some m → mark_of m ≡ None) h
+      (λ is. let one : emptied ≡ m = cc is in subst (λ (n : Meta). mark_of n ≡ None) one mark_emptied)
+      (λ _ is. rest.unmarked h m (sym (second_else h ne) ∙ is)))
+
+  -- ---- slots
+
+  -- the snapshot, the volume and all others have as many slots as in the end, or fewer
+  less : (metas : Metas) → slots_in (metas head) ≤ length old.map → slots_in (metas of) ≤ length old.map
+      → ((h : ℕ) → h ≢ head → h ≢ of → metas h ≡ base h) → (h : ℕ) → slots_in (metas h) ≤ slots_in (next h)
+  less metas at_head at_of others h = elim (cases_eq h head) [
+    | inl e ↦
+        let now : slots_in (metas h) ≡ slots_in (metas head) = ap (λ n. slots_in (metas n)) e in
+        let then : slots_in (next h) ≡ length old.map =
+        ap slots_in (given_here (with_entry base of emptied) head made h e) in
+        omega (arith, now, then, at_head)
+    | inr ne ↦ elim (cases_eq h of) [
+      | inl e ↦
+          let now : slots_in (metas h) ≡ slots_in (metas of) = ap (λ n. slots_in (metas n)) e in
+          let then : slots_in (next h) ≡ length old.map =
+          ap slots_in (given_elsewhere (with_entry base of emptied) head made h ne ∙ given_here base of emptied h e)
+          ∙ length-replicate (length old.map) None in
+          omega (arith, now, then, at_of)
+      | inr other ↦
+          let now : slots_in (metas h) ≡ slots_in (base h) = ap slots_in (others h ne other) in
+          let then : slots_in (next h) ≡ slots_in (base h) =
+          ap slots_in (given_elsewhere (with_entry base of emptied) head made h ne
+          ∙ given_elsewhere base of emptied h other) in
+          omega (arith, now, then)
+    ]
+  ]
+
+  as_many : (o : Option Meta) (m : Meta) → o ≡ Some m → length m.map ≡ length old.map
+      → slots_in o ≤ length old.map
+  as_many o m is long = let same : slots_in o ≡ length m.map = ap slots_in is in omega (arith, same, long)
+
+  base_head : slots_in (base head) ≤ length old.map
+  base_head = let none : slots_in (base head) ≡ 0 = ap slots_in clear.none in omega (arith, none)
+
+  base_of : slots_in (base of) ≤ length old.map
+  base_of = as_many (base of) old there refl
+
+  second_of : slots_in (second of) ≤ length old.map
+  second_of = as_many (second of) old (second_else of apart ∙ there) refl
+
+  long_begun : length begun.map ≡ length old.map
+  long_begun = length-replicate (length old.map) None
+
+  -- maps have few slots together after each replacement, if they have in the end
+  pub few : slots_together f.md_len next ≤ 2 ^ 24 → (count : ℕ) → count ≤ 4
+      → slots_together f.md_len (part_of job base count) ≤ 2 ^ 24
+  few all count le = slots_at_most f.md_len next (part_of job base count) (by count le) all
+    where
+      by : (count : ℕ) → count ≤ 4 → (h : ℕ) → slots_in (part_of job base count h) ≤ slots_in (next h)
+      by zero le = less base base_head base_of (λ h ne other. refl)
+      by (suc zero) le = less first
+          (as_many (first head) begun (given_here base head begun head refl) long_begun)
+          (as_many (first of) old (given_elsewhere base head begun of apart ∙ there) refl)
+          (λ h ne other. given_elsewhere base head begun h ne)
+      by (suc (suc zero)) le = less second
+          (as_many (second head) filled (given_here first head filled head refl) refl) second_of
+          (λ h ne other. second_else h ne)
+      by (suc (suc (suc zero))) le = less third (as_many (third head) filled third_head refl)
+          (as_many (third of) emptied third_of (length-replicate (length old.map) None)) third_else
+      by (suc (suc (suc (suc zero)))) le = less fourth
+          (as_many (fourth head) made (given_here third head made head refl) refl)
+          (as_many (fourth of) emptied (given_elsewhere third head made of apart ∙ third_of)
+          (length-replicate (length old.map) None))
+          (λ h ne other. given_elsewhere third head made h ne ∙ third_else h ne other)
+      by (suc (suc (suc (suc (suc count))))) le = absurd (omega (arith, le))

@@ -39,13 +39,13 @@ module _ (f : Fixed) (v : Volumes) (volume : VolumeRef) (name : Text) (of head :
   abbrev pub stepped : Volumes
   stepped = change f v (c.Snapshot volume name) (r.Made head)
 
-  stepped_head : stepped head ≡ Some (new_volume f v name None x.pages x.thin true x.parent)
+  pub stepped_head : stepped head ≡ Some (new_volume f v name None x.pages x.thin true x.parent)
   stepped_head = rw (found, eq-eqb head head refl, is) refl
 
-  stepped_of : of ≢ head → stepped of ≡ Some (record x { thin = true; parent = Some head })
+  pub stepped_of : of ≢ head → stepped of ≡ Some (record x { thin = true; parent = Some head })
   stepped_of ne = rw (found, ne_eqb of head ne, eq-eqb of of refl, is) refl
 
-  stepped_else : (h : ℕ) → h ≢ head → h ≢ of → stepped h ≡ v h
+  pub stepped_else : (h : ℕ) → h ≢ head → h ≢ of → stepped h ≡ v h
   stepped_else h ne other = rw (found, ne_eqb h head ne, ne_eqb h of other) refl
 
 -- ---- flags

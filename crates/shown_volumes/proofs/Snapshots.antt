@@ -38,6 +38,9 @@ module _ (f : Fixed) (base : Metas) (live : Map Xattrs) (image : Image) (volume 
       (parts.early f base rest of head old two asked.there clear)
       (parts.late f base rest of head old two asked.there clear)
       (shows.lawful f base rest of head old two asked.there clear room)
+      (parts.few f base rest of head old two asked.there clear
+      (shows.lawful f base rest of head old two asked.there clear room).few)
+      (parts.unmarked f base rest of head old two asked.there clear)
       (λ other. shows.shown_next f base rest of head old two asked.there clear room other live volume name
       (same_named f (shown_by f other base live) (shown_by f image base live) (blank_shown f base live other image)
       (c.Snapshot volume name) ∙ asked.found)

@@ -12,7 +12,7 @@ use Rattle.volume_model.specs.declared.reply.Reply.{Reply}
 use Rattle.blob_meta.specs.declared.job.Job.{Job}
 use Rattle.blob_meta.specs.declared.meta.Meta.{Meta}
 use Rattle.blob_meta.specs.Repairs.{after, HasHeadsBelow, HasNoMarks}
-use Rattle.blob_meta.specs.Resolving.{IsLawful, resolved}
+use Rattle.blob_meta.specs.Resolving.{IsLawful, resolved, slots_together}
 use Rattle.shown_volumes.specs.EmptySlots.{Anything, LeavesEmpty}
 use Rattle.shown_volumes.specs.Maps.{Map, Metas}
 use Rattle.shown_volumes.specs.Shown.{live_of, shown_by}
@@ -47,10 +47,12 @@ pub record IsAskedOf (f : Fixed) (v : Volumes) (base : Metas) (command : Command
 -- After any number of a job's replacements the metadata is lawful, and shows what was shown, or, from the commit on,
 -- the volumes of the command's step, whose attributes are live as the step leaves them: recovery undoes what is done of
 -- the job before the commit, and finishes what is left of it from then on. An empty slot of a blob that the job doesn't
--- replace was empty, and shows what it showed.
+-- replace was empty, and shows what it showed. In the end no blob is marked.
 pub record ShowsStep (f : Fixed) (base : Metas) (live : Map Xattrs) (command : Command) (reply : Reply) (job : Job)
     : Type 0 where
   pub lawful : (count : ℕ) → count ≤ length job.list → IsLawful f.md_len (resolved (part_of job base count))
+  -- marked blobs counted too
+  pub few : (count : ℕ) → count ≤ length job.list → slots_together f.md_len (part_of job base count) ≤ 2 ^ 24
   pub before : (count : ℕ) → count < job.commit → (image : Image)
       → shown_in f (part_of job base count) live image ≡ shown_in f base live image
   pub since : (count : ℕ) → job.commit ≤ count → count ≤ length job.list → (image : Image)
@@ -59,5 +61,6 @@ pub record ShowsStep (f : Fixed) (base : Metas) (live : Map Xattrs) (command : C
   pub undone : (count : ℕ) → count < job.commit → resolved (part_of job base count) ≡ resolved base
   pub finished : (count : ℕ) → job.commit ≤ count → count ≤ length job.list
       → resolved (part_of job base count) ≡ resolved (part_of job base job.commit)
+  pub unmarked : HasNoMarks (part_of job base (length job.list))
   pub leaves : (count : ℕ) → count ≤ length job.list → (h : ℕ) → replaces job h ≡ false
       → LeavesEmpty f (resolved base) (resolved (part_of job base count)) Anything h

@@ -1,5 +1,5 @@
 -- Why a command is refused, and that a refusal is allowed.
-use Rattle.std.proofs.Common.{◌≡◌, ◌∙◌, ◌<◌, ℕ, length, Some, None, ap, arith, subst, sym}
+use Rattle.std.proofs.Common.{◌≡◌, ◌∙◌, ◌<◌, ℕ, List, [], ◌∷◌, length, Some, None, ap, arith, subst, sym}
 use Rattle.pools.specs.Pool.{clear_in}
 use Rattle.volume_model.specs.Volumes.{Fixed, Volumes}
 use Rattle.volume_model.specs.Refusals.{refusal}
@@ -12,7 +12,8 @@ use Rattle.store_model.specs.Shown.{fixed_of}
 use Rattle.store_model.specs.StoreState.{StoreState, shown}
 use Rattle.blob_meta.specs.declared.job.Job.{Job as Changes}
 use Rattle.store_model.specs.Phases.{Committing}
-use Rattle.store_model.specs.Asking.{AsksFor, clones, IsJobFor, IsSyncing, syncs, creates, resizes}
+use Rattle.inflate_delete.specs.DeletePlans.{IsJobBeside}
+use Rattle.store_model.specs.Asking.{AsksFor, clones, creates, deletes, IsJobFor, IsSyncing, resizes, snapshots, syncs}
 use Rattle.store_model.specs.Cases.{IsCauseReply, IsRefusedAtBegin, IsRefusedBy}
 
 -- ---- refusals
@@ -62,6 +63,14 @@ may_lack p command changes commit (clones x) =
     let lack : Allowed (fixed_of p.super) (shown p) (c.Clone x.volume x.name) r.NoPage =
     (ap (refusal (fixed_of p.super) (shown p)) (sym x.command_is) ∙ x.asked, tt) in
     subst (λ (k : Command). Allowed (fixed_of p.super) (shown p) k r.NoPage) (sym x.command_is) lack
+may_lack p command changes commit (snapshots x) =
+    let lack : Allowed (fixed_of p.super) (shown p) (c.Snapshot x.volume x.name) r.NoPage =
+    (ap (refusal (fixed_of p.super) (shown p)) (sym x.command_is) ∙ x.asked, tt) in
+    subst (λ (k : Command). Allowed (fixed_of p.super) (shown p) k r.NoPage) (sym x.command_is) lack
+may_lack p command changes commit (deletes x) =
+    let lack : Allowed (fixed_of p.super) (shown p) (c.Delete x.volume) r.NoPage =
+    (ap (refusal (fixed_of p.super) (shown p)) (sym x.command_is) ∙ x.asked, tt) in
+    subst (λ (k : Command). Allowed (fixed_of p.super) (shown p) k r.NoPage) (sym x.command_is) lack
 
 -- and one that asks for slots of zeros may find too few clusters
 may_be_full : (p : StoreState) (command : Command) (changes : Changes) (commit : Committing)
@@ -79,6 +88,15 @@ may_be_full p command changes commit (resizes x) fewer =
     subst (λ (k : Command). Allowed (fixed_of p.super) (shown p) k r.Full) (sym x.command_is) full
 may_be_full p command changes commit (clones x) fewer =
     absurd (let none = ap (λ (y : Changes). length y.zero) x.is in omega (arith, fewer, none))
+may_be_full p command changes commit (snapshots x) fewer =
+    absurd (let none = ap (λ (y : Changes). length y.zero) x.is in omega (arith, fewer, none))
+may_be_full p command changes commit (deletes x) fewer =
+    absurd (let none = no_zeros x.clones x.is in omega (arith, fewer, none))
+  where
+    no_zeros : (clones_of : List ℕ) → IsJobBeside p.base x.of x.old clones_of changes → length changes.zero ≡ 0
+    no_zeros [] is = ap (λ (y : Changes). length y.zero) is
+    no_zeros (clone ∷ []) is = ap (λ (y : Changes). length y.zero) is.2
+    no_zeros (clone ∷ other ∷ rest) is = absurd is
 
 pub is_allowed : (p : StoreState) (command : Command) (reply : Reply) → IsRefusedAtBegin p command reply
     → Allowed (fixed_of p.super) (shown p) command reply

@@ -3,7 +3,7 @@ use Rattle.std.proofs.Common.{Some, ◌≡◌, ℕ, List, [], None, refl, subst,
 use Rattle.std.specs.Prelude.{true}
 use Rattle.page_disk.specs.Disk.{Image}
 use Rattle.page_disk.specs.declared.disk.PageDisk.{Ghosts}
-use Rattle.store_model.specs.Maps.{Metas, Chains, with_entry}
+use Rattle.store_model.specs.Maps.{Metas, Chains}
 use Rattle.store_model.specs.StoreState.{JobState, StoreState}
 use Rattle.store_model.specs.Turning.{WritesOnePage, page_of_place}
 use Rattle.store_model.specs.Touches.{DoesTouch, left_by, replaces}
@@ -13,9 +13,9 @@ use Rattle.store_model.specs.Cases.Commit.{Commits}
 use Rattle.store_model.proofs.Over.{done, ImageLaw, Over}
 use Rattle.store_model.proofs.Going.{holds_loaded, stands_whole}
 use Rattle.store_model.proofs.StandsKept.{stands_now}
-use Rattle.store_model.proofs.Heads.{head_way, image, new_holds}
+use Rattle.store_model.proofs.Heads.{holds_replaced, image, replaced_way}
 use Rattle.store_model.proofs.Shapes.{now_is}
-use Rattle.store_model.specs.Phases.{Replacing, page_in}
+use Rattle.store_model.specs.Phases.{Replacing, page_in, replaced}
 use Rattle.store_model.proofs.LeftToDo.{goes_on_as, no_place}
 
 module _ {D : Type 0} (d : Ghosts D) (x : Over d) (t : Commits d.tells x.p x.q) where
@@ -41,9 +41,8 @@ module _ {D : Type 0} (d : Ghosts D) (x : Over d) (t : Commits d.tells x.p x.q) 
   holds_new : HoldsMetadata s q.base q.chains new
   holds_new =
       subst (λ (m : Metas). HoldsMetadata s m q.chains new) (sym (ap (λ (v : StoreState). v.base) t.next))
-      (subst (λ (h : Chains). HoldsMetadata s (with_entry p.base replacing.head t.new) h new)
-      (sym (ap (λ (v : StoreState). v.chains) t.next))
-      (new_holds d x replacing (Some t.commit) t.running t.new t.new_is))
+      (subst (λ (h : Chains). HoldsMetadata s (replaced p.base replacing) h new)
+      (sym (ap (λ (v : StoreState). v.chains) t.next)) (holds_replaced d x replacing (Some t.commit) t.running))
 
   stands_new : Stands s first q.base q.chains q.log (d.now to) new
   stands_new = subst (λ (n : Image). Stands s first q.base q.chains q.log n new) (sym now_new)
@@ -52,7 +51,7 @@ module _ {D : Type 0} (d : Ghosts D) (x : Over d) (t : Commits d.tells x.p x.q) 
   pub images : DoesTouch d from to (replaces (page_of_place p replacing.head) page true)
       → ImageLaw d x (left_by (replaces (page_of_place p replacing.head) page true) (d.images from) (d.now from))
   images does = record {
-    way = head_way d x replacing (Some t.commit) t.running t.new t.new_is
+    way = replaced_way d x replacing (Some t.commit) t.running (holds_replaced d x replacing (Some t.commit) t.running)
         (holds_loaded s first script q after new holds_new) q.log
         (stands_whole d told s first script q to to_is to_tells after runs_on new stands_new) (done runs_on refl);
     stands = λ _ c held. subst (Stands s first q.base q.chains q.log (d.now to))

@@ -1,56 +1,55 @@
 -- The turn commits keeps what every state has.
-use Rattle.std.proofs.Common.{◌^◌, ◌≤◌, ◌≡◌, ℕ, List, [], ◌∷◌, Some, None, refl, subst, sym, ap, ◌∙◌, ◌+◌, arith, inl}
-use Rattle.std.proofs.Common.{inr, ◌<◌, Bool, Option, ◌++◌, false, ◌≢◌, ◌⊎◌, is_some, IsSome, length, true, ◌/◌}
-use Rattle.std.specs.Option.{option_map}
-use Rattle.std.proofs.lemmas.Bool.{cases_Bool}
-use Rattle.std.specs.List.{AllByRecursion}
+use Rattle.std.proofs.Common.{◌^◌, ◌≤◌, ◌≡◌, ℕ, List, [], ◌∷◌, Some, None, refl, subst, sym, ap, ◌∙◌, arith, inl, inr}
+use Rattle.std.proofs.Common.{Bool, ◌+◌, ◌<◌, Option, ◌++◌, ◌≢◌, true, ◌/◌}
+use Rattle.std.specs.Option.{option_map, option_map_or}
 use Rattle.super_block.specs.declared.page.Super.{Super}
+use Rattle.super_block.specs.Numbers.{cluster_pages_of}
 use Rattle.volume_model.specs.Volumes.{Volumes, Volume}
 use Rattle.volume_model.specs.Logs.{replay}
 use Rattle.volume_model.specs.Steps.{change, Allowed}
 use Rattle.volume_model.specs.Xattrs.{Xattrs}
 use Rattle.blob_meta.specs.declared.meta.Meta.{Meta}
-use Rattle.super_block.specs.Numbers.{cluster_pages_of}
 use Rattle.blob_meta.specs.Repairs.{HasNoMarks}
 use Rattle.blob_meta.specs.Resolving.{IsLawful, resolved, slots_together}
 use Rattle.md_chain.specs.Chain.{is_among}
-use Rattle.store_model.specs.Maps.{Metas, Chains, with_entry}
+use Rattle.store_model.specs.Maps.{without_entry}
 use Rattle.store_model.specs.Rows.{Answered, Decided, Row}
 use Rattle.store_model.specs.StoreState.{JobState, StoreState, shown, logged, going_on}
 use Rattle.store_model.specs.Turning.{live_of, read_after}
+use Rattle.store_model.specs.WithReplaced.{with_replaced}
 use Rattle.store_model.specs.Cases.Commit.{Commits}
 use Rattle.store_model.specs.Shown.{fixed_of, volume_of}
-use Rattle.store_model.specs.Jobs.{gained_by, inserted_by, JobStands, CanReplace, Does, Lays, shown_of, Keeps}
+use Rattle.store_model.specs.Jobs.{gained_by, inserted_by, JobStands, CanReplace, Does, Lays, shown_of}
 use Rattle.store_model.specs.Jobs.{MovesClusters, ReadsZeros, zeros_in}
-use Rattle.store_model.specs.RunInvariant.{AreNamed, RunInvariant, CanBeWritten, RunsWell}
+use Rattle.store_model.specs.RunInvariant.{RunInvariant, CanBeWritten, RunsWell}
 use Rattle.store_model.specs.Steady.{IsStored}
-use Rattle.store_model.specs.Places.{held_by, UsedPages, AreDistinct, all_set, claimed_by, UsedClusters, HasClaim}
+use Rattle.store_model.specs.Places.{held_by, UsedPages, AreDistinct, claimed_by}
 use Rattle.store_model.specs.Seen.{seen}
-use Rattle.store_model.specs.Copying.{AreCopied, LeavesEmpty}
-use Rattle.store_model.specs.Phases.{Replacing, has_commit, page_in, rechained, taken_in, Replaces, held_in, replaced}
+use Rattle.store_model.specs.Copying.{AreCopied}
+use Rattle.store_model.specs.Phases.{Replacing, has_commit, page_in, taken_in, Replaces, held_in, replaced}
 use Rattle.store_model.specs.Phases.{behind, taken_by}
-use Rattle.store_model.specs.Guarding.{AreGenerations, frozen_behind, all_renewed}
+use Rattle.store_model.specs.Guarding.{AreGenerations, frozen_behind}
 use Rattle.store_model.proofs.CopiesCommitted.{copied_committed}
 use Rattle.store_model.proofs.Known.{Known}
 use Rattle.store_model.proofs.Progress.{NoneWaits, none_after}
-use Rattle.store_model.proofs.Heads.{rechained_is, replaced_is}
 use Rattle.store_model.proofs.Shaped.{shaped_with, decided_may, waits_for_commit}
 use Rattle.store_model.proofs.Writable.{AllWritable}
-use Rattle.store_model.proofs.ReplacedBlob.{there_before}
+use Rattle.store_model.proofs.ReplacedBlob.{chains_replaced, generation_kept, generations_replaced, low_replaced}
+use Rattle.store_model.proofs.ReplacedBlob.{pages_replaced, there_before}
 use Rattle.store_model.proofs.Shows.{or_empty, shown_written}
 use Rattle.store_model.proofs.Sets.{among_either, AllBelow}
-use Rattle.store_model.proofs.UsedCommitted.{used_committed, chains_committed, old_distinct}
-use Rattle.store_model.proofs.WithEntry.{given_all}
+use Rattle.store_model.proofs.UsedCommitted.{old_distinct}
+use Rattle.store_model.proofs.WithEntry.{option_all}
 use Rattle.store_model.proofs.StateKept.{allowed_here, log_kept, replay_plain, LogKept}
 use Rattle.store_model.proofs.Seen.{change_seen, metadata_seen}
-use Rattle.store_model.proofs.LeftToDo.{no_place, goes_on_as, held_after, among_left, distinct_left, none_claimed_after}
+use Rattle.store_model.proofs.LeftToDo.{no_place, goes_on_as, held_after, among_left, none_claimed_after}
 use Rattle.store_model.proofs.LeftToDo.{among_taken}
 use Rattle.store_model.proofs.JobKept.{claimed_unread, copied_put, held_low, no_other, held_is, served_does}
 use Rattle.store_model.proofs.Copies.{row_unclaimed}
 use Rattle.store_model.proofs.OneReplacement.{some_pages}
 use Rattle.store_model.proofs.Claims.{with_row_claims}
 use Rattle.store_model.proofs.ClustersMoved.{clusters_moved, differ_committed}
-use Rattle.store_model.proofs.Guarding.{claims_drawn_still, generations_renewed, guarded_behind}
+use Rattle.store_model.proofs.Guarding.{claims_drawn_still, guarded_behind}
 
 module _ (known : Known) where
   open known use {s, placed, first, script, p, facts}
@@ -71,15 +70,10 @@ module _ (known : Known) where
     next_job = going_on (record j { claimed = [] }) [] t.running.rest
 
     abbrev base : StoreState
-    base = record p {
-      base = with_entry p.base r.head t.new;
-      chains = with_entry p.chains r.head (r.head ∷ r.fresh);
+    base = record (with_replaced p r t.commit.renews) {
       live = live_of w;
-      clusters = all_set p.clusters r.freed false;
       job = next_job;
       frozen = frozen_behind p.frozen j t.running.rest;
-      generations = all_renewed p.generations p.drawn t.commit.renews;
-      drawn = p.drawn + length t.commit.renews;
     }
 
     abbrev now : StoreState
@@ -105,15 +99,6 @@ module _ (known : Known) where
     does = subst (Does (ReadsZeros p.super j.claimed) p.super p.base p.live command) t.running.next
         (served_does known j t.running.is t.running.runs t.served commits_here)
 
-    base_is : replaced p.base r ≡ with_entry p.base r.head t.new
-    base_is = replaced_is p.base r t.new t.new_is
-
-    chains_are : rechained p.chains r ≡ with_entry p.chains r.head (r.head ∷ r.fresh)
-    chains_are = rechained_is p.chains r t.new t.new_is
-
-    stored_new : IsStored s r.head t.new
-    stored_new = subst (λ (y : Super). IsStored y r.head t.new) facts.super (can.stored t.new t.new_is)
-
     abbrev taken : List ℕ
     taken = taken_by r
 
@@ -129,9 +114,16 @@ module _ (known : Known) where
     used : UsedPages p.super.md_len p.pages p.chains (taken ++ later)
     used = subst (UsedPages p.super.md_len p.pages p.chains) held well.pages
 
+    head_low : r.head < p.super.md_len
+    head_low = low_replaced p.super p.base p.chains well.chains p.pages r later can.chain can.unerased can.gone used
+        (λ m is. (can.stored m is).low)
+
+    under : r.head < s.md_len
+    under = subst (λ (y : Super). r.head < y.md_len) facts.super head_low
+
     low : AllBelow p.super.md_len (r.head ∷ r.fresh)
     low x among = elim (among_either x r.head r.fresh among) [
-      | inl e ↦ subst (λ n. n < p.super.md_len) (sym e) (can.stored t.new t.new_is).low
+      | inl e ↦ subst (λ n. n < p.super.md_len) (sym e) head_low
       | inr f ↦ subst (λ (y : Super). x < y.md_len) (sym facts.super)
           (held_low known well (taken ++ later) held x (among_left x taken later (among_taken r x f)))
     ]
@@ -145,24 +137,16 @@ module _ (known : Known) where
 
     -- ---- generations
 
-    -- a blob that was there has a generation, and a new one is renewed
-    has_number : (is_some (p.base r.head) ≡ true) ⊎ (is_among r.head t.commit.renews ≡ true)
-    has_number = elim (cases_Bool r.makes) [
-      | inl makes ↦ inr (does.0.numbers makes)
-      | inr not ↦ inl (there_before p.super p.base p.chains well.chains r can.chain not)
-    ]
-
     generations_new : AreGenerations now.base now.generations now.drawn
-    generations_new =
-        generations_renewed p.base r.head t.new p.generations p.drawn t.commit.renews well.generations has_number
-        (subst (λ (m : Metas). AllByRecursion (λ head. IsSome (m head)) t.commit.renews) base_is does.0.renews)
+    generations_new = generations_replaced p.base p.generations p.drawn r t.commit.renews
+        (there_before p.super p.base p.chains well.chains r can.chain) does.0.numbers does.0.renews well.generations
 
     -- ---- what is shown
 
     -- each page of the claimed clusters was overwritten, and is read as zeros still
     zeros_read : ReadsZeros p.super j.claimed t.device.reads
     zeros_read page among =
-        claimed_unread known well told r.head (page_in r.planned r.head) t.device stored_new.low t.moves.reads
+        claimed_unread known well told r.head (page_in r.planned r.head) t.device under t.moves.reads
         page (subst (λ l. is_among (page / cluster_pages_of p.super) l ≡ true) (sym (ap claimed_by t.running.is)) among)
         ∙ stood.zeroed page among (ap (λ todo. is_among page (zeros_in todo)) t.running.next)
 
@@ -172,25 +156,23 @@ module _ (known : Known) where
         t.moves.reads ∙ ap (λ (y : Super).
         read_after told p.device.reads (y.md_start + r.head) (page_in r.planned r.head)) facts.super in
         let same : shown_of p.super p.base p.live t.device.reads ≡ shown p = shown_written told s p t.device r.head
-        (page_in r.planned r.head) facts.super facts.stored facts.lawful placed stored_new.low at in
+        (page_in r.planned r.head) facts.super facts.stored facts.lawful placed under at in
         let step = does.0.shows t.device.reads zeros_read in
-        let on_w : shown_of p.super (replaced p.base r) (live_of w) t.device.reads ≡ w =
         subst (λ (v : Volumes). shown_of p.super
         (replaced p.base r) (live_of (change (fixed_of p.super) v command t.commit.reply)) t.device.reads
-        ≡ change (fixed_of p.super) v command t.commit.reply) same step in
-        ap (λ (m : Metas). shown_of p.super m (live_of w) t.device.reads) (sym base_is) ∙ on_w
+        ≡ change (fixed_of p.super) v command t.commit.reply) same step
 
     -- what was copied of empty slots is their content still
     copied_new : AreCopied now
     copied_new =
         let mid : StoreState = record p { device = t.device } in
         let read : AreCopied mid = copied_put known told mid r.head (page_in r.planned r.head) refl refl refl refl well
-        stored_new.low t.moves.reads in
-        copied_committed mid now read t.commit.renews refl refl refl well.claims_drawn
+        under t.moves.reads in
+        copied_committed mid now read t.commit.renews refl refl
+        (option_map_or (λ new. p.generations) r.new (without_entry p.generations r.head))
+        (generation_kept p.generations r) refl well.claims_drawn
         (row_unclaimed (cluster_pages_of p.super) p.rows channel _ refl) (some_pages known) (λ image. Unit {0}) tt
-        (λ h out. subst (λ (m : Metas). LeavesEmpty p.super (resolved p.base) (resolved m) (λ image. Unit {0}) h)
-        base_is
-        (does.0.leaves h out))
+        does.0.leaves
 
     writable : AllWritable w
     writable h v is = does.0.writable p.device.reads h v is
@@ -218,19 +200,13 @@ module _ (known : Known) where
         let stands : JobStands now (record j { claimed = []; written = []; todo = t.running.rest }) =
         record {
           lays = subst (λ l. Lays p.super now.base now.chains l [] t.running.rest)
-              (sym (ap (λ x. inserted_by now.rows x ++ []) serves))
-              (subst (λ (m : Metas). Lays p.super m (with_entry p.chains r.head (r.head ∷ r.fresh)) [] []
-              t.running.rest)
-              base_is
-              (subst (λ (h : Chains). Lays p.super (replaced p.base r) h [] [] t.running.rest) chains_are lays.2));
+              (sym (ap (λ x. inserted_by now.rows x ++ []) serves)) lays.2;
           distinct = subst AreDistinct (sym lays.1)
               (old_distinct p.super p.base p.chains well.chains p.pages r later can.chain can.unerased used differ);
           served = λ c serves waits. absurd (let bad = sym does.1 ∙ waits in cc bad);
           inserts = λ row bad. absurd (let e = sym serves ∙ bad in cc e);
-          keeps = λ none other. subst (λ (m : Metas). Keeps m t.running.rest) base_is does.2;
-          settles = λ other. subst HasNoMarks
-              (ap (behind p.base) t.running.next ∙ ap (λ (m : Metas). behind m t.running.rest) base_is)
-              (stood.settles other);
+          keeps = λ none other. does.2;
+          settles = λ other. subst HasNoMarks (ap (behind p.base) t.running.next) (stood.settles other);
           mends = λ repair. absurd (let bad = sym serves ∙ repair in cc bad);
           zeroed = λ page among out. absurd (no_place [] (page / cluster_pages_of p.super) among refl);
         } in
@@ -250,27 +226,25 @@ module _ (known : Known) where
         let done_so : RunInvariant s first script now =
         record {
           super = facts.super;
-          stored = given_all p.base r.head t.new (IsStored s) facts.stored stored_new;
-          named = subst (λ (m : Metas). AreNamed (resolved m)) base_is can.named;
-          few = subst (λ (m : Metas). slots_together s.md_len m ≤ 2 ^ 24) base_is
-              (subst (λ (y : Super). slots_together y.md_len (replaced p.base r) ≤ 2 ^ 24) facts.super can.few);
-          lawful = subst (λ (m : Metas). IsLawful s.md_len (resolved m)) base_is
-              (subst (λ (y : Super). IsLawful y.md_len (resolved (replaced p.base r))) facts.super can.lawful);
+          stored = option_all p.base r.head r.new (IsStored s) facts.stored
+              (λ m is. subst (λ (y : Super). IsStored y r.head m) facts.super (can.stored m is));
+          named = can.named;
+          few = subst (λ (y : Super). slots_together y.md_len (replaced p.base r) ≤ 2 ^ 24) facts.super can.few;
+          lawful = subst (λ (y : Super). IsLawful y.md_len (resolved (replaced p.base r))) facts.super can.lawful;
           legal = kept.legal;
           well = λ on. record {
-            chains =
-                chains_committed p.super p.base p.chains well.chains p.pages r later can.chain can.unerased used t.new
-                (distinct_left taken later differ) low;
+            chains = chains_replaced p.super p.base p.chains well.chains p.pages r later can.chain can.unerased can.gone
+                used differ low;
             live = live_new;
             no_live = no_live_new;
-            pages = subst (UsedPages p.super.md_len p.pages now.chains)
+            pages = subst (UsedPages p.super.md_len now.pages now.chains)
                 (sym (held_after (record j { claimed = [] }) [] t.running.rest ∙ lays.1))
-                (used_committed p.super p.base p.chains well.chains p.pages r later can.chain can.unerased used differ);
-            clusters = subst (λ (m : Metas). UsedClusters p.super now.clusters m (HasClaim now.rows next_job)) base_is
-                (clusters_moved p.super p.clusters p.base (replaced p.base r) r.freed p.rows now.rows p.job
+                (pages_replaced p.super p.base p.chains well.chains p.pages r later can.chain can.unerased can.gone used
+                differ);
+            clusters = clusters_moved p.super p.clusters p.base (replaced p.base r) r.freed p.rows now.rows p.job
                 next_job row_claims none_claimed (subst (MovesClusters p.super p.base (replaced p.base r) r.freed)
                 (ap (λ x. inserted_by p.rows x ++ j.claimed) serves ∙ ap claimed_by (sym t.running.is)) can.clusters)
-                well.claims well.clusters);
+                well.claims well.clusters;
             claims = differ_committed p.rows now.rows p.job next_job row_claims none_claimed well.claims;
             generations = generations_new;
             copied = copied_new;

@@ -46,10 +46,11 @@ renewed generations drawn (h ∷ heads) head number is =
     ]
 
 -- With other metadata, by which each slot that is empty, of a blob that isn't renewed, was empty and shows what it
--- showed.
+-- showed; a generation that isn't new was the blob's before.
 module _ (p q : StoreState) (copied : AreCopied p) (heads : List ℕ) (super : q.super ≡ p.super)
-    (reads : q.device.reads ≡ p.device.reads)
-    (generations : q.generations ≡ all_renewed p.generations p.drawn heads) (drawn : AreClaimsDrawn p.rows p.drawn)
+    (reads : q.device.reads ≡ p.device.reads) (kept : Map ℕ)
+    (were : (head number : ℕ) → kept head ≡ Some number → p.generations head ≡ Some number)
+    (generations : q.generations ≡ all_renewed kept p.drawn heads) (drawn : AreClaimsDrawn p.rows p.drawn)
     (no_more : HaveNoMore (cluster_pages_of p.super) p.rows q.rows) where
   pub copied_committed : 0 < cluster_pages_of p.super → (Held : Image → Type 0) → Held p.device.reads
       → ((head : ℕ) → is_among head heads ≡ false
@@ -62,10 +63,10 @@ module _ (p q : StoreState) (copied : AreCopied p) (heads : List ℕ) (super : q
       }) in
       let low = copied_below k (p.rows row).stage page x.copied in
       let stays : (is_among claim.head heads ≡ false) × (p.generations claim.head ≡ Some claim.generation) =
-      elim (renewed p.generations p.drawn heads claim.head claim.generation
+      elim (renewed kept p.drawn heads claim.head claim.generation
       (ap (λ (g : Map ℕ). g claim.head) (sym generations) ∙ wanted.current)) [
         | inl later ↦ absurd (let le = drawn row claim x.held in omega (arith, le, later))
-        | inr is ↦ is
+        | inr is ↦ (is.0, were claim.head claim.generation is.1)
       ] in
       let at : (claim.slot * k + page) / k ≡ claim.slot = div-mul-add claim.slot k page low in
       let was = leaves claim.head stays.0 (claim.slot * k + page) wanted.meta wanted.there

@@ -9,7 +9,7 @@ use Rattle.std.specs.Option.{option_map}
 use Rattle.std.proofs.lemmas.Bool.Decides.{nat_tests}
 use Rattle.std.proofs.lemmas.List.{length-replicate}
 use Rattle.page_disk.specs.Disk.{Image}
-use Rattle.volume_model.specs.Volumes.{all_slots, Fixed, two_xattrs, Volumes}
+use Rattle.volume_model.specs.Volumes.{all_slots, Fixed, two_xattrs, Volume, Volumes}
 use Rattle.volume_model.specs.Xattrs.{Text, Xattrs}
 use Rattle.volume_model.specs.Refusals.{is_taken, is_too_large, refusal}
 use Rattle.volume_model.specs.Steps.{Allowed, change}
@@ -35,7 +35,7 @@ use Rattle.store_model.specs.Steady.{AreSteady, CanBeWritten, IsSteady}
 use Rattle.store_model.specs.RunInvariant.{RunsWell}
 use Rattle.store_model.proofs.Known.{Known}
 use Rattle.store_model.proofs.Meanwhile.{blank_reading, reading}
-use Rattle.store_model.proofs.MadeLive.{lives_made, writable_made}
+use Rattle.store_model.proofs.ChangedLive.{lives_changed, made_commit, writable_changed}
 use Rattle.store_model.proofs.NewBlob.{empty_slot, new_takes_none, two_written}
 use Rattle.store_model.proofs.ClaimedZeros.{claimed_inside, zeroed_fresh, zeroed_is, zeros_read}
 use Rattle.store_model.proofs.InARow.{among_range, range_among, range_differs}
@@ -96,7 +96,7 @@ module _ (known : Known) (unmarked : HasNoMarks known.p.base) where
     all = with_entry p.base head new
 
     abbrev commit : Committing
-    commit = record { reply = r_.Made head; live = Some xattrs; renews = head ∷ [] }
+    commit = made_commit head xattrs
 
     zeros_differ : (b : Bool) → AreDistinct (new_zeros b slots)
     zeros_differ true = range_differs 0 slots
@@ -201,12 +201,15 @@ module _ (known : Known) (unmarked : HasNoMarks known.p.base) where
       others = w_elsewhere there (base_steady known unmarked) (base_lawful known unmarked) head none name slots thick
           uuid xattrs same_two new steady
 
-      lives : live_of w ≡ with_entry p.live r.head xattrs
-      lives = lives_made there well.live well.no_live w head xattrs live_at others
-          ∙ ap (λ h. with_entry p.live h xattrs) (sym head_is)
+      lives_else : (h : ℕ) → (h ≡ head → ⊥) → live_of w h ≡ live_of (shown there) h
+      lives_else h ne = ap (λ o. option_map (λ (x : Volume). x.live) o) (others h ne)
+
+      lives : live_of w ≡ with_entry p.live head xattrs
+      lives = lives_changed there well.live well.no_live w head (Some xattrs) live_at lives_else
 
       writable : AllWritable w
-      writable = writable_made there well.live well.no_live w head xattrs live_at others can
+      writable = writable_changed there well.live well.no_live w head (Some xattrs) live_at lives_else
+          (λ xs is. subst CanBeWritten (cc is) can)
 
     step : IsStep (ReadsZeros p.super claimed) p.super p.base r p.live (c.Create name slots thick uuid) commit
     step = record {

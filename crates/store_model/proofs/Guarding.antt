@@ -189,6 +189,13 @@ one_more_numbered base other head generations drawn there same g =
     among_here : (h head : ℕ) → h ≡ head → is_among h (head ∷ []) ≡ true
     among_here h head e = subst (λ n. is_among n (head ∷ []) ≡ true) (sym e) (among_first head [])
 
+-- blobs that are there are renewed
+pub generations_more : (base : Metas) (generations : Map ℕ) (drawn : ℕ) (heads : List ℕ)
+    → AllByRecursion (λ h. IsSome (base h)) heads → AreGenerations base generations drawn
+    → AreGenerations base (all_renewed generations drawn heads) (drawn + length heads)
+generations_more base generations drawn heads there g = all_numbered base generations drawn heads
+    (record { each = λ h. inl (g.each h); low = g.low; differ = g.differ }) there
+
 -- One blob has other metadata, and blobs are renewed: it too, if it is new.
 pub generations_renewed : (base : Metas) (head : ℕ) (new : Meta) (generations : Map ℕ) (drawn : ℕ) (heads : List ℕ)
     → AreGenerations base generations drawn → (is_some (base head) ≡ true) ⊎ (is_among head heads ≡ true)

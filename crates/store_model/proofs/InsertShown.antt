@@ -167,7 +167,7 @@ module _ (known : Known) where
         ∙ same
 
     pub copied : AreCopied now
-    copied = copied_committed mid now read [] refl refl refl well.claims_drawn
+    copied = copied_committed mid now read [] refl refl p.generations (λ h n is. is) refl well.claims_drawn
         (row_unclaimed (cluster_pages_of p.super) p.rows row next refl) (some_pages known) Held holds
         (λ h out. subst (λ (m : Metas). LeavesEmpty p.super m (resolved now.base) Held h)
         (sym (base_resolved known inserts.unmarked))

@@ -5,7 +5,7 @@ use Rattle.page_disk.specs.Moments.{IsReplaced}
 use Rattle.page_disk.specs.declared.disk.PageDisk.{Ghosts}
 use Rattle.super_block.specs.declared.page.Super.{Super}
 use Rattle.store_model.specs.Cases.{replaces_more as kind_of_replacing}
-use Rattle.store_model.specs.Cases.ReplaceMore.{ReplacesMore, with_replaced}
+use Rattle.store_model.specs.Cases.ReplaceMore.{ReplacesMore}
 use Rattle.store_model.specs.Device.{Device}
 use Rattle.store_model.specs.Guarding.{frozen_behind}
 use Rattle.store_model.specs.Phases.{page_in, Replaces, Replacing}
@@ -15,6 +15,7 @@ use Rattle.store_model.specs.StoreState.{ForInsert, going_on, StoreState}
 use Rattle.store_model.specs.Surviving.{HoldsReplaced}
 use Rattle.store_model.specs.Touches.{read_now}
 use Rattle.store_model.specs.Turning.{page_of_place, read_after, Runs}
+use Rattle.store_model.specs.WithReplaced.{made_by, with_replaced}
 use Rattle.store_model.proofs.Going.{told_reads}
 use Rattle.store_model.proofs.Heads.{holds_replaced, image, replaced_way}
 use Rattle.store_model.proofs.Over.{ImageLaw, Over, unchanged, Way}
@@ -41,7 +42,7 @@ module _ {D : Type 0} (d : Ghosts D) (x : Over d) (r : Replacing) (running : Run
   }
 
   abbrev would_be : StoreState
-  would_be = record (with_replaced p r) {
+  would_be = record (with_replaced p r (made_by r)) {
     job = going_on (record running.job { claimed = [] }) [] running.rest;
     frozen = frozen_behind p.frozen running.job running.rest;
     device = would_read;

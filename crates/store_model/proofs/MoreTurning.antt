@@ -7,7 +7,7 @@ use Rattle.super_block.specs.declared.page.Super.{Super}
 use Rattle.super_block.specs.Numbers.{cluster_pages_of}
 use Rattle.blob_meta.specs.Repairs.{HasNoMarks}
 use Rattle.blob_meta.specs.Resolving.{IsLawful, resolved, slots_together}
-use Rattle.store_model.specs.Cases.ReplaceMore.{ReplacesMore, with_replaced}
+use Rattle.store_model.specs.Cases.ReplaceMore.{ReplacesMore}
 use Rattle.store_model.specs.Copying.{AreCopied, IsUpToDate}
 use Rattle.store_model.specs.Guarding.{frozen_behind}
 use Rattle.store_model.specs.Jobs.{CanReplace, Does, gained_by, inserted_by, IsUnseen, JobStands, Keeps, Lays}
@@ -23,6 +23,7 @@ use Rattle.store_model.specs.Steady.{IsStored}
 use Rattle.store_model.specs.StoreState.{ForCommand, ForInsert, ForRepair, going_on, JobState, Service, shown}
 use Rattle.store_model.specs.StoreState.{StoreState}
 use Rattle.store_model.specs.Turning.{read_after}
+use Rattle.store_model.specs.WithReplaced.{made_by, with_replaced}
 use Rattle.store_model.proofs.CopiesCommitted.{copied_unseen}
 use Rattle.store_model.proofs.ClustersMoved.{clusters_moved, differ_committed}
 use Rattle.store_model.proofs.GoesOn.{served_still, serves_still, unfinished_still}
@@ -33,7 +34,7 @@ use Rattle.store_model.proofs.LeftToDo.{among_left, among_taken, goes_on_as, hel
 use Rattle.store_model.proofs.Moved.{inserted_none}
 use Rattle.store_model.proofs.Phases.{does_anywhere, mends_no_commit}
 use Rattle.store_model.proofs.ReplacedBlob.{chains_replaced, generation_before, generations_replaced, low_replaced}
-use Rattle.store_model.proofs.ReplacedBlob.{pages_replaced, there_before}
+use Rattle.store_model.proofs.ReplacedBlob.{made_numbered, made_there, pages_replaced, there_before}
 use Rattle.store_model.proofs.RowsKept.{way_kept}
 use Rattle.store_model.proofs.Sets.{AllBelow, among_either}
 use Rattle.store_model.proofs.Shaped.{shaped_same}
@@ -59,7 +60,7 @@ module _ (known : Known) where
     next_job = going_on other [] t.running.rest
 
     abbrev now : StoreState
-    now = record (with_replaced p r) {
+    now = record (with_replaced p r (made_by r)) {
       job = next_job;
       frozen = frozen_behind p.frozen j t.running.rest;
       device = t.device;
@@ -134,7 +135,7 @@ module _ (known : Known) where
     -- no claim is up to date that wasn't
     no_more : (row : ℕ) (claim : OpenClaim) → (p.rows row).claim ≡ Some claim → IsUpToDate now claim
         → IsUpToDate p claim
-    no_more row claim holds current = generation_before p.generations p.drawn r claim.head claim.generation
+    no_more row claim holds current = generation_before p.generations p.drawn r (made_by r) claim.head claim.generation
         (well.claims_drawn row claim holds) current
 
     -- ---- what is shown
@@ -223,8 +224,9 @@ module _ (known : Known) where
             clusters = clusters_moved p.super p.clusters p.base now.base r.freed p.rows p.rows p.job next_job
                 (λ c. refl) none_claimed moves well.claims well.clusters;
             claims = differ_committed p.rows p.rows p.job next_job (λ c. refl) none_claimed well.claims;
-            generations = generations_replaced p.base p.generations p.drawn r
-                (there_before p.super p.base p.chains well.chains r can.chain) well.generations;
+            generations = generations_replaced p.base p.generations p.drawn r (made_by r)
+                (there_before p.super p.base p.chains well.chains r can.chain) (made_numbered r)
+                (made_there p.base r (λ none. (can.gone none).1)) well.generations;
             claims_drawn = claims_drawn_still p.rows p.rows p.drawn now.drawn (λ c. refl) (omega arith)
                 well.claims_drawn;
             copied = copied_new;

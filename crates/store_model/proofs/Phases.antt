@@ -4,7 +4,7 @@ use Rattle.std.proofs.Common.{append_assoc}
 use Rattle.std.proofs.lemmas.List.{append-nil}
 use Rattle.store_model.specs.Phases.{Erases, Frees, Marks, Replaces, Writes, Zeros}
 use Rattle.store_model.specs.Phases.{Phase, has_commit, held_in, taken_in, erasing, writing, planned_in}
-use Rattle.store_model.specs.Phases.{behind, OnlyMend}
+use Rattle.store_model.specs.Phases.{behind, OnlyMend, replaced}
 use Rattle.super_block.specs.declared.page.Super.{Super}
 use Rattle.store_model.specs.Maps.{Metas, Chains, Map}
 use Rattle.store_model.specs.StoreState.{StoreState}
@@ -13,6 +13,7 @@ use Rattle.page_disk.specs.Disk.{Image}
 use Rattle.volume_model.specs.Xattrs.{Xattrs}
 use Rattle.md_chain.specs.Chain.{is_among}
 use Rattle.volume_model.specs.declared.command.Command.{Command}
+use Rattle.store_model.proofs.LeftToDo.{among_left}
 use Rattle.store_model.proofs.Sets.{among_first, among_later}
 
 -- ---- pages behind a head
@@ -24,6 +25,10 @@ commit_behind (p ∷ ps) rest = commit_behind ps rest
 pub held_behind : (fresh : List ℕ) (rest : List Phase) → held_in (writing fresh rest) ≡ held_in rest
 held_behind [] rest = refl
 held_behind (p ∷ ps) rest = held_behind ps rest
+
+pub taken_behind : (fresh : List ℕ) (rest : List Phase) → taken_in (writing fresh rest) ≡ taken_in rest
+taken_behind [] rest = refl
+taken_behind (p ∷ ps) rest = taken_behind ps rest
 
 pub does_behind : (Holds : Image → Type 0) (s : Super) (base : Metas) (live : Map Xattrs) (command : Command)
     (fresh : List ℕ)
@@ -59,53 +64,78 @@ lays_behind s base chains claimed written (p ∷ ps) rest lays =
     lays_behind s base chains claimed (written ++ p ∷ []) ps rest
     (subst (λ w. Lays s base chains claimed w rest) (sym (append_assoc written (p ∷ []) ps)) lays)
 
--- ---- old pages, which are the last of a job
+-- ---- old pages, and what comes behind them
 
-pub no_commit : (old places : List ℕ) → has_commit (erasing old places []) ≡ false
-no_commit old [] = refl
-no_commit old (p ∷ []) = refl
-no_commit old (p ∷ q ∷ ps) = no_commit old (q ∷ ps)
+pub commit_old : (old places : List ℕ) (others : List Phase)
+    → has_commit (erasing old places others) ≡ has_commit others
+commit_old old [] others = refl
+commit_old old (p ∷ []) others = refl
+commit_old old (p ∷ q ∷ ps) others = commit_old old (q ∷ ps) others
 
-pub none_taken : (old places : List ℕ) → taken_in (erasing old places []) ≡ []
-none_taken old [] = refl
-none_taken old (p ∷ []) = refl
-none_taken old (p ∷ q ∷ ps) = none_taken old (q ∷ ps)
+pub taken_old : (old places : List ℕ) (others : List Phase) → taken_in (erasing old places others) ≡ taken_in others
+taken_old old [] others = refl
+taken_old old (p ∷ []) others = refl
+taken_old old (p ∷ q ∷ ps) others = taken_old old (q ∷ ps) others
 
-pub held_clearing : (old places : List ℕ) → (places ≡ [] → old ≡ []) → held_in (erasing old places []) ≡ old
-held_clearing old [] same = sym (same refl)
-held_clearing old (p ∷ []) same = append-nil old
-held_clearing old (p ∷ q ∷ ps) same = held_clearing old (q ∷ ps) (λ bad. absurd (cc bad))
+-- they are held, and what the others take, which begin with no old page
+pub held_old : (old places : List ℕ) (others : List Phase) → (places ≡ [] → old ≡ [])
+    → held_in others ≡ taken_in others → held_in (erasing old places others) ≡ old ++ taken_in others
+held_old old [] others same begin = begin ∙ ap (λ l. l ++ taken_in others) (sym (same refl))
+held_old old (p ∷ []) others same begin = refl
+held_old old (p ∷ q ∷ ps) others same begin = held_old old (q ∷ ps) others (λ bad. absurd (cc bad)) begin
 
 pub old_pages : (old places : List ℕ) → AreOldPages (erasing old places [])
 old_pages old [] = tt
 old_pages old (p ∷ []) = tt
 old_pages old (p ∷ q ∷ ps) = old_pages old (q ∷ ps)
 
-pub keeps_clearing : (base : Metas) (old places : List ℕ) → Keeps base (erasing old places [])
-keeps_clearing base old [] = tt
-keeps_clearing base old (p ∷ []) = tt
-keeps_clearing base old (p ∷ q ∷ ps) = keeps_clearing base old (q ∷ ps)
+pub keeps_old : (base : Metas) (old places : List ℕ) (others : List Phase) → Keeps base others
+    → Keeps base (erasing old places others)
+keeps_old base old [] others keeps = keeps
+keeps_old base old (p ∷ []) others keeps = keeps
+keeps_old base old (p ∷ q ∷ ps) others keeps = keeps_old base old (q ∷ ps) others keeps
+
+pub does_old : (Holds : Image → Type 0) (s : Super) (base : Metas) (live : Map Xattrs) (command : Command)
+    (old places : List ℕ) (others : List Phase) → Does Holds s base live command others
+    → Does Holds s base live command (erasing old places others)
+does_old Holds s base live command old [] others does = does
+does_old Holds s base live command old (p ∷ []) others does = does
+does_old Holds s base live command old (p ∷ q ∷ ps) others does =
+    does_old Holds s base live command old (q ∷ ps) others does
 
 pub mends_clearing : (old places : List ℕ) → OnlyMend (erasing old places [])
 mends_clearing old [] = tt
 mends_clearing old (p ∷ []) = tt
 mends_clearing old (p ∷ q ∷ ps) = mends_clearing old (q ∷ ps)
 
-pub leads_clearing : (base : Metas) (old places : List ℕ) → behind base (erasing old places []) ≡ base
-leads_clearing base old [] = refl
-leads_clearing base old (p ∷ []) = refl
-leads_clearing base old (p ∷ q ∷ ps) = leads_clearing base old (q ∷ ps)
+pub leads_old : (base : Metas) (old places : List ℕ) (others : List Phase)
+    → behind base (erasing old places others) ≡ behind base others
+leads_old base old [] others = refl
+leads_old base old (p ∷ []) others = refl
+leads_old base old (p ∷ q ∷ ps) others = leads_old base old (q ∷ ps) others
 
-pub lays_clearing : (s : Super) (base : Metas) (chains : Chains) (old places : List ℕ)
-    → ((x : ℕ) → is_among x places ≡ true → is_among x old ≡ true)
-    → Lays s base chains [] [] (erasing old places [])
-lays_clearing s base chains old [] all = (refl, refl)
-lays_clearing s base chains old (p ∷ []) all = (refl, all p (among_first p []), refl, (refl, refl))
-lays_clearing s base chains old (p ∷ q ∷ ps) all = (
+pub lays_old : (s : Super) (base : Metas) (chains : Chains) (old places : List ℕ) (others : List Phase)
+    → ((x : ℕ) → is_among x places ≡ true → is_among x old ≡ true) → held_in others ≡ taken_in others
+    → Lays s base chains [] [] others → Lays s base chains [] [] (erasing old places others)
+lays_old s base chains old [] others all begin lays = lays
+lays_old s base chains old (p ∷ []) others all begin lays = (refl, all p (among_first p []), begin, lays)
+lays_old s base chains old (p ∷ q ∷ ps) others all begin lays = (
   refl,
-  ap (is_among p) (held_clearing old (q ∷ ps) (λ bad. absurd (cc bad))) ∙ all p (among_first p (q ∷ ps)),
-  lays_clearing s base chains old (q ∷ ps) (λ x among. all x (among_later x p (q ∷ ps) among)),
+  ap (is_among p) (held_old old (q ∷ ps) others (λ bad. absurd (cc bad)) begin)
+      ∙ among_left p old (taken_in others) (all p (among_first p (q ∷ ps))),
+  lays_old s base chains old (q ∷ ps) others (λ x among. all x (among_later x p (q ∷ ps) among)) begin lays,
 )
+
+-- ---- old pages, which are the last of a job
+
+pub no_commit : (old places : List ℕ) → has_commit (erasing old places []) ≡ false
+no_commit old places = commit_old old places []
+
+pub held_clearing : (old places : List ℕ) → (places ≡ [] → old ≡ []) → held_in (erasing old places []) ≡ old
+held_clearing old places same = held_old old places [] same refl ∙ append-nil old
+
+pub keeps_clearing : (base : Metas) (old places : List ℕ) → Keeps base (erasing old places [])
+keeps_clearing base old places = keeps_old base old places [] tt
 
 -- none is a page of zeros
 pub no_zeros : (old places : List ℕ) → zeros_in (erasing old places []) ≡ []
@@ -133,6 +163,19 @@ pub does_reached : (Holds : Image → Type 0) (s : Super) (base : Metas) (live :
     → Does Holds s base live command (writing fresh rest) → Does Holds s base live command rest
 does_reached Holds s base live command [] rest does = does
 does_reached Holds s base live command (p ∷ ps) rest does = does_reached Holds s base live command ps rest does
+
+-- what does a command has its commit to come
+pub does_commit : (Holds : Image → Type 0) (s : Super) (base : Metas) (live : Map Xattrs) (command : Command)
+    (todo : List Phase) → Does Holds s base live command todo → has_commit todo ≡ true
+does_commit Holds s base live command [] does = absurd does
+does_commit Holds s base live command (Marks ∷ rest) does = does_commit Holds s base live command rest does
+does_commit Holds s base live command (Zeros page ∷ rest) does = does_commit Holds s base live command rest does
+does_commit Holds s base live command (Writes place ∷ rest) does = does_commit Holds s base live command rest does
+does_commit Holds s base live command (Replaces r None ∷ rest) does =
+    does_commit Anything s (replaced base r) live command rest does.1
+does_commit Holds s base live command (Replaces r (Some commit) ∷ rest) does = refl
+does_commit Holds s base live command (Erases place ∷ rest) does = does_commit Holds s base live command rest does
+does_commit Holds s base live command (Frees place old ∷ rest) does = does_commit Holds s base live command rest does
 
 -- what is known of all devices is known of these
 pub does_anywhere : (Holds : Image → Type 0) (s : Super) (base : Metas) (live : Map Xattrs) (command : Command)

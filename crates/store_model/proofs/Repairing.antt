@@ -95,7 +95,7 @@ module _ (told : Bool) (s : Super) (first : Volumes) (script : ℕ → List Comm
   commits facts t = goes_on s first script p facts q t.running (record t.running.job { claimed = [] }) []
       (ap (λ (v : StoreState). v.job) t.next) refl
       (ap (behind p.base) t.running.next ∙ ap (λ (m : Metas). behind m t.running.rest)
-      (replaced_is p.base t.replacing t.new t.new_is ∙ sym (ap (λ (v : StoreState). v.base) t.next)))
+      (sym (ap (λ (v : StoreState). v.base) t.next)))
       (λ repair. absurd (let bad = sym t.served.serves ∙ repair in cc bad))
 
   inserts : RunInvariant s first script p → Inserts told p q → IsRepaired p → IsRepaired q

@@ -5,20 +5,20 @@ use Rattle.std.proofs.Common.{true, false, refl, sym, ap, ◌∙◌, inl, inr, a
 use Rattle.std.specs.Prelude.{if◌then◌else◌, is_some, IsSome, slice_set}
 use Rattle.std.specs.List.{AllByRecursion}
 use Rattle.std.specs.Option.{option_map, option_map_or}
-use Rattle.std.proofs.lemmas.Bool.{cases_Bool, cases_eq}
+use Rattle.std.proofs.lemmas.Bool.{cases_Bool, cases_eq, false≢true}
 use Rattle.super_block.specs.declared.page.Super.{Super}
 use Rattle.blob_meta.specs.declared.meta.Meta.{Meta}
 use Rattle.md_chain.specs.Chain.{is_among}
-use Rattle.store_model.specs.Cases.ReplaceMore.{generations_with, made_by, pages_with}
 use Rattle.store_model.specs.Guarding.{all_renewed, AreGenerations}
 use Rattle.store_model.specs.Jobs.{IsErasure}
 use Rattle.store_model.specs.Maps.{Chains, Map, Metas, with_entry, with_option, without_entry}
 use Rattle.store_model.specs.Phases.{chain_before, rechained, replaced, Replacing, taken_by}
 use Rattle.store_model.specs.Places.{AreDistinct, UsedPages}
 use Rattle.store_model.specs.RunInvariant.{HaveChains}
+use Rattle.store_model.specs.WithReplaced.{generations_with, made_by, pages_with}
 use Rattle.store_model.proofs.CopiesCommitted.{renewed}
 use Rattle.store_model.proofs.Erased.{chains_erased, erased_low, generations_erased, used_erased}
-use Rattle.store_model.proofs.Guarding.{generations_renewed}
+use Rattle.store_model.proofs.Guarding.{generations_more, generations_renewed}
 use Rattle.store_model.proofs.LeftToDo.{chain_there, distinct_left}
 use Rattle.store_model.proofs.Sets.{AllBelow, among_first}
 use Rattle.store_model.proofs.UsedCommitted.{chains_committed, used_committed}
@@ -65,42 +65,61 @@ module _ (s : Super) (base : Metas) (chains : Chains) (have : HaveChains s base 
 
 -- ---- generations
 
-pub generations_replaced : (base : Metas) (generations : Map ℕ) (drawn : ℕ) (r : Replacing)
-    → (r.makes ≡ false → is_some (base r.head) ≡ true) → AreGenerations base generations drawn
-    → AreGenerations (replaced base r) (generations_with generations drawn r) (drawn + length (made_by r))
-generations_replaced base generations drawn r there_if g = by r.new
+-- with blobs renewed that are there: that of the replacement among them, where it is new
+pub generations_replaced : (base : Metas) (generations : Map ℕ) (drawn : ℕ) (r : Replacing) (heads : List ℕ)
+    → (r.makes ≡ false → is_some (base r.head) ≡ true) → (r.makes ≡ true → is_among r.head heads ≡ true)
+    → AllByRecursion (λ h. IsSome (replaced base r h)) heads → AreGenerations base generations drawn
+    → AreGenerations (replaced base r) (generations_with generations drawn r heads) (drawn + length heads)
+generations_replaced base generations drawn r heads there_if numbers there g = by r.new there
   where
     -- a blob that was there has a number, and one that is made gets it
-    has_number : (is_some (base r.head) ≡ true) ⊎ (is_among r.head (made_by r) ≡ true)
-    has_number = elim (cases_Bool r.makes) [
-      | inl makes ↦ inr (ap (λ b. is_among r.head (if b then r.head ∷ [] else [])) makes ∙ among_first r.head [])
-      | inr not ↦ inl (there_if not)
-    ]
+    has_number : (is_some (base r.head) ≡ true) ⊎ (is_among r.head heads ≡ true)
+    has_number = elim (cases_Bool r.makes) [ inl makes ↦ inr (numbers makes) | inr not ↦ inl (there_if not) ]
 
-    there : (new : Meta) (makes : Bool)
-        → AllByRecursion (λ h. IsSome (with_entry base r.head new h)) (if makes then r.head ∷ [] else [])
-    there new true = (ap is_some (given_here base r.head new r.head refl), tt)
-    there new false = tt
+    by : (o : Option Meta) → AllByRecursion (λ h. IsSome (with_option base r.head o h)) heads
+        → AreGenerations (with_option base r.head o)
+        (all_renewed (option_map_or (λ new. generations) o (without_entry generations r.head)) drawn heads)
+        (drawn + length heads)
+    by None there = generations_more (with_option base r.head None) (without_entry generations r.head) drawn heads there
+        (generations_erased base r.head generations drawn drawn (omega arith) g)
+    by (Some new) there = generations_renewed base r.head new generations drawn heads g has_number there
 
-    by : (o : Option Meta) → AreGenerations (with_option base r.head o)
-        (option_map_or (λ new. all_renewed generations drawn (made_by r)) o (without_entry generations r.head))
-        (drawn + length (made_by r))
-    by None = generations_erased base r.head generations drawn (drawn + length (made_by r)) (omega arith) g
-    by (Some new) = generations_renewed base r.head new generations drawn (made_by r) g has_number (there new r.makes)
+-- the blob that a replacement makes is one that is there then
+pub made_there : (base : Metas) (r : Replacing) → (r.new ≡ None → r.makes ≡ false)
+    → AllByRecursion (λ h. IsSome (replaced base r h)) (made_by r)
+made_there base r gone = by r.new refl r.makes refl
+  where
+    by : (o : Option Meta) → r.new ≡ o → (makes : Bool) → r.makes ≡ makes
+        → AllByRecursion (λ h. IsSome (with_option base r.head o h)) (if makes then r.head ∷ [] else [])
+    by o is false not = tt
+    by None none true makes = absurd (false≢true (sym (gone none) ∙ makes))
+    by (Some new) is true makes = (ap is_some (given_here base r.head new r.head refl), tt)
 
--- what is a generation then, and was drawn before, was it before
-pub generation_before : (generations : Map ℕ) (drawn : ℕ) (r : Replacing) (head number : ℕ) → number ≤ drawn
-    → generations_with generations drawn r head ≡ Some number → generations head ≡ Some number
-generation_before generations drawn r head number low = by r.new
+-- and gets a number
+pub made_numbered : (r : Replacing) → r.makes ≡ true → is_among r.head (made_by r) ≡ true
+made_numbered r makes = ap (λ b. is_among r.head (if b then r.head ∷ [] else [])) makes ∙ among_first r.head []
+
+-- a generation that a replacement leaves was the blob's before
+pub generation_kept : (generations : Map ℕ) (r : Replacing) (head number : ℕ)
+    → option_map_or (λ new. generations) r.new (without_entry generations r.head) head ≡ Some number
+    → generations head ≡ Some number
+generation_kept generations r head number = by r.new
   where
     by : (o : Option Meta)
-        → option_map_or (λ new. all_renewed generations drawn (made_by r)) o (without_entry generations r.head) head
-        ≡ Some number → generations head ≡ Some number
+        → option_map_or (λ new. generations) o (without_entry generations r.head) head ≡ Some number
+        → generations head ≡ Some number
     by None is = elim (cases_eq head r.head) [
       | inl e ↦ absurd (let bad = sym (option_here generations r.head None head e) ∙ is in cc bad)
       | inr ne ↦ sym (option_elsewhere generations r.head None head ne) ∙ is
     ]
-    by (Some new) is = elim (renewed generations drawn (made_by r) head number is) [
+    by (Some new) is = is
+
+-- what is a generation then, and was drawn before, was it before
+pub generation_before : (generations : Map ℕ) (drawn : ℕ) (r : Replacing) (heads : List ℕ) (head number : ℕ)
+    → number ≤ drawn → generations_with generations drawn r heads head ≡ Some number → generations head ≡ Some number
+generation_before generations drawn r heads head number low is =
+    elim (renewed (option_map_or (λ new. generations) r.new (without_entry generations r.head)) drawn heads head number
+    is) [
       | inl more ↦ absurd (omega (arith, low, more))
-      | inr x ↦ x.1
+      | inr x ↦ generation_kept generations r head number x.1
     ]

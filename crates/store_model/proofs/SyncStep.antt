@@ -45,9 +45,10 @@ use Rattle.store_model.proofs.LiveSynced.{live_synced}
 use Rattle.volume_model.specs.declared.command.Command.{Command}
 use Rattle.volume_model.specs.declared.command.Command.TheVariants as c
 
--- what the commit of such metadata makes, behind which these attributes are read
-abbrev pub sync_commit : Xattrs → Committing
-sync_commit live = record { reply = r_.Ok; live = Some live; renews = [] }
+-- what the commit of such metadata at a head makes, behind which these attributes are read
+abbrev pub sync_commit : ℕ → Xattrs → Committing
+sync_commit head live =
+    record { reply = r_.Ok; live = Some (record { head = head; xattrs = Some live }); renews = [] }
 
 syncs_metadata : (command : Command) → IsSyncing command → IsForMetadata command
 syncs_metadata (c.Put volume key value) is = tt
@@ -66,7 +67,7 @@ module _ (known : Known) (unmarked : HasNoMarks known.p.base) where
     well = facts.well runs
 
     abbrev commit : Committing
-    commit = sync_commit live
+    commit = sync_commit head live
 
     -- the attributes of the blob, whatever a device holds
     were_writable : (image : Image) (x : Volume) → shown (reading p image) head ≡ Some x → AreWritable x
@@ -138,8 +139,7 @@ module _ (known : Known) (unmarked : HasNoMarks known.p.base) where
       allowed = λ image. (may image).done;
       may_fail = λ image. (may image).fail;
       shows = λ image holds. shows_new image;
-      lives = λ image. sym (live_synced (here image) well.live well.no_live command head new live (asks_here image))
-          ∙ ap (λ h. with_entry p.live h live) (sym head_is);
+      lives = λ image. sym (live_synced (here image) well.live well.no_live command head new live (asks_here image));
       writable = writable_new;
       renews = tt;
       numbers = λ makes. absurd (false≢true (sym there ∙ makes));

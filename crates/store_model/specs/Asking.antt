@@ -14,7 +14,9 @@ use Rattle.blob_meta.specs.declared.meta.Meta.{Meta}
 use Rattle.blob_meta.specs.declared.job.Job.{Job as Changes}
 use Rattle.blob_meta.specs.Jobs.{create_job, job_of_one, resize_job}
 use Rattle.blob_meta.specs.Parents.{read_only}
-use Rattle.snapshots.specs.SnapshotJobs.{clone_job}
+use Rattle.snapshots.specs.SnapshotJobs.{clone_job, snapshot_job}
+use Rattle.inflate_delete.specs.Clones.{clones_below}
+use Rattle.inflate_delete.specs.DeletePlans.{IsJobBeside}
 use Rattle.store_model.specs.Shown.{fixed_of}
 use Rattle.store_model.specs.Phases.{Committing}
 use Rattle.store_model.specs.StoreState.{StoreState, shown}
@@ -56,7 +58,11 @@ pub record IsSyncJob (p : StoreState) (command : Command) (changes : Changes) (c
   pub live : Xattrs
   pub is : changes ≡ job_of_one head new
   pub asks : AsksFor p command head new live
-  pub commit_is : commit ≡ record { reply = r.Ok; live = Some live; renews = [] }
+  pub commit_is : commit ≡ record {
+    reply = r.Ok;
+    live = Some (record { head = head; xattrs = Some live });
+    renews = [];
+  }
 
 -- ---- a new blob
 
@@ -75,32 +81,59 @@ pub record IsCreateJob (p : StoreState) (command : Command) (changes : Changes) 
   pub is : changes ≡ create_job head (two_xattrs (fixed_of p.super) (shown p) name uuid) thick slots
   pub commit_is : commit ≡ record {
     reply = r.Made head;
-    live = Some (two_xattrs (fixed_of p.super) (shown p) name uuid);
+    live = Some (record { head = head; xattrs = Some (two_xattrs (fixed_of p.super) (shown p) name uuid) });
     renews = head ∷ [];
   }
 
--- ---- a clone
+-- ---- a clone or a snapshot
 
--- A clone that nothing refuses makes a blob at a head where none is, whose parent is the blob that the command means,
--- with the attributes `name` and `uuid` alone, as they are read and as they are synced, and with a generation.
-pub record IsCloneJob (p : StoreState) (command : Command) (changes : Changes) (commit : Committing) : Type 0 where
+-- A copy that nothing refuses makes a blob at a head where none is, of the blob that the command means, with the
+-- attributes `name` and `uuid` alone, as they are read and as they are synced. The job is one of the two blobs, and
+-- renews these generations.
+pub record IsCopyJob (p : StoreState) (copies : VolumeRef → Text → Command) (job : ℕ → Meta → ℕ → Xattrs → Changes)
+    (renewed : ℕ → ℕ → List ℕ) (command : Command) (changes : Changes) (commit : Committing) : Type 0 where
   pub volume : VolumeRef
   pub name : Text
   pub named : IsName name
-  pub command_is : command ≡ c.Clone volume name
+  pub command_is : command ≡ copies volume name
   pub asked : refusal (fixed_of p.super) (shown p) command ≡ None
-  pub parent : ℕ
-  pub found : named_head (fixed_of p.super) (shown p) command ≡ Some parent
+  pub of : ℕ
+  pub found : named_head (fixed_of p.super) (shown p) command ≡ Some of
   pub old : Meta
-  pub there : p.base parent ≡ Some old
+  pub there : p.base of ≡ Some old
   pub head : ℕ
   pub none : p.base head ≡ None
-  pub is : changes ≡ clone_job parent old head (two_xattrs (fixed_of p.super) (shown p) name None)
+  pub is : changes ≡ job of old head (two_xattrs (fixed_of p.super) (shown p) name None)
   pub commit_is : commit ≡ record {
     reply = r.Made head;
-    live = Some (two_xattrs (fixed_of p.super) (shown p) name None);
-    renews = head ∷ [];
+    live = Some (record { head = head; xattrs = Some (two_xattrs (fixed_of p.super) (shown p) name None) });
+    renews = renewed of head;
   }
+
+-- a clone has the blob for its parent, and its first generation
+abbrev pub IsCloneJob : StoreState → Command → Changes → Committing → Type 0
+IsCloneJob p = IsCopyJob p c.Clone clone_job (λ of head. head ∷ [])
+
+-- a snapshot takes the blob's clusters and its parent, and becomes its parent: both are renewed
+abbrev pub IsSnapshotJob : StoreState → Command → Changes → Committing → Type 0
+IsSnapshotJob p = IsCopyJob p c.Snapshot snapshot_job (λ of head. of ∷ head ∷ [])
+
+-- ---- a blob that goes
+
+-- A delete that nothing refuses erases the blob that it means, whose one clone, if it has one, takes over from it, and
+-- is renewed.
+pub record IsDeletionJob (p : StoreState) (command : Command) (changes : Changes) (commit : Committing) : Type 0 where
+  pub volume : VolumeRef
+  pub command_is : command ≡ c.Delete volume
+  pub asked : refusal (fixed_of p.super) (shown p) command ≡ None
+  pub of : ℕ
+  pub found : named_head (fixed_of p.super) (shown p) command ≡ Some of
+  pub old : Meta
+  pub there : p.base of ≡ Some old
+  pub clones : List ℕ
+  pub clones_are : clones_below p.super.md_len p.base of ≡ clones
+  pub is : IsJobBeside p.base of old clones changes
+  pub commit_is : commit ≡ record { reply = r.Ok; live = Some (record { head = of; xattrs = None }); renews = clones }
 
 -- ---- another number of slots
 
@@ -128,3 +161,5 @@ pub data IsJobFor (p : StoreState) (command : Command) (changes : Changes) (comm
   creates : IsCreateJob p command changes commit → IsJobFor p command changes commit
   resizes : IsResizeJob p command changes commit → IsJobFor p command changes commit
   clones : IsCloneJob p command changes commit → IsJobFor p command changes commit
+  snapshots : IsSnapshotJob p command changes commit → IsJobFor p command changes commit
+  deletes : IsDeletionJob p command changes commit → IsJobFor p command changes commit

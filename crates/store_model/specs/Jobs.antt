@@ -99,7 +99,7 @@ pub record IsStep (Holds : Image → Type 0) (s : Super) (base : Metas) (replaci
       ≡ change (fixed_of s) (shown_of s base live image) command commit.reply
   pub lives : (image : Image)
       → live_of (change (fixed_of s) (shown_of s base live image) command commit.reply)
-      ≡ with_live live replacing.head commit.live
+      ≡ with_live live commit.live
   pub writable : (image : Image) (head : ℕ) (v : Volume)
       → change (fixed_of s) (shown_of s base live image) command commit.reply head ≡ Some v → CanBeWritten v.live
   pub renews : AllByRecursion (λ head. IsSome (replaced base replacing head)) commit.renews

@@ -8,11 +8,11 @@ use Rattle.store_model.specs.StoreState.{StoreState}
 use Rattle.store_model.specs.Later.CopyTurns.{FillCopyFails, FillNotRead}
 use Rattle.store_model.specs.Later.InsertTurns.{FillInsertBreaksDown, FillInsertFails, FillLacks}
 use Rattle.store_model.specs.Later.FillTurns.{ClaimsFill, EndsFill, HaltsFill, LacksForFill}
-use Rattle.store_model.specs.Later.JobPhaseTurns.{CommitsMore, MarkBreaksOff, MarkOrErasureFails, MarksDirty}
+use Rattle.store_model.specs.Later.JobPhaseTurns.{MarkBreaksOff, MarkFails, MarksDirty}
 
 pub data LaterKind : Type 0 where
   fill_not_read fill_copy_fails fill_lacks fill_insert_fails fill_insert_breaks_down claims_fill lacks_for_fill
-      halts_fill ends_fill marks_dirty commits_more mark_or_erasure_fails mark_breaks_off : LaterKind
+      halts_fill ends_fill marks_dirty mark_fails mark_breaks_off : LaterKind
 
 module _ (told : Bool) where
   abbrev pub LaterTurn : StoreState → LaterKind → StoreState → Type 0
@@ -26,6 +26,5 @@ module _ (told : Bool) where
   LaterTurn p halts_fill q = HaltsFill p q
   LaterTurn p ends_fill q = EndsFill p q
   LaterTurn p marks_dirty q = MarksDirty told p q
-  LaterTurn p commits_more q = CommitsMore told p q
-  LaterTurn p mark_or_erasure_fails q = MarkOrErasureFails p q
+  LaterTurn p mark_fails q = MarkFails p q
   LaterTurn p mark_breaks_off q = MarkBreaksOff p q

@@ -8,7 +8,7 @@ use Rattle.blob_meta.specs.Resolving.{mark_of}
 use Rattle.md_chain.specs.Chain.{Look}
 use Rattle.md_chain.specs.declared.plan.PlannedPage.{PlannedPage}
 use Rattle.volume_model.specs.Xattrs.{Xattrs}
-use Rattle.store_model.specs.Maps.{Map, Metas, Chains, with_entry, with_option}
+use Rattle.store_model.specs.Maps.{Map, Metas, Chains, with_option}
 
 -- The metadata of the blob at a head replaced by new metadata, or, where there is none, the blob erased, as it is laid
 -- on pages: the head's page is replaced in place, those behind it go to fresh places, and those that stood behind it
@@ -25,11 +25,16 @@ pub record Replacing : Type 0 where
   pub old : List ℕ
   pub freed : List ℕ
 
--- What a commit makes: the reply that is logged with it, the blob's attributes as they are read from then on, if they
--- are others, and the blobs whose generations it renews.
+-- The attributes of the volume at a head as they are read from a commit on; none where it is gone.
+pub record LiveChange : Type 0 where
+  pub head : ℕ
+  pub xattrs : Option Xattrs
+
+-- What a commit makes: the reply that is logged with it, the one volume whose attributes are others as they are read
+-- from then on, if there is one, and the blobs whose generations it renews.
 pub record Committing : Type 0 where
   pub reply : Reply
-  pub live : Option Xattrs
+  pub live : Option LiveChange
   pub renews : List ℕ
 
 -- One turn of a job. The super block says that the store is in use; a page of a claimed cluster is overwritten with
@@ -130,6 +135,6 @@ OnlyMend (Replaces r (Some commit) ∷ rest) = ⊥
 OnlyMend (_ ∷ rest) = OnlyMend rest
 
 -- the attributes as they are read behind a commit
-abbrev pub with_live : Map Xattrs → ℕ → Option Xattrs → Map Xattrs
-with_live live head None = live
-with_live live head (Some xattrs) = with_entry live head xattrs
+abbrev pub with_live : Map Xattrs → Option LiveChange → Map Xattrs
+with_live live None = live
+with_live live (Some change) = with_option live change.head change.xattrs

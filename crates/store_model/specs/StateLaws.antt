@@ -19,6 +19,7 @@ use Rattle.std.specs.Prelude.{
   slice_get,
 }
 use Rattle.std.specs.Prelude.{Some, None}
+use Rattle.std.specs.List.{AllByRecursion}
 use Rattle.page_disk.specs.Disk.{Image, Rose}
 use Rattle.super_block.specs.declared.page.Super.{Super}
 use Rattle.super_block.specs.Numbers.{cluster_pages_of, fixed_clusters_of}
@@ -32,6 +33,7 @@ use Rattle.volume_model.specs.declared.reply.Entry.{Entry}
 use Rattle.blob_meta.specs.declared.job.Job.{Job as Changes}
 use Rattle.blob_meta.specs.declared.job.Replacement.{Replacement}
 use Rattle.blob_meta.specs.declared.meta.Meta.{Meta}
+use Rattle.shown_volumes.specs.StoredLaws.{AreStoredWell}
 use Rattle.store_model.specs.Phases.{Committing}
 use Rattle.blob_meta.specs.Repairs.{HasNoMarks}
 use Rattle.blob_meta.specs.Resolving.{IsLawful, resolved, slots_together}
@@ -41,12 +43,12 @@ use Rattle.store_model.specs.Scans.{is_head, MetaAt, Says, Scanned}
 use Rattle.store_model.specs.Cases.{IsQuiet}
 use Rattle.store_model.specs.StoreState.{Opens, StoreState, shown}
 use Rattle.store_model.specs.Guarding.{AreGenerations}
-use Rattle.store_model.specs.Jobs.{with_clusters}
+use Rattle.store_model.specs.Jobs.{with_zeroed}
 use Rattle.store_model.specs.Places.{AreLeastClear, Unclaimed, UsedClusters, UsedPages}
 use Rattle.store_model.specs.Asking.{IsJobFor}
 use Rattle.store_model.specs.Cases.{Kind, Run, Turn}
 use Rattle.store_model.specs.Repairing.{IsRepaired}
-use Rattle.store_model.specs.RunInvariant.{AreNamed, AreStored, RunInvariant, HaveChains, IsSteady}
+use Rattle.store_model.specs.RunInvariant.{AreNamed, AreStored, RunInvariant, HaveChains}
 use Rattle.store_model.specs.Recovers.{HasStore, Recovers}
 
 -- what a store is loaded with: nothing of a job, each attribute live as it is synced, and each blob with a generation
@@ -82,13 +84,13 @@ pub record StateLaws : Type 0 where
       (kind : Kind) → RunInvariant s first script p → Turn told p kind q → IsRepaired p → IsRepaired q
   -- where such a store runs and has no job, no blob is marked
   pub repaired_unmarked : (p : StoreState) → IsRepaired p → p.stopped ≡ None → p.job ≡ None → HasNoMarks p.base
-  -- where no blob is marked, the metadata that a job is to write can be written, at a head of the region, with the
-  -- least clear clusters in the slots that are to read as zeros
+  -- where no blob is marked, the metadata that a job is to write can be stored, at heads of the region, with the least
+  -- clear clusters in the slots that are to read as zeros
   pub writable : (s : Super) (first : Volumes) (script : ℕ → List Command) (p : StoreState) (command : Command)
       (changes : Changes) (commit : Committing) → IsPlaced s → RunInvariant s first script p → p.stopped ≡ None
       → HasNoMarks p.base → IsJobFor p command changes commit → (claimed : List ℕ) → AreLeastClear p.clusters claimed
-      → length claimed ≡ length changes.zero → (x : Replacement) (new : Meta) → changes.list ≡ x ∷ []
-      → x.new ≡ Some new → x.head < s.md_len → IsSteady s x.head (with_clusters new changes.zero claimed)
+      → length claimed ≡ length changes.zero → AllByRecursion (λ (x : Replacement). x.head < s.md_len) changes.list
+      → AreStoredWell s (record changes { list = with_zeroed changes.list changes.zero claimed })
   -- On a device that tells, an image with this store, which says the metadata that the store has, recovers the whole
   -- log.
   pub recovers : (s : Super) (first : Volumes) (script : ℕ → List Command) (p : StoreState) (image : Image) → IsPlaced s

@@ -103,7 +103,7 @@ module _ (laws : RepairLaws) (known : Known) where
           halted = λ at is. absurd (let bad = sym t.runs ∙ is in cc bad);
           unfinished = λ j is.
               let same : job ≡ j = cc is in
-              subst (λ (i : JobState). i.todo ≢ []) same (some_phase r None);
+              subst (λ (i : JobState). i.todo ≢ []) same (some_phase r None []);
         } in
         subst (RunInvariant s first script) (sym t.next) done
 

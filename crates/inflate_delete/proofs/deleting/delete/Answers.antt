@@ -1,6 +1,7 @@
 use Rattle.std.proofs.Common.{◌≡◌, ◌≤◌, ◌<◌, [], ◌∷◌, List, ℕ, slice_index, length, refl, sym, subst, arith}
 use Rattle.std.proofs.lemmas.Result.{IfOk-weaker}
 use Rattle.blob_meta.specs.declared.job.Job.{Job}
+use Rattle.std.specs.FinMap as map
 use Rattle.inflate_delete.specs.DeletePlans.{IsDeleteJob, IsJobBeside}
 use Rattle.inflate_delete.proofs.deleting.delete.Goals as goal
 
@@ -19,7 +20,7 @@ returns-in-Some c =
       there = c.requires.there;
       clones = ks;
       clones_are = c.requires.clones;
-      job_is = subst (λ (xs : List ℕ). IsJobBeside c.args.metas.now c.args.volume c.args.old.now xs job) (sym one)
+      job_is = subst (λ (xs : List ℕ). IsJobBeside (map.get c.args.metas.now) c.args.volume c.args.old.now xs job) (sym one)
           (c.in-Some.heir.now, sym c.in-Some.ensures, is);
     })
     c.delete_job.ensures

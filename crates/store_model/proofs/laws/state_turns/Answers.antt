@@ -1,5 +1,5 @@
 use Rattle.store_model.proofs.Repairing.{repaired_stays, repaired_unmarked}
-use Rattle.store_model.proofs.JobReady.{job_writable}
+use Rattle.store_model.proofs.JobWritable.{job_writable}
 use Rattle.store_model.proofs.StateBegins.{begins_well, run_more, turn_keeps}
 use Rattle.store_model.proofs.StateAgrees.{behind_recovers}
 use Rattle.store_model.proofs.laws.state_turns.Goals as goal
@@ -19,11 +19,9 @@ returns c = record {
   go_on = run_more;
   repaired_stays = λ told s first script p q kind facts t r. repaired_stays told s first script p q kind facts t r;
   repaired_unmarked = repaired_unmarked;
-  writable = λ s first script p command changes commit placed facts runs unmarked asked claimed least one_each x new
-      list is low.
+  writable = λ s first script p command changes commit placed facts runs unmarked asked claimed least one_each low.
       job_writable (record { s = s; placed = placed; first = first; script = script; p = p; facts = facts })
-      unmarked runs command
-      changes commit asked claimed least one_each x new list is low;
+      unmarked runs command commit claimed least changes asked one_each low;
   recovers = λ s first script p image placed facts told runs store says same.
       behind_recovers s first script p facts told runs placed image store says same;
 }

@@ -5,7 +5,7 @@ use Rattle.blob_meta.specs.declared.job.Job.{Job}
 use Rattle.snapshots.specs.SnapshotPlans.{PlansClone}
 use Rattle.lvol_store.specs.CopyPlans.{ClonesAsAsked}
 use Rattle.lvol_store.proofs.NewNames.{named_new}
-use Rattle.lvol_store.proofs.cloning.plan_clone.Goals as goal
+use Rattle.lvol_store.proofs.copying.plan_clone.Goals as goal
 
 pub returns-clause-job : goal.returns-clause-job
 returns-clause-job c =
@@ -16,7 +16,7 @@ returns-clause-job c =
     IfOk-weaker c.plan_clone.result (PlansClone metas head c.args.new name c.uuid_of_new-uuid.result)
     (ClonesAsAsked metas sup c.args.new c.args.command.now)
     (λ (job : Job) plan. subst (λ (k : Command). ClonesAsAsked metas sup c.args.new k job) (sym c.in-Clone.is) (record {
-      parent = head;
+      of = head;
       old = plan.old;
       meant = c.in-Some.ensures.meant;
       there = plan.there;
