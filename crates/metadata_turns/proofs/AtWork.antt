@@ -10,23 +10,25 @@ use Rattle.store_model.specs.StoreState.{JobState, StoreState, planned_at, waiti
 use Rattle.running_store.specs.declared.job.Serves.{Serves}
 use Rattle.running_store.specs.declared.job.Serves.TheVariants as whom
 use Rattle.store_model.specs.Places.{held_by, AreDistinct}
-use Rattle.store_model.specs.Jobs.{gained_by, places_of, IsServed, JobStands, CanReplace, IsStep, Lays, ReadsZeros}
+use Rattle.store_model.specs.Jobs.{gained_by, places_of, IsServed, JobStands, CanReplace, Does, IsStep, Lays}
+use Rattle.store_model.specs.Jobs.{ReadsZeros}
 use Rattle.store_model.specs.RunInvariant.{RunsWell}
 use Rattle.store_model.proofs.Sets.{among_first, among_later}
 use Rattle.store_model.proofs.Used.{within}
 use Rattle.running_store.specs.StoreInvariant.{IsRunning}
 use Rattle.running_store.proofs.Cleared.{among_get}
 use Rattle.running_store.proofs.PlainFacts.{got}
-use Rattle.running_store.specs.declared.job.Planned.{Planned}
-use Rattle.running_store.specs.Jobs.{commit_for, commit_of, erasing_for, erasing_job, replacing_of, writing_for}
+use Rattle.running_store.specs.declared.replacements.Planned.{Planned}
+use Rattle.running_store.specs.Jobs.{commit_in, commit_of, erasing_for, replacing_of, writing_for}
 use Rattle.running_store.specs.Jobs.{writing_job}
 use Rattle.store_model.specs.Phases.{page_in, held_in, Erases, Frees, Phase, Replacing, erasing, has_commit, taken_in}
 use Rattle.store_model.specs.Phases.{Replaces, taken_by}
-use Rattle.store_model.proofs.Phases.{held_clearing, planned_behind, commit_behind, held_behind, lays_reached}
-use Rattle.store_model.proofs.Phases.{does_reached, no_commit}
+use Rattle.store_model.proofs.Phases.{planned_behind, held_behind, lays_reached}
+use Rattle.store_model.proofs.Phases.{does_reached}
+use Rattle.running_store.proofs.CommitLeft.{commit_writing}
 use Rattle.blob_meta.specs.declared.meta.Meta.{Meta}
 use Rattle.store_model.proofs.LeftToDo.{among_left, distinct_left}
-use Rattle.std.specs.Prelude.{if◌then◌else◌, is_some, Bool}
+use Rattle.std.specs.Prelude.{if◌then◌else◌, is_some, Bool, ◌||◌}
 
 -- ---- the pages of a plan
 
@@ -89,10 +91,10 @@ module _ (p : StoreState) (r : IsRunning p) (runs : p.stopped ≡ None) where
       let low : x < length p.pages = within p.pages x (well.pages.held_too x among) in
       omega (arith, low, well.pages.count)
 
-  module _ (serves : Serves) (planned : Planned) (old : List ℕ) (written : ℕ)
-      (is : p.job ≡ Some (writing_for serves planned old written)) where
+  module _ (serves : Serves) (planned : Planned) (old : List ℕ) (written : ℕ) (more : List Phase)
+      (is : p.job ≡ Some (writing_for serves planned old written more)) where
     abbrev j : JobState
-    j = writing_for serves planned old written
+    j = writing_for serves planned old written more
 
     abbrev fresh : List ℕ
     fresh = drop 1 planned.chain
@@ -102,7 +104,7 @@ module _ (p : StoreState) (r : IsRunning p) (runs : p.stopped ≡ None) where
 
     -- what comes behind the fresh pages
     abbrev pub behind : List Phase
-    behind = Replaces replacing (commit_for serves planned) ∷ erasing old old []
+    behind = Replaces replacing (commit_in planned) ∷ erasing old old more
 
     pub stands : JobStands p j
     stands = well.job j is
@@ -117,10 +119,10 @@ module _ (p : StoreState) (r : IsRunning p) (runs : p.stopped ≡ None) where
 
     held_fresh : (x : ℕ) → is_among x fresh ≡ true → is_among x (held_by p.job) ≡ true
     held_fresh x among =
-        let held : held_by p.job ≡ taken_by replacing ++ taken_in (erasing old old []) =
+        let held : held_by p.job ≡ taken_by replacing ++ taken_in (erasing old old more) =
         ap held_by is ∙ held_behind (drop written fresh) behind in
         subst (λ l. is_among x l ≡ true) (sym held)
-        (among_left x (taken_by replacing) (taken_in (erasing old old [])) (taken (is_some planned.effects.rooms)))
+        (among_left x (taken_by replacing) (taken_in (erasing old old more)) (taken (is_some planned.effects.rooms)))
       where
         taken : (makes : Bool) → is_among x (if makes then planned.head ∷ fresh else fresh) ≡ true
         taken true = among_later x planned.head fresh among
@@ -136,10 +138,10 @@ module _ (p : StoreState) (r : IsRunning p) (runs : p.stopped ≡ None) where
 
     distinct : AreDistinct (places_of planned.pages)
     distinct =
-        let differ : AreDistinct (taken_by replacing ++ taken_in (erasing old old [])) =
+        let differ : AreDistinct (taken_by replacing ++ taken_in (erasing old old more)) =
         subst AreDistinct (held_behind (drop written fresh) behind) stands.distinct in
         let taken : AreDistinct (taken_by replacing) =
-        distinct_left (taken_by replacing) (taken_in (erasing old old [])) differ in
+        distinct_left (taken_by replacing) (taken_in (erasing old old more)) differ in
         subst AreDistinct (sym can.places) (elim (cases_Bool (is_some planned.effects.rooms)) [
           | inl makes ↦ subst (λ (b : Bool). AreDistinct (if b then planned.head ∷ fresh else fresh)) makes taken
           | inr not ↦ (
@@ -194,80 +196,78 @@ module _ (p : StoreState) (r : IsRunning p) (runs : p.stopped ≡ None) where
         by None none = absurd (let bad = sym (well.chains.none planned.head none) ∙ chain_there not in cc bad)
         by (Some m) some = (m, some)
 
-  -- ---- one of a command
+  -- ---- the commit of a command's
 
-  module _ (channel : ℕ) (planned : Planned) (old : List ℕ) (written : ℕ)
-      (is : p.job ≡ Some (writing_job channel planned old written)) where
+  module _ (channel : ℕ) (planned : Planned) (old : List ℕ) (written : ℕ) (more : List Phase)
+      (is : p.job ≡ Some (writing_job channel planned old written more)) (commits : planned.commits ≡ true) where
     abbrev here : JobState
-    here = writing_job channel planned old written
+    here = writing_job channel planned old written more
 
     abbrev left : List ℕ
     left = drop written (drop 1 planned.chain)
 
     abbrev committing : List Phase
-    committing = Replaces (replacing_of planned old) (Some (commit_of planned)) ∷ erasing old old []
+    committing = Replaces (replacing_of planned old) (commit_in planned) ∷ erasing old old more
+
+    pub commit_is : commit_in planned ≡ Some (commit_of planned)
+    commit_is = rw commits refl
 
     pub waits : has_commit here.todo ≡ true
-    waits = commit_behind left committing
+    waits = commit_writing planned left old more ∙ ap (λ b. b || has_commit more) commits
 
-    pub served : IsServed p channel planned.effects.claimed here.todo
-    served = (stands (whom.Command channel) planned old written is).served channel refl waits
-
-    pub step : IsStep (ReadsZeros p.super planned.effects.claimed) p.super p.base (replacing_of planned old) p.live
-        served.command (commit_of planned)
-    step = (does_reached (ReadsZeros p.super planned.effects.claimed) p.super p.base p.live served.command left
-        committing served.does).0
+    pub step : (x : IsServed p channel planned.effects.claimed here.todo)
+        → IsStep (ReadsZeros p.super planned.effects.claimed) p.super p.base (replacing_of planned old) p.live
+        x.command (commit_of planned)
+    step x = (subst (λ o. Does (ReadsZeros p.super planned.effects.claimed) p.super p.base p.live x.command
+        (Replaces (replacing_of planned old) o ∷ erasing old old more)) commit_is
+        (does_reached (ReadsZeros p.super planned.effects.claimed) p.super p.base p.live x.command left committing
+        x.does)).0
 
   -- ---- a job behind its replacement
 
-  module _ (serves : Serves) (old : List ℕ) (erased : ℕ) (is : p.job ≡ Some (erasing_for serves old erased)) where
-    -- an old page is left
-    pub some_erasing : erased < length old
-    some_erasing = elim (cases_lt erased (length old)) [
-      | inl lt ↦ lt
-      | inr ge ↦ absurd
-          (r.facts.unfinished (erasing_for serves old erased) is (ap (λ l. erasing old l []) (drop_all old erased ge)))
-    ]
-      where
-        drop_all : (l : List ℕ) (k : ℕ) → length l ≤ k → drop k l ≡ []
-        drop_all [] zero le = refl
-        drop_all [] (suc k) le = refl
-        drop_all (x ∷ xs) zero le = absurd (omega (arith, le))
-        drop_all (x ∷ xs) (suc k) le = drop_all xs k (omega (arith, le))
-
+  module _ (serves : Serves) (old : List ℕ) (erased : ℕ) (more : List Phase)
+      (is : p.job ≡ Some (erasing_for serves old erased more)) (some : erased < length old) where
     -- what is left
     pub one_more : (place : ℕ) → slice_get old erased ≡ Some place → erased + 1 < length old
-        → (erasing_for serves old erased).todo ≡ Erases place ∷ (erasing_for serves old (suc erased)).todo
-    one_more place at more =
+        → (erasing_for serves old erased more).todo ≡ Erases place ∷ (erasing_for serves old (suc erased) more).todo
+    one_more place at later =
         let next = get_or old (suc erased) 0 in
-        let got_next : slice_get old (suc erased) ≡ Some next = got old (suc erased) 0 (omega (arith, more)) in
-        ap (λ l. erasing old l [])
+        let got_next : slice_get old (suc erased) ≡ Some next = got old (suc erased) 0 (omega (arith, later)) in
+        ap (λ l. erasing old l more)
         (drop_one old erased place at ∙ ap (λ l. place ∷ l) (drop_one old (suc erased) next got_next))
-        ∙ ap (λ l. Erases place ∷ erasing old l []) (sym (drop_one old (suc erased) next got_next))
+        ∙ ap (λ l. Erases place ∷ erasing old l more) (sym (drop_one old (suc erased) next got_next))
 
     pub last_one : (place : ℕ) → slice_get old erased ≡ Some place → erased + 1 ≡ length old
-        → (erasing_for serves old erased).todo ≡ Frees place old ∷ []
+        → (erasing_for serves old erased more).todo ≡ Frees place old ∷ more
     last_one place at last =
         let none : drop (suc erased) old ≡ [] = ap (λ n. drop n old) (sym (add-one erased) ∙ last) ∙ drop_end old in
-        ap (λ l. erasing old l []) (drop_one old erased place at ∙ ap (λ l. place ∷ l) none)
+        ap (λ l. erasing old l more) (drop_one old erased place at ∙ ap (λ l. place ∷ l) none)
 
-    held_here : held_by p.job ≡ old
-    held_here = ap held_by is ∙ held_clearing old (drop erased old)
-        (λ none. absurd (r.facts.unfinished (erasing_for serves old erased) is (ap (λ l. erasing old l []) none)))
+    held_here : held_by p.job ≡ old ++ taken_in more
+    held_here = ap held_by is ∙ held_erasing old (drop erased old) more (λ none. some_left old erased some none)
+      where
+        some_left : (l : List ℕ) (k : ℕ) → k < length l → drop k l ≡ [] → ⊥
+        some_left [] k low none = omega (arith, low)
+        some_left (x ∷ xs) zero low none = cc none
+        some_left (x ∷ xs) (suc k) low none = some_left xs k (omega (arith, low)) none
+
+        held_erasing : (old places : List ℕ) (more : List Phase) → (places ≡ [] → ⊥)
+            → held_in (erasing old places more) ≡ old ++ taken_in more
+        held_erasing old [] more left = absurd (left refl)
+        held_erasing old (p ∷ []) more left = refl
+        held_erasing old (p ∷ q ∷ ps) more left = held_erasing old (q ∷ ps) more (λ bad. cc bad)
 
     pub old_low : (x : ℕ) → is_among x old ≡ true → x < p.super.md_len
-    old_low x among = held_low x (subst (λ l. is_among x l ≡ true) (sym held_here) among)
+    old_low x among = held_low x
+        (subst (λ l. is_among x l ≡ true) (sym held_here) (among_left x old (taken_in more) among))
 
     pub old_in_use : All (λ x. is_in p.pages x ≡ true) old
-    old_in_use k d low = well.pages.held_too (get_or old k d)
-        (subst (λ l. is_among (get_or old k d) l ≡ true) (sym held_here) (among_get old k d low))
+    old_in_use k d low = well.pages.held_too (get_or old k d) (subst (λ l. is_among (get_or old k d) l ≡ true)
+        (sym held_here) (among_left (get_or old k d) old (taken_in more) (among_get old k d low)))
 
     pub old_distinct : AreDistinct old
     old_distinct =
-        let held : held_in (erasing_for serves old erased).todo ≡ old = sym (ap held_by is) ∙ held_here in
-        subst AreDistinct held (well.job (erasing_for serves old erased) is).distinct
-
-  -- no command waits for it
-  pub waits_for_none : (channel : ℕ) (old : List ℕ) (erased : ℕ)
-      → waiting (ForCommand channel) (erasing_job channel old erased).todo ≡ None
-  waits_for_none channel old erased = ap (λ b. if b then Some channel else None) (no_commit old (drop erased old))
+        let held : held_in (erasing_for serves old erased more).todo ≡ old ++ taken_in more =
+        sym (ap held_by is) ∙ held_here in
+        distinct_left old (taken_in more)
+        (subst AreDistinct held (well.job (erasing_for serves old erased more) is).distinct)

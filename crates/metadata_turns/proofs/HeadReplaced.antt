@@ -3,7 +3,7 @@ use Rattle.std.proofs.Common.{◌≡◌, ℕ, ◌+◌, ◌<◌, Bool, All, List,
 use Rattle.std.proofs.Common.{ap, get_or, subst, drop, true, false}
 use Rattle.std.proofs.Common.{arith}
 use Rattle.std.specs.Prelude.{if◌then◌else◌, IfSome, IsSome, is_some, slice_get}
-use Rattle.std.specs.Option.{option_map}
+use Rattle.std.specs.Option.{option_map_or}
 use Rattle.std.specs.FinMap as map
 use Rattle.bit_array.specs.Bits.{is_in}
 use Rattle.page_disk.specs.Moments.{CallsLeaveOnly, IsReplaced}
@@ -16,52 +16,41 @@ use Rattle.store_model.specs.Maps.{Metas}
 use Rattle.store_model.specs.Phases.{erasing, page_in, Phase, Replaces, writing}
 use Rattle.store_model.specs.RunInvariant.{RunsWell}
 use Rattle.store_model.specs.Places.{all_set}
-use Rattle.store_model.specs.StoreState.{going_on, JobState, StoreState}
-use Rattle.io_freeze.specs.Guards.{renewed, GuardsState}
-use Rattle.metadata_turns.specs.declared.job_turn.JobTurn.TheVariants as turn
+use Rattle.store_model.specs.StoreState.{JobState, StoreState}
+use Rattle.io_freeze.specs.Guards.{GuardsState}
 use Rattle.running_store.specs.Effects.{is_numbered}
-use Rattle.metadata_turns.specs.JobTurns.{answer_of, with_job, IsAtWork}
-use Rattle.running_store.specs.Jobs.{commit_for, erasing_for, job_seen, replacing_of, service_of, writing_for}
+use Rattle.metadata_turns.specs.JobTurns.{with_job, IsAtWork}
+use Rattle.running_store.specs.Jobs.{commit_in, phases_in, replacing_of, to_come, writing_for, MayFollow}
+use Rattle.running_store.specs.declared.job.Serves.TheVariants as whom
+use Rattle.running_store.specs.declared.replacements.LaidReplacement.{LaidReplacement}
 use Rattle.running_store.specs.declared.job.RunningJob.{RunningJob}
-use Rattle.running_store.specs.Running.{live_given}
+use Rattle.running_store.specs.Running.{live_given, numbered, HaveRoom, IsRoomy, WillResolveAll, WillResolveBy}
+use Rattle.std.specs.Ordering.{nat_cmp}
 use Rattle.running_store.specs.StoreView.{base_of, AreResolved, StoreView, state_of}
-use Rattle.running_store.specs.declared.job.Planned.{Planned}
+use Rattle.running_store.specs.declared.replacements.Planned.{Planned}
 use Rattle.running_store.specs.declared.job.Serves.{Serves}
 use Rattle.metadata_turns.proofs.AtWork.{can, drop_end, has_meta, head_low, head_page, well}
 use Rattle.metadata_turns.proofs.AtWork.{chain_there as chain_before, none_there as none_before}
 use Rattle.running_store.proofs.Cleared.{among_get}
 
--- ---- the job behind its replacement
+-- an insert's replacement comes alone
+pub comes_alone : (serves : Serves) (later : List LaidReplacement) → MayFollow serves later → (channel : ℕ)
+    → serves ≡ whom.Insert channel → phases_in later ≡ []
+comes_alone serves later may channel is = ap phases_in (subst (λ (x : Serves). MayFollow x later) is may)
 
-pub after_none : (old : List ℕ) (j : JobState) → length old ≡ 0 → going_on j [] (erasing old old []) ≡ None
-after_none [] j none = refl
-after_none (o ∷ os) j none = absurd (cc none)
+-- what is to come has its room, and will resolve
+pub room_behind : (o : Option RunningJob) (l : List LaidReplacement) → option_map_or to_come o [] ≡ l
+    → (metas : map.FinMap nat_cmp Meta) (chains : map.FinMap nat_cmp (List ℕ)) (live : map.FinMap nat_cmp Xattrs)
+    (guards : GuardsState) → HaveRoom metas chains live guards l → IfSome o (IsRoomy metas chains live guards)
+room_behind None l is metas chains live guards room = tt
+room_behind (Some j) l is metas chains live guards room = subst (HaveRoom metas chains live guards) (sym is) room
 
-pub after_some : (serves : Serves) (old : List ℕ) → 0 < length old → (j : JobState) → j.serves ≡ service_of serves
-    → j.freeze ≡ None → j.claimed ≡ [] → going_on j [] (erasing old old []) ≡ Some (erasing_for serves old 0)
-after_some serves [] some j served freeze claimed = absurd (omega (arith, some))
-after_some serves (o ∷ []) some j served freeze claimed = rw (served, freeze, claimed) refl
-after_some serves (o ∷ p ∷ ps) some j served freeze claimed = rw (served, freeze, claimed) refl
-
--- ---- what a turn answers
-
-pub answer_done : {D : Type 0} (q : StoreView D) → q.stopped ≡ None → q.job ≡ None → turn.Done ≡ answer_of q
-answer_done q on none = rw (on, none) refl
-
-pub answer_more : {D : Type 0} (q : StoreView D) (j : JobState) → q.stopped ≡ None → q.job ≡ Some j
-    → turn.More ≡ answer_of q
-answer_more q j on some = rw (on, some) refl
-
--- no job runs while its turn is made
-pub none_roomy : (o : Option RunningJob) (P : RunningJob → Type 0) → option_map job_seen o ≡ None → IfSome o P
-none_roomy None P none = tt
-none_roomy (Some j) P none = absurd (cc none)
+pub resolves_behind : (o : Option RunningJob) (l : List LaidReplacement) → option_map_or to_come o [] ≡ l
+    → (metas marked : map.FinMap nat_cmp Meta) → WillResolveAll metas marked l → IfSome o (WillResolveBy metas marked)
+resolves_behind None l is metas marked will = tt
+resolves_behind (Some j) l is metas marked will = subst (WillResolveAll metas marked) (sym is) will
 
 -- ---- the blob as it was planned
-
--- a blob that is new, or of which slots are cut, gets a generation
-abbrev pub numbered : Bool → GuardsState → ℕ → GuardsState
-numbered gets guards head = if gets then renewed guards head else guards
 
 abbrev pub adopted_view : {D : Type 0} → StoreView D → Planned → D → StoreView D
 adopted_view p planned disk = record p {
@@ -77,12 +66,13 @@ adopted_view p planned disk = record p {
 -- ---- its replacement
 
 module _ {D : Type 0} (d : Ghosts D) (p : StoreView D) (serves : Serves) (planned : Planned) (old : List ℕ)
-    (at_work : IsAtWork d p (writing_for serves planned old (length (drop 1 planned.chain)))) where
+    (more : List Phase)
+    (at_work : IsAtWork d p (writing_for serves planned old (length (drop 1 planned.chain)) more)) where
   abbrev written : ℕ
   written = length (drop 1 planned.chain)
 
   abbrev j : JobState
-  j = writing_for serves planned old written
+  j = writing_for serves planned old written more
 
   abbrev s : StoreState
   s = state_of d (with_job p j)
@@ -92,13 +82,13 @@ module _ {D : Type 0} (d : Ghosts D) (p : StoreView D) (serves : Serves) (planne
 
   can_replace : CanReplace s.super s.base s.chains (gained_by s.rows j) (drop 1 planned.chain)
       (replacing_of planned old)
-  can_replace = can s at_work.running at_work.not_stopped serves planned old written refl
+  can_replace = can s at_work.running at_work.not_stopped serves planned old written more refl
 
   abbrev pub others : List Phase
-  others = erasing old old []
+  others = erasing old old more
 
-  pub todo_is : j.todo ≡ Replaces (replacing_of planned old) (commit_for serves planned) ∷ others
-  todo_is = ap (λ l. writing l (Replaces (replacing_of planned old) (commit_for serves planned) ∷ others))
+  pub todo_is : j.todo ≡ Replaces (replacing_of planned old) (commit_in planned) ∷ others
+  todo_is = ap (λ l. writing l (Replaces (replacing_of planned old) (commit_in planned) ∷ others))
       (drop_end (drop 1 planned.chain))
 
   -- whether the blob is new
@@ -107,14 +97,14 @@ module _ {D : Type 0} (d : Ghosts D) (p : StoreView D) (serves : Serves) (planne
 
   -- a blob that is there has its entries
   meta_is : makes ≡ false → (m : Meta) × (s.base planned.head ≡ Some m)
-  meta_is not = has_meta s at_work.running at_work.not_stopped serves planned old written refl not
+  meta_is not = has_meta s at_work.running at_work.not_stopped serves planned old written more refl not
 
   pub base_there : makes ≡ false → IsSome (base_of p.metas p.marked planned.head)
   base_there not = subst (λ (o : Option Meta). IsSome o) (sym (meta_is not).1) refl
 
   pub chain_there : makes ≡ false → IsSome (map.get p.chains planned.head)
   chain_there not = subst (λ (o : Option (List ℕ)). IsSome o)
-      (sym (chain_before s at_work.running at_work.not_stopped serves planned old written refl not)) refl
+      (sym (chain_before s at_work.running at_work.not_stopped serves planned old written more refl not)) refl
 
   pub live_there : AreResolved p.metas p.marked → IsSome (map.get p.metas planned.head)
       → IsSome (map.get p.live planned.head)
@@ -142,7 +132,8 @@ module _ {D : Type 0} (d : Ghosts D) (p : StoreView D) (serves : Serves) (planne
       by None is = is
       by (Some m) is =
           let chain = runs_well.chains.chain planned.head m is in
-          absurd (let bad = sym (none_before s at_work.running at_work.not_stopped serves planned old written refl new)
+          absurd (let bad =
+          sym (none_before s at_work.running at_work.not_stopped serves planned old written more refl new)
           ∙ chain.1 in cc bad)
 
   pub unguarded : makes ≡ true → map.get p.guards.generations planned.head ≡ None
@@ -154,13 +145,13 @@ module _ {D : Type 0} (d : Ghosts D) (p : StoreView D) (serves : Serves) (planne
       none_of (Some n) none = absurd (cc none)
 
   pub head_below : planned.head < p.super.md_len
-  head_below = head_low s at_work.running at_work.not_stopped serves planned old written refl
+  head_below = head_low s at_work.running at_work.not_stopped serves planned old written more refl
 
   module _ (disk : D) (x : PlannedPage) (at : ℕ) (at_is : at ≡ p.super.md_start + planned.head)
       (first : slice_get planned.pages 0 ≡ Some x)
       (touches : CallsLeaveOnly d p.disk disk (IsReplaced (d.images p.disk) (d.now p.disk) at x.page)) where
     pub planned_is : page_in planned.pages planned.head ≡ x.page
-    planned_is = head_page s at_work.running at_work.not_stopped serves planned old written refl x first
+    planned_is = head_page s at_work.running at_work.not_stopped serves planned old written more refl x first
 
     pub touched : CallsLeaveOnly d p.disk disk (IsReplaced (d.images p.disk) (d.now p.disk)
         (p.super.md_start + planned.head) (page_in planned.pages planned.head))

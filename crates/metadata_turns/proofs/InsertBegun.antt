@@ -18,7 +18,7 @@ use Rattle.store_model.specs.Jobs.{LacksPages}
 use Rattle.store_model.specs.Places.{without_claim}
 use Rattle.store_model.specs.Rows.{Answered, Decided, Ended, InJob, Lost, OpenClaim, Posted, Row, Rows, with_row}
 use Rattle.store_model.specs.StoreState.{logged, StoreState}
-use Rattle.metadata_turns.specs.Begins.{no_effects}
+use Rattle.metadata_turns.specs.Begins.{no_effects, planned_with}
 use Rattle.metadata_turns.specs.Inserts.{HoldsPosted, IsLack}
 use Rattle.running_store.specs.Jobs.{replacing_of, writing_for}
 use Rattle.metadata_turns.specs.OwnWrites.{AreOwn, BeginsWithWrite}
@@ -28,7 +28,7 @@ use Rattle.running_store.specs.StoreView.{StoreView, device_of, rows_of, state_o
 use Rattle.running_store.specs.GivingBack.{claim_cleared, IsGivenUp}
 use Rattle.metadata_turns.specs.Telling.{let_go_at}
 use Rattle.running_store.specs.TurnMade.{TurnMade, TurnsAs}
-use Rattle.running_store.specs.declared.job.Planned.{Planned}
+use Rattle.running_store.specs.declared.replacements.Planned.{Planned}
 use Rattle.running_store.specs.declared.job.Serves.TheVariants as whom
 use Rattle.metadata_turns.specs.declared.preparing.Prepared.{Prepared}
 use Rattle.metadata_turns.specs.Begins.{IsPrepared, IsUnprepared}
@@ -191,8 +191,7 @@ module _ {D : Type 0} (d : Ghosts D) (p : StoreView D) (channel : ℕ) (x : Hold
     new = with_slot meta x.claim.slot x.claim.cluster
 
     abbrev planned : Prepared → Planned
-    planned y =
-        record { head = x.claim.head; new = new; effects = no_effects; chain = y.laid.chain; pages = y.laid.pages }
+    planned y = planned_with y x.claim.head new false no_effects
 
     abbrev in_job : Row
     in_job = record { left = x.left; stage = InJob; claim = Some x.claim }
@@ -202,7 +201,7 @@ module _ {D : Type 0} (d : Ghosts D) (p : StoreView D) (channel : ℕ) (x : Hold
         → BeginsInsert s (state_of d (record p {
           rows = slice_set p.rows channel row;
           pages = after;
-          job = Some (writing_for (whom.Insert channel) (planned y) y.old 0);
+          job = Some (writing_for (whom.Insert channel) (planned y) y.old 0 []);
         }))
     begun y after is row row_is =
         let known = ready s running runs channel x.claim held meta can clean no_job p.chains after y is in
@@ -234,16 +233,16 @@ module _ {D : Type 0} (d : Ghosts D) (p : StoreView D) (channel : ℕ) (x : Hold
               ap (λ (g : Row). state_of d (record p {
                 rows = slice_set p.rows channel g;
                 pages = after;
-                job = Some (writing_for (whom.Insert channel) (planned y) y.old 0);
+                job = Some (writing_for (whom.Insert channel) (planned y) y.old 0 []);
               })) row_is
               ∙ ap (λ (rows : Rows). record s {
                 rows = rows;
                 pages = after;
-                job = Some (writing_for (whom.Insert channel) (planned y) y.old 0);
+                job = Some (writing_for (whom.Insert channel) (planned y) y.old 0 []);
               }) (rows_set p.rows channel in_job low)
               ∙ ap (λ (bits : List Bool). record s {
                 rows = with_row s.rows channel in_job;
                 pages = bits;
-                job = Some (writing_for (whom.Insert channel) (planned y) y.old 0);
+                job = Some (writing_for (whom.Insert channel) (planned y) y.old 0 []);
               }) known.taken;
         }

@@ -17,18 +17,18 @@ use Rattle.blob_meta.specs.Repairs.{HasNoMarks}
 use Rattle.blob_meta.specs.declared.meta.Meta.{Meta}
 use Rattle.store_model.specs.Rows.{with_row, Ended, InJob, Row, Rows}
 use Rattle.store_model.specs.StoreState.{JobState, StoreState}
-use Rattle.store_model.specs.Phases.{Zeros}
+use Rattle.store_model.specs.Phases.{Committing, erasing, Replaces, writing, Zeros}
 use Rattle.store_model.specs.Places.{all_set, AreLeastClear}
 use Rattle.store_model.specs.Asking.{IsJobFor}
 use Rattle.store_model.specs.Cases.{Begins, CannotBegin, IsPosted, IsRefusedAtBegin, Refuses}
 use Rattle.store_model.proofs.JobReady.{lacks_for_one}
-use Rattle.running_store.specs.Jobs.{begun_job, commit_of, replacing_of, writing_job}
+use Rattle.running_store.specs.Jobs.{begun_job, commit_in, commit_of, replacing_of, writing_job}
 use Rattle.metadata_turns.specs.Begins.{job_with_zeros, taken_for, AsksToWrite, IsUnprepared}
 use Rattle.running_store.specs.StoreInvariant.{IsRunning}
 use Rattle.running_store.specs.StoreView.{StoreView, rows_of, state_of}
 use Rattle.running_store.specs.Zeroing.{pages_of}
 use Rattle.running_store.specs.Steps.{logged_at, IsPostedAt}
-use Rattle.running_store.specs.declared.job.Planned.{Planned}
+use Rattle.running_store.specs.declared.replacements.Planned.{Planned}
 use Rattle.running_store.proofs.Entered.{disk_same, entered}
 use Rattle.metadata_turns.proofs.JobAsked.{asked, IsAsked}
 use Rattle.metadata_turns.proofs.JobPrepared.{moves_filled, there_is}
@@ -141,16 +141,18 @@ module _ {D : Type 0} (d : Ghosts D) (p : StoreView D) (channel : ℕ) (low : ch
     with_job rows job pages clusters =
         record s { rows = rows; job = Some job; pages = pages; clusters = clusters }
 
-    abbrev todo_with : List ℕ → JobState
-    todo_with pages = record (writing_job channel planned old 0) {
-      todo = map Zeros pages ++ (writing_job channel planned old 0).todo;
+    abbrev todo_with : List ℕ → Option Committing → JobState
+    todo_with pages commit = record (writing_job channel planned old 0 []) {
+      todo = map Zeros pages
+          ++ writing (drop 1 planned.chain) (Replaces (replacing_of planned old) commit ∷ erasing old old []);
     }
 
     -- the attributes as they are read from the commit on, if they are others
     abbrev live : Option Xattrs
     live = live_behind command (s.live planned.head) bare
 
-    pub begun : AreEffects (s.base planned.head) live bare claimed planned.effects
+    pub begun : planned.commits ≡ true
+        → AreEffects (s.base planned.head) live bare claimed planned.effects
         → AreLeastClear p.clusters claimed → length claimed ≡ length zeros → planned.new ≡ filled
         → (cluster_pages : ℕ) → cluster_pages ≡ cluster_pages_of p.super
         → is_some (s.chains planned.head) ≡ not makes
@@ -162,9 +164,9 @@ module _ {D : Type 0} (d : Ghosts D) (p : StoreView D) (channel : ℕ) (low : ch
           rows = slice_set p.rows channel (record (rows_of p.rows channel) { stage = InJob });
           pages = pages;
           clusters = clusters;
-          job = Some (begun_job channel planned old cluster_pages);
+          job = Some (begun_job channel planned old cluster_pages []);
         }))
-    begun effects least one_each new_is cluster_pages each was chain unerased pages clusters set is =
+    begun commits effects least one_each new_is cluster_pages each was chain unerased pages clusters set is =
         let there : is_some (s.base planned.head) ≡ not makes =
         there_is s running clean runs command planned.head bare zeros asks ∙ was in
         record {
@@ -211,16 +213,20 @@ module _ {D : Type 0} (d : Ghosts D) (p : StoreView D) (channel : ℕ) (low : ch
                 rows = slice_set p.rows channel r;
                 pages = pages;
                 clusters = clusters;
-                job = Some (begun_job channel planned old cluster_pages);
+                job = Some (begun_job channel planned old cluster_pages []);
               })) (ap (λ (r : Row). record r { stage = InJob }) posted.waits.row)
-              ∙ ap (λ (rows : Rows). with_job rows (begun_job channel planned old cluster_pages) pages clusters)
+              ∙ ap (λ (rows : Rows). with_job rows (begun_job channel planned old cluster_pages []) pages clusters)
               (rows_set p.rows channel in_job low)
-              ∙ ap (λ (n : ℕ). with_job rows_then (begun_job channel planned old n) pages clusters) each
-              ∙ ap (λ (l : List ℕ). with_job rows_then (todo_with l) pages clusters)
+              ∙ ap (λ (n : ℕ). with_job rows_then (begun_job channel planned old n []) pages clusters) each
+              ∙ ap (λ (l : List ℕ). with_job rows_then (todo_with l (commit_in planned)) pages clusters)
               (from_start (cluster_pages_of p.super) claimed)
-              ∙ ap (with_job rows_then (todo_with (pages_of (cluster_pages_of p.super) claimed)) pages) set
-              ∙ ap (λ (bits : List Bool). with_job rows_then (todo_with (pages_of (cluster_pages_of p.super) claimed))
-              bits
+              ∙ ap (λ (o : Option Committing). with_job rows_then
+              (todo_with (pages_of (cluster_pages_of p.super) claimed) o) pages clusters)
+              (ap (λ b. if b then Some (commit_of planned) else None) commits)
+              ∙ ap (with_job rows_then (todo_with (pages_of (cluster_pages_of p.super) claimed)
+              (Some (commit_of planned))) pages) set
+              ∙ ap (λ (bits : List Bool). with_job rows_then
+              (todo_with (pages_of (cluster_pages_of p.super) claimed) (Some (commit_of planned))) bits
               (all_set p.clusters claimed true))
               (is.taken ∙ ap (λ l. all_set p.pages l true)
               (sym (append-nil (taken_for makes planned.head (drop 1 planned.chain)))));

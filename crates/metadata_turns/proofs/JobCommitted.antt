@@ -16,8 +16,6 @@ use Rattle.store_model.specs.Shown.{fixed_of}
 use Rattle.store_model.specs.StoreState.{JobState, StoreState, shown, logged, going_on}
 use Rattle.store_model.specs.Cases.{live_of, WritesOnePage}
 use Rattle.store_model.specs.Cases as kind
-use Rattle.store_model.specs.Cases.Fail as Fail
-use Rattle.store_model.specs.Cases.{FailsToReplace}
 use Rattle.store_model.specs.Guarding.{all_renewed, frozen_behind}
 use Rattle.store_model.specs.Recovers.{IsChangeDone}
 use Rattle.io_freeze.specs.Guards.{GuardsState}
@@ -25,34 +23,35 @@ use Rattle.volume_model.specs.declared.reply.Reply.{Reply}
 use Rattle.std.specs.FinSet as set
 use Rattle.store_model.proofs.Guarding.{frozen_still}
 use Rattle.running_store.specs.StoreView.{StoreView, device_of, rows_of, state_of}
-use Rattle.running_store.specs.Running.{live_given}
+use Rattle.running_store.specs.GivingBack.{IsEntered}
+use Rattle.running_store.specs.Running.{live_given, numbered}
 use Rattle.running_store.specs.Steps.{logged_at}
 use Rattle.metadata_turns.specs.JobTurns.{with_job, IsAtWork, TurnsJob}
 use Rattle.running_store.specs.declared.job.Serves.{Serves}
 use Rattle.running_store.specs.declared.job.Serves.TheVariants as whom
-use Rattle.metadata_turns.proofs.AtWork.{step}
-use Rattle.metadata_turns.proofs.HeadReplaced.{adopted_view, after_none, after_some, numbered, planned_is, todo_is}
-use Rattle.metadata_turns.proofs.HeadReplaced.{touched}
-use Rattle.metadata_turns.proofs.JobTurned.{channel_low, command, entered, entry, fails_case, rest, row, row_left}
+use Rattle.metadata_turns.proofs.AtWork.{commit_is, step, waits}
+use Rattle.metadata_turns.proofs.HeadReplaced.{adopted_view, planned_is, todo_is, touched}
+use Rattle.metadata_turns.proofs.JobFailed.{channel_low, command, rest, row, row_left, x_served}
+use Rattle.running_store.proofs.JobLeft.{goes_on_left}
 use Rattle.running_store.proofs.Maps.{insert_given}
 use Rattle.running_store.proofs.Resolved.{base_given}
 use Rattle.running_store.proofs.Rowing.{state_logged}
-use Rattle.running_store.specs.declared.job.Planned.{Planned}
-use Rattle.store_model.specs.Phases.{erasing, Phase, Replaces, page_in, with_live}
+use Rattle.running_store.specs.declared.replacements.Planned.{Planned}
+use Rattle.store_model.specs.Phases.{erasing, has_commit, Phase, Replaces, page_in, with_live}
 use Rattle.store_model.specs.Places.{all_set}
 use Rattle.std.specs.Ordering.{nat_cmp}
-use Rattle.running_store.specs.Jobs.{writing_job, erasing_for, replacing_of, commit_of, reply_of}
+use Rattle.running_store.specs.Jobs.{writing_job, job_left, replacing_of, commit_of, reply_of}
 use Rattle.running_store.specs.Effects.{is_numbered, numbered_by}
 
 -- ---- generations
 
-record IsNumbered (gets : Bool) (guards : GuardsState) (head : ℕ) : Type 0 where
-  generations : map.get (numbered gets guards head).generations
+pub record IsNumbered (gets : Bool) (guards : GuardsState) (head : ℕ) : Type 0 where
+  pub generations : map.get (numbered gets guards head).generations
       ≡ all_renewed (map.get guards.generations) guards.drawn (numbered_by gets head)
-  drawn : (numbered gets guards head).drawn ≡ guards.drawn + length (numbered_by gets head)
-  frozen : set.contains (numbered gets guards head).frozen ≡ set.contains guards.frozen
+  pub drawn : (numbered gets guards head).drawn ≡ guards.drawn + length (numbered_by gets head)
+  pub frozen : set.contains (numbered gets guards head).frozen ≡ set.contains guards.frozen
 
-numbered_is : (gets : Bool) (guards : GuardsState) (head : ℕ) → IsNumbered gets guards head
+pub numbered_is : (gets : Bool) (guards : GuardsState) (head : ℕ) → IsNumbered gets guards head
 numbered_is true guards head = record {
   generations = insert_given guards.generations head (guards.drawn + 1);
   drawn = refl;
@@ -74,24 +73,29 @@ given_live live head (Some xattrs) = insert_given live head xattrs
 -- ---- the commit
 
 module _ {D : Type 0} (d : Ghosts D) (p : StoreView D) (channel : ℕ) (planned : Planned) (old : List ℕ)
-    (at_work : IsAtWork d p (writing_job channel planned old (length (drop 1 planned.chain)))) where
+    (more : List Phase)
+    (at_work : IsAtWork d p (writing_job channel planned old (length (drop 1 planned.chain)) more))
+    (commits : planned.commits ≡ true) where
   abbrev written : ℕ
   written = length (drop 1 planned.chain)
 
   abbrev j : JobState
-  j = writing_job channel planned old written
+  j = writing_job channel planned old written more
 
   abbrev s : StoreState
   s = state_of d (with_job p j)
 
+  pub still : has_commit j.todo ≡ true
+  still = waits s at_work.running at_work.not_stopped channel planned old written more refl commits
+
   abbrev c_now : Command
-  c_now = command d p channel planned old written at_work
+  c_now = command d p j at_work refl channel refl still
 
   abbrev c_rest : List Command
-  c_rest = rest d p channel planned old written at_work
+  c_rest = rest d p j at_work refl channel refl still
 
   abbrev others : List Phase
-  others = erasing old old []
+  others = erasing old old more
 
   -- whether the blob is new
   abbrev makes : Bool
@@ -107,30 +111,20 @@ module _ {D : Type 0} (d : Ghosts D) (p : StoreView D) (channel : ℕ) (planned 
   abbrev serves : Serves
   serves = whom.Command channel
 
+  todo_now : j.todo ≡ Replaces (replacing_of planned old) (Some (commit_of planned)) ∷ others
+  todo_now = todo_is d p serves planned old more at_work
+      ∙ ap (λ o. Replaces (replacing_of planned old) o ∷ others)
+      (commit_is s at_work.running at_work.not_stopped channel planned old written more refl commits)
+
   module _ (disk : D) (x : PlannedPage) (at : ℕ) (at_is : at ≡ p.super.md_start + planned.head)
       (first : slice_get planned.pages 0 ≡ Some x)
       (touches : CallsLeaveOnly d p.disk disk (IsReplaced (d.images p.disk) (d.now p.disk) at x.page)) where
     head_is : page_in planned.pages planned.head ≡ x.page
-    head_is = planned_is d p serves planned old at_work disk x at at_is first touches
+    head_is = planned_is d p serves planned old more at_work disk x at at_is first touches
 
     head_touched : CallsLeaveOnly d p.disk disk (IsReplaced (d.images p.disk) (d.now p.disk)
         (p.super.md_start + planned.head) (page_in planned.pages planned.head))
-    head_touched = touched d p serves planned old at_work disk x at at_is first touches
-
-    pub failed_committing : FailsToReplace (device_of d p.disk) (device_of d disk) → (q : StoreView D)
-        → entered d p channel disk q → TurnsJob d (with_job p j) q
-    failed_committing fails q is = subst (TurnsJob d (with_job p j))
-        (sym (entry d p channel planned old written at_work disk q is)) (record {
-          kind = kind.fails;
-          of_job = tt;
-          made = (
-            fails_case d p channel planned old written at_work disk
-                (Replaces (replacing_of planned old) (Some (commit_of planned))) others
-                (todo_is d p serves planned old at_work)
-                (Fail.head (replacing_of planned old) (commit_of planned) planned.new refl refl) fails,
-            record { moments = head_touched; durable = λ never. absurd (cc never) },
-          );
-        })
+    head_touched = touched d p serves planned old more at_work disk x at at_is first touches
 
     abbrev then_view : StoreView D
     then_view = adopted_view p planned disk
@@ -190,10 +184,11 @@ module _ {D : Type 0} (d : Ghosts D) (p : StoreView D) (channel : ℕ) (planned 
           let chains : chains_then ≡ chains_new = insert_given p.chains planned.head planned.chain
           ∙ ap (λ ps. with_entry s.chains planned.head ps) chain_is in
           let live : live_then ≡ live_new = given_live p.live planned.head planned.effects.live ∙ sym
-          ((step s at_work.running at_work.not_stopped channel planned old written refl).lives s.device.reads) in
+          ((step s at_work.running at_work.not_stopped channel planned old written more refl commits
+          (x_served d p j at_work refl channel refl still)).lives s.device.reads) in
           let g = numbered_is gets p.guards planned.head in
           state_logged d (record then_view { job = k }) channel c_now c_rest reply
-          (channel_low d p channel planned old written at_work)
+          (channel_low d p j at_work refl channel refl still)
           ∙ ap (λ x. built x chains_then live_then generations_then drawn_then frozen_then k) metas
           ∙ ap (λ x. built base_new x live_then generations_then drawn_then frozen_then k) chains
           ∙ ap (λ x. built base_new chains_new x generations_then drawn_then frozen_then k) live
@@ -204,14 +199,14 @@ module _ {D : Type 0} (d : Ghosts D) (p : StoreView D) (channel : ℕ) (planned 
           ∙ ap (λ x. built base_new chains_new live_new generations_new drawn_new (frozen_behind s.frozen j others) x)
           after
 
-      committed : (k : Option JobState)
-          → k ≡ done_job → WritesOnePage d.tells (device_of d p.disk) at x.page 3 (device_of d disk)
+      pub committed : (left : Option JobState) → left ≡ job_left serves others
+          → WritesOnePage d.tells (device_of d p.disk) at x.page 3 (device_of d disk)
           → (IsTrue d.tells → Only (d.now disk) (d.images disk)) → (q : StoreView D)
           → ((c : Command) (cs : List Command) → (rows_of p.rows channel).left ≡ c ∷ cs
-          → q ≡ record (logged_at then_view channel c cs reply (d.clock disk)) { job = k })
+          → q ≡ logged_at (record then_view { job = left }) channel c cs reply (d.clock disk))
           → TurnsJob d (with_job p j) q
-      committed k after moves durable q is = subst (TurnsJob d (with_job p j))
-          (sym (is c_now c_rest (row_left d p channel planned old written at_work))) (record {
+      committed left left_is moves durable q is = subst (TurnsJob d (with_job p j))
+          (sym (is c_now c_rest (row_left d p j at_work refl channel refl still))) (record {
             kind = kind.commits;
             of_job = tt;
             made = (
@@ -223,7 +218,7 @@ module _ {D : Type 0} (d : Ghosts D) (p : StoreView D) (channel : ℕ) (planned 
                   job = j;
                   is = refl;
                   rest = others;
-                  next = todo_is d p serves planned old at_work;
+                  next = todo_now;
                   runs = at_work.not_stopped;
                 };
                 new = planned.new;
@@ -233,48 +228,32 @@ module _ {D : Type 0} (d : Ghosts D) (p : StoreView D) (channel : ℕ) (planned 
                   serves = refl;
                   command = c_now;
                   rest = c_rest;
-                  row = row d p channel planned old written at_work;
+                  row = row d p j at_work refl channel refl still;
                 };
                 device = device_of d disk;
                 moves =
                     subst (λ page. WritesOnePage d.tells (device_of d p.disk) (p.super.md_start + planned.head) page 3
                     (device_of d disk)) (sym head_is)
                     (subst (λ n. WritesOnePage d.tells (device_of d p.disk) n x.page 3 (device_of d disk)) at_is moves);
-                next = next k after;
+                next = next left
+                    (left_is ∙ sym (goes_on_left serves (record j { claimed = [] }) refl refl refl others));
               },
               record { moments = head_touched; durable = λ _. durable },
             );
           })
 
       -- the command is logged once the blob is as it was planned
-      module _ (a : StoreView D) (a_is : a ≡ then_view) (l : StoreView D)
-          (entry : (c : Command) (cs : List Command) → (rows_of a.rows channel).left ≡ c ∷ cs
-          → l ≡ logged_at a channel c cs reply (d.clock l.disk)) where
-        logged_is : (c : Command) (cs : List Command) → (rows_of p.rows channel).left ≡ c ∷ cs
-            → l ≡ logged_at then_view channel c cs reply (d.clock disk)
-        logged_is c cs left =
-            let e =
-            (subst (λ (b : StoreView D). (c : Command) (cs : List Command) → (rows_of b.rows channel).left ≡ c ∷ cs
-            → l ≡ logged_at b channel c cs reply (d.clock l.disk)) a_is entry) c cs left in
-            e ∙ ap (λ mark. logged_at then_view channel c cs reply mark)
-            (ap (λ (b : StoreView D). d.clock b.disk) e)
+      pub logged_is : (a : StoreView D) (left : Option JobState) → a ≡ record then_view { job = left }
+          → (l : StoreView D) → IsEntered a l channel reply (d.clock l.disk) → (c : Command) (cs : List Command)
+          → (rows_of p.rows channel).left ≡ c ∷ cs
+          → l ≡ logged_at (record then_view { job = left }) channel c cs reply (d.clock disk)
+      logged_is a left a_is l entry c cs left_is =
+          let e = (subst (λ (b : StoreView D). IsEntered b l channel reply (d.clock l.disk)) a_is entry) c cs left_is in
+          e ∙ ap (λ mark. logged_at (record then_view { job = left }) channel c cs reply mark)
+          (ap (λ (b : StoreView D). d.clock b.disk) e)
 
-        pub logged_here : l ≡ logged_at then_view channel c_now c_rest reply (d.clock disk)
-        logged_here = logged_is _ _ (row_left d p channel planned old written at_work)
-
-        abbrev then_erasing : StoreView D
-        then_erasing = record l { job = Some (erasing_for serves old 0) }
-
-        module _ (moves : WritesOnePage d.tells (device_of d p.disk) at x.page 3 (device_of d disk))
-            (durable : IsTrue d.tells → Only (d.now disk) (d.images disk)) where
-          pub committed_done : length old ≡ 0 → TurnsJob d (with_job p j) l
-          committed_done none = committed p.job
-              (at_work.taken ∙ sym (after_none old (record j { claimed = [] }) none)) moves durable l logged_is
-
-          pub committed_more : 0 < length old → TurnsJob d (with_job p j) then_erasing
-          committed_more some =
-              committed (Some (erasing_for serves old 0))
-              (sym (after_some serves old some (record j { claimed = [] }) refl refl refl)) moves durable
-              then_erasing
-              (λ c cs left. ap (λ (b : StoreView D). record b { job = Some (erasing_for serves old 0) })
-              (logged_is c cs left))
+      pub logged_here : (a : StoreView D) (left : Option JobState) → a ≡ record then_view { job = left }
+          → (l : StoreView D) → IsEntered a l channel reply (d.clock l.disk)
+          → l ≡ logged_at (record then_view { job = left }) channel c_now c_rest reply (d.clock disk)
+      logged_here a left a_is l entry =
+          logged_is a left a_is l entry c_now c_rest (row_left d p j at_work refl channel refl still)

@@ -1,16 +1,15 @@
 -- What the replacement of an insert's job makes of the store.
 use Rattle.std.proofs.Common.{◌≡◌, ℕ, ◌+◌, ◌<◌, Bool, false, List, [], ◌∷◌, length, Option, Some, None, refl, sym, ◌∙◌}
 use Rattle.std.proofs.Common.{ap, subst, drop, IsTrue}
-use Rattle.std.specs.Prelude.{is_some, slice_get, ◌||◌}
+use Rattle.std.specs.Prelude.{if◌then◌else◌, is_some, slice_get, ◌||◌}
 use Rattle.std.specs.FinMap as map
 use Rattle.page_disk.specs.Disk.{Only}
 use Rattle.page_disk.specs.Moments.{CallsLeaveOnly, IsReplaced}
 use Rattle.page_disk.specs.declared.disk.PageDisk.{Ghosts}
 use Rattle.volume_model.specs.Xattrs.{Xattrs}
 use Rattle.md_chain.specs.declared.plan.PlannedPage.{PlannedPage}
-use Rattle.store_model.specs.Cases.{FailsToReplace, WritesOnePage}
+use Rattle.store_model.specs.Cases.{WritesOnePage}
 use Rattle.store_model.specs.Cases as kind
-use Rattle.store_model.specs.Cases.InsertFail as tried
 use Rattle.store_model.specs.Claiming.{stage_behind}
 use Rattle.store_model.specs.Maps.{with_entry, Chains, Metas}
 use Rattle.store_model.specs.Phases.{erasing, page_in, Phase, Replaces}
@@ -19,35 +18,41 @@ use Rattle.store_model.specs.Rows.{Row, Rows, Stage, with_row}
 use Rattle.store_model.specs.StoreState.{going_on, JobState, StoreState}
 use Rattle.running_store.specs.Effects.{is_numbered}
 use Rattle.metadata_turns.specs.JobTurns.{with_job, IsAtWork, TurnsJob}
-use Rattle.running_store.specs.Jobs.{erasing_for, replacing_of, writing_for, AreNone}
-use Rattle.running_store.specs.Running.{live_given}
+use Rattle.running_store.specs.Jobs.{commit_of, job_left, replacing_of, writing_for, AreNone}
+use Rattle.running_store.specs.Running.{live_given, numbered}
 use Rattle.running_store.specs.StoreView.{StoreView, device_of, rows_of, state_of}
 use Rattle.metadata_turns.specs.Telling.{let_go_at}
-use Rattle.running_store.specs.declared.job.Planned.{Planned}
+use Rattle.running_store.specs.declared.replacements.Planned.{Planned}
 use Rattle.running_store.specs.declared.job.Serves.{Serves}
 use Rattle.running_store.specs.declared.job.Serves.TheVariants as whom
-use Rattle.metadata_turns.proofs.HeadReplaced.{adopted_view, after_none, after_some, numbered, planned_is, todo_is}
-use Rattle.metadata_turns.proofs.HeadReplaced.{touched}
-use Rattle.metadata_turns.proofs.InsertFailed.{fails_insert, inserting, waits, command as write_of}
-use Rattle.metadata_turns.proofs.JobTurned.{entered, first_low, first_to_insert}
+use Rattle.metadata_turns.proofs.HeadReplaced.{adopted_view, planned_is, todo_is, touched}
+use Rattle.metadata_turns.proofs.InsertFailed.{inserting}
+use Rattle.metadata_turns.proofs.JobTurned.{first_low, first_to_insert}
+use Rattle.running_store.proofs.JobLeft.{goes_on_left}
 use Rattle.running_store.proofs.Maps.{insert_given}
 use Rattle.running_store.proofs.Resolved.{base_given}
 use Rattle.running_store.proofs.Rowing.{rows_set}
 
 module _ {D : Type 0} (d : Ghosts D) (p : StoreView D) (row : ℕ) (planned : Planned) (old : List ℕ)
-    (w : IsAtWork d p (writing_for (whom.Insert row) planned old (length (drop 1 planned.chain))))
-    (chain_is : planned.chain ≡ planned.head ∷ drop 1 planned.chain) (none : AreNone planned.effects) where
+    (more : List Phase)
+    (w : IsAtWork d p (writing_for (whom.Insert row) planned old (length (drop 1 planned.chain)) more))
+    (chain_is : planned.chain ≡ planned.head ∷ drop 1 planned.chain) (none : AreNone planned.effects)
+    (no_commit : planned.commits ≡ false) where
   abbrev serves : Serves
   serves = whom.Insert row
 
   abbrev j : JobState
-  j = writing_for serves planned old (length (drop 1 planned.chain))
+  j = writing_for serves planned old (length (drop 1 planned.chain)) more
 
   abbrev s : StoreState
   s = state_of d (with_job p j)
 
   abbrev others : List Phase
-  others = erasing old old []
+  others = erasing old old more
+
+  todo_now : j.todo ≡ Replaces (replacing_of planned old) None ∷ others
+  todo_now = todo_is d p serves planned old more w
+      ∙ ap (λ b. Replaces (replacing_of planned old) (if b then Some (commit_of planned) else None) ∷ others) no_commit
 
   abbrev row_then : Stage → Row
   row_then stage = record { left = (rows_of p.rows row).left; stage = stage; claim = None }
@@ -59,25 +64,11 @@ module _ {D : Type 0} (d : Ghosts D) (p : StoreView D) (row : ℕ) (planned : Pl
       (first : slice_get planned.pages 0 ≡ Some x)
       (touches : CallsLeaveOnly d p.disk disk (IsReplaced (d.images p.disk) (d.now p.disk) at x.page)) where
     head_is : page_in planned.pages planned.head ≡ x.page
-    head_is = planned_is d p serves planned old w disk x at at_is first touches
+    head_is = planned_is d p serves planned old more w disk x at at_is first touches
 
     head_touched : CallsLeaveOnly d p.disk disk (IsReplaced (d.images p.disk) (d.now p.disk)
         (p.super.md_start + planned.head) (page_in planned.pages planned.head))
-    head_touched = touched d p serves planned old w disk x at at_is first touches
-
-    pub failed_inserting : FailsToReplace (device_of d p.disk) (device_of d disk) → (q : StoreView D)
-        → entered d p row disk q → TurnsJob d (with_job p j) q
-    failed_inserting fails q is =
-        let writes = (waits d p j w row refl refl).writes in
-        subst (TurnsJob d (with_job p j)) (sym (is (write_of d p row writes) writes.rest writes.is)) (record {
-          kind = kind.insert_fails;
-          of_job = tt;
-          made = (
-            fails_insert d p j w row refl refl disk (Replaces (replacing_of planned old) None) others
-                (todo_is d p serves planned old w) (tried.head (replacing_of planned old) planned.new refl refl) fails,
-            record { moments = head_touched; durable = λ never. absurd (cc never) },
-          );
-        })
+    head_touched = touched d p serves planned old more w disk x at at_is first touches
 
     -- the blob has its cluster, and nothing else is another
     abbrev filled : StoreView D
@@ -131,48 +122,35 @@ module _ {D : Type 0} (d : Ghosts D) (p : StoreView D) (row : ℕ) (planned : Pl
         built base_new chains_new (with_row s.rows row (row_then (stage_behind others))) o)
         after
 
-    module _ (a : StoreView D) (a_is : a ≡ adopted_view p planned disk) (l : StoreView D) (stage : Stage)
-        (told : l ≡ let_go_at a row stage) where
-      pub told_filled : l ≡ let_go_at filled row stage
-      told_filled = told ∙ ap (λ (b : StoreView D). let_go_at b row stage) (a_is ∙ filled_is)
+    -- its row goes on at this stage
+    pub told_filled : (a : StoreView D) (left : Option JobState)
+        → a ≡ record (adopted_view p planned disk) { job = left } → (l : StoreView D) (stage : Stage)
+        → l ≡ let_go_at a row stage → l ≡ record (let_go_at filled row stage) { job = left }
+    told_filled a left a_is l stage told =
+        told ∙ ap (λ (b : StoreView D). let_go_at b row stage)
+        (a_is ∙ ap (λ (b : StoreView D). record b { job = left }) filled_is)
 
-      module _ (moves : WritesOnePage d.tells (device_of d p.disk) at x.page 3 (device_of d disk))
-          (durable : IsTrue d.tells → Only (d.now disk) (d.images disk)) where
-        inserted : (k : Option JobState) → k ≡ going_on j [] others → stage ≡ stage_behind others
-            → (q : StoreView D) → q ≡ record (let_go_at filled row stage) { job = k } → TurnsJob d (with_job p j) q
-        inserted k after behind q is = subst (TurnsJob d (with_job p j)) (sym is) (record {
-          kind = kind.inserts;
-          of_job = tt;
-          made = (
-            record {
-              replacing = replacing_of planned old;
-              running = record {
-                job = j;
-                is = refl;
-                rest = others;
-                next = todo_is d p serves planned old w;
-                runs = w.not_stopped;
-              };
-              inserting = inserting d p j w row refl refl;
-              new = planned.new;
-              new_is = refl;
-              device = device_of d disk;
-              moves =
-                  subst (λ page. WritesOnePage d.tells (device_of d p.disk) (p.super.md_start + planned.head) page 3
-                  (device_of d disk)) (sym head_is)
-                  (subst (λ n. WritesOnePage d.tells (device_of d p.disk) n x.page 3 (device_of d disk)) at_is moves);
-              next = next k after stage behind;
-            },
-            record { moments = head_touched; durable = λ _. durable },
-          );
-        })
-
-        pub inserted_done : stage ≡ stage_behind others → length old ≡ 0 → TurnsJob d (with_job p j) l
-        inserted_done behind empty = inserted p.job (w.taken ∙ sym (after_none old j empty)) behind l told_filled
-
-        pub inserted_more : stage ≡ stage_behind others → 0 < length old
-            → TurnsJob d (with_job p j) (record l { job = Some (erasing_for serves old 0) })
-        inserted_more behind some = inserted (Some (erasing_for serves old 0))
-            (sym (after_some serves old some j refl refl none.claimed)) behind
-            (record l { job = Some (erasing_for serves old 0) })
-            (ap (λ (b : StoreView D). record b { job = Some (erasing_for serves old 0) }) told_filled)
+    pub inserted : WritesOnePage d.tells (device_of d p.disk) at x.page 3 (device_of d disk)
+        → (IsTrue d.tells → Only (d.now disk) (d.images disk)) → (left : Option JobState)
+        → left ≡ job_left serves others → (stage : Stage) → stage ≡ stage_behind others → (q : StoreView D)
+        → q ≡ record (let_go_at filled row stage) { job = left } → TurnsJob d (with_job p j) q
+    inserted moves durable left left_is stage behind q is = subst (TurnsJob d (with_job p j)) (sym is) (record {
+      kind = kind.inserts;
+      of_job = tt;
+      made = (
+        record {
+          replacing = replacing_of planned old;
+          running = record { job = j; is = refl; rest = others; next = todo_now; runs = w.not_stopped };
+          inserting = inserting d p j w row refl refl;
+          new = planned.new;
+          new_is = refl;
+          device = device_of d disk;
+          moves =
+              subst (λ page. WritesOnePage d.tells (device_of d p.disk) (p.super.md_start + planned.head) page 3
+              (device_of d disk)) (sym head_is)
+              (subst (λ n. WritesOnePage d.tells (device_of d p.disk) n x.page 3 (device_of d disk)) at_is moves);
+          next = next left (left_is ∙ sym (goes_on_left serves j refl refl none.claimed others)) stage behind;
+        },
+        record { moments = head_touched; durable = λ _. durable },
+      );
+    })

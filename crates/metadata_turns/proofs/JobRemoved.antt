@@ -27,14 +27,15 @@ use Rattle.store_model.specs.StoreState.{going_on, ForInsert, JobState, StoreSta
 use Rattle.store_model.proofs.Guarding.{frozen_still, none_frozen_by}
 use Rattle.store_model.proofs.Phases.{no_commit}
 use Rattle.store_model.proofs.Sets.{among_first}
-use Rattle.metadata_turns.specs.JobTurns.{stopped_at, with_job, IsAtWork, TurnsJob}
-use Rattle.metadata_turns.specs.Telling.{HasInsertRow, IsBrokenOff}
-use Rattle.running_store.specs.Jobs.{erasing_for, erasure_of, removing_for, service_of, IsRemovedFor}
+use Rattle.metadata_turns.specs.JobTurns.{with_job, IsAtWork, TurnsJob}
+use Rattle.metadata_turns.specs.Telling.{HasFailed}
+use Rattle.running_store.specs.Jobs.{erasure_of, job_left, removing_for, service_of, waits_for_job, IsRemovedFor}
 use Rattle.running_store.specs.StoreView.{StoreView, device_of, state_of}
 use Rattle.running_store.specs.declared.job.Serves.{Serves}
 use Rattle.running_store.specs.declared.job.Serves.TheVariants as whom
 use Rattle.metadata_turns.proofs.AtWork.{well}
-use Rattle.metadata_turns.proofs.HeadReplaced.{after_none, after_some}
+use Rattle.metadata_turns.proofs.JobFailed.{failed_for_command, failed_for_repair}
+use Rattle.running_store.proofs.JobLeft.{goes_on_left}
 use Rattle.running_store.proofs.Cleared.{among_get}
 use Rattle.running_store.proofs.Maps.{remove_given}
 use Rattle.running_store.proofs.Without.{base_gone}
@@ -53,24 +54,6 @@ once (whom.Command channel) freed fits = fits
 once (whom.Insert channel) freed fits = absurd fits
 once whom.Repair freed fits = fits
 
-pub no_row : (serves : Serves) (freed : List ℕ) (rows : List Row) → IsRemovedFor serves freed → HasInsertRow rows serves
-no_row (whom.Command channel) freed rows fits = tt
-no_row (whom.Insert channel) freed rows fits = absurd fits
-no_row whom.Repair freed rows fits = tt
-
--- so that no row waits for it
-none_waits : (serves : Serves) (head : ℕ) (freed old : List ℕ) → IsRemovedFor serves freed
-    → waiting (service_of serves) (removing_for serves head freed old).todo ≡ None
-none_waits (whom.Command channel) head freed old fits = ap (λ b. if b then Some channel else None) (no_commit old old)
-none_waits (whom.Insert channel) head freed old fits = absurd fits
-none_waits whom.Repair head freed old fits = refl
-
-only_stopped : {D : Type 0} (serves : Serves) (freed : List ℕ) (p q : StoreView D) (mark : ℕ)
-    → IsRemovedFor serves freed → IsBrokenOff serves p q mark → q ≡ stopped_at p
-only_stopped (whom.Command channel) freed p q mark fits is = is
-only_stopped (whom.Insert channel) freed p q mark fits is = absurd fits
-only_stopped whom.Repair freed p q mark fits is = is
-
 -- the store without the blob
 abbrev pub forgotten_view : {D : Type 0} → StoreView D → ℕ → List ℕ → D → StoreView D
 forgotten_view p head freed disk = record p {
@@ -83,25 +66,16 @@ forgotten_view p head freed disk = record p {
   guards = removed p.guards head;
 }
 
--- of which nothing else is another
-pub not_stopped_still : {D : Type 0} (p l : StoreView D) (head : ℕ) (freed : List ℕ) (disk : D)
-    → l ≡ forgotten_view p head freed disk → p.stopped ≡ None → l.stopped ≡ None
-not_stopped_still {D = D} p l head freed disk is runs = ap (λ (b : StoreView D). b.stopped) is ∙ runs
-
-pub no_job_still : {D : Type 0} (p l : StoreView D) (head : ℕ) (freed : List ℕ) (disk : D)
-    → l ≡ forgotten_view p head freed disk → p.job ≡ None → l.job ≡ None
-no_job_still {D = D} p l head freed disk is none = ap (λ (b : StoreView D). b.job) is ∙ none
-
 module _ {D : Type 0} (d : Ghosts D) (p : StoreView D) (serves : Serves) (head : ℕ) (freed old : List ℕ)
-    (w : IsAtWork d p (removing_for serves head freed old)) where
+    (more : List Phase) (w : IsAtWork d p (removing_for serves head freed old more)) where
   abbrev j : JobState
-  j = removing_for serves head freed old
+  j = removing_for serves head freed old more
 
   abbrev s : StoreState
   s = state_of d (with_job p j)
 
   abbrev others : List Phase
-  others = erasing old old []
+  others = erasing old old more
 
   runs_well : RunsWell w.running.first s
   runs_well = well s w.running w.not_stopped
@@ -143,26 +117,19 @@ module _ {D : Type 0} (d : Ghosts D) (p : StoreView D) (serves : Serves) (head :
         (subst (λ n. CallsLeaveOnly d p.disk disk (IsReplaced (d.images p.disk) (d.now p.disk) n zero_page)) at_is
         touches)
 
-    pub failed_removing : FailsToReplace (device_of d p.disk) (device_of d disk) → (q : StoreView D) (mark : ℕ)
-        → IsBrokenOff serves (record p { disk = disk }) q mark → TurnsJob d (with_job p j) q
-    failed_removing fails q mark is = subst (TurnsJob d (with_job p j))
-        (sym (only_stopped serves freed (record p { disk = disk }) q mark fits is)) (record {
-          kind = kind.more_breaks_off;
-          of_job = tt;
-          made = (
-            record {
-              replacing = erasure_of head freed old;
-              running = record { job = j; is = refl; rest = others; next = refl; runs = w.not_stopped };
-              waits = none_waits serves head freed old fits;
-              device = device_of d disk;
-              fails = fails;
-              next = ap (λ (f : ℕ → Bool).
-                  record s { stopped = Some (length p.log); job = None; frozen = f; device = device_of d disk })
-                  unfrozen;
-            },
-            record { moments = touched; durable = λ never. absurd (cc never) },
-          );
-        })
+    -- it failed, and what waits for the job is logged
+    pub failed_removing : FailsToReplace (device_of d p.disk) (device_of d disk) → (q : StoreView D)
+        → HasFailed (waits_for_job j) (record p { disk = disk }) q (d.clock disk) → TurnsJob d (with_job p j) q
+    failed_removing fails q failed = by serves refl
+      where
+        by : (x : Serves) → serves ≡ x → TurnsJob d (with_job p j) q
+        by (whom.Command channel) is =
+            failed_for_command d p j w refl disk fails q failed (erasure_of head freed old) None others refl touched
+            channel (ap service_of is) (λ c bad. absurd (cc bad))
+        by (whom.Insert channel) is = absurd (subst (λ (x : Serves). IsRemovedFor x freed) is fits)
+        by whom.Repair is =
+            failed_for_repair d p j w refl disk fails q failed (erasure_of head freed old) None others refl touched
+            (ap service_of is) refl
 
     -- no blob is frozen, nor is one then
     still_unfrozen : set.contains (set.remove p.guards.frozen head) ≡ s.frozen
@@ -217,35 +184,26 @@ module _ {D : Type 0} (d : Ghosts D) (p : StoreView D) (serves : Serves) (head :
         (still_unfrozen ∙ sym (frozen_still s.frozen j others refl))
         ∙ ap (λ o. built base_new chains_new generations_new (s.drawn + 0) (frozen_behind s.frozen j others) o) after
 
-    module _ (l : StoreView D) (l_is : l ≡ forgotten_view p head freed disk)
-        (moves : WritesOnePage d.tells (device_of d p.disk) at zero_page 3 (device_of d disk))
-        (durable : IsTrue d.tells → Only (d.now disk) (d.images disk)) where
-      gone : (k : Option JobState) → k ≡ done_job → (q : StoreView D)
-          → q ≡ record (forgotten_view p head freed disk) { job = k } → TurnsJob d (with_job p j) q
-      gone k after q is = subst (TurnsJob d (with_job p j)) (sym is) (record {
-        kind = kind.replaces_more;
-        of_job = tt;
-        made = (
-          record {
-            replacing = erasure_of head freed old;
-            running = record { job = j; is = refl; rest = others; next = refl; runs = w.not_stopped };
-            no_insert = no_insert serves freed fits;
-            device = device_of d disk;
-            moves =
-                subst (λ page. WritesOnePage d.tells (device_of d p.disk) (p.super.md_start + head) page 3
-                (device_of d disk)) (sym planned_is)
-                (subst (λ n. WritesOnePage d.tells (device_of d p.disk) n zero_page 3 (device_of d disk)) at_is moves);
-            next = next k after;
-          },
-          record { moments = touched; durable = λ _. durable },
-        );
-      })
-
-      pub removed_done : length old ≡ 0 → TurnsJob d (with_job p j) l
-      removed_done empty = gone p.job (w.taken ∙ sym (after_none old (record j { claimed = [] }) empty)) l l_is
-
-      pub removed_more : 0 < length old → TurnsJob d (with_job p j) (record l { job = Some (erasing_for serves old 0) })
-      removed_more some = gone (Some (erasing_for serves old 0))
-          (sym (after_some serves old some (record j { claimed = [] }) refl refl refl))
-          (record l { job = Some (erasing_for serves old 0) })
-          (ap (λ (b : StoreView D). record b { job = Some (erasing_for serves old 0) }) l_is)
+    -- it is done, and this is left of the job
+    pub head_removed : (left : Option JobState) → left ≡ job_left serves others → (q : StoreView D)
+        → q ≡ record (forgotten_view p head freed disk) { job = left }
+        → WritesOnePage d.tells (device_of d p.disk) at zero_page 3 (device_of d disk)
+        → (IsTrue d.tells → Only (d.now disk) (d.images disk)) → TurnsJob d (with_job p j) q
+    head_removed left left_is q is moves durable = subst (TurnsJob d (with_job p j)) (sym is) (record {
+      kind = kind.replaces_more;
+      of_job = tt;
+      made = (
+        record {
+          replacing = erasure_of head freed old;
+          running = record { job = j; is = refl; rest = others; next = refl; runs = w.not_stopped };
+          no_insert = no_insert serves freed fits;
+          device = device_of d disk;
+          moves =
+              subst (λ page. WritesOnePage d.tells (device_of d p.disk) (p.super.md_start + head) page 3
+              (device_of d disk)) (sym planned_is)
+              (subst (λ n. WritesOnePage d.tells (device_of d p.disk) n zero_page 3 (device_of d disk)) at_is moves);
+          next = next left (left_is ∙ sym (goes_on_left serves (record j { claimed = [] }) refl refl refl others));
+        },
+        record { moments = touched; durable = λ _. durable },
+      );
+    })

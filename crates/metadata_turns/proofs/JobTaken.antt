@@ -30,7 +30,7 @@ use Rattle.running_store.specs.Running.{WillResolve}
 use Rattle.running_store.specs.StoreView.{base_of, AreResolved, StoreView, rows_of, state_of}
 use Rattle.running_store.specs.Steps.{Asks, IsPostedAt}
 use Rattle.running_store.specs.declared.effects.Effects.{Effects}
-use Rattle.running_store.specs.declared.job.Rooms.{Rooms}
+use Rattle.running_store.specs.declared.replacements.Rooms.{Rooms}
 use Rattle.running_store.specs.declared.job.RunningJob.{RunningJob}
 use Rattle.metadata_turns.specs.declared.preparing.Prepared.{Prepared}
 use Rattle.metadata_turns.proofs.JobAsked.{asked, IsAsked}
@@ -148,7 +148,7 @@ module _ {D : Type 0} (d : Ghosts D) (p : StoreView D) (channel : ℕ) (posted :
       pub job_resolves : length zeros ≤ length claimed → (e : Effects) → IfNone e.rooms (IsSome (s.chains head))
           → IfSome e.rooms (λ _. s.chains head ≡ None) → (pages : List Bool) → (x : Prepared)
           → IsPrepared p.chains head later (is_some e.rooms) p.pages pages x → AreResolved p.metas p.marked
-          → WillResolve p.metas p.marked (planned_with x head later (record e { claimed = claimed }))
+          → WillResolve p.metas p.marked (planned_with x head later true (record e { claimed = claimed }))
       job_resolves all e some none pages x prepared are =
           let there = was e.rooms some none in
           let with_its : IsPrepared p.chains head (with_clusters new zeros claimed) (is_some e.rooms) p.pages pages x =
@@ -171,7 +171,7 @@ module _ {D : Type 0} (d : Ghosts D) (p : StoreView D) (channel : ℕ) (posted :
           → IsPrepared p.chains head later (is_some e.rooms) p.pages pages x → (cluster_pages : ℕ)
           → cluster_pages ≡ cluster_pages_of p.super → (job : RunningJob)
           → job_seen job
-          ≡ begun_job channel (planned_with x head later (record e { claimed = claimed })) x.old cluster_pages
+          ≡ begun_job channel (planned_with x head later true (record e { claimed = claimed })) x.old cluster_pages []
           → Begins s (state_of d (with_begun (record p { pages = pages; clusters = clusters }) channel job))
       job_begins low all e effects some none pages clusters set x prepared cluster_pages each job seen =
           let one_each = as_many all in
@@ -179,7 +179,7 @@ module _ {D : Type 0} (d : Ghosts D) (p : StoreView D) (channel : ℕ) (posted :
           let with_its : IsPrepared p.chains head (with_clusters new zeros claimed) (is_some e.rooms) p.pages pages x =
           subst (λ (m : Meta). IsPrepared p.chains head m (is_some e.rooms) p.pages pages x) is prepared in
           let begins = begun d p channel low posted runs running clean no_job
-          (planned_with x head later (record e { claimed = claimed })) x.old new zeros asks
+          (planned_with x head later true (record e { claimed = claimed })) x.old new zeros asks refl
           (record {
             live_is = effects.live_is;
             renews = effects.renews;

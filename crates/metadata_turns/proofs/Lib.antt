@@ -16,11 +16,12 @@ pub mod SlotsFilled
 pub mod Needed
 pub mod InsertFailed
 pub mod JobTurned
+pub mod JobFailed
 pub mod JobErased
 pub mod HeadReplaced
 pub mod JobCommitted
 pub mod JobInserted
-pub mod JobRepaired
+pub mod JobWritten
 pub mod JobRemoved
 pub mod HeadTold
 pub mod JobLaid

@@ -1,5 +1,6 @@
 -- The begin of a repair, as a case, and what its job leads to.
 use Rattle.std.proofs.Common.{◌≡◌, ◌≢◌, ◌↔◌, ℕ, ◌<◌, Bool, true, false, List, ◌∷◌, Option, Some, None, refl, sym, ap}
+use Rattle.std.proofs.Common.{[]}
 use Rattle.std.proofs.Common.{◌∙◌, subst}
 use Rattle.std.proofs.Common.{length, inl, inr}
 use Rattle.std.specs.Prelude.{is_some, take, IsSome}
@@ -27,7 +28,7 @@ use Rattle.running_store.specs.Jobs.{erasure_of, removing_for, replacing_of, wri
 use Rattle.running_store.specs.Running.{WillResolve, WillResolveWithout}
 use Rattle.running_store.specs.StoreInvariant.{IsRunning}
 use Rattle.running_store.specs.StoreView.{state_of, AreResolved, StoreView}
-use Rattle.running_store.specs.declared.job.Planned.{Planned}
+use Rattle.running_store.specs.declared.replacements.Planned.{Planned}
 use Rattle.running_store.specs.declared.job.Serves.TheVariants as whom
 use Rattle.running_store.proofs.Maps.{insert_given, remove_given}
 use Rattle.metadata_turns.specs.Alone.{HaveRoom, IsMappedBeside, IsMissing}
@@ -112,11 +113,11 @@ module _ {D : Type 0} (d : Ghosts D) (p : StoreView D) (running : IsRunning (sta
 
       module _ (after : List Bool) (x : Prepared) (is : IsPrepared p.chains head new false p.pages after x) where
         abbrev planned : Planned
-        planned = planned_with x head new no_effects
+        planned = planned_with x head new false no_effects
 
         pub mends : BeginsRepair s (state_of d (record p {
           pages = after;
-          job = Some (writing_for whom.Repair planned x.old 0);
+          job = Some (writing_for whom.Repair planned x.old 0 []);
         }))
         mends =
             let known = laid s running runs no_job head new stored_new has_chain p.chains after x is in
@@ -144,7 +145,7 @@ module _ {D : Type 0} (d : Ghosts D) (p : StoreView D) (running : IsRunning (sta
               };
               next = ap (λ (bits : List Bool). record s {
                 pages = bits;
-                job = Some (writing_for whom.Repair planned x.old 0);
+                job = Some (writing_for whom.Repair planned x.old 0 []);
               }) known.taken;
             }
 
@@ -182,7 +183,7 @@ module _ {D : Type 0} (d : Ghosts D) (p : StoreView D) (running : IsRunning (sta
           → ((c : ℕ) → (is_in bits c ≡ true) ↔ IsMappedBeside s.super.md_len s.base head c) → (freed : List ℕ)
           → ((c : ℕ) → (is_among c freed ≡ true) ↔ IsMissing bits old.map c) → (behind : List ℕ)
           → s.chains head ≡ Some (head ∷ behind)
-          → BeginsRepair s (state_of d (record p { job = Some (removing_for whom.Repair head freed behind) }))
+          → BeginsRepair s (state_of d (record p { job = Some (removing_for whom.Repair head freed behind []) }))
       removes bits bits_are freed freed_are behind chain = record {
         runs = runs;
         no_job = no_job;

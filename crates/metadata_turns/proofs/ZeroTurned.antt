@@ -1,7 +1,7 @@
 -- What a turn of a running job that overwrites a page of a claimed cluster makes of the store.
 use Rattle.std.proofs.Common.{None, ◌≡◌, ℕ, ◌*◌, ◌/◌, ◌%◌, ◌<◌, Bool, true, false, List, [], ◌∷◌, length}
 use Rattle.std.proofs.Common.{Some, refl, sym, ◌∙◌, ap, subst, arith, inl, inr, drop}
-use Rattle.std.specs.Prelude.{if◌then◌else◌}
+use Rattle.std.specs.Prelude.{if◌then◌else◌, ◌||◌}
 use Rattle.std.proofs.lemmas.Bool.{cases_lt}
 use Rattle.std.proofs.lemmas.Nat.{div-add-mod', mul-add-lt}
 use Rattle.std.proofs.Math.Nat.{mod-lt}
@@ -34,10 +34,12 @@ use Rattle.running_store.specs.Zeroing.{next_zeroed, pages_from, IsLeft}
 use Rattle.metadata_turns.specs.JobTurns.{stopped_at, with_job, IsAtWork, TurnsJob}
 use Rattle.running_store.specs.Steps.{logged_at}
 use Rattle.running_store.specs.StoreView.{StoreView, device_of, rows_of, state_of}
-use Rattle.running_store.specs.declared.job.Planned.{Planned}
+use Rattle.running_store.specs.declared.replacements.Planned.{Planned}
 use Rattle.running_store.specs.declared.job.Zeroed.{Zeroed}
 use Rattle.running_store.proofs.Rowing.{state_logged}
-use Rattle.metadata_turns.proofs.JobTurned.{entered, entered_plainly}
+use Rattle.metadata_turns.proofs.JobFailed.{channel_low, entry, fails_case, row_left}
+use Rattle.metadata_turns.proofs.JobTurned.{entered}
+use Rattle.running_store.proofs.CommitLeft.{commit_writing}
 use Rattle.running_store.proofs.ZeroPages.{zeroes_next}
 use Rattle.store_model.specs.Phases.{Replaces, erasing}
 
@@ -48,9 +50,10 @@ on_device page k clusters some low =
     (mul-add-lt (page / k) k (page % k) clusters low (mod-lt page some))
 
 module _ {D : Type 0} (d : Ghosts D) (p : StoreView D) (channel : ℕ) (planned : Planned) (old : List ℕ) (z : Zeroed)
-    (w : IsAtWork d p (zeroing_job channel planned old z)) (left : IsLeft planned.effects.claimed z) where
+    (more : List Phase) (w : IsAtWork d p (zeroing_job channel planned old z more))
+    (left : IsLeft planned.effects.claimed z) (commits : planned.commits ≡ true) where
   abbrev j : JobState
-  j = zeroing_job channel planned old z
+  j = zeroing_job channel planned old z more
 
   abbrev s : StoreState
   s = state_of d (with_job p j)
@@ -65,7 +68,7 @@ module _ {D : Type 0} (d : Ghosts D) (p : StoreView D) (channel : ℕ) (planned 
   others = drop 1 j.todo
 
   todo_is : j.todo ≡ Zeros page ∷ others
-  todo_is = zeroes_next channel planned old z left
+  todo_is = zeroes_next channel planned old z more left
 
   well : RunsWell w.running.first s
   well = w.running.facts.well w.not_stopped
@@ -76,29 +79,15 @@ module _ {D : Type 0} (d : Ghosts D) (p : StoreView D) (channel : ℕ) (planned 
   waits : has_commit j.todo ≡ true
   waits =
       commit_zeros (pages_from z.cluster_pages (drop z.clusters claimed) z.pages)
-      (writing_job channel planned old 0).todo
-      ∙ commit_behind (drop 0 (drop 1 planned.chain))
-      (Replaces (replacing_of planned old) (Some (commit_of planned)) ∷ erasing old old [])
-
-  x_served : IsServed s channel claimed j.todo
-  x_served = stands.served channel refl waits
-
-  row : rows_of p.rows channel ≡ record { left = x_served.command ∷ x_served.rest; stage = InJob; claim = None }
-  row = x_served.row
-
-  row_left : (rows_of p.rows channel).left ≡ x_served.command ∷ x_served.rest
-  row_left = ap (λ (x : Row). x.left) row
+      (writing_job channel planned old 0 more).todo
+      ∙ commit_writing planned (drop 0 (drop 1 planned.chain)) old more ∙ ap (λ b. b || has_commit more) commits
 
   pub row_some : 0 < length (rows_of p.rows channel).left
-  row_some = let long = ap (λ (l : List Command). length l) row_left in omega (arith, long)
+  row_some = let long = ap (λ (l : List Command). length l) (row_left d p j w refl channel refl waits) in
+      omega (arith, long)
 
-  pub channel_low : channel < length p.rows
-  channel_low = elim (cases_lt channel (length p.rows)) [
-    | inl lt ↦ lt
-    | inr ge ↦
-        let none = get_or-eq_default p.rows _ ge in
-        absurd (let bad = sym (ap (λ (x : Row). x.left) none) ∙ row_left in cc bad)
-  ]
+  pub low : channel < length p.rows
+  low = channel_low d p j w refl channel refl waits
 
   -- the page is one of a claimed cluster, and so of the device
   in_claimed : is_among (page / cluster_pages_of p.super) claimed ≡ true
@@ -118,9 +107,6 @@ module _ {D : Type 0} (d : Ghosts D) (p : StoreView D) (channel : ℕ) (planned 
       let all = placed.on_device in
       omega (arith, inside, turned, all)
 
-  thawed : s.frozen ≡ (λ head. false)
-  thawed = fun_ext (none_frozen_by s w.running.facts.guarded j refl refl)
-
   -- of a device that doesn't tell zeros are read
   blank : d.tells ≡ false → (n : ℕ) → s.device.reads n ≡ zero_page
   blank silent n = ap (λ (told : Bool). (if told then d.now p.disk else (λ _. zero_page)) n) silent
@@ -130,41 +116,14 @@ module _ {D : Type 0} (d : Ghosts D) (p : StoreView D) (channel : ℕ) (planned 
     touched : CallsLeaveOnly d p.disk disk (Written (d.images p.disk) page Plain zero_page)
     touched = subst (λ n. CallsLeaveOnly d p.disk disk (Written (d.images p.disk) n Plain zero_page)) at_is touches
 
-    abbrev fault : StoreView D
-    fault =
-        logged_at (stopped_at (record p { disk = disk })) channel x_served.command x_served.rest r.Fault (d.clock disk)
-
-    entry : (q : StoreView D) → entered d p channel disk q → q ≡ fault
-    entry q is = entered_plainly (stopped_at (record p { disk = disk })) q channel r.Fault (d.clock disk)
-        (ap (λ (x : Row). x.claim) row) is x_served.command x_served.rest row_left
-
     pub failed_zeroing : FailsToReplace (device_of d p.disk) (device_of d disk) → (q : StoreView D)
         → entered d p channel disk q → TurnsJob d (with_job p j) q
     failed_zeroing fails q is =
-        subst (TurnsJob d (with_job p j)) (sym (entry q is)) (record {
+        subst (TurnsJob d (with_job p j)) (sym (entry d p j w refl channel refl waits disk q is)) (record {
           kind = kind.fails;
           of_job = tt;
           made = (
-            record {
-              phase = Zeros page;
-              running = record { job = j; is = refl; rest = others; next = todo_is; runs = w.not_stopped };
-              served = record {
-                channel = channel;
-                serves = refl;
-                command = x_served.command;
-                rest = x_served.rest;
-                row = row;
-              };
-              waits = waits;
-              tried = zeros page refl;
-              device = device_of d disk;
-              fails = fails;
-              next = state_logged d (stopped_at (record p { disk = disk })) channel x_served.command x_served.rest
-                  r.Fault channel_low
-                  ∙ ap (λ (f : ℕ → Bool).
-                  logged (record s { stopped = Some (length p.log); job = None; frozen = f }) channel
-                  x_served.command x_served.rest r.Fault (device_of d disk)) thawed;
-            },
+            fails_case d p j w refl channel refl waits disk (Zeros page) others todo_is (zeros page refl) fails,
             record { moments = touched; durable = λ never. absurd (cc never) },
           );
         })

@@ -35,9 +35,7 @@ use Rattle.running_store.specs.declared.effects.Effects.{Effects}
 use Rattle.metadata_turns.specs.declared.preparing.Laid.{Laid}
 use Rattle.metadata_turns.specs.declared.preparing.Prepared.{Prepared}
 use Rattle.running_store.specs.declared.job.RunningJob.{RunningJob}
-use Rattle.running_store.specs.declared.job.Serves.{Serves}
-use Rattle.running_store.specs.declared.job.Work.TheVariants as work
-use Rattle.running_store.specs.declared.job.Planned.{Planned}
+use Rattle.running_store.specs.declared.replacements.Planned.{Planned}
 
 -- a blob's chain, of its head and the places behind it
 abbrev pub HasChain : map.FinMap nat_cmp (List ℕ) → ℕ → Type 0
@@ -93,19 +91,20 @@ IsUnprepared lacks_clusters there new pages r.Full = (lacks_clusters ≡ true) �
 IsUnprepared lacks_clusters there new pages r.Memory = Unit {0}
 IsUnprepared lacks_clusters there new pages _ = ⊥
 
--- what is written with what was prepared
-abbrev pub planned_with : Prepared → ℕ → Meta → Effects → Planned
-planned_with x head new effects =
-    record { head = head; new = new; effects = effects; chain = x.laid.chain; pages = x.laid.pages }
+-- what is written with what was prepared, as the commit or not
+abbrev pub planned_with : Prepared → ℕ → Meta → Bool → Effects → Planned
+planned_with x head new commits effects = record {
+  head = head;
+  new = new;
+  commits = commits;
+  effects = effects;
+  chain = x.laid.chain;
+  pages = x.laid.pages;
+}
 
 -- nothing is done besides
 abbrev pub no_effects : Effects
 no_effects = record { live = None; renews = false; freed = []; claimed = []; rooms = None }
-
--- the job that writes what was prepared, and does nothing besides, at its begin
-abbrev pub plain_job : Serves → Prepared → ℕ → Meta → RunningJob
-plain_job serves x head new =
-    record { serves = serves; work = work.Writing (planned_with x head new no_effects) 0; old = x.old }
 
 -- one replacement, which is the commit, with a cluster of zeros for each of these slots of the new map
 abbrev pub job_with_zeros : ℕ → Meta → List ℕ → Job

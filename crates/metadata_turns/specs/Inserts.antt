@@ -14,10 +14,6 @@ use Rattle.running_store.specs.Steps.{decided}
 use Rattle.running_store.specs.StoreView.{StoreView, rows_of}
 use Rattle.metadata_turns.specs.declared.inserting.InsertTurn.{InsertTurn}
 use Rattle.metadata_turns.specs.declared.inserting.InsertTurn.TheVariants as insert
-use Rattle.running_store.specs.declared.job.RunningJob.{RunningJob}
-use Rattle.running_store.specs.declared.job.Serves.TheVariants as whom
-use Rattle.metadata_turns.specs.Begins.{plain_job}
-use Rattle.metadata_turns.specs.declared.preparing.Prepared.{Prepared}
 
 -- a row that is posted with the claim that it holds
 pub record HoldsPosted {D : Type 0} (p : StoreView D) (channel : ℕ) : Type 0 where
@@ -31,10 +27,6 @@ pub record Fills {E : Type 0} (p : StoreState) (claim : OpenClaim) (x : Result M
   pub meta : Meta
   pub can : CanInsert p claim meta
   pub filled : IfOk x (λ new. new ≡ with_slot meta claim.slot claim.cluster)
-
--- the job that begins with what was prepared
-abbrev pub insert_job : Prepared → ℕ → ℕ → Meta → RunningJob
-insert_job x channel head new = plain_job (whom.Insert channel) x head new
 
 -- too few pages are clear, or memory ran out
 abbrev pub IsLack : Kind → Type 0

@@ -1,5 +1,5 @@
 -- How whoever waits for a job is told.
-use Rattle.std.specs.Prelude.{None, ◌≡◌, ℕ, ◌<◌, List, length}
+use Rattle.std.specs.Prelude.{None, Some, Option, ◌≡◌, ℕ, ◌<◌, List, length}
 use Rattle.volume_model.specs.declared.reply.Reply.{Reply}
 use Rattle.volume_model.specs.declared.reply.Reply.TheVariants as r
 use Rattle.store_model.specs.Rows.{Decided, Row, Stage, Won}
@@ -15,10 +15,11 @@ abbrev pub let_go_at : {D : Type 0} → StoreView D → ℕ → Stage → StoreV
 let_go_at p channel stage =
     with_row_at p channel (record { left = (rows_of p.rows channel).left; stage = stage; claim = None })
 
--- Once a replacement is made: the command is logged with its reply; the row of an insert, which has its cluster, goes
--- on at this stage; no row waits for a repair.
-abbrev pub IsTold : Serves → Reply → Stage → {D : Type 0} → StoreView D → StoreView D → ℕ → Type 0
-IsTold (whom.Command channel) reply next p q mark = IsEntered p q channel reply mark
+-- Once a replacement is made: the command is logged with its reply, where it has one now; the row of an insert, which
+-- has its cluster, goes on at this stage; no row waits for a repair.
+abbrev pub IsTold : Serves → Option Reply → Stage → {D : Type 0} → StoreView D → StoreView D → ℕ → Type 0
+IsTold (whom.Command channel) (Some reply) next p q mark = IsEntered p q channel reply mark
+IsTold (whom.Command channel) None next p q mark = q ≡ p
 IsTold (whom.Insert channel) reply next p q mark = q ≡ let_go_at p channel next
 IsTold whom.Repair reply next p q mark = q ≡ p
 
@@ -28,26 +29,27 @@ IsWon (whom.Command channel) p q = q ≡ p
 IsWon (whom.Insert channel) p q = q ≡ let_go_at p channel (Decided Won)
 IsWon whom.Repair p q = q ≡ p
 
--- The store stopped before a replacement: the command, or the write that waits for an insert, is logged as failed.
-abbrev pub HasFailed : Serves → {D : Type 0} → StoreView D → StoreView D → ℕ → Type 0
-HasFailed (whom.Command channel) p q mark = IsGivenUp (stopped_at p) q channel r.Fault mark
-HasFailed (whom.Insert channel) p q mark = IsGivenUp (stopped_at p) q channel r.Fault mark
-HasFailed whom.Repair p q mark = q ≡ stopped_at p
+-- The store stopped, and what waits for the job in this channel is logged as failed.
+abbrev pub HasFailed : Option ℕ → {D : Type 0} → StoreView D → StoreView D → ℕ → Type 0
+HasFailed (Some channel) p q mark = IsGivenUp (stopped_at p) q channel r.Fault mark
+HasFailed None p q mark = q ≡ stopped_at p
 
--- The store stopped behind a replacement: the write that waits for an insert is logged as failed.
-abbrev pub IsBrokenOff : Serves → {D : Type 0} → StoreView D → StoreView D → ℕ → Type 0
-IsBrokenOff (whom.Command channel) p q mark = q ≡ stopped_at p
-IsBrokenOff (whom.Insert channel) p q mark = IsGivenUp (stopped_at p) q channel r.Fault mark
-IsBrokenOff whom.Repair p q mark = q ≡ stopped_at p
+-- the row of a channel is one of the sixteen, and has a command
+abbrev pub HasCommand : List Row → ℕ → Type 0
+HasCommand rows channel = (channel < 16) × (0 < length (rows_of rows channel).left)
 
--- the row of an insert is one of the sixteen, and has a command
+-- so is that of a channel that waits
+abbrev pub HasWaitingRow : List Row → Option ℕ → Type 0
+HasWaitingRow rows (Some channel) = HasCommand rows channel
+HasWaitingRow rows None = Unit {0}
+
+-- so is that of an insert,
 abbrev pub HasInsertRow : List Row → Serves → Type 0
-HasInsertRow rows (whom.Command channel) = Unit {0}
-HasInsertRow rows (whom.Insert channel) = (channel < 16) × (0 < length (rows_of rows channel).left)
-HasInsertRow rows whom.Repair = Unit {0}
+HasInsertRow rows (whom.Insert channel) = HasCommand rows channel
+HasInsertRow rows other = Unit {0}
 
--- so is that of a command or an insert
-abbrev pub HasRow : List Row → Serves → Type 0
-HasRow rows (whom.Command channel) = (channel < 16) × (0 < length (rows_of rows channel).left)
-HasRow rows (whom.Insert channel) = (channel < 16) × (0 < length (rows_of rows channel).left)
-HasRow rows whom.Repair = Unit {0}
+-- and that of a command with its reply
+abbrev pub HasRow : List Row → Serves → Option Reply → Type 0
+HasRow rows (whom.Command channel) (Some reply) = HasCommand rows channel
+HasRow rows (whom.Insert channel) reply = HasCommand rows channel
+HasRow rows other reply = Unit {0}

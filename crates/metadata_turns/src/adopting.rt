@@ -30,6 +30,7 @@ pub(crate) fn adopt<D>(running: &mut Running<D>, planned: Planned)
     let Planned {
         head,
         new,
+        commits: _,
         effects,
         chain,
         pages: _,

@@ -122,7 +122,7 @@ fn job_for<D: PageDisk>(
     ) {
         Ok(prepared) => {
             let cluster_pages = running.sup.cluster_pages();
-            Ok(prepared.job(channel, head, new, effects, cluster_pages))
+            Ok(prepared.job(running.alloc, channel, head, new, effects, cluster_pages))
         }
         Err(reply) => {
             clear_places(&mut running.clusters, &effects.claimed);

@@ -11,7 +11,7 @@ ghost use Rattle.store_model.specs.Cases as kind;
 ghost use Rattle.store_model.specs.Claiming.{CanInsert};
 ghost use Rattle.store_model.specs.Inserting.{with_slot};
 ghost use Rattle.metadata_turns.specs.declared.inserting.InsertTurn.TheVariants.{Logged};
-ghost use Rattle.metadata_turns.specs.Inserts.{insert_job, row_inserting, Fills, HoldsPosted, InsertsOrNot};
+ghost use Rattle.metadata_turns.specs.Inserts.{row_inserting, Fills, HoldsPosted, InsertsOrNot};
 ghost use Rattle.metadata_turns.specs.OwnWrites.{AreOwn};
 ghost use Rattle.running_store.specs.Running.{view_of, InOrder};
 ghost use Rattle.running_store.specs.Stages.{claim_seen};
@@ -20,12 +20,12 @@ ghost use Rattle.running_store.specs.StoreInvariant.{IsRunning};
 ghost use Rattle.running_store.specs.StoreView.{base_of, rows_of, state_of};
 ghost use Rattle.running_store.specs.TurnMade.{TurnMade};
 
-use crate::preparing::{Prepared, prepare};
+use crate::preparing::prepare;
 use blob_meta::Meta;
 use out_of_memory::Memory;
 use page_disk::PageDisk;
 use running_store::{
-    Decision, OpenClaim, Row, Running, RunningJob, Serves, Stage, give_back, give_up,
+    Decision, OpenClaim, Row, Running, Serves, Stage, give_back, give_up,
 };
 use std::alloc::Global;
 use volume_model::{Reply, TryCopy};
@@ -159,7 +159,8 @@ fn start<D: PageDisk>(
         false,
     ) {
         Ok(prepared) => {
-            running.job = Some(job_of(running.alloc, prepared, channel, head, new));
+            let job = prepared.alone(running.alloc, Serves::Insert(channel), head, new);
+            running.job = Some(job);
             running.rows[channel as usize].serve();
             InsertTurn::Began
         }
@@ -168,13 +169,6 @@ fn start<D: PageDisk>(
             InsertTurn::Logged
         }
     }
-}
-
-/// The job of an insert at its begin.
-fn job_of(alloc: Global, prepared: Prepared, channel: u8, head: u32, new: Meta) -> RunningJob
-    ensures { result ≡ insert_job prepared channel head new }
-{
-    prepared.alone(alloc, Serves::Insert(channel), head, new)
 }
 
 /// Begins the insert of a posted row, of a store without a repair that is left, or, on a stopped store, logs its write

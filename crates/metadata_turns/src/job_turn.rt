@@ -1,22 +1,20 @@
 //! The turns of the running job.
 
-ghost use Rattle.std.specs.Prelude.{◌≡◌, ◌<◌, ◌+◌, Some, None, IsSome, length, drop};
-ghost use Rattle.running_store.specs.Jobs.{erasing_for, removing_for, writing_for, zeroing_job, IsMatched};
-ghost use Rattle.running_store.specs.Jobs.{IsMatchedFor, IsRemovedFor};
-ghost use Rattle.metadata_turns.specs.JobTurns.{answer_of, with_job, IsAtWork, TurnsJob};
+ghost use Rattle.std.specs.Prelude.{◌≡◌, ◌+◌, Some, None, IsSome};
+ghost use Rattle.metadata_turns.specs.JobTurns.{answer_of, TurnsJob};
 ghost use Rattle.metadata_turns.specs.OwnWrites.{AreOwn};
 ghost use Rattle.metadata_turns.specs.declared.job_turn.JobTurn.TheVariants.{Stopped};
 ghost use Rattle.running_store.specs.StoreInvariant.{IsRunning};
-ghost use Rattle.running_store.specs.Running.{view_of, HasRoom, InOrder, WillResolve, WillResolveWithout};
+ghost use Rattle.running_store.specs.Running.{view_of, InOrder};
 ghost use Rattle.running_store.specs.StoreView.{state_of};
 
-use crate::adopting::{adopt, forget};
-use crate::telling::{break_off, fail, fail_job, stage_behind, tell, win};
+use crate::head_turns::{remove_head, replace_head};
+use crate::page_turns::{erase, free, write_fresh, zero};
 use page_disk::PageDisk;
 use running_store::{
-    Planned, Running, RunningJob, Serves, Work, Zeroed, clear_places, give_up, replace,
-    waiting_for, write_last, write_one,
+    LaidReplacement, Running, RunningJob, Serves, Work, give_up, waiting_for,
 };
+use std::collections::VecDeque;
 use super_block::Super;
 use volume_model::{PlaceList, Reply};
 
@@ -31,6 +29,52 @@ pub enum JobTurn {
     Stopped(u32),
 }
 
+/// What a job has beside its next replacement: for whom it is done, and which channel waits for it; the places that
+/// stood behind the head before that, and the replacements that come behind it.
+#[derive(Drop)]
+pub(crate) struct Beside {
+    pub(crate) serves: Serves,
+    pub(crate) waiting: Option<u8>,
+    pub(crate) old: PlaceList,
+    pub(crate) later: VecDeque<LaidReplacement>,
+}
+
+impl Beside {
+    ghost use Rattle.std.specs.Prelude.{◌≡◌, [], IfSome};
+    ghost use Rattle.std.specs.Option.{option_map, option_map_or};
+    ghost use Rattle.store_model.specs.Phases.{erasing};
+    ghost use Rattle.running_store.specs.Jobs.{job_left, job_seen, phases_in, to_come, IsHeaded, MayFollow};
+
+    /// The job with this work.
+    pub(crate) fn at(self, work: Work) -> RunningJob
+        ensures { result ≡ record { serves = self.serves; work = work; old = self.old; later = self.later } }
+    {
+        let Beside {
+            serves,
+            waiting: _,
+            old,
+            later,
+        } = self;
+        RunningJob {
+            serves,
+            work,
+            old,
+            later,
+        }
+    }
+
+    /// The job behind its replacement, if something is left of it.
+    pub(crate) fn behind(self) -> Option<RunningJob>
+        requires { MayFollow self.serves self.later.items }
+        ensures seen { option_map job_seen result
+            ≡ job_left self.serves (erasing self.old self.old (phases_in self.later.items)) }
+        ensures headed { IfSome result IsHeaded }
+        ensures coming { option_map_or to_come result [] ≡ self.later.items }
+    {
+        RunningJob::behind(self.serves, self.old, self.later)
+    }
+}
+
 /// A turn of the running job: its next device calls, and what follows from them.
 pub(crate) fn job_turn<D: PageDisk>(running: &mut Running<D>) -> JobTurn
     requires order { InOrder D.PageDisk running.old }
@@ -42,29 +86,43 @@ pub(crate) fn job_turn<D: PageDisk>(running: &mut Running<D>) -> JobTurn
     ensures answer { result ≡ answer_of (view_of running.new) }
     ensures order { InOrder D.PageDisk running.new }
 {
-    let Some(RunningJob { serves, work, old }) = running.job.take() else {
+    let waiting = waiting_for(&running.job);
+    let Some(
+        RunningJob {
+            serves,
+            work,
+            old,
+            later,
+        },
+    ) = running.job.take() else {
         return JobTurn::Done;
+    };
+    let beside = Beside {
+        serves,
+        waiting,
+        old,
+        later,
     };
     match work {
         Work::Zeroing { planned, zeroed } => match serves {
-            Serves::Command(channel) => zero(running, channel, planned, zeroed, old),
+            Serves::Command(channel) => zero(running, channel, beside, planned, zeroed),
             Serves::Insert(_) | Serves::Repair => unreachable!(),
         },
         Work::Writing { planned, written } => {
             let fresh = planned.pages.len() - 1;
             if written < fresh {
-                write_fresh(running, serves, planned, written, old)
+                write_fresh(running, beside, planned, written)
             } else {
-                replace_head(running, serves, planned, old)
+                replace_head(running, beside, planned)
             }
         }
-        Work::Removing { head, freed } => remove_head(running, serves, head, &freed, old),
+        Work::Removing { head, freed } => remove_head(running, beside, head, freed),
         Work::Erasing { erased } => {
-            let last = old.len() - 1;
+            let last = beside.old.len() - 1;
             if erased < last {
-                erase(running, serves, erased, old)
+                erase(running, beside, erased)
             } else {
-                free(running, serves, erased, old)
+                free(running, beside, erased)
             }
         }
     }
@@ -107,194 +165,24 @@ fn break_down<D: PageDisk>(running: &mut Running<D>, at: u32) -> JobTurn
     JobTurn::Stopped(at)
 }
 
-/// Overwrites the next page of the claimed clusters with zeros.
-fn zero<D: PageDisk>(
-    running: &mut Running<D>,
-    channel: u8,
-    planned: Planned,
-    zeroed: Zeroed,
-    old: PlaceList,
-) -> JobTurn
-    requires order { InOrder D.PageDisk running.old }
-    requires matched { IsMatched planned }
-    requires clusters { zeroed.clusters < length planned.effects.claimed }
-    requires pages { zeroed.pages < zeroed.cluster_pages }
-    requires roomy { HasRoom running.old.metas running.old.chains running.old.live running.old.guards planned.effects }
-    requires will_resolve { WillResolve running.old.metas running.old.marked planned }
-    requires at_work { IsAtWork D.PageDisk (view_of running.old) (zeroing_job channel planned old zeroed) }
-    ensures case { TurnsJob D.PageDisk (with_job (view_of running.old) (zeroing_job channel planned old zeroed))
-        (view_of running.new) }
-    ensures answer { result ≡ answer_of (view_of running.new) }
-    ensures order { InOrder D.PageDisk running.new }
+/// What a turn has left of the job.
+pub(crate) fn turn_of<D>(running: &Running<D>) -> JobTurn
+    ensures { result ≡ answer_of (view_of running.now) }
 {
-    let page = zeroed.next_page(&planned.effects.claimed);
-    if write_one(&mut running.disk, page, &[0; 4096]).is_err() {
-        return fail(running, channel);
+    match running.stopped {
+        Some(at) => JobTurn::Stopped(at),
+        None => {
+            if running.job.is_some() {
+                JobTurn::More
+            } else {
+                JobTurn::Done
+            }
+        }
     }
-    running.job = Some(RunningJob::behind_zeros(channel, planned, zeroed, old));
-    JobTurn::More
-}
-
-/// Writes the next fresh page.
-fn write_fresh<D: PageDisk>(
-    running: &mut Running<D>,
-    serves: Serves,
-    planned: Planned,
-    written: usize,
-    old: PlaceList,
-) -> JobTurn
-    requires order { InOrder D.PageDisk running.old }
-    requires matched { IsMatchedFor serves planned }
-    requires roomy { HasRoom running.old.metas running.old.chains running.old.live running.old.guards planned.effects }
-    requires will_resolve { WillResolve running.old.metas running.old.marked planned }
-    requires at_work { IsAtWork D.PageDisk (view_of running.old) (writing_for serves planned old written) }
-    requires left { written + 1 < length planned.pages }
-    ensures case { TurnsJob D.PageDisk (with_job (view_of running.old) (writing_for serves planned old written))
-        (view_of running.new) }
-    ensures answer { result ≡ answer_of (view_of running.new) }
-    ensures order { InOrder D.PageDisk running.new }
-{
-    let next = &planned.pages.as_slice()[written + 1];
-    let page = page_at(&running.sup, next.place);
-    if write_one(&mut running.disk, page, &next.page).is_err() {
-        return fail_job(running, serves);
-    }
-    running.job = Some(RunningJob {
-        serves,
-        work: Work::Writing {
-            planned,
-            written: written + 1,
-        },
-        old,
-    });
-    JobTurn::More
-}
-
-/// Replaces the head's page, all fresh pages being written: the command is done, or the cluster stands in its slot, or
-/// the blob has no mark any more.
-fn replace_head<D: PageDisk>(
-    running: &mut Running<D>,
-    serves: Serves,
-    planned: Planned,
-    old: PlaceList,
-) -> JobTurn
-    requires order { InOrder D.PageDisk running.old }
-    requires matched { IsMatchedFor serves planned }
-    requires roomy { HasRoom running.old.metas running.old.chains running.old.live running.old.guards planned.effects }
-    requires will_resolve { WillResolve running.old.metas running.old.marked planned }
-    requires at_work { IsAtWork D.PageDisk (view_of running.old)
-        (writing_for serves planned old (length (drop 1 planned.chain))) }
-    ensures case { TurnsJob D.PageDisk
-        (with_job (view_of running.old) (writing_for serves planned old (length (drop 1 planned.chain))))
-        (view_of running.new) }
-    ensures answer { result ≡ answer_of (view_of running.new) }
-    ensures order { InOrder D.PageDisk running.new }
-{
-    let first = &planned.pages.as_slice()[0];
-    let page = page_at(&running.sup, planned.head);
-    if replace(&mut running.disk, page, &first.page).is_err() {
-        return fail_job(running, serves);
-    }
-    let reply = planned.reply();
-    adopt(running, planned);
-    tell(running, serves, reply, stage_behind(&old));
-    if old.len() == 0 {
-        return JobTurn::Done;
-    }
-    running.job = Some(RunningJob {
-        serves,
-        work: Work::Erasing { erased: 0 },
-        old,
-    });
-    JobTurn::More
-}
-
-/// Overwrites the head's page of a blob with zeros: the blob is gone.
-fn remove_head<D: PageDisk>(
-    running: &mut Running<D>,
-    serves: Serves,
-    head: u32,
-    freed: &PlaceList,
-    old: PlaceList,
-) -> JobTurn
-    requires order { InOrder D.PageDisk running.old }
-    requires removed { IsRemovedFor serves freed.now }
-    requires will_resolve { WillResolveWithout running.old.metas running.old.marked head }
-    requires at_work { IsAtWork D.PageDisk (view_of running.old) (removing_for serves head freed.now old) }
-    ensures case { TurnsJob D.PageDisk (with_job (view_of running.old) (removing_for serves head freed.now old))
-        (view_of running.new) }
-    ensures answer { result ≡ answer_of (view_of running.new) }
-    ensures order { InOrder D.PageDisk running.new }
-{
-    let page = page_at(&running.sup, head);
-    if replace(&mut running.disk, page, &[0; 4096]).is_err() {
-        return break_off(running, serves);
-    }
-    forget(running, head, freed);
-    if old.len() == 0 {
-        return JobTurn::Done;
-    }
-    running.job = Some(RunningJob {
-        serves,
-        work: Work::Erasing { erased: 0 },
-        old,
-    });
-    JobTurn::More
-}
-
-/// Overwrites the next old page, which isn't the last.
-fn erase<D: PageDisk>(
-    running: &mut Running<D>,
-    serves: Serves,
-    erased: usize,
-    old: PlaceList,
-) -> JobTurn
-    requires order { InOrder D.PageDisk running.old }
-    requires at_work { IsAtWork D.PageDisk (view_of running.old) (erasing_for serves old erased) }
-    requires left { erased + 1 < length old }
-    ensures case { TurnsJob D.PageDisk (with_job (view_of running.old) (erasing_for serves old erased))
-        (view_of running.new) }
-    ensures answer { result ≡ answer_of (view_of running.new) }
-    ensures order { InOrder D.PageDisk running.new }
-{
-    let page = page_at(&running.sup, old.as_slice()[erased]);
-    if write_one(&mut running.disk, page, &[0; 4096]).is_err() {
-        return break_off(running, serves);
-    }
-    running.job = Some(RunningJob {
-        serves,
-        work: Work::Erasing { erased: erased + 1 },
-        old,
-    });
-    JobTurn::More
-}
-
-/// Overwrites the last old page for good: only then are the old pages clear.
-fn free<D: PageDisk>(
-    running: &mut Running<D>,
-    serves: Serves,
-    erased: usize,
-    old: PlaceList,
-) -> JobTurn
-    requires order { InOrder D.PageDisk running.old }
-    requires at_work { IsAtWork D.PageDisk (view_of running.old) (erasing_for serves old erased) }
-    requires last { erased + 1 ≡ length old }
-    ensures case { TurnsJob D.PageDisk (with_job (view_of running.old) (erasing_for serves old erased))
-        (view_of running.new) }
-    ensures answer { result ≡ answer_of (view_of running.new) }
-    ensures order { InOrder D.PageDisk running.new }
-{
-    let page = page_at(&running.sup, old.as_slice()[erased]);
-    if write_last(&mut running.disk, page, &[0; 4096]).is_err() {
-        return break_off(running, serves);
-    }
-    clear_places(&mut running.pages, &old);
-    win(running, serves);
-    JobTurn::Done
 }
 
 /// The page of the device at a place of the metadata region.
-fn page_at(sup: &Super, place: u32) -> u64
+pub(crate) fn page_at(sup: &Super, place: u32) -> u64
     ensures { result ≡ sup.now.md_start + place }
 {
     u64::from(sup.md_start) + u64::from(place)

@@ -19,6 +19,7 @@ use running_store::{
     Effects, Planned, RunningJob, Serves, Work, Zeroed, clear_places, take_places,
 };
 use std::alloc::Global;
+use std::collections::VecDeque;
 use volume_model::{PlaceList, Reply};
 
 /// Metadata with as many attributes and slots together isn't written: what counts the pages of a chain takes fewer.
@@ -40,22 +41,16 @@ pub(crate) struct Prepared {
 }
 
 impl Prepared {
-    ghost use Rattle.std.specs.Prelude.{◌≡◌, ◌<◌, ◌∷◌, ℕ, List, drop};
-    ghost use Rattle.std.specs.FinMap as map;
-    ghost use Rattle.std.specs.Ordering.{nat_cmp};
-    ghost use Rattle.io_freeze.specs.Guards.{GuardsState};
-    ghost use Rattle.volume_model.specs.Xattrs.{Xattrs};
-    ghost use Rattle.blob_meta.specs.declared.meta.Meta.{Meta as AMeta};
+    ghost use Rattle.std.specs.Prelude.{◌≡◌, ◌<◌, ◌∷◌, [], true, false, drop};
     ghost use Rattle.store_model.specs.Places.{AreDistinct};
-    ghost use Rattle.running_store.specs.Jobs.{begun_job};
-    ghost use Rattle.metadata_turns.specs.Begins.{plain_job, planned_with};
-    ghost use Rattle.running_store.specs.Jobs.{job_seen, IsHeaded};
-    ghost use Rattle.running_store.specs.Running.{HasRoom, IsRoomy, WillResolve, WillResolveBy};
+    ghost use Rattle.running_store.specs.Jobs.{begun_job, job_seen, to_come, writes_laid, writing_for, IsHeaded};
+    ghost use Rattle.metadata_turns.specs.Begins.{no_effects, planned_with};
 
-    /// The job that writes the metadata, at its begin: clusters of so many pages each that it has claimed are to be
-    /// overwritten with zeros first.
+    /// The job that writes the metadata as its commit, at its begin: clusters of so many pages each that it has claimed
+    /// are to be overwritten with zeros first.
     pub(crate) fn job(
         self,
+        alloc: Global,
         channel: u8,
         head: u32,
         new: Meta,
@@ -66,44 +61,53 @@ impl Prepared {
         requires once { AreDistinct effects.freed }
         requires some_pages { 0 < cluster_pages }
         ensures seen { job_seen result
-            ≡ begun_job channel (planned_with self head new effects) self.old cluster_pages }
+            ≡ begun_job channel (planned_with self head new true effects) self.old cluster_pages [] }
         ensures headed { IsHeaded result }
-        ensures roomy { (metas : map.FinMap nat_cmp AMeta) (chains : map.FinMap nat_cmp (List ℕ))
-            (live : map.FinMap nat_cmp Xattrs) (guards : GuardsState)
-            → HasRoom metas chains live guards effects → IsRoomy metas chains live guards result }
-        ensures resolving { (metas : map.FinMap nat_cmp AMeta) (marked : map.FinMap nat_cmp AMeta)
-            → WillResolve metas marked (planned_with self head new effects) → WillResolveBy metas marked result }
+        ensures coming { to_come result ≡ writes_laid (planned_with self head new true effects) self.old ∷ [] }
     {
         let Prepared { laid, old } = self;
         let Laid { chain, pages } = laid;
         let serves = Serves::Command(channel);
+        let later = VecDeque::new(alloc);
         let claimed = effects.claimed.len();
         let planned = Planned {
             head,
             new,
+            commits: true,
             effects,
             chain,
             pages,
         };
-        if claimed > 0 {
+        let work = if claimed > 0 {
             let zeroed = Zeroed {
                 cluster_pages,
                 clusters: 0,
                 pages: 0,
             };
-            let work = Work::Zeroing { planned, zeroed };
-            return RunningJob { serves, work, old };
-        }
-        let work = Work::Writing {
-            planned,
-            written: 0,
+            Work::Zeroing { planned, zeroed }
+        } else {
+            Work::Writing {
+                planned,
+                written: 0,
+            }
         };
-        RunningJob { serves, work, old }
+        RunningJob {
+            serves,
+            work,
+            old,
+            later,
+        }
     }
 
-    /// The job that writes the metadata of a blob that is there, at its begin, and does nothing besides.
+    /// The job that writes the metadata of a blob that is there, at its begin, and commits nothing and does nothing
+    /// besides.
     pub(crate) fn alone(self, alloc: Global, serves: Serves, head: u32, new: Meta) -> RunningJob
-        ensures { result ≡ plain_job serves self head new }
+        requires headed { self.laid.chain ≡ head ∷ drop 1 self.laid.chain }
+        ensures seen { job_seen result
+            ≡ writing_for serves (planned_with self head new false no_effects) self.old 0 [] }
+        ensures headed { IsHeaded result }
+        ensures coming { to_come result
+            ≡ writes_laid (planned_with self head new false no_effects) self.old ∷ [] }
     {
         let Prepared { laid, old } = self;
         let Laid { chain, pages } = laid;
@@ -117,6 +121,7 @@ impl Prepared {
         let planned = Planned {
             head,
             new,
+            commits: false,
             effects,
             chain,
             pages,
@@ -128,6 +133,7 @@ impl Prepared {
                 written: 0,
             },
             old,
+            later: VecDeque::new(alloc),
         }
     }
 }

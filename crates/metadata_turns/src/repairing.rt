@@ -17,6 +17,7 @@ use blob_meta::Meta;
 use out_of_memory::Memory;
 use page_disk::PageDisk;
 use running_store::{Running, RunningJob, Serves, Work};
+use std::collections::VecDeque;
 use volume_model::TryCopy;
 
 /// What the begin of a repair comes to.
@@ -195,5 +196,6 @@ fn erase<D: PageDisk>(running: &Running<D>, head: u32) -> Result<RunningJob, Rep
         serves: Serves::Repair,
         work: Work::Removing { head, freed },
         old,
+        later: VecDeque::new(running.alloc),
     })
 }

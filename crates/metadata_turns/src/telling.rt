@@ -8,7 +8,8 @@ ghost use Rattle.metadata_turns.specs.JobTurns.{answer_of, stopped_at};
 ghost use Rattle.running_store.specs.Running.{view_of, InOrder};
 ghost use Rattle.running_store.specs.Stages.{stage_seen};
 ghost use Rattle.running_store.specs.StoreView.{rows_of};
-ghost use Rattle.metadata_turns.specs.Telling.{let_go_at, HasFailed, HasInsertRow, HasRow, IsBrokenOff, IsTold, IsWon};
+ghost use Rattle.metadata_turns.specs.Telling.{let_go_at, HasFailed, HasInsertRow, HasRow, HasWaitingRow, IsTold};
+ghost use Rattle.metadata_turns.specs.Telling.{IsWon};
 ghost use Rattle.running_store.specs.GivingBack.{IsGivenUp};
 
 use crate::job_turn::JobTurn;
@@ -16,17 +17,26 @@ use page_disk::PageDisk;
 use running_store::{Decision, Running, Serves, Stage, give_up, log};
 use volume_model::{PlaceList, Reply};
 
-/// The replacement is made: a command is logged with its reply; the row of an insert, which has its cluster, goes on at
-/// this stage. No row waits for a repair.
-pub(crate) fn tell<D: PageDisk>(running: &mut Running<D>, serves: Serves, reply: Reply, next: Stage)
+/// The replacement is made: a command is logged with its reply, where it has one now; the row of an insert, which has
+/// its cluster, goes on at this stage. No row waits for a repair.
+pub(crate) fn tell<D: PageDisk>(
+    running: &mut Running<D>,
+    serves: Serves,
+    reply: Option<Reply>,
+    next: Stage,
+)
     requires order { InOrder D.PageDisk running.old }
-    requires row { HasRow running.old.rows.items serves }
+    requires row { HasRow running.old.rows.items serves reply }
     ensures told { IsTold serves reply (stage_seen next) (view_of running.old) (view_of running.new)
         (D.clock running.new.disk) }
     ensures order { InOrder D.PageDisk running.new }
 {
     match serves {
-        Serves::Command(channel) => log(running, channel, reply),
+        Serves::Command(channel) => {
+            if let Some(reply) = reply {
+                log(running, channel, reply);
+            }
+        }
         Serves::Insert(channel) => let_go(running, channel, next),
         Serves::Repair => {}
     }
@@ -83,36 +93,19 @@ pub(crate) fn fail<D: PageDisk>(running: &mut Running<D>, channel: u8) -> JobTur
     turn
 }
 
-/// The store stops before a job's replacement is made: what waits for the job is logged as failed. Nothing waits for a
-/// repair.
-pub(crate) fn fail_job<D: PageDisk>(running: &mut Running<D>, serves: Serves) -> JobTurn
+/// The store stops, and what waits for the job, in this channel, is logged as failed; nothing waits for a repair, nor
+/// for a job behind its commit.
+pub(crate) fn fail_job<D: PageDisk>(running: &mut Running<D>, waiting: Option<u8>) -> JobTurn
     requires order { InOrder D.PageDisk running.old }
     requires taken { running.old.job ≡ None }
-    requires row { HasRow running.old.rows.items serves }
-    ensures failed { HasFailed serves (view_of running.old) (view_of running.new) (D.clock running.old.disk) }
+    requires row { HasWaitingRow running.old.rows.items waiting }
+    ensures failed { HasFailed waiting (view_of running.old) (view_of running.new) (D.clock running.old.disk) }
     ensures answer { result ≡ answer_of (view_of running.new) }
     ensures order { InOrder D.PageDisk running.new }
 {
-    match serves {
-        Serves::Command(channel) => fail(running, channel),
-        Serves::Insert(channel) => fail(running, channel),
-        Serves::Repair => stop(running),
-    }
-}
-
-/// The store stops behind a replacement, or in a repair: a command has its entry, and the write for which a job inserts
-/// is logged as failed.
-pub(crate) fn break_off<D: PageDisk>(running: &mut Running<D>, serves: Serves) -> JobTurn
-    requires order { InOrder D.PageDisk running.old }
-    requires taken { running.old.job ≡ None }
-    requires row { HasInsertRow running.old.rows.items serves }
-    ensures broken_off { IsBrokenOff serves (view_of running.old) (view_of running.new) (D.clock running.old.disk) }
-    ensures answer { result ≡ answer_of (view_of running.new) }
-    ensures order { InOrder D.PageDisk running.new }
-{
-    match serves {
-        Serves::Command(_) | Serves::Repair => stop(running),
-        Serves::Insert(channel) => fail(running, channel),
+    match waiting {
+        Some(channel) => fail(running, channel),
+        None => stop(running),
     }
 }
 

@@ -12,4 +12,6 @@ pub mod PagesTaken
 pub mod Requested
 pub mod Showing
 pub mod ZeroPages
+pub mod CommitLeft
+pub mod JobLeft
 pub mod PlainFacts

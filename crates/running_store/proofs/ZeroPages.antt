@@ -5,7 +5,7 @@ use Rattle.std.specs.List.{range_with_len}
 use Rattle.store_model.specs.Phases.{Phase, Zeros}
 use Rattle.running_store.specs.Jobs.{begun_job, behind_zero, writing_job, zeroing_job}
 use Rattle.running_store.specs.Zeroing.{next_zeroed, pages_from, pages_of, IsLeft}
-use Rattle.running_store.specs.declared.job.Planned.{Planned}
+use Rattle.running_store.specs.declared.replacements.Planned.{Planned}
 use Rattle.running_store.specs.declared.job.Zeroed.{Zeroed}
 use Rattle.store_model.specs.StoreState.{JobState}
 
@@ -71,7 +71,8 @@ zeros_behind : (l : List ℕ) (n : ℕ) (more : List Phase) → l ≡ n ∷ drop
 zeros_behind [] n more is = absurd (cc is)
 zeros_behind (x ∷ xs) n more is = refl
 
-module _ (channel : ℕ) (planned : Planned) (old : List ℕ) (z : Zeroed) (left : IsLeft planned.effects.claimed z) where
+module _ (channel : ℕ) (planned : Planned) (old : List ℕ) (z : Zeroed) (others : List Phase)
+    (left : IsLeft planned.effects.claimed z) where
   abbrev claimed : List ℕ
   claimed = planned.effects.claimed
 
@@ -79,13 +80,13 @@ module _ (channel : ℕ) (planned : Planned) (old : List ℕ) (z : Zeroed) (left
   k = z.cluster_pages
 
   abbrev j : JobState
-  j = zeroing_job channel planned old z
+  j = zeroing_job channel planned old z others
 
   abbrev ahead : List ℕ
   ahead = pages_from k (drop z.clusters claimed) z.pages
 
   abbrev more : List Phase
-  more = (writing_job channel planned old 0).todo
+  more = (writing_job channel planned old 0 others).todo
 
   next : ahead ≡ next_zeroed claimed z ∷ drop 1 ahead
   next = first_page k claimed z.clusters z.pages left.clusters left.pages
@@ -101,32 +102,33 @@ module _ (channel : ℕ) (planned : Planned) (old : List ℕ) (z : Zeroed) (left
 
   -- then another of its cluster,
   pub page_more : z.pages + 1 < z.cluster_pages
-      → zeroing_job channel planned old (record z { pages = z.pages + 1 }) ≡ behind_zero j
+      → zeroing_job channel planned old (record z { pages = z.pages + 1 }) others ≡ behind_zero j
   page_more some =
       behind (pages_from k (drop z.clusters claimed) (z.pages + 1))
       (next_in_cluster k claimed z.clusters z.pages left.clusters some)
 
   -- or one of the next cluster,
   pub cluster_more : z.cluster_pages ≤ z.pages + 1
-      → zeroing_job channel planned old (record z { clusters = z.clusters + 1; pages = 0 })
+      → zeroing_job channel planned old (record z { clusters = z.clusters + 1; pages = 0 }) others
       ≡ behind_zero j
   cluster_more last =
-      ap (λ n. zeroing_job channel planned old (record z { clusters = n; pages = 0 })) (add-one z.clusters)
+      ap (λ n. zeroing_job channel planned old (record z { clusters = n; pages = 0 }) others) (add-one z.clusters)
       ∙ behind (pages_from k (drop (suc z.clusters) claimed) 0)
       (next_cluster k claimed z.clusters z.pages left.clusters left.pages last)
 
   -- or the metadata is written.
   pub none_more : z.cluster_pages ≤ z.pages + 1 → length claimed ≤ z.clusters + 1
-      → writing_job channel planned old 0 ≡ behind_zero j
+      → writing_job channel planned old 0 others ≡ behind_zero j
   none_more last all =
       behind []
       (sym (ap (λ l. pages_from k l 0) (drop_past claimed (suc z.clusters) (omega (arith, all))))
       ∙ next_cluster k claimed z.clusters z.pages left.clusters left.pages last)
 
 -- where no cluster is claimed a job writes its metadata at once
-pub none_zeroed : (channel : ℕ) (planned : Planned) (old : List ℕ) (cluster_pages : ℕ)
+pub none_zeroed : (channel : ℕ) (planned : Planned) (old : List ℕ) (cluster_pages : ℕ) (others : List Phase)
     → length planned.effects.claimed ≤ 0
-    → writing_job channel planned old 0 ≡ begun_job channel planned old cluster_pages
-none_zeroed channel planned old cluster_pages none = sym (ap (λ l. record (writing_job channel planned old 0) {
-  todo = map Zeros (pages_from cluster_pages l 0) ++ (writing_job channel planned old 0).todo;
-}) (drop_past planned.effects.claimed 0 none))
+    → writing_job channel planned old 0 others ≡ begun_job channel planned old cluster_pages others
+none_zeroed channel planned old cluster_pages others none = sym (ap (λ l. record (writing_job channel planned old 0
+    others) {
+      todo = map Zeros (pages_from cluster_pages l 0) ++ (writing_job channel planned old 0 others).todo;
+    }) (drop_past planned.effects.claimed 0 none))

@@ -4,6 +4,7 @@ pub mod Stages
 pub mod Effects
 pub mod Zeroing
 pub mod Jobs
+pub mod JobCodes
 pub mod Reserved
 pub mod StoreView
 pub mod Running

@@ -21,7 +21,7 @@ use Rattle.store_model.specs.Maps.{Metas}
 use Rattle.store_model.specs.Rows.{Row, Rows, Ended}
 use Rattle.store_model.specs.StoreState.{JobState, StoreState}
 use Rattle.running_store.specs.Stages.{row_code}
-use Rattle.running_store.specs.Jobs.{job_code}
+use Rattle.running_store.specs.JobCodes.{job_code}
 
 pub record StoreView (D : Type 0) : Type 0 where
   pub disk : D

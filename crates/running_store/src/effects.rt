@@ -8,7 +8,7 @@ ghost use Rattle.volume_model.specs.Xattrs.{name_key, with_nul as with_nul_said,
 ghost use Rattle.running_store.specs.Effects.{cut_clusters, is_cut, live_behind, AreEffects};
 ghost use Rattle.running_store.specs.Running.{HasRoom, HasRooms};
 
-use crate::job::Rooms;
+use crate::replacements::Rooms;
 use crate::running::Running;
 use blob_meta::Meta;
 use out_of_memory::Memory;

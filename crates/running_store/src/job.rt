@@ -1,71 +1,13 @@
-//! The running job.
+//! The running job: its replacements, one after another.
 
 ghost use Rattle.std.specs.Prelude.{◌≡◌};
 ghost use Rattle.std.specs.Option.{option_and_then, option_map};
-ghost use Rattle.running_store.specs.Jobs.{job_seen, waits_for_job};
+ghost use Rattle.std.specs.List.{list_any};
+ghost use Rattle.running_store.specs.Jobs.{job_seen, is_commit, waits_for_job};
 
-use crate::effects::Effects;
-use blob_meta::{Chains, HeadMap, Meta, Metas, Room};
-use md_chain::Plan;
-use out_of_memory::Memory;
-use std::alloc::Global;
-use volume_model::{PlaceList, Reply, XattrList};
-
-/// Room for one blob more in each map of blobs.
-#[derive(Drop)]
-pub struct Rooms {
-    pub metas: Room<Meta>,
-    pub chains: Room<PlaceList>,
-    pub live: Room<XattrList>,
-}
-
-impl Rooms {
-    ghost use Rattle.std.specs.Prelude.{IfOk};
-    ghost use Rattle.running_store.specs.Jobs.{AreRoomsOf};
-
-    /// All memory that a new blob takes in the maps.
-    pub(crate) fn new(
-        alloc: Global,
-        metas: &Metas,
-        chains: &Chains,
-        live: &HeadMap<XattrList>,
-    ) -> Result<Rooms, Memory>
-        ensures { IfOk result (AreRoomsOf metas.now chains.now live.now) }
-    {
-        Ok(Rooms {
-            metas: metas.room(alloc)?,
-            chains: chains.room(alloc)?,
-            live: live.room(alloc)?,
-        })
-    }
-}
-
-/// What a job writes: new metadata of the blob at a head, as a chain of pages.
-#[derive(Drop)]
-pub struct Planned {
-    pub head: u32,
-    pub new: Meta,
-    /// What the commit does besides.
-    pub effects: Effects,
-    /// The places of the chain, the head first, and their pages.
-    pub chain: PlaceList,
-    pub pages: Plan,
-}
-
-impl Planned {
-    ghost use Rattle.std.specs.Prelude.{◌≡◌};
-    ghost use Rattle.running_store.specs.Jobs.{reply_of};
-
-    /// What the command is answered with once this is written.
-    pub fn reply(&self) -> Reply
-        ensures { result ≡ reply_of self.now }
-    {
-        match &self.effects.rooms {
-            Some(_) => Reply::Made(self.head),
-            None => Reply::Ok,
-        }
-    }
-}
+use crate::replacements::{Change, LaidReplacement, Planned};
+use std::collections::VecDeque;
+use volume_model::PlaceList;
 
 /// How far a job has overwritten the clusters that it has claimed: so many of them, and of the next one so many pages.
 #[derive(Clone, Copy)]
@@ -90,7 +32,7 @@ impl Zeroed {
     }
 }
 
-/// How far a job has come.
+/// How far a job's next replacement is, or what is left of the last one.
 #[derive(Drop)]
 pub enum Work {
     /// So much of the claimed clusters is overwritten with zeros; no page of the metadata is written.
@@ -101,6 +43,23 @@ pub enum Work {
     Removing { head: u32, freed: PlaceList },
     /// So many of the old pages are overwritten.
     Erasing { erased: usize },
+}
+
+impl Work {
+    ghost use Rattle.std.specs.Prelude.{◌≡◌};
+    ghost use Rattle.running_store.specs.Jobs.{commits_now};
+
+    /// Whether the replacement at work is the commit, and still to be made.
+    fn commits(&self) -> bool
+        ensures { result ≡ commits_now self.now }
+    {
+        match self {
+            Work::Zeroing { planned, .. } => planned.commits,
+            Work::Writing { planned, .. } => planned.commits,
+            Work::Removing { .. } => false,
+            Work::Erasing { .. } => false,
+        }
+    }
 }
 
 /// For whom a job is done.
@@ -114,36 +73,89 @@ pub enum Serves {
     Repair,
 }
 
-/// The running job: for whom it is done, and the places that stood behind the head before it.
+/// The running job: for whom it is done, the replacement that it works on, with the places that stood behind its head
+/// before it, and those that come behind that, in their order.
 #[derive(Drop)]
 pub struct RunningJob {
     pub serves: Serves,
     pub work: Work,
     pub old: PlaceList,
+    pub later: VecDeque<LaidReplacement>,
 }
 
 impl RunningJob {
-    ghost use Rattle.std.specs.Prelude.{◌≡◌, ◌<◌, ℕ, length, List};
-    ghost use Rattle.std.specs.FinMap as map;
-    ghost use Rattle.std.specs.Ordering.{nat_cmp};
-    ghost use Rattle.io_freeze.specs.Guards.{GuardsState};
-    ghost use Rattle.volume_model.specs.Xattrs.{Xattrs};
-    ghost use Rattle.blob_meta.specs.declared.meta.Meta.{Meta as AMeta};
-    ghost use Rattle.running_store.specs.Jobs.{behind_zero, job_seen, zeroing_job, IsHeaded, IsMatched};
-    ghost use Rattle.running_store.specs.Running.{HasRoom, IsRoomy, WillResolve, WillResolveBy};
+    ghost use Rattle.std.specs.Prelude.{◌≡◌, ◌<◌, ◌∷◌, [], length, IfSome};
+    ghost use Rattle.std.specs.Option.{option_map, option_map_or};
+    ghost use Rattle.store_model.specs.Phases.{erasing, has_commit};
+    ghost use Rattle.running_store.specs.Jobs.{behind_zero, job_left, job_seen, phases_in, to_come, writes_laid};
+    ghost use Rattle.running_store.specs.Jobs.{zeroing_job, IsHeaded, IsMatched, MayFollow};
+    ghost use Rattle.running_store.specs.declared.job.Serves.TheVariants.{Command};
+    ghost use Rattle.std.specs.Prelude.{true};
+
+    /// The job that makes these replacements, if there is one.
+    pub fn next(serves: Serves, mut later: VecDeque<LaidReplacement>) -> Option<RunningJob>
+        requires { MayFollow serves later.items }
+        ensures seen { option_map job_seen result ≡ job_left serves (phases_in later.items) }
+        ensures headed { IfSome result IsHeaded }
+        ensures coming { option_map_or to_come result [] ≡ later.items }
+    {
+        let LaidReplacement { change, old } = later.pop_front()?;
+        let work = match change {
+            Change::Writes(planned) => Work::Writing {
+                planned,
+                written: 0,
+            },
+            Change::Erases { head, freed } => Work::Removing { head, freed },
+        };
+        Some(RunningJob {
+            serves,
+            work,
+            old,
+            later,
+        })
+    }
+
+    /// The job behind a replacement, if something is left of it: the places that stood behind the head are overwritten,
+    /// and then come these replacements.
+    pub fn behind(
+        serves: Serves,
+        old: PlaceList,
+        later: VecDeque<LaidReplacement>,
+    ) -> Option<RunningJob>
+        requires { MayFollow serves later.items }
+        ensures seen { option_map job_seen result
+            ≡ job_left serves (erasing old old (phases_in later.items)) }
+        ensures headed { IfSome result IsHeaded }
+        ensures coming { option_map_or to_come result [] ≡ later.items }
+    {
+        if old.len() == 0 {
+            return RunningJob::next(serves, later);
+        }
+        Some(RunningJob {
+            serves,
+            work: Work::Erasing { erased: 0 },
+            old,
+            later,
+        })
+    }
 
     /// The job behind a page of zeros: the next page of its clusters, or else its metadata, is to be written.
-    pub fn behind_zeros(channel: u8, planned: Planned, zeroed: Zeroed, old: PlaceList) -> RunningJob
+    pub fn behind_zeros(
+        channel: u8,
+        planned: Planned,
+        zeroed: Zeroed,
+        old: PlaceList,
+        later: VecDeque<LaidReplacement>,
+    ) -> RunningJob
         requires matched { IsMatched planned }
+        requires commits { planned.commits ≡ true }
+        requires follows { MayFollow (Command channel) later.items }
         requires clusters { zeroed.clusters < length planned.effects.claimed }
         requires pages { zeroed.pages < zeroed.cluster_pages }
-        ensures seen { job_seen result ≡ behind_zero (zeroing_job channel planned old zeroed) }
+        ensures seen { job_seen result
+            ≡ behind_zero (zeroing_job channel planned old zeroed (phases_in later.items)) }
         ensures headed { IsHeaded result }
-        ensures roomy { (metas : map.FinMap nat_cmp AMeta) (chains : map.FinMap nat_cmp (List ℕ))
-            (live : map.FinMap nat_cmp Xattrs) (guards : GuardsState)
-            → HasRoom metas chains live guards planned.effects → IsRoomy metas chains live guards result }
-        ensures resolving { (metas : map.FinMap nat_cmp AMeta) (marked : map.FinMap nat_cmp AMeta)
-            → WillResolve metas marked planned → WillResolveBy metas marked result }
+        ensures coming { to_come result ≡ writes_laid planned old ∷ later.items }
     {
         let serves = Serves::Command(channel);
         let Zeroed {
@@ -162,7 +174,12 @@ impl RunningJob {
                 planned,
                 zeroed: next,
             };
-            return RunningJob { serves, work, old };
+            return RunningJob {
+                serves,
+                work,
+                old,
+                later,
+            };
         }
         let next_cluster = clusters + 1;
         let count = planned.effects.claimed.len();
@@ -176,14 +193,38 @@ impl RunningJob {
                 planned,
                 zeroed: next,
             };
-            return RunningJob { serves, work, old };
+            return RunningJob {
+                serves,
+                work,
+                old,
+                later,
+            };
         }
         let work = Work::Writing {
             planned,
             written: 0,
         };
-        RunningJob { serves, work, old }
+        RunningJob {
+            serves,
+            work,
+            old,
+            later,
+        }
     }
+
+    /// Whether its command is still to be done.
+    fn commits(&self) -> bool
+        ensures { result ≡ has_commit (job_seen self.now).todo }
+    {
+        self.work.commits() || any_commits(&self.later)
+    }
+}
+
+/// Whether one of these replacements is the commit.
+fn any_commits(later: &VecDeque<LaidReplacement>) -> bool
+    ensures { result ≡ list_any is_commit later.now.items }
+{
+    later.iter().any(|x| x.commits())
 }
 
 /// The channel that waits for a job: that of an insert to its end, that of a command to its commit.
@@ -195,12 +236,13 @@ pub fn waiting_for(job: &Option<RunningJob>) -> Option<u8>
     };
     match running.serves {
         Serves::Insert(channel) => Some(channel),
-        Serves::Command(channel) => match &running.work {
-            Work::Zeroing { .. } => Some(channel),
-            Work::Writing { .. } => Some(channel),
-            Work::Removing { .. } => None,
-            Work::Erasing { .. } => None,
-        },
+        Serves::Command(channel) => {
+            if running.commits() {
+                Some(channel)
+            } else {
+                None
+            }
+        }
         Serves::Repair => None,
     }
 }

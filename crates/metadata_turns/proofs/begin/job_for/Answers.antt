@@ -17,7 +17,7 @@ use Rattle.std.specs.FinMap as map
 use Rattle.volume_model.specs.declared.command.Command.{Command}
 use Rattle.running_store.specs.Effects.{cut_clusters, live_behind, AreEffects}
 use Rattle.running_store.specs.Jobs.{job_seen}
-use Rattle.running_store.specs.Running.{view_of}
+use Rattle.running_store.specs.Running.{view_of, HaveRoom, WillResolveAll}
 use Rattle.running_store.specs.StoreView.{rows_of, state_of}
 use Rattle.running_store.specs.Steps.{Asks}
 use Rattle.running_store.specs.declared.job.RunningJob.{RunningJob}
@@ -171,8 +171,9 @@ returns-in-Ok-clause-begins g c =
 pub returns-in-Ok-clause-roomy : goal.returns-in-Ok-clause-roomy
 returns-in-Ok-clause-roomy g c =
     let room = c.in_ok-effects.ensures.room in
-    c.job.ensures.roomy c.args.running.now.metas c.args.running.now.chains c.args.running.now.live
-    c.args.running.now.guards (record { blob = room.blob; number = room.number })
+    let now = c.args.running.now in
+    subst (HaveRoom now.metas now.chains now.live now.guards) (sym c.job.ensures.coming)
+    (record { blob = room.blob; number = room.number }, tt)
 
 pub returns-in-Ok-clause-will_resolve : goal.returns-in-Ok-clause-will_resolve
 returns-in-Ok-clause-will_resolve g c =
@@ -183,13 +184,13 @@ returns-in-Ok-clause-will_resolve g c =
     let all : length c.args.zeros.now ≤ length c.in_ok-effects-2.field-0 = omega (arith, claimed, wanted, as_many) in
     let prepared = subst (λ (b : Bool). IsPrepared running.chains c.args.head c.fill_slots.new.new b
     running.pages.bits c.prepare.new.pages.bits c.in-Ok.prepared) c.is_some-makes.ensures c.in-Ok.ensures.prepared in
-    c.job.ensures.resolving running.metas running.marked
+    subst (WillResolveAll running.metas running.marked) (sym c.job.ensures.coming)
     (job_resolves g.D.PageDisk (view_of running) c.args.channel c.requires.posted c.requires.running
     c.requires.unmarked c.requires.runs c.args.head c.args.new c.args.zeros.now c.requires.asks
     c.in_ok-effects-2.field-0 c.in_ok-effects-2.ensures.claimed
     c.fill_slots.new.new c.in_ok-effects-2.ensures.filled
     (ap (λ o. option_map job_seen o) c.requires.no_job) all c.in_ok-effects.effects c.in_ok-effects.ensures.there
-    c.in_ok-effects.ensures.new c.prepare.new.pages.bits c.in-Ok.prepared prepared c.requires.order.resolves)
+    c.in_ok-effects.ensures.new c.prepare.new.pages.bits c.in-Ok.prepared prepared c.requires.order.resolves, tt)
 
 pub returns-in-Err-clause-lack : goal.returns-in-Err-clause-lack
 returns-in-Err-clause-lack g c =

@@ -1,4 +1,4 @@
-use Rattle.std.proofs.Common.{◌≡◌, ◌<◌, Bool, false, List, ◌∷◌, length, Option, Some, None}
+use Rattle.std.proofs.Common.{◌≡◌, ◌<◌, Bool, false, List, [], ◌∷◌, length, Option, Some, None}
 use Rattle.std.proofs.Common.{refl, sym, ap, subst, ◌∙◌, arith, drop, rules}
 use Rattle.std.specs.Prelude.{◌+◌, ◌^◌, ◌≤◌, is_some, slice_set, vec_capacity, IsSome}
 use Rattle.std.specs.FinMap as map
@@ -10,14 +10,14 @@ use Rattle.store_model.specs.Inserting.{with_slot}
 use Rattle.store_model.specs.Maps.{Metas}
 use Rattle.store_model.specs.RunInvariant.{CanBeWritten}
 use Rattle.store_model.specs.Rows.{InJob, Row}
-use Rattle.metadata_turns.specs.Begins.{IsPrepared, IsUnprepared}
-use Rattle.metadata_turns.specs.Inserts.{insert_job}
-use Rattle.running_store.specs.Jobs.{job_seen, IsHeaded}
-use Rattle.running_store.specs.Running.{left_in, view_of, IsRoomy, WillResolveBy}
+use Rattle.metadata_turns.specs.Begins.{no_effects, planned_with, IsPrepared, IsUnprepared}
+use Rattle.running_store.specs.Jobs.{job_seen, writing_for}
+use Rattle.running_store.specs.Running.{left_in, view_of, HaveRoom, WillResolveAll}
+use Rattle.store_model.specs.StoreState.{JobState}
+use Rattle.running_store.specs.declared.job.Serves.TheVariants as whom
 use Rattle.running_store.specs.Stages.{claim_seen}
 use Rattle.running_store.specs.StoreView.{state_of}
 use Rattle.running_store.specs.GivingBack.{IsGivenUp}
-use Rattle.running_store.specs.declared.job.RunningJob.{RunningJob}
 use Rattle.running_store.proofs.Counting.{left_same}
 use Rattle.running_store.proofs.Resolved.{unmarked_base, will_resolve}
 use Rattle.metadata_turns.proofs.InsertBegun.{begun, posted_with, row_is, some_left, unprepared}
@@ -54,7 +54,6 @@ returns-in-Ok-clause-case g c =
     let posted = posted_with p c.args.channel c.requires.posted claim c.requires.claimed in
     let no_job = ap (λ o. option_map job_seen o) c.requires.no_job in
     let x = c.in-Ok.prepared in
-    let filled = with_slot c.requires.fills.0 claim.slot claim.cluster in
     let is : IsPrepared c.args.running.now.chains claim.head c.args.new false
     c.args.running.now.pages.bits c.prepare.new.pages.bits x =
     c.in-Ok.ensures.prepared in
@@ -64,48 +63,43 @@ returns-in-Ok-clause-case g c =
     (subst (λ (m : Meta). IsPrepared c.args.running.now.chains claim.head m false
     c.args.running.now.pages.bits c.prepare.new.pages.bits x) c.requires.fills.2 is)
     c.serve.new.self (c.serve.ensures ∙ ap (λ (r : Row). record r { stage = InJob }) row) in (
-      subst (λ (j : RunningJob). BeginsInsert s (state_of d (record p {
+      subst (λ (j : JobState). BeginsInsert s (state_of d (record p {
         rows = slice_set p.rows c.args.channel c.serve.new.self;
         pages = c.prepare.new.pages.bits;
-        job = Some (job_seen j);
-      }))) {x = insert_job x c.args.channel claim.head filled}
-          (ap (insert_job x c.args.channel claim.head) (sym c.requires.fills.2) ∙ sym c.job_of.ensures) begins,
+        job = Some j;
+      }))) (ap (λ (m : Meta). writing_for (whom.Insert c.args.channel)
+          (planned_with x claim.head m false no_effects) x.old 0 []) (sym c.requires.fills.2)
+          ∙ sym c.alone-job.ensures.seen) begins,
       refl,
     )
+
+pub alone-job-requires : goal.alone-job-requires
+alone-job-requires g c =
+    let chain = c.in-Ok.ensures.prepared.taken.laid_on.chain in
+    record { headed = chain ∙ ap (λ l. (claim_seen c.args.claim).head ∷ l) (sym (ap (drop 1) chain)) }
 
 pub returns-in-Ok-clause-order : goal.returns-in-Ok-clause-order
 returns-in-Ok-clause-order g c =
     let p = view_of c.args.running.now in
     let claim = claim_seen c.args.claim in
-    let x = c.in-Ok.prepared in
-    let is : IsPrepared c.args.running.now.chains claim.head c.args.new false
-    c.args.running.now.pages.bits c.prepare.new.pages.bits x =
-    c.in-Ok.ensures.prepared in
-    let made : RunningJob = insert_job x c.args.channel claim.head c.args.new in
-    let headed : IsHeaded c.job_of.result = subst IsHeaded {x = made} (sym c.job_of.ensures) (
-      record {
-        headed = is.taken.laid_on.chain ∙ ap (λ l. claim.head ∷ l) (sym (ap (drop 1) is.taken.laid_on.chain));
-        once = tt;
-      },
-      record { live = refl; renews = refl; freed = refl; claimed = refl; rooms = refl },
-    ) in
-    let roomy : IsRoomy c.args.running.now.metas c.args.running.now.chains c.args.running.now.live
-    c.args.running.now.guards c.job_of.result = subst (IsRoomy c.args.running.now.metas c.args.running.now.chains
-    c.args.running.now.live c.args.running.now.guards) {x = made} (sym c.job_of.ensures)
-    (record { blob = tt; number = λ bad. absurd (cc bad) }) in
+    let roomy = subst (HaveRoom c.args.running.now.metas c.args.running.now.chains c.args.running.now.live
+    c.args.running.now.guards) (sym c.alone-job.ensures.coming)
+    (record { blob = tt; number = λ bad. absurd (cc bad) }, tt) in
     let metas = c.args.running.now.metas in
     let marked = c.args.running.now.marked in
     let known = steady (state_of g.D.PageDisk p) c.requires.running c.requires.runs c.args.channel claim
     c.requires.claimed c.requires.fills.0 c.requires.fills.1 c.requires.unmarked in
-    let resolving : WillResolveBy metas marked c.job_of.result =
-    subst (WillResolveBy metas marked) {x = made} (sym c.job_of.ensures) (record {
-      there = λ _. subst (λ (m : Metas). IsSome (m claim.head))
-          (unmarked_base metas marked c.requires.order.resolves c.requires.unmarked)
-          (subst (λ (o : Option Meta). IsSome o) (sym c.requires.fills.1.there) refl);
-      resolves = will_resolve metas marked claim.head c.args.new c.requires.order.resolves
-          c.requires.unmarked
-          (subst (λ (m : Meta). mark_of m ≡ None) (sym c.requires.fills.2) known.unmarked);
-    }) in
+    let resolving = subst (WillResolveAll metas marked) (sym c.alone-job.ensures.coming) (
+      record {
+        there = λ _. subst (λ (m : Metas). IsSome (m claim.head))
+            (unmarked_base metas marked c.requires.order.resolves c.requires.unmarked)
+            (subst (λ (o : Option Meta). IsSome o) (sym c.requires.fills.1.there) refl);
+        resolves = will_resolve metas marked claim.head c.args.new c.requires.order.resolves
+            c.requires.unmarked
+            (subst (λ (m : Meta). mark_of m ≡ None) (sym c.requires.fills.2) known.unmarked);
+      },
+      tt,
+    ) in
     let low : c.args.channel < length p.rows = omega (arith, c.requires.channel, c.requires.order.sixteen) in
     let same : left_in (slice_set p.rows c.args.channel c.serve.new.self) ≡ left_in p.rows =
     left_same p.rows c.args.channel c.serve.new.self c.index_mut.result.now low
@@ -124,7 +118,7 @@ returns-in-Ok-clause-order g c =
       counted = c.requires.order.counted;
       no_page = c.prepare.ensures.unclaimed;
       no_cluster = c.requires.order.no_cluster;
-      headed = headed;
+      headed = c.alone-job.ensures.headed;
       heads = c.requires.order.heads;
       resolves = c.requires.order.resolves;
       will_resolve = resolving;

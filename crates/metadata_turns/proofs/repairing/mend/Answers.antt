@@ -1,14 +1,11 @@
-use Rattle.std.proofs.Common.{refl, sym, ap, ◌∙◌, subst, arith, drop, ◌∷◌}
+use Rattle.std.proofs.Common.{refl, sym, ap, ◌∙◌, subst, arith, drop, ◌∷◌, Some}
 use Rattle.std.specs.Option.{option_map}
 use Rattle.md_chain.proofs.Fitting.{some_parts}
 use Rattle.store_model.specs.Cases.BeginRepair.{BeginsRepair}
-use Rattle.running_store.specs.Jobs.{job_seen, IsHeaded}
-use Rattle.running_store.specs.Running.{view_of, IsRoomy, WillResolveBy}
+use Rattle.running_store.specs.Jobs.{job_seen}
+use Rattle.running_store.specs.Running.{view_of, HaveRoom, WillResolveAll}
+use Rattle.store_model.specs.StoreState.{JobState}
 use Rattle.running_store.specs.StoreView.{state_of}
-use Rattle.running_store.specs.declared.job.RunningJob.{RunningJob}
-use Rattle.running_store.specs.declared.job.Serves.TheVariants as whom
-use Rattle.metadata_turns.specs.Begins.{plain_job}
-use Rattle.metadata_turns.specs.Repairs.{with_repair}
 use Rattle.metadata_turns.proofs.JobPlanned.{all_fit}
 use Rattle.metadata_turns.proofs.RepairBegins.{given, has_chain, mends, mends_to, stored_new}
 use Rattle.metadata_turns.proofs.repairing.mend.Goals as goal
@@ -65,35 +62,27 @@ pub returns-in-Ok-clause-begins : goal.returns-in-Ok-clause-begins
 returns-in-Ok-clause-begins g c =
     let d = g.D.PageDisk in
     let p = view_of c.args.running.now in
-    let x = c.in-Ok.prepared in
-    subst (λ (j : RunningJob). BeginsRepair (state_of d p)
-    (state_of d (with_repair (record p { pages = c.prepare.new.pages.bits }) j)))
-    {x = plain_job whom.Repair x c.args.head c.args.new} (sym c.alone.ensures)
+    subst (λ (j : JobState). BeginsRepair (state_of d p)
+    (state_of d (record p { pages = c.prepare.new.pages.bits; job = Some j }))) (sym c.alone.ensures.seen)
     (mends d p c.requires.running c.requires.runs (ap (λ o. option_map job_seen o) c.requires.no_job) c.args.head
-    c.requires.due c.requires.order.resolves c.args.new c.requires.kept c.prepare.new.pages.bits x
+    c.requires.due c.requires.order.resolves c.args.new c.requires.kept c.prepare.new.pages.bits c.in-Ok.prepared
     c.in-Ok.ensures.prepared)
 
-pub returns-in-Ok-clause-headed : goal.returns-in-Ok-clause-headed
-returns-in-Ok-clause-headed g c =
-    let x = c.in-Ok.prepared in
+pub alone-requires : goal.alone-requires
+alone-requires g c =
     let chain = c.in-Ok.ensures.prepared.taken.laid_on.chain in
-    subst IsHeaded {x = plain_job whom.Repair x c.args.head c.args.new} (sym c.alone.ensures) (
-      record { headed = chain ∙ ap (λ l. c.args.head ∷ l) (sym (ap (drop 1) chain)); once = tt },
-      record { live = refl; renews = refl; freed = refl; claimed = refl; rooms = refl },
-    )
+    record { headed = chain ∙ ap (λ l. c.args.head ∷ l) (sym (ap (drop 1) chain)) }
 
 pub returns-in-Ok-clause-roomy : goal.returns-in-Ok-clause-roomy
 returns-in-Ok-clause-roomy g c =
     let r = c.args.running.now in
-    subst (IsRoomy r.metas r.chains r.live r.guards)
-    {x = plain_job whom.Repair c.in-Ok.prepared c.args.head c.args.new} (sym c.alone.ensures)
-    (record { blob = tt; number = λ bad. absurd (cc bad) })
+    subst (HaveRoom r.metas r.chains r.live r.guards) (sym c.alone.ensures.coming)
+    (record { blob = tt; number = λ bad. absurd (cc bad) }, tt)
 
 pub returns-in-Ok-clause-will_resolve : goal.returns-in-Ok-clause-will_resolve
 returns-in-Ok-clause-will_resolve g c =
     let p = view_of c.args.running.now in
-    let x = c.in-Ok.prepared in
-    subst (WillResolveBy p.metas p.marked) {x = plain_job whom.Repair x c.args.head c.args.new} (sym c.alone.ensures)
+    subst (WillResolveAll p.metas p.marked) (sym c.alone.ensures.coming)
     (mends_to g.D.PageDisk p c.requires.running c.requires.runs (ap (λ o. option_map job_seen o) c.requires.no_job)
-    c.args.head c.requires.due c.requires.order.resolves c.args.new c.requires.kept c.prepare.new.pages.bits x
-    c.in-Ok.ensures.prepared)
+    c.args.head c.requires.due c.requires.order.resolves c.args.new c.requires.kept c.prepare.new.pages.bits
+    c.in-Ok.prepared c.in-Ok.ensures.prepared, tt)

@@ -1,0 +1,284 @@
+-- A job of which a write or a flush failed: the store stops, and what waits for it is logged.
+use Rattle.std.proofs.Common.{◌≡◌, ℕ, ◌+◌, ◌<◌, Bool, true, false, List, ◌∷◌, length, Option, Some, None, refl, sym}
+use Rattle.std.proofs.Common.{◌∙◌}
+use Rattle.std.proofs.Common.{ap, subst}
+use Rattle.std.proofs.Math.Path.{fun_ext}
+use Rattle.page_disk.specs.Disk.{Written}
+use Rattle.page_disk.specs.Moments.{CallsLeaveOnly, IsReplaced}
+use Rattle.page_disk.specs.declared.disk.PageDisk.{Ghosts}
+use Rattle.page_disk.specs.declared.disk.WriteKind.TheVariants.{Plain}
+use Rattle.volume_model.specs.declared.command.Command.{Command}
+use Rattle.volume_model.specs.declared.reply.Reply.TheVariants as r
+use Rattle.blob_meta.specs.declared.meta.Meta.{Meta}
+use Rattle.md_chain.specs.declared.plan.PlannedPage.{PlannedPage}
+use Rattle.store_model.specs.Cases.{FailsToReplace, put_by}
+use Rattle.store_model.specs.Cases as kind
+use Rattle.store_model.specs.Cases.Fail.{Tried}
+use Rattle.store_model.specs.Cases.Fail as fail
+use Rattle.store_model.specs.Cases.InsertFail as insert
+use Rattle.store_model.specs.Jobs.{IsServed, JobStands}
+use Rattle.store_model.specs.Phases.{has_commit, page_in, Committing, Phase, Replaces, Replacing}
+use Rattle.store_model.specs.Rows.{InJob, Row}
+use Rattle.store_model.specs.StoreState.{ForCommand, ForInsert, ForRepair, JobState, logged, Service, StoreState}
+use Rattle.store_model.specs.StoreState.{waiting}
+use Rattle.store_model.proofs.Guarding.{none_frozen_by}
+use Rattle.store_model.proofs.Shaped.{waits_for_commit, waits_no_more}
+use Rattle.running_store.specs.Jobs.{waits_for_job}
+use Rattle.running_store.specs.Steps.{logged_at}
+use Rattle.running_store.specs.StoreView.{StoreView, device_of, rows_of, state_of}
+use Rattle.running_store.proofs.Rowing.{state_logged}
+use Rattle.metadata_turns.specs.JobTurns.{stopped_at, with_job, IsAtWork, TurnsJob}
+use Rattle.metadata_turns.specs.Telling.{HasFailed, HasWaitingRow}
+use Rattle.metadata_turns.proofs.InsertFailed.{fails_insert, low_left, command as write_of}
+use Rattle.metadata_turns.proofs.InsertFailed.{waits as waits_to_insert}
+use Rattle.metadata_turns.proofs.JobTurned.{entered, entered_plainly, first_to_insert, has_command}
+
+module _ {D : Type 0} (d : Ghosts D) (p : StoreView D) (j : JobState) (w : IsAtWork d p j) (thaws : j.freeze ≡ None)
+    where
+  abbrev s : StoreState
+  s = state_of d (with_job p j)
+
+  pub thawed : s.frozen ≡ (λ head. false)
+  thawed = fun_ext (none_frozen_by s w.running.facts.guarded j refl thaws)
+
+  pub stands : JobStands s j
+  stands = (w.running.facts.well w.not_stopped).job j refl
+
+  -- ---- a command that waits
+
+  module _ (channel : ℕ) (serves : j.serves ≡ ForCommand channel) (waits : has_commit j.todo ≡ true) where
+    pub x_served : IsServed s channel j.claimed j.todo
+    x_served = stands.served channel serves waits
+
+    abbrev pub command : Command
+    command = x_served.command
+
+    abbrev pub rest : List Command
+    rest = x_served.rest
+
+    pub row : rows_of p.rows channel ≡ record { left = command ∷ rest; stage = InJob; claim = None }
+    row = x_served.row
+
+    pub row_left : (rows_of p.rows channel).left ≡ command ∷ rest
+    row_left = ap (λ (x : Row). x.left) row
+
+    pub channel_low : channel < length p.rows
+    channel_low = low_left p.rows channel command rest row_left
+
+    module _ (disk : D) where
+      abbrev pub fault : StoreView D
+      fault = logged_at (stopped_at (record p { disk = disk })) channel command rest r.Fault (d.clock disk)
+
+      -- the entry of a command that failed
+      pub entry : (q : StoreView D) → entered d p channel disk q → q ≡ fault
+      entry q is = entered_plainly (stopped_at (record p { disk = disk })) q channel r.Fault (d.clock disk)
+          (ap (λ (x : Row). x.claim) row) is command rest row_left
+
+      pub next : state_of d fault
+          ≡ logged (record s { stopped = Some (length p.log); job = None; frozen = λ head. false })
+          channel command rest r.Fault (device_of d disk)
+      next = state_logged d (stopped_at (record p { disk = disk })) channel command rest r.Fault channel_low
+          ∙ ap (λ (f : ℕ → Bool). logged (record s { stopped = Some (length p.log); job = None; frozen = f }) channel
+          command rest r.Fault (device_of d disk)) thawed
+
+      abbrev pub fails_case : (phase : Phase) (others : List Phase) → j.todo ≡ phase ∷ others → Tried j phase
+          → FailsToReplace (device_of d p.disk) (device_of d disk) → kind.Fails s (state_of d fault)
+      fails_case phase others todo tried fails = record {
+        phase = phase;
+        running = record { job = j; is = refl; rest = others; next = todo; runs = w.not_stopped };
+        served = record { channel = channel; serves = serves; command = command; rest = rest; row = row };
+        waits = waits;
+        tried = tried;
+        device = device_of d disk;
+        fails = fails;
+        next = next;
+      }
+
+      abbrev pub fails_more : (replacing : Replacing) (others : List Phase) → j.todo ≡ Replaces replacing None ∷ others
+          → FailsToReplace (device_of d p.disk) (device_of d disk) → kind.MoreFails s (state_of d fault)
+      fails_more replacing others todo fails = record {
+        replacing = replacing;
+        running = record { job = j; is = refl; rest = others; next = todo; runs = w.not_stopped };
+        served = record { channel = channel; serves = serves; command = command; rest = rest; row = row };
+        waits = waits;
+        device = device_of d disk;
+        fails = fails;
+        next = next;
+      }
+
+  -- ---- what waits
+
+  -- the row of the channel that waits for it
+  pub waiting_row : length p.rows ≡ 16 → HasWaitingRow p.rows (waits_for_job j)
+  waiting_row sixteen = by j.serves refl (has_commit j.todo) refl
+    where
+      by : (x : Service) → j.serves ≡ x → (b : Bool) → has_commit j.todo ≡ b
+          → HasWaitingRow p.rows (waits_for_job j)
+      by (ForCommand channel) serves true commit =
+          subst (HasWaitingRow p.rows) (sym (waits_for_commit j channel serves commit))
+          (has_command p channel sixteen (record {
+            command = command channel serves commit;
+            rest = rest channel serves commit;
+            left = row_left channel serves commit;
+          }))
+      by (ForCommand channel) serves false commit =
+          subst (HasWaitingRow p.rows) (sym (waits_no_more j channel serves commit)) tt
+      by (ForInsert channel) serves b commit =
+          subst (HasWaitingRow p.rows) (sym (ap (λ (x : Service). waiting x j.todo) serves))
+          (has_command p channel sixteen (first_to_insert d p j w channel serves thaws))
+      by ForRepair serves b commit =
+          subst (HasWaitingRow p.rows) (sym (ap (λ (x : Service). waiting x j.todo) serves)) tt
+
+  module _ (disk : D) (fails : FailsToReplace (device_of d p.disk) (device_of d disk)) (q : StoreView D)
+      (failed : HasFailed (waits_for_job j) (record p { disk = disk }) q (d.clock disk)) where
+    by_waiting : (o : Option ℕ) → waits_for_job j ≡ o → HasFailed o (record p { disk = disk }) q (d.clock disk)
+    by_waiting o is = subst (λ (x : Option ℕ). HasFailed x (record p { disk = disk }) q (d.clock disk)) is failed
+
+    stopped : state_of d (stopped_at (record p { disk = disk }))
+        ≡ record s { stopped = Some (length p.log); job = None; frozen = λ head. false; device = device_of d disk }
+    stopped = ap (λ (f : ℕ → Bool).
+        record s { stopped = Some (length p.log); job = None; frozen = f; device = device_of d disk }) thawed
+
+    -- ---- a page that was being written
+
+    module _ (phase : Phase) (others : List Phase) (todo : j.todo ≡ phase ∷ others) (put : PlannedPage)
+        (is_put : put_by j phase ≡ Some put)
+        (touches : CallsLeaveOnly d p.disk disk
+        (Written (d.images p.disk) (p.super.md_start + put.place) Plain put.page)) where
+      none_waits : waits_for_job j ≡ None → TurnsJob d (with_job p j) q
+      none_waits none = subst (TurnsJob d (with_job p j)) (sym (by_waiting None none)) (record {
+        kind = kind.breaks_off;
+        of_job = tt;
+        made = (
+          record {
+            phase = phase;
+            running = record { job = j; is = refl; rest = others; next = todo; runs = w.not_stopped };
+            waits = none;
+            put = put;
+            is_put = is_put;
+            device = device_of d disk;
+            fails = fails;
+            next = stopped;
+          },
+          record { moments = touches; durable = λ never. absurd (cc never) },
+        );
+      })
+
+      pub failed_putting : TurnsJob d (with_job p j) q
+      failed_putting = by j.serves refl (has_commit j.todo) refl
+        where
+          by : (x : Service) → j.serves ≡ x → (b : Bool) → has_commit j.todo ≡ b → TurnsJob d (with_job p j) q
+          by (ForCommand channel) serves true commit = subst (TurnsJob d (with_job p j))
+              (sym (entry channel serves commit disk q
+              (by_waiting (Some channel) (waits_for_commit j channel serves commit)))) (record {
+                kind = kind.fails;
+                of_job = tt;
+                made = (
+                  fails_case channel serves commit disk phase others todo (fail.page put is_put) fails,
+                  record { moments = touches; durable = λ never. absurd (cc never) },
+                );
+              })
+          by (ForCommand channel) serves false commit = none_waits (waits_no_more j channel serves commit)
+          by (ForInsert channel) serves b commit =
+              let writes = (waits_to_insert d p j w channel serves thaws).writes in
+              let is = by_waiting (Some channel) (ap (λ (x : Service). waiting x j.todo) serves) in
+              subst (TurnsJob d (with_job p j)) (sym (is (write_of d p channel writes) writes.rest writes.is)) (record {
+                kind = kind.insert_fails;
+                of_job = tt;
+                made = (
+                  fails_insert d p j w channel serves thaws disk phase others todo (insert.page put is_put) fails,
+                  record { moments = touches; durable = λ never. absurd (cc never) },
+                );
+              })
+          by ForRepair serves b commit = none_waits (ap (λ (x : Service). waiting x j.todo) serves)
+
+    -- ---- a head that was being replaced
+
+    module _ (replacing : Replacing) (commit : Option Committing) (others : List Phase)
+        (todo : j.todo ≡ Replaces replacing commit ∷ others)
+        (touches : CallsLeaveOnly d p.disk disk (IsReplaced (d.images p.disk) (d.now p.disk)
+        (p.super.md_start + replacing.head) (page_in replacing.planned replacing.head))) where
+      todo_as : (o : Option Committing) → commit ≡ o → j.todo ≡ Replaces replacing o ∷ others
+      todo_as o is = todo ∙ ap (λ (x : Option Committing). Replaces replacing x ∷ others) is
+
+      no_row : commit ≡ None → waits_for_job j ≡ None → TurnsJob d (with_job p j) q
+      no_row no_commit none = subst (TurnsJob d (with_job p j)) (sym (by_waiting None none)) (record {
+        kind = kind.more_breaks_off;
+        of_job = tt;
+        made = (
+          record {
+            replacing = replacing;
+            running = record {
+              job = j;
+              is = refl;
+              rest = others;
+              next = todo_as None no_commit;
+              runs = w.not_stopped;
+            };
+            waits = none;
+            device = device_of d disk;
+            fails = fails;
+            next = stopped;
+          },
+          record { moments = touches; durable = λ never. absurd (cc never) },
+        );
+      })
+
+      committing : (channel : ℕ) → j.serves ≡ ForCommand channel → (c : Committing) → commit ≡ Some c
+          → (new : Meta) → replacing.new ≡ Some new → TurnsJob d (with_job p j) q
+      committing channel serves c is new new_is =
+          let waits : has_commit j.todo ≡ true = ap has_commit (todo_as (Some c) is) in
+          subst (TurnsJob d (with_job p j)) (sym (entry channel serves waits disk q
+          (by_waiting (Some channel) (waits_for_commit j channel serves waits)))) (record {
+            kind = kind.fails;
+            of_job = tt;
+            made = (
+              fails_case channel serves waits disk (Replaces replacing (Some c)) others (todo_as (Some c) is)
+                  (fail.head replacing c new refl new_is) fails,
+              record { moments = touches; durable = λ never. absurd (cc never) },
+            );
+          })
+
+      before_commit : (channel : ℕ) → j.serves ≡ ForCommand channel → commit ≡ None → (b : Bool)
+          → has_commit j.todo ≡ b → TurnsJob d (with_job p j) q
+      before_commit channel serves no_commit true waits = subst (TurnsJob d (with_job p j))
+          (sym (entry channel serves waits disk q
+          (by_waiting (Some channel) (waits_for_commit j channel serves waits)))) (record {
+            kind = kind.more_fails;
+            of_job = tt;
+            made = (
+              fails_more channel serves waits disk replacing others (todo_as None no_commit) fails,
+              record { moments = touches; durable = λ never. absurd (cc never) },
+            );
+          })
+      before_commit channel serves no_commit false waits = no_row no_commit (waits_no_more j channel serves waits)
+
+      -- of a command's job
+      pub failed_for_command : (channel : ℕ) → j.serves ≡ ForCommand channel
+          → ((c : Committing) → commit ≡ Some c → (new : Meta) × (replacing.new ≡ Some new))
+          → TurnsJob d (with_job p j) q
+      failed_for_command channel serves given = by commit refl
+        where
+          by : (o : Option Committing) → commit ≡ o → TurnsJob d (with_job p j) q
+          by (Some c) is = committing channel serves c is (given c is).0 (given c is).1
+          by None is = before_commit channel serves is (has_commit j.todo) refl
+
+      -- of an insert's
+      pub failed_for_insert : (row : ℕ) → j.serves ≡ ForInsert row → commit ≡ None → (new : Meta)
+          → replacing.new ≡ Some new → TurnsJob d (with_job p j) q
+      failed_for_insert row serves no_commit new new_is =
+          let writes = (waits_to_insert d p j w row serves thaws).writes in
+          let is = by_waiting (Some row) (ap (λ (x : Service). waiting x j.todo) serves) in
+          subst (TurnsJob d (with_job p j)) (sym (is (write_of d p row writes) writes.rest writes.is)) (record {
+            kind = kind.insert_fails;
+            of_job = tt;
+            made = (
+              fails_insert d p j w row serves thaws disk (Replaces replacing None) others (todo_as None no_commit)
+                  (insert.head replacing new refl new_is) fails,
+              record { moments = touches; durable = λ never. absurd (cc never) },
+            );
+          })
+
+      -- of a repair's
+      pub failed_for_repair : j.serves ≡ ForRepair → commit ≡ None → TurnsJob d (with_job p j) q
+      failed_for_repair serves no_commit = no_row no_commit (ap (λ (x : Service). waiting x j.todo) serves)

@@ -1,0 +1,80 @@
+-- The job that is left between two replacements.
+use Rattle.std.proofs.Common.{◌≡◌, ℕ, ◌<◌, List, [], ◌∷◌, length, Some, None, refl, sym, ◌∙◌, ap, subst, arith, drop}
+use Rattle.store_model.specs.Phases.{Phase, Replaces, erasing, writing}
+use Rattle.store_model.specs.StoreState.{going_on, JobState}
+use Rattle.running_store.specs.Jobs.{commit_in, erasing_for, job_left, phases_in, replacing_of, service_of, writing_for}
+use Rattle.running_store.specs.Jobs.{erases_laid, job_seen, writes_laid, IsFollowing, MayFollow}
+use Rattle.running_store.specs.declared.job.RunningJob.{RunningJob}
+use Rattle.running_store.specs.declared.job.Work.TheVariants as work
+use Rattle.running_store.specs.declared.replacements.Change.{Change}
+use Rattle.running_store.specs.declared.replacements.Change.TheVariants as change
+use Rattle.running_store.specs.declared.job.Serves.{Serves}
+use Rattle.running_store.specs.declared.job.Serves.TheVariants as whom
+use Rattle.running_store.specs.declared.replacements.LaidReplacement.{LaidReplacement}
+use Rattle.running_store.specs.declared.replacements.Planned.{Planned}
+
+-- a job goes on with what is left
+pub goes_on_left : (serves : Serves) (j : JobState) → j.serves ≡ service_of serves → j.freeze ≡ None → j.claimed ≡ []
+    → (todo : List Phase) → going_on j [] todo ≡ job_left serves todo
+goes_on_left serves j served freeze claimed [] = refl
+goes_on_left serves j served freeze claimed (x ∷ xs) = rw (served, freeze, claimed) refl
+
+-- with a replacement that claims no cluster,
+pub left_writing : (serves : Serves) (p : Planned) (old : List ℕ) (others : List Phase) → p.effects.claimed ≡ []
+    → Some (writing_for serves p old 0 others)
+    ≡ job_left serves (writing (drop 1 p.chain) (Replaces (replacing_of p old) (commit_in p) ∷ erasing old old others))
+left_writing serves p old others none =
+    ap (λ (l : List ℕ). Some (record (writing_for serves p old 0 others) { claimed = l })) none
+    ∙ sym (by (drop 1 p.chain))
+  where
+    by : (fresh : List ℕ)
+        → job_left serves (writing fresh (Replaces (replacing_of p old) (commit_in p) ∷ erasing old old others))
+        ≡ Some (record {
+          serves = service_of serves;
+          freeze = None;
+          claimed = [];
+          written = [];
+          todo = writing fresh (Replaces (replacing_of p old) (commit_in p) ∷ erasing old old others);
+        })
+    by [] = refl
+    by (x ∷ xs) = refl
+
+-- or with the old pages of the one before it.
+pub left_erasing : (serves : Serves) (old : List ℕ) (others : List Phase) → 0 < length old
+    → Some (erasing_for serves old 0 others) ≡ job_left serves (erasing old old others)
+left_erasing serves [] others some = absurd (omega (arith, some))
+left_erasing serves (o ∷ []) others some = refl
+left_erasing serves (o ∷ p ∷ ps) others some = refl
+
+-- ---- the first of the replacements to come
+
+pub first_follows : (serves : Serves) (x : LaidReplacement) (xs : List LaidReplacement) → MayFollow serves (x ∷ xs)
+    → IsFollowing x × MayFollow serves xs
+first_follows (whom.Command channel) x xs may = may
+first_follows (whom.Insert channel) x xs may = absurd (cc may)
+first_follows whom.Repair x xs may = absurd (cc may)
+
+claims_none : (x : LaidReplacement) (p : Planned) → x.change ≡ change.Writes p → IsFollowing x
+    → p.effects.claimed ≡ []
+claims_none x p is follows = (subst (λ (c : Change). IsFollowing (record x { change = c })) is follows).2
+
+-- a job that begins with the first of these
+pub next_writes : (j : RunningJob) (x : LaidReplacement) (p : Planned) → x.change ≡ change.Writes p → x.old ≡ j.old
+    → j.work ≡ work.Writing p 0 → MayFollow j.serves (x ∷ j.later.items)
+    → Some (job_seen j) ≡ job_left j.serves (phases_in (x ∷ j.later.items))
+next_writes j x p is old at may =
+    rw at (left_writing j.serves p j.old (phases_in j.later.items)
+    (claims_none x p is (first_follows j.serves x j.later.items may).0))
+    ∙ ap (λ (y : LaidReplacement). job_left j.serves (phases_in (y ∷ j.later.items))) same
+  where
+    same : writes_laid p j.old ≡ x
+    same i = record { change = sym is i; old = sym old i }
+
+pub next_erases : (j : RunningJob) (x : LaidReplacement) (head : ℕ) (freed : List ℕ)
+    → x.change ≡ change.Erases head freed → x.old ≡ j.old → j.work ≡ work.Removing head freed
+    → Some (job_seen j) ≡ job_left j.serves (phases_in (x ∷ j.later.items))
+next_erases j x head freed is old at =
+    rw at refl ∙ ap (λ (y : LaidReplacement). job_left j.serves (phases_in (y ∷ j.later.items))) same
+  where
+    same : erases_laid head freed j.old ≡ x
+    same i = record { change = sym is i; old = sym old i }
