@@ -40,7 +40,7 @@ to_write : (p : StoreState) (command : Command) (head : ℕ) (new : Meta) (live 
     → AsksFor p command head new live → AsksToWrite p command head new []
 to_write p command head new live asks =
     record {
-      commit = record { reply = r.Ok; live = Some live; renews = [] };
+      commit = record { reply = r.Ok; live = Some (record { head = head; xattrs = Some live }); renews = [] };
       asked = syncs (record { head = head; new = new; live = live; is = refl; asks = asks; commit_is = refl });
       next = λ none. let e : None ≡ Some asks.old = sym none ∙ asks.there in absurd (cc e);
     }

@@ -52,11 +52,6 @@ pub record ReplacesHead {D : Type 0} (d : Ghosts D) (p : StoreView D) (serves : 
 abbrev pub now : Serves → Planned → List ℕ → List Phase → JobState
 now serves planned old more = writing_for serves planned old (length (drop 1 planned.chain)) more
 
--- a commit has new metadata
-given : (planned : Planned) (old : List ℕ) (c : Committing) → commit_in planned ≡ Some c
-    → (new : Meta) × ((replacing_of planned old).new ≡ Some new)
-given planned old c is = (planned.new, refl)
-
 no_commit : (planned : Planned) → planned.commits ≡ false → commit_in planned ≡ None
 no_commit planned is = ap (λ b. if b then Some (commit_of planned) else None) is
 
@@ -70,7 +65,6 @@ failed_head d p (whom.Command channel) planned old more disk x fails q is =
     failed_for_command d p (now serves planned old more) x.work refl disk fails q is (replacing_of planned old)
     (commit_in planned) (erasing old old more) (todo_is d p serves planned old more x.work)
     (touched d p serves planned old more x.work disk x.page x.at x.at_is x.first x.touches) channel refl
-    (given planned old)
 failed_head d p (whom.Insert channel) planned old more disk x fails q is =
     let serves = whom.Insert channel in
     failed_for_insert d p (now serves planned old more) x.work refl disk fails q is (replacing_of planned old)

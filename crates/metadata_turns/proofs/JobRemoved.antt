@@ -125,7 +125,7 @@ module _ {D : Type 0} (d : Ghosts D) (p : StoreView D) (serves : Serves) (head :
         by : (x : Serves) → serves ≡ x → TurnsJob d (with_job p j) q
         by (whom.Command channel) is =
             failed_for_command d p j w refl disk fails q failed (erasure_of head freed old) None others refl touched
-            channel (ap service_of is) (λ c bad. absurd (cc bad))
+            channel (ap service_of is)
         by (whom.Insert channel) is = absurd (subst (λ (x : Serves). IsRemovedFor x freed) is fits)
         by whom.Repair is =
             failed_for_repair d p j w refl disk fails q failed (erasure_of head freed old) None others refl touched

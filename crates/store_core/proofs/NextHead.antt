@@ -10,7 +10,6 @@ use Rattle.volume_model.specs.Xattrs.{Text, Xattrs}
 use Rattle.volume_model.specs.Volumes.{Fixed, two_xattrs, Volumes}
 use Rattle.volume_model.specs.declared.command.VolumeRef.{VolumeRef}
 use Rattle.volume_model.specs.declared.command.Command.TheVariants as c
-use Rattle.volume_model.specs.declared.reply.Reply.TheVariants as r
 use Rattle.blob_meta.specs.declared.meta.Meta.{Meta}
 use Rattle.blob_meta.specs.Jobs.{create_job, new_meta}
 use Rattle.blob_meta.specs.ShownBy.{IsFirstRefusal, IsHeadMeant, ShowsMetas}
@@ -19,6 +18,7 @@ use Rattle.store_model.specs.Asking.{clones, creates}
 use Rattle.store_model.specs.Shown.{fixed_of}
 use Rattle.store_model.specs.StoreState.{StoreState, shown}
 use Rattle.store_model.specs.RunInvariant.{RunInvariant, RunsWell}
+use Rattle.store_model.proofs.ChangedLive.{made_commit}
 use Rattle.store_model.proofs.Sets.{among_first}
 use Rattle.metadata_turns.specs.Begins.{IsFreshHead, IsJobOf}
 use Rattle.running_store.specs.LoadedWhole.{IsNextHead}
@@ -67,7 +67,7 @@ module _ (s : Super) (first : Volumes) (script : ℕ → List _) (p : StoreState
         is = refl;
         asks =
             record {
-              commit = record { reply = r.Made head; live = Some xattrs; renews = head ∷ [] };
+              commit = made_commit head xattrs;
               asked =
                   creates
                   (record {
@@ -81,7 +81,7 @@ module _ (s : Super) (first : Volumes) (script : ℕ → List _) (p : StoreState
                     head = head;
                     none = no_blob head next;
                     is = ap (λ xs. create_job head xs thick slots) same;
-                    commit_is = ap (λ xs. record { reply = r.Made head; live = Some xs; renews = head ∷ [] }) same;
+                    commit_is = ap (made_commit head) same;
                   });
               next = λ none. fresh_head head next;
             };
@@ -104,7 +104,7 @@ module _ (s : Super) (first : Volumes) (script : ℕ → List _) (p : StoreState
         is = refl;
         asks =
             record {
-              commit = record { reply = r.Made head; live = Some xattrs; renews = head ∷ [] };
+              commit = made_commit head xattrs;
               asked =
                   clones
                   (record {
@@ -113,14 +113,14 @@ module _ (s : Super) (first : Volumes) (script : ℕ → List _) (p : StoreState
                     named = is_name;
                     command_is = refl;
                     asked = unrefused (fixed_of p.super) (shown p) shows;
-                    parent = parent;
+                    of = parent;
                     found = meant (fixed_of p.super) (shown p) shows;
                     old = old;
                     there = there;
                     head = head;
                     none = no_blob head next;
                     is = ap (λ xs. clone_job parent old head xs) same;
-                    commit_is = ap (λ xs. record { reply = r.Made head; live = Some xs; renews = head ∷ [] }) same;
+                    commit_is = ap (made_commit head) same;
                   });
               next = λ none. fresh_head head next;
             };

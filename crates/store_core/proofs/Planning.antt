@@ -157,7 +157,11 @@ module _ (p : StoreState) (metas : map.FinMap nat_cmp Meta)
         is = is;
         asks =
             record {
-              commit = record { reply = r.Ok; live = Some (edit named_here).live; renews = [] };
+              commit = record {
+                reply = r.Ok;
+                live = Some (record { head = head; xattrs = Some (edit named_here).live });
+                renews = [];
+              };
               asked =
                   syncs
                   (record {
