@@ -22,7 +22,7 @@ use Rattle.store_model.specs.Places.{all_set, AreLeastClear}
 use Rattle.store_model.specs.Asking.{IsJobFor}
 use Rattle.store_model.specs.Cases.{Begins, CannotBegin, IsPosted, IsRefusedAtBegin, Refuses}
 use Rattle.store_model.proofs.JobReady.{lacks_for_one}
-use Rattle.running_store.specs.Jobs.{begun_job, commit_in, commit_of, replacing_of, writing_job}
+use Rattle.running_store.specs.Jobs.{begun_job, commit_in, commit_of, live_at, replacing_of, writing_job}
 use Rattle.metadata_turns.specs.Begins.{job_with_zeros, taken_for, AsksToWrite, IsUnprepared}
 use Rattle.running_store.specs.StoreInvariant.{IsRunning}
 use Rattle.running_store.specs.StoreView.{StoreView, rows_of, state_of}
@@ -238,11 +238,11 @@ module _ {D : Type 0} (d : Ghosts D) (p : StoreView D) (channel : ℕ) (low : ch
         commit_is : (makes : Bool) (head : ℕ) (cut : Bool) (live : Option Xattrs)
             → commit_by (not makes) head cut live ≡ record {
               reply = if makes then r.Made head else r.Ok;
-              live = live;
+              live = live_at head live;
               renews = numbered_by (makes || cut) head;
             }
-        commit_is true head cut live = refl
-        commit_is false head cut live = refl
+        commit_is true head cut given = refl
+        commit_is false head cut given = refl
 
         chain_is : (makes : Bool) (head : ℕ) (old : List ℕ) (o : Option (List ℕ)) → is_some o ≡ not makes
             → (is_some o ≡ true → o ≡ Some (head ∷ old)) → o ≡ (if makes then None else Some (head ∷ old))
