@@ -7,12 +7,11 @@ use Rattle.page_disk.specs.Disk.{Only}
 use Rattle.page_disk.specs.Moments.{CallsLeaveOnly, IsReplaced}
 use Rattle.page_disk.specs.declared.disk.PageDisk.{Ghosts}
 use Rattle.volume_model.specs.declared.reply.Reply.{Reply}
-use Rattle.blob_meta.specs.declared.meta.Meta.{Meta}
 use Rattle.md_chain.specs.declared.plan.PlannedPage.{PlannedPage}
 use Rattle.store_model.specs.Cases.{FailsToReplace, WritesOnePage}
 use Rattle.store_model.specs.Claiming.{stage_behind}
 use Rattle.store_model.specs.Phases.{erasing, Committing, Phase}
-use Rattle.store_model.specs.Rows.{Row, Stage}
+use Rattle.store_model.specs.Rows.{Stage}
 use Rattle.store_model.specs.StoreState.{JobState}
 use Rattle.metadata_turns.specs.JobTurns.{with_job, IsAtWork, TurnsJob}
 use Rattle.metadata_turns.specs.Telling.{HasFailed, HasRow, IsTold}

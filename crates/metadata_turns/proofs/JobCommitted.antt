@@ -1,5 +1,5 @@
 -- What the commit of a job makes of the store.
-use Rattle.std.proofs.Common.{◌≡◌, ℕ, ◌+◌, ◌<◌, Bool, List, [], ◌∷◌, length, Option, Some, None, refl, sym, ◌∙◌}
+use Rattle.std.proofs.Common.{◌≡◌, ℕ, ◌+◌, Bool, List, [], ◌∷◌, length, Option, Some, None, refl, sym, ◌∙◌}
 use Rattle.std.proofs.Common.{ap, subst, arith, IsTrue, drop}
 use Rattle.std.specs.Prelude.{slice_get, is_some, if◌then◌else◌, true, false}
 use Rattle.std.specs.FinMap as map
