@@ -8,7 +8,6 @@ use Rattle.super_block.specs.declared.page.Super.{Super}
 use Rattle.volume_model.specs.Xattrs.{Xattrs}
 use Rattle.volume_model.specs.Volumes.{two_xattrs}
 use Rattle.volume_model.specs.declared.command.Command.{Command}
-use Rattle.volume_model.specs.declared.command.Command.TheVariants as c
 use Rattle.volume_model.specs.declared.reply.Reply.TheVariants as r
 use Rattle.blob_meta.specs.declared.meta.Meta.{Meta}
 use Rattle.blob_meta.specs.declared.job.Job.{Job}
@@ -22,7 +21,7 @@ use Rattle.store_model.specs.Shown.{fixed_of}
 use Rattle.store_model.specs.StoreState.{StoreState, shown}
 use Rattle.store_model.specs.Places.{AreDistinct, AreLeastClear}
 use Rattle.store_model.specs.Jobs.{with_clusters, MovesClusters}
-use Rattle.store_model.specs.Asking.{AsksFor, clones, creates, deletes, IsJobFor, IsSyncing, resizes, snapshots}
+use Rattle.store_model.specs.Asking.{AsksFor, clones, creates, deletes, IsJobFor, resizes, snapshots}
 use Rattle.store_model.specs.Asking.{syncs}
 use Rattle.snapshots.specs.SnapshotJobs.{clone_job, new_clone, snapshot_job}
 use Rattle.shown_volumes.proofs.GoodMarks.{named_good}

@@ -1,7 +1,6 @@
-use Rattle.std.proofs.Common.{◌≡◌, false, ℕ, List, Option, Some, None, [], ◌∷◌, refl, sym, ◌∙◌, ap, subst}
+use Rattle.std.proofs.Common.{◌≡◌, false, ℕ, Option, Some, None, [], refl, ap, subst}
 use Rattle.std.specs.Prelude.{is_some}
 use Rattle.blob_meta.specs.declared.job.Job.{Job}
-use Rattle.blob_meta.specs.declared.job.Replacement.{Replacement}
 use Rattle.store_model.specs.Asking.{IsJobFor}
 use Rattle.store_model.specs.Shown.{fixed_of}
 use Rattle.store_model.specs.StoreState.{shown}
