@@ -40,7 +40,7 @@ module _ (s : Super) (placed : IsPlaced s) (first : Volumes) (script : ℕ → L
           (let most = placed.few_md_pages in omega (arith, most))
 
       low : (h : ℕ) (o : Option Meta) → map.get metas h ≡ o → IsSome (map.get metas h) → h < p.super.md_len
-      low h None none some = absurd (subst IsSome none some)
+      low h None none some = absurd (let bad = subst (λ (o : Option Meta). IsSome o) none some in cc bad)
       low h (Some m) there some = subst (λ (x : Super). h < x.md_len) (sym facts.super)
           (facts.stored h m (ap (λ (b : Metas). b h) base ∙ there)).low
 
