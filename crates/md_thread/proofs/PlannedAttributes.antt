@@ -23,7 +23,7 @@ use Rattle.blob_meta.specs.Parents.{read_only}
 use Rattle.blob_meta.specs.Asked.{IsAttributeCause, IsFirstCause, IsLiveOf}
 use Rattle.lvol_store.specs.Plans.{PlansPut, PlansReadOnly, PlansSync, RefusesPlan, Remakes}
 use Rattle.store_model.specs.Shown.{fixed_of}
-use Rattle.store_model.specs.StoreState.{StoreState, shown}
+use Rattle.store_model.specs.StoreState.{shown}
 use Rattle.store_model.specs.Asking.{AsksFor, IsSyncing, syncs}
 use Rattle.store_model.specs.Cases.{IsRefusedBy}
 use Rattle.metadata_turns.specs.Answering.{IsFound}
