@@ -1,5 +1,5 @@
-//! Replays device calls over a file: reads them from standard input, a line each (`r PAGE`, `w PAGE` or `f`), prints how
-//! many they are, and then makes just these, on pages of 4096 bytes. Who times the calls alone begins at that line.
+//! Replays device calls over a file: reads them from standard input, a line each (`r PAGE`, `w PAGE` or `f`), prints
+//! how many they are, and then makes just these, on pages of 4096 bytes. Who times them begins at that line.
 #![tactic(auto)]
 
 mod call;
