@@ -122,19 +122,15 @@ module _ (p : StoreState) (r : IsRunning p) (runs : p.stopped ≡ None) where
         let held : held_by p.job ≡ taken_by replacing ++ taken_in (erasing old old more) =
         ap held_by is ∙ held_behind (drop written fresh) behind in
         subst (λ l. is_among x l ≡ true) (sym held)
-        (among_left x (taken_by replacing) (taken_in (erasing old old more)) (taken (is_some planned.effects.rooms)))
+        (among_left x (taken_by replacing) (taken_in (erasing old old more)) (taken (is_some planned.effects.rooms.chain)))
       where
         taken : (makes : Bool) → is_among x (if makes then planned.head ∷ fresh else fresh) ≡ true
         taken true = among_later x planned.head fresh among
         taken false = among
 
     -- the chain of a blob that is there
-    pub chain_there : is_some planned.effects.rooms ≡ false → p.chains planned.head ≡ Some (planned.head ∷ old)
+    pub chain_there : is_some planned.effects.rooms.chain ≡ false → p.chains planned.head ≡ Some (planned.head ∷ old)
     chain_there not = can.chain ∙ ap (λ b. if b then None else Some (planned.head ∷ old)) not
-
-    -- and none, where the blob is new
-    pub none_there : is_some planned.effects.rooms ≡ true → p.chains planned.head ≡ None
-    none_there makes = can.chain ∙ ap (λ b. if b then None else Some (planned.head ∷ old)) makes
 
     distinct : AreDistinct (places_of planned.pages)
     distinct =
@@ -142,7 +138,7 @@ module _ (p : StoreState) (r : IsRunning p) (runs : p.stopped ≡ None) where
         subst AreDistinct (held_behind (drop written fresh) behind) stands.distinct in
         let taken : AreDistinct (taken_by replacing) =
         distinct_left (taken_by replacing) (taken_in (erasing old old more)) differ in
-        subst AreDistinct (sym can.places) (elim (cases_Bool (is_some planned.effects.rooms)) [
+        subst AreDistinct (sym can.places) (elim (cases_Bool (is_some planned.effects.rooms.chain)) [
           | inl makes ↦ subst (λ (b : Bool). AreDistinct (if b then planned.head ∷ fresh else fresh)) makes taken
           | inr not ↦ (
             elim (cases_Bool (is_among planned.head fresh)) [
@@ -189,39 +185,12 @@ module _ (p : StoreState) (r : IsRunning p) (runs : p.stopped ≡ None) where
         length_places (x ∷ xs) = ap suc (length_places xs)
 
     -- a blob that is there has its metadata
-    pub has_meta : is_some planned.effects.rooms ≡ false → (m : Meta) × (p.base planned.head ≡ Some m)
+    pub has_meta : is_some planned.effects.rooms.chain ≡ false → (m : Meta) × (p.base planned.head ≡ Some m)
     has_meta not = by (p.base planned.head) refl
       where
         by : (o : Option Meta) → p.base planned.head ≡ o → (m : Meta) × (p.base planned.head ≡ Some m)
         by None none = absurd (let bad = sym (well.chains.none planned.head none) ∙ chain_there not in cc bad)
         by (Some m) some = (m, some)
-
-  -- ---- the commit of a command's
-
-  module _ (channel : ℕ) (planned : Planned) (old : List ℕ) (written : ℕ) (more : List Phase)
-      (is : p.job ≡ Some (writing_job channel planned old written more)) (commits : planned.commits ≡ true) where
-    abbrev here : JobState
-    here = writing_job channel planned old written more
-
-    abbrev left : List ℕ
-    left = drop written (drop 1 planned.chain)
-
-    abbrev committing : List Phase
-    committing = Replaces (replacing_of planned old) (commit_in planned) ∷ erasing old old more
-
-    pub commit_is : commit_in planned ≡ Some (commit_of planned)
-    commit_is = rw commits refl
-
-    pub waits : has_commit here.todo ≡ true
-    waits = commit_writing planned left old more ∙ ap (λ b. b || has_commit more) commits
-
-    pub step : (x : IsServed p channel planned.effects.claimed here.todo)
-        → IsStep (ReadsZeros p.super planned.effects.claimed) p.super p.base (replacing_of planned old) p.live
-        x.command (commit_of planned)
-    step x = (subst (λ o. Does (ReadsZeros p.super planned.effects.claimed) p.super p.base p.live x.command
-        (Replaces (replacing_of planned old) o ∷ erasing old old more)) commit_is
-        (does_reached (ReadsZeros p.super planned.effects.claimed) p.super p.base p.live x.command left committing
-        x.does)).0
 
   -- ---- a job behind its replacement
 

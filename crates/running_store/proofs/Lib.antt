@@ -6,6 +6,7 @@ pub mod Without
 pub mod BaseBehind
 pub mod KeptThawed
 pub mod KeptAlone
+pub mod Thawed
 pub mod Rowing
 pub mod Entered
 pub mod GivenBack

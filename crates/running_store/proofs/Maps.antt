@@ -15,7 +15,8 @@ use Rattle.store_model.proofs.WithEntry.{given_here, given_elsewhere}
 use Rattle.running_store.specs.Places.{changed_at}
 use Rattle.running_store.specs.Running.{AreHeads}
 
-is_key : (q k : ℕ) → eq_by_cmp nat_cmp q k ≡ eqb q k
+-- keys are the same by their order exactly where they are equal
+pub is_key : (q k : ℕ) → eq_by_cmp nat_cmp q k ≡ eqb q k
 is_key q k = grind (arith, nat_tests)
 
 pub insert_given : {X : Type 0} (m : FinMap nat_cmp X) (head : ℕ) (x : X)
