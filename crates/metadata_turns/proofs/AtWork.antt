@@ -1,17 +1,15 @@
 -- What is known of the running job: the pages of its plan, and its places.
-use Rattle.std.proofs.Common.{◌≡◌, ◌≢◌, ℕ, zero, suc, ◌<◌, ◌≤◌, true, false, All, List, [], ◌∷◌, length, get_or, Some}
+use Rattle.std.proofs.Common.{◌≡◌, ◌≢◌, ℕ, zero, suc, ◌<◌, true, false, All, List, [], ◌∷◌, length, get_or, Some}
 use Rattle.std.proofs.Common.{None, refl, sym, ◌∙◌, ap, subst, arith, inl, inr, drop, take, ◌++◌, ◌+◌, Option, add-one}
 use Rattle.std.specs.Prelude.{slice_get}
-use Rattle.std.proofs.lemmas.Bool.{cases_Bool, both_ways, eq-eqb, ne_eqb, cases_lt}
+use Rattle.std.proofs.lemmas.Bool.{cases_Bool, both_ways, eq-eqb, ne_eqb}
 use Rattle.bit_array.specs.Bits.{is_in}
 use Rattle.md_chain.specs.Chain.{is_among}
 use Rattle.md_chain.specs.declared.plan.PlannedPage.{PlannedPage}
-use Rattle.store_model.specs.StoreState.{JobState, StoreState, planned_at, waiting, ForCommand}
+use Rattle.store_model.specs.StoreState.{JobState, StoreState, planned_at}
 use Rattle.running_store.specs.declared.job.Serves.{Serves}
-use Rattle.running_store.specs.declared.job.Serves.TheVariants as whom
 use Rattle.store_model.specs.Places.{held_by, AreDistinct}
-use Rattle.store_model.specs.Jobs.{gained_by, places_of, IsServed, JobStands, CanReplace, Does, IsStep, Lays}
-use Rattle.store_model.specs.Jobs.{ReadsZeros}
+use Rattle.store_model.specs.Jobs.{gained_by, places_of, JobStands, CanReplace, Lays}
 use Rattle.store_model.specs.RunInvariant.{RunsWell}
 use Rattle.store_model.proofs.Sets.{among_first, among_later}
 use Rattle.store_model.proofs.Used.{within}
@@ -19,13 +17,10 @@ use Rattle.running_store.specs.StoreInvariant.{IsRunning}
 use Rattle.running_store.proofs.Cleared.{among_get}
 use Rattle.running_store.proofs.PlainFacts.{got}
 use Rattle.running_store.specs.declared.replacements.Planned.{Planned}
-use Rattle.running_store.specs.Jobs.{commit_in, commit_of, erasing_for, replacing_of, writing_for}
-use Rattle.running_store.specs.Jobs.{writing_job}
+use Rattle.running_store.specs.Jobs.{commit_in, erasing_for, replacing_of, writing_for}
 use Rattle.store_model.specs.Phases.{page_in, held_in, Erases, Frees, Phase, Replacing, erasing, has_commit, taken_in}
 use Rattle.store_model.specs.Phases.{Replaces, taken_by}
 use Rattle.store_model.proofs.Phases.{planned_behind, held_behind, lays_reached}
-use Rattle.store_model.proofs.Phases.{does_reached}
-use Rattle.running_store.proofs.CommitLeft.{commit_writing}
 use Rattle.blob_meta.specs.declared.meta.Meta.{Meta}
 use Rattle.store_model.proofs.LeftToDo.{among_left, distinct_left}
 use Rattle.std.specs.Prelude.{if◌then◌else◌, is_some, Bool, ◌||◌}

@@ -67,6 +67,12 @@ slot_dropped [] (suc n) i = refl
 slot_dropped (x ∷ map) (suc n) i =
     let step : suc (n + i) ≡ suc n + i = omega arith in slot_dropped map n i ∙ ap (slot_in (x ∷ map)) step
 
+pub none_behind : (map : List (Option ℕ)) (n : ℕ) → length map ≤ n → drop n map ≡ []
+none_behind [] zero le = refl
+none_behind [] (suc n) le = refl
+none_behind (x ∷ map) zero le = absurd (omega (arith, le))
+none_behind (x ∷ map) (suc n) le = none_behind map n (omega (arith, le))
+
 -- ---- a blob that gets a map that is cut, or has empty slots added
 
 module _ (s : Super) (base : Metas) (head : ℕ) (old new : Meta) (slots : ℕ) (there : base head ≡ Some old)

@@ -326,6 +326,13 @@ module _ {D : Type 0} (d : Ghosts D) (p : StoreView D) (row : ℕ) (planned : Pl
   below : row < length p.rows
   below = first_low p row (first_to_insert d p j n.work row n.serves_is)
 
+  abbrev row_at : Stage → Row
+  row_at g = record { left = (rows_of p.rows row).left; stage = g; claim = None }
+
+  -- an insert's job claims no cluster itself
+  claims_none : j.claimed ≡ []
+  claims_none = (((n.work.running.facts.well n.work.not_stopped).job j refl).inserts row n.serves_is).unclaimed
+
   pub inserted : (stage : Stage) → stage ≡ stage_behind others_i → (q : StoreView D) → q ≡ let_go_at after_i row stage
       → TurnsJob d (with_job p j) q
   inserted stage stage_is q is = subst (TurnsJob d (with_job p j)) (sym is) (record {
@@ -360,13 +367,6 @@ module _ {D : Type 0} (d : Ghosts D) (p : StoreView D) (row : ℕ) (planned : Pl
       record { moments = touched; durable = λ _. durable },
     );
   })
-    where
-      abbrev row_at : Stage → Row
-      row_at g = record { left = (rows_of p.rows row).left; stage = g; claim = None }
-
-      -- an insert's job claims no cluster itself
-      claims_none : j.claimed ≡ []
-      claims_none = (((n.work.running.facts.well n.work.not_stopped).job j refl).inserts row n.serves_is).unclaimed
 
 -- ---- the row that is told
 

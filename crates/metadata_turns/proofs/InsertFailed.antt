@@ -83,7 +83,16 @@ given_up_after {D = D} d p a q channel reply a_is given = λ command rest left.
 
 -- ---- a job that fails
 
--- the store stops, and no blob is frozen any more
+-- the store as it stops, with these blobs frozen
+abbrev stopping : {D : Type 0} → Ghosts D → StoreView D → JobState → D → (ℕ → Bool) → StoreState
+stopping d p j disk frozen = record (state_of d (with_job p j)) {
+  stopped = Some (length p.log);
+  job = None;
+  frozen = frozen;
+  device = device_of d disk;
+}
+
+-- no blob is frozen any more
 pub stopped_state : {D : Type 0} (d : Ghosts D) (p : StoreView D) (j : JobState) → IsAtWork d p j → (disk : D)
     → state_of d (stopped_at (record p { disk = disk }) j.freeze)
     ≡ record (state_of d (with_job p j)) {
@@ -93,20 +102,12 @@ pub stopped_state : {D : Type 0} (d : Ghosts D) (p : StoreView D) (j : JobState)
       device = device_of d disk;
     }
 stopped_state d p j w disk = by j.freeze
-    (none_frozen_then (state_of d (with_job p j)) w.running.facts.guarded w.not_stopped p.guards refl j refl)
+    (none_frozen_then (state_of d (with_job p j)) w.running.facts.guarded p.guards refl w.not_stopped j refl)
   where
-    abbrev stopping : (ℕ → Bool) → StoreState
-    stopping frozen = record (state_of d (with_job p j)) {
-      stopped = Some (length p.log);
-      job = None;
-      frozen = frozen;
-      device = device_of d disk;
-    }
-
     by : (o : Option ℕ) → set.contains (thawed p.guards o).frozen ≡ (λ head. false)
-        → state_of d (stopped_at (record p { disk = disk }) o) ≡ stopping (λ head. false)
-    by None none = ap stopping none
-    by (Some head) none = ap stopping none
+        → state_of d (stopped_at (record p { disk = disk }) o) ≡ stopping d p j disk (λ head. false)
+    by None none = ap (stopping d p j disk) none
+    by (Some head) none = ap (stopping d p j disk) none
 
 module _ {D : Type 0} (d : Ghosts D) (p : StoreView D) (j : JobState) (w : IsAtWork d p j) (row : ℕ)
     (serves : j.serves ≡ ForInsert row) where

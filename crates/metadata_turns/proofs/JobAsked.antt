@@ -7,9 +7,7 @@ use Rattle.std.proofs.lemmas.Bool.Decides.{nat_tests}
 use Rattle.super_block.specs.declared.page.Super.{Super}
 use Rattle.volume_model.specs.Xattrs.{Xattrs}
 use Rattle.volume_model.specs.Volumes.{two_xattrs}
-use Rattle.volume_model.specs.Steps.{MayLackMemory}
 use Rattle.volume_model.specs.declared.command.Command.{Command}
-use Rattle.volume_model.specs.declared.command.Command.TheVariants as c
 use Rattle.volume_model.specs.declared.reply.Reply.TheVariants as r
 use Rattle.blob_meta.specs.declared.meta.Meta.{Meta}
 use Rattle.blob_meta.specs.declared.job.Job.{Job}
@@ -23,7 +21,7 @@ use Rattle.store_model.specs.Shown.{fixed_of}
 use Rattle.store_model.specs.StoreState.{StoreState, shown}
 use Rattle.store_model.specs.Places.{AreDistinct, AreLeastClear}
 use Rattle.store_model.specs.Jobs.{with_clusters, MovesClusters}
-use Rattle.store_model.specs.Asking.{AsksFor, clones, creates, deletes, IsJobFor, IsSyncing, resizes, snapshots}
+use Rattle.store_model.specs.Asking.{AsksFor, clones, creates, deletes, IsJobFor, resizes, snapshots}
 use Rattle.store_model.specs.Asking.{syncs}
 use Rattle.snapshots.specs.SnapshotJobs.{clone_job, new_clone, snapshot_job}
 use Rattle.shown_volumes.proofs.GoodMarks.{named_good}
@@ -91,17 +89,6 @@ module _ (p : StoreState) (running : IsRunning p) (clean : HasNoMarks p.base) (r
     pub unmarked : mark_of new ≡ None
     pub once : AreDistinct (cut_clusters before new)
     pub moves : MovesClusters p.super p.base (with_entry p.base head new) (cut_clusters before new) []
-    pub memory : MayLackMemory (fixed_of p.super) (shown p) command
-
-  may_lack : IsSyncing command → MayLackMemory (fixed_of p.super) (shown p) command
-  may_lack is = by command is
-    where
-      by : (k : Command) → IsSyncing k → MayLackMemory (fixed_of p.super) (shown p) k
-      by (c.Put volume key value) is = tt
-      by (c.Sync volume) is = tt
-      by (c.ReadOnly volume) is = tt
-      by (c.Rename volume name) is = tt
-      by _ is = absurd is
 
   -- behind a verb that syncs its attributes are read as it makes them
   live_synced : (live : Xattrs) → AsksFor p command head new live → live_behind command (p.live head) new ≡ Some live
@@ -109,13 +96,12 @@ module _ (p : StoreState) (running : IsRunning p) (clean : HasNoMarks p.base) (r
 
   -- of a blob that is there, with its slots cut or others added
   asked_there : (old : Meta) → p.base head ≡ Some old → (slots : ℕ) → new.map ≡ cut old.map slots None
-      → CanBeWritten new.xattrs → new.internal ≡ old.internal → MayLackMemory (fixed_of p.super) (shown p) command
-      → asks.commit ≡ record {
+      → CanBeWritten new.xattrs → new.internal ≡ old.internal → asks.commit ≡ record {
         reply = r.Ok;
         live = live_at head (live_behind command (p.live head) new);
         renews = if nat_lt slots (length old.map) then head ∷ [] else [];
       } → IsAsked (Some old)
-  asked_there old there slots map_is xattrs internal memory commit =
+  asked_there old there slots map_is xattrs internal commit =
       let long : length new.map ≡ slots = ap (λ (l : List (Option ℕ)). length l) map_is
       ∙ length_cut {X = Option ℕ} old.map slots None in
       let was = was_there old there in
@@ -133,7 +119,6 @@ module _ (p : StoreState) (running : IsRunning p) (clean : HasNoMarks p.base) (r
             (cut_once p.super p.base head old new slots there lawful was map_is);
         moves = subst (λ n. MovesClusters p.super p.base (with_entry p.base head new) (clusters_of (drop n old.map)) [])
             (sym long) (cut_moves p.super p.base head old new slots there lawful was map_is);
-        memory = memory;
       }
 
   -- without clusters in its slots it is the same, but for the map
@@ -150,7 +135,7 @@ module _ (p : StoreState) (running : IsRunning p) (clean : HasNoMarks p.base) (r
       ap (λ (m : Meta). m.map) mine.new_is ∙ sym (whole_cut mine.old.map) in
       subst IsAsked (sym mine.there) (asked_there mine.old mine.there (length mine.old.map) kept
       (bare_xattrs (ap (λ (j : Job). j.zero) y.is) (there_low mine.old mine.there))
-      (ap (λ (m : Meta). m.internal) mine.new_is) (may_lack y.asks.syncing)
+      (ap (λ (m : Meta). m.internal) mine.new_is)
       (y.commit_is
       ∙ ap (λ (h : ℕ). record { reply = r.Ok; live = live_at h (Some y.live); renews = [] }) (sym same.head_is)
       ∙ ap (λ (b : Bool). record {
@@ -189,7 +174,6 @@ module _ (p : StoreState) (running : IsRunning p) (clean : HasNoMarks p.base) (r
         once = tt;
         moves = moves_made p.super p.base head new none
             (λ i. ap (λ (m : Meta). slot m i) same.new_is ∙ empty_slot y.slots i);
-        memory = subst (MayLackMemory (fixed_of p.super) (shown p)) (sym y.command_is) tt;
       })
   asked_by (resizes y) =
       let made = resized_meta y.old y.slots in
@@ -198,7 +182,6 @@ module _ (p : StoreState) (running : IsRunning p) (clean : HasNoMarks p.base) (r
       subst IsAsked (sym there) (asked_there y.old there y.slots (ap (λ (m : Meta). m.map) same.new_is)
       (subst (λ (m : Meta). CanBeWritten m.xattrs) (sym same.new_is) (was_there y.old there).stored.xattrs)
       (ap (λ (m : Meta). m.internal) same.new_is)
-      (subst (MayLackMemory (fixed_of p.super) (shown p)) (sym y.command_is) tt)
       (y.commit_is
       ∙ ap (λ h. record {
         reply = r.Ok;
@@ -239,7 +222,6 @@ module _ (p : StoreState) (running : IsRunning p) (clean : HasNoMarks p.base) (r
         once = tt;
         moves = moves_made p.super p.base head new none
             (λ i. ap (λ (m : Meta). slot m i) same.new_is ∙ empty_slot (length y.old.map) i);
-        memory = subst (MayLackMemory (fixed_of p.super) (shown p)) (sym y.command_is) tt;
       })
   asked_by (snapshots y) = absurd (many_replace head new zeros
       (snapshot_job y.of y.old y.head (two_xattrs (fixed_of p.super) (shown p) y.name None)) y.is (omega arith))

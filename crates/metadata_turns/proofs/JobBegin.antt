@@ -16,7 +16,8 @@ use Rattle.volume_model.specs.declared.reply.Reply.TheVariants as r
 use Rattle.blob_meta.specs.Repairs.{HasNoMarks}
 use Rattle.blob_meta.specs.declared.meta.Meta.{Meta}
 use Rattle.store_model.specs.Rows.{with_row, Ended, InJob, Row, Rows}
-use Rattle.store_model.specs.StoreState.{JobState, StoreState}
+use Rattle.store_model.specs.Shown.{fixed_of}
+use Rattle.store_model.specs.StoreState.{JobState, shown, StoreState}
 use Rattle.store_model.specs.Phases.{Committing, erasing, Replaces, writing, Zeros}
 use Rattle.store_model.specs.Places.{all_set, AreLeastClear}
 use Rattle.store_model.specs.Asking.{IsJobFor}
@@ -33,6 +34,7 @@ use Rattle.running_store.specs.declared.job.Serves.TheVariants as whom
 use Rattle.running_store.specs.declared.replacements.Planned.{Planned}
 use Rattle.running_store.proofs.Entered.{disk_same, entered}
 use Rattle.metadata_turns.proofs.JobAsked.{asked, IsAsked}
+use Rattle.metadata_turns.proofs.Lacking.{may_lack}
 use Rattle.metadata_turns.proofs.JobPrepared.{moves_filled, there_is}
 use Rattle.metadata_turns.proofs.JobPlanned.{IsReady}
 use Rattle.running_store.proofs.Rowing.{rows_set}
@@ -100,7 +102,8 @@ module _ (s : StoreState) (running : IsRunning s) (clean : HasNoMarks s.base) (r
     enough = λ y. x.1 (subst (λ (m : Meta). LacksPages (is_some (s.chains head)) m s.pages) (sym (lacking x.0).1)
         (subst (λ (b : Bool). LacksPages b bare s.pages) there (for_one s.base head bare s.pages y)));
   }
-  why_unprepared fewer lacking r.Memory x = (asked s running clean runs command head bare zeros asks).memory
+  why_unprepared fewer lacking r.Memory x = may_lack (fixed_of s.super) (shown s) s command
+      (job_with_zeros head bare zeros) asks.commit asks.asked
   why_unprepared fewer lacking _ x = absurd x
 
 -- ---- it begins, or its command is logged

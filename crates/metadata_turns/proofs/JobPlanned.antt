@@ -50,12 +50,15 @@ pub many_replace : (head : ℕ) (new : Meta) (zeros : List ℕ) (changes : Job) 
 many_replace head new zeros changes is many =
     let one : length changes.list ≡ 1 = sym (ap (λ (j : Job). length j.list) is) in omega (arith, one, many)
 
+abbrev given : ℕ → Option Meta → Replacement
+given head new = record { head = head; new = new }
+
 -- nor does one that deletes give a blob new metadata alone
 pub none_deletes : (metas : Metas) (of : ℕ) (old : Meta) (head : ℕ) (new : Meta) (zeros clones : List ℕ)
     → IsJobBeside metas of old clones (job_with_zeros head new zeros) → ⊥
 none_deletes metas of old head new zeros [] is =
-    let lists = ap (λ (j : Job). j.list) is in
-    let one : record { head = head; new = Some new } ≡ record { head = of; new = None } = cc lists in
+    let lists : given head (Some new) ∷ [] ≡ given of None ∷ [] = ap (λ (j : Job). j.list) is in
+    let one : given head (Some new) ≡ given of None = cc lists in
     let bad : Some new ≡ None = ap (λ (x : Replacement). x.new) one in absurd (cc bad)
 none_deletes metas of old head new zeros (clone ∷ []) is =
     many_replace head new zeros (delete_job of old clone is.0) is.2 (omega arith)
