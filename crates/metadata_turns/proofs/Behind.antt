@@ -179,7 +179,7 @@ module _ {D : Type 0} (d : Ghosts D) (p : StoreView D) (serves : Serves) (j : Jo
   s = state_of d p
 
   -- as the model says it
-  abbrev behind_state : Change → List ℕ → StoreState
+  abbrev pub behind_state : Change → List ℕ → StoreState
   behind_state x old = record (with_replaced s (replacing_for x old) (numbered_for x)) {
     live = with_live s.live (option_map live_seen (live_of (commit_of x)));
     job = left;

@@ -35,14 +35,14 @@ comes_alone serves later may channel is = ap phases_in (subst (λ (x : Serves). 
 -- what is to come can be kept in memory
 pub kept_behind : (o : Option RunningJob) (l : List LaidReplacement) → option_map_or to_come o [] ≡ l → (b : Blobs)
     → CanAllBeKept b l → IfSome o (WillBeKept b)
-kept_behind None l is b can = tt
-kept_behind (Some j) l is b can = subst (CanAllBeKept b) (sym is) can
+kept_behind None l is b kept = tt
+kept_behind (Some j) l is b kept = subst (CanAllBeKept b) (sym is) kept
 
 -- nor does it matter whether the blob that the job froze is released, where nothing is to come
 pub kept_left : (o : Option RunningJob) (l : List LaidReplacement) → option_map_or to_come o [] ≡ l → (b : Blobs)
     (serves : Serves) → CanAllBeKept b l → IfSome o (WillBeKept (record b { guards = guards_left b.guards serves o }))
-kept_left None l is b serves can = tt
-kept_left (Some j) l is b serves can = subst (CanAllBeKept b) (sym is) can
+kept_left None l is b serves kept = tt
+kept_left (Some j) l is b serves kept = subst (CanAllBeKept b) (sym is) kept
 
 -- ---- its replacement
 

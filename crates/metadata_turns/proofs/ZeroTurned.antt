@@ -1,5 +1,5 @@
 -- What a turn of a running job that overwrites a page of a claimed cluster makes of the store.
-use Rattle.std.proofs.Common.{Option, ◌≡◌, ℕ, ◌*◌, ◌/◌, ◌%◌, ◌<◌, Bool, true, false, List, [], ◌∷◌, length}
+use Rattle.std.proofs.Common.{Option, ◌≡◌, ℕ, ◌*◌, ◌/◌, ◌%◌, ◌<◌, Bool, true, false, List, [], ◌∷◌, ◌++◌, length}
 use Rattle.std.proofs.Common.{Some, refl, sym, ◌∙◌, ap, subst, arith, inl, inr, drop}
 use Rattle.std.specs.Prelude.{if◌then◌else◌, ◌||◌}
 use Rattle.std.proofs.lemmas.Bool.{cases_lt}
@@ -17,7 +17,7 @@ use Rattle.store_model.specs.StoreState.{ForCommand, JobState, StoreState}
 use Rattle.store_model.specs.Cases.{FailsToReplace, WritesOnePage}
 use Rattle.store_model.specs.Cases as kind
 use Rattle.store_model.specs.Cases.Fail.{zeros}
-use Rattle.store_model.specs.Jobs.{IsServed, JobStands, Lays}
+use Rattle.store_model.specs.Jobs.{gained_by, inserted_by, JobStands, Lays}
 use Rattle.store_model.specs.Phases.{has_commit, Phase, Zeros}
 use Rattle.store_model.specs.RunInvariant.{RunsWell}
 use Rattle.store_model.proofs.Used.{within}
@@ -79,9 +79,19 @@ module _ {D : Type 0} (d : Ghosts D) (p : StoreView D) (serves : Serves) (planne
       ∙ commit_writing planned (drop 0 (drop 1 planned.chain)) old more
       ∙ ap (λ b. b || has_commit more) (zeroed_of serves planned z zeroed).2
 
+  -- the job gains the clusters that it has claimed, and no other
+  gained_is : gained_by s.rows j ≡ claimed
+  gained_is = by serves refl
+    where
+      by : (x : Serves) → serves ≡ x → gained_by s.rows j ≡ claimed
+      by (whom.Command channel freeze) e = ap (λ (y : Serves). inserted_by s.rows (service_of y) ++ claimed) e
+      by (whom.Insert channel) e = absurd (subst (λ (x : Serves). IsZeroedFor x planned z) e zeroed)
+      by whom.Repair e = absurd (subst (λ (x : Serves). IsZeroedFor x planned z) e zeroed)
+
   -- the page is one of a claimed cluster, and so of the device
   in_claimed : is_among (page / cluster_pages_of p.super) claimed ≡ true
-  in_claimed = (subst (Lays s.super s.base s.chains claimed []) todo_is stands.lays).0
+  in_claimed = (subst (Lays s.super s.base s.chains claimed []) todo_is
+      (subst (λ l. Lays s.super s.base s.chains l [] j.todo) gained_is stands.lays)).0
 
   placed : IsPlaced p.super
   placed = subst IsPlaced (sym w.running.facts.super) w.running.placed

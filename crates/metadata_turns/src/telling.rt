@@ -3,7 +3,7 @@
 ghost use Rattle.std.specs.Prelude.{◌≡◌, ◌<◌, None, []};
 ghost use Rattle.store_model.specs.Claiming as claiming;
 ghost use Rattle.store_model.specs.Phases.{erasing};
-ghost use Rattle.metadata_turns.specs.JobTurns.{answer_of, stopped_at};
+ghost use Rattle.metadata_turns.specs.JobTurns.{answer_of, guards_left, stopped_at};
 ghost use Rattle.running_store.specs.Running.{view_of, InOrder};
 ghost use Rattle.running_store.specs.Stages.{stage_seen};
 ghost use Rattle.running_store.specs.Jobs.{freeze_of};
@@ -11,6 +11,7 @@ ghost use Rattle.metadata_turns.specs.Telling.{let_go_at, HasFailed, HasInsertRo
 ghost use Rattle.metadata_turns.specs.Telling.{gone_on, IsWon};
 
 use crate::job_turn::JobTurn;
+use io_freeze::Guards;
 use page_disk::PageDisk;
 use running_store::{Decision, Running, RunningJob, Serves, Stage, give_up, log, release};
 use volume_model::{PlaceList, Reply};
@@ -91,9 +92,10 @@ pub(crate) fn fail_job<D: PageDisk>(
     ensures order { InOrder D.PageDisk running.new }
 {
     let turn = stop(running, serves.freeze());
-    if let Some(channel) = waiting {
-        give_up(running, channel, Reply::Fault);
-    }
+    let Some(channel) = waiting else {
+        return turn;
+    };
+    give_up(running, channel, Reply::Fault);
     turn
 }
 
@@ -115,8 +117,15 @@ fn stop<D: PageDisk>(running: &mut Running<D>, freeze: Option<u32>) -> JobTurn
 pub(crate) fn go_on<D>(running: &mut Running<D>, serves: Serves, left: Option<RunningJob>)
     ensures { running.new ≡ gone_on running.old serves left }
 {
-    if left.is_none() {
-        release(&mut running.guards, serves.freeze());
-    }
+    thaw(&mut running.guards, serves, &left);
     running.job = left;
+}
+
+/// Where nothing is left of a job the blob that it froze is released.
+fn thaw(guards: &mut Guards, serves: Serves, left: &Option<RunningJob>)
+    ensures { guards.new ≡ guards_left guards.old serves left.now }
+{
+    if left.is_none() {
+        release(guards, serves.freeze());
+    }
 }

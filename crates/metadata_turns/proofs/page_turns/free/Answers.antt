@@ -8,11 +8,13 @@ use Rattle.io_freeze.specs.Guards.{GuardsState}
 use Rattle.running_store.specs.Blobs.{blobs_of}
 use Rattle.running_store.specs.Jobs.{erasing_for, job_seen, phases_in}
 use Rattle.running_store.specs.Running.{view_of, InOrder}
+use Rattle.store_model.specs.Rows.{Row}
 use Rattle.running_store.specs.StoreView.{device_of, StoreView}
+use Rattle.running_store.specs.declared.running.Running.{Running}
 use Rattle.running_store.proofs.PlainFacts.{got, on_err, on_ok, zeros}
 use Rattle.volume_model.specs.Volumes.{zero_page}
 use Rattle.store_model.specs.Phases.{Frees}
-use Rattle.metadata_turns.specs.Telling.{HasFailed, HasWaitingRow, IsWon}
+use Rattle.metadata_turns.specs.Telling.{HasFailed, HasInsertRow, HasWaitingRow, IsWon}
 use Rattle.metadata_turns.proofs.Behind.{guards_seen}
 use Rattle.metadata_turns.proofs.HeadReplaced.{comes_alone, kept_left}
 use Rattle.metadata_turns.proofs.JobErased.{cleared, freed_all, insert_row, last_left, old_below, old_differ, old_used}
@@ -76,8 +78,10 @@ clear_places-requires-clause-in_use g c =
 
 pub win-requires-clause-row : goal.win-requires-clause-row
 win-requires-clause-row g c =
-    insert_row g.D.PageDisk (view_of c.args.running.now) c.args.beside.serves c.args.beside.old c.args.erased
-    (phases_in c.args.beside.later.items) c.requires.at_work c.requires.order.sixteen
+    subst (λ (rows : List Row). HasInsertRow rows c.args.beside.serves)
+    (sym (ap (λ (r : Running g.row.D.Denot). r.rows.items) c.go_on.ensures))
+    (insert_row g.D.PageDisk (view_of c.args.running.now) c.args.beside.serves c.args.beside.old c.args.erased
+    (phases_in c.args.beside.later.items) c.requires.at_work c.requires.order.sixteen)
 
 pub returns-clause-case : goal.returns-clause-case
 returns-clause-case g c =
