@@ -31,5 +31,7 @@ pub mod ClustersAlone
 pub mod MissingFound
 pub mod RepairDue
 pub mod RepairBegins
+pub mod EraseBegins
+pub mod ListBegins
 pub mod Found
 pub mod ZeroTurned

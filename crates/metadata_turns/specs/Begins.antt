@@ -29,6 +29,9 @@ use Rattle.running_store.specs.Jobs.{job_seen}
 use Rattle.running_store.specs.StoreView.{StoreView, rows_of}
 use Rattle.running_store.specs.Steps.{decided}
 use Rattle.store_model.specs.Rows.{Row, InJob}
+use Rattle.inflate_delete.specs.DeleteJobs.{erase_job}
+use Rattle.metadata_turns.specs.declared.begin.Ask.{Ask}
+use Rattle.metadata_turns.specs.declared.begin.Ask.TheVariants as ask
 use Rattle.metadata_turns.specs.declared.begin.BeginTurn.{BeginTurn}
 use Rattle.metadata_turns.specs.declared.begin.BeginTurn.TheVariants as begin
 use Rattle.store_model.specs.Phases.{Committing}
@@ -124,6 +127,17 @@ pub record IsJobOf (p : StoreState) (command : Command) (job : Job) : Type 0 whe
   pub asked : IsJobFor p command job commit
   pub next : (x : Replacement) (xs : List Replacement) → job.list ≡ x ∷ xs → p.base x.head ≡ None
       → IsFreshHead p.pages x.head
+
+-- the job that it asks for is this one
+pub record IsAskedFor (p : StoreState) (command : Command) (job : Job) : Type 0 where
+  pub commit : Committing
+  pub asked : IsJobFor p command job commit
+
+-- What is asked for by a job: new metadata of one blob; that one is erased; or several replacements.
+abbrev pub IsAskOf : Job → Ask → Type 0
+IsAskOf job (ask.Writes head new zeros) = job ≡ job_with_zeros head new zeros
+IsAskOf job (ask.Erases head) = job ≡ erase_job head
+IsAskOf job ask.Several = Unit {0}
 
 -- the job begins, or its command is logged: too few pages or clusters are clear, or memory ran out
 abbrev pub BeginsOrNot : {D : Type 0} → Ghosts D → StoreView D → StoreView D → BeginTurn → Type 0

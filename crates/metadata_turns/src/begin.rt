@@ -1,11 +1,12 @@
 //! The begin of a job.
 
-ghost use Rattle.std.specs.Prelude.{◌≡◌, ◌<◌, Some, None, IfErr, IfOk, IfSome, IsSome, OnErr};
+ghost use Rattle.std.specs.Prelude.{◌≡◌, ◌<◌, Some, None, IfErr, IfOk, IsSome, OnErr};
 ghost use Rattle.super_block.specs.Faults.{IsFaultless};
 ghost use Rattle.store_model.specs.Cases.{Begins, IsRefusedAtBegin};
 ghost use Rattle.store_model.specs.Cases as kind;
 ghost use Rattle.metadata_turns.specs.declared.begin.BeginTurn.TheVariants.{Began, Logged};
-ghost use Rattle.metadata_turns.specs.Begins.{job_with_zeros, row_begun, with_begun, AsksToWrite, BeginsOrNot, IsJobOf};
+ghost use Rattle.metadata_turns.specs.Begins.{row_begun, with_begun, AsksToWrite, BeginsOrNot, IsJobOf};
+ghost use Rattle.metadata_turns.specs.Begins.{IsAskOf};
 ghost use Rattle.running_store.specs.Jobs.{IsHeaded};
 ghost use Rattle.running_store.specs.StoreInvariant.{IsRunning};
 ghost use Rattle.running_store.specs.TurnMade.{TurnMade};
@@ -16,6 +17,7 @@ ghost use Rattle.store_model.specs.Repairing.{IsRepaired};
 ghost use Rattle.running_store.specs.StoreView.{base_of, rows_of, state_of};
 ghost use Rattle.running_store.specs.Steps.{Asks, IsPostedAt, OnlyRow};
 
+use crate::erasing::begin_erasing;
 use crate::filling::fill_slots;
 use crate::preparing::{lack_beside_clusters, prepare};
 use blob_meta::{Job, Meta, Replacement};
@@ -155,18 +157,34 @@ pub fn begin_or_halt<D: PageDisk>(running: &mut Running<D>, channel: u8, job: Jo
         halt(running, channel);
         return BeginTurn::Logged;
     }
-    match replacement_of(job) {
-        Some((head, new, zeros)) => begin(running, channel, head, new, &zeros),
-        None => {
+    match ask_of(job) {
+        Ask::Writes { head, new, zeros } => begin(running, channel, head, new, &zeros),
+        Ask::Erases(head) => begin_erasing(running, channel, head),
+        Ask::Several => {
             refuse_or_halt(running, channel, Reply::Memory);
             BeginTurn::Logged
         }
     }
 }
 
-/// The head and the new metadata of a job of one replacement, which is its commit, and its slots of zeros.
-fn replacement_of(job: Job) -> Option<(u32, Meta, SlotList)>
-    ensures { IfSome result (λ one. job ≡ job_with_zeros one.0 one.1 one.2) }
+/// What a job asks for.
+#[derive(Drop)]
+enum Ask {
+    /// New metadata of the blob at a head, with a cluster of zeros in each of these slots.
+    Writes {
+        head: u32,
+        new: Meta,
+        zeros: SlotList,
+    },
+    /// The blob at this head is to be erased.
+    Erases(u32),
+    /// Several replacements.
+    Several,
+}
+
+/// What a job asks for.
+fn ask_of(job: Job) -> Ask
+    ensures { IsAskOf job result }
 {
     let Job {
         list: mut replacements,
@@ -175,15 +193,14 @@ fn replacement_of(job: Job) -> Option<(u32, Meta, SlotList)>
         freeze,
     } = job;
     if commit != 1 || freeze.is_some() || replacements.len() != 1 {
-        return None;
+        return Ask::Several;
     }
-    match replacements.pop() {
-        Some(
-            Replacement {
-                head,
-                new: Some(new),
-            },
-        ) => Some((head, new, zeros)),
-        _ => None,
+    let Some(Replacement { head, new }) = replacements.pop() else {
+        return Ask::Several;
+    };
+    match new {
+        Some(new) => Ask::Writes { head, new, zeros },
+        None if zeros.len() == 0 => Ask::Erases(head),
+        None => Ask::Several,
     }
 }

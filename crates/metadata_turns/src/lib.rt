@@ -6,6 +6,7 @@ mod adopting;
 mod alone;
 mod answering;
 mod begin;
+mod erasing;
 mod filling;
 mod infos;
 mod head_turns;

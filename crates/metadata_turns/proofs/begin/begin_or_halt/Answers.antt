@@ -26,11 +26,25 @@ pub begin-requires-clause-asks : goal.begin-requires-clause-asks
 begin-requires-clause-asks g c command rest left =
     let p = state_of g.D.PageDisk (view_of c.args.running.now) in
     let x = c.requires.asks (none_of c.args.running.now.stopped c.if-is_some.ensures) command rest left in
-    let is : c.args.job ≡ job_with_zeros c.in-Some.head c.in-Some.new c.in-Some.zeros = c.in-Some.ensures in
+    let is : c.args.job ≡ job_with_zeros c.in-Writes.head c.in-Writes.new c.in-Writes.zeros = c.in-Writes.ensures in
     record {
       commit = x.commit;
       asked = subst (λ (j : Job). IsJobFor p command j x.commit) is x.asked;
-      next = x.next (record { head = c.in-Some.head; new = Some c.in-Some.new }) [] (ap (λ (j : Job). j.list) is);
+      next = x.next (record { head = c.in-Writes.head; new = Some c.in-Writes.new }) [] (ap (λ (j : Job). j.list) is);
+    }
+
+pub begin_erasing-requires-clause-unmarked : goal.begin_erasing-requires-clause-unmarked
+begin_erasing-requires-clause-unmarked g c =
+    repaired_unmarked (state_of g.D.PageDisk (view_of c.args.running.now)) c.requires.repaired
+    (none_of c.args.running.now.stopped c.if-is_some.ensures) (ap (λ o. option_map job_seen o) c.requires.no_job)
+
+pub begin_erasing-requires-clause-asks : goal.begin_erasing-requires-clause-asks
+begin_erasing-requires-clause-asks g c command rest left =
+    let p = state_of g.D.PageDisk (view_of c.args.running.now) in
+    let x = c.requires.asks (none_of c.args.running.now.stopped c.if-is_some.ensures) command rest left in
+    record {
+      commit = x.commit;
+      asked = subst (λ (j : Job). IsJobFor p command j x.commit) c.in-Erases.ensures x.asked;
     }
 
 pub refuse_or_halt-requires-clause-why : goal.refuse_or_halt-requires-clause-why
