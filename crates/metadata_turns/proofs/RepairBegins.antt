@@ -60,7 +60,7 @@ some_there None bad = absurd (cc bad)
 some_there (Some m) some = (m, refl)
 
 -- the store can hold each blob that is there,
-stored_base : (p : StoreState) → IsRunning p → AreStored p.super p.base
+pub stored_base : (p : StoreState) → IsRunning p → AreStored p.super p.base
 stored_base p running = subst (λ (y : Super). AreStored y p.base) (sym running.facts.super) running.facts.stored
 
 -- so that its head is in the region
