@@ -64,15 +64,19 @@ none_deletes metas of old head new zeros (clone ∷ []) is =
     many_replace head new zeros (delete_job of old clone is.0) is.2 (omega arith)
 none_deletes metas of old head new zeros (clone ∷ other ∷ rest) is = is
 
--- what is taken and planned is what a job begins with
-pub record IsReady (p : StoreState) (head : ℕ) (new : Meta) (makes : Bool) (after : List Bool)
+-- What is taken and planned, over pages of which these are in use.
+pub record IsReadyOn (s : Super) (bits : List Bool) (head : ℕ) (new : Meta) (makes : Bool) (after : List Bool)
     (plan : List PlannedPage) (fresh : List ℕ) : Type 0 where
   pub needs : Needs new (length fresh)
-  pub least : AreLeastClear p.pages (taken_for makes head fresh)
-  pub taken : after ≡ all_set p.pages (taken_for makes head fresh) true
+  pub least : AreLeastClear bits (taken_for makes head fresh)
+  pub taken : after ≡ all_set bits (taken_for makes head fresh) true
   pub packed : IsPacked new head fresh plan
-  pub planned : MetaAt (page_in plan) (region_of p.super) head new (head ∷ fresh)
+  pub planned : MetaAt (page_in plan) (region_of s) head new (head ∷ fresh)
   pub places : places_of plan ≡ head ∷ fresh
+
+-- what a job begins with
+abbrev pub IsReady : StoreState → ℕ → Meta → Bool → List Bool → List PlannedPage → List ℕ → Type 0
+IsReady p = IsReadyOn p.super p.pages
 
 -- ---- clusters stay as they are
 

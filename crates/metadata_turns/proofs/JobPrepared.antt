@@ -40,6 +40,7 @@ use Rattle.metadata_turns.proofs.FilledMoves.{filled_moves}
 use Rattle.metadata_turns.proofs.JobPlaces.{once_each, places_from}
 use Rattle.metadata_turns.proofs.SlotsOfZeros.{can_be_filled, filled_mark, CanBeFilled}
 use Rattle.metadata_turns.proofs.JobPlanned.{IsReady}
+use Rattle.metadata_turns.proofs.LaidOn.{ready_on}
 use Rattle.metadata_turns.proofs.JobAsked.{asked, known as known_store, stored_well}
 
 module _ (p : StoreState) (running : IsRunning p) (clean : HasNoMarks p.base) (runs : p.stopped ≡ None)
@@ -99,48 +100,29 @@ module _ (p : StoreState) (running : IsRunning p) (clean : HasNoMarks p.base) (r
       by None none = absurd (let bad = sym (there_is ∙ some) ∙ ap is_some none in cc bad)
       by (Some m) there = well.chains.chain head m there
 
-  small : p.super.md_len < 2 ^ 32
-  small =
-      let few = placed.few_md_pages in
-      omega (arith, few)
-
   -- ---- laid on pages
 
   module _ (no_job : p.job ≡ None) (makes : Bool) (was : is_some (p.chains head) ≡ not makes) where
     used : UsedPages p.super.md_len p.pages p.chains []
     used = subst (UsedPages p.super.md_len p.pages p.chains) (ap held_by no_job) well.pages
 
+    chain_there : makes ≡ false → (behind : List ℕ) × (p.chains head ≡ Some (head ∷ behind))
+    chain_there e = has_chain (was ∙ ap not e)
+
+    -- the head of a blob that is there is in use
+    in_use : makes ≡ false → is_in p.pages head ≡ true
+    in_use e =
+        let chain = chain_there e in
+        used.linked head (record {
+          head = head;
+          pages = head ∷ chain.0;
+          chain = chain.1;
+          among = among_first head chain.0;
+        })
+
     module _ (fresh : List ℕ) (least : AreLeastClear p.pages (taken_for makes head fresh)) where
       as_made : makes ≡ true → AreLeastClear p.pages (head ∷ fresh)
       as_made e = subst (λ (b : Bool). AreLeastClear p.pages (taken_for b head fresh)) e least
-
-      as_there : makes ≡ false → AreLeastClear p.pages fresh
-      as_there e = subst (λ (b : Bool). AreLeastClear p.pages (taken_for b head fresh)) e least
-
-      chain_there : makes ≡ false → (behind : List ℕ) × (p.chains head ≡ Some (head ∷ behind))
-      chain_there e = has_chain (was ∙ ap not e)
-
-      -- the head of a blob that is there is in use
-      head_apart : makes ≡ false → is_among head fresh ≡ false
-      head_apart e = elim (cases_Bool (is_among head fresh)) [
-        | inl among ↦
-            let chain = chain_there e in
-            let linked : IsLinked p.chains head = record {
-              head = head;
-              pages = head ∷ chain.0;
-              chain = chain.1;
-              among = among_first head chain.0;
-            } in
-            absurd (both_ways (is_in p.pages head) (were_clear p.pages fresh (as_there e) head among).clear
-            (used.linked head linked))
-        | inr out ↦ out
-      ]
-
-      pub all_differ : AreDistinct (head ∷ fresh)
-      all_differ = elim (cases_Bool makes) [
-        | inl e ↦ are_distinct p.pages (head ∷ fresh) (as_made e)
-        | inr e ↦ (head_apart e, are_distinct p.pages fresh (as_there e))
-      ]
 
       pub head_low : head < p.super.md_len
       head_low = elim (cases_Bool makes) [
@@ -148,18 +130,6 @@ module _ (p : StoreState) (running : IsRunning p) (clean : HasNoMarks p.base) (r
         | inr e ↦ well.chains.low head head (head ∷ (chain_there e).0) (chain_there e).1
             (among_first head (chain_there e).0)
       ]
-
-      below : (x : ℕ) → is_among x (head ∷ fresh) ≡ true → x < p.super.md_len
-      below x among = elim (among_either x head fresh among) [
-        | inl first ↦ subst (λ y. y < p.super.md_len) (sym first) head_low
-        | inr later ↦ elim (cases_Bool makes) [
-          | inl e ↦ subst (λ n. x < n) used.count (were_clear p.pages (head ∷ fresh) (as_made e) x among).below
-          | inr e ↦ subst (λ n. x < n) used.count (were_clear p.pages fresh (as_there e) x later).below
-        ]
-      ]
-
-      pub all_low : All (λ x. x < p.super.md_len) (head ∷ fresh)
-      all_low k d lt = below (get_or (head ∷ fresh) k d) (among_get (head ∷ fresh) k d lt)
 
     module _ (claimed : List ℕ) (least : AreLeastClear p.clusters claimed) (one_each : length claimed ≡ length zeros)
         (chains : map.FinMap nat_cmp (List ℕ)) (after : List Bool) (x : Prepared)
@@ -170,13 +140,6 @@ module _ (p : StoreState) (running : IsRunning p) (clean : HasNoMarks p.base) (r
       t : IsTaken is.items head makes p.pages after x.laid
       t = is.taken
 
-      planned_places : places_of x.laid.pages ≡ head ∷ t.fresh
-      planned_places = ap places_of t.laid_on.pages ∙ places_from head 0 head t.fresh (parts_of is.items) t.count
-
-      planned_pages : All (λ (q : PlannedPage). page_in x.laid.pages q.place ≡ q.page) x.laid.pages
-      planned_pages k d lt = page_of x.laid.pages k (get_or x.laid.pages k d)
-          (subst AreDistinct (sym planned_places) (all_differ t.fresh t.least)) (got x.laid.pages k d lt)
-
       whole : IsStoredWell p.super head later
       whole = stored_well p running clean runs command head new zeros asks claimed least one_each
           (head_low t.fresh t.least)
@@ -185,26 +148,6 @@ module _ (p : StoreState) (running : IsRunning p) (clean : HasNoMarks p.base) (r
       pub unmarked : mark_of later ≡ None
       unmarked = filled_mark new zeros claimed ∙ (asked p running clean runs command head new zeros asks).unmarked
 
-      says_new : later ≡ meta_of head (written_items is.items)
-      says_new = sym (written_say head is.items is.plannable
-          ∙ says head later is.items whole.stored.id whole.stored.clear whole.stored.xattrs.names
-          whole.stored.internal.names is.are)
-
-      ready_at : IsReady p head later makes after x.laid.pages t.fresh
-      ready_at = record {
-        needs = record { items = is.items; are = is.are; chain = sym t.count };
-        least = t.least;
-        taken = t.taken;
-        packed = record { items = is.items; are = is.are; pages = t.laid_on.pages };
-        planned = record {
-          items = written_items is.items;
-          chain = t.laid_on.reads (page_in x.laid.pages) p.super.md_len small
-              (once_each (head ∷ t.fresh) (all_differ t.fresh t.least)) (all_low t.fresh t.least) planned_pages;
-          meta_is = says_new;
-          faultless = whole.stored.faultless;
-        };
-        places = planned_places;
-      }
-
       pub ready : IsReady p head (with_clusters new zeros claimed) makes after x.laid.pages (drop 1 x.laid.chain)
-      ready = subst (IsReady p head later makes after x.laid.pages) (sym (ap (drop 1) t.laid_on.chain)) ready_at
+      ready = ready_on p.super placed p.pages used.count head later whole.stored makes in_use is.items is.are
+          is.plannable after x.laid t

@@ -6,6 +6,7 @@ pub mod CutClusters
 pub mod FilledMoves
 pub mod SlotsOfZeros
 pub mod JobPlanned
+pub mod LaidOn
 pub mod Lacking
 pub mod LiveBehind
 pub mod JobAsked
@@ -33,5 +34,8 @@ pub mod RepairDue
 pub mod RepairBegins
 pub mod EraseBegins
 pub mod ListBegins
+pub mod ListMoves
+pub mod SnapshotKept
+pub mod DeleteKept
 pub mod Found
 pub mod ZeroTurned
