@@ -1,6 +1,6 @@
 -- What a turn makes of the store in which a head's page is replaced, by whom the job serves.
-use Rattle.std.proofs.Common.{◌≡◌, ◌≢◌, ℕ, ◌+◌, ◌<◌, Bool, true, false, List, [], ◌∷◌, length, Option, Some, None, refl, sym}
-use Rattle.std.proofs.Common.{◌∙◌, ap, subst, IsTrue, arith}
+use Rattle.std.proofs.Common.{◌≡◌, ◌≢◌, ℕ, ◌+◌, ◌<◌, Bool, true, false, List, [], ◌∷◌, length, Option, Some, None, refl}
+use Rattle.std.proofs.Common.{◌∙◌, sym, ap, subst, IsTrue, arith}
 use Rattle.std.specs.Prelude.{if◌then◌else◌, is_some}
 use Rattle.std.specs.Option.{option_map}
 use Rattle.std.specs.FinSet as set
@@ -22,14 +22,15 @@ use Rattle.store_model.specs.Phases.{erasing, has_commit, page_in, with_live, Co
 use Rattle.store_model.specs.Places.{all_set}
 use Rattle.store_model.specs.Rows.{Row, Rows, Stage, with_row}
 use Rattle.store_model.specs.Shown.{fixed_of}
-use Rattle.store_model.specs.StoreState.{going_on, live_of as live_shown, logged, shown, ForCommand, ForInsert, JobState}
-use Rattle.store_model.specs.StoreState.{StoreState}
+use Rattle.store_model.specs.StoreState.{going_on, live_of as live_shown, logged, shown, ForCommand, ForInsert}
+use Rattle.store_model.specs.StoreState.{JobState, StoreState}
 use Rattle.store_model.specs.WithReplaced.{made_by, with_replaced}
 use Rattle.store_model.proofs.Guarding.{frozen_still}
 use Rattle.running_store.specs.Blobs.{commit_of, live_of, numbered_in, CanBeKept}
 use Rattle.running_store.specs.Effects.{commit_seen, live_seen, reply_of}
 use Rattle.running_store.specs.GivingBack.{IsEntered}
-use Rattle.running_store.specs.Jobs.{freeze_of, job_left, service_of, waits_for_job, AreNone, IsMatchedFor, IsRemovedFor}
+use Rattle.running_store.specs.Jobs.{freeze_of, job_left, service_of, waits_for_job, AreNone, IsMatchedFor}
+use Rattle.running_store.specs.Jobs.{IsRemovedFor}
 use Rattle.running_store.specs.Steps.{logged_at}
 use Rattle.running_store.specs.StoreView.{StoreView, device_of, rows_of, state_of}
 use Rattle.running_store.specs.declared.effects.Effects.{Effects}

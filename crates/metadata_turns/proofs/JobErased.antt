@@ -220,10 +220,10 @@ pub freed_all : {D : Type 0} (d : Ghosts D) (p : StoreView D) (serves : Serves) 
       guards = guards_left p.guards serves left;
     }) q
     → TurnsJob d (with_job p (erasing_for serves old erased more)) q
-freed_all d p (whom.Command channel freeze) old erased more w some disk place at at_is touches next last moves durable bits
-    bits_are left left_is alone q won =
-    freed_by d p (whom.Command channel freeze) old erased more w some disk place at at_is touches next last moves durable bits
-    bits_are left left_is (λ row bad. cc bad) q won
+freed_all d p (whom.Command channel freeze) old erased more w some disk place at at_is touches next last moves durable
+    bits bits_are left left_is alone q won =
+    freed_by d p (whom.Command channel freeze) old erased more w some disk place at at_is touches next last moves
+    durable bits bits_are left left_is (λ row bad. cc bad) q won
 freed_all d p (whom.Insert channel) old erased more w some disk place at at_is touches next last moves durable bits
     bits_are left left_is alone q won =
     freed_inserted d p (whom.Insert channel) old erased more w some disk place at at_is touches next last moves durable

@@ -41,7 +41,8 @@ module _ (s : Super) (placed : IsPlaced s) (bits : List Bool) (count : length bi
   -- the head of a blob that is there is in use
   head_apart : makes ≡ false → is_among head t.fresh ≡ false
   head_apart e = elim (cases_Bool (is_among head t.fresh)) [
-    | inl among ↦ absurd (both_ways (is_in bits head) (were_clear bits t.fresh (as_there e) head among).clear (in_use e))
+    | inl among ↦
+        absurd (both_ways (is_in bits head) (were_clear bits t.fresh (as_there e) head among).clear (in_use e))
     | inr out ↦ out
   ]
 

@@ -34,6 +34,7 @@ pub mod RepairDue
 pub mod RepairBegins
 pub mod EraseBegins
 pub mod ListBegins
+pub mod ListBegun
 pub mod ListMoves
 pub mod SnapshotKept
 pub mod DeleteKept

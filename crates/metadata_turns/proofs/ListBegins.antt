@@ -1,5 +1,5 @@
 -- The begin of a job of several replacements: its phases, and the pages that they take.
-use Rattle.std.proofs.Common.{◌≡◌, ℕ, Bool, true, List, [], ◌∷◌, ◌++◌, Option, Some, None, refl, sym, ◌∙◌, ap, subst, map}
+use Rattle.std.proofs.Common.{◌≡◌, ℕ, Bool, true, List, [], ◌∷◌, ◌++◌, Option, Some, None, refl, sym, ◌∙◌, ap, map}
 use Rattle.std.specs.Prelude.{◌-◌, ◌==◌, if◌then◌else◌, slice_set}
 use Rattle.store_model.specs.Phases.{phases_of, todo_of, Committing, Phase, Replacing}
 use Rattle.store_model.specs.Places.{all_set, AreLeastClear}

@@ -219,7 +219,8 @@ module _ (s : Super) (base : Metas) (of clone : ℕ) (old heir : Meta) (there : 
         low = x.low;
         apart = x.apart;
         meta = x.meta;
-        there = given_elsewhere marked clone taking x.other ne ∙ given_elsewhere base of going x.other x.apart ∙ x.there;
+        there = given_elsewhere marked clone taking x.other ne ∙ given_elsewhere base of going x.other x.apart
+            ∙ x.there;
         among = x.among;
       }
     ]
