@@ -22,4 +22,6 @@ mod settled;
 #[cfg(test)]
 mod slots;
 #[cfg(test)]
+mod snapshots;
+#[cfg(test)]
 mod writes;

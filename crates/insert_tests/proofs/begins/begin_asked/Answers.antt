@@ -8,7 +8,7 @@ use Rattle.metadata_turns.specs.Begins.{IsJobOf}
 use Rattle.running_store.specs.Requests.{IsAsked}
 use Rattle.running_store.specs.StoreView.{rows_of, state_of}
 use Rattle.md_thread.specs.Tasks.{IsPlanOf}
-use Rattle.insert_tests.proofs.resizes.begin_resize.Goals as goal
+use Rattle.insert_tests.proofs.begins.begin_asked.Goals as goal
 
 -- a list begins with one command
 same_first : (c k : Command) (cs ks : List Command) → c ∷ cs ≡ k ∷ ks → c ≡ k
