@@ -24,7 +24,8 @@ module _ {D : Type 0} (d : disk.Ghosts D) {K : Type 0} (k : sink.Ghosts K) (out 
   unlisted loading.ReadFault stays counted cause refused = (stays, refl, counted)
   unlisted loading.Memory stays counted cause refused = stays
   unlisted (loading.Super why) stays counted cause refused = (stays, (tt, λ tells. (cause tells, refused tells tt)))
-  unlisted (loading.Chain head why) stays counted cause refused = (stays, (tt, λ tells. (cause tells, refused tells tt)))
+  unlisted (loading.Chain head why) stays counted cause refused =
+      (stays, (tt, λ tells. (cause tells, refused tells tt)))
   unlisted (loading.Meta head why) stays counted cause refused = (stays, (tt, λ tells. (cause tells, refused tells tt)))
   unlisted (loading.MapsTooLarge slots) stays counted cause refused =
       (stays, (tt, λ tells. (cause tells, refused tells tt)))
@@ -32,7 +33,8 @@ module _ {D : Type 0} (d : disk.Ghosts D) {K : Type 0} (k : sink.Ghosts K) (out 
       (stays, (tt, λ tells. (cause tells, refused tells tt)))
   unlisted (loading.WritableParent blob parent) stays counted cause refused =
       (stays, (tt, λ tells. (cause tells, refused tells tt)))
-  unlisted (loading.ParentLoop blob) stays counted cause refused = (stays, (tt, λ tells. (cause tells, refused tells tt)))
+  unlisted (loading.ParentLoop blob) stays counted cause refused =
+      (stays, (tt, λ tells. (cause tells, refused tells tt)))
   unlisted (loading.Shared cluster a b) stays counted cause refused =
       (stays, (tt, λ tells. (cause tells, refused tells tt)))
   unlisted (loading.NoRoom head has wants) stays counted cause refused = absurd counted

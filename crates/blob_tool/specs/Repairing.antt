@@ -69,7 +69,8 @@ module _ {D : Type 0} (d : Ghosts D) {K : Type 0} (k : sink.Ghosts K) (out out_n
     pub unlogged : last.log ≡ []
     pub survives : HasOneImage d first.disk → RunSurvives d first.super (shown (state_of d first)) last back
 
-  -- A run ended with its repairs: the device failed; the next repair needs more pages than are clear; or memory ran out.
+  -- A run ended with its repairs: the device failed; the next repair needs more pages than are clear; or memory ran
+  -- out.
   abbrev pub EndedInRepair : StoreView D → Status → Type 0
   EndedInRepair first (status.Device at) =
       (p : Repaired first) × (at ≡ 0) × (p.last.stopped ≡ Some 0)

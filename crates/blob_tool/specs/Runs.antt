@@ -55,8 +55,9 @@ module _ {D : Type 0} (d : disk.Ghosts D) (script : List (List Command)) where
   module _ (schedule : List Actor) where
     -- A run leads from one state of the store to another, in which every channel has ended and no job runs. Its turns
     -- are repairs, until no blob has a mark, and then those of the steps of its schedule, and of rounds of the channels
-    -- and the metadata thread. Its log is a legal one of the script's commands, and the volumes shown at the end are its replay, unless the store stopped. Of
-    -- a device that doesn't tell what it holds both are said but for what pages hold (`seen`).
+    -- and the metadata thread. Its log is a legal one of the script's commands, and the volumes shown at the end are
+    -- its replay, unless the store stopped. Of a device that doesn't tell what it holds both are said but for what
+    -- pages hold (`seen`).
     pub record IsRun (first last : StoreView D) : Type 0 where
       pub opens : Opens (state_of d first)
       pub repaired : StoreView D
@@ -114,9 +115,10 @@ module _ {D : Type 0} (d : disk.Ghosts D) (script : List (List Command)) where
       Ended first status.Memory = Played first
       Ended first _ = ⊥
 
-      -- it began, and ended with its repairs or behind them; or memory ran out before: then nothing was printed, and the
-      -- device is the one that was loaded
+      -- it began, and ended with its repairs or behind them; or memory ran out before: then nothing was printed, and
+      -- the device is the one that was loaded
       abbrev pub EndedFrom : Loaded D → Status → Type 0
       EndedFrom loaded s =
-          ((first : StoreView D) × IsOpened d loaded script first × (Ended first s ⊎ EndedInRepair d k out out_now back first s))
+          ((first : StoreView D) × IsOpened d loaded script first
+          × (Ended first s ⊎ EndedInRepair d k out out_now back first s))
           ⊎ ((s ≡ status.Memory) × (out_now ≡ out) × (back ≡ loaded.disk))

@@ -48,8 +48,8 @@ pub(crate) fn disk_of<D>(loaded: Loaded<D>) -> D
     disk
 }
 
-/// Runs the script on a store with nothing left to repair, by a schedule, makes lasting what was written, and prints the
-/// log.
+/// Runs the script on a store with nothing left to repair, by a schedule, makes lasting what was written, and prints
+/// the log.
 fn run_repaired<K: Sink, D: PageDisk>(
     alloc: Global,
     schedule: &Schedule,

@@ -27,9 +27,9 @@ IsSync (c.Sync volume) = Unit {0}
 IsSync _ = ⊥
 
 -- it brings the attributes to the disk, and makes the volume read-only
-abbrev pub IsForGood : Command → Type 0
-IsForGood (c.ReadOnly volume) = Unit {0}
-IsForGood _ = ⊥
+abbrev pub IsReadOnlyCommand : Command → Type 0
+IsReadOnlyCommand (c.ReadOnly volume) = Unit {0}
+IsReadOnlyCommand _ = ⊥
 
 module _ (metas : map.FinMap nat_cmp Meta) (sup : Super) where
   -- The metadata of the volume that is meant is replaced by what is made of it.
@@ -45,8 +45,8 @@ module _ (metas : map.FinMap nat_cmp Meta) (sup : Super) where
   GivesXattrs volume xattrs job = Remakes volume (λ old. record old { xattrs = xattrs }) job
 
   -- it has these attributes, and is read-only
-  abbrev pub GivesForGood : VolumeRef → Xattrs → Job → Type 0
-  GivesForGood volume xattrs job =
+  abbrev pub MakesReadOnly : VolumeRef → Xattrs → Job → Type 0
+  MakesReadOnly volume xattrs job =
       Remakes volume (λ old. record old { xattrs = xattrs; flags = read_only old.flags }) job
 
   -- the live attributes with one of them set
@@ -59,9 +59,9 @@ module _ (metas : map.FinMap nat_cmp Meta) (sup : Super) where
   PlansSync (Some live) (c.Sync volume) job = GivesXattrs volume live job
   PlansSync _ _ job = ⊥
 
-  -- the live attributes, for good
+  -- the live attributes, and it is read-only
   abbrev pub PlansReadOnly : Option Xattrs → Command → Job → Type 0
-  PlansReadOnly (Some live) (c.ReadOnly volume) job = GivesForGood volume live job
+  PlansReadOnly (Some live) (c.ReadOnly volume) job = MakesReadOnly volume live job
   PlansReadOnly _ _ job = ⊥
 
   -- want of memory, or the first cause

@@ -5,7 +5,7 @@ ghost use Rattle.std.specs.FinMap as map;
 ghost use Rattle.blob_meta.specs.Asked.{IsAttributeCause, IsFirstCause, IsLiveOf, IsOnAttributes, NamesThere};
 ghost use Rattle.blob_meta.specs.Find.{is_meant, IsLeast, IsThere};
 ghost use Rattle.blob_meta.specs.Jobs.{job_of_one};
-ghost use Rattle.lvol_store.specs.Plans.{IsForGood, IsPut, IsSync, GivesForGood, GivesXattrs};
+ghost use Rattle.lvol_store.specs.Plans.{IsPut, IsReadOnlyCommand, IsSync, GivesXattrs, MakesReadOnly};
 ghost use Rattle.lvol_store.specs.Plans.{PlansPut, PlansReadOnly, PlansSync, RefusesPlan};
 
 use blob_meta::{Flags, Job, Meta, Metas, find, refusal_of};
@@ -86,7 +86,7 @@ fn give_xattrs(
 }
 
 /// The job that gives the volume that is meant these attributes, and makes it read-only.
-fn give_for_good(
+fn make_read_only(
     alloc: Global,
     metas: &Metas,
     sup: &Super,
@@ -94,7 +94,7 @@ fn give_for_good(
     xattrs: XattrList,
 ) -> Result<Job, Memory>
     requires { IsThere metas.now sup.now volume.now }
-    ensures { IfOk result (GivesForGood metas.now sup.now volume.now xattrs) }
+    ensures { IfOk result (MakesReadOnly metas.now sup.now volume.now xattrs) }
 {
     let (head, old) = meant(metas, sup, volume);
     remake(alloc, head, old, xattrs, old.flags.read_only())
@@ -147,21 +147,21 @@ fn sync(
 }
 
 /// The job of a readonly that nothing refuses.
-fn make_read_only(
+fn readonly(
     alloc: Global,
     metas: &Metas,
     sup: &Super,
     live: Option<&XattrList>,
     command: &Command,
 ) -> Result<Job, Memory>
-    requires for_good { IsForGood command.now }
+    requires readonly { IsReadOnlyCommand command.now }
     requires live { IsLiveOf metas.now sup.now (option_copied live) command.now }
     requires there { NamesThere metas.now sup.now command.now }
     ensures { IfOk result (PlansReadOnly metas.now sup.now (option_copied live.entry) command.now) }
 {
     match (command, live) {
         (Command::ReadOnly { volume }, Some(live)) => {
-            give_for_good(alloc, metas, sup, volume, live.try_copy(alloc)?)
+            make_read_only(alloc, metas, sup, volume, live.try_copy(alloc)?)
         }
         _ => unreachable!(),
     }
@@ -222,7 +222,7 @@ pub fn plan_readonly(
     _new: u32,
     live: Option<&XattrList>,
 ) -> Result<Job, Reply>
-    requires for_good { IsForGood command.now }
+    requires readonly { IsReadOnlyCommand command.now }
     requires live { IsLiveOf metas.now sup.now (option_copied live) command.now }
     ensures job { IfOk result (PlansReadOnly metas.now sup.now (option_copied live.entry) command.now) }
     ensures unrefused { IfOk result
@@ -230,5 +230,5 @@ pub fn plan_readonly(
     ensures refused { IfErr result (RefusesPlan metas.now sup.now (option_copied live.entry) command.now) }
 {
     pass(metas, sup, live, command)?;
-    make_read_only(alloc, metas, sup, live, command).map_err(|_| Reply::Memory)
+    readonly(alloc, metas, sup, live, command).map_err(|_| Reply::Memory)
 }

@@ -23,7 +23,7 @@ use Rattle.blob_meta.specs.Parents.{read_only}
 use Rattle.blob_meta.specs.Asked.{IsAttributeCause, IsFirstCause, IsLiveOf}
 use Rattle.lvol_store.specs.Plans.{PlansPut, PlansReadOnly, PlansSync, RefusesPlan, Remakes}
 use Rattle.store_model.specs.Shown.{fixed_of}
-use Rattle.store_model.specs.StoreState.{StoreState, shown}
+use Rattle.store_model.specs.StoreState.{shown}
 use Rattle.store_model.specs.Asking.{AsksFor, IsSyncing, syncs}
 use Rattle.store_model.specs.Cases.{IsRefusedBy}
 use Rattle.metadata_turns.specs.Answering.{IsFound}
@@ -93,7 +93,8 @@ module _ {D : Type 0} (d : Ghosts D) (laws : PlanLaws d) (p : StoreView D) (runn
   put_job : (volume : VolumeRef) (key value : Text) (head : Option ℕ) (o : Option Xattrs) (job : Job)
       → IsFound p.metas p.super p.live (c.Put volume key value) head o
       → PlansPut p.metas p.super o (c.Put volume key value) job
-      → IsFirstCause p.metas p.super o (c.Put volume key value) None → IsJobOf (state_of d p) (c.Put volume key value) job
+      → IsFirstCause p.metas p.super o (c.Put volume key value) None
+      → IsJobOf (state_of d p) (c.Put volume key value) job
   put_job volume key value head (Some live) job found plan cause =
       remade (c.Put volume key value) volume head live (with_value live key value)
       (λ old. record old { xattrs = with_value live key value }) job found (let e = found.asked in cc e) plan

@@ -22,7 +22,7 @@ const NINE_SETS: &[u8] =
 const NINE_ANSWERS: &[u8] =
     b"0 0 ok\n1 0 ok\n2 0 ok\n3 0 ok\n4 0 ok\n5 0 ok\n6 0 ok\n7 0 ok\n8 0 ok\n8 1 value 38\n";
 
-const CASES: [Case; 14] = [
+const CASES: [Case; 9] = [
     // Both channels claim a cluster for the slot. The first insert wins, and the other write begins again in its
     // cluster.
     (

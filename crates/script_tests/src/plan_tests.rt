@@ -1,7 +1,7 @@
 //! Plans of puts, syncs and readonlys, each once, and each cause of a refusal.
 
 ghost use Rattle.std.specs.Prelude.{IfOk};
-ghost use Rattle.lvol_store.specs.Plans.{IsForGood, IsPut, IsSync};
+ghost use Rattle.lvol_store.specs.Plans.{IsPut, IsReadOnlyCommand, IsSync};
 
 use blob_meta::{Flags, Job, Meta, Metas, asked_volume, find};
 use descriptors::SlotMap;
@@ -43,7 +43,7 @@ fn sync(volume: VolumeRef) -> Command
 }
 
 fn read_only(volume: VolumeRef) -> Command
-    ensures { IsForGood result }
+    ensures { IsReadOnlyCommand result }
 {
     Command::ReadOnly { volume }
 }

@@ -27,7 +27,8 @@ fn add_places(bits: &mut Bits, places: &PlaceList)
 fn add_blob(masks: &mut Masks, blobs: &Metas, chains: &Chains, head: u32)
     requires fit { FitMasks (map.get blobs.now) (map.get chains.now) masks.old }
     ensures none { map.get blobs.now head ≡ None → masks.new ≡ masks.old }
-    ensures added { (m : AMeta) (chain : List ℕ) → map.get blobs.now head ≡ Some m → map.get chains.now head ≡ Some chain
+    ensures added { (m : AMeta) (chain : List ℕ)
+        → map.get blobs.now head ≡ Some m → map.get chains.now head ≡ Some chain
         → masks.new ≡ masks_with masks.old head m chain }
 {
     if let Some(meta) = blobs.get(head) {

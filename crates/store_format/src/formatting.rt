@@ -72,7 +72,8 @@ pub fn write_store<D: PageDisk>(
     requires device { D.pages disk.old ≡ layout.now.device_pages }
     ensures store { IsTrue D.tells → OnOk result (IsNewStore layout.now (D.now disk.new)) }
     ensures loads { IsTrue D.tells → OnOk result (LoadsEmpty layout.now (D.now disk.new)) }
-    ensures behind { IsTrue D.tells → OnOk result (SameBut (IsBetween 0 (md_end_of layout.now)) (D.now disk.old) (D.now disk.new)) }
+    ensures behind { IsTrue D.tells
+        → OnOk result (SameBut (IsBetween 0 (md_end_of layout.now)) (D.now disk.old) (D.now disk.new)) }
     ensures one_image { IsTrue D.tells → OnOk result (Only (D.now disk.new) (D.images disk.new)) }
     ensures writes { Writes D.PageDisk layout.now disk.old disk.new }
     ensures faults { HasCause (D.write_faults disk.old) (D.write_faults disk.new) result }

@@ -27,8 +27,8 @@ GoesOn d waits.Claim p q = TurnMade d p q kind.finds_filled ⊎ TurnMade d p q k
 GoesOn d (waits.Copy left) p q = TurnMade d p q kind.loses_copy ⊎ TurnMade d p q kind.copies
 GoesOn d _ p q = ⊥
 
--- The turns with which it is logged: refused, done in place or failed; refused a cluster; a copy or its flush failed; or
--- the store had stopped.
+-- The turns with which it is logged: refused, done in place or failed; refused a cluster; a copy or its flush failed;
+-- or the store had stopped.
 abbrev pub LogsWrite : {D : Type 0} → Ghosts D → RowStage → StoreView D → StoreView D → Type 0
 LogsWrite d waits.Write p q = TurnsAs d IsOfWrite p q
 LogsWrite d waits.Claim p q = TurnsAs d IsOfClaim p q

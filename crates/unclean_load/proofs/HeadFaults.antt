@@ -33,7 +33,8 @@ module _ {D : Type 0} (d : Ghosts D) (s : Super) (first : D) where
         → ShowsFirst (region_look s (d.now first)) (region_of s) why
     place_shown why low told x =
         let y : IsBlobFault (region_look s (d.now first)) (region_of s) place why =
-        subst (λ (look : Look). IsBlobFault look (region_of s) place why) (look_first d s first disk metas chains slots place w told) x in
+        subst (λ (look : Look). IsBlobFault look (region_of s) place why)
+        (look_first d s first disk metas chains slots place w told) x in
         shown why low told y.head (y.shows metas)
 
     -- a fault at the place is the first of the heads
@@ -47,14 +48,17 @@ module _ {D : Type 0} (d : Ghosts D) (s : Super) (first : D) where
     place_fails (fault.Meta head e) low told x = place_shown (fault.Meta head e) low told x
     place_fails (fault.MapsTooLarge slots) low told x = place_shown (fault.MapsTooLarge slots) low told x
     place_fails (fault.NoParentBlob blob parent) low told x = place_shown (fault.NoParentBlob blob parent) low told x
-    place_fails (fault.WritableParent blob parent) low told x = place_shown (fault.WritableParent blob parent) low told x
+    place_fails (fault.WritableParent blob parent) low told x =
+        place_shown (fault.WritableParent blob parent) low told x
     place_fails (fault.ParentLoop blob) low told x = place_shown (fault.ParentLoop blob) low told x
     place_fails (fault.Shared cluster a b) low told x = place_shown (fault.Shared cluster a b) low told x
     place_fails (fault.NoRoom blob has wants) low told x = place_shown (fault.NoRoom blob has wants) low told x
 
     module _ (blob : Blob) (x : SaysAt d s disk place (Some blob)) where
       says_first : IsTrue d.tells → MetaAt (region_look s (d.now first)) (region_of s) place blob.meta blob.pages
-      says_first told = the_one (region_look s (d.now first)) (region_of s) place blob (blob_first d s first disk metas chains slots place w (Some blob) x told)
+      says_first told =
+          the_one (region_look s (d.now first)) (region_of s) place blob
+          (blob_first d s first disk metas chains slots place w (Some blob) x told)
 
       head_first : IsTrue d.tells → is_head place (region_look s (d.now first) place) ≡ true
       head_first told =

@@ -162,7 +162,8 @@ module _ {D : Type 0} (d : Ghosts D) (s : Super) (first : D) where
             | inl here ↦
                 subst (λ (m : Option Meta). BlobAt (region_look s (d.now first)) (region_of s) k m (chains_now k))
                 (sym (meta_here k here))
-                (subst (λ (c : Option (List ℕ)). BlobAt (region_look s (d.now first)) (region_of s) k (Some blob.meta) c)
+                (subst
+                (λ (c : Option (List ℕ)). BlobAt (region_look s (d.now first)) (region_of s) k (Some blob.meta) c)
                 (sym (given_here chains place blob.pages k here))
                 (subst (λ (n : ℕ). BlobAt (region_look s (d.now first)) (region_of s) n (Some blob.meta)
                 (Some blob.pages)) (sym here) (blob_first (Some blob) x told)))

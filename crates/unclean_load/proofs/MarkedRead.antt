@@ -64,7 +64,8 @@ module _ (metas : Metas) (found : map.FinMap nat_cmp Meta) where
       ];
       none = λ k le.
           ap (λ f. f k) (insert_given found head m)
-          ∙ given_elsewhere (map.get found) head m k (λ e. absurd (omega (arith, e, le))) ∙ b.none k (omega (arith, le));
+          ∙ given_elsewhere (map.get found) head m k (λ e. absurd (omega (arith, e, le)))
+          ∙ b.none k (omega (arith, le));
     }
 
   -- all heads were looked at

@@ -92,7 +92,8 @@ good_marks s head m x =
     let map = map_fault (fixed_clusters_of s) (clusters_of s) m.map in
     let hole = hole_in_thick m.flags m.map in
     let bad = bad_mark m.internal in
-    none_of_map (λ (y : Xattr). fault.BadMark y.key (at_most (2 ^ 32 - 1) (length y.value))) (find is_bad_mark m.internal)
+    none_of_map (λ (y : Xattr). fault.BadMark y.key (at_most (2 ^ 32 - 1) (length y.value)))
+    (find is_bad_mark m.internal)
     (none_alone bad
     (none_behind hole (bad ∷ [])
     (none_behind map (hole ∷ bad ∷ []) (none_behind (unknown_flag m.flags) (map ∷ hole ∷ bad ∷ []) x.faultless))))
@@ -119,7 +120,8 @@ module _ (s : Super) (read : Metas) (all : (head : ℕ) (m : Meta) → read head
             blob = x.blob;
             there = x.there;
             same_map = ap (λ (m : Meta). m.map) one;
-            good = ap (λ (m : Meta). find is_bad_mark m.internal) one ∙ good_marks s head x.blob (all head x.blob x.there);
+            good = ap (λ (m : Meta). find is_bad_mark m.internal) one
+                ∙ good_marks s head x.blob (all head x.blob x.there);
             unmarked = ap mark_of one ∙ x.unmarked;
           }
       by (inr (inr (inl x))) =

@@ -58,7 +58,8 @@ module _ (metas : Metas) (begun : List (Option ℕ)) (head count : ℕ) (t : Tes
     walked = walked;
     right = λ k m lt there. elim (cases_eq k head) [
       | inl e ↦
-          let one : meta ≡ m = let x = sym is ∙ sym (ap metas e) ∙ there in cc x in subst (HasRightParent metas) one right
+          let one : meta ≡ m = let x = sym is ∙ sym (ap metas e) ∙ there in cc x in
+          subst (HasRightParent metas) one right
       | inr ne ↦ t.right k m (omega (arith, lt, ne)) there
     ];
     ends = λ k m lt there. elim (cases_eq k head) [
@@ -83,7 +84,8 @@ module _ (metas : Metas) (begun : List (Option ℕ)) (head count : ℕ) (t : Tes
 pub all_tested : (metas : Metas) (begun : List (Option ℕ)) (count : ℕ) → HasHeadsBelow count metas
     → Tested metas begun count count → HaveRightParents metas
 all_tested metas begun count below t =
-    right_parents metas (λ k m there. t.right k m (lower k m there) there) (λ k m there. t.ends k m (lower k m there) there)
+    right_parents metas (λ k m there. t.right k m (lower k m there) there)
+    (λ k m there. t.ends k m (lower k m there) there)
   where
     lower : (k : ℕ) (m : Meta) → metas k ≡ Some m → k < count
     lower k m there = below k (subst IsSome (sym there) refl)

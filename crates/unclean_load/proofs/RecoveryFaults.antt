@@ -54,7 +54,8 @@ module _ (md_len : ℕ) (read : Metas) (chains : Chains) where
 
   -- a cluster in two slots, where there is none of parents
   pub masks_fail : (right : HaveRightParents (resolved read)) (why : LoadFault)
-      → IsMaskFault md_len (resolved read) (chains_of (resolved read) chains) why → IsRecoveryFault md_len read chains why
+      → IsMaskFault md_len (resolved read) (chains_of (resolved read) chains) why
+      → IsRecoveryFault md_len read chains why
   masks_fail right (fault.Chain head why) x = twice_there (resolved read) head why x
   masks_fail right (fault.Shared cluster a b) x = (right, x)
   masks_fail right fault.Memory x = tt

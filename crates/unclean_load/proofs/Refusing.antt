@@ -137,7 +137,8 @@ module _ (md_len : ℕ) (metas : Metas) (named : (head : ℕ) (m : Meta) → met
     where
       by : (e : LoadFault) → ShowsParent metas x.head x.meta e → ⊥
       by (fault.NoParentBlob blob parent) y =
-          not_missing (value_of x.meta.internal (codes "SNAP")) (parent_of x.meta) x.meta x.head parent x.is refl refl y.1
+          not_missing (value_of x.meta.internal (codes "SNAP")) (parent_of x.meta) x.meta x.head parent x.is refl refl
+          y.1
       by (fault.WritableParent blob parent) y = not_writable x.meta x.head parent x.is y.1
       by (fault.ParentLoop blob) y = never_back metas lawful.rank lawful.falls x.head y.2
       by (fault.Super e) y = y

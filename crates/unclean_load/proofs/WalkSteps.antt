@@ -35,7 +35,8 @@ one_less begun at head lt none =
 no_walks : (n place : ℕ) → first_walk (replicate n None) place ≡ None
 no_walks n place = elim (cases_lt place n) [
   | inl lt ↦ get_or-replicate n place None None lt
-  | inr le ↦ get_or-eq_default (replicate n None) None (let len = length-replicate {A = Option ℕ} n None in omega (arith, le, len))
+  | inr le ↦ get_or-eq_default (replicate n None) None
+      (let len = length-replicate {A = Option ℕ} n None in omega (arith, le, len))
 ]
 
 -- no walk was made so far

@@ -47,7 +47,8 @@ pub record HeadFails (pages : ℕ) (image : Image) (why : LoadFault) : Type 0 wh
   pub super_at : SuperAt pages image sup
   pub shows : ShowsFirst (look_of (region_of sup) image) (region_of sup) why
 
--- Each head is whole, but once the metadata is resolved the first blob that shows a fault of its parents shows this one.
+-- Each head is whole, but once the metadata is resolved the first blob that shows a fault of its parents shows this
+-- one.
 pub record ParentFails (pages : ℕ) (image : Image) (why : LoadFault) : Type 0 where
   pub sup : Super
   pub super_at : SuperAt pages image sup

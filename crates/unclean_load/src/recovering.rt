@@ -74,8 +74,8 @@ fn masks_of(alloc: Global, sup: &Super, metas: &Metas, chains: &Chains) -> Resul
     })
 }
 
-/// Resolves the blobs that were read, and tests what comes of it: each blob's parents, and that no cluster stands in two
-/// slots.
+/// Resolves the blobs that were read, and tests what comes of it: each blob's parents, and that no cluster stands in
+/// two slots.
 pub fn recover(alloc: Global, sup: &Super, blobs: Blobs) -> Result<Recovered, LoadFault>
     requires faultless { IsFaultless sup.now }
     requires read { AreRead sup.now (map.get blobs.metas) (map.get blobs.chains) }

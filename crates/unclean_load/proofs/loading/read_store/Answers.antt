@@ -37,7 +37,8 @@ returns-clause-found g c =
     let base : base_of r.metas r.marked ≡ map.get b.metas =
     base_read s (map.get b.metas) (map.get r.chains) r.metas r.removed r.marked r.repairs r.masks x.recovered in
     λ told. subst
-    (λ (m : Metas). AreWhole (look_of (region_of s) (d.now c.args.disk.now)) (region_of s) m (map.get r.chains)) (sym base)
+    (λ (m : Metas). AreWhole (look_of (region_of s) (d.now c.args.disk.now)) (region_of s) m (map.get r.chains))
+    (sym base)
     (subst
     (λ (l : Chains). AreWhole (look_of (region_of s) (d.now c.args.disk.now)) (region_of s) (map.get b.metas) l)
     (ap map.get (sym x.chains))

@@ -16,19 +16,24 @@ use Rattle.unclean_load.proofs.masks.used_pages.Goals as goal
 use Rattle.unclean_load.proofs.masks.used_pages.Goals.{in-Some+in_ok-mark_pages, in_default}
 
 pub loop-head-init : goal.loop-head-init
-loop-head-init c = marked_none c.args.md_len (chains_of (map.get c.args.metas.now) (map.get c.args.chains.now)) c.in_ok-bits.bits c.in_ok-bits.ensures
+loop-head-init c =
+    marked_none c.args.md_len (chains_of (map.get c.args.metas.now) (map.get c.args.chains.now)) c.in_ok-bits.bits
+    c.in_ok-bits.ensures
 
 pub mark_pages-requires-clause-low : goal.mark_pages-requires-clause-low
 mark_pages-requires-clause-low c =
-    let there : chains_of (map.get c.args.metas.now) (map.get c.args.chains.now) c.loop-head.head ≡ Some c.in-Some.pages.now =
+    let there : chains_of (map.get c.args.metas.now) (map.get c.args.chains.now) c.loop-head.head
+    ≡ Some c.in-Some.pages.now =
     sym c.chain_of.ensures ∙ ap option_copied c.in-Some.is in
-    let x = (chains_there (map.get c.args.metas.now) (map.get c.args.chains.now) c.args.md_len c.requires _ _ there).1 in
+    let x =
+    (chains_there (map.get c.args.metas.now) (map.get c.args.chains.now) c.args.md_len c.requires _ _ there).1 in
     let count = c.loop-head.invariant.count in
     λ place among. let y = x.low place among in omega (arith, y, count)
 
 pub mark_pages-requires-clause-differ : goal.mark_pages-requires-clause-differ
 mark_pages-requires-clause-differ c =
-    let there : chains_of (map.get c.args.metas.now) (map.get c.args.chains.now) c.loop-head.head ≡ Some c.in-Some.pages.now =
+    let there : chains_of (map.get c.args.metas.now) (map.get c.args.chains.now) c.loop-head.head
+    ≡ Some c.in-Some.pages.now =
     sym c.chain_of.ensures ∙ ap option_copied c.in-Some.is in
     (chains_there (map.get c.args.metas.now) (map.get c.args.chains.now) c.args.md_len c.requires _ _ there).1.differ
 

@@ -5,7 +5,8 @@ use Rattle.blob_meta.specs.declared.meta.Meta.{Meta}
 use Rattle.blob_meta.specs.Resolving.{mark_of}
 use Rattle.unclean_load.proofs.MarkedRead.{IsMarkedBelow, marked_begin, no_blob_marked, blob_unmarked, marked_more}
 use Rattle.unclean_load.proofs.recovering.marked_of.Goals as goal
-use Rattle.unclean_load.proofs.recovering.marked_of.Goals.{in-Some+then-is_some+in_ok-try_copy+in_ok-insert, in-Some+else-is_some, in_default}
+use Rattle.unclean_load.proofs.recovering.marked_of.Goals.{in-Some+then-is_some+in_ok-try_copy+in_ok-insert}
+use Rattle.unclean_load.proofs.recovering.marked_of.Goals.{in-Some+else-is_some, in_default}
 
 pub loop-head-init : goal.loop-head-init
 loop-head-init c = marked_begin (map.get c.args.metas.now) c.new-marked.result c.new-marked.ensures
