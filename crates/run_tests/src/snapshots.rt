@@ -1,7 +1,11 @@
 //! Snapshots of volumes: they show what the volume showed, and the volume reads through them until it is written.
 
 use crate::volumes::{Case, On, expect_case};
+use page_disk::MemDisk;
+use std::alloc::Global;
 use std::test::Fail;
+use test_runs::play;
+use test_stores::{LAST, PageRow, THIN, image};
 
 const CASES: [Case; 7] = [
     // A snapshot is read-only, and the volume's parent from then on.
@@ -100,5 +104,28 @@ fn snapshots_show_what_was_there_and_outlast_the_run(rt: HostRuntime) -> Result<
     for case in &CASES {
         expect_case(rt.alloc(), case)?;
     }
+    Ok(())
+}
+
+/// A map of 2^20 empty slots.
+const MOST: &[u8] = b"\x01\x08\0\0\0\0\0\0\0\0\0\x10\0";
+
+/// A store of 18 metadata pages whose 16 thin blobs have 2^24 slots together.
+fn full_maps(alloc: Global) -> Result<MemDisk, Fail> {
+    let mut rows: Vec<PageRow> = Vec::new(alloc);
+    for head in 0..16 {
+        rows.push((head, head, 0, LAST, &[THIN, MOST]))?;
+    }
+    image(alloc, (64, 18), &rows)
+}
+
+/// A snapshot has the slots of its volume, and both count. Where a name is taken that is told first.
+#[test]
+fn a_snapshot_is_refused_for_a_slot_too_many(rt: HostRuntime) -> Result<(), Fail> {
+    let script =
+        b"0 snapshot @0 t\n0 resize @15 0\n0 snapshot @0 t\n0 snapshot @1 t\n0 snapshot @1 u\n0 df\n";
+    let printed = b"0 0 too large\n0 1 ok\n0 2 ok @16\n0 3 name taken\n0 4 too large\n\
+        0 5 df clusters 10 of 16 pages 1 of 18\n";
+    play(rt.alloc(), script, printed, full_maps(rt.alloc())?)?;
     Ok(())
 }
