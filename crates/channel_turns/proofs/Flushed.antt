@@ -11,10 +11,12 @@ use Rattle.store_model.specs.Cases.{FailsToReplace}
 use Rattle.store_model.specs.Cases.Flush.{IsFlushed}
 use Rattle.store_model.specs.Cases as kind
 use Rattle.store_model.specs.Rows.{Idle, Row}
-use Rattle.store_model.specs.StoreState.{logged_here}
+use Rattle.store_model.specs.StoreState.{logged_here, StoreState}
 use Rattle.store_model.specs.Touches.{Touched, no_new}
 use Rattle.channel_turns.specs.ChannelTurns.{IsOfFlush, WaitsToFlush}
 use Rattle.running_store.specs.TurnMade.{TurnsAs}
+use Rattle.running_store.proofs.Thawed.{state_stopped}
+use Rattle.channel_turns.proofs.Thawed.{IsThawed}
 use Rattle.running_store.specs.Steps.{logged_on, stopped_here}
 use Rattle.running_store.specs.StoreView.{StoreView, device_of, rows_of, state_of}
 use Rattle.running_store.proofs.Entered.{disk_same_then, entered_then}
@@ -51,7 +53,7 @@ module _ {D : Type 0} (d : Ghosts D) (p : StoreView D) (channel : ℕ) (low : ch
         );
       }
 
-  pub flush_failed : (state_of d p).frozen ≡ (λ head. false)
+  pub flush_failed : IsThawed p
       → FailsToReplace (device_of d p.disk) (device_of d disk)
       → ((command : Command) (rest : List Command) → (rows_of p.rows channel).left ≡ command ∷ rest
       → q ≡ logged_on (stopped_here (record p { disk = disk })) channel command rest r.Fault (d.clock q.disk))
@@ -72,10 +74,8 @@ module _ {D : Type 0} (d : Ghosts D) (p : StoreView D) (channel : ℕ) (low : ch
             device = device_of d disk;
             fails = fails;
             next = entered_then Idle d mid q channel c.Flush w.rest r.Fault low is
-                ∙ ap (λ (f : ℕ → Bool). logged_here (record (state_of d p) {
-                  stopped = Some (length p.log);
-                  frozen = f;
-                }) channel c.Flush w.rest r.Fault (device_of d disk)) thawed;
+                ∙ ap (λ (a : StoreState). logged_here a channel c.Flush w.rest r.Fault (device_of d disk))
+                (state_stopped d (record p { disk = disk }) thawed);
           },
           subst (λ (x : D). Touched d p.disk x (no_new false)) (sym same)
               (record { moments = moments; durable = λ never. absurd (cc never) }),

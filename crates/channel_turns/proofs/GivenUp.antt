@@ -6,12 +6,14 @@ use Rattle.volume_model.specs.declared.command.Command.TheVariants as c
 use Rattle.volume_model.specs.declared.reply.Reply.TheVariants as r
 use Rattle.store_model.specs.Claiming.{given_back, IsCopying, LogsOwn, own}
 use Rattle.store_model.specs.Rows.{Idle, Row, Stage}
-use Rattle.store_model.specs.StoreState.{logged_here}
+use Rattle.store_model.specs.StoreState.{logged_here, StoreState}
 use Rattle.store_model.specs.Turning.{stopped_now}
 use Rattle.channel_turns.specs.ChannelTurns.{WaitsToFlush, WaitsToRead, WaitsToWrite}
 use Rattle.channel_turns.specs.ClaimTurns.{HoldsClaim}
 use Rattle.running_store.specs.GivingBack.{IsOwnStage, row_given_back, WaitsHere}
 use Rattle.running_store.specs.StoreView.{device_of, rows_of, state_of, StoreView}
+use Rattle.running_store.proofs.Thawed.{state_stopped}
+use Rattle.channel_turns.proofs.Thawed.{IsThawed}
 use Rattle.running_store.specs.Steps.{logged_on, stopped_here}
 use Rattle.running_store.proofs.GivenBack.{given_up}
 
@@ -64,7 +66,7 @@ module _ {D : Type 0} (d : Ghosts D) (p : StoreView D) (channel : ℕ) (stage : 
   }
 
   -- a write or a flush failed, and the store stops
-  pub logs_failed : (state_of d p).frozen ≡ (λ head. false) → (disk : D) (q : StoreView D)
+  pub logs_failed : IsThawed p → (disk : D) (q : StoreView D)
       → ((command : Command) (rest : List Command) → (rows_of p.rows channel).left ≡ command ∷ rest
       → q ≡ logged_on (row_given_back (stopped_here (record p { disk = disk })) channel Idle) channel command rest
       r.Fault (d.clock q.disk))
@@ -80,9 +82,8 @@ module _ {D : Type 0} (d : Ghosts D) (p : StoreView D) (channel : ℕ) (stage : 
         left = left;
         next = given_up d (stopped_here (record p { disk = disk })) channel low q command w.rest r.Fault
             (logged command w.rest left)
-            ∙ ap (λ (f : ℕ → Bool). logged_here
-            (given_back (record (state_of d p) { stopped = Some (length p.log); frozen = f }) channel Idle) channel
-            command w.rest r.Fault (device_of d disk)) thawed;
+            ∙ ap (λ (a : StoreState). logged_here (given_back a channel Idle) channel command w.rest r.Fault
+            (device_of d disk)) (state_stopped d (record p { disk = disk }) thawed);
       }
 
   pub disk_failed : (disk : D) (q : StoreView D)

@@ -23,6 +23,7 @@ use Rattle.store_model.specs.Rows.{Copying, Idle, Row}
 use Rattle.store_model.specs.StoreState.{StoreState}
 use Rattle.store_model.specs.Touches.{no_new, puts, Touched}
 use Rattle.store_model.specs.Turning.{read_after}
+use Rattle.channel_turns.proofs.Thawed.{IsThawed}
 use Rattle.running_store.specs.Steps.{logged_on, stopped_here, with_row_at}
 use Rattle.running_store.specs.TurnMade.{TurnMade, TurnsAs}
 use Rattle.channel_turns.specs.ClaimTurns.{CopiesNow, HoldsClaim, IsOfCopy, WaitsToCopy}
@@ -149,7 +150,7 @@ module _ {D : Type 0} (d : Ghosts D) (p : StoreView D) (channel : ℕ) (from : O
       touched,
     )
 
-    pub copy_failed : now.frozen ≡ (λ head. false) → FailsToReplace (device_of d mid) (device_of d disk)
+    pub copy_failed : IsThawed p → FailsToReplace (device_of d mid) (device_of d disk)
         → (q : StoreView D)
         → ((command : Command) (rest : List Command) → (rows_of p.rows channel).left ≡ command ∷ rest
         → q ≡ logged_on (row_given_back (stopped_here (record p { disk = disk })) channel Idle) channel command rest

@@ -32,7 +32,8 @@ use Rattle.store_model.specs.Shown.{fixed_of}
 use Rattle.store_model.specs.StoreState.{shown, StoreState}
 use Rattle.store_model.specs.Touches.{no_new, Touched}
 use Rattle.store_model.specs.Turning.{IsNotFrozen, IsQuiet}
-use Rattle.channel_turns.specs.ChannelTurns.{IsOfRead, ReadsNow, WaitsToRead}
+use Rattle.channel_turns.specs.ChannelTurns.{IsFrozenFor, IsOfRead, ReadsNow, WaitsToRead}
+use Rattle.channel_turns.proofs.WriteMeant.{found_frozen}
 use Rattle.running_store.specs.DeviceCalls.{IsReadSo}
 use Rattle.running_store.specs.TurnMade.{TurnsAs}
 use Rattle.running_store.specs.Reserved.{is_read, IsContent}
@@ -109,6 +110,12 @@ module _ {D : Type 0} (d : Ghosts D) (p : StoreView D) (channel : ℕ) (running 
 
   head_is : head_of (fixed_of p.super) (shown s) w.volume ≡ head
   head_is = meant (fixed_of p.super) (shown s) (shows_pages s running runs p.metas are.resolves).shows
+
+  -- its blob is frozen
+  pub frozen_so : option_map_or (set.contains p.guards.frozen) head false ≡ true → IsFrozenFor s command
+  frozen_so on =
+      let x = found_frozen (fixed_of p.super) (shown s) (set.contains p.guards.frozen) w.volume head head_is on in
+      record { head = x.0; named = x.1; frozen = x.2 }
 
   module _ (thawed : option_map_or (set.contains p.guards.frozen) head false ≡ false) where
     free : IsNotFrozen s w.volume

@@ -15,6 +15,7 @@ use Rattle.store_model.specs.Cases.Flush.{IsFlushed}
 use Rattle.store_model.specs.Rows.{Idle, Posted, Ready, Row, Rows}
 use Rattle.store_model.specs.StoreState.{next_serial, StoreState}
 use Rattle.store_model.specs.Touches.{no_new, Touched}
+use Rattle.channel_turns.proofs.Thawed.{IsThawed}
 use Rattle.running_store.specs.Steps.{logged_on, stopped_here}
 use Rattle.running_store.specs.TurnMade.{TurnMade, TurnsAs}
 use Rattle.channel_turns.specs.ClaimTurns.{HoldsClaim, IsOfSend, row_posted}
@@ -54,7 +55,7 @@ module _ {D : Type 0} (d : Ghosts D) (p : StoreView D) (channel : ℕ) (low : ch
             (record { moments = moments; durable = λ _. durable }),
       )
 
-  pub send_failed : (state_of d p).frozen ≡ (λ head. false) → FailsToReplace (device_of d p.disk) (device_of d disk)
+  pub send_failed : IsThawed p → FailsToReplace (device_of d p.disk) (device_of d disk)
       → ((command : Command) (rest : List Command) → (rows_of p.rows channel).left ≡ command ∷ rest
       → q ≡ logged_on (row_given_back (stopped_here (record p { disk = disk })) channel Idle) channel command rest
       r.Fault (d.clock q.disk))

@@ -1,5 +1,5 @@
 -- What a channel's write of a page means, at whichever stage it is, by what was found of its blob.
-use Rattle.std.proofs.Common.{◌≡◌, ℕ, ◌+◌, ◌*◌, ◌/◌, ◌%◌, ◌^◌, ◌<◌, ◌∷◌, false, List, Option, Some, None, length}
+use Rattle.std.proofs.Common.{◌≡◌, ℕ, ◌+◌, ◌*◌, ◌/◌, ◌%◌, ◌^◌, ◌<◌, ◌∷◌, Bool, true, false, List, Option, Some, None, length}
 use Rattle.std.proofs.Common.{arith, refl, sym, ap, subst, ◌∙◌}
 use Rattle.std.specs.Prelude.{IfSome, IsSome}
 use Rattle.std.specs.Option.{option_and_then, option_map, option_map_or}
@@ -12,7 +12,7 @@ use Rattle.page_disk.specs.declared.disk.PageDisk.{Ghosts}
 use Rattle.super_block.specs.Numbers.{cluster_pages_of}
 use Rattle.super_block.specs.declared.page.Super.{Super}
 use Rattle.volume_model.specs.Refusals.{refusal}
-use Rattle.volume_model.specs.Volumes.{head_of}
+use Rattle.volume_model.specs.Volumes.{head_of, Fixed, Volumes}
 use Rattle.volume_model.specs.declared.command.Command.{Command}
 use Rattle.volume_model.specs.declared.command.Command.TheVariants as c
 use Rattle.volume_model.specs.declared.command.PageWord.{PageWord}
@@ -34,7 +34,7 @@ use Rattle.store_model.specs.Shown.{fixed_of}
 use Rattle.store_model.specs.StoreState.{shown, StoreState}
 use Rattle.store_model.specs.Turning.{IsNotFrozen}
 use Rattle.store_model.proofs.Inside.{none_of_map}
-use Rattle.channel_turns.specs.ChannelTurns.{WaitsToWrite}
+use Rattle.channel_turns.specs.ChannelTurns.{IsFrozenFor, WaitsToWrite}
 use Rattle.channel_turns.specs.ClaimTurns.{writing}
 use Rattle.running_store.specs.StoreInvariant.{IsRunning}
 use Rattle.running_store.specs.StoreView.{AreResolved, rows_of, state_of, StoreView}
@@ -125,6 +125,13 @@ has_empty metas k h page some is = at (metas h) refl some is
       empty = none_of_map (λ cluster. cluster * k + page % k) (slot m (page / k)) is;
     }
 
+-- a blob that is found frozen is one
+pub found_frozen : (f : Fixed) (v : Volumes) (frozen : ℕ → Bool) (volume : VolumeRef) (head : Option ℕ)
+    → head_of f v volume ≡ head → option_map_or frozen head false ≡ true
+    → (h : ℕ) × (head_of f v volume ≡ Some h) × (frozen h ≡ true)
+found_frozen f v frozen volume None is on = absurd (cc on)
+found_frozen f v frozen volume (Some h) is on = (h, is, on)
+
 module _ {D : Type 0} (d : Ghosts D) (p : StoreView D) (channel : ℕ) (stage : Stage)
     (running : IsRunning (state_of d p)) (runs : p.stopped ≡ None) (are : AreResolved p.metas p.marked)
     (w : WaitsToWrite p channel stage)
@@ -140,6 +147,12 @@ module _ {D : Type 0} (d : Ghosts D) (p : StoreView D) (channel : ℕ) (stage : 
 
   pub head_is : head_of (fixed_of p.super) (shown s) w.volume ≡ head
   head_is = meant (fixed_of p.super) (shown s) (shows_pages s running runs p.metas are.resolves).shows
+
+  -- its blob is frozen
+  pub frozen_so : option_map_or (set.contains p.guards.frozen) head false ≡ true → IsFrozenFor s command
+  frozen_so on =
+      let x = found_frozen (fixed_of p.super) (shown s) (set.contains p.guards.frozen) w.volume head head_is on in
+      record { head = x.0; named = x.1; frozen = x.2 }
 
   -- what refuses it
   pub refused_so : (first : Option Reply) → IsFirstOnPages p.metas p.super command first

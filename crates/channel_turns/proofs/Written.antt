@@ -12,9 +12,11 @@ use Rattle.volume_model.specs.declared.reply.Reply.TheVariants as r
 use Rattle.store_model.specs.Cases.{FailsToReplace, WritesOnePage}
 use Rattle.store_model.specs.Cases as kind
 use Rattle.store_model.specs.Rows.{Idle, Row}
-use Rattle.store_model.specs.StoreState.{logged_here}
+use Rattle.store_model.specs.StoreState.{logged_here, StoreState}
 use Rattle.store_model.specs.Touches.{puts, Touched}
 use Rattle.channel_turns.specs.ChannelTurns.{IsOfWrite, WritesNow}
+use Rattle.running_store.proofs.Thawed.{state_stopped}
+use Rattle.channel_turns.proofs.Thawed.{IsThawed}
 use Rattle.running_store.specs.Steps.{logged_on, stopped_here}
 use Rattle.running_store.specs.TurnMade.{TurnsAs}
 use Rattle.running_store.specs.StoreView.{device_of, rows_of, state_of, StoreView}
@@ -77,7 +79,7 @@ module _ {D : Type 0} (d : Ghosts D) (p : StoreView D) (channel place : ℕ) (co
       }
 
   -- the write failed
-  pub write_failed : (state_of d p).frozen ≡ (λ head. false)
+  pub write_failed : IsThawed p
       → FailsToReplace (device_of d p.disk) (device_of d disk)
       → ((command : Command) (rest : List Command) → (rows_of p.rows channel).left ≡ command ∷ rest
       → q ≡ logged_on (stopped_here (record p { disk = disk })) channel command rest r.Fault (d.clock q.disk))
@@ -94,10 +96,8 @@ module _ {D : Type 0} (d : Ghosts D) (p : StoreView D) (channel place : ℕ) (co
             device = device_of d disk;
             fails = fails;
             next = entered_then Idle d mid q channel command w.at.rest r.Fault low is
-                ∙ ap (λ (f : ℕ → Bool). logged_here (record (state_of d p) {
-                  stopped = Some (length p.log);
-                  frozen = f;
-                }) channel command w.at.rest r.Fault (device_of d disk)) thawed
+                ∙ ap (λ (a : StoreState). logged_here a channel command w.at.rest r.Fault (device_of d disk))
+                (state_stopped d (record p { disk = disk }) thawed)
                 ∙ ap (λ n. logged_here (record (state_of d p) {
                   stopped = Some (length p.log);
                   frozen = λ head. false;

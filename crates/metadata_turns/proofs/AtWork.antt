@@ -9,8 +9,7 @@ use Rattle.md_chain.specs.declared.plan.PlannedPage.{PlannedPage}
 use Rattle.store_model.specs.StoreState.{JobState, StoreState, planned_at}
 use Rattle.running_store.specs.declared.job.Serves.{Serves}
 use Rattle.store_model.specs.Places.{held_by, AreDistinct}
-use Rattle.store_model.specs.Jobs.{gained_by, places_of, IsServed, JobStands, CanReplace, Does, IsStep, Lays}
-use Rattle.store_model.specs.Jobs.{ReadsZeros}
+use Rattle.store_model.specs.Jobs.{gained_by, places_of, JobStands, CanReplace, Lays}
 use Rattle.store_model.specs.RunInvariant.{RunsWell}
 use Rattle.store_model.proofs.Sets.{among_first, among_later}
 use Rattle.store_model.proofs.Used.{within}
@@ -18,13 +17,10 @@ use Rattle.running_store.specs.StoreInvariant.{IsRunning}
 use Rattle.running_store.proofs.Cleared.{among_get}
 use Rattle.running_store.proofs.PlainFacts.{got}
 use Rattle.running_store.specs.declared.replacements.Planned.{Planned}
-use Rattle.running_store.specs.Jobs.{commit_in, commit_of, erasing_for, replacing_of, writing_for}
-use Rattle.running_store.specs.Jobs.{writing_job}
+use Rattle.running_store.specs.Jobs.{commit_in, erasing_for, replacing_of, writing_for}
 use Rattle.store_model.specs.Phases.{page_in, held_in, Erases, Frees, Phase, Replacing, erasing, has_commit, taken_in}
 use Rattle.store_model.specs.Phases.{Replaces, taken_by}
 use Rattle.store_model.proofs.Phases.{planned_behind, held_behind, lays_reached}
-use Rattle.store_model.proofs.Phases.{does_reached}
-use Rattle.running_store.proofs.CommitLeft.{commit_writing}
 use Rattle.blob_meta.specs.declared.meta.Meta.{Meta}
 use Rattle.store_model.proofs.LeftToDo.{among_left, distinct_left}
 use Rattle.std.specs.Prelude.{if◌then◌else◌, is_some, Bool, ◌||◌}
@@ -121,19 +117,15 @@ module _ (p : StoreState) (r : IsRunning p) (runs : p.stopped ≡ None) where
         let held : held_by p.job ≡ taken_by replacing ++ taken_in (erasing old old more) =
         ap held_by is ∙ held_behind (drop written fresh) behind in
         subst (λ l. is_among x l ≡ true) (sym held)
-        (among_left x (taken_by replacing) (taken_in (erasing old old more)) (taken (is_some planned.effects.rooms)))
+        (among_left x (taken_by replacing) (taken_in (erasing old old more)) (taken (is_some planned.effects.rooms.chain)))
       where
         taken : (makes : Bool) → is_among x (if makes then planned.head ∷ fresh else fresh) ≡ true
         taken true = among_later x planned.head fresh among
         taken false = among
 
     -- the chain of a blob that is there
-    pub chain_there : is_some planned.effects.rooms ≡ false → p.chains planned.head ≡ Some (planned.head ∷ old)
+    pub chain_there : is_some planned.effects.rooms.chain ≡ false → p.chains planned.head ≡ Some (planned.head ∷ old)
     chain_there not = can.chain ∙ ap (λ b. if b then None else Some (planned.head ∷ old)) not
-
-    -- and none, where the blob is new
-    pub none_there : is_some planned.effects.rooms ≡ true → p.chains planned.head ≡ None
-    none_there makes = can.chain ∙ ap (λ b. if b then None else Some (planned.head ∷ old)) makes
 
     distinct : AreDistinct (places_of planned.pages)
     distinct =
@@ -141,7 +133,7 @@ module _ (p : StoreState) (r : IsRunning p) (runs : p.stopped ≡ None) where
         subst AreDistinct (held_behind (drop written fresh) behind) stands.distinct in
         let taken : AreDistinct (taken_by replacing) =
         distinct_left (taken_by replacing) (taken_in (erasing old old more)) differ in
-        subst AreDistinct (sym can.places) (elim (cases_Bool (is_some planned.effects.rooms)) [
+        subst AreDistinct (sym can.places) (elim (cases_Bool (is_some planned.effects.rooms.chain)) [
           | inl makes ↦ subst (λ (b : Bool). AreDistinct (if b then planned.head ∷ fresh else fresh)) makes taken
           | inr not ↦ (
             elim (cases_Bool (is_among planned.head fresh)) [
@@ -188,39 +180,12 @@ module _ (p : StoreState) (r : IsRunning p) (runs : p.stopped ≡ None) where
         length_places (x ∷ xs) = ap suc (length_places xs)
 
     -- a blob that is there has its metadata
-    pub has_meta : is_some planned.effects.rooms ≡ false → (m : Meta) × (p.base planned.head ≡ Some m)
+    pub has_meta : is_some planned.effects.rooms.chain ≡ false → (m : Meta) × (p.base planned.head ≡ Some m)
     has_meta not = by (p.base planned.head) refl
       where
         by : (o : Option Meta) → p.base planned.head ≡ o → (m : Meta) × (p.base planned.head ≡ Some m)
         by None none = absurd (let bad = sym (well.chains.none planned.head none) ∙ chain_there not in cc bad)
         by (Some m) some = (m, some)
-
-  -- ---- the commit of a command's
-
-  module _ (channel : ℕ) (planned : Planned) (old : List ℕ) (written : ℕ) (more : List Phase)
-      (is : p.job ≡ Some (writing_job channel planned old written more)) (commits : planned.commits ≡ true) where
-    abbrev here : JobState
-    here = writing_job channel planned old written more
-
-    abbrev left : List ℕ
-    left = drop written (drop 1 planned.chain)
-
-    abbrev committing : List Phase
-    committing = Replaces (replacing_of planned old) (commit_in planned) ∷ erasing old old more
-
-    pub commit_is : commit_in planned ≡ Some (commit_of planned)
-    commit_is = rw commits refl
-
-    pub waits : has_commit here.todo ≡ true
-    waits = commit_writing planned left old more ∙ ap (λ b. b || has_commit more) commits
-
-    pub step : (x : IsServed p channel planned.effects.claimed here.todo)
-        → IsStep (ReadsZeros p.super planned.effects.claimed) p.super p.base (replacing_of planned old) p.live
-        x.command (commit_of planned)
-    step x = (subst (λ o. Does (ReadsZeros p.super planned.effects.claimed) p.super p.base p.live x.command
-        (Replaces (replacing_of planned old) o ∷ erasing old old more)) commit_is
-        (does_reached (ReadsZeros p.super planned.effects.claimed) p.super p.base p.live x.command left committing
-        x.does)).0
 
   -- ---- a job behind its replacement
 

@@ -66,7 +66,7 @@ seen_serves j = by j.work refl
     by : (w : Work) → j.work ≡ w → (job_seen j).serves ≡ service_of j.serves
     by (works.Zeroing planned zeroed) e = rw e refl
     by (works.Writing planned written) e = rw e refl
-    by (works.Removing head freed) e = rw e refl
+    by (works.Removing gone) e = rw e refl
     by (works.Erasing erased) e = rw e refl
 
 -- what is seen of a running job serves a command or an insert
@@ -77,7 +77,7 @@ waits_either None channel waits = absurd (cc waits)
 waits_either (Some j) channel waits = by j.serves refl
   where
     by : (s : Serves) → j.serves ≡ s → WaitsIn (Some (job_seen j)) channel ⊎ InsertsIn (Some (job_seen j)) channel
-    by (whom.Command here) e = inl (waits_by (job_seen j) here channel (has_commit (job_seen j).todo)
+    by (whom.Command here freeze) e = inl (waits_by (job_seen j) here channel (has_commit (job_seen j).todo)
         (seen_serves j ∙ ap service_of e) refl waits)
     by (whom.Insert here) e = inr (inserts_by (job_seen j) here channel (seen_serves j ∙ ap service_of e) waits)
     by whom.Repair e =

@@ -191,7 +191,7 @@ module _ {D : Type 0} (d : Ghosts D) (p : StoreView D) (channel : ℕ) (x : Hold
     new = with_slot meta x.claim.slot x.claim.cluster
 
     abbrev planned : Prepared → Planned
-    planned y = planned_with y x.claim.head new false no_effects
+    planned y = planned_with y x.claim.head new no_effects
 
     abbrev in_job : Row
     in_job = record { left = x.left; stage = InJob; claim = Some x.claim }

@@ -1,6 +1,7 @@
 -- A write that waits for its insert, and how it is logged where its job fails.
 use Rattle.std.proofs.Common.{◌≡◌, ℕ, ◌<◌, Bool, false, List, ◌∷◌, length, Some, None, refl, sym, ◌∙◌, ap, inl, inr}
-use Rattle.std.proofs.Common.{subst}
+use Rattle.std.proofs.Common.{subst, Option}
+use Rattle.std.specs.FinSet as set
 use Rattle.std.proofs.lemmas.Bool.{cases_eq, cases_lt, eq-eqb, ne_eqb}
 use Rattle.std.proofs.Math.ListN.{get_or-eq_default}
 use Rattle.std.proofs.Math.Path.{fun_ext}
@@ -15,13 +16,14 @@ use Rattle.store_model.specs.Claiming.{given_back, IsInserting, LogsOwn}
 use Rattle.store_model.specs.Phases.{Phase}
 use Rattle.store_model.specs.Rows.{Answered, Decided, Row, Rows, with_row}
 use Rattle.store_model.specs.StoreState.{ForInsert, JobState, logged, logged_to, StoreState}
-use Rattle.store_model.proofs.Guarding.{none_frozen_by}
 use Rattle.metadata_turns.specs.JobTurns.{stopped_at, with_job, IsAtWork}
 use Rattle.metadata_turns.specs.OwnWrites.{BeginsWithWrite, WaitsToInsert}
 use Rattle.running_store.specs.Steps.{logged_at}
 use Rattle.running_store.specs.StoreView.{StoreView, device_of, rows_of, state_of}
 use Rattle.running_store.specs.GivingBack.{claim_cleared, IsGivenUp}
+use Rattle.running_store.specs.Places.{thawed}
 use Rattle.running_store.proofs.Rowing.{state_logged}
+use Rattle.running_store.proofs.Thawed.{none_frozen_then}
 
 -- ---- rows
 
@@ -81,8 +83,34 @@ given_up_after {D = D} d p a q channel reply a_is given = λ command rest left.
 
 -- ---- a job that fails
 
+-- the store as it stops, with these blobs frozen
+abbrev stopping : {D : Type 0} → Ghosts D → StoreView D → JobState → D → (ℕ → Bool) → StoreState
+stopping d p j disk frozen = record (state_of d (with_job p j)) {
+  stopped = Some (length p.log);
+  job = None;
+  frozen = frozen;
+  device = device_of d disk;
+}
+
+-- no blob is frozen any more
+pub stopped_state : {D : Type 0} (d : Ghosts D) (p : StoreView D) (j : JobState) → IsAtWork d p j → (disk : D)
+    → state_of d (stopped_at (record p { disk = disk }) j.freeze)
+    ≡ record (state_of d (with_job p j)) {
+      stopped = Some (length p.log);
+      job = None;
+      frozen = λ head. false;
+      device = device_of d disk;
+    }
+stopped_state d p j w disk = by j.freeze
+    (none_frozen_then (state_of d (with_job p j)) w.running.facts.guarded p.guards refl w.not_stopped j refl)
+  where
+    by : (o : Option ℕ) → set.contains (thawed p.guards o).frozen ≡ (λ head. false)
+        → state_of d (stopped_at (record p { disk = disk }) o) ≡ stopping d p j disk (λ head. false)
+    by None none = ap (stopping d p j disk) none
+    by (Some head) none = ap (stopping d p j disk) none
+
 module _ {D : Type 0} (d : Ghosts D) (p : StoreView D) (j : JobState) (w : IsAtWork d p j) (row : ℕ)
-    (serves : j.serves ≡ ForInsert row) (thaws : j.freeze ≡ None) where
+    (serves : j.serves ≡ ForInsert row) where
   abbrev s : StoreState
   s = state_of d (with_job p j)
 
@@ -92,19 +120,13 @@ module _ {D : Type 0} (d : Ghosts D) (p : StoreView D) (j : JobState) (w : IsAtW
   abbrev pub inserting : IsInserting s j
   inserting = record { row = row; serves = serves; waits = waits.stage }
 
-  pub thawed : s.frozen ≡ (λ head. false)
-  thawed = fun_ext (none_frozen_by s w.running.facts.guarded j refl thaws)
-
   module _ (disk : D) where
     abbrev stopped : StoreView D
-    stopped = stopped_at (record p { disk = disk })
+    stopped = stopped_at (record p { disk = disk }) j.freeze
 
     abbrev pub fault : StoreView D
     fault = logged_at (claim_cleared stopped row) row (command d stopped row waits.writes) waits.writes.rest r.Fault
         (d.clock disk)
-
-    abbrev stopping : (ℕ → Bool) → StoreState
-    stopping frozen = record s { stopped = Some (length p.log); job = None; frozen = frozen }
 
     abbrev pub fails_insert : (phase : Phase) (others : List Phase) → j.todo ≡ phase ∷ others → TriedInsert j phase
         → FailsToReplace (device_of d p.disk) (device_of d disk) → InsertFails s (state_of d fault)
@@ -124,8 +146,8 @@ module _ {D : Type 0} (d : Ghosts D) (p : StoreView D) (j : JobState) (w : IsAtW
             rest = own.rest;
             left = own.left;
             next = own.next
-                ∙ ap (λ (f : ℕ → Bool). logged_to (Decided Answered)
-                (given_back (stopping f) row (Decided Answered)) row (command d stopped row waits.writes)
-                waits.writes.rest r.Fault (device_of d disk)) thawed;
+                ∙ ap (λ (a : StoreState). logged_to (Decided Answered)
+                (given_back a row (Decided Answered)) row (command d stopped row waits.writes)
+                waits.writes.rest r.Fault (device_of d disk)) (stopped_state d p j w disk);
           };
         }

@@ -34,13 +34,12 @@ use Rattle.store_model.proofs.OneReplacement.{base_lawful, base_steady}
 use Rattle.store_model.proofs.Known.{Known}
 use Rattle.store_model.proofs.NewBlob.{empty_slot, two_written}
 use Rattle.metadata_turns.specs.Begins.{job_with_zeros, AsksToWrite}
-use Rattle.running_store.specs.Effects.{cut_clusters, is_cut, live_behind}
-use Rattle.running_store.specs.Jobs.{live_at}
+use Rattle.running_store.specs.Effects.{commit_by, cut_clusters, is_cut, live_at, live_behind}
 use Rattle.running_store.specs.StoreInvariant.{IsRunning}
 use Rattle.metadata_turns.proofs.CutClusters.{cut_moves, cut_once}
 use Rattle.metadata_turns.proofs.LiveBehind.{synced_live}
 use Rattle.metadata_turns.proofs.SlotsOfZeros.{with_none}
-use Rattle.metadata_turns.proofs.JobPlanned.{commit_by, many_replace, moves_made, none_deletes, same_one}
+use Rattle.metadata_turns.proofs.JobPlanned.{many_replace, moves_made, none_deletes, same_one}
 
 -- a map of all its slots
 whole_cut : (map : List (Option ℕ)) → cut map (length map) None ≡ map

@@ -3,8 +3,8 @@ use Rattle.std.proofs.Common.{◌≡◌, ℕ, ◌+◌, ◌<◌, Bool, true, fals
 use Rattle.std.proofs.Common.{Option, Some, None, refl, sym, ◌∙◌, ap, subst, append-nil, arith}
 use Rattle.store_model.specs.Jobs.{with_clusters, AreForZeros, LacksPages, LacksPagesFor, MovesClusters}
 use Rattle.store_model.specs.Maps.{with_entry, Metas}
-use Rattle.running_store.specs.Effects.{is_cut, live_behind, numbered_by, AreEffects}
-use Rattle.std.specs.Prelude.{◌||◌, if◌then◌else◌, is_some, not, slice_index_or, slice_set}
+use Rattle.running_store.specs.Effects.{commit_by, is_cut, live_behind, AreEffects}
+use Rattle.std.specs.Prelude.{if◌then◌else◌, is_some, not, slice_index_or, slice_set}
 use Rattle.std.proofs.lemmas.List.{get_or_default}
 use Rattle.page_disk.specs.declared.disk.PageDisk.{Ghosts}
 use Rattle.pools.specs.Pool.{clear_in, PoolState}
@@ -23,18 +23,20 @@ use Rattle.store_model.specs.Places.{all_set, AreLeastClear}
 use Rattle.store_model.specs.Asking.{IsJobFor}
 use Rattle.store_model.specs.Cases.{Begins, CannotBegin, IsPosted, IsRefusedAtBegin, Refuses}
 use Rattle.store_model.proofs.JobReady.{lacks_for_one}
-use Rattle.running_store.specs.Jobs.{begun_job, commit_in, commit_of, live_at, replacing_of, writing_job}
+use Rattle.running_store.specs.Jobs.{begun_job, commit_in, replacing_of, writing_for}
 use Rattle.metadata_turns.specs.Begins.{job_with_zeros, taken_for, AsksToWrite, IsUnprepared}
 use Rattle.running_store.specs.StoreInvariant.{IsRunning}
 use Rattle.running_store.specs.StoreView.{StoreView, rows_of, state_of}
 use Rattle.running_store.specs.Zeroing.{pages_of}
 use Rattle.running_store.specs.Steps.{logged_at, IsPostedAt}
+use Rattle.running_store.specs.declared.job.Serves.{Serves}
+use Rattle.running_store.specs.declared.job.Serves.TheVariants as whom
 use Rattle.running_store.specs.declared.replacements.Planned.{Planned}
 use Rattle.running_store.proofs.Entered.{disk_same, entered}
 use Rattle.metadata_turns.proofs.JobAsked.{asked, IsAsked}
 use Rattle.metadata_turns.proofs.Lacking.{may_lack}
 use Rattle.metadata_turns.proofs.JobPrepared.{moves_filled, there_is}
-use Rattle.metadata_turns.proofs.JobPlanned.{commit_by, IsReady}
+use Rattle.metadata_turns.proofs.JobPlanned.{IsReady}
 use Rattle.running_store.proofs.Rowing.{rows_set}
 use Rattle.running_store.proofs.ZeroPages.{from_start}
 
@@ -134,7 +136,10 @@ module _ {D : Type 0} (d : Ghosts D) (p : StoreView D) (channel : ℕ) (low : ch
     filled = with_clusters bare zeros claimed
 
     abbrev makes : Bool
-    makes = is_some planned.effects.rooms
+    makes = is_some planned.effects.rooms.chain
+
+    abbrev serves : Serves
+    serves = whom.Command channel None
 
     known : IsAsked s running clean runs command planned.head bare zeros asks (s.base planned.head)
     known = asked s running clean runs command planned.head bare zeros asks
@@ -145,7 +150,7 @@ module _ {D : Type 0} (d : Ghosts D) (p : StoreView D) (channel : ℕ) (low : ch
         record s { rows = rows; job = Some job; pages = pages; clusters = clusters }
 
     abbrev todo_with : List ℕ → Option Committing → JobState
-    todo_with pages commit = record (writing_job channel planned old 0 []) {
+    todo_with pages commit = record (writing_for serves planned old 0 []) {
       todo = map Zeros pages
           ++ writing (drop 1 planned.chain) (Replaces (replacing_of planned old) commit ∷ erasing old old []);
     }
@@ -154,8 +159,8 @@ module _ {D : Type 0} (d : Ghosts D) (p : StoreView D) (channel : ℕ) (low : ch
     abbrev live : Option Xattrs
     live = live_behind command (s.live planned.head) bare
 
-    pub begun : planned.commits ≡ true
-        → AreEffects (s.base planned.head) live bare claimed planned.effects
+    pub begun : AreEffects (is_some (s.chains planned.head)) planned.head (s.base planned.head) live bare claimed
+        planned.effects
         → AreLeastClear p.clusters claimed → length claimed ≡ length zeros → planned.new ≡ filled
         → (cluster_pages : ℕ) → cluster_pages ≡ cluster_pages_of p.super
         → is_some (s.chains planned.head) ≡ not makes
@@ -167,24 +172,21 @@ module _ {D : Type 0} (d : Ghosts D) (p : StoreView D) (channel : ℕ) (low : ch
           rows = slice_set p.rows channel (record (rows_of p.rows channel) { stage = InJob });
           pages = pages;
           clusters = clusters;
-          job = Some (begun_job channel planned old cluster_pages []);
+          job = Some (begun_job serves planned old cluster_pages []);
         }))
-    begun commits effects least one_each new_is cluster_pages each was chain unerased pages clusters set is =
-        let there : is_some (s.base planned.head) ≡ not makes =
-        there_is s running clean runs command planned.head bare zeros asks ∙ was in
+    begun effects least one_each new_is cluster_pages each was chain unerased pages clusters set is =
+        let commit : Committing =
+        commit_by (is_some (s.chains planned.head)) planned.head (is_cut (s.base planned.head) bare) live in
         record {
           posted = is_posted;
           runs = runs;
           no_job = no_job;
           repaired = clean;
           changes = job_with_zeros planned.head bare zeros;
-          commit = commit_of planned;
-          asked = subst (IsJobFor s command (job_with_zeros planned.head bare zeros))
-              (known.commit
-              ∙ ap (λ (b : Bool). commit_by b planned.head (is_cut (s.base planned.head) bare) live) there
-              ∙ ap (λ (b : Bool). commit_by (not makes) planned.head b live) (sym effects.renews)
-              ∙ ap (commit_by (not makes) planned.head planned.effects.renews) (sym effects.live_is)
-              ∙ commit_is makes planned.head planned.effects.renews planned.effects.live) asks.asked;
+          commit = commit;
+          asked = subst (IsJobFor s command (job_with_zeros planned.head bare zeros)) (known.commit
+              ∙ ap (λ (b : Bool). commit_by b planned.head (is_cut (s.base planned.head) bare) live)
+              (there_is s running clean runs command planned.head bare zeros asks)) asks.asked;
           claimed = claimed;
           clusters = least;
           one_each = one_each;
@@ -216,20 +218,20 @@ module _ {D : Type 0} (d : Ghosts D) (p : StoreView D) (channel : ℕ) (low : ch
                 rows = slice_set p.rows channel r;
                 pages = pages;
                 clusters = clusters;
-                job = Some (begun_job channel planned old cluster_pages []);
+                job = Some (begun_job serves planned old cluster_pages []);
               })) (ap (λ (r : Row). record r { stage = InJob }) posted.waits.row)
-              ∙ ap (λ (rows : Rows). with_job rows (begun_job channel planned old cluster_pages []) pages clusters)
+              ∙ ap (λ (rows : Rows). with_job rows (begun_job serves planned old cluster_pages []) pages clusters)
               (rows_set p.rows channel in_job low)
-              ∙ ap (λ (n : ℕ). with_job rows_then (begun_job channel planned old n []) pages clusters) each
+              ∙ ap (λ (n : ℕ). with_job rows_then (begun_job serves planned old n []) pages clusters) each
               ∙ ap (λ (l : List ℕ). with_job rows_then (todo_with l (commit_in planned)) pages clusters)
               (from_start (cluster_pages_of p.super) claimed)
               ∙ ap (λ (o : Option Committing). with_job rows_then
               (todo_with (pages_of (cluster_pages_of p.super) claimed) o) pages clusters)
-              (ap (λ b. if b then Some (commit_of planned) else None) commits)
+              effects.commit
               ∙ ap (with_job rows_then (todo_with (pages_of (cluster_pages_of p.super) claimed)
-              (Some (commit_of planned))) pages) set
+              (Some commit)) pages) set
               ∙ ap (λ (bits : List Bool). with_job rows_then
-              (todo_with (pages_of (cluster_pages_of p.super) claimed) (Some (commit_of planned))) bits
+              (todo_with (pages_of (cluster_pages_of p.super) claimed) (Some commit)) bits
               (all_set p.clusters claimed true))
               (is.taken ∙ ap (λ l. all_set p.pages l true)
               (sym (append-nil (taken_for makes planned.head (drop 1 planned.chain)))));
@@ -237,15 +239,6 @@ module _ {D : Type 0} (d : Ghosts D) (p : StoreView D) (channel : ℕ) (low : ch
       where
         rows_then : Rows
         rows_then = with_row s.rows channel in_job
-
-        commit_is : (makes : Bool) (head : ℕ) (cut : Bool) (live : Option Xattrs)
-            → commit_by (not makes) head cut live ≡ record {
-              reply = if makes then r.Made head else r.Ok;
-              live = live_at head live;
-              renews = numbered_by (makes || cut) head;
-            }
-        commit_is true head cut given = refl
-        commit_is false head cut given = refl
 
         chain_is : (makes : Bool) (head : ℕ) (old : List ℕ) (o : Option (List ℕ)) → is_some o ≡ not makes
             → (is_some o ≡ true → o ≡ Some (head ∷ old)) → o ≡ (if makes then None else Some (head ∷ old))

@@ -2,7 +2,7 @@
 use Rattle.std.proofs.Common.{◌≡◌, ◌≢◌, ℕ, suc, ◌+◌, ◌<◌, Bool, All, List, [], ◌∷◌, length, Option, Some, None, refl}
 use Rattle.std.proofs.Common.{sym, ◌∙◌}
 use Rattle.std.proofs.Common.{ap, subst, add-one, IsTrue, true, false}
-use Rattle.std.specs.Prelude.{slice_get}
+use Rattle.std.specs.Prelude.{slice_get, slice_set}
 use Rattle.bit_array.specs.Bits.{is_in}
 use Rattle.page_disk.specs.Disk.{Only, Written}
 use Rattle.page_disk.specs.Moments.{CallsLeaveOnly}
@@ -16,16 +16,18 @@ use Rattle.store_model.specs.Phases as phase
 use Rattle.store_model.specs.Places.{all_set, AreDistinct}
 use Rattle.store_model.specs.Rows.{Decided, Row, Rows, with_row, Won}
 use Rattle.store_model.specs.StoreState.{going_on, ForInsert, JobState, StoreState}
+use Rattle.store_model.specs.Guarding.{frozen_behind}
 use Rattle.store_model.proofs.Guarding.{frozen_still}
-use Rattle.running_store.specs.Jobs.{erasing_for, job_left, service_of}
+use Rattle.running_store.specs.Jobs.{erasing_for, freeze_of, job_left, service_of}
 use Rattle.running_store.specs.StoreView.{StoreView, device_of, rows_of, state_of}
 use Rattle.running_store.specs.declared.job.Serves.{Serves}
 use Rattle.running_store.specs.declared.job.Serves.TheVariants as whom
 use Rattle.running_store.proofs.JobLeft.{goes_on_left}
 use Rattle.running_store.proofs.Rowing.{rows_set}
-use Rattle.metadata_turns.specs.JobTurns.{with_job, IsAtWork, TurnsJob}
+use Rattle.metadata_turns.specs.JobTurns.{guards_left, with_job, IsAtWork, TurnsJob}
 use Rattle.metadata_turns.specs.Telling.{HasInsertRow, IsWon}
 use Rattle.metadata_turns.proofs.AtWork.{among_at, last_one, old_distinct, old_in_use, old_low, one_more}
+use Rattle.metadata_turns.proofs.Behind.{state_left}
 use Rattle.metadata_turns.proofs.InsertFailed.{inserting}
 use Rattle.metadata_turns.proofs.JobTurned.{first_low, first_to_insert, has_command}
 
@@ -33,9 +35,9 @@ use Rattle.metadata_turns.proofs.JobTurned.{first_low, first_to_insert, has_comm
 pub insert_row : {D : Type 0} (d : Ghosts D) (p : StoreView D) (serves : Serves) (old : List ℕ) (erased : ℕ)
     (more : List Phase) → IsAtWork d p (erasing_for serves old erased more) → length p.rows ≡ 16
     → HasInsertRow p.rows serves
-insert_row d p (whom.Command channel) old erased more w sixteen = tt
+insert_row d p (whom.Command channel freeze) old erased more w sixteen = tt
 insert_row d p (whom.Insert channel) old erased more w sixteen = has_command p channel sixteen
-    (first_to_insert d p (erasing_for (whom.Insert channel) old erased more) w channel refl refl)
+    (first_to_insert d p (erasing_for (whom.Insert channel) old erased more) w channel refl)
 insert_row d p whom.Repair old erased more w sixteen = tt
 
 module _ {D : Type 0} (d : Ghosts D) (p : StoreView D) (serves : Serves) (old : List ℕ) (erased : ℕ)
@@ -104,8 +106,14 @@ module _ {D : Type 0} (d : Ghosts D) (p : StoreView D) (serves : Serves) (old : 
       moved : WritesOnePage d.tells (device_of d p.disk) (p.super.md_start + place) zero_page 2 (device_of d disk)
       moved = subst (λ n. WritesOnePage d.tells (device_of d p.disk) n zero_page 2 (device_of d disk)) at_is moves
 
+      abbrev bare_view : StoreView D
+      bare_view = record p { disk = disk; pages = bits; job = left }
+
+      abbrev freed_view : StoreView D
+      freed_view = record bare_view { guards = guards_left p.guards serves left }
+
       pub freed_by : ((row : ℕ) → service_of serves ≢ ForInsert row) → (q : StoreView D)
-          → q ≡ record p { disk = disk; pages = bits; job = left } → TurnsJob d (with_job p k) q
+          → q ≡ freed_view → TurnsJob d (with_job p k) q
       freed_by no_insert q is = subst (TurnsJob d (with_job p k)) (sym is) (record {
         kind = kind.frees;
         of_job = tt;
@@ -123,15 +131,19 @@ module _ {D : Type 0} (d : Ghosts D) (p : StoreView D) (serves : Serves) (old : 
             no_insert = no_insert;
             device = device_of d disk;
             moves = moved;
-            next = ap (λ b. record t { job = left; pages = b; device = device_of d disk }) bits_are
-                ∙ ap (λ o. record t { job = o; pages = all_set p.pages old false; device = device_of d disk })
-                (left_is ∙ sym (goes_on_left serves k refl refl refl more))
-                ∙ ap (λ f. record t {
-                  job = going_on k [] more;
-                  frozen = f;
+            next = state_left d bare_view serves k refl more left left_is
+                ∙ ap (λ b. record t {
+                  job = left;
+                  frozen = frozen_behind t.frozen k more;
+                  pages = b;
+                  device = device_of d disk;
+                }) bits_are
+                ∙ ap (λ o. record t {
+                  job = o;
+                  frozen = frozen_behind t.frozen k more;
                   pages = all_set p.pages old false;
                   device = device_of d disk;
-                }) (sym (frozen_still t.frozen k more refl));
+                }) (left_is ∙ sym (goes_on_left serves k refl refl refl more));
           },
           record { moments = cleared; durable = λ _. durable },
         );
@@ -139,11 +151,11 @@ module _ {D : Type 0} (d : Ghosts D) (p : StoreView D) (serves : Serves) (old : 
 
       -- of an insert's job, of which nothing is left
       pub freed_inserted : (channel : ℕ) → serves ≡ whom.Insert channel → more ≡ [] → (q : StoreView D)
-          → IsWon (whom.Insert channel) (record p { disk = disk; pages = bits; job = left }) q
+          → IsWon (whom.Insert channel) freed_view q
           → TurnsJob d (with_job p k) q
       freed_inserted channel is none q won =
           let inserts : service_of serves ≡ ForInsert channel = ap service_of is in
-          let x = first_to_insert d p k w channel inserts refl in
+          let x = first_to_insert d p k w channel inserts in
           let given : Row = record { left = (rows_of p.rows channel).left; stage = Decided Won; claim = None } in
           subst (TurnsJob d (with_job p k)) (sym won) (record {
             kind = kind.insert_ends;
@@ -160,10 +172,19 @@ module _ {D : Type 0} (d : Ghosts D) (p : StoreView D) (serves : Serves) (old : 
                   runs = w.not_stopped;
                 };
                 last = none;
-                inserting = inserting d p k w channel inserts refl;
+                inserting = inserting d p k w channel inserts;
                 device = device_of d disk;
                 moves = moved;
-                next = ap (λ (rows : Rows).
+                next = ap (λ (a : StoreState). record a { rows = rows_of (slice_set p.rows channel given) })
+                    (state_left d bare_view serves k refl more left left_is)
+                    ∙ ap (λ (f : ℕ → Bool). record t {
+                      rows = rows_of (slice_set p.rows channel given);
+                      job = left;
+                      frozen = f;
+                      pages = bits;
+                      device = device_of d disk;
+                    }) (frozen_still t.frozen k more (ap freeze_of is))
+                    ∙ ap (λ (rows : Rows).
                     record t { rows = rows; job = left; pages = bits; device = device_of d disk })
                     (rows_set p.rows channel given (first_low p channel x))
                     ∙ ap (λ b. record t {
@@ -192,11 +213,16 @@ pub freed_all : {D : Type 0} (d : Ghosts D) (p : StoreView D) (serves : Serves) 
     → (IsTrue d.tells → Only (d.now disk) (d.images disk)) → (bits : List Bool) → bits ≡ all_set p.pages old false
     → (left : Option JobState) → left ≡ job_left serves more
     → ((channel : ℕ) → serves ≡ whom.Insert channel → more ≡ []) → (q : StoreView D)
-    → IsWon serves (record p { disk = disk; pages = bits; job = left }) q
+    → IsWon serves (record p {
+      disk = disk;
+      pages = bits;
+      job = left;
+      guards = guards_left p.guards serves left;
+    }) q
     → TurnsJob d (with_job p (erasing_for serves old erased more)) q
-freed_all d p (whom.Command channel) old erased more w some disk place at at_is touches next last moves durable bits
+freed_all d p (whom.Command channel freeze) old erased more w some disk place at at_is touches next last moves durable bits
     bits_are left left_is alone q won =
-    freed_by d p (whom.Command channel) old erased more w some disk place at at_is touches next last moves durable bits
+    freed_by d p (whom.Command channel freeze) old erased more w some disk place at at_is touches next last moves durable bits
     bits_are left left_is (λ row bad. cc bad) q won
 freed_all d p (whom.Insert channel) old erased more w some disk place at at_is touches next last moves durable bits
     bits_are left left_is alone q won =

@@ -2,7 +2,6 @@
 use Rattle.std.proofs.Common.{◌≡◌, ℕ, ◌+◌, ◌<◌, Bool, true, false, List, ◌∷◌, length, Option, Some, None, refl, sym}
 use Rattle.std.proofs.Common.{◌∙◌}
 use Rattle.std.proofs.Common.{ap, subst}
-use Rattle.std.proofs.Math.Path.{fun_ext}
 use Rattle.page_disk.specs.Disk.{Written}
 use Rattle.page_disk.specs.Moments.{CallsLeaveOnly, IsReplaced}
 use Rattle.page_disk.specs.declared.disk.PageDisk.{Ghosts}
@@ -21,7 +20,6 @@ use Rattle.store_model.specs.Phases.{has_commit, page_in, Committing, Phase, Rep
 use Rattle.store_model.specs.Rows.{InJob, Row}
 use Rattle.store_model.specs.StoreState.{ForCommand, ForInsert, ForRepair, JobState, logged, Service, StoreState}
 use Rattle.store_model.specs.StoreState.{waiting}
-use Rattle.store_model.proofs.Guarding.{none_frozen_by}
 use Rattle.store_model.proofs.Shaped.{waits_for_commit, waits_no_more}
 use Rattle.running_store.specs.Jobs.{waits_for_job}
 use Rattle.running_store.specs.Steps.{logged_at}
@@ -29,17 +27,13 @@ use Rattle.running_store.specs.StoreView.{StoreView, device_of, rows_of, state_o
 use Rattle.running_store.proofs.Rowing.{state_logged}
 use Rattle.metadata_turns.specs.JobTurns.{stopped_at, with_job, IsAtWork, TurnsJob}
 use Rattle.metadata_turns.specs.Telling.{HasFailed, HasWaitingRow}
-use Rattle.metadata_turns.proofs.InsertFailed.{fails_insert, low_left, command as write_of}
+use Rattle.metadata_turns.proofs.InsertFailed.{fails_insert, low_left, stopped_state, command as write_of}
 use Rattle.metadata_turns.proofs.InsertFailed.{waits as waits_to_insert}
 use Rattle.metadata_turns.proofs.JobTurned.{entered, entered_plainly, first_to_insert, has_command}
 
-module _ {D : Type 0} (d : Ghosts D) (p : StoreView D) (j : JobState) (w : IsAtWork d p j) (thaws : j.freeze ≡ None)
-    where
+module _ {D : Type 0} (d : Ghosts D) (p : StoreView D) (j : JobState) (w : IsAtWork d p j) where
   abbrev s : StoreState
   s = state_of d (with_job p j)
-
-  pub thawed : s.frozen ≡ (λ head. false)
-  thawed = fun_ext (none_frozen_by s w.running.facts.guarded j refl thaws)
 
   pub stands : JobStands s j
   stands = (w.running.facts.well w.not_stopped).job j refl
@@ -67,19 +61,20 @@ module _ {D : Type 0} (d : Ghosts D) (p : StoreView D) (j : JobState) (w : IsAtW
 
     module _ (disk : D) where
       abbrev pub fault : StoreView D
-      fault = logged_at (stopped_at (record p { disk = disk })) channel command rest r.Fault (d.clock disk)
+      fault =
+          logged_at (stopped_at (record p { disk = disk }) j.freeze) channel command rest r.Fault (d.clock disk)
 
       -- the entry of a command that failed
-      pub entry : (q : StoreView D) → entered d p channel disk q → q ≡ fault
-      entry q is = entered_plainly (stopped_at (record p { disk = disk })) q channel r.Fault (d.clock disk)
+      pub entry : (q : StoreView D) → entered d p j.freeze channel disk q → q ≡ fault
+      entry q is = entered_plainly (stopped_at (record p { disk = disk }) j.freeze) q channel r.Fault (d.clock disk)
           (ap (λ (x : Row). x.claim) row) is command rest row_left
 
       pub next : state_of d fault
           ≡ logged (record s { stopped = Some (length p.log); job = None; frozen = λ head. false })
           channel command rest r.Fault (device_of d disk)
-      next = state_logged d (stopped_at (record p { disk = disk })) channel command rest r.Fault channel_low
-          ∙ ap (λ (f : ℕ → Bool). logged (record s { stopped = Some (length p.log); job = None; frozen = f }) channel
-          command rest r.Fault (device_of d disk)) thawed
+      next = state_logged d (stopped_at (record p { disk = disk }) j.freeze) channel command rest r.Fault channel_low
+          ∙ ap (λ (a : StoreState). logged a channel command rest r.Fault (device_of d disk))
+          (stopped_state d p j w disk)
 
       abbrev pub fails_case : (phase : Phase) (others : List Phase) → j.todo ≡ phase ∷ others → Tried j phase
           → FailsToReplace (device_of d p.disk) (device_of d disk) → kind.Fails s (state_of d fault)
@@ -125,19 +120,20 @@ module _ {D : Type 0} (d : Ghosts D) (p : StoreView D) (j : JobState) (w : IsAtW
           subst (HasWaitingRow p.rows) (sym (waits_no_more j channel serves commit)) tt
       by (ForInsert channel) serves b commit =
           subst (HasWaitingRow p.rows) (sym (ap (λ (x : Service). waiting x j.todo) serves))
-          (has_command p channel sixteen (first_to_insert d p j w channel serves thaws))
+          (has_command p channel sixteen (first_to_insert d p j w channel serves))
       by ForRepair serves b commit =
           subst (HasWaitingRow p.rows) (sym (ap (λ (x : Service). waiting x j.todo) serves)) tt
 
   module _ (disk : D) (fails : FailsToReplace (device_of d p.disk) (device_of d disk)) (q : StoreView D)
-      (failed : HasFailed (waits_for_job j) (record p { disk = disk }) q (d.clock disk)) where
-    by_waiting : (o : Option ℕ) → waits_for_job j ≡ o → HasFailed o (record p { disk = disk }) q (d.clock disk)
-    by_waiting o is = subst (λ (x : Option ℕ). HasFailed x (record p { disk = disk }) q (d.clock disk)) is failed
+      (failed : HasFailed j.freeze (waits_for_job j) (record p { disk = disk }) q (d.clock disk)) where
+    by_waiting : (o : Option ℕ) → waits_for_job j ≡ o
+        → HasFailed j.freeze o (record p { disk = disk }) q (d.clock disk)
+    by_waiting o is =
+        subst (λ (x : Option ℕ). HasFailed j.freeze x (record p { disk = disk }) q (d.clock disk)) is failed
 
-    stopped : state_of d (stopped_at (record p { disk = disk }))
+    stopped : state_of d (stopped_at (record p { disk = disk }) j.freeze)
         ≡ record s { stopped = Some (length p.log); job = None; frozen = λ head. false; device = device_of d disk }
-    stopped = ap (λ (f : ℕ → Bool).
-        record s { stopped = Some (length p.log); job = None; frozen = f; device = device_of d disk }) thawed
+    stopped = stopped_state d p j w disk
 
     -- ---- a page that was being written
 
@@ -180,13 +176,13 @@ module _ {D : Type 0} (d : Ghosts D) (p : StoreView D) (j : JobState) (w : IsAtW
               })
           by (ForCommand channel) serves false commit = none_waits (waits_no_more j channel serves commit)
           by (ForInsert channel) serves b commit =
-              let writes = (waits_to_insert d p j w channel serves thaws).writes in
+              let writes = (waits_to_insert d p j w channel serves).writes in
               let is = by_waiting (Some channel) (ap (λ (x : Service). waiting x j.todo) serves) in
               subst (TurnsJob d (with_job p j)) (sym (is (write_of d p channel writes) writes.rest writes.is)) (record {
                 kind = kind.insert_fails;
                 of_job = tt;
                 made = (
-                  fails_insert d p j w channel serves thaws disk phase others todo (insert.page put is_put) fails,
+                  fails_insert d p j w channel serves disk phase others todo (insert.page put is_put) fails,
                   record { moments = touches; durable = λ never. absurd (cc never) },
                 );
               })
@@ -265,13 +261,13 @@ module _ {D : Type 0} (d : Ghosts D) (p : StoreView D) (j : JobState) (w : IsAtW
       pub failed_for_insert : (row : ℕ) → j.serves ≡ ForInsert row → commit ≡ None → (new : Meta)
           → replacing.new ≡ Some new → TurnsJob d (with_job p j) q
       failed_for_insert row serves no_commit new new_is =
-          let writes = (waits_to_insert d p j w row serves thaws).writes in
+          let writes = (waits_to_insert d p j w row serves).writes in
           let is = by_waiting (Some row) (ap (λ (x : Service). waiting x j.todo) serves) in
           subst (TurnsJob d (with_job p j)) (sym (is (write_of d p row writes) writes.rest writes.is)) (record {
             kind = kind.insert_fails;
             of_job = tt;
             made = (
-              fails_insert d p j w row serves thaws disk (Replaces replacing None) others (todo_as None no_commit)
+              fails_insert d p j w row serves disk (Replaces replacing None) others (todo_as None no_commit)
                   (insert.head replacing new refl new_is) fails,
               record { moments = touches; durable = λ never. absurd (cc never) },
             );

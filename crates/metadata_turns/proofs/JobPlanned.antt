@@ -1,12 +1,10 @@
 -- A job of one replacement: what its commit makes, and what is taken and planned for it.
 use Rattle.std.proofs.Common.{◌≡◌, ◌<◌, ℕ, Bool, true, List, [], ◌∷◌, length, arith}
 use Rattle.std.proofs.Common.{All, Option, Some, None, sym, ◌∙◌, ap, subst, inl, inr}
-use Rattle.std.specs.Prelude.{◌||◌, if◌then◌else◌, not}
 use Rattle.std.proofs.lemmas.Bool.{cases_eq}
 use Rattle.std.proofs.lemmas.List.Elements.{All-from_recursion}
 use Rattle.super_block.specs.declared.page.Super.{Super}
 use Rattle.volume_model.specs.Xattrs.{Xattrs}
-use Rattle.volume_model.specs.declared.reply.Reply.TheVariants as r
 use Rattle.blob_meta.specs.declared.meta.Meta.{Meta}
 use Rattle.blob_meta.specs.declared.job.Job.{Job}
 use Rattle.blob_meta.specs.declared.job.Replacement.{Replacement}
@@ -18,7 +16,7 @@ use Rattle.md_chain.specs.declared.plan.PlannedPage.{PlannedPage}
 use Rattle.store_model.specs.Maps.{Metas, with_entry}
 use Rattle.store_model.specs.Regions.{region_of}
 use Rattle.store_model.specs.Scans.{MetaAt}
-use Rattle.store_model.specs.Phases.{Committing, page_in}
+use Rattle.store_model.specs.Phases.{page_in}
 use Rattle.store_model.specs.StoreState.{StoreState}
 use Rattle.store_model.specs.Places.{all_set, AreLeastClear}
 use Rattle.store_model.specs.Jobs.{places_of, IsPacked, MovesClusters, Needs}
@@ -26,8 +24,6 @@ use Rattle.store_model.specs.RunInvariant.{CanBeWritten}
 use Rattle.store_model.proofs.Cut.{cut}
 use Rattle.store_model.proofs.WithEntry.{given_here, given_elsewhere}
 use Rattle.metadata_turns.specs.Begins.{job_with_zeros, taken_for}
-use Rattle.running_store.specs.Effects.{numbered_by}
-use Rattle.running_store.specs.Jobs.{live_at}
 
 -- attributes that can be written fit pages
 pub all_fit : (xattrs : Xattrs) → CanBeWritten xattrs → All FitsPage xattrs
@@ -67,14 +63,6 @@ none_deletes metas of old head new zeros [] is =
 none_deletes metas of old head new zeros (clone ∷ []) is =
     many_replace head new zeros (delete_job of old clone is.0) is.2 (omega arith)
 none_deletes metas of old head new zeros (clone ∷ other ∷ rest) is = is
-
--- what the commit makes of a blob that is there, of which slots are cut or not, or of a new one
-abbrev pub commit_by : Bool → ℕ → Bool → Option Xattrs → Committing
-commit_by there head cut live = record {
-  reply = if there then r.Ok else r.Made head;
-  live = live_at head live;
-  renews = numbered_by (not there || cut) head;
-}
 
 -- what is taken and planned is what a job begins with
 pub record IsReady (p : StoreState) (head : ℕ) (new : Meta) (makes : Bool) (after : List Bool)

@@ -1,7 +1,7 @@
 -- A job for the posted command of a channel, while its pages and clusters are taken.
 use Rattle.std.proofs.Common.{◌≡◌, ℕ, ◌<◌, ◌≤◌, All, Bool, true, false, List, [], length, Option, Some, None}
-use Rattle.std.proofs.Common.{IfSome, IfNone, refl, sym, ap, ◌∙◌, subst, arith, inl, inr}
-use Rattle.std.specs.Prelude.{is_some, not, slice_set, IsSome}
+use Rattle.std.proofs.Common.{IfSome, refl, sym, ap, ◌∙◌, subst, arith, inl, inr}
+use Rattle.std.specs.Prelude.{if◌then◌else◌, is_some, not, slice_set}
 use Rattle.page_disk.specs.declared.disk.PageDisk.{Ghosts}
 use Rattle.bit_array.specs.Bits.{is_in}
 use Rattle.pools.specs.Pool.{clear_in}
@@ -16,7 +16,6 @@ use Rattle.md_chain.specs.Packing.{FitsPage}
 use Rattle.store_model.specs.Cases.{Begins, IsRefusedAtBegin}
 use Rattle.store_model.specs.Jobs.{with_clusters, AreForZeros}
 use Rattle.store_model.specs.Steady.{CanBeWritten}
-use Rattle.store_model.specs.Maps.{Metas}
 use Rattle.store_model.specs.Places.{all_set, AreDistinct}
 use Rattle.store_model.specs.Rows.{InJob, Row}
 use Rattle.store_model.specs.StoreState.{JobState, shown, StoreState}
@@ -26,11 +25,14 @@ use Rattle.metadata_turns.specs.Begins.{planned_with, with_begun, AsksToWrite, H
 use Rattle.metadata_turns.specs.Begins.{IsUnprepared, job_with_zeros}
 use Rattle.running_store.specs.Effects.{cut_clusters, live_behind, AreEffects}
 use Rattle.running_store.specs.StoreInvariant.{IsRunning}
-use Rattle.running_store.specs.Running.{WillResolve}
+use Rattle.running_store.specs.Blobs.{metas_given, shows_of, Blobs, CanBeKept, HasPlaces}
+use Rattle.running_store.specs.Places.{HasPlace, HasPlaceFor}
 use Rattle.running_store.specs.StoreView.{base_of, AreResolved, StoreView, rows_of, state_of}
 use Rattle.running_store.specs.Steps.{Asks, IsPostedAt}
 use Rattle.running_store.specs.declared.effects.Effects.{Effects}
-use Rattle.running_store.specs.declared.replacements.Rooms.{Rooms}
+use Rattle.running_store.specs.declared.entries.EntryChange.{EntryChange}
+use Rattle.running_store.specs.declared.job.Serves.TheVariants as whom
+use Rattle.running_store.specs.declared.replacements.Change.TheVariants as change
 use Rattle.running_store.specs.declared.job.RunningJob.{RunningJob}
 use Rattle.metadata_turns.specs.declared.preparing.Prepared.{Prepared}
 use Rattle.store_model.specs.Shown.{fixed_of}
@@ -40,13 +42,31 @@ use Rattle.metadata_turns.proofs.JobPrepared.{first_in_use, has_chain, ready, th
 use Rattle.metadata_turns.proofs.JobPlanned.{all_fit}
 use Rattle.metadata_turns.proofs.JobBegin.{begun, why_unprepared}
 use Rattle.metadata_turns.proofs.SlotsOfZeros.{with_none}
-use Rattle.running_store.proofs.Resolved.{unmarked_base, will_resolve}
+use Rattle.running_store.proofs.KeptAlone.{kept_unmarked}
+use Rattle.metadata_turns.proofs.Behind.{blobs_in}
 
--- where room is taken no blob is there
-not_there : (rooms : Option Rooms) (chain : Option (List ℕ)) → IfNone rooms (IsSome chain)
-    → IfSome rooms (λ _. chain ≡ None) → is_some chain ≡ not (is_some rooms)
-not_there None chain there none = there
-not_there (Some x) chain there none = ap is_some none
+-- a new blob isn't there
+pub was_there : (makes there : Bool) → makes ≡ not there → there ≡ not makes
+was_there makes true is = sym (ap not is)
+was_there makes false is = sym (ap not is)
+
+-- with clusters in its slots it needs the same places
+places_filled : (b : Blobs) (head : ℕ) (new later : Meta) (e : Effects) (claimed : List ℕ)
+    → mark_of new ≡ mark_of later → shows_of e.commit ≡ None → HasPlaces b head new e
+    → HasPlaces b head later (record e { claimed = claimed })
+places_filled b head new later e claimed marks shows places = record {
+  rooms = record {
+    chain = places.rooms.chain;
+    meta = subst (λ (o : Option (List ℕ)). HasPlace (if is_some o then b.marked else b.metas) head e.rooms.meta) marks
+        places.rooms.meta;
+  };
+  commit = record {
+    live_fits = places.commit.live_fits;
+    shown_fits = subst (λ (o : Option (EntryChange Meta)). IfSome o (HasPlaceFor (metas_given b.metas head later)))
+        (sym shows) tt;
+    numbers = places.commit.numbers;
+  };
+}
 
 none_of : {A : Type 0} (o : Option A) → is_some o ≡ false → o ≡ None
 none_of None is = refl
@@ -85,18 +105,14 @@ module _ {D : Type 0} (d : Ghosts D) (p : StoreView D) (channel : ℕ) (posted :
 
   -- ---- the blob's chain
 
-  module _ (rooms : Option Rooms) (some : IfNone rooms (IsSome (s.chains head)))
-      (none : IfSome rooms (λ _. s.chains head ≡ None)) where
-    pub was : is_some (s.chains head) ≡ not (is_some rooms)
-    was = not_there rooms (s.chains head) some none
-
-    pub has_one : is_some rooms ≡ false → HasChain p.chains head
+  module _ (makes : Bool) (was : is_some (s.chains head) ≡ not makes) where
+    pub has_one : makes ≡ false → HasChain p.chains head
     has_one no_room = has_chain s running clean runs command head new zeros asks (was ∙ ap not no_room)
 
-    pub has_none : is_some rooms ≡ true → s.chains head ≡ None
+    pub has_none : makes ≡ true → s.chains head ≡ None
     has_none room = none_of (s.chains head) (was ∙ ap not room)
 
-    pub next_head : is_some rooms ≡ true → IsFreshHead p.pages head
+    pub next_head : makes ≡ true → IsFreshHead p.pages head
     next_head room = asks.next (none_of (s.base head)
         (there_is s running clean runs command head new zeros asks ∙ was ∙ ap not room))
 
@@ -148,51 +164,50 @@ module _ {D : Type 0} (d : Ghosts D) (p : StoreView D) (channel : ℕ) (posted :
           (λ bad. absurd (cc bad)) reply
           (subst (λ (m : Meta). IsUnprepared false (is_some (s.chains head)) m p.pages reply) is x)
 
-      -- once its metadata is written the device says what the store has in memory then
-      pub job_resolves : length zeros ≤ length claimed → (e : Effects) → IfNone e.rooms (IsSome (s.chains head))
-          → IfSome e.rooms (λ _. s.chains head ≡ None) → (pages : List Bool) → (x : Prepared)
-          → IsPrepared p.chains head later (is_some e.rooms) p.pages pages x → AreResolved p.metas p.marked
-          → WillResolve p.metas p.marked (planned_with x head later true (record e { claimed = claimed }))
-      job_resolves all e some none pages x prepared are =
-          let there = was e.rooms some none in
-          let with_its : IsPrepared p.chains head (with_clusters new zeros claimed) (is_some e.rooms) p.pages pages x =
-          subst (λ (m : Meta). IsPrepared p.chains head m (is_some e.rooms) p.pages pages x) is prepared in
-          let no_mark = unmarked s running clean runs command head new zeros asks no_job (is_some e.rooms) there claimed
-          claims.least (as_many all) p.chains pages x with_its in
-          record {
-            there = λ no_room. subst (λ (m : Metas). is_some (m head) ≡ true)
-                (unmarked_base p.metas p.marked are clean)
-                (there_is s running clean runs command head new zeros asks ∙ there ∙ ap (λ o. not (is_some o)) no_room);
-            resolves = will_resolve p.metas p.marked head later are clean
-                (subst (λ (m : Meta). mark_of m ≡ None) (sym is) no_mark);
-          }
+      -- it can be kept in memory once its metadata is written
+      pub job_kept : length zeros ≤ length claimed → (e : Effects) → shows_of e.commit ≡ None
+          → is_some (s.chains head) ≡ not (is_some e.rooms.chain) → HasPlaces (blobs_in p) head new e
+          → (pages : List Bool) → (x : Prepared)
+          → IsPrepared p.chains head later (is_some e.rooms.chain) p.pages pages x → AreResolved p.metas p.marked
+          → CanBeKept (blobs_in p) (change.Writes (planned_with x head later (record e { claimed = claimed })))
+      job_kept all e shows there places pages x prepared are =
+          let with_its : IsPrepared p.chains head (with_clusters new zeros claimed) (is_some e.rooms.chain) p.pages
+          pages x = subst (λ (m : Meta). IsPrepared p.chains head m (is_some e.rooms.chain) p.pages pages x) is prepared
+          in
+          let no_mark : mark_of later ≡ None = subst (λ (m : Meta). mark_of m ≡ None) (sym is)
+          (unmarked s running clean runs command head new zeros asks no_job (is_some e.rooms.chain) there claimed
+          claims.least (as_many all) p.chains pages x with_its) in
+          let marks : mark_of new ≡ mark_of later = ap (λ (m : Meta). mark_of m) (sym rest_same) in
+          kept_unmarked (blobs_in p) (planned_with x head later (record e { claimed = claimed })) are clean no_mark
+          shows (places_filled (blobs_in p) head new later e claimed marks shows places)
 
       -- the job begins, once all that it needs is taken
       pub job_begins : channel < length p.rows → length zeros ≤ length claimed → (e : Effects)
-          → AreEffects (s.base head) (live_behind command (s.live head) new) new [] e
-          → IfNone e.rooms (IsSome (s.chains head)) → IfSome e.rooms (λ _. s.chains head ≡ None)
+          → AreEffects (is_some (s.chains head)) head (s.base head) (live_behind command (s.live head) new) new [] e
           → (pages clusters : List Bool) → clusters ≡ all_set p.clusters claimed true → (x : Prepared)
-          → IsPrepared p.chains head later (is_some e.rooms) p.pages pages x → (cluster_pages : ℕ)
+          → IsPrepared p.chains head later (is_some e.rooms.chain) p.pages pages x → (cluster_pages : ℕ)
           → cluster_pages ≡ cluster_pages_of p.super → (job : RunningJob)
           → job_seen job
-          ≡ begun_job channel (planned_with x head later true (record e { claimed = claimed })) x.old cluster_pages []
+          ≡ begun_job (whom.Command channel None) (planned_with x head later (record e { claimed = claimed })) x.old cluster_pages []
           → Begins s (state_of d (with_begun (record p { pages = pages; clusters = clusters }) channel job))
-      job_begins low all e effects some none pages clusters set x prepared cluster_pages each job seen =
+      job_begins low all e effects pages clusters set x prepared cluster_pages each job seen =
           let one_each = as_many all in
-          let there = was e.rooms some none in
-          let with_its : IsPrepared p.chains head (with_clusters new zeros claimed) (is_some e.rooms) p.pages pages x =
-          subst (λ (m : Meta). IsPrepared p.chains head m (is_some e.rooms) p.pages pages x) is prepared in
+          let there = was_there (is_some e.rooms.chain) (is_some (s.chains head)) effects.makes in
+          let with_its : IsPrepared p.chains head (with_clusters new zeros claimed) (is_some e.rooms.chain) p.pages
+          pages x = subst (λ (m : Meta). IsPrepared p.chains head m (is_some e.rooms.chain) p.pages pages x) is prepared
+          in
           let begins = begun d p channel low posted runs running clean no_job
-          (planned_with x head later true (record e { claimed = claimed })) x.old new zeros asks refl
+          (planned_with x head later (record e { claimed = claimed })) x.old new zeros asks
           (record {
-            live_is = effects.live_is;
-            renews = effects.renews;
+            commit = effects.commit;
+            shows = effects.shows;
+            makes = effects.makes;
             freed = effects.freed;
             claimed = refl;
           }) claims.least one_each is cluster_pages each there with_its.behind
           (λ no. with_its.none_behind (none_of (s.chains head) no)) pages clusters set
-          (ready s running clean runs command head new zeros asks no_job (is_some e.rooms) there claimed claims.least
-          one_each p.chains pages x with_its) in
+          (ready s running clean runs command head new zeros asks no_job (is_some e.rooms.chain) there claimed
+          claims.least one_each p.chains pages x with_its) in
           subst (λ (j : JobState). Begins s (state_of d (record p {
             rows = slice_set p.rows channel (record (rows_of p.rows channel) { stage = InJob });
             pages = pages;

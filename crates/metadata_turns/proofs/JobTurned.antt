@@ -1,5 +1,5 @@
 -- What a turn of the running job makes of the store, by cases.
-use Rattle.std.proofs.Common.{None, ◌≡◌, ℕ, suc, ◌+◌, ◌<◌, List, ◌∷◌, length}
+use Rattle.std.proofs.Common.{None, Option, ◌≡◌, ℕ, suc, ◌+◌, ◌<◌, List, ◌∷◌, length}
 use Rattle.std.proofs.Common.{Some, refl, sym, ◌∙◌, ap, subst, arith, add-one, drop}
 use Rattle.std.specs.Prelude.{slice_get}
 use Rattle.page_disk.specs.Disk.{Written}
@@ -42,8 +42,9 @@ entered_plainly {D = D} p q channel reply mark none is =
     subst (λ (a : StoreView D). IsEntered a q channel reply mark) (none_cleared p channel none) is
 
 -- what waits for a job that failed is logged
-abbrev pub entered : {D : Type 0} → Ghosts D → StoreView D → ℕ → D → StoreView D → Type 0
-entered d p channel disk q = IsGivenUp (stopped_at (record p { disk = disk })) q channel r.Fault (d.clock disk)
+abbrev pub entered : {D : Type 0} → Ghosts D → StoreView D → Option ℕ → ℕ → D → StoreView D → Type 0
+entered d p freeze channel disk q =
+    IsGivenUp (stopped_at (record p { disk = disk }) freeze) q channel r.Fault (d.clock disk)
 
 -- a row has a first command
 pub record HasFirst {D : Type 0} (p : StoreView D) (channel : ℕ) : Type 0 where
@@ -66,9 +67,9 @@ has_command p channel sixteen x =
 
 -- a job of an insert has its write
 pub first_to_insert : {D : Type 0} (d : Ghosts D) (p : StoreView D) (j : JobState) (w : IsAtWork d p j) (row : ℕ)
-    → j.serves ≡ ForInsert row → j.freeze ≡ None → HasFirst p row
-first_to_insert d p j w row serves thaws =
-    let x = (waits_to_insert d p j w row serves thaws).writes in
+    → j.serves ≡ ForInsert row → HasFirst p row
+first_to_insert d p j w row serves =
+    let x = (waits_to_insert d p j w row serves).writes in
     record { command = write_of d p row x; rest = x.rest; left = x.is }
 
 -- ---- a job of which fresh pages are written

@@ -20,11 +20,9 @@ pub mod JobTurned
 pub mod JobFailed
 pub mod JobErased
 pub mod HeadReplaced
-pub mod JobCommitted
-pub mod JobInserted
-pub mod JobWritten
+pub mod Behind
+pub mod HeadMade
 pub mod JobRemoved
-pub mod HeadTold
 pub mod JobLaid
 pub mod InsertReady
 pub mod InsertBegun

@@ -12,7 +12,7 @@ use Rattle.page_disk.specs.declared.disk.PageDisk.{Ghosts}
 use Rattle.super_block.specs.declared.page.Super.{Super}
 use Rattle.blob_meta.specs.declared.meta.Meta.{Meta}
 use Rattle.blob_meta.specs.Repairs.{after, HasHeadsBelow}
-use Rattle.blob_meta.specs.Resolving.{resolved}
+use Rattle.blob_meta.specs.Resolving.{mark_of, resolved}
 use Rattle.blob_meta.proofs.RepairsInTurn.{repaired_resolves}
 use Rattle.md_chain.specs.Chain.{is_among}
 use Rattle.store_model.specs.Cases.BeginRepair.{BeginsRepair}
@@ -25,12 +25,17 @@ use Rattle.store_model.proofs.Resolved.{map_of, resolved_of, resolved_stored, Is
 use Rattle.store_model.proofs.Used.{within}
 use Rattle.store_model.proofs.WithEntry.{given_elsewhere, given_here}
 use Rattle.running_store.specs.Jobs.{erasure_of, removing_for, replacing_of, writing_for}
-use Rattle.running_store.specs.Running.{WillResolve, WillResolveWithout}
 use Rattle.running_store.specs.StoreInvariant.{IsRunning}
 use Rattle.running_store.specs.StoreView.{state_of, AreResolved, StoreView}
+use Rattle.running_store.specs.Blobs.{CanBeKept}
+use Rattle.running_store.specs.declared.replacements.Change.TheVariants as change
+use Rattle.running_store.specs.declared.replacements.Erasure.{Erasure}
 use Rattle.running_store.specs.declared.replacements.Planned.{Planned}
 use Rattle.running_store.specs.declared.job.Serves.TheVariants as whom
+use Rattle.running_store.proofs.KeptAlone.{kept_given, kept_without}
 use Rattle.running_store.proofs.Maps.{insert_given, remove_given}
+use Rattle.running_store.proofs.Resolved.{resolved_none}
+use Rattle.metadata_turns.proofs.Behind.{blobs_in, places_there}
 use Rattle.metadata_turns.specs.Alone.{HaveRoom, IsMappedBeside, IsMissing}
 use Rattle.metadata_turns.specs.Begins.{no_effects, planned_with, IsPrepared}
 use Rattle.metadata_turns.specs.Repairs.{IsDue, IsLackForRepair, RepairsOrNot}
@@ -113,7 +118,7 @@ module _ {D : Type 0} (d : Ghosts D) (p : StoreView D) (running : IsRunning (sta
 
       module _ (after : List Bool) (x : Prepared) (is : IsPrepared p.chains head new false p.pages after x) where
         abbrev planned : Planned
-        planned = planned_with x head new false no_effects
+        planned = planned_with x head new no_effects
 
         pub mends : BeginsRepair s (state_of d (record p {
           pages = after;
@@ -149,12 +154,14 @@ module _ {D : Type 0} (d : Ghosts D) (p : StoreView D) (running : IsRunning (sta
               }) known.taken;
             }
 
-        pub mends_to : WillResolve p.metas p.marked planned
-        mends_to = record {
-          there = λ _. ap is_some there;
-          resolves = ap (λ (o : Option Meta). resolved (with_option s.base head o)) (sym given) ∙ unseen ∙ are.resolves
-              ∙ same_metas;
-        }
+        -- it can be kept in memory
+        pub mends_to : CanBeKept (blobs_in p) (change.Writes planned)
+        mends_to =
+            let unmarked : mark_of new ≡ None = resolved_none s.base head new given in
+            kept_given (blobs_in p) planned are unmarked
+            (ap (λ (o : Option Meta). resolved (with_option s.base head o)) (sym given) ∙ unseen ∙ are.resolves
+            ∙ same_metas) refl
+            (places_there (blobs_in p) head new unmarked (ap is_some has_chain.1) (ap is_some there))
 
     -- ---- a blob that is removed
 
@@ -163,15 +170,21 @@ module _ {D : Type 0} (d : Ghosts D) (p : StoreView D) (running : IsRunning (sta
       gone : resolved s.base head ≡ None
       gone = ap (λ (f : Metas). f head) are.resolves ∙ none
 
+      abbrev pub erasure : List ℕ → Erasure
+      erasure freed = record { head = head; commit = None; freed = freed }
+
       pub chain_there : (behind : List ℕ) × (s.chains head ≡ Some (head ∷ behind))
       chain_there = well.chains.chain head old there
 
-      pub removes_to : WillResolveWithout p.metas p.marked head
-      removes_to = ap (λ (o : Option Meta). resolved (with_option s.base head o)) (sym gone) ∙ unseen ∙ are.resolves
+      -- without it the store has in memory what it had
+      pub removes_to : (freed : List ℕ) → CanBeKept (blobs_in p) (change.Erases (erasure freed))
+      removes_to freed = kept_without (blobs_in p) (erasure freed) are
+          (ap (λ (o : Option Meta). resolved (with_option s.base head o)) (sym gone) ∙ unseen ∙ are.resolves
           ∙ fun_ext (λ q. elim (cases_eq q head) [
             | inl e ↦ ap (map.get p.metas) e ∙ none ∙ sym (out q e)
             | inr ne ↦ sym (still q ne)
-          ] ∙ sym (ap (λ (f : Metas). f q) (remove_given p.metas head)))
+          ] ∙ sym (ap (λ (f : Metas). f q) (remove_given p.metas head)))) refl
+          (record { live_fits = tt; shown_fits = tt; numbers = tt })
         where
           out : (q : ℕ) → q ≡ head → without_entry (map.get p.metas) head q ≡ None
           out q e = rw (eq-eqb q head e) refl
@@ -183,20 +196,20 @@ module _ {D : Type 0} (d : Ghosts D) (p : StoreView D) (running : IsRunning (sta
           → ((c : ℕ) → (is_in bits c ≡ true) ↔ IsMappedBeside s.super.md_len s.base head c) → (freed : List ℕ)
           → ((c : ℕ) → (is_among c freed ≡ true) ↔ IsMissing bits old.map c) → (behind : List ℕ)
           → s.chains head ≡ Some (head ∷ behind)
-          → BeginsRepair s (state_of d (record p { job = Some (removing_for whom.Repair head freed behind []) }))
+          → BeginsRepair s (state_of d (record p { job = Some (removing_for whom.Repair (erasure freed) behind []) }))
       removes bits bits_are freed freed_are behind chain = record {
         runs = runs;
         no_job = no_job;
         repair = record { head = head; new = resolved s.base head };
         others = due.0;
         due = due.1;
-        replacing = erasure_of head freed behind;
+        replacing = erasure_of (erasure freed) behind;
         laid = record {
           head = refl;
           new = sym gone;
           chain = chain;
           unerased = λ bad. absurd (cc bad);
-          planned = subst (λ (o : Option Meta). IsJobPlanned s.super s.pages o (erasure_of head freed behind))
+          planned = subst (λ (o : Option Meta). IsJobPlanned s.super s.pages o (erasure_of (erasure freed) behind))
               (sym gone)
               (refl, refl, refl);
           clusters = erased_moves s.super s.base stored head old there bits bits_are freed freed_are;

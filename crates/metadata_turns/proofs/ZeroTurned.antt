@@ -1,7 +1,8 @@
 -- What a turn of a running job that overwrites a page of a claimed cluster makes of the store.
-use Rattle.std.proofs.Common.{◌≡◌, ℕ, ◌*◌, ◌/◌, ◌%◌, ◌<◌, Bool, true, false, List, [], ◌∷◌, length}
-use Rattle.std.proofs.Common.{Some, refl, sym, ◌∙◌, ap, subst, arith, inr, drop}
+use Rattle.std.proofs.Common.{Option, ◌≡◌, ℕ, ◌*◌, ◌/◌, ◌%◌, ◌<◌, Bool, true, false, List, [], ◌∷◌, ◌++◌, length}
+use Rattle.std.proofs.Common.{Some, refl, sym, ◌∙◌, ap, subst, arith, inl, inr, drop}
 use Rattle.std.specs.Prelude.{if◌then◌else◌, ◌||◌}
+use Rattle.std.proofs.lemmas.Bool.{cases_lt}
 use Rattle.std.proofs.lemmas.Nat.{div-add-mod', mul-add-lt}
 use Rattle.std.proofs.Math.Nat.{mod-lt}
 use Rattle.page_disk.specs.Disk.{Written}
@@ -11,27 +12,29 @@ use Rattle.page_disk.specs.declared.disk.WriteKind.TheVariants.{Plain}
 use Rattle.super_block.specs.Numbers.{cluster_pages_of, clusters_of}
 use Rattle.super_block.specs.Placed.{IsPlaced}
 use Rattle.volume_model.specs.Volumes.{zero_page}
-use Rattle.volume_model.specs.declared.command.Command.{Command}
 use Rattle.md_chain.specs.Chain.{is_among}
-use Rattle.store_model.specs.StoreState.{JobState, StoreState}
+use Rattle.store_model.specs.StoreState.{ForCommand, JobState, StoreState}
 use Rattle.store_model.specs.Cases.{FailsToReplace, WritesOnePage}
 use Rattle.store_model.specs.Cases as kind
 use Rattle.store_model.specs.Cases.Fail.{zeros}
-use Rattle.store_model.specs.Jobs.{JobStands, Lays}
+use Rattle.store_model.specs.Jobs.{gained_by, inserted_by, JobStands, Lays}
 use Rattle.store_model.specs.Phases.{has_commit, Phase, Zeros}
 use Rattle.store_model.specs.RunInvariant.{RunsWell}
 use Rattle.store_model.proofs.Used.{within}
+use Rattle.store_model.proofs.Shaped.{waits_for_commit}
 use Rattle.store_model.proofs.Zeroing.{commit_zeros}
-use Rattle.running_store.specs.Jobs.{behind_zero, writing_job, zeroing_job}
+use Rattle.running_store.specs.Jobs.{behind_zero, service_of, waits_for_job, writing_for, zeroing_for, IsZeroedFor}
 use Rattle.running_store.specs.Zeroing.{next_zeroed, pages_from, IsLeft}
-use Rattle.metadata_turns.specs.JobTurns.{with_job, IsAtWork, TurnsJob}
+use Rattle.metadata_turns.specs.JobTurns.{stopped_at, with_job, IsAtWork, TurnsJob}
 use Rattle.running_store.specs.StoreView.{StoreView, device_of, rows_of, state_of}
 use Rattle.running_store.specs.declared.replacements.Planned.{Planned}
+use Rattle.running_store.specs.declared.job.Serves.{Serves}
+use Rattle.running_store.specs.declared.job.Serves.TheVariants as whom
 use Rattle.running_store.specs.declared.job.Zeroed.{Zeroed}
-use Rattle.metadata_turns.proofs.JobFailed.{channel_low, entry, fails_case, row_left}
-use Rattle.metadata_turns.proofs.JobTurned.{entered}
+use Rattle.metadata_turns.specs.Telling.{HasFailed}
+use Rattle.metadata_turns.proofs.JobFailed.{entry, fails_case}
 use Rattle.running_store.proofs.CommitLeft.{commit_writing}
-use Rattle.running_store.proofs.ZeroPages.{zeroes_next}
+use Rattle.running_store.proofs.ZeroPages.{zeroed_of, zeroes_next}
 
 -- a page of one of so many clusters
 on_device : (page k clusters : ℕ) → 0 < k → page / k < clusters → page < k * clusters
@@ -39,11 +42,14 @@ on_device page k clusters some low =
     subst (λ n. n < k * clusters) (div-add-mod' page k)
     (mul-add-lt (page / k) k (page % k) clusters low (mod-lt page some))
 
-module _ {D : Type 0} (d : Ghosts D) (p : StoreView D) (channel : ℕ) (planned : Planned) (old : List ℕ) (z : Zeroed)
-    (more : List Phase) (w : IsAtWork d p (zeroing_job channel planned old z more))
-    (left : IsLeft planned.effects.claimed z) (commits : planned.commits ≡ true) where
+module _ {D : Type 0} (d : Ghosts D) (p : StoreView D) (serves : Serves) (planned : Planned) (old : List ℕ) (z : Zeroed)
+    (more : List Phase) (w : IsAtWork d p (zeroing_for serves planned old z more))
+    (zeroed : IsZeroedFor serves planned z) where
   abbrev j : JobState
-  j = zeroing_job channel planned old z more
+  j = zeroing_for serves planned old z more
+
+  left : IsLeft planned.effects.claimed z
+  left = (zeroed_of serves planned z zeroed).1
 
   abbrev s : StoreState
   s = state_of d (with_job p j)
@@ -58,7 +64,7 @@ module _ {D : Type 0} (d : Ghosts D) (p : StoreView D) (channel : ℕ) (planned 
   others = drop 1 j.todo
 
   todo_is : j.todo ≡ Zeros page ∷ others
-  todo_is = zeroes_next channel planned old z more left
+  todo_is = zeroes_next serves planned old z more left
 
   well : RunsWell w.running.first s
   well = w.running.facts.well w.not_stopped
@@ -69,19 +75,23 @@ module _ {D : Type 0} (d : Ghosts D) (p : StoreView D) (channel : ℕ) (planned 
   waits : has_commit j.todo ≡ true
   waits =
       commit_zeros (pages_from z.cluster_pages (drop z.clusters claimed) z.pages)
-      (writing_job channel planned old 0 more).todo
-      ∙ commit_writing planned (drop 0 (drop 1 planned.chain)) old more ∙ ap (λ b. b || has_commit more) commits
+      (writing_for serves planned old 0 more).todo
+      ∙ commit_writing planned (drop 0 (drop 1 planned.chain)) old more
+      ∙ ap (λ b. b || has_commit more) (zeroed_of serves planned z zeroed).2
 
-  pub row_some : 0 < length (rows_of p.rows channel).left
-  row_some = let long = ap (λ (l : List Command). length l) (row_left d p j w refl channel refl waits) in
-      omega (arith, long)
-
-  pub low : channel < length p.rows
-  low = channel_low d p j w refl channel refl waits
+  -- the job gains the clusters that it has claimed, and no other
+  gained_is : gained_by s.rows j ≡ claimed
+  gained_is = by serves refl
+    where
+      by : (x : Serves) → serves ≡ x → gained_by s.rows j ≡ claimed
+      by (whom.Command channel freeze) e = ap (λ (y : Serves). inserted_by s.rows (service_of y) ++ claimed) e
+      by (whom.Insert channel) e = absurd (subst (λ (x : Serves). IsZeroedFor x planned z) e zeroed)
+      by whom.Repair e = absurd (subst (λ (x : Serves). IsZeroedFor x planned z) e zeroed)
 
   -- the page is one of a claimed cluster, and so of the device
   in_claimed : is_among (page / cluster_pages_of p.super) claimed ≡ true
-  in_claimed = (subst (Lays s.super s.base s.chains claimed []) todo_is stands.lays).0
+  in_claimed = (subst (Lays s.super s.base s.chains claimed []) todo_is
+      (subst (λ l. Lays s.super s.base s.chains l [] j.todo) gained_is stands.lays)).0
 
   placed : IsPlaced p.super
   placed = subst IsPlaced (sym w.running.facts.super) w.running.placed
@@ -107,16 +117,25 @@ module _ {D : Type 0} (d : Ghosts D) (p : StoreView D) (channel : ℕ) (planned 
     touched = subst (λ n. CallsLeaveOnly d p.disk disk (Written (d.images p.disk) n Plain zero_page)) at_is touches
 
     pub failed_zeroing : FailsToReplace (device_of d p.disk) (device_of d disk) → (q : StoreView D)
-        → entered d p channel disk q → TurnsJob d (with_job p j) q
-    failed_zeroing fails q is =
-        subst (TurnsJob d (with_job p j)) (sym (entry d p j w refl channel refl waits disk q is)) (record {
-          kind = kind.fails;
-          of_job = tt;
-          made = (
-            fails_case d p j w refl channel refl waits disk (Zeros page) others todo_is (zeros page refl) fails,
-            record { moments = touched; durable = λ never. absurd (cc never) },
-          );
-        })
+        → HasFailed j.freeze (waits_for_job j) (record p { disk = disk }) q (d.clock disk)
+        → TurnsJob d (with_job p j) q
+    failed_zeroing fails q is = by serves refl
+      where
+        by : (x : Serves) → serves ≡ x → TurnsJob d (with_job p j) q
+        by (whom.Command channel freeze) e =
+            let for_command : j.serves ≡ ForCommand channel = ap service_of e in
+            let given = subst (λ (o : Option ℕ). HasFailed j.freeze o (record p { disk = disk }) q (d.clock disk))
+            (waits_for_commit j channel for_command waits) is in
+            subst (TurnsJob d (with_job p j)) (sym (entry d p j w channel for_command waits disk q given)) (record {
+              kind = kind.fails;
+              of_job = tt;
+              made = (
+                fails_case d p j w channel for_command waits disk (Zeros page) others todo_is (zeros page refl) fails,
+                record { moments = touched; durable = λ never. absurd (cc never) },
+              );
+            })
+        by (whom.Insert channel) e = absurd (subst (λ (x : Serves). IsZeroedFor x planned z) e zeroed)
+        by whom.Repair e = absurd (subst (λ (x : Serves). IsZeroedFor x planned z) e zeroed)
 
     pub zeroed_one : WritesOnePage d.tells (device_of d p.disk) at zero_page 1 (device_of d disk) → (k : JobState)
         → k ≡ behind_zero j → TurnsJob d (with_job p j) (record p { disk = disk; job = Some k })

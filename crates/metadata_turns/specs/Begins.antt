@@ -92,12 +92,11 @@ IsUnprepared lacks_clusters there new pages r.Full = (lacks_clusters ≡ true) �
 IsUnprepared lacks_clusters there new pages r.Memory = Unit {0}
 IsUnprepared lacks_clusters there new pages _ = ⊥
 
--- what is written with what was prepared, as the commit or not
-abbrev pub planned_with : Prepared → ℕ → Meta → Bool → Effects → Planned
-planned_with x head new commits effects = record {
+-- what is written with what was prepared
+abbrev pub planned_with : Prepared → ℕ → Meta → Effects → Planned
+planned_with x head new effects = record {
   head = head;
   new = new;
-  commits = commits;
   effects = effects;
   chain = x.laid.chain;
   pages = x.laid.pages;
@@ -105,7 +104,8 @@ planned_with x head new commits effects = record {
 
 -- nothing is done besides
 abbrev pub no_effects : Effects
-no_effects = record { live = None; renews = false; freed = []; claimed = []; rooms = None }
+no_effects =
+    record { commit = None; freed = []; claimed = []; rooms = record { chain = None; meta = None } }
 
 -- one replacement, which is the commit, with a cluster of zeros for each of these slots of the new map
 abbrev pub job_with_zeros : ℕ → Meta → List ℕ → Job

@@ -7,3 +7,4 @@ pub mod Alone
 pub mod Repairs
 pub mod Inserts
 pub mod Infos
+pub mod Adopting

@@ -5,7 +5,9 @@ use Rattle.volume_model.specs.declared.reply.Reply.TheVariants as r
 use Rattle.store_model.specs.Rows.{Decided, Row, Stage, Won}
 use Rattle.running_store.specs.declared.job.Serves.{Serves}
 use Rattle.running_store.specs.declared.job.Serves.TheVariants as whom
-use Rattle.metadata_turns.specs.JobTurns.{stopped_at}
+use Rattle.running_store.specs.declared.job.RunningJob.{RunningJob}
+use Rattle.running_store.specs.declared.running.Running.{Running}
+use Rattle.metadata_turns.specs.JobTurns.{guards_left, stopped_at}
 use Rattle.running_store.specs.GivingBack.{IsEntered, IsGivenUp}
 use Rattle.running_store.specs.Steps.{with_row_at}
 use Rattle.running_store.specs.StoreView.{StoreView, rows_of}
@@ -18,21 +20,21 @@ let_go_at p channel stage =
 -- Once a replacement is made: the command is logged with its reply, where it has one now; the row of an insert, which
 -- has its cluster, goes on at this stage; no row waits for a repair.
 abbrev pub IsTold : Serves → Option Reply → Stage → {D : Type 0} → StoreView D → StoreView D → ℕ → Type 0
-IsTold (whom.Command channel) (Some reply) next p q mark = IsEntered p q channel reply mark
-IsTold (whom.Command channel) None next p q mark = q ≡ p
+IsTold (whom.Command channel freeze) (Some reply) next p q mark = IsEntered p q channel reply mark
+IsTold (whom.Command channel freeze) None next p q mark = q ≡ p
 IsTold (whom.Insert channel) reply next p q mark = q ≡ let_go_at p channel next
 IsTold whom.Repair reply next p q mark = q ≡ p
 
 -- Once the old pages are clear: the row of an insert is decided as won.
 abbrev pub IsWon : Serves → {D : Type 0} → StoreView D → StoreView D → Type 0
-IsWon (whom.Command channel) p q = q ≡ p
+IsWon (whom.Command channel freeze) p q = q ≡ p
 IsWon (whom.Insert channel) p q = q ≡ let_go_at p channel (Decided Won)
 IsWon whom.Repair p q = q ≡ p
 
--- The store stopped, and what waits for the job in this channel is logged as failed.
-abbrev pub HasFailed : Option ℕ → {D : Type 0} → StoreView D → StoreView D → ℕ → Type 0
-HasFailed (Some channel) p q mark = IsGivenUp (stopped_at p) q channel r.Fault mark
-HasFailed None p q mark = q ≡ stopped_at p
+-- The store stopped, the blob that the job froze is released, and what waits for it in this channel is logged as failed.
+abbrev pub HasFailed : Option ℕ → Option ℕ → {D : Type 0} → StoreView D → StoreView D → ℕ → Type 0
+HasFailed freeze (Some channel) p q mark = IsGivenUp (stopped_at p freeze) q channel r.Fault mark
+HasFailed freeze None p q mark = q ≡ stopped_at p freeze
 
 -- the row of a channel is one of the sixteen, and has a command
 abbrev pub HasCommand : List Row → ℕ → Type 0
@@ -50,6 +52,10 @@ HasInsertRow rows other = Unit {0}
 
 -- and that of a command with its reply
 abbrev pub HasRow : List Row → Serves → Option Reply → Type 0
-HasRow rows (whom.Command channel) (Some reply) = HasCommand rows channel
+HasRow rows (whom.Command channel freeze) (Some reply) = HasCommand rows channel
 HasRow rows (whom.Insert channel) reply = HasCommand rows channel
 HasRow rows other reply = Unit {0}
+
+-- a job goes on with this, or is done
+abbrev pub gone_on : {D : Type 0} → Running D → Serves → Option RunningJob → Running D
+gone_on running serves left = record running { job = left; guards = guards_left running.guards serves left }

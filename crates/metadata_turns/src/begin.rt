@@ -9,7 +9,8 @@ ghost use Rattle.metadata_turns.specs.Begins.{job_with_zeros, row_begun, with_be
 ghost use Rattle.running_store.specs.Jobs.{IsHeaded};
 ghost use Rattle.running_store.specs.StoreInvariant.{IsRunning};
 ghost use Rattle.running_store.specs.TurnMade.{TurnMade};
-ghost use Rattle.running_store.specs.Running.{view_of, InOrder, IsRoomy, WillResolveBy};
+ghost use Rattle.running_store.specs.Blobs.{blobs_of, WillBeKept};
+ghost use Rattle.running_store.specs.Running.{view_of, InOrder};
 ghost use Rattle.blob_meta.specs.Repairs.{HasNoMarks};
 ghost use Rattle.store_model.specs.Repairing.{IsRepaired};
 ghost use Rattle.running_store.specs.StoreView.{base_of, rows_of, state_of};
@@ -96,9 +97,7 @@ fn job_for<D: PageDisk>(
     ensures begins { IfOk result (λ job. Begins (state_of D.PageDisk (view_of running.old))
         (state_of D.PageDisk (with_begun (view_of running.new) channel job))) }
     ensures headed { IfOk result IsHeaded }
-    ensures roomy { IfOk result
-        (IsRoomy running.new.metas running.new.chains running.new.live running.new.guards) }
-    ensures will_resolve { IfOk result (WillResolveBy running.new.metas running.new.marked) }
+    ensures kept { IfOk result (WillBeKept (blobs_of running.new)) }
     ensures lack { IfErr result (λ reply. Asks (view_of running.old) channel
         (λ command. IsRefusedAtBegin (state_of D.PageDisk (view_of running.old)) command reply)) }
     ensures same { OnErr result (running.new ≡ running.old) }
@@ -108,7 +107,7 @@ fn job_for<D: PageDisk>(
 {
     let command = first_of(running.rows.as_slice(), channel);
     let mut effects = effects_of(running, command, head, &new)?;
-    let makes = effects.rooms.is_some();
+    let makes = effects.rooms.chain.is_some();
     effects.claimed = fill_slots(running.alloc, &mut running.clusters, &mut new, zeros)?;
     if effects.claimed.len() < zeros.len() {
         return Err(lack_beside_clusters(running.alloc, &running.pages, &new, makes));

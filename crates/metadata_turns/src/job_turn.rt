@@ -104,10 +104,7 @@ pub(crate) fn job_turn<D: PageDisk>(running: &mut Running<D>) -> JobTurn
         later,
     };
     match work {
-        Work::Zeroing { planned, zeroed } => match serves {
-            Serves::Command(channel) => zero(running, channel, beside, planned, zeroed),
-            Serves::Insert(_) | Serves::Repair => unreachable!(),
-        },
+        Work::Zeroing { planned, zeroed } => zero(running, beside, planned, zeroed),
         Work::Writing { planned, written } => {
             let fresh = planned.pages.len() - 1;
             if written < fresh {
@@ -116,7 +113,7 @@ pub(crate) fn job_turn<D: PageDisk>(running: &mut Running<D>) -> JobTurn
                 replace_head(running, beside, planned)
             }
         }
-        Work::Removing { head, freed } => remove_head(running, beside, head, freed),
+        Work::Removing(erasure) => remove_head(running, beside, erasure),
         Work::Erasing { erased } => {
             let last = beside.old.len() - 1;
             if erased < last {

@@ -1,15 +1,15 @@
 //! The turns of a job in which another page is written: of a claimed cluster, a fresh or an old one.
 
-ghost use Rattle.std.specs.Prelude.{◌≡◌, ◌<◌, ◌+◌, ◌∷◌, length, true};
+ghost use Rattle.std.specs.Prelude.{◌≡◌, ◌<◌, ◌+◌, ◌∷◌, length};
+ghost use Rattle.running_store.specs.Blobs.{blobs_of, CanAllBeKept};
 ghost use Rattle.running_store.specs.Jobs.{erasing_for, phases_in, waits_for_job, writes_laid, writing_for};
-ghost use Rattle.running_store.specs.Jobs.{zeroing_job};
-ghost use Rattle.running_store.specs.Jobs.{IsMatched, IsMatchedFor, MayFollow};
-ghost use Rattle.running_store.specs.declared.job.Serves.TheVariants.{Command};
+ghost use Rattle.running_store.specs.Jobs.{zeroing_for};
+ghost use Rattle.running_store.specs.Jobs.{IsMatchedFor, IsZeroedFor, MayFollow};
 ghost use Rattle.metadata_turns.specs.JobTurns.{answer_of, with_job, IsAtWork, TurnsJob};
-ghost use Rattle.running_store.specs.Running.{view_of, HaveRoom, InOrder, WillResolveAll};
+ghost use Rattle.running_store.specs.Running.{view_of, InOrder};
 
 use crate::job_turn::{Beside, JobTurn, page_at, turn_of};
-use crate::telling::{fail, fail_job, win};
+use crate::telling::{fail_job, go_on, win};
 use page_disk::PageDisk;
 use running_store::{
     Planned, Running, RunningJob, Work, Zeroed, clear_places, write_last, write_one,
@@ -18,35 +18,29 @@ use running_store::{
 /// Overwrites the next page of the claimed clusters with zeros.
 pub(crate) fn zero<D: PageDisk>(
     running: &mut Running<D>,
-    channel: u8,
     beside: Beside,
     planned: Planned,
     zeroed: Zeroed,
 ) -> JobTurn
     requires order { InOrder D.PageDisk running.old }
-    requires matched { IsMatched planned }
-    requires commits { planned.commits ≡ true }
-    requires follows { MayFollow (Command channel) beside.later.items }
-    requires clusters { zeroed.clusters < length planned.effects.claimed }
-    requires pages { zeroed.pages < zeroed.cluster_pages }
-    requires roomy { HaveRoom running.old.metas running.old.chains running.old.live running.old.guards
-        (writes_laid planned beside.old ∷ beside.later.items) }
-    requires will_resolve { WillResolveAll running.old.metas running.old.marked
-        (writes_laid planned beside.old ∷ beside.later.items) }
+    requires zeroed { IsZeroedFor beside.serves planned zeroed }
+    requires follows { MayFollow beside.serves beside.later.items }
+    requires waits { beside.waiting
+        ≡ waits_for_job (zeroing_for beside.serves planned beside.old zeroed (phases_in beside.later.items)) }
+    requires kept { CanAllBeKept (blobs_of running.old) (writes_laid planned beside.old ∷ beside.later.items) }
     requires at_work { IsAtWork D.PageDisk (view_of running.old)
-        (zeroing_job channel planned beside.old zeroed (phases_in beside.later.items)) }
-    ensures case { TurnsJob D.PageDisk
-        (with_job (view_of running.old) (zeroing_job channel planned beside.old zeroed (phases_in beside.later.items)))
-        (view_of running.new) }
+        (zeroing_for beside.serves planned beside.old zeroed (phases_in beside.later.items)) }
+    ensures case { TurnsJob D.PageDisk (with_job (view_of running.old)
+        (zeroing_for beside.serves planned beside.old zeroed (phases_in beside.later.items))) (view_of running.new) }
     ensures answer { result ≡ answer_of (view_of running.new) }
     ensures order { InOrder D.PageDisk running.new }
 {
     let page = zeroed.next_page(&planned.effects.claimed);
     if write_one(&mut running.disk, page, &[0; 4096]).is_err() {
-        return fail(running, channel);
+        return fail_job(running, beside.serves, beside.waiting);
     }
     running.job = Some(RunningJob::behind_zeros(
-        channel,
+        beside.serves,
         planned,
         zeroed,
         beside.old,
@@ -67,10 +61,7 @@ pub(crate) fn write_fresh<D: PageDisk>(
     requires follows { MayFollow beside.serves beside.later.items }
     requires waits { beside.waiting
         ≡ waits_for_job (writing_for beside.serves planned beside.old written (phases_in beside.later.items)) }
-    requires roomy { HaveRoom running.old.metas running.old.chains running.old.live running.old.guards
-        (writes_laid planned beside.old ∷ beside.later.items) }
-    requires will_resolve { WillResolveAll running.old.metas running.old.marked
-        (writes_laid planned beside.old ∷ beside.later.items) }
+    requires kept { CanAllBeKept (blobs_of running.old) (writes_laid planned beside.old ∷ beside.later.items) }
     requires at_work { IsAtWork D.PageDisk (view_of running.old)
         (writing_for beside.serves planned beside.old written (phases_in beside.later.items)) }
     requires left { written + 1 < length planned.pages }
@@ -82,7 +73,7 @@ pub(crate) fn write_fresh<D: PageDisk>(
     let next = &planned.pages.as_slice()[written + 1];
     let page = page_at(&running.sup, next.place);
     if write_one(&mut running.disk, page, &next.page).is_err() {
-        return fail_job(running, beside.waiting);
+        return fail_job(running, beside.serves, beside.waiting);
     }
     running.job = Some(beside.at(Work::Writing {
         planned,
@@ -97,9 +88,7 @@ pub(crate) fn erase<D: PageDisk>(running: &mut Running<D>, beside: Beside, erase
     requires follows { MayFollow beside.serves beside.later.items }
     requires waits { beside.waiting
         ≡ waits_for_job (erasing_for beside.serves beside.old erased (phases_in beside.later.items)) }
-    requires roomy { HaveRoom running.old.metas running.old.chains running.old.live running.old.guards
-        beside.later.items }
-    requires will_resolve { WillResolveAll running.old.metas running.old.marked beside.later.items }
+    requires kept { CanAllBeKept (blobs_of running.old) beside.later.items }
     requires at_work { IsAtWork D.PageDisk (view_of running.old)
         (erasing_for beside.serves beside.old erased (phases_in beside.later.items)) }
     requires left { erased + 1 < length beside.old }
@@ -110,7 +99,7 @@ pub(crate) fn erase<D: PageDisk>(running: &mut Running<D>, beside: Beside, erase
 {
     let page = page_at(&running.sup, beside.old.as_slice()[erased]);
     if write_one(&mut running.disk, page, &[0; 4096]).is_err() {
-        return fail_job(running, beside.waiting);
+        return fail_job(running, beside.serves, beside.waiting);
     }
     running.job = Some(beside.at(Work::Erasing { erased: erased + 1 }));
     JobTurn::More
@@ -122,9 +111,7 @@ pub(crate) fn free<D: PageDisk>(running: &mut Running<D>, beside: Beside, erased
     requires follows { MayFollow beside.serves beside.later.items }
     requires waits { beside.waiting
         ≡ waits_for_job (erasing_for beside.serves beside.old erased (phases_in beside.later.items)) }
-    requires roomy { HaveRoom running.old.metas running.old.chains running.old.live running.old.guards
-        beside.later.items }
-    requires will_resolve { WillResolveAll running.old.metas running.old.marked beside.later.items }
+    requires kept { CanAllBeKept (blobs_of running.old) beside.later.items }
     requires at_work { IsAtWork D.PageDisk (view_of running.old)
         (erasing_for beside.serves beside.old erased (phases_in beside.later.items)) }
     requires last { erased + 1 ≡ length beside.old }
@@ -135,10 +122,11 @@ pub(crate) fn free<D: PageDisk>(running: &mut Running<D>, beside: Beside, erased
 {
     let page = page_at(&running.sup, beside.old.as_slice()[erased]);
     if write_last(&mut running.disk, page, &[0; 4096]).is_err() {
-        return fail_job(running, beside.waiting);
+        return fail_job(running, beside.serves, beside.waiting);
     }
     clear_places(&mut running.pages, &beside.old);
-    running.job = RunningJob::next(beside.serves, beside.later);
-    win(running, beside.serves);
+    let serves = beside.serves;
+    go_on(running, serves, RunningJob::next(serves, beside.later));
+    win(running, serves);
     turn_of(running)
 }

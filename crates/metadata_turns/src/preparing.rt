@@ -16,7 +16,7 @@ use md_chain::{Plan, chain_len, plan_chain};
 use out_of_memory::Memory;
 use pools::PagePool;
 use running_store::{
-    Effects, Planned, RunningJob, Serves, Work, Zeroed, clear_places, take_places,
+    Effects, Planned, Rooms, RunningJob, Serves, Work, Zeroed, clear_places, take_places,
 };
 use std::alloc::Global;
 use std::collections::VecDeque;
@@ -41,9 +41,10 @@ pub(crate) struct Prepared {
 }
 
 impl Prepared {
-    ghost use Rattle.std.specs.Prelude.{◌≡◌, ◌<◌, ◌∷◌, [], true, false, drop};
+    ghost use Rattle.std.specs.Prelude.{◌≡◌, ◌<◌, ◌∷◌, [], drop, IsSome, None};
     ghost use Rattle.store_model.specs.Places.{AreDistinct};
     ghost use Rattle.running_store.specs.Jobs.{begun_job, job_seen, to_come, writes_laid, writing_for, IsHeaded};
+    ghost use Rattle.running_store.specs.declared.job.Serves.TheVariants.{Command};
     ghost use Rattle.metadata_turns.specs.Begins.{no_effects, planned_with};
 
     /// The job that writes the metadata as its commit, at its begin: clusters of so many pages each that it has claimed
@@ -59,21 +60,24 @@ impl Prepared {
     ) -> RunningJob
         requires headed { self.laid.chain ≡ head ∷ drop 1 self.laid.chain }
         requires once { AreDistinct effects.freed }
+        requires commits { IsSome effects.commit }
         requires some_pages { 0 < cluster_pages }
         ensures seen { job_seen result
-            ≡ begun_job channel (planned_with self head new true effects) self.old cluster_pages [] }
+            ≡ begun_job (Command channel None) (planned_with self head new effects) self.old cluster_pages [] }
         ensures headed { IsHeaded result }
-        ensures coming { to_come result ≡ writes_laid (planned_with self head new true effects) self.old ∷ [] }
+        ensures coming { to_come result ≡ writes_laid (planned_with self head new effects) self.old ∷ [] }
     {
         let Prepared { laid, old } = self;
         let Laid { chain, pages } = laid;
-        let serves = Serves::Command(channel);
+        let serves = Serves::Command {
+            channel,
+            freeze: None,
+        };
         let later = VecDeque::new(alloc);
         let claimed = effects.claimed.len();
         let planned = Planned {
             head,
             new,
-            commits: true,
             effects,
             chain,
             pages,
@@ -104,24 +108,25 @@ impl Prepared {
     pub(crate) fn alone(self, alloc: Global, serves: Serves, head: u32, new: Meta) -> RunningJob
         requires headed { self.laid.chain ≡ head ∷ drop 1 self.laid.chain }
         ensures seen { job_seen result
-            ≡ writing_for serves (planned_with self head new false no_effects) self.old 0 [] }
+            ≡ writing_for serves (planned_with self head new no_effects) self.old 0 [] }
         ensures headed { IsHeaded result }
         ensures coming { to_come result
-            ≡ writes_laid (planned_with self head new false no_effects) self.old ∷ [] }
+            ≡ writes_laid (planned_with self head new no_effects) self.old ∷ [] }
     {
         let Prepared { laid, old } = self;
         let Laid { chain, pages } = laid;
         let effects = Effects {
-            live: None,
-            renews: false,
+            commit: None,
             freed: PlaceList::new(alloc),
             claimed: PlaceList::new(alloc),
-            rooms: None,
+            rooms: Rooms {
+                chain: None,
+                meta: None,
+            },
         };
         let planned = Planned {
             head,
             new,
-            commits: false,
             effects,
             chain,
             pages,

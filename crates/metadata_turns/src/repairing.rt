@@ -6,7 +6,8 @@ ghost use Rattle.std.specs.FinMap as map;
 ghost use Rattle.blob_meta.specs.Repairs.{repairs};
 ghost use Rattle.metadata_turns.specs.Repairs.{with_repair, IsDue, IsLackForRepair, RepairsOrNot};
 ghost use Rattle.running_store.specs.Jobs.{IsHeaded};
-ghost use Rattle.running_store.specs.Running.{view_of, InOrder, IsRoomy, WillResolveBy};
+ghost use Rattle.running_store.specs.Blobs.{blobs_of, WillBeKept};
+ghost use Rattle.running_store.specs.Running.{view_of, InOrder};
 ghost use Rattle.running_store.specs.StoreInvariant.{IsRunning};
 ghost use Rattle.running_store.specs.StoreView.{base_of, state_of};
 ghost use Rattle.store_model.specs.Cases.BeginRepair.{BeginsRepair};
@@ -16,7 +17,7 @@ use crate::preparing::{items_of, pages_needed, places_behind, prepare};
 use blob_meta::Meta;
 use out_of_memory::Memory;
 use page_disk::PageDisk;
-use running_store::{Running, RunningJob, Serves, Work};
+use running_store::{Erasure, Running, RunningJob, Serves, Work};
 use std::collections::VecDeque;
 use volume_model::TryCopy;
 
@@ -107,9 +108,7 @@ fn repair_of<D: PageDisk>(running: &mut Running<D>, head: u32) -> Result<Running
     ensures begins { IfOk result (λ job. BeginsRepair (state_of D.PageDisk (view_of running.old))
         (state_of D.PageDisk (with_repair (view_of running.new) job))) }
     ensures headed { IfOk result IsHeaded }
-    ensures roomy { IfOk result
-        (IsRoomy running.new.metas running.new.chains running.new.live running.new.guards) }
-    ensures will_resolve { IfOk result (WillResolveBy running.new.metas running.new.marked) }
+    ensures kept { IfOk result (WillBeKept (blobs_of running.new)) }
     ensures lack { IfErr result (IsLackForRepair (state_of D.PageDisk (view_of running.old)) head) }
     ensures same { OnErr result (running.new ≡ running.old) }
     ensures disk { running.new.disk ≡ running.old.disk }
@@ -140,9 +139,7 @@ fn mend<D: PageDisk>(
     ensures begins { IfOk result (λ job. BeginsRepair (state_of D.PageDisk (view_of running.old))
         (state_of D.PageDisk (with_repair (view_of running.new) job))) }
     ensures headed { IfOk result IsHeaded }
-    ensures roomy { IfOk result
-        (IsRoomy running.new.metas running.new.chains running.new.live running.new.guards) }
-    ensures will_resolve { IfOk result (WillResolveBy running.new.metas running.new.marked) }
+    ensures kept { IfOk result (WillBeKept (blobs_of running.new)) }
     ensures lack { IfErr result (IsLackForRepair (state_of D.PageDisk (view_of running.old)) head) }
     ensures same { OnErr result (running.new ≡ running.old) }
     ensures disk { running.new.disk ≡ running.old.disk }
@@ -181,9 +178,7 @@ fn erase<D: PageDisk>(running: &Running<D>, head: u32) -> Result<RunningJob, Rep
     ensures begins { IfOk result (λ job. BeginsRepair (state_of D.PageDisk (view_of running.now))
         (state_of D.PageDisk (with_repair (view_of running.now) job))) }
     ensures headed { IfOk result IsHeaded }
-    ensures roomy { IfOk result
-        (IsRoomy running.now.metas running.now.chains running.now.live running.now.guards) }
-    ensures will_resolve { IfOk result (WillResolveBy running.now.metas running.now.marked) }
+    ensures kept { IfOk result (WillBeKept (blobs_of running.now)) }
     ensures lack { IfErr result (IsLackForRepair (state_of D.PageDisk (view_of running.now)) head) }
 {
     let old = places_behind(running.alloc, &running.chains, head)?;
@@ -194,7 +189,11 @@ fn erase<D: PageDisk>(running: &Running<D>, head: u32) -> Result<RunningJob, Rep
     let freed = missing(running.alloc, &mut beside, &meta.map)?;
     Ok(RunningJob {
         serves: Serves::Repair,
-        work: Work::Removing { head, freed },
+        work: Work::Removing(Erasure {
+            head,
+            commit: None,
+            freed,
+        }),
         old,
         later: VecDeque::new(running.alloc),
     })

@@ -1,20 +1,19 @@
 //! Whoever waits for a job is told how it goes.
 
-ghost use Rattle.std.specs.Prelude.{◌≡◌, ◌<◌, None, [], length};
-ghost use Rattle.volume_model.specs.declared.reply.Reply.TheVariants.{Fault};
+ghost use Rattle.std.specs.Prelude.{◌≡◌, ◌<◌, None, []};
 ghost use Rattle.store_model.specs.Claiming as claiming;
 ghost use Rattle.store_model.specs.Phases.{erasing};
-ghost use Rattle.metadata_turns.specs.JobTurns.{answer_of, stopped_at};
+ghost use Rattle.metadata_turns.specs.JobTurns.{answer_of, guards_left, stopped_at};
 ghost use Rattle.running_store.specs.Running.{view_of, InOrder};
 ghost use Rattle.running_store.specs.Stages.{stage_seen};
-ghost use Rattle.running_store.specs.StoreView.{rows_of};
+ghost use Rattle.running_store.specs.Jobs.{freeze_of};
 ghost use Rattle.metadata_turns.specs.Telling.{let_go_at, HasFailed, HasInsertRow, HasRow, HasWaitingRow, IsTold};
-ghost use Rattle.metadata_turns.specs.Telling.{IsWon};
-ghost use Rattle.running_store.specs.GivingBack.{IsGivenUp};
+ghost use Rattle.metadata_turns.specs.Telling.{gone_on, IsWon};
 
 use crate::job_turn::JobTurn;
+use io_freeze::Guards;
 use page_disk::PageDisk;
-use running_store::{Decision, Running, Serves, Stage, give_up, log};
+use running_store::{Decision, Running, RunningJob, Serves, Stage, give_up, log, release};
 use volume_model::{PlaceList, Reply};
 
 /// The replacement is made: a command is logged with its reply, where it has one now; the row of an insert, which has
@@ -32,7 +31,7 @@ pub(crate) fn tell<D: PageDisk>(
     ensures order { InOrder D.PageDisk running.new }
 {
     match serves {
-        Serves::Command(channel) => {
+        Serves::Command { channel, freeze: _ } => {
             if let Some(reply) = reply {
                 log(running, channel, reply);
             }
@@ -61,7 +60,7 @@ pub(crate) fn win<D: PageDisk>(running: &mut Running<D>, serves: Serves)
     ensures order { InOrder D.PageDisk running.new }
 {
     match serves {
-        Serves::Command(_) | Serves::Repair => {}
+        Serves::Command { .. } | Serves::Repair => {}
         Serves::Insert(channel) => let_go(running, channel, Stage::Decided(Decision::Won)),
     }
 }
@@ -76,48 +75,57 @@ fn let_go<D: PageDisk>(running: &mut Running<D>, channel: u8, next: Stage)
     running.rows[channel as usize].let_go(next);
 }
 
-/// The store stops, and what waits for the job is logged as failed: its command, or the write for which it inserts,
-/// whose claim is given back if the cluster isn't in its slot yet.
-pub(crate) fn fail<D: PageDisk>(running: &mut Running<D>, channel: u8) -> JobTurn
+/// The store stops, the blob that the job froze is released, and what waits for it, in this channel, is logged as
+/// failed: its command, or the write for which it inserts, whose claim is given back if the cluster isn't in its slot
+/// yet. Nothing waits for a repair, nor for a job behind its commit.
+pub(crate) fn fail_job<D: PageDisk>(
+    running: &mut Running<D>,
+    serves: Serves,
+    waiting: Option<u8>,
+) -> JobTurn
     requires order { InOrder D.PageDisk running.old }
     requires taken { running.old.job ≡ None }
-    requires channel { channel < 16 }
-    requires left { 0 < length (rows_of running.old.rows.items channel).left }
-    ensures logged { IsGivenUp (stopped_at (view_of running.old)) (view_of running.new) channel Fault
+    requires row { HasWaitingRow running.old.rows.items waiting }
+    ensures failed { HasFailed (freeze_of serves) waiting (view_of running.old) (view_of running.new)
         (D.clock running.old.disk) }
     ensures answer { result ≡ answer_of (view_of running.new) }
     ensures order { InOrder D.PageDisk running.new }
 {
-    let turn = stop(running);
+    let turn = stop(running, serves.freeze());
+    let Some(channel) = waiting else {
+        return turn;
+    };
     give_up(running, channel, Reply::Fault);
     turn
 }
 
-/// The store stops, and what waits for the job, in this channel, is logged as failed; nothing waits for a repair, nor
-/// for a job behind its commit.
-pub(crate) fn fail_job<D: PageDisk>(running: &mut Running<D>, waiting: Option<u8>) -> JobTurn
+/// The store stops behind the entries so far, and the blob that its job froze is released.
+fn stop<D: PageDisk>(running: &mut Running<D>, freeze: Option<u32>) -> JobTurn
     requires order { InOrder D.PageDisk running.old }
     requires taken { running.old.job ≡ None }
-    requires row { HasWaitingRow running.old.rows.items waiting }
-    ensures failed { HasFailed waiting (view_of running.old) (view_of running.new) (D.clock running.old.disk) }
+    ensures stopped { view_of running.new ≡ stopped_at (view_of running.old) freeze }
     ensures answer { result ≡ answer_of (view_of running.new) }
     ensures order { InOrder D.PageDisk running.new }
 {
-    match waiting {
-        Some(channel) => fail(running, channel),
-        None => stop(running),
-    }
-}
-
-/// The store stops behind the entries so far.
-fn stop<D: PageDisk>(running: &mut Running<D>) -> JobTurn
-    requires order { InOrder D.PageDisk running.old }
-    requires taken { running.old.job ≡ None }
-    ensures stopped { view_of running.new ≡ stopped_at (view_of running.old) }
-    ensures answer { result ≡ answer_of (view_of running.new) }
-    ensures order { InOrder D.PageDisk running.new }
-{
+    release(&mut running.guards, freeze);
     let entries = running.entries.len() as u32;
     running.stopped = Some(entries);
     JobTurn::Stopped(entries)
+}
+
+/// The job goes on with what is left of it. Where that is nothing the blob that it froze is released.
+pub(crate) fn go_on<D>(running: &mut Running<D>, serves: Serves, left: Option<RunningJob>)
+    ensures { running.new ≡ gone_on running.old serves left }
+{
+    thaw(&mut running.guards, serves, &left);
+    running.job = left;
+}
+
+/// Where nothing is left of a job the blob that it froze is released.
+fn thaw(guards: &mut Guards, serves: Serves, left: &Option<RunningJob>)
+    ensures { guards.new ≡ guards_left guards.old serves left.now }
+{
+    if left.is_none() {
+        release(guards, serves.freeze());
+    }
 }

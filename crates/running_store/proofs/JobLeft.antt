@@ -2,20 +2,21 @@
 use Rattle.std.proofs.Common.{◌≡◌, ℕ, ◌<◌, List, [], ◌∷◌, length, Some, None, refl, sym, ◌∙◌, ap, subst, arith, drop}
 use Rattle.store_model.specs.Phases.{Phase, Replaces, erasing, writing}
 use Rattle.store_model.specs.StoreState.{going_on, JobState}
-use Rattle.running_store.specs.Jobs.{commit_in, erasing_for, job_left, phases_in, replacing_of, service_of, writing_for}
-use Rattle.running_store.specs.Jobs.{erases_laid, job_seen, writes_laid, IsFollowing, MayFollow}
+use Rattle.running_store.specs.Jobs.{commit_in, erasing_for, freeze_of, job_left, phases_in, replacing_of, service_of}
+use Rattle.running_store.specs.Jobs.{erases_laid, job_seen, writes_laid, writing_for, IsFollowing, MayFollow}
 use Rattle.running_store.specs.declared.job.RunningJob.{RunningJob}
 use Rattle.running_store.specs.declared.job.Work.TheVariants as work
 use Rattle.running_store.specs.declared.replacements.Change.{Change}
 use Rattle.running_store.specs.declared.replacements.Change.TheVariants as change
 use Rattle.running_store.specs.declared.job.Serves.{Serves}
 use Rattle.running_store.specs.declared.job.Serves.TheVariants as whom
+use Rattle.running_store.specs.declared.replacements.Erasure.{Erasure}
 use Rattle.running_store.specs.declared.replacements.LaidReplacement.{LaidReplacement}
 use Rattle.running_store.specs.declared.replacements.Planned.{Planned}
 
 -- a job goes on with what is left
-pub goes_on_left : (serves : Serves) (j : JobState) → j.serves ≡ service_of serves → j.freeze ≡ None → j.claimed ≡ []
-    → (todo : List Phase) → going_on j [] todo ≡ job_left serves todo
+pub goes_on_left : (serves : Serves) (j : JobState) → j.serves ≡ service_of serves → j.freeze ≡ freeze_of serves
+    → j.claimed ≡ [] → (todo : List Phase) → going_on j [] todo ≡ job_left serves todo
 goes_on_left serves j served freeze claimed [] = refl
 goes_on_left serves j served freeze claimed (x ∷ xs) = rw (served, freeze, claimed) refl
 
@@ -31,7 +32,7 @@ left_writing serves p old others none =
         → job_left serves (writing fresh (Replaces (replacing_of p old) (commit_in p) ∷ erasing old old others))
         ≡ Some (record {
           serves = service_of serves;
-          freeze = None;
+          freeze = freeze_of serves;
           claimed = [];
           written = [];
           todo = writing fresh (Replaces (replacing_of p old) (commit_in p) ∷ erasing old old others);
@@ -49,14 +50,14 @@ left_erasing serves (o ∷ p ∷ ps) others some = refl
 -- ---- the first of the replacements to come
 
 pub first_follows : (serves : Serves) (x : LaidReplacement) (xs : List LaidReplacement) → MayFollow serves (x ∷ xs)
-    → IsFollowing x × MayFollow serves xs
-first_follows (whom.Command channel) x xs may = may
+    → IsFollowing serves x × MayFollow serves xs
+first_follows (whom.Command channel freeze) x xs may = may
 first_follows (whom.Insert channel) x xs may = absurd (cc may)
 first_follows whom.Repair x xs may = absurd (cc may)
 
-claims_none : (x : LaidReplacement) (p : Planned) → x.change ≡ change.Writes p → IsFollowing x
-    → p.effects.claimed ≡ []
-claims_none x p is follows = (subst (λ (c : Change). IsFollowing (record x { change = c })) is follows).2
+claims_none : (serves : Serves) (x : LaidReplacement) (p : Planned) → x.change ≡ change.Writes p
+    → IsFollowing serves x → p.effects.claimed ≡ []
+claims_none serves x p is follows = (subst (λ (c : Change). IsFollowing serves (record x { change = c })) is follows).1
 
 -- a job that begins with the first of these
 pub next_writes : (j : RunningJob) (x : LaidReplacement) (p : Planned) → x.change ≡ change.Writes p → x.old ≡ j.old
@@ -64,17 +65,16 @@ pub next_writes : (j : RunningJob) (x : LaidReplacement) (p : Planned) → x.cha
     → Some (job_seen j) ≡ job_left j.serves (phases_in (x ∷ j.later.items))
 next_writes j x p is old at may =
     rw at (left_writing j.serves p j.old (phases_in j.later.items)
-    (claims_none x p is (first_follows j.serves x j.later.items may).0))
+    (claims_none j.serves x p is (first_follows j.serves x j.later.items may).0))
     ∙ ap (λ (y : LaidReplacement). job_left j.serves (phases_in (y ∷ j.later.items))) same
   where
     same : writes_laid p j.old ≡ x
     same i = record { change = sym is i; old = sym old i }
 
-pub next_erases : (j : RunningJob) (x : LaidReplacement) (head : ℕ) (freed : List ℕ)
-    → x.change ≡ change.Erases head freed → x.old ≡ j.old → j.work ≡ work.Removing head freed
-    → Some (job_seen j) ≡ job_left j.serves (phases_in (x ∷ j.later.items))
-next_erases j x head freed is old at =
+pub next_erases : (j : RunningJob) (x : LaidReplacement) (e : Erasure) → x.change ≡ change.Erases e → x.old ≡ j.old
+    → j.work ≡ work.Removing e → Some (job_seen j) ≡ job_left j.serves (phases_in (x ∷ j.later.items))
+next_erases j x e is old at =
     rw at refl ∙ ap (λ (y : LaidReplacement). job_left j.serves (phases_in (y ∷ j.later.items))) same
   where
-    same : erases_laid head freed j.old ≡ x
+    same : erases_laid e j.old ≡ x
     same i = record { change = sym is i; old = sym old i }

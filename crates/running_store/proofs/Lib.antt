@@ -3,6 +3,10 @@ pub mod Counting
 pub mod Maps
 pub mod Resolved
 pub mod Without
+pub mod BaseBehind
+pub mod KeptThawed
+pub mod KeptAlone
+pub mod Thawed
 pub mod Rowing
 pub mod Entered
 pub mod GivenBack

@@ -1,5 +1,5 @@
 -- A finite map with one entry given or gone, as a function.
-use Rattle.std.proofs.Common.{◌≡◌, ℕ, Bool, cond, eqb, List, None, Some, refl, sym, ap, subst, ◌∙◌, arith, inl, inr}
+use Rattle.std.proofs.Common.{◌≡◌, ℕ, Bool, cond, eqb, List, None, Option, Some, refl, sym, ap, subst, ◌∙◌, arith, inl, inr}
 use Rattle.std.specs.Prelude.{◌<◌, IsSome, if◌then◌else◌, slice_set, true, false}
 use Rattle.std.proofs.lemmas.List.{get_or-set_other, get_or-set_same, length-set}
 use Rattle.bit_array.specs.Bits.{is_in}
@@ -10,11 +10,13 @@ use Rattle.std.proofs.Math.Path.{fun_ext}
 use Rattle.std.proofs.lemmas.Bool.Decides.{nat_tests}
 use Rattle.std.proofs.lemmas.Bool.{cases_eq}
 use Rattle.blob_meta.specs.declared.meta.Meta.{Meta}
-use Rattle.store_model.specs.Maps.{with_entry, without_entry, Metas}
+use Rattle.store_model.specs.Maps.{with_entry, with_option, without_entry, Metas}
 use Rattle.store_model.proofs.WithEntry.{given_here, given_elsewhere}
+use Rattle.running_store.specs.Places.{changed_at}
 use Rattle.running_store.specs.Running.{AreHeads}
 
-is_key : (q k : ℕ) → eq_by_cmp nat_cmp q k ≡ eqb q k
+-- keys are the same by their order exactly where they are equal
+pub is_key : (q k : ℕ) → eq_by_cmp nat_cmp q k ≡ eqb q k
 is_key q k = grind (arith, nat_tests)
 
 pub insert_given : {X : Type 0} (m : FinMap nat_cmp X) (head : ℕ) (x : X)
@@ -26,6 +28,12 @@ insert_given m head x =
 pub remove_given : {X : Type 0} (m : FinMap nat_cmp X) (head : ℕ) → get (remove m head) ≡ without_entry (get m) head
 remove_given m head =
     fun_ext (λ q. get-remove nat_cmp_total m head q ∙ ap (λ b. cond b None (get m q)) (is_key q head))
+
+-- or one entry is another or gone
+pub changed_given : {X : Type 0} (m : FinMap nat_cmp X) (head : ℕ) (o : Option X)
+    → get (changed_at m head o) ≡ with_option (get m) head o
+changed_given m head None = remove_given m head
+changed_given m head (Some x) = insert_given m head x
 
 -- the heads stay the same where a blob that is there has other metadata
 heads_stay : (md_len : ℕ) (m : Metas) (head : ℕ) (new : Meta) (heads : List Bool) → IsSome (m head)

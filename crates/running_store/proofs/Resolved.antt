@@ -27,6 +27,13 @@ pub none_aside : (metas marked : MetaMap) → marked ≡ map.empty → base_of m
 none_aside metas marked none = ap (λ (m : MetaMap). base_of metas m) none
     ∙ fun_ext (λ h. ap (λ (o : Option Meta). option_or o (map.get metas h)) (map.get-empty nat_cmp h))
 
+-- what metadata resolves to has no mark
+pub resolved_none : (metas : Metas) (head : ℕ) (m : Meta) → resolved metas head ≡ Some m → mark_of m ≡ None
+resolved_none metas head m is =
+    let neither = no_marks metas head m is in
+    ap (λ (o : Option (List ℕ)). option_map_or (λ (bytes : List ℕ). Some bytes) o
+    (value_of m.internal (codes "SNAPTMP"))) neither.0 ∙ neither.1
+
 module _ (metas marked : MetaMap) where
   -- no blob has a mark exactly where none is kept aside
   none_marked : AreResolved metas marked → HasNoMarks (base_of metas marked) → (head : ℕ) → map.get marked head ≡ None
@@ -42,9 +49,7 @@ module _ (metas marked : MetaMap) where
   unmarked_where are none head m is =
       let same : base_of metas marked head ≡ map.get metas head =
       ap (λ (o : Option Meta). option_or o (map.get metas head)) (none head) in
-      let neither = no_marks (base_of metas marked) head m (ap (λ (f : Metas). f head) are.resolves ∙ sym same ∙ is) in
-      ap (λ (o : Option (List ℕ)). option_map_or (λ (bytes : List ℕ). Some bytes) o
-      (value_of m.internal (codes "SNAPTMP"))) neither.0 ∙ neither.1
+      resolved_none (base_of metas marked) head m (ap (λ (f : Metas). f head) are.resolves ∙ sym same ∙ is)
 
   pub is_unmarked : AreResolved metas marked → (next : Option ℕ) → IfSome next (λ n. IsNextFrom marked 0 n)
       → IfNone next (HasNoKeyFrom marked 0) → (b : Bool) → is_some next ≡ not b

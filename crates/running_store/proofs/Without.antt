@@ -10,12 +10,10 @@ use Rattle.std.proofs.lemmas.Bool.{cases_eq, eq-eqb, ne_eqb}
 use Rattle.std.proofs.lemmas.List.{get_or-set_other, get_or-set_same, length-set}
 use Rattle.bit_array.specs.Bits.{is_in}
 use Rattle.blob_meta.specs.declared.meta.Meta.{Meta}
-use Rattle.blob_meta.specs.Resolving.{resolved}
 use Rattle.store_model.specs.Maps.{Metas, without_entry}
-use Rattle.running_store.specs.Running.{AreHeads, WillResolveWithout}
-use Rattle.running_store.specs.StoreView.{base_of, AreResolved}
+use Rattle.running_store.specs.Running.{AreHeads}
+use Rattle.running_store.specs.StoreView.{base_of}
 use Rattle.running_store.proofs.Maps.{remove_given}
-use Rattle.running_store.proofs.Resolved.{still_marked}
 
 module _ (metas marked : map.FinMap nat_cmp Meta) (head : ℕ) where
   -- the device's metadata behind an erasure
@@ -29,12 +27,6 @@ module _ (metas marked : map.FinMap nat_cmp Meta) (head : ℕ) where
           → option_or (if b then None else x) (if b then None else y) ≡ (if b then None else option_or x y)
       by true x y = refl
       by false x y = refl
-
-  -- the erased blob is gone, and the others are as they were
-  pub resolved_without : AreResolved metas marked → WillResolveWithout metas marked head
-      → AreResolved (map.remove metas head) (map.remove marked head)
-  resolved_without are will =
-      record { marks = still_marked metas marked head are; resolves = ap resolved base_gone ∙ will }
 
 -- its head is none any more
 pub heads_gone : (md_len : ℕ) (m : Metas) (head : ℕ) (heads : List Bool) → head < md_len → AreHeads md_len m heads

@@ -3,11 +3,35 @@ use Rattle.std.proofs.Common.{◌≡◌, ℕ, zero, suc, ◌+◌, ◌-◌, ◌*�
 use Rattle.std.proofs.Common.{map, refl, sym, ◌∙◌, ap, arith, add-one}
 use Rattle.std.specs.List.{range_with_len}
 use Rattle.store_model.specs.Phases.{Phase, Zeros}
-use Rattle.running_store.specs.Jobs.{begun_job, behind_zero, writing_job, zeroing_job}
+use Rattle.running_store.specs.Jobs.{begun_job, behind_zero, writing_for, zeroing_for, IsMatched, IsMatchedFor}
+use Rattle.running_store.specs.Jobs.{IsZeroedFor}
+use Rattle.std.specs.Prelude.{IsSome}
 use Rattle.running_store.specs.Zeroing.{next_zeroed, pages_from, pages_of, IsLeft}
 use Rattle.running_store.specs.declared.replacements.Planned.{Planned}
+use Rattle.running_store.specs.declared.job.Serves.{Serves}
+use Rattle.running_store.specs.declared.job.Serves.TheVariants as whom
 use Rattle.running_store.specs.declared.job.Zeroed.{Zeroed}
 use Rattle.store_model.specs.StoreState.{JobState}
+
+-- what is known of a job that overwrites clusters
+pub zeroed_of : (serves : Serves) (p : Planned) (z : Zeroed) → IsZeroedFor serves p z
+    → IsMatched p × IsLeft p.effects.claimed z × IsSome p.effects.commit
+zeroed_of (whom.Command channel freeze) p z is = is
+zeroed_of (whom.Insert channel) p z is = absurd is
+zeroed_of whom.Repair p z is = absurd is
+
+-- another page of them may come
+pub still_zeroed : (serves : Serves) (p : Planned) (z more : Zeroed) → IsZeroedFor serves p z
+    → IsLeft p.effects.claimed more → IsZeroedFor serves p more
+still_zeroed (whom.Command channel freeze) p z more is left = (is.0, left, is.2)
+still_zeroed (whom.Insert channel) p z more is left = is
+still_zeroed whom.Repair p z more is left = is
+
+-- or its metadata
+pub matched_behind : (serves : Serves) (p : Planned) (z : Zeroed) → IsZeroedFor serves p z → IsMatchedFor serves p
+matched_behind (whom.Command channel freeze) p z is = is.0
+matched_behind (whom.Insert channel) p z is = absurd is
+matched_behind whom.Repair p z is = absurd is
 
 -- ---- lists of pages
 
@@ -71,7 +95,7 @@ zeros_behind : (l : List ℕ) (n : ℕ) (more : List Phase) → l ≡ n ∷ drop
 zeros_behind [] n more is = absurd (cc is)
 zeros_behind (x ∷ xs) n more is = refl
 
-module _ (channel : ℕ) (planned : Planned) (old : List ℕ) (z : Zeroed) (others : List Phase)
+module _ (serves : Serves) (planned : Planned) (old : List ℕ) (z : Zeroed) (others : List Phase)
     (left : IsLeft planned.effects.claimed z) where
   abbrev claimed : List ℕ
   claimed = planned.effects.claimed
@@ -80,13 +104,13 @@ module _ (channel : ℕ) (planned : Planned) (old : List ℕ) (z : Zeroed) (othe
   k = z.cluster_pages
 
   abbrev j : JobState
-  j = zeroing_job channel planned old z others
+  j = zeroing_for serves planned old z others
 
   abbrev ahead : List ℕ
   ahead = pages_from k (drop z.clusters claimed) z.pages
 
   abbrev more : List Phase
-  more = (writing_job channel planned old 0 others).todo
+  more = (writing_for serves planned old 0 others).todo
 
   next : ahead ≡ next_zeroed claimed z ∷ drop 1 ahead
   next = first_page k claimed z.clusters z.pages left.clusters left.pages
@@ -102,33 +126,33 @@ module _ (channel : ℕ) (planned : Planned) (old : List ℕ) (z : Zeroed) (othe
 
   -- then another of its cluster,
   pub page_more : z.pages + 1 < z.cluster_pages
-      → zeroing_job channel planned old (record z { pages = z.pages + 1 }) others ≡ behind_zero j
+      → zeroing_for serves planned old (record z { pages = z.pages + 1 }) others ≡ behind_zero j
   page_more some =
       behind (pages_from k (drop z.clusters claimed) (z.pages + 1))
       (next_in_cluster k claimed z.clusters z.pages left.clusters some)
 
   -- or one of the next cluster,
   pub cluster_more : z.cluster_pages ≤ z.pages + 1
-      → zeroing_job channel planned old (record z { clusters = z.clusters + 1; pages = 0 }) others
+      → zeroing_for serves planned old (record z { clusters = z.clusters + 1; pages = 0 }) others
       ≡ behind_zero j
   cluster_more last =
-      ap (λ n. zeroing_job channel planned old (record z { clusters = n; pages = 0 }) others) (add-one z.clusters)
+      ap (λ n. zeroing_for serves planned old (record z { clusters = n; pages = 0 }) others) (add-one z.clusters)
       ∙ behind (pages_from k (drop (suc z.clusters) claimed) 0)
       (next_cluster k claimed z.clusters z.pages left.clusters left.pages last)
 
   -- or the metadata is written.
   pub none_more : z.cluster_pages ≤ z.pages + 1 → length claimed ≤ z.clusters + 1
-      → writing_job channel planned old 0 others ≡ behind_zero j
+      → writing_for serves planned old 0 others ≡ behind_zero j
   none_more last all =
       behind []
       (sym (ap (λ l. pages_from k l 0) (drop_past claimed (suc z.clusters) (omega (arith, all))))
       ∙ next_cluster k claimed z.clusters z.pages left.clusters left.pages last)
 
 -- where no cluster is claimed a job writes its metadata at once
-pub none_zeroed : (channel : ℕ) (planned : Planned) (old : List ℕ) (cluster_pages : ℕ) (others : List Phase)
+pub none_zeroed : (serves : Serves) (planned : Planned) (old : List ℕ) (cluster_pages : ℕ) (others : List Phase)
     → length planned.effects.claimed ≤ 0
-    → writing_job channel planned old 0 others ≡ begun_job channel planned old cluster_pages others
-none_zeroed channel planned old cluster_pages others none = sym (ap (λ l. record (writing_job channel planned old 0
+    → writing_for serves planned old 0 others ≡ begun_job serves planned old cluster_pages others
+none_zeroed serves planned old cluster_pages others none = sym (ap (λ l. record (writing_for serves planned old 0
     others) {
-      todo = map Zeros (pages_from cluster_pages l 0) ++ (writing_job channel planned old 0 others).todo;
+      todo = map Zeros (pages_from cluster_pages l 0) ++ (writing_for serves planned old 0 others).todo;
     }) (drop_past planned.effects.claimed 0 none))

@@ -1,13 +1,37 @@
--- What the commit of new metadata does besides giving it to its blob.
-use Rattle.std.specs.Prelude.{◌≡◌, ℕ, ◌||◌, nat_lt, if◌then◌else◌, is_some, Bool, false, List, [], ◌∷◌, drop, length}
-use Rattle.std.specs.Prelude.{Option, None, Some}
-use Rattle.std.specs.Option.{option_map}
+-- What a replacement does besides giving a blob new metadata, and what a commit makes.
+use Rattle.std.specs.Prelude.{◌≡◌, ℕ, ◌||◌, nat_lt, if◌then◌else◌, is_some, not, Bool, false, List, [], ◌∷◌, drop}
+use Rattle.std.specs.Prelude.{length, Option, None, Some}
+use Rattle.std.specs.FinMap as map
+use Rattle.std.specs.Option.{option_and_then, option_map, option_map_or}
+use Rattle.std.specs.Ordering.{nat_cmp}
 use Rattle.volume_model.specs.Xattrs.{Xattrs, name_key, with_nul, with_value}
 use Rattle.volume_model.specs.declared.command.Command.{Command}
 use Rattle.volume_model.specs.declared.command.Command.TheVariants as c
+use Rattle.volume_model.specs.declared.reply.Reply.{Reply}
+use Rattle.volume_model.specs.declared.reply.Reply.TheVariants as r
 use Rattle.blob_meta.specs.declared.meta.Meta.{Meta}
 use Rattle.blob_meta.specs.Faults.{clusters_of}
+use Rattle.store_model.specs.Phases.{Committing, LiveChange}
 use Rattle.running_store.specs.declared.effects.Effects.{Effects}
+use Rattle.running_store.specs.declared.entries.EntryChange.{EntryChange}
+use Rattle.running_store.specs.declared.replacements.Commit.{Commit}
+use Rattle.running_store.specs.Places.{HasPlace}
+
+-- ---- what a commit makes, as the model has it
+
+-- what the command is answered with then
+abbrev pub reply_of : Commit → Reply
+reply_of commit = option_map_or r.Made commit.made r.Ok
+
+-- the attributes that are read otherwise from then on
+abbrev pub live_seen : EntryChange Xattrs → LiveChange
+live_seen x = record { head = x.head; xattrs = x.value }
+
+abbrev pub commit_seen : Commit → Committing
+commit_seen commit =
+    record { reply = reply_of commit; live = option_map live_seen commit.live; renews = commit.renews }
+
+-- ---- what follows from new metadata
 
 -- The attributes of a blob as they are read from the commit of a command on, if they are others than these: a resize
 -- leaves them, a rename gives them the name, and else they are those that are written.
@@ -26,19 +50,34 @@ abbrev pub cut_clusters : Option Meta → Meta → List ℕ
 cut_clusters None new = []
 cut_clusters (Some old) new = clusters_of (drop (length new.map) old.map)
 
--- They are those of new metadata in place of old, behind which these attributes are read, if they are others, with
--- these clusters claimed for it.
-pub record AreEffects (old : Option Meta) (live : Option Xattrs) (new : Meta) (clusters : List ℕ) (e : Effects) : Type 0
-  where
-    pub live_is : e.live ≡ live
-    pub renews : e.renews ≡ is_cut old new
-    pub freed : e.freed ≡ cut_clusters old new
-    pub claimed : e.claimed ≡ clusters
-
--- whether the blob gets a generation: it is new, or slots of it are cut
-abbrev pub is_numbered : Effects → Bool
-is_numbered e = is_some e.rooms || e.renews
-
--- the blobs that get one
+-- the blob at a head, if it gets a generation
 abbrev pub numbered_by : Bool → ℕ → List ℕ
-numbered_by numbered head = if numbered then head ∷ [] else []
+numbered_by gets head = if gets then head ∷ [] else []
+
+-- the attributes of the blob at a head, if they are read otherwise from a commit on
+abbrev pub live_at : ℕ → Option Xattrs → Option LiveChange
+live_at head = option_map (λ xattrs. record { head = head; xattrs = Some xattrs })
+
+-- what the commit makes that gives new metadata to a blob that is there, of which slots are cut or not, or to a new one
+abbrev pub commit_by : Bool → ℕ → Bool → Option Xattrs → Committing
+commit_by there head cut live = record {
+  reply = if there then r.Ok else r.Made head;
+  live = live_at head live;
+  renews = numbered_by (not there || cut) head;
+}
+
+-- The change gives the head these attributes, for which the map has a place; or there are none.
+abbrev pub IsGiven : map.FinMap nat_cmp Xattrs → ℕ → Option Xattrs → Option (EntryChange Xattrs) → Type 0
+IsGiven live head None o = o ≡ None
+IsGiven live head (Some xattrs) o = (room : Option ℕ)
+    × (o ≡ Some (record { head = head; value = Some xattrs; room = room })) × HasPlace live head room
+
+-- They are those of a commit that gives the blob at a head new metadata in place of old, behind which these attributes
+-- are read, if they are others, with these clusters claimed for it. No other blob is shown otherwise.
+pub record AreEffects (there : Bool) (head : ℕ) (old : Option Meta) (live : Option Xattrs) (new : Meta)
+    (clusters : List ℕ) (e : Effects) : Type 0 where
+  pub commit : option_map commit_seen e.commit ≡ Some (commit_by there head (is_cut old new) live)
+  pub shows : option_and_then (λ commit. commit.shows) e.commit ≡ None
+  pub makes : is_some e.rooms.chain ≡ not there
+  pub freed : e.freed ≡ cut_clusters old new
+  pub claimed : e.claimed ≡ clusters

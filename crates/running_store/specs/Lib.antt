@@ -1,12 +1,14 @@
 pub mod LoadedWhole
 pub mod Recovered
 pub mod Stages
+pub mod Places
 pub mod Effects
 pub mod Zeroing
 pub mod Jobs
 pub mod JobCodes
 pub mod Reserved
 pub mod StoreView
+pub mod Blobs
 pub mod Running
 pub mod Steps
 pub mod TurnMade

@@ -1,8 +1,11 @@
 -- What turns make of the rows, the log and the marks.
-use Rattle.std.specs.Prelude.{None, Some, ◌≡◌, ◌≢◌, ℕ, ◌<◌, List, [], ◌∷◌, ◌++◌, length, drop, slice_set}
+use Rattle.std.specs.Prelude.{None, Option, Some, ◌≡◌, ◌≢◌, ℕ, ◌<◌, List, [], ◌∷◌, ◌++◌, length, drop, slice_set}
+use Rattle.std.specs.Option.{option_and_then}
 use Rattle.volume_model.specs.declared.command.Command.{Command}
 use Rattle.volume_model.specs.declared.reply.Reply.{Reply}
 use Rattle.store_model.specs.Rows.{Answered, Decided, entry_of, Idle, IsForMetadata, Posted, Row, Stage}
+use Rattle.store_model.specs.StoreState.{JobState}
+use Rattle.running_store.specs.Places.{thawed}
 use Rattle.running_store.specs.StoreView.{StoreView, rows_of}
 
 -- one row is another
@@ -70,6 +73,10 @@ abbrev pub Asks : {D : Type 0} → StoreView D → ℕ → (Command → Type 0) 
 Asks p channel P = (command : Command) (rest : List Command) → (rows_of p.rows channel).left ≡ command ∷ rest
     → P command
 
--- stopped behind the entries so far; a job stays
+-- the blob that a job freezes
+abbrev pub freeze_in : Option JobState → Option ℕ
+freeze_in job = option_and_then (λ j. j.freeze) job
+
+-- stopped behind the entries so far; a job stays, and its blob is released
 abbrev pub stopped_here : {D : Type 0} → StoreView D → StoreView D
-stopped_here p = record p { stopped = Some (length p.log) }
+stopped_here p = record p { stopped = Some (length p.log); guards = thawed p.guards (freeze_in p.job) }

@@ -1,63 +1,114 @@
-//! What a commit does besides: what follows from the new metadata of its blob.
+//! What a replacement does besides giving a blob its new metadata: what follows from that.
 
-ghost use Rattle.std.specs.Prelude.{◌≡◌, [], None, IfOk, IfSome, IfNone, IsSome, option_copied};
+ghost use Rattle.std.specs.Prelude.{◌≡◌, ◌||◌, [], not, is_some, true, IfOk, IsTrue, option_copied};
 ghost use Rattle.std.specs.FinMap as map;
 ghost use Rattle.blob_meta.specs.Faults.{clusters_of};
 ghost use Rattle.std.specs.Option.{option_map};
 ghost use Rattle.volume_model.specs.Xattrs.{name_key, with_nul as with_nul_said, with_value};
-ghost use Rattle.running_store.specs.Effects.{cut_clusters, is_cut, live_behind, AreEffects};
-ghost use Rattle.running_store.specs.Running.{HasRoom, HasRooms};
+ghost use Rattle.running_store.specs.Blobs.{blobs_of, HasPlaces, HaveRooms};
+ghost use Rattle.running_store.specs.Effects.{cut_clusters, is_cut, live_behind, numbered_by, AreEffects, IsGiven};
+ghost use Rattle.running_store.specs.Places.{CanNumber};
 
-use crate::replacements::Rooms;
+use crate::entries::{EntryChange, place};
+use crate::replacements::{Commit, Rooms};
 use crate::running::Running;
-use blob_meta::Meta;
+use blob_meta::{Meta, mark_of};
+use io_freeze::Guards;
 use out_of_memory::Memory;
 use std::alloc::Global;
 use volume_model::{Command, Name, PlaceList, TryCopy, XattrList, with_nul};
 
-/// What the commit of a job does besides giving a blob its new metadata and its chain.
+/// What a replacement does besides giving a blob its new metadata and its chain.
 #[derive(Drop)]
 pub struct Effects {
-    /// The attributes as they are read from then on, if they are others.
-    pub live: Option<XattrList>,
-    /// Whether the blob, one that is there, gets a new generation: slots of it are cut.
-    pub renews: bool,
-    /// The clusters of these slots, each once, which no map has any more.
+    /// What it makes as the job's commit, where it is that.
+    pub commit: Option<Commit>,
+    /// The clusters of slots that are cut, each once, which no map has any more.
     pub freed: PlaceList,
     /// The clusters that the job has claimed for slots that are to read as zeros.
     pub claimed: PlaceList,
-    /// Room for the blob, where it is new.
-    pub rooms: Option<Rooms>,
+    /// Room for what the blob doesn't have before.
+    pub rooms: Rooms,
 }
 
-/// What the commit of a command does, which gives the blob at a head new metadata; no cluster is claimed so far. (Want
-/// of memory too if no generation is left for the blob.)
+/// What the one replacement of a command does, which gives the blob at a head new metadata, as its commit; no cluster
+/// is claimed so far. (Want of memory too if no generation is left for the blob.)
 pub fn effects_of<D>(
     running: &Running<D>,
     command: &Command,
     head: u32,
     new: &Meta,
 ) -> Result<Effects, Memory>
-    ensures are { IfOk result (AreEffects (map.get running.now.metas head)
-        (live_behind command.now (map.get running.now.live head) new.now) new.now []) }
-    ensures there { IfOk result (λ e. IfNone e.rooms (IsSome (map.get running.now.chains head))) }
-    ensures new { IfOk result (λ e. IfSome e.rooms (λ rooms. map.get running.now.chains head ≡ None)) }
-    ensures room { IfOk result
-        (HasRoom running.now.metas running.now.chains running.now.live running.now.guards) }
+    ensures are { IfOk result (AreEffects (is_some (map.get running.now.chains head)) head
+        (map.get running.now.metas head) (live_behind command.now (map.get running.now.live head) new.now) new.now []) }
+    ensures places { IfOk result (HasPlaces (blobs_of running.now) head new.now) }
 {
-    let (renews, freed) = cut_from(running.alloc, running.metas.get(head), new)?;
-    if renews && !running.guards.can_renew() {
-        return Err(Memory);
-    }
-    let live = live_from(running, command, head, new)?;
-    let rooms = rooms_for(running, head)?;
+    let alloc = running.alloc;
+    let makes = running.chains.get(head).is_none();
+    let (cut, freed) = cut_from(alloc, running.metas.get(head), new)?;
+    let renews = renews_if(alloc, &running.guards, head, makes || cut)?;
+    let live = change_of(running, head, live_from(running, command, head, new)?)?;
+    let rooms = rooms_for(running, head, new)?;
     Ok(Effects {
-        live,
-        renews,
+        commit: Some(Commit {
+            made: if makes { Some(head) } else { None },
+            live,
+            renews,
+            shows: None,
+        }),
         freed,
-        claimed: PlaceList::new(running.alloc),
+        claimed: PlaceList::new(alloc),
         rooms,
     })
+}
+
+/// The head, if it gets a generation. (Want of memory too if none is left for it.)
+fn renews_if(
+    alloc: Global,
+    guards: &Guards,
+    head: u32,
+    gets: bool,
+) -> Result<PlaceList, Memory>
+    ensures are { IfOk result (λ heads. heads ≡ numbered_by gets head) }
+    ensures can { IfOk result (CanNumber guards.now) }
+{
+    if !gets {
+        return Ok(PlaceList::new(alloc));
+    }
+    if !can_number(guards, head) {
+        return Err(Memory);
+    }
+    let mut heads = Vec::new(alloc);
+    heads.push(head)?;
+    Ok(PlaceList::from_vec(heads))
+}
+
+/// Whether a head can get another generation, or its first.
+fn can_number(guards: &Guards, head: u32) -> bool
+    ensures { IsTrue result → CanNumber guards.now (numbered_by true head) }
+{
+    match guards.generation(head) {
+        Some(_) => guards.can_renew(),
+        None => guards.can_add(),
+    }
+}
+
+/// These attributes of the blob at a head, if they are given, with room for them.
+fn change_of<D>(
+    running: &Running<D>,
+    head: u32,
+    live: Option<XattrList>,
+) -> Result<Option<EntryChange<XattrList>>, Memory>
+    ensures { IfOk result (IsGiven running.now.live head live) }
+{
+    match live {
+        Some(xattrs) => Ok(Some(EntryChange {
+            head,
+            value: Some(xattrs),
+            room: place(running.alloc, &running.live, head)?,
+        })),
+        None => Ok(None),
+    }
 }
 
 /// The attributes of the blob at a head as they are read from the commit of a command on, if they are others.
@@ -116,24 +167,21 @@ fn clusters_in(alloc: Global, slots: &[Option<u32>]) -> Result<PlaceList, Memory
     Ok(PlaceList::from_vec(clusters))
 }
 
-/// Room for the blob at a head, where it is new. (Want of memory too if no generation is left for it.)
-fn rooms_for<D>(running: &Running<D>, head: u32) -> Result<Option<Rooms>, Memory>
-    ensures there { IfOk result (λ o. IfNone o (IsSome (map.get running.now.chains head))) }
-    ensures new { IfOk result (λ o. IfSome o (λ rooms. map.get running.now.chains head ≡ None)) }
-    ensures rooms { IfOk result
-        (λ o. IfSome o (HasRooms running.now.metas running.now.chains running.now.live running.now.guards)) }
+/// Room for the blob at a head, where it is new, and for its metadata, among the marked or the others, where it isn't
+/// there yet.
+fn rooms_for<D>(running: &Running<D>, head: u32, new: &Meta) -> Result<Rooms, Memory>
+    ensures rooms { IfOk result (HaveRooms (blobs_of running.now) head new.now) }
+    ensures makes { IfOk result
+        (λ rooms. is_some rooms.chain ≡ not (is_some (map.get running.now.chains head))) }
 {
-    if running.chains.get(head).is_some() {
-        return Ok(None);
-    }
-    if !running.guards.can_add() {
-        return Err(Memory);
-    }
-    let rooms = Rooms::new(
-        running.alloc,
-        &running.metas,
-        &running.chains,
-        &running.live,
-    )?;
-    Ok(Some(rooms))
+    let alloc = running.alloc;
+    let aside = if mark_of(new).is_some() {
+        &running.marked
+    } else {
+        &running.metas
+    };
+    Ok(Rooms {
+        chain: place(alloc, &running.chains, head)?,
+        meta: place(alloc, aside, head)?,
+    })
 }

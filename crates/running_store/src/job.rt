@@ -5,7 +5,7 @@ ghost use Rattle.std.specs.Option.{option_and_then, option_map};
 ghost use Rattle.std.specs.List.{list_any};
 ghost use Rattle.running_store.specs.Jobs.{job_seen, is_commit, waits_for_job};
 
-use crate::replacements::{Change, LaidReplacement, Planned};
+use crate::replacements::{Change, Erasure, LaidReplacement, Planned};
 use std::collections::VecDeque;
 use volume_model::PlaceList;
 
@@ -39,8 +39,8 @@ pub enum Work {
     Zeroing { planned: Planned, zeroed: Zeroed },
     /// So many of the pages behind the head are written.
     Writing { planned: Planned, written: usize },
-    /// The blob at this head is to be erased; these clusters, which no other blob has, are clear then.
-    Removing { head: u32, freed: PlaceList },
+    /// A blob is to be erased.
+    Removing(Erasure),
     /// So many of the old pages are overwritten.
     Erasing { erased: usize },
 }
@@ -54,9 +54,9 @@ impl Work {
         ensures { result ≡ commits_now self.now }
     {
         match self {
-            Work::Zeroing { planned, .. } => planned.commits,
-            Work::Writing { planned, .. } => planned.commits,
-            Work::Removing { .. } => false,
+            Work::Zeroing { planned, .. } => planned.effects.commit.is_some(),
+            Work::Writing { planned, .. } => planned.effects.commit.is_some(),
+            Work::Removing(erasure) => erasure.commit.is_some(),
             Work::Erasing { .. } => false,
         }
     }
@@ -65,12 +65,28 @@ impl Work {
 /// For whom a job is done.
 #[derive(Clone, Copy)]
 pub enum Serves {
-    /// The command of a channel.
-    Command(u8),
+    /// The command of a channel. The blob at the head `freeze`, if there is one, is neither read nor written until the
+    /// job has ended.
+    Command { channel: u8, freeze: Option<u32> },
     /// The insert of the cluster that a channel has claimed for its write.
     Insert(u8),
     /// No channel: what recovery found is made good.
     Repair,
+}
+
+impl Serves {
+    ghost use Rattle.std.specs.Prelude.{◌≡◌};
+    ghost use Rattle.running_store.specs.Jobs.{freeze_of};
+
+    /// The blob that the job freezes.
+    pub fn freeze(self) -> Option<u32>
+        ensures { result ≡ freeze_of self }
+    {
+        match self {
+            Serves::Command { channel: _, freeze } => freeze,
+            Serves::Insert(_) | Serves::Repair => None,
+        }
+    }
 }
 
 /// The running job: for whom it is done, the replacement that it works on, with the places that stood behind its head
@@ -88,9 +104,7 @@ impl RunningJob {
     ghost use Rattle.std.specs.Option.{option_map, option_map_or};
     ghost use Rattle.store_model.specs.Phases.{erasing, has_commit};
     ghost use Rattle.running_store.specs.Jobs.{behind_zero, job_left, job_seen, phases_in, to_come, writes_laid};
-    ghost use Rattle.running_store.specs.Jobs.{zeroing_job, IsHeaded, IsMatched, MayFollow};
-    ghost use Rattle.running_store.specs.declared.job.Serves.TheVariants.{Command};
-    ghost use Rattle.std.specs.Prelude.{true};
+    ghost use Rattle.running_store.specs.Jobs.{zeroing_for, IsHeaded, IsZeroedFor, MayFollow};
 
     /// The job that makes these replacements, if there is one.
     pub fn next(serves: Serves, mut later: VecDeque<LaidReplacement>) -> Option<RunningJob>
@@ -105,7 +119,7 @@ impl RunningJob {
                 planned,
                 written: 0,
             },
-            Change::Erases { head, freed } => Work::Removing { head, freed },
+            Change::Erases(erasure) => Work::Removing(erasure),
         };
         Some(RunningJob {
             serves,
@@ -141,23 +155,19 @@ impl RunningJob {
 
     /// The job behind a page of zeros: the next page of its clusters, or else its metadata, is to be written.
     pub fn behind_zeros(
-        channel: u8,
+        serves: Serves,
         planned: Planned,
         zeroed: Zeroed,
         old: PlaceList,
         later: VecDeque<LaidReplacement>,
     ) -> RunningJob
-        requires matched { IsMatched planned }
-        requires commits { planned.commits ≡ true }
-        requires follows { MayFollow (Command channel) later.items }
-        requires clusters { zeroed.clusters < length planned.effects.claimed }
-        requires pages { zeroed.pages < zeroed.cluster_pages }
+        requires zeroed { IsZeroedFor serves planned zeroed }
+        requires follows { MayFollow serves later.items }
         ensures seen { job_seen result
-            ≡ behind_zero (zeroing_job channel planned old zeroed (phases_in later.items)) }
+            ≡ behind_zero (zeroing_for serves planned old zeroed (phases_in later.items)) }
         ensures headed { IsHeaded result }
         ensures coming { to_come result ≡ writes_laid planned old ∷ later.items }
     {
-        let serves = Serves::Command(channel);
         let Zeroed {
             cluster_pages,
             clusters,
@@ -181,8 +191,8 @@ impl RunningJob {
                 later,
             };
         }
-        let next_cluster = clusters + 1;
         let count = planned.effects.claimed.len();
+        let next_cluster = clusters + 1;
         if next_cluster < count {
             let next = Zeroed {
                 cluster_pages,
@@ -236,7 +246,7 @@ pub fn waiting_for(job: &Option<RunningJob>) -> Option<u8>
     };
     match running.serves {
         Serves::Insert(channel) => Some(channel),
-        Serves::Command(channel) => {
+        Serves::Command { channel, freeze: _ } => {
             if running.commits() {
                 Some(channel)
             } else {

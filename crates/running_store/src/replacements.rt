@@ -1,38 +1,45 @@
 //! The replacements of a job.
 
 use crate::effects::Effects;
-use blob_meta::{Chains, HeadMap, Meta, Metas, Room};
+use crate::entries::EntryChange;
+use blob_meta::{Meta, Room};
 use md_chain::Plan;
-use out_of_memory::Memory;
-use std::alloc::Global;
 use volume_model::{PlaceList, Reply, XattrList};
 
-/// Room for one blob more in each map of blobs.
+/// Room in the maps of blobs for what a blob doesn't have before its replacement.
 #[derive(Drop)]
 pub struct Rooms {
-    pub metas: Room<Meta>,
-    pub chains: Room<PlaceList>,
-    pub live: Room<XattrList>,
+    /// For its chain: the blob is new.
+    pub chain: Option<Room<PlaceList>>,
+    /// For its metadata, among the marked blobs where it has a mark, and else among the others.
+    pub meta: Option<Room<Meta>>,
 }
 
-impl Rooms {
-    ghost use Rattle.std.specs.Prelude.{IfOk};
-    ghost use Rattle.running_store.specs.Jobs.{AreRoomsOf};
+/// What a commit makes besides, with which the job's command is done.
+#[derive(Drop)]
+pub struct Commit {
+    /// The head of the volume that the command makes, if it makes one.
+    pub made: Option<u32>,
+    /// The one volume whose attributes are read otherwise from then on, if there is one.
+    pub live: Option<EntryChange<XattrList>>,
+    /// The blobs that get new generations, one after another.
+    pub renews: PlaceList,
+    /// The one marked blob that resolves to something else from then on, if there is one.
+    pub shows: Option<EntryChange<Meta>>,
+}
 
-    /// All memory that a new blob takes in the maps.
-    pub(crate) fn new(
-        alloc: Global,
-        metas: &Metas,
-        chains: &Chains,
-        live: &HeadMap<XattrList>,
-    ) -> Result<Rooms, Memory>
-        ensures { IfOk result (AreRoomsOf metas.now chains.now live.now) }
+impl Commit {
+    ghost use Rattle.std.specs.Prelude.{◌≡◌};
+    ghost use Rattle.running_store.specs.Effects.{reply_of};
+
+    /// What the job's command is answered with.
+    fn reply(&self) -> Reply
+        ensures { result ≡ reply_of self.now }
     {
-        Ok(Rooms {
-            metas: metas.room(alloc)?,
-            chains: chains.room(alloc)?,
-            live: live.room(alloc)?,
-        })
+        match self.made {
+            Some(head) => Reply::Made(head),
+            None => Reply::Ok,
+        }
     }
 }
 
@@ -41,8 +48,6 @@ impl Rooms {
 pub struct Planned {
     pub head: u32,
     pub new: Meta,
-    /// Whether the job's command is done with it.
-    pub commits: bool,
     /// What is done besides.
     pub effects: Effects,
     /// The places of the chain, the head first, and their pages.
@@ -53,29 +58,50 @@ pub struct Planned {
 impl Planned {
     ghost use Rattle.std.specs.Prelude.{◌≡◌};
     ghost use Rattle.std.specs.Option.{option_map};
-    ghost use Rattle.running_store.specs.Jobs.{commit_in};
+    ghost use Rattle.running_store.specs.Effects.{reply_of};
 
-    /// What the job's command is answered with once this is written, where it is done with it.
+    /// What the job's command is answered with once this is written, where it is the commit.
     pub fn reply(&self) -> Option<Reply>
-        ensures { result ≡ option_map (λ commit. commit.reply) (commit_in self.now) }
+        ensures { result ≡ option_map reply_of self.now.effects.commit }
     {
-        if !self.commits {
-            return None;
-        }
-        match &self.effects.rooms {
-            Some(_) => Some(Reply::Made(self.head)),
-            None => Some(Reply::Ok),
+        match &self.effects.commit {
+            Some(commit) => Some(commit.reply()),
+            None => None,
         }
     }
 }
 
-/// What a replacement writes.
+/// The blob at a head is to be erased.
+#[derive(Drop)]
+pub struct Erasure {
+    pub head: u32,
+    /// What it makes as the job's commit, where it is that.
+    pub commit: Option<Commit>,
+    /// The clusters that no other blob has, each once, which are clear then.
+    pub freed: PlaceList,
+}
+
+impl Erasure {
+    ghost use Rattle.std.specs.Prelude.{◌≡◌};
+    ghost use Rattle.std.specs.Option.{option_map};
+    ghost use Rattle.running_store.specs.Effects.{reply_of};
+
+    /// What the job's command is answered with once the blob is erased, where that is the commit.
+    pub fn reply(&self) -> Option<Reply>
+        ensures { result ≡ option_map reply_of self.now.commit }
+    {
+        match &self.commit {
+            Some(commit) => Some(commit.reply()),
+            None => None,
+        }
+    }
+}
+
+/// What a replacement does.
 #[derive(Drop)]
 pub enum Change {
-    /// New metadata of a blob.
     Writes(Planned),
-    /// The blob at this head is erased; these clusters, which no other blob has, are clear then.
-    Erases { head: u32, freed: PlaceList },
+    Erases(Erasure),
 }
 
 /// A replacement, laid on pages.
@@ -95,8 +121,8 @@ impl LaidReplacement {
         ensures { result ≡ is_commit self.now }
     {
         match &self.change {
-            Change::Writes(planned) => planned.commits,
-            Change::Erases { .. } => false,
+            Change::Writes(planned) => planned.effects.commit.is_some(),
+            Change::Erases(erasure) => erasure.commit.is_some(),
         }
     }
 }

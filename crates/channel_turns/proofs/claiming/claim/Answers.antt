@@ -1,12 +1,13 @@
-use Rattle.std.proofs.Common.{◌<◌, length, List, sym, ◌∙◌, ap, subst, arith}
+use Rattle.std.proofs.Common.{◌≡◌, ◌<◌, length, List, sym, ◌∙◌, ap, subst, arith}
 use Rattle.blob_meta.specs.Pages.{IsFirstOnPages}
 use Rattle.volume_model.specs.declared.command.Command.TheVariants as command
 use Rattle.store_model.specs.Rows.{Claiming, Idle, Row}
 use Rattle.running_store.specs.Running.{view_of}
-use Rattle.running_store.specs.StoreView.{rows_of}
+use Rattle.running_store.specs.StoreView.{rows_of, state_of}
 use Rattle.channel_turns.proofs.ClaimAsked.{claim_refused, claims_now, found_filled, slot_fits}
 use Rattle.running_store.proofs.Rowing.{row_read}
-use Rattle.channel_turns.proofs.WriteMeant.{found_there, refused_so, seen_write, some_meant}
+use Rattle.channel_turns.specs.ChannelTurns.{IsFrozenFor}
+use Rattle.channel_turns.proofs.WriteMeant.{found_there, frozen_so, refused_so, seen_write, some_meant}
 use Rattle.channel_turns.proofs.claiming.claim.Goals as goal
 
 pub returns-in-Some-clause-filled : goal.returns-in-Some-clause-filled
@@ -100,3 +101,17 @@ claim_least-requires-clause-claims g c =
     none first c.in-Some-head.head c.in-Some-head.is
     (found_there p.metas p.super c.in-Write.volume c.find-head.result c.find-head.ensures.some) c.slot_of-slot.result
     c.slot_of-slot.ensures
+
+pub returns-then-is_frozen-clause-frozen : goal.returns-then-is_frozen-clause-frozen
+returns-then-is_frozen-clause-frozen g c said k ks left =
+    let d = g.D.PageDisk in
+    let p = view_of c.args.running.now in
+    let w = seen_write p c.args.channel Claiming c.requires.waits c.first_of.result.now c.in-Write.volume c.in-Write.page
+    c.in-Write.word
+    (λ k rest left. c.first_of.ensures k rest
+    (ap (λ (l : List Row). (rows_of l c.args.channel).left) c.deref.ensures.value ∙ left)) c.in-Write.is in
+    let both = sym (ap (λ (r : Row). r.left) w.row) ∙ left in
+    let one : command.Write w.volume w.page w.word ≡ k = cc both in
+    subst (IsFrozenFor (state_of d p)) one
+    (frozen_so d p c.args.channel Claiming c.requires.running c.requires.runs c.requires.order.resolves w
+    c.find-head.result c.find-head.ensures.meant (sym c.is_frozen.ensures ∙ c.if-is_frozen.true))

@@ -57,7 +57,7 @@ returns-then-is_err-2-clause-logged g c said =
     (λ tells. g.met.D.PageDisk.telling tells) c.read_at.new.disk c.read_at.ensures.any_moment
     (read_so (device_of d old.disk) (device_of d c.read_at.new.disk) c.read_at.result done c.read_at.ensures.seen r.Ok
     (λ e. cc e)) c.read_at.new.into c.write_one.new.disk c.write_one.ensures.any_moment
-    (thawed (state_of d old) c.args.running.now.job refl c.requires.running.facts.guarded)
+    (thawed d old c.requires.running.facts.guarded)
     (on_err c.write_one.result _ failed c.write_one.ensures.fails) q
     (λ command rest left.
     c.give_up_here-then-is_err-2.ensures.logged command rest

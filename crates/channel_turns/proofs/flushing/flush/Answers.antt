@@ -19,7 +19,7 @@ returns-then-is_err-clause-case g c =
     let stopped = c.stop_here.ensures.stopped in
     flush_failed d old channel low c.requires.runs c.requires.waits c.flush_once.new.disk
     c.flush_once.ensures.any_moment q
-    (thawed (state_of d old) c.args.running.now.job refl c.requires.running.facts.guarded)
+    (thawed d old c.requires.running.facts.guarded)
     (on_err c.flush_once.result _ (sym c.is_err.ensures.value ∙ c.if-is_err.true) c.flush_once.ensures.fails)
     (λ command rest left.
     c.log_here.ensures.logged command rest

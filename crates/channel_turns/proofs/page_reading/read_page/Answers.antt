@@ -1,12 +1,13 @@
-use Rattle.std.proofs.Common.{List, sym, ◌∙◌, ap, subst, arith}
+use Rattle.std.proofs.Common.{◌≡◌, List, sym, ◌∙◌, ap, subst, arith}
 use Rattle.page_disk.proofs.Moments.{started}
 use Rattle.blob_meta.specs.Pages.{IsFirstOnPages}
 use Rattle.volume_model.specs.declared.command.Command.TheVariants as command
 use Rattle.store_model.specs.Rows.{Row}
 use Rattle.running_store.specs.Running.{view_of}
 use Rattle.running_store.specs.StoreView.{rows_of, state_of}
+use Rattle.channel_turns.specs.ChannelTurns.{IsFrozenFor}
 use Rattle.channel_turns.proofs.PagesShown.{heads_fit}
-use Rattle.channel_turns.proofs.ReadAsked.{read_inside, read_refused, reads_now, seen_read}
+use Rattle.channel_turns.proofs.ReadAsked.{frozen_so, read_inside, read_refused, reads_now, seen_read}
 use Rattle.channel_turns.proofs.WriteMeant.{found_there}
 use Rattle.channel_turns.proofs.page_reading.read_page.Goals as goal
 
@@ -54,3 +55,16 @@ get_page-requires-clause-inside g c =
     (d.pages p.disk) c.requires.order.device c.place_for-place.result
     (c.place_for-place.ensures (heads_fit (state_of d p) c.requires.running c.requires.runs p.metas
     c.requires.order.resolves.resolves))
+
+pub returns-then-is_frozen-clause-frozen : goal.returns-then-is_frozen-clause-frozen
+returns-then-is_frozen-clause-frozen g c said k ks left =
+    let d = g.D.PageDisk in
+    let p = view_of c.args.running.now in
+    let w = seen_read p c.args.channel c.requires.waits c.first_of.result.now c.in-Read.volume c.in-Read.page
+    (λ k rest left. c.first_of.ensures k rest
+    (ap (λ (l : List Row). (rows_of l c.args.channel).left) c.deref.ensures.value ∙ left)) c.in-Read.is in
+    let both = sym (ap (λ (r : Row). r.left) w.row) ∙ left in
+    let one : command.Read w.volume w.page ≡ k = cc both in
+    subst (IsFrozenFor (state_of d p)) one
+    (frozen_so d p c.args.channel c.requires.running c.requires.runs c.requires.order.resolves w c.find-head.result
+    c.find-head.ensures.meant (sym c.is_frozen.ensures ∙ c.if-is_frozen.true))

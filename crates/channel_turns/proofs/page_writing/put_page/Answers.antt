@@ -19,7 +19,7 @@ returns-then-is_err-clause-case g c =
     let stopped = c.stop_here.ensures.stopped in
     write_failed d old channel c.args.place c.args.content.now c.requires.writes low c.write_one.new.disk
     c.write_one.ensures.any_moment q
-    (thawed (state_of d old) c.args.running.now.job refl c.requires.running.facts.guarded)
+    (thawed d old c.requires.running.facts.guarded)
     (on_err c.write_one.result _ (sym c.is_err.ensures.value ∙ c.if-is_err.true) c.write_one.ensures.fails)
     (λ command rest left.
     c.log_here.ensures.logged command rest

@@ -1,13 +1,13 @@
-use Rattle.std.proofs.Common.{◌<◌, length, List, sym, ◌∙◌, ap, subst, arith}
+use Rattle.std.proofs.Common.{◌≡◌, ◌<◌, length, List, sym, ◌∙◌, ap, subst, arith}
 use Rattle.blob_meta.specs.Pages.{IsFirstOnPages}
 use Rattle.volume_model.specs.declared.command.Command.TheVariants as command
 use Rattle.store_model.specs.Rows.{Claiming, Idle, Row}
-use Rattle.channel_turns.specs.ChannelTurns.{WritesNow}
+use Rattle.channel_turns.specs.ChannelTurns.{IsFrozenFor, WritesNow}
 use Rattle.running_store.specs.Running.{view_of}
-use Rattle.running_store.specs.StoreView.{rows_of}
+use Rattle.running_store.specs.StoreView.{rows_of, state_of}
 use Rattle.running_store.proofs.Rowing.{row_read}
 use Rattle.channel_turns.proofs.WriteAsked.{found_empty, place_low, refused, writes_now}
-use Rattle.channel_turns.proofs.WriteMeant.{found_there, seen_write}
+use Rattle.channel_turns.proofs.WriteMeant.{found_there, frozen_so, seen_write}
 use Rattle.channel_turns.proofs.page_writing.write_page.Goals as goal
 
 pub refusal_of_write-requires-clause-there : goal.refusal_of_write-requires-clause-there
@@ -82,3 +82,17 @@ put_page-requires-clause-inside g c =
     c.in-Some-place_in.place (sym c.place_in.ensures ∙ c.in-Some-place_in.is) in
     let device = c.requires.order.device in
     omega (arith, low, device)
+
+pub returns-then-is_frozen-clause-frozen : goal.returns-then-is_frozen-clause-frozen
+returns-then-is_frozen-clause-frozen g c said k ks left =
+    let d = g.D.PageDisk in
+    let p = view_of c.args.running.now in
+    let w = seen_write p c.args.channel Idle c.requires.waits c.first_of.result.now c.in-Write.volume c.in-Write.page
+    c.in-Write.word
+    (λ k rest left. c.first_of.ensures k rest
+    (ap (λ (l : List Row). (rows_of l c.args.channel).left) c.deref.ensures.value ∙ left)) c.in-Write.is in
+    let both = sym (ap (λ (r : Row). r.left) w.row) ∙ left in
+    let one : command.Write w.volume w.page w.word ≡ k = cc both in
+    subst (IsFrozenFor (state_of d p)) one
+    (frozen_so d p c.args.channel Idle c.requires.running c.requires.runs c.requires.order.resolves w
+    c.find-head.result c.find-head.ensures.meant (sym c.is_frozen.ensures ∙ c.if-is_frozen.true))

@@ -21,7 +21,7 @@ returns-then-is_err-clause-logged g c said =
     let stopped = c.stop_here.ensures.stopped in
     send_failed d old channel low c.requires.runs c.requires.holds c.flush_once.new.disk
     c.flush_once.ensures.any_moment q
-    (thawed (state_of d old) c.args.running.now.job refl c.requires.running.facts.guarded)
+    (thawed d old c.requires.running.facts.guarded)
     (on_err c.flush_once.result _ (sym c.is_err.ensures.value ∙ c.if-is_err.true) c.flush_once.ensures.fails)
     (λ command rest left.
     c.give_up_here.ensures.logged command rest

@@ -1,7 +1,7 @@
 use Rattle.std.proofs.Common.{◌≡◌, ◌<◌, ◌≤◌, ◌∙◌, All, Bool, true, false, List, [], length, sym, ap, subst, arith}
 use Rattle.std.proofs.Common.{IfErr}
-use Rattle.std.proofs.Common.{Result}
-use Rattle.std.specs.Prelude.{not}
+use Rattle.std.proofs.Common.{None, Option, Result, Some, refl}
+use Rattle.std.specs.Prelude.{is_some, not, IsSome}
 use Rattle.std.specs.Option.{option_map}
 use Rattle.std.proofs.lemmas.Result.{err_from_is_err_and}
 use Rattle.bit_array.specs.Bits.{is_in}
@@ -15,19 +15,27 @@ use Rattle.store_model.proofs.Sets.{are_distinct}
 use Rattle.metadata_turns.specs.Begins.{IsPrepared}
 use Rattle.std.specs.FinMap as map
 use Rattle.volume_model.specs.declared.command.Command.{Command}
-use Rattle.running_store.specs.Effects.{cut_clusters, live_behind, AreEffects}
+use Rattle.running_store.specs.Effects.{commit_seen, cut_clusters, live_behind, AreEffects}
 use Rattle.running_store.specs.Jobs.{job_seen}
-use Rattle.running_store.specs.Running.{view_of, HaveRoom, WillResolveAll}
+use Rattle.running_store.specs.Blobs.{blobs_of, CanAllBeKept}
+use Rattle.running_store.specs.Running.{view_of}
 use Rattle.running_store.specs.StoreView.{rows_of, state_of}
 use Rattle.running_store.specs.Steps.{Asks}
+use Rattle.store_model.specs.Phases.{Committing}
 use Rattle.running_store.specs.declared.job.RunningJob.{RunningJob}
+use Rattle.running_store.specs.declared.replacements.Commit.{Commit}
 use Rattle.running_store.proofs.Resolved.{unmarked_base}
 use Rattle.metadata_turns.proofs.JobPlaces.{clear_again, taken_in_use}
 use Rattle.metadata_turns.proofs.JobBegin.{same_pool}
-use Rattle.metadata_turns.proofs.JobTaken.{first_cluster, has_one, internal_fit, job_begins, job_resolves}
-use Rattle.metadata_turns.proofs.JobTaken.{lacks_clusters, lacks_pages, next_head, no_memory, once, slots_within, was}
-use Rattle.metadata_turns.proofs.JobTaken.{xattrs_fit}
+use Rattle.metadata_turns.proofs.JobTaken.{first_cluster, has_one, internal_fit, job_begins, job_kept}
+use Rattle.metadata_turns.proofs.JobTaken.{lacks_clusters, lacks_pages, next_head, no_memory, once, slots_within}
+use Rattle.metadata_turns.proofs.JobTaken.{was_there, xattrs_fit}
 use Rattle.metadata_turns.proofs.begin.job_for.Goals as goal
+
+-- what has a commit in the model has one
+commits_some : (o : Option Commit) (m : Committing) → option_map commit_seen o ≡ Some m → IsSome o
+commits_some None m is = absurd (cc is)
+commits_some (Some c) m is = refl
 
 pub fill_slots-requires-clause-within : goal.fill_slots-requires-clause-within
 fill_slots-requires-clause-within g c =
@@ -94,10 +102,7 @@ returns-then-len-clause-lack g c =
     let wanted = c.len-2.ensures in
     let fewer = c.if-len.true in
     let less : length c.in_ok-effects-2.field-0 < length c.args.zeros.now = omega (arith, claimed, wanted, fewer) in
-    let there = was g.D.PageDisk (view_of c.args.running.now) c.args.channel c.requires.posted c.requires.running
-    c.requires.unmarked c.requires.runs c.args.head c.args.new c.args.zeros.now c.requires.asks
-    c.in_ok-effects.effects.rooms c.in_ok-effects.ensures.there
-    c.in_ok-effects.ensures.new ∙ ap not (sym c.is_some-makes.ensures) in
+    let there = was_there c.is_some-makes.result _ (c.is_some-makes.ensures ∙ c.in_ok-effects.ensures.are.makes) in
     lacks_clusters g.D.PageDisk (view_of c.args.running.now) c.args.channel c.requires.posted c.requires.running
     c.requires.unmarked c.requires.runs c.args.head c.args.new c.args.zeros.now c.requires.asks
     c.in_ok-effects-2.field-0 c.in_ok-effects-2.ensures.claimed
@@ -109,15 +114,15 @@ pub prepare-requires-clause-there : goal.prepare-requires-clause-there
 prepare-requires-clause-there g c = λ stays.
     has_one g.D.PageDisk (view_of c.args.running.now) c.args.channel c.requires.posted c.requires.running
     c.requires.unmarked c.requires.runs c.args.head c.args.new c.args.zeros.now c.requires.asks
-    c.in_ok-effects.effects.rooms c.in_ok-effects.ensures.there
-    c.in_ok-effects.ensures.new (sym c.is_some-makes.ensures ∙ stays)
+    c.is_some-makes.result
+    (was_there c.is_some-makes.result _ (c.is_some-makes.ensures ∙ c.in_ok-effects.ensures.are.makes)) stays
 
 pub prepare-requires-clause-next : goal.prepare-requires-clause-next
 prepare-requires-clause-next g c = λ makes.
     next_head g.D.PageDisk (view_of c.args.running.now) c.args.channel c.requires.posted c.requires.running
     c.requires.unmarked c.requires.runs c.args.head c.args.new c.args.zeros.now c.requires.asks
-    c.in_ok-effects.effects.rooms c.in_ok-effects.ensures.there
-    c.in_ok-effects.ensures.new (sym c.is_some-makes.ensures ∙ makes)
+    c.is_some-makes.result
+    (was_there c.is_some-makes.result _ (c.is_some-makes.ensures ∙ c.in_ok-effects.ensures.are.makes)) makes
 
 pub job-requires-clause-once : goal.job-requires-clause-once
 job-requires-clause-once g c = subst AreDistinct (sym c.in_ok-effects.ensures.are.freed)
@@ -153,30 +158,26 @@ returns-in-Ok-clause-begins g c =
     c.args.running.now.pages.bits c.prepare.new.pages.bits c.in-Ok.prepared) c.is_some-makes.ensures
     c.in-Ok.ensures.prepared in
     let live = λ (k : Command). live_behind k (map.get p.live c.args.head) c.args.new in
-    let are = subst (λ (m : Metas). AreEffects (m c.args.head) (live waits.command) c.args.new []
+    let chained = is_some (map.get p.chains c.args.head) in
+    let are = subst (λ (m : Metas). AreEffects chained c.args.head (m c.args.head) (live waits.command) c.args.new []
     c.in_ok-effects.effects)
     (sym (unmarked_base p.metas p.marked c.requires.order.resolves c.requires.unmarked))
-    (subst (λ (k : Command). AreEffects (map.get p.metas c.args.head) (live k) c.args.new [] c.in_ok-effects.effects)
-    asked c.in_ok-effects.ensures.are) in
+    (subst (λ (k : Command). AreEffects chained c.args.head (map.get p.metas c.args.head) (live k) c.args.new []
+    c.in_ok-effects.effects) asked c.in_ok-effects.ensures.are) in
     job_begins g.D.PageDisk (view_of c.args.running.now) c.args.channel c.requires.posted c.requires.running
     c.requires.unmarked c.requires.runs c.args.head c.args.new c.args.zeros.now c.requires.asks
     c.in_ok-effects-2.field-0 c.in_ok-effects-2.ensures.claimed
     c.fill_slots.new.new c.in_ok-effects-2.ensures.filled
     (ap (λ o. option_map job_seen o) c.requires.no_job) low all c.in_ok-effects.effects
-    are c.in_ok-effects.ensures.there
-    c.in_ok-effects.ensures.new c.prepare.new.pages.bits c.fill_slots.new.clusters.bits
+    are c.prepare.new.pages.bits c.fill_slots.new.clusters.bits
     c.in_ok-effects-2.ensures.bits c.in-Ok.prepared prepared c.cluster_pages-cluster_pages.result
     c.cluster_pages-cluster_pages.ensures.value c.job.result c.job.ensures.seen
 
-pub returns-in-Ok-clause-roomy : goal.returns-in-Ok-clause-roomy
-returns-in-Ok-clause-roomy g c =
-    let room = c.in_ok-effects.ensures.room in
-    let now = c.args.running.now in
-    subst (HaveRoom now.metas now.chains now.live now.guards) (sym c.job.ensures.coming)
-    (record { blob = room.blob; number = room.number }, tt)
+pub job-requires-clause-commits : goal.job-requires-clause-commits
+job-requires-clause-commits g c = commits_some c.in_ok-effects.effects.commit _ c.in_ok-effects.ensures.are.commit
 
-pub returns-in-Ok-clause-will_resolve : goal.returns-in-Ok-clause-will_resolve
-returns-in-Ok-clause-will_resolve g c =
+pub returns-in-Ok-clause-kept : goal.returns-in-Ok-clause-kept
+returns-in-Ok-clause-kept g c =
     let running = c.args.running.now in
     let claimed = c.len.ensures in
     let wanted = c.len-2.ensures in
@@ -184,13 +185,15 @@ returns-in-Ok-clause-will_resolve g c =
     let all : length c.args.zeros.now ≤ length c.in_ok-effects-2.field-0 = omega (arith, claimed, wanted, as_many) in
     let prepared = subst (λ (b : Bool). IsPrepared running.chains c.args.head c.fill_slots.new.new b
     running.pages.bits c.prepare.new.pages.bits c.in-Ok.prepared) c.is_some-makes.ensures c.in-Ok.ensures.prepared in
-    subst (WillResolveAll running.metas running.marked) (sym c.job.ensures.coming)
-    (job_resolves g.D.PageDisk (view_of running) c.args.channel c.requires.posted c.requires.running
+    let are = c.in_ok-effects.ensures.are in
+    subst (CanAllBeKept (blobs_of running)) (sym c.job.ensures.coming)
+    (job_kept g.D.PageDisk (view_of running) c.args.channel c.requires.posted c.requires.running
     c.requires.unmarked c.requires.runs c.args.head c.args.new c.args.zeros.now c.requires.asks
     c.in_ok-effects-2.field-0 c.in_ok-effects-2.ensures.claimed
     c.fill_slots.new.new c.in_ok-effects-2.ensures.filled
-    (ap (λ o. option_map job_seen o) c.requires.no_job) all c.in_ok-effects.effects c.in_ok-effects.ensures.there
-    c.in_ok-effects.ensures.new c.prepare.new.pages.bits c.in-Ok.prepared prepared c.requires.order.resolves, tt)
+    (ap (λ o. option_map job_seen o) c.requires.no_job) all c.in_ok-effects.effects are.shows
+    (was_there (is_some c.in_ok-effects.effects.rooms.chain) _ are.makes) c.in_ok-effects.ensures.places
+    c.prepare.new.pages.bits c.in-Ok.prepared prepared c.requires.order.resolves, tt)
 
 pub returns-in-Err-clause-lack : goal.returns-in-Err-clause-lack
 returns-in-Err-clause-lack g c =

@@ -5,22 +5,31 @@ use Rattle.page_disk.specs.declared.disk.PageDisk.{Ghosts}
 use Rattle.volume_model.specs.Volumes.{zero_page}
 use Rattle.store_model.specs.Cases.{WritesOnePage}
 use Rattle.store_model.specs.Maps.{Metas}
-use Rattle.running_store.specs.Jobs.{phases_in, removing_for}
+use Rattle.store_model.specs.Phases.{page_in}
+use Rattle.store_model.specs.Rows.{Row}
+use Rattle.running_store.specs.Blobs.{blobs_behind, blobs_of}
+use Rattle.running_store.specs.Jobs.{erasure_of, phases_in, removing_for}
 use Rattle.running_store.specs.Running.{view_of, AreHeads, InOrder}
+use Rattle.running_store.specs.Stages.{stage_seen}
 use Rattle.running_store.specs.StoreView.{base_of, device_of}
-use Rattle.running_store.proofs.PlainFacts.{on_err, on_ok, zeros}
-use Rattle.running_store.proofs.Without.{base_gone, heads_gone, resolved_without}
+use Rattle.running_store.specs.declared.replacements.Change.TheVariants as change
 use Rattle.running_store.specs.declared.running.Running.{Running}
-use Rattle.metadata_turns.specs.Telling.{HasFailed, HasWaitingRow}
-use Rattle.metadata_turns.proofs.HeadReplaced.{resolves_behind, room_behind}
+use Rattle.running_store.proofs.BaseBehind.{base_behind}
+use Rattle.running_store.proofs.PlainFacts.{on_err, on_ok, zeros}
+use Rattle.running_store.proofs.Without.{heads_gone}
+use Rattle.metadata_turns.specs.Telling.{gone_on, HasFailed, HasRow, HasWaitingRow}
+use Rattle.metadata_turns.proofs.Behind.{left_seen}
+use Rattle.metadata_turns.proofs.HeadMade.{head_failed, head_made, told_row}
+use Rattle.metadata_turns.proofs.HeadReplaced.{comes_alone, kept_left}
 use Rattle.metadata_turns.proofs.JobFailed.{waiting_row}
-use Rattle.metadata_turns.proofs.JobRemoved.{failed_removing, freed_in_use, head_below, head_removed, once, page_used}
+use Rattle.metadata_turns.proofs.JobRemoved.{at_head, freed_in_use, head_below, once, page_used, touched, unfrozen}
+use Rattle.metadata_turns.proofs.JobRemoved.{zeros_planned}
 use Rattle.metadata_turns.proofs.head_turns.remove_head.Goals as goal
 
 pub replace-requires : goal.replace-requires
 replace-requires g c =
     let at = c.page_at-page.ensures in
-    let below = head_below g.D.PageDisk (view_of c.args.running.now) c.args.beside.serves c.args.head c.args.freed
+    let below = head_below g.D.PageDisk (view_of c.args.running.now) c.args.beside.serves c.args.erasure
     c.args.beside.old (phases_in c.args.beside.later.items) c.requires.at_work in
     let inside = c.requires.order.inside in
     omega (arith, at, below, inside)
@@ -28,8 +37,8 @@ replace-requires g c =
 pub fail_job-requires-clause-row : goal.fail_job-requires-clause-row
 fail_job-requires-clause-row g c =
     subst (HasWaitingRow c.args.running.now.rows.items) (sym c.requires.waits)
-    (waiting_row g.D.PageDisk (view_of c.args.running.now) (removing_for c.args.beside.serves c.args.head c.args.freed
-    c.args.beside.old (phases_in c.args.beside.later.items)) c.requires.at_work refl c.requires.order.sixteen)
+    (waiting_row g.D.PageDisk (view_of c.args.running.now) (removing_for c.args.beside.serves c.args.erasure
+    c.args.beside.old (phases_in c.args.beside.later.items)) c.requires.at_work c.requires.order.sixteen)
 
 -- what is known of its device calls
 abbrev replaced : {D : Type 0} (d : Ghosts D) (old new : D) (at : ℕ) (page : List ℕ)
@@ -41,62 +50,71 @@ replaced d old new at page is touches =
 pub returns-then-is_err-clause-case : goal.returns-then-is_err-clause-case
 returns-then-is_err-clause-case g c =
     let d = g.D.PageDisk in
+    let p = view_of c.args.running.now in
     let disk = c.replace.new.disk in
-    failed_removing d (view_of c.args.running.now) c.args.beside.serves c.args.head c.args.freed c.args.beside.old
-    (phases_in c.args.beside.later.items) c.requires.at_work c.requires.removed disk c.page_at-page.result
-    c.page_at-page.ensures
-    (replaced d c.args.running.now.disk disk c.page_at-page.result _ zeros c.replace.ensures.any_moment)
+    let old = c.args.beside.old in
+    let more = phases_in c.args.beside.later.items in
+    let serves = c.args.beside.serves in
+    let job = removing_for serves c.args.erasure old more in
+    head_failed d p (change.Erases c.args.erasure) old more job disk
+    (touched d p serves c.args.erasure old more c.requires.at_work disk c.page_at-page.result c.page_at-page.ensures
+    (replaced d c.args.running.now.disk disk c.page_at-page.result _ zeros c.replace.ensures.any_moment))
+    serves (at_head d p serves c.args.erasure old more c.requires.at_work c.requires.removed)
     (on_err c.replace.result _ (sym c.is_err.ensures.value ∙ c.if-is_err.true) c.replace.ensures.fails)
     (view_of c.fail_job.new.running)
-    (subst (λ o. HasFailed o (view_of (record c.args.running.now { disk = disk })) (view_of c.fail_job.new.running)
-    (d.clock disk)) c.requires.waits c.fail_job.ensures.failed)
+    (subst (λ o. HasFailed job.freeze o (view_of (record c.args.running.now { disk = disk }))
+    (view_of c.fail_job.new.running) (d.clock disk)) c.requires.waits c.fail_job.ensures.failed)
+
+pub forget-requires-clause-places : goal.forget-requires-clause-places
+forget-requires-clause-places g c = c.requires.kept.0.places
 
 pub forget-requires-clause-page : goal.forget-requires-clause-page
 forget-requires-clause-page g c =
-    page_used g.D.PageDisk (view_of c.args.running.now) c.args.beside.serves c.args.head c.args.freed
-    c.args.beside.old (phases_in c.args.beside.later.items) c.requires.at_work
+    page_used g.D.PageDisk (view_of c.args.running.now) c.args.beside.serves c.args.erasure c.args.beside.old
+    (phases_in c.args.beside.later.items) c.requires.at_work
 
-pub forget-requires-clause-marked : goal.forget-requires-clause-marked
-forget-requires-clause-marked g c =
-    let below = head_below g.D.PageDisk (view_of c.args.running.now) c.args.beside.serves c.args.head c.args.freed
+pub forget-requires-clause-head : goal.forget-requires-clause-head
+forget-requires-clause-head g c =
+    let below = head_below g.D.PageDisk (view_of c.args.running.now) c.args.beside.serves c.args.erasure
     c.args.beside.old (phases_in c.args.beside.later.items) c.requires.at_work in
     let count = c.requires.order.heads.count in
     omega (arith, below, count)
 
 pub forget-requires-clause-once : goal.forget-requires-clause-once
-forget-requires-clause-once g c = once c.args.beside.serves c.args.freed c.requires.removed
+forget-requires-clause-once g c = once c.args.beside.serves c.args.erasure c.requires.removed
 
 pub forget-requires-clause-in_use : goal.forget-requires-clause-in_use
 forget-requires-clause-in_use g c =
-    freed_in_use g.D.PageDisk (view_of c.args.running.now) c.args.beside.serves c.args.head c.args.freed
-    c.args.beside.old (phases_in c.args.beside.later.items) c.requires.at_work
+    freed_in_use g.D.PageDisk (view_of c.args.running.now) c.args.beside.serves c.args.erasure c.args.beside.old
+    (phases_in c.args.beside.later.items) c.requires.at_work
 
-pub returns-clause-case : goal.returns-clause-case
-returns-clause-case g c =
+pub tell-requires-clause-row : goal.tell-requires-clause-row
+tell-requires-clause-row g c =
     let d = g.D.PageDisk in
-    let disk = c.replace.new.disk in
-    head_removed d (view_of c.args.running.now) c.args.beside.serves c.args.head c.args.freed c.args.beside.old
-    (phases_in c.args.beside.later.items) c.requires.at_work c.requires.removed disk c.page_at-page.result
-    c.page_at-page.ensures
-    (replaced d c.args.running.now.disk disk c.page_at-page.result _ zeros c.replace.ensures.any_moment) _
-    c.behind.ensures.seen _
-    (ap (λ (r : Running g.row.D.Denot). view_of (record r { job = c.behind.result })) c.forget.ensures)
-    (subst (λ page. WritesOnePage d.tells (device_of d c.args.running.now.disk) c.page_at-page.result page 3
-    (device_of d disk)) zeros
-    (on_ok c.replace.result _ (sym c.is_err.ensures.value ∙ c.if-is_err.false) c.replace.ensures.moves))
-    (λ tells. on_ok c.replace.result _ (sym c.is_err.ensures.value ∙ c.if-is_err.false)
-    (c.replace.ensures.durable tells))
+    let p = view_of c.args.running.now in
+    let old = c.args.beside.old in
+    let more = phases_in c.args.beside.later.items in
+    let serves = c.args.beside.serves in
+    subst (λ (rows : List Row). HasRow rows serves c.reply-reply.result)
+    (sym (ap (λ (r : Running g.row.D.Denot). (view_of r).rows) c.go_on.ensures
+    ∙ ap (λ (r : Running g.row.D.Denot). (view_of r).rows) c.forget.ensures))
+    (subst (HasRow p.rows serves) (sym c.reply-reply.ensures)
+    (told_row d p (change.Erases c.args.erasure) old more (removing_for serves c.args.erasure old more) serves
+    (at_head d p serves c.args.erasure old more c.requires.at_work c.requires.removed) c.requires.order.sixteen))
 
-pub returns-clause-order : goal.returns-clause-order
-returns-clause-order g c =
+pub tell-requires-clause-order : goal.tell-requires-clause-order
+tell-requires-clause-order g c =
     let old = c.args.running.now in
     let order = c.requires.order in
     let pages = sym c.replace.ensures.pages in
-    let head = c.args.head in
+    let e = c.args.erasure in
+    let serves = c.args.beside.serves in
     let later = c.args.beside.later.items in
-    let below = head_below g.D.PageDisk (view_of old) c.args.beside.serves head c.args.freed c.args.beside.old
-    (phases_in later) c.requires.at_work in
-    subst (λ (r : Running g.row.D.Denot). InOrder g.D.PageDisk (record r { job = c.behind.result }))
+    let below = head_below g.D.PageDisk (view_of old) serves e c.args.beside.old (phases_in later)
+    c.requires.at_work in
+    let behind = blobs_behind (blobs_of old) (change.Erases e) in
+    subst (InOrder g.D.PageDisk) (sym c.go_on.ensures)
+    (subst (λ (r : Running g.row.D.Denot). InOrder g.D.PageDisk (gone_on r serves c.behind.result))
     (sym c.forget.ensures) (record {
       inside = subst (λ (n : ℕ). old.sup.md_start + old.sup.md_len ≤ n) pages order.inside;
       device = subst (λ (n : ℕ). old.sup.device_pages ≤ n) pages order.device;
@@ -109,10 +127,48 @@ returns-clause-order g c =
       no_page = order.no_page;
       no_cluster = refl;
       headed = c.behind.ensures.headed;
-      heads = subst (λ (m : Metas). AreHeads old.sup.md_len m (slice_set old.heads head false))
-          (sym (base_gone old.metas old.marked head))
-          (heads_gone old.sup.md_len (base_of old.metas old.marked) head old.heads below order.heads);
-      resolves = resolved_without old.metas old.marked head order.resolves c.requires.will_resolve.0;
-      will_resolve = resolves_behind c.behind.result later c.behind.ensures.coming _ _ c.requires.will_resolve.1;
-      roomy = room_behind c.behind.result later c.behind.ensures.coming _ _ _ _ c.requires.roomy.1;
+      heads = subst (λ (m : Metas). AreHeads old.sup.md_len m (slice_set old.heads e.head false))
+          (sym (base_behind (blobs_of old) (change.Erases e) c.requires.kept.0))
+          (heads_gone old.sup.md_len (base_of old.metas old.marked) e.head old.heads below order.heads);
+      resolves = c.requires.kept.0.resolved;
+      kept = kept_left c.behind.result later c.behind.ensures.coming behind serves c.requires.kept.1;
+    }))
+
+pub returns-clause-case : goal.returns-clause-case
+returns-clause-case g c =
+    let d = g.D.PageDisk in
+    let p = view_of c.args.running.now in
+    let disk = c.replace.new.disk in
+    let later = c.args.beside.later.items in
+    let old = c.args.beside.old in
+    let more = phases_in later in
+    let serves = c.args.beside.serves in
+    let e = c.args.erasure in
+    let w = c.requires.at_work in
+    head_made d p (change.Erases e) old more (removing_for serves e old more) disk
+    (touched d p serves e old more w disk c.page_at-page.result c.page_at-page.ensures
+    (replaced d c.args.running.now.disk disk c.page_at-page.result _ zeros c.replace.ensures.any_moment))
+    c.requires.kept.0 (unfrozen d p serves e old more w c.requires.removed) (view_of c.tell.new.running) serves
+    (at_head d p serves e old more w c.requires.removed) (record {
+      left = _;
+      left_is = c.behind.ensures.seen;
+      alone = comes_alone serves later c.requires.follows;
+      next = stage_seen c.stage_behind-next.result;
+      next_is = c.stage_behind-next.ensures;
+      after = _;
+      after_is = ap view_of c.go_on.ensures
+          ∙ ap (λ (r : Running g.row.D.Denot). view_of (gone_on r serves c.behind.result)) c.forget.ensures
+          ∙ left_seen p (change.Erases e) serves disk c.behind.result;
+      reply = c.reply-reply.result;
+      reply_is = c.reply-reply.ensures;
+      told = c.tell.ensures.told;
+      moves = subst (λ page. WritesOnePage d.tells (device_of d p.disk) (p.super.md_start + e.head) page 3
+          (device_of d disk)) (sym (zeros_planned d p serves e old more w))
+          (subst (λ n. WritesOnePage d.tells (device_of d p.disk) n zero_page 3 (device_of d disk))
+          c.page_at-page.ensures
+          (subst (λ page. WritesOnePage d.tells (device_of d c.args.running.now.disk) c.page_at-page.result page 3
+          (device_of d disk)) zeros
+          (on_ok c.replace.result _ (sym c.is_err.ensures.value ∙ c.if-is_err.false) c.replace.ensures.moves)));
+      durable = λ tells. on_ok c.replace.result _ (sym c.is_err.ensures.value ∙ c.if-is_err.false)
+          (c.replace.ensures.durable tells);
     })

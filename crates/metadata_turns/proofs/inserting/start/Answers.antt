@@ -12,14 +12,17 @@ use Rattle.store_model.specs.RunInvariant.{CanBeWritten}
 use Rattle.store_model.specs.Rows.{InJob, Row}
 use Rattle.metadata_turns.specs.Begins.{no_effects, planned_with, IsPrepared, IsUnprepared}
 use Rattle.running_store.specs.Jobs.{job_seen, writing_for}
-use Rattle.running_store.specs.Running.{left_in, view_of, HaveRoom, WillResolveAll}
+use Rattle.running_store.specs.Blobs.{blobs_of, CanAllBeKept}
+use Rattle.running_store.specs.Running.{left_in, view_of}
 use Rattle.store_model.specs.StoreState.{JobState}
 use Rattle.running_store.specs.declared.job.Serves.TheVariants as whom
 use Rattle.running_store.specs.Stages.{claim_seen}
 use Rattle.running_store.specs.StoreView.{state_of}
 use Rattle.running_store.specs.GivingBack.{IsGivenUp}
 use Rattle.running_store.proofs.Counting.{left_same}
-use Rattle.running_store.proofs.Resolved.{unmarked_base, will_resolve}
+use Rattle.running_store.proofs.KeptAlone.{kept_unmarked}
+use Rattle.running_store.proofs.Resolved.{unmarked_base}
+use Rattle.metadata_turns.proofs.Behind.{places_there}
 use Rattle.metadata_turns.proofs.InsertBegun.{begun, posted_with, row_is, some_left, unprepared}
 use Rattle.metadata_turns.proofs.InsertReady.{has_chain, steady}
 use Rattle.metadata_turns.proofs.JobPlanned.{all_fit}
@@ -68,7 +71,7 @@ returns-in-Ok-clause-case g c =
         pages = c.prepare.new.pages.bits;
         job = Some j;
       }))) (ap (λ (m : Meta). writing_for (whom.Insert c.args.channel)
-          (planned_with x claim.head m false no_effects) x.old 0 []) (sym c.requires.fills.2)
+          (planned_with x claim.head m no_effects) x.old 0 []) (sym c.requires.fills.2)
           ∙ sym c.alone-job.ensures.seen) begins,
       refl,
     )
@@ -82,24 +85,20 @@ pub returns-in-Ok-clause-order : goal.returns-in-Ok-clause-order
 returns-in-Ok-clause-order g c =
     let p = view_of c.args.running.now in
     let claim = claim_seen c.args.claim in
-    let roomy = subst (HaveRoom c.args.running.now.metas c.args.running.now.chains c.args.running.now.live
-    c.args.running.now.guards) (sym c.alone-job.ensures.coming)
-    (record { blob = tt; number = λ bad. absurd (cc bad) }, tt) in
-    let metas = c.args.running.now.metas in
-    let marked = c.args.running.now.marked in
+    let now = c.args.running.now in
     let known = steady (state_of g.D.PageDisk p) c.requires.running c.requires.runs c.args.channel claim
     c.requires.claimed c.requires.fills.0 c.requires.fills.1 c.requires.unmarked in
-    let resolving = subst (WillResolveAll metas marked) (sym c.alone-job.ensures.coming) (
-      record {
-        there = λ _. subst (λ (m : Metas). IsSome (m claim.head))
-            (unmarked_base metas marked c.requires.order.resolves c.requires.unmarked)
-            (subst (λ (o : Option Meta). IsSome o) (sym c.requires.fills.1.there) refl);
-        resolves = will_resolve metas marked claim.head c.args.new c.requires.order.resolves
-            c.requires.unmarked
-            (subst (λ (m : Meta). mark_of m ≡ None) (sym c.requires.fills.2) known.unmarked);
-      },
-      tt,
-    ) in
+    let unmarked = subst (λ (m : Meta). mark_of m ≡ None) (sym c.requires.fills.2) known.unmarked in
+    let there : IsSome (map.get now.metas claim.head) = subst (λ (m : Metas). IsSome (m claim.head))
+    (unmarked_base now.metas now.marked c.requires.order.resolves c.requires.unmarked)
+    (subst (λ (o : Option Meta). IsSome o) (sym c.requires.fills.1.there) refl) in
+    let chain : IsSome (map.get now.chains claim.head) = ap is_some (has_chain (state_of g.D.PageDisk p)
+    c.requires.running c.requires.runs c.args.channel claim c.requires.claimed c.requires.fills.0 c.requires.fills.1
+    c.requires.unmarked).1 in
+    let kept = subst (CanAllBeKept (blobs_of now)) (sym c.alone-job.ensures.coming)
+    (kept_unmarked (blobs_of now) (planned_with c.in-Ok.prepared claim.head c.args.new no_effects)
+    c.requires.order.resolves c.requires.unmarked unmarked refl
+    (places_there (blobs_of now) claim.head c.args.new unmarked chain there), tt) in
     let low : c.args.channel < length p.rows = omega (arith, c.requires.channel, c.requires.order.sixteen) in
     let same : left_in (slice_set p.rows c.args.channel c.serve.new.self) ≡ left_in p.rows =
     left_same p.rows c.args.channel c.serve.new.self c.index_mut.result.now low
@@ -121,8 +120,7 @@ returns-in-Ok-clause-order g c =
       headed = c.alone-job.ensures.headed;
       heads = c.requires.order.heads;
       resolves = c.requires.order.resolves;
-      will_resolve = resolving;
-      roomy = roomy;
+      kept = kept;
     }
 
 pub returns-in-Err-clause-case : goal.returns-in-Err-clause-case

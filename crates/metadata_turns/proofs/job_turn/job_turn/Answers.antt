@@ -1,20 +1,17 @@
 use Rattle.std.proofs.Common.{zero, suc, ◌≡◌, ◌≤◌, ℕ, Option, Some, List, [], ◌∷◌, length, drop, take, refl, sym, ◌∙◌}
 use Rattle.std.proofs.Common.{ap}
-use Rattle.std.proofs.Common.{subst, arith, IfSome, ◌⊎◌, inl, inr, true}
+use Rattle.std.proofs.Common.{subst, arith, IfSome}
 use Rattle.std.specs.Option.{option_and_then, option_map}
 use Rattle.store_model.specs.Phases.{writing, erasing, Phase, Replaces}
 use Rattle.store_model.specs.StoreState.{JobState}
 use Rattle.running_store.specs.Jobs.{commit_in, job_seen, phases_in, replacing_of, waits_for_job, writing_for, IsHeaded}
-use Rattle.running_store.specs.Jobs.{IsMatched, IsZeroedFor, MayFollow}
-use Rattle.running_store.specs.Running.{view_of, IsRoomy, WillResolveBy}
+use Rattle.running_store.specs.Blobs.{blobs_of, WillBeKept}
+use Rattle.running_store.specs.Running.{view_of}
 use Rattle.running_store.specs.StoreInvariant.{IsRunning}
 use Rattle.running_store.specs.StoreView.{state_of}
-use Rattle.running_store.specs.Zeroing.{IsLeft}
 use Rattle.running_store.specs.declared.job.RunningJob.{RunningJob}
 use Rattle.running_store.specs.declared.job.Serves.{Serves}
-use Rattle.running_store.specs.declared.job.Serves.TheVariants as whom
 use Rattle.running_store.specs.declared.job.Work.{Work}
-use Rattle.running_store.specs.declared.job.Zeroed.{Zeroed}
 use Rattle.running_store.specs.declared.replacements.Planned.{Planned}
 use Rattle.metadata_turns.specs.JobTurns.{TurnsJob}
 use Rattle.metadata_turns.specs.OwnWrites.{AreOwn}
@@ -72,112 +69,51 @@ all_written serves planned old written more le =
     dropped (x ∷ xs) zero le = absurd (omega (arith, le))
     dropped (x ∷ xs) (suc n) le = dropped xs n (omega (arith, le))
 
--- a job that overwrites clusters serves a command
-for_command : (serves : Serves) (channel : ℕ) (planned : Planned) (zeroed : Zeroed) → serves ≡ whom.Command channel
-    → IsZeroedFor serves planned zeroed
-    → IsMatched planned × IsLeft planned.effects.claimed zeroed × (planned.commits ≡ true)
-for_command serves channel planned zeroed is known = subst (λ x. IsZeroedFor x planned zeroed) is known
-
-not_zeroed : (serves : Serves) (planned : Planned) (zeroed : Zeroed)
-    → ((channel : ℕ) × (serves ≡ whom.Insert channel)) ⊎ (serves ≡ whom.Repair) → IsZeroedFor serves planned zeroed → ⊥
-not_zeroed serves planned zeroed (inl insert) known = subst (λ x. IsZeroedFor x planned zeroed) insert.1 known
-not_zeroed serves planned zeroed (inr repair) known = subst (λ x. IsZeroedFor x planned zeroed) repair known
-
-pub zero-requires-clause-matched : goal.zero-requires-clause-matched
-zero-requires-clause-matched g c =
-    (for_command _ _ _ _ c.in-Command.is
+pub zero-requires-clause-zeroed : goal.zero-requires-clause-zeroed
+zero-requires-clause-zeroed g c =
     (known_work IsHeaded c.args.running.now.job c.take.result c.in-Some.field-0 _ c.take.ensures.value c.in-Some.is
-    c.in-Zeroing.is c.requires.order.headed).0).0
+    c.in-Zeroing.is c.requires.order.headed).0
 
-pub zero-requires-clause-commits : goal.zero-requires-clause-commits
-zero-requires-clause-commits g c =
-    (for_command _ _ _ _ c.in-Command.is
-    (known_work IsHeaded c.args.running.now.job c.take.result c.in-Some.field-0 _ c.take.ensures.value c.in-Some.is
-    c.in-Zeroing.is c.requires.order.headed).0).2
-
-pub zero-requires-clause-clusters : goal.zero-requires-clause-clusters
-zero-requires-clause-clusters g c =
-    (for_command _ _ _ _ c.in-Command.is
-    (known_work IsHeaded c.args.running.now.job c.take.result c.in-Some.field-0 _ c.take.ensures.value c.in-Some.is
-    c.in-Zeroing.is c.requires.order.headed).0).1.clusters
-
-pub zero-requires-clause-pages : goal.zero-requires-clause-pages
-zero-requires-clause-pages g c =
-    (for_command _ _ _ _ c.in-Command.is
-    (known_work IsHeaded c.args.running.now.job c.take.result c.in-Some.field-0 _ c.take.ensures.value c.in-Some.is
-    c.in-Zeroing.is c.requires.order.headed).0).1.pages
+pub zero-requires-clause-waits : goal.zero-requires-clause-waits
+zero-requires-clause-waits g c =
+    waits_work c.waiting_for-waiting.result c.args.running.now.job _ _ c.waiting_for-waiting.ensures
+    (seen_work c.args.running.now.job c.take.result c.in-Some.field-0 _ c.take.ensures.value
+    c.in-Some.is c.in-Zeroing.is)
 
 pub zero-requires-clause-follows : goal.zero-requires-clause-follows
 zero-requires-clause-follows g c =
-    subst (λ x. MayFollow x c.in-Some.field-0.later.items) c.in-Command.is
     (known_work IsHeaded c.args.running.now.job c.take.result c.in-Some.field-0 _ c.take.ensures.value c.in-Some.is
     c.in-Zeroing.is c.requires.order.headed).1
 
-pub zero-requires-clause-roomy : goal.zero-requires-clause-roomy
-zero-requires-clause-roomy g c =
-    (known_work (IsRoomy c.args.running.now.metas c.args.running.now.chains c.args.running.now.live
-    c.args.running.now.guards) c.args.running.now.job c.take.result c.in-Some.field-0 _ c.take.ensures.value
-    c.in-Some.is c.in-Zeroing.is c.requires.order.roomy)
+pub zero-requires-clause-kept : goal.zero-requires-clause-kept
+zero-requires-clause-kept g c =
+    known_work (WillBeKept (blobs_of c.args.running.now)) c.args.running.now.job c.take.result c.in-Some.field-0 _
+    c.take.ensures.value c.in-Some.is c.in-Zeroing.is c.requires.order.kept
 
-pub zero-requires-clause-will_resolve : goal.zero-requires-clause-will_resolve
-zero-requires-clause-will_resolve g c =
-    (known_work (WillResolveBy c.args.running.now.metas c.args.running.now.marked) c.args.running.now.job c.take.result
-    c.in-Some.field-0 _ c.take.ensures.value c.in-Some.is c.in-Zeroing.is c.requires.order.will_resolve)
+pub write_fresh-requires-clause-kept : goal.write_fresh-requires-clause-kept
+write_fresh-requires-clause-kept g c =
+    known_work (WillBeKept (blobs_of c.args.running.now)) c.args.running.now.job c.take.result c.in-Some.field-0 _
+    c.take.ensures.value c.in-Some.is c.in-Writing.is c.requires.order.kept
 
-pub write_fresh-requires-clause-roomy : goal.write_fresh-requires-clause-roomy
-write_fresh-requires-clause-roomy g c =
-    (known_work (IsRoomy c.args.running.now.metas c.args.running.now.chains c.args.running.now.live
-    c.args.running.now.guards) c.args.running.now.job c.take.result c.in-Some.field-0 _ c.take.ensures.value
-    c.in-Some.is c.in-Writing.is c.requires.order.roomy)
+pub replace_head-requires-clause-kept : goal.replace_head-requires-clause-kept
+replace_head-requires-clause-kept g c =
+    known_work (WillBeKept (blobs_of c.args.running.now)) c.args.running.now.job c.take.result c.in-Some.field-0 _
+    c.take.ensures.value c.in-Some.is c.in-Writing.is c.requires.order.kept
 
-pub write_fresh-requires-clause-will_resolve : goal.write_fresh-requires-clause-will_resolve
-write_fresh-requires-clause-will_resolve g c =
-    (known_work (WillResolveBy c.args.running.now.metas c.args.running.now.marked) c.args.running.now.job c.take.result
-    c.in-Some.field-0 _ c.take.ensures.value c.in-Some.is c.in-Writing.is c.requires.order.will_resolve)
+pub remove_head-requires-clause-kept : goal.remove_head-requires-clause-kept
+remove_head-requires-clause-kept g c =
+    known_work (WillBeKept (blobs_of c.args.running.now)) c.args.running.now.job c.take.result c.in-Some.field-0 _
+    c.take.ensures.value c.in-Some.is c.in-Removing.is c.requires.order.kept
 
-pub replace_head-requires-clause-roomy : goal.replace_head-requires-clause-roomy
-replace_head-requires-clause-roomy g c =
-    (known_work (IsRoomy c.args.running.now.metas c.args.running.now.chains c.args.running.now.live
-    c.args.running.now.guards) c.args.running.now.job c.take.result c.in-Some.field-0 _ c.take.ensures.value
-    c.in-Some.is c.in-Writing.is c.requires.order.roomy)
+pub erase-requires-clause-kept : goal.erase-requires-clause-kept
+erase-requires-clause-kept g c =
+    known_work (WillBeKept (blobs_of c.args.running.now)) c.args.running.now.job c.take.result c.in-Some.field-0 _
+    c.take.ensures.value c.in-Some.is c.in-Erasing.is c.requires.order.kept
 
-pub replace_head-requires-clause-will_resolve : goal.replace_head-requires-clause-will_resolve
-replace_head-requires-clause-will_resolve g c =
-    (known_work (WillResolveBy c.args.running.now.metas c.args.running.now.marked) c.args.running.now.job c.take.result
-    c.in-Some.field-0 _ c.take.ensures.value c.in-Some.is c.in-Writing.is c.requires.order.will_resolve)
-
-pub remove_head-requires-clause-roomy : goal.remove_head-requires-clause-roomy
-remove_head-requires-clause-roomy g c =
-    (known_work (IsRoomy c.args.running.now.metas c.args.running.now.chains c.args.running.now.live
-    c.args.running.now.guards) c.args.running.now.job c.take.result c.in-Some.field-0 _ c.take.ensures.value
-    c.in-Some.is c.in-Removing.is c.requires.order.roomy)
-
-pub remove_head-requires-clause-will_resolve : goal.remove_head-requires-clause-will_resolve
-remove_head-requires-clause-will_resolve g c =
-    (known_work (WillResolveBy c.args.running.now.metas c.args.running.now.marked) c.args.running.now.job c.take.result
-    c.in-Some.field-0 _ c.take.ensures.value c.in-Some.is c.in-Removing.is c.requires.order.will_resolve)
-
-pub erase-requires-clause-roomy : goal.erase-requires-clause-roomy
-erase-requires-clause-roomy g c =
-    (known_work (IsRoomy c.args.running.now.metas c.args.running.now.chains c.args.running.now.live
-    c.args.running.now.guards) c.args.running.now.job c.take.result c.in-Some.field-0 _ c.take.ensures.value
-    c.in-Some.is c.in-Erasing.is c.requires.order.roomy)
-
-pub erase-requires-clause-will_resolve : goal.erase-requires-clause-will_resolve
-erase-requires-clause-will_resolve g c =
-    (known_work (WillResolveBy c.args.running.now.metas c.args.running.now.marked) c.args.running.now.job c.take.result
-    c.in-Some.field-0 _ c.take.ensures.value c.in-Some.is c.in-Erasing.is c.requires.order.will_resolve)
-
-pub free-requires-clause-roomy : goal.free-requires-clause-roomy
-free-requires-clause-roomy g c =
-    (known_work (IsRoomy c.args.running.now.metas c.args.running.now.chains c.args.running.now.live
-    c.args.running.now.guards) c.args.running.now.job c.take.result c.in-Some.field-0 _ c.take.ensures.value
-    c.in-Some.is c.in-Erasing.is c.requires.order.roomy)
-
-pub free-requires-clause-will_resolve : goal.free-requires-clause-will_resolve
-free-requires-clause-will_resolve g c =
-    (known_work (WillResolveBy c.args.running.now.metas c.args.running.now.marked) c.args.running.now.job c.take.result
-    c.in-Some.field-0 _ c.take.ensures.value c.in-Some.is c.in-Erasing.is c.requires.order.will_resolve)
+pub free-requires-clause-kept : goal.free-requires-clause-kept
+free-requires-clause-kept g c =
+    known_work (WillBeKept (blobs_of c.args.running.now)) c.args.running.now.job c.take.result c.in-Some.field-0 _
+    c.take.ensures.value c.in-Some.is c.in-Erasing.is c.requires.order.kept
 
 pub write_fresh-requires-clause-matched : goal.write_fresh-requires-clause-matched
 write_fresh-requires-clause-matched g c =
@@ -242,10 +178,6 @@ free-requires-clause-waits g c =
     waits_work c.waiting_for-waiting.result c.args.running.now.job _ _ c.waiting_for-waiting.ensures
     (seen_work c.args.running.now.job c.take.result c.in-Some.field-0 _ c.take.ensures.value
     c.in-Some.is c.in-Erasing.is)
-
-pub unreachable-requires : goal.unreachable-requires
-unreachable-requires g c = not_zeroed _ _ _ c.in-Insert.is (known_work IsHeaded c.args.running.now.job c.take.result
-    c.in-Some.field-0 _ c.take.ensures.value c.in-Some.is c.in-Zeroing.is c.requires.order.headed).0
 
 pub overflow_sub-fresh : goal.overflow_sub-fresh
 overflow_sub-fresh g c =

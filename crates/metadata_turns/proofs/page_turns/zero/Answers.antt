@@ -3,53 +3,49 @@ use Rattle.page_disk.specs.Disk.{Written}
 use Rattle.page_disk.specs.Moments.{CallsLeaveOnly}
 use Rattle.page_disk.specs.declared.disk.WriteKind.TheVariants.{Plain}
 use Rattle.store_model.specs.Cases.{WritesOnePage}
-use Rattle.running_store.specs.Jobs.{phases_in}
-use Rattle.running_store.specs.Running.{view_of, HaveRoom, WillResolveAll}
+use Rattle.running_store.specs.Blobs.{blobs_of, CanAllBeKept}
+use Rattle.running_store.specs.Jobs.{freeze_of, phases_in, zeroing_for}
+use Rattle.running_store.specs.Running.{view_of}
 use Rattle.running_store.specs.StoreView.{device_of}
 use Rattle.running_store.proofs.PlainFacts.{on_err, on_ok, zeros}
-use Rattle.metadata_turns.proofs.ZeroTurned.{failed_zeroing, low, page_low, row_some, zeroed_one}
+use Rattle.metadata_turns.specs.Telling.{HasFailed, HasWaitingRow}
+use Rattle.metadata_turns.proofs.JobFailed.{waiting_row}
+use Rattle.metadata_turns.proofs.ZeroTurned.{failed_zeroing, page_low, zeroed_one}
 use Rattle.metadata_turns.proofs.page_turns.zero.Goals as goal
 
 pub write_one-requires : goal.write_one-requires
 write_one-requires g c =
     let at = c.next_page-page.ensures in
-    let below = page_low g.D.PageDisk (view_of c.args.running.now) c.args.channel c.args.planned c.args.beside.old
-    c.args.zeroed (phases_in c.args.beside.later.items) c.requires.at_work
-    (record { clusters = c.requires.clusters; pages = c.requires.pages }) c.requires.commits in
+    let below = page_low g.D.PageDisk (view_of c.args.running.now) c.args.beside.serves c.args.planned
+    c.args.beside.old c.args.zeroed (phases_in c.args.beside.later.items) c.requires.at_work c.requires.zeroed in
     let device = c.requires.order.device in
     omega (arith, at, below, device)
 
-pub fail-requires-clause-channel : goal.fail-requires-clause-channel
-fail-requires-clause-channel g c =
-    let below = low g.D.PageDisk (view_of c.args.running.now) c.args.channel c.args.planned c.args.beside.old
-    c.args.zeroed (phases_in c.args.beside.later.items) c.requires.at_work
-    (record { clusters = c.requires.clusters; pages = c.requires.pages }) c.requires.commits in
-    let sixteen = c.requires.order.sixteen in
-    omega (arith, below, sixteen)
-
-pub fail-requires-clause-left : goal.fail-requires-clause-left
-fail-requires-clause-left g c =
-    row_some g.D.PageDisk (view_of c.args.running.now) c.args.channel c.args.planned c.args.beside.old c.args.zeroed
-    (phases_in c.args.beside.later.items) c.requires.at_work
-    (record { clusters = c.requires.clusters; pages = c.requires.pages }) c.requires.commits
+pub fail_job-requires-clause-row : goal.fail_job-requires-clause-row
+fail_job-requires-clause-row g c =
+    subst (HasWaitingRow c.args.running.now.rows.items) (sym c.requires.waits)
+    (waiting_row g.D.PageDisk (view_of c.args.running.now) (zeroing_for c.args.beside.serves c.args.planned
+    c.args.beside.old c.args.zeroed (phases_in c.args.beside.later.items)) c.requires.at_work
+    c.requires.order.sixteen)
 
 pub returns-then-is_err-clause-case : goal.returns-then-is_err-clause-case
 returns-then-is_err-clause-case g c =
-    failed_zeroing g.D.PageDisk (view_of c.args.running.now) c.args.channel c.args.planned c.args.beside.old
-    c.args.zeroed (phases_in c.args.beside.later.items) c.requires.at_work
-    (record { clusters = c.requires.clusters; pages = c.requires.pages }) c.requires.commits c.write_one.new.disk
+    failed_zeroing g.D.PageDisk (view_of c.args.running.now) c.args.beside.serves c.args.planned
+    c.args.beside.old c.args.zeroed (phases_in c.args.beside.later.items) c.requires.at_work c.requires.zeroed c.write_one.new.disk
     c.next_page-page.result c.next_page-page.ensures
     (subst (λ page. CallsLeaveOnly g.D.PageDisk c.args.running.now.disk c.write_one.new.disk
     (Written (g.D.PageDisk.images c.args.running.now.disk) c.next_page-page.result Plain page)) zeros
     c.write_one.ensures.any_moment)
     (on_err c.write_one.result _ (sym c.is_err.ensures.value ∙ c.if-is_err.true) c.write_one.ensures.fails)
-    (view_of c.fail.new.running) c.fail.ensures.logged
+    (view_of c.fail_job.new.running)
+    (subst (λ o. HasFailed (freeze_of c.args.beside.serves) o
+    (view_of (record c.args.running.now { disk = c.write_one.new.disk })) (view_of c.fail_job.new.running)
+    (g.D.PageDisk.clock c.write_one.new.disk)) c.requires.waits c.fail_job.ensures.failed)
 
 pub returns-clause-case : goal.returns-clause-case
 returns-clause-case g c =
-    zeroed_one g.D.PageDisk (view_of c.args.running.now) c.args.channel c.args.planned c.args.beside.old
-    c.args.zeroed (phases_in c.args.beside.later.items) c.requires.at_work
-    (record { clusters = c.requires.clusters; pages = c.requires.pages }) c.requires.commits c.write_one.new.disk
+    zeroed_one g.D.PageDisk (view_of c.args.running.now) c.args.beside.serves c.args.planned
+    c.args.beside.old c.args.zeroed (phases_in c.args.beside.later.items) c.requires.at_work c.requires.zeroed c.write_one.new.disk
     c.next_page-page.result c.next_page-page.ensures
     (subst (λ page. CallsLeaveOnly g.D.PageDisk c.args.running.now.disk c.write_one.new.disk
     (Written (g.D.PageDisk.images c.args.running.now.disk) c.next_page-page.result Plain page)) zeros
@@ -79,6 +75,5 @@ returns-clause-order g c =
       headed = c.behind_zeros.ensures.headed;
       heads = order.heads;
       resolves = order.resolves;
-      will_resolve = subst (WillResolveAll now.metas now.marked) coming c.requires.will_resolve;
-      roomy = subst (HaveRoom now.metas now.chains now.live now.guards) coming c.requires.roomy;
+      kept = subst (CanAllBeKept (blobs_of now)) coming c.requires.kept;
     }

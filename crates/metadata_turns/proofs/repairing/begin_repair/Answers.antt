@@ -23,8 +23,7 @@ returns-in-Ok-clause-order g c =
       headed = c.in-Ok.ensures.headed;
       heads = order.heads;
       resolves = order.resolves;
-      will_resolve = c.in-Ok.ensures.will_resolve;
-      roomy = c.in-Ok.ensures.roomy;
+      kept = c.in-Ok.ensures.kept;
     }
 
 pub returns-in-Err-clause-case : goal.returns-in-Err-clause-case

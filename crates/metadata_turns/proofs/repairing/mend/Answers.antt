@@ -3,7 +3,8 @@ use Rattle.std.specs.Option.{option_map}
 use Rattle.md_chain.proofs.Fitting.{some_parts}
 use Rattle.store_model.specs.Cases.BeginRepair.{BeginsRepair}
 use Rattle.running_store.specs.Jobs.{job_seen}
-use Rattle.running_store.specs.Running.{view_of, HaveRoom, WillResolveAll}
+use Rattle.running_store.specs.Blobs.{blobs_of, CanAllBeKept}
+use Rattle.running_store.specs.Running.{view_of}
 use Rattle.store_model.specs.StoreState.{JobState}
 use Rattle.running_store.specs.StoreView.{state_of}
 use Rattle.metadata_turns.proofs.JobPlanned.{all_fit}
@@ -73,16 +74,11 @@ alone-requires g c =
     let chain = c.in-Ok.ensures.prepared.taken.laid_on.chain in
     record { headed = chain ∙ ap (λ l. c.args.head ∷ l) (sym (ap (drop 1) chain)) }
 
-pub returns-in-Ok-clause-roomy : goal.returns-in-Ok-clause-roomy
-returns-in-Ok-clause-roomy g c =
-    let r = c.args.running.now in
-    subst (HaveRoom r.metas r.chains r.live r.guards) (sym c.alone.ensures.coming)
-    (record { blob = tt; number = λ bad. absurd (cc bad) }, tt)
-
-pub returns-in-Ok-clause-will_resolve : goal.returns-in-Ok-clause-will_resolve
-returns-in-Ok-clause-will_resolve g c =
-    let p = view_of c.args.running.now in
-    subst (WillResolveAll p.metas p.marked) (sym c.alone.ensures.coming)
+pub returns-in-Ok-clause-kept : goal.returns-in-Ok-clause-kept
+returns-in-Ok-clause-kept g c =
+    let now = c.args.running.now in
+    let p = view_of now in
+    subst (CanAllBeKept (blobs_of now)) (sym c.alone.ensures.coming)
     (mends_to g.D.PageDisk p c.requires.running c.requires.runs (ap (λ o. option_map job_seen o) c.requires.no_job)
     c.args.head c.requires.due c.requires.order.resolves c.args.new c.requires.kept c.prepare.new.pages.bits
     c.in-Ok.prepared c.in-Ok.ensures.prepared, tt)

@@ -56,8 +56,7 @@ returns-clause-order g c =
       headed = order.headed;
       heads = order.heads;
       resolves = order.resolves;
-      will_resolve = order.will_resolve;
-      roomy = order.roomy;
+      kept = order.kept;
     }
 
 pub returns-clause-row : goal.returns-clause-row

@@ -19,5 +19,5 @@ returns-clause-seen c =
     let may : MayFollow j.serves (x ∷ j.later.items) = subst (MayFollow j.serves) items c.requires in
     elim c.match-change.branch [
       | in-Writes w ↦ next_writes j x w.in-Writes.planned w.in-Writes.is refl w.work-is may
-      | in-Erases w ↦ next_erases j x w.in-Erases.head w.in-Erases.freed w.in-Erases.is refl w.work-is
+      | in-Erases w ↦ next_erases j x w.in-Erases.erasure w.in-Erases.is refl w.work-is
     ] ∙ ap (λ (l : List LaidReplacement). job_left j.serves (phases_in l)) (sym items)
