@@ -117,7 +117,8 @@ module _ (p : StoreState) (r : IsRunning p) (runs : p.stopped ≡ None) where
         let held : held_by p.job ≡ taken_by replacing ++ taken_in (erasing old old more) =
         ap held_by is ∙ held_behind (drop written fresh) behind in
         subst (λ l. is_among x l ≡ true) (sym held)
-        (among_left x (taken_by replacing) (taken_in (erasing old old more)) (taken (is_some planned.effects.rooms.chain)))
+        (among_left x (taken_by replacing) (taken_in (erasing old old more))
+        (taken (is_some planned.effects.rooms.chain)))
       where
         taken : (makes : Bool) → is_among x (if makes then planned.head ∷ fresh else fresh) ≡ true
         taken true = among_later x planned.head fresh among

@@ -1,5 +1,6 @@
 -- What a turn makes of the store in which a head's page is replaced, by whom the job serves.
-use Rattle.std.proofs.Common.{◌≡◌, ◌≢◌, ℕ, ◌+◌, ◌<◌, Bool, true, false, List, [], ◌∷◌, length, Option, Some, None, refl, sym}
+use Rattle.std.proofs.Common.{◌≡◌, ◌≢◌, ℕ, ◌+◌, ◌<◌, Bool, true, false, List, [], ◌∷◌, length, Option, Some, None}
+use Rattle.std.proofs.Common.{refl, sym}
 use Rattle.std.proofs.Common.{◌∙◌, ap, subst, IsTrue, arith}
 use Rattle.std.specs.Prelude.{if◌then◌else◌, is_some}
 use Rattle.std.specs.Option.{option_map}
@@ -22,14 +23,16 @@ use Rattle.store_model.specs.Phases.{erasing, has_commit, page_in, with_live, Co
 use Rattle.store_model.specs.Places.{all_set}
 use Rattle.store_model.specs.Rows.{Row, Rows, Stage, with_row}
 use Rattle.store_model.specs.Shown.{fixed_of}
-use Rattle.store_model.specs.StoreState.{going_on, live_of as live_shown, logged, shown, ForCommand, ForInsert, JobState}
+use Rattle.store_model.specs.StoreState.{going_on, live_of as live_shown, logged, shown, ForCommand, ForInsert}
+use Rattle.store_model.specs.StoreState.{JobState}
 use Rattle.store_model.specs.StoreState.{StoreState}
 use Rattle.store_model.specs.WithReplaced.{made_by, with_replaced}
 use Rattle.store_model.proofs.Guarding.{frozen_still}
 use Rattle.running_store.specs.Blobs.{commit_of, live_of, numbered_in, CanBeKept}
 use Rattle.running_store.specs.Effects.{commit_seen, live_seen, reply_of}
 use Rattle.running_store.specs.GivingBack.{IsEntered}
-use Rattle.running_store.specs.Jobs.{freeze_of, job_left, service_of, waits_for_job, AreNone, IsMatchedFor, IsRemovedFor}
+use Rattle.running_store.specs.Jobs.{freeze_of, job_left, service_of, waits_for_job, AreNone, IsMatchedFor}
+use Rattle.running_store.specs.Jobs.{IsRemovedFor}
 use Rattle.running_store.specs.Steps.{logged_at}
 use Rattle.running_store.specs.StoreView.{StoreView, device_of, rows_of, state_of}
 use Rattle.running_store.specs.declared.effects.Effects.{Effects}
@@ -196,69 +199,69 @@ module _ {D : Type 0} (d : Ghosts D) (p : StoreView D) (x : Change) (old : List 
     -- ---- the commit
 
     module _ (channel : ℕ) (for_command : j.serves ≡ ForCommand channel) (c : Commit) (commits : commit_of x ≡ Some c)
-        where
-      abbrev commit : Committing
-      commit = commit_seen c
+      where
+        abbrev commit : Committing
+        commit = commit_seen c
 
-      todo_now : j.todo ≡ Replaces r (Some commit) ∷ others
-      todo_now = n.todo ∙ ap (λ (o : Option Commit). Replaces r (option_map commit_seen o) ∷ others) commits
+        todo_now : j.todo ≡ Replaces r (Some commit) ∷ others
+        todo_now = n.todo ∙ ap (λ (o : Option Commit). Replaces r (option_map commit_seen o) ∷ others) commits
 
-      waits : has_commit j.todo ≡ true
-      waits = ap has_commit todo_now
+        waits : has_commit j.todo ≡ true
+        waits = ap has_commit todo_now
 
-      abbrev c_now : Command
-      c_now = command d p j n.work channel for_command waits
+        abbrev c_now : Command
+        c_now = command d p j n.work channel for_command waits
 
-      abbrev c_rest : List Command
-      c_rest = rest d p j n.work channel for_command waits
+        abbrev c_rest : List Command
+        c_rest = rest d p j n.work channel for_command waits
 
-      step : IsStep (ReadsZeros s.super j.claimed) s.super s.base r s.live c_now commit
-      step = (subst (Does (ReadsZeros s.super j.claimed) s.super s.base s.live c_now) todo_now
-          (x_served d p j n.work channel for_command waits).does).0
+        step : IsStep (ReadsZeros s.super j.claimed) s.super s.base r s.live c_now commit
+        step = (subst (Does (ReadsZeros s.super j.claimed) s.super s.base s.live c_now) todo_now
+            (x_served d p j n.work channel for_command waits).does).0
 
-      pub committed : (q : StoreView D) → ((k : Command) (ks : List Command)
-          → (rows_of p.rows channel).left ≡ k ∷ ks → q ≡ logged_at after channel k ks commit.reply (d.clock disk))
-          → TurnsJob d (with_job p j) q
-      committed q is = subst (TurnsJob d (with_job p j))
-          (sym (is c_now c_rest (row_left d p j n.work channel for_command waits))) (record {
-            kind = kind.commits;
-            of_job = tt;
-            made = (
-              record {
-                replacing = r;
-                commit = commit;
-                done = step.done;
-                running = record { job = j; is = refl; rest = others; next = todo_now; runs = n.work.not_stopped };
-                served = record {
-                  channel = channel;
-                  serves = for_command;
-                  command = c_now;
-                  rest = c_rest;
-                  row = row d p j n.work channel for_command waits;
-                };
-                device = device_of d disk;
-                moves = moves;
-                next = state_logged d after channel c_now c_rest commit.reply
-                    (channel_low d p j n.work channel for_command waits)
-                    ∙ ap (λ (a : StoreState). logged a channel c_now c_rest commit.reply (device_of d disk))
-                    (as_commit c commits
-                    ∙ ap (λ (live : Map Xattrs). with_parts r commit.renews live left)
-                    (sym (step.lives s.device.reads))
-                    ∙ ap (with_parts r commit.renews
-                    (live_shown (change (fixed_of s.super) (shown s) c_now commit.reply))) goes_on);
-              },
-              record { moments = touched; durable = λ _. durable },
-            );
-          })
+        pub committed : (q : StoreView D) → ((k : Command) (ks : List Command)
+            → (rows_of p.rows channel).left ≡ k ∷ ks → q ≡ logged_at after channel k ks commit.reply (d.clock disk))
+            → TurnsJob d (with_job p j) q
+        committed q is = subst (TurnsJob d (with_job p j))
+            (sym (is c_now c_rest (row_left d p j n.work channel for_command waits))) (record {
+              kind = kind.commits;
+              of_job = tt;
+              made = (
+                record {
+                  replacing = r;
+                  commit = commit;
+                  done = step.done;
+                  running = record { job = j; is = refl; rest = others; next = todo_now; runs = n.work.not_stopped };
+                  served = record {
+                    channel = channel;
+                    serves = for_command;
+                    command = c_now;
+                    rest = c_rest;
+                    row = row d p j n.work channel for_command waits;
+                  };
+                  device = device_of d disk;
+                  moves = moves;
+                  next = state_logged d after channel c_now c_rest commit.reply
+                      (channel_low d p j n.work channel for_command waits)
+                      ∙ ap (λ (a : StoreState). logged a channel c_now c_rest commit.reply (device_of d disk))
+                      (as_commit c commits
+                      ∙ ap (λ (live : Map Xattrs). with_parts r commit.renews live left)
+                      (sym (step.lives s.device.reads))
+                      ∙ ap (with_parts r commit.renews
+                      (live_shown (change (fixed_of s.super) (shown s) c_now commit.reply))) goes_on);
+                },
+                record { moments = touched; durable = λ _. durable },
+              );
+            })
 
-      -- the command is logged once the replacement is made
-      pub logged_is : (a : StoreView D) → a ≡ after → (l : StoreView D)
-          → IsEntered a l channel commit.reply (d.clock l.disk) → (k : Command) (ks : List Command)
-          → (rows_of p.rows channel).left ≡ k ∷ ks → l ≡ logged_at after channel k ks commit.reply (d.clock disk)
-      logged_is a a_is l entry k ks left_is =
-          let e = (subst (λ (b : StoreView D). IsEntered b l channel commit.reply (d.clock l.disk)) a_is entry)
-          k ks left_is in
-          e ∙ ap (λ mark. logged_at after channel k ks commit.reply mark) (ap (λ (b : StoreView D). d.clock b.disk) e)
+        -- the command is logged once the replacement is made
+        pub logged_is : (a : StoreView D) → a ≡ after → (l : StoreView D)
+            → IsEntered a l channel commit.reply (d.clock l.disk) → (k : Command) (ks : List Command)
+            → (rows_of p.rows channel).left ≡ k ∷ ks → l ≡ logged_at after channel k ks commit.reply (d.clock disk)
+        logged_is a a_is l entry k ks left_is =
+            let e = (subst (λ (b : StoreView D). IsEntered b l channel commit.reply (d.clock l.disk)) a_is entry)
+            k ks left_is in
+            e ∙ ap (λ mark. logged_at after channel k ks commit.reply mark) (ap (λ (b : StoreView D). d.clock b.disk) e)
 
 -- ---- an insert's
 
@@ -371,27 +374,27 @@ module _ {D : Type 0} (d : Ghosts D) (p : StoreView D) (row : ℕ) (planned : Pl
 -- ---- the row that is told
 
 module _ {D : Type 0} (d : Ghosts D) (p : StoreView D) (x : Change) (old : List ℕ) (more : List Phase) (j : JobState)
-    where
-  -- it is one of the sixteen
-  pub told_row : (serves : Serves) → IsAtHead d p serves x old more j → length p.rows ≡ 16
-      → HasRow p.rows serves (option_map reply_of (commit_of x))
-  told_row (whom.Command channel freeze) n sixteen = by (commit_of x) refl
-    where
-      by : (o : Option Commit) → commit_of x ≡ o
-          → HasRow p.rows (whom.Command channel freeze) (option_map reply_of (commit_of x))
-      by None is = rw is tt
-      by (Some c) is =
-          let waits : has_commit j.todo ≡ true = ap has_commit (n.todo
-          ∙ ap (λ (o : Option Commit). Replaces (replacing_for x old) (option_map commit_seen o) ∷ erasing old old more)
-          is) in
-          rw is (has_command p channel sixteen (record {
-            command = command d p j n.work channel n.serves_is waits;
-            rest = rest d p j n.work channel n.serves_is waits;
-            left = row_left d p j n.work channel n.serves_is waits;
-          }))
-  told_row (whom.Insert channel) n sixteen =
-      has_command p channel sixteen (first_to_insert d p j n.work channel n.serves_is)
-  told_row whom.Repair n sixteen = tt
+  where
+    -- it is one of the sixteen
+    pub told_row : (serves : Serves) → IsAtHead d p serves x old more j → length p.rows ≡ 16
+        → HasRow p.rows serves (option_map reply_of (commit_of x))
+    told_row (whom.Command channel freeze) n sixteen = by (commit_of x) refl
+      where
+        by : (o : Option Commit) → commit_of x ≡ o
+            → HasRow p.rows (whom.Command channel freeze) (option_map reply_of (commit_of x))
+        by None is = rw is tt
+        by (Some c) is =
+            let waits : has_commit j.todo ≡ true = ap has_commit (n.todo
+            ∙ ap (λ (o : Option Commit). Replaces (replacing_for x old) (option_map commit_seen o) ∷ erasing old old more)
+            is) in
+            rw is (has_command p channel sixteen (record {
+              command = command d p j n.work channel n.serves_is waits;
+              rest = rest d p j n.work channel n.serves_is waits;
+              left = row_left d p j n.work channel n.serves_is waits;
+            }))
+    told_row (whom.Insert channel) n sixteen =
+        has_command p channel sixteen (first_to_insert d p j n.work channel n.serves_is)
+    told_row whom.Repair n sixteen = tt
 
 -- ---- whomever it is for
 

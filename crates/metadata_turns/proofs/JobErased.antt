@@ -102,107 +102,107 @@ module _ {D : Type 0} (d : Ghosts D) (p : StoreView D) (serves : Serves) (old : 
         (moves : WritesOnePage d.tells (device_of d p.disk) at zero_page 2 (device_of d disk))
         (durable : IsTrue d.tells → Only (d.now disk) (d.images disk)) (bits : List Bool)
         (bits_are : bits ≡ all_set p.pages old false) (left : Option JobState) (left_is : left ≡ job_left serves more)
-        where
-      moved : WritesOnePage d.tells (device_of d p.disk) (p.super.md_start + place) zero_page 2 (device_of d disk)
-      moved = subst (λ n. WritesOnePage d.tells (device_of d p.disk) n zero_page 2 (device_of d disk)) at_is moves
+      where
+        moved : WritesOnePage d.tells (device_of d p.disk) (p.super.md_start + place) zero_page 2 (device_of d disk)
+        moved = subst (λ n. WritesOnePage d.tells (device_of d p.disk) n zero_page 2 (device_of d disk)) at_is moves
 
-      abbrev bare_view : StoreView D
-      bare_view = record p { disk = disk; pages = bits; job = left }
+        abbrev bare_view : StoreView D
+        bare_view = record p { disk = disk; pages = bits; job = left }
 
-      abbrev freed_view : StoreView D
-      freed_view = record bare_view { guards = guards_left p.guards serves left }
+        abbrev freed_view : StoreView D
+        freed_view = record bare_view { guards = guards_left p.guards serves left }
 
-      pub freed_by : ((row : ℕ) → service_of serves ≢ ForInsert row) → (q : StoreView D)
-          → q ≡ freed_view → TurnsJob d (with_job p k) q
-      freed_by no_insert q is = subst (TurnsJob d (with_job p k)) (sym is) (record {
-        kind = kind.frees;
-        of_job = tt;
-        made = (
-          record {
-            place = place;
-            old = old;
-            running = record {
-              job = k;
-              is = refl;
-              rest = more;
-              next = last_left place next last;
-              runs = w.not_stopped;
-            };
-            no_insert = no_insert;
-            device = device_of d disk;
-            moves = moved;
-            next = state_left d bare_view serves k refl more left left_is
-                ∙ ap (λ b. record t {
-                  job = left;
-                  frozen = frozen_behind t.frozen k more;
-                  pages = b;
+        pub freed_by : ((row : ℕ) → service_of serves ≢ ForInsert row) → (q : StoreView D)
+            → q ≡ freed_view → TurnsJob d (with_job p k) q
+        freed_by no_insert q is = subst (TurnsJob d (with_job p k)) (sym is) (record {
+          kind = kind.frees;
+          of_job = tt;
+          made = (
+            record {
+              place = place;
+              old = old;
+              running = record {
+                job = k;
+                is = refl;
+                rest = more;
+                next = last_left place next last;
+                runs = w.not_stopped;
+              };
+              no_insert = no_insert;
+              device = device_of d disk;
+              moves = moved;
+              next = state_left d bare_view serves k refl more left left_is
+                  ∙ ap (λ b. record t {
+                    job = left;
+                    frozen = frozen_behind t.frozen k more;
+                    pages = b;
+                    device = device_of d disk;
+                  }) bits_are
+                  ∙ ap (λ o. record t {
+                    job = o;
+                    frozen = frozen_behind t.frozen k more;
+                    pages = all_set p.pages old false;
+                    device = device_of d disk;
+                  }) (left_is ∙ sym (goes_on_left serves k refl refl refl more));
+            },
+            record { moments = cleared; durable = λ _. durable },
+          );
+        })
+
+        -- of an insert's job, of which nothing is left
+        pub freed_inserted : (channel : ℕ) → serves ≡ whom.Insert channel → more ≡ [] → (q : StoreView D)
+            → IsWon (whom.Insert channel) freed_view q
+            → TurnsJob d (with_job p k) q
+        freed_inserted channel is none q won =
+            let inserts : service_of serves ≡ ForInsert channel = ap service_of is in
+            let x = first_to_insert d p k w channel inserts in
+            let given : Row = record { left = (rows_of p.rows channel).left; stage = Decided Won; claim = None } in
+            subst (TurnsJob d (with_job p k)) (sym won) (record {
+              kind = kind.insert_ends;
+              of_job = tt;
+              made = (
+                record {
+                  place = place;
+                  old = old;
+                  running = record {
+                    job = k;
+                    is = refl;
+                    rest = more;
+                    next = last_left place next last;
+                    runs = w.not_stopped;
+                  };
+                  last = none;
+                  inserting = inserting d p k w channel inserts;
                   device = device_of d disk;
-                }) bits_are
-                ∙ ap (λ o. record t {
-                  job = o;
-                  frozen = frozen_behind t.frozen k more;
-                  pages = all_set p.pages old false;
-                  device = device_of d disk;
-                }) (left_is ∙ sym (goes_on_left serves k refl refl refl more));
-          },
-          record { moments = cleared; durable = λ _. durable },
-        );
-      })
-
-      -- of an insert's job, of which nothing is left
-      pub freed_inserted : (channel : ℕ) → serves ≡ whom.Insert channel → more ≡ [] → (q : StoreView D)
-          → IsWon (whom.Insert channel) freed_view q
-          → TurnsJob d (with_job p k) q
-      freed_inserted channel is none q won =
-          let inserts : service_of serves ≡ ForInsert channel = ap service_of is in
-          let x = first_to_insert d p k w channel inserts in
-          let given : Row = record { left = (rows_of p.rows channel).left; stage = Decided Won; claim = None } in
-          subst (TurnsJob d (with_job p k)) (sym won) (record {
-            kind = kind.insert_ends;
-            of_job = tt;
-            made = (
-              record {
-                place = place;
-                old = old;
-                running = record {
-                  job = k;
-                  is = refl;
-                  rest = more;
-                  next = last_left place next last;
-                  runs = w.not_stopped;
-                };
-                last = none;
-                inserting = inserting d p k w channel inserts;
-                device = device_of d disk;
-                moves = moved;
-                next = ap (λ (a : StoreState). record a { rows = rows_of (slice_set p.rows channel given) })
-                    (state_left d bare_view serves k refl more left left_is)
-                    ∙ ap (λ (f : ℕ → Bool). record t {
-                      rows = rows_of (slice_set p.rows channel given);
-                      job = left;
-                      frozen = f;
-                      pages = bits;
-                      device = device_of d disk;
-                    }) (frozen_still t.frozen k more (ap freeze_of is))
-                    ∙ ap (λ (rows : Rows).
-                    record t { rows = rows; job = left; pages = bits; device = device_of d disk })
-                    (rows_set p.rows channel given (first_low p channel x))
-                    ∙ ap (λ b. record t {
-                      rows = with_row (rows_of p.rows) channel given;
-                      job = left;
-                      pages = b;
-                      device = device_of d disk;
-                    }) bits_are
-                    ∙ ap (λ o. record t {
-                      rows = with_row (rows_of p.rows) channel given;
-                      job = o;
-                      pages = all_set p.pages old false;
-                      device = device_of d disk;
-                    }) (left_is ∙ ap (job_left serves) none);
-              },
-              record { moments = cleared; durable = λ _. durable },
-            );
-          })
+                  moves = moved;
+                  next = ap (λ (a : StoreState). record a { rows = rows_of (slice_set p.rows channel given) })
+                      (state_left d bare_view serves k refl more left left_is)
+                      ∙ ap (λ (f : ℕ → Bool). record t {
+                        rows = rows_of (slice_set p.rows channel given);
+                        job = left;
+                        frozen = f;
+                        pages = bits;
+                        device = device_of d disk;
+                      }) (frozen_still t.frozen k more (ap freeze_of is))
+                      ∙ ap (λ (rows : Rows).
+                      record t { rows = rows; job = left; pages = bits; device = device_of d disk })
+                      (rows_set p.rows channel given (first_low p channel x))
+                      ∙ ap (λ b. record t {
+                        rows = with_row (rows_of p.rows) channel given;
+                        job = left;
+                        pages = b;
+                        device = device_of d disk;
+                      }) bits_are
+                      ∙ ap (λ o. record t {
+                        rows = with_row (rows_of p.rows) channel given;
+                        job = o;
+                        pages = all_set p.pages old false;
+                        device = device_of d disk;
+                      }) (left_is ∙ ap (job_left serves) none);
+                },
+                record { moments = cleared; durable = λ _. durable },
+              );
+            })
 
 -- whomever it is for
 pub freed_all : {D : Type 0} (d : Ghosts D) (p : StoreView D) (serves : Serves) (old : List ℕ) (erased : ℕ)
@@ -220,10 +220,10 @@ pub freed_all : {D : Type 0} (d : Ghosts D) (p : StoreView D) (serves : Serves) 
       guards = guards_left p.guards serves left;
     }) q
     → TurnsJob d (with_job p (erasing_for serves old erased more)) q
-freed_all d p (whom.Command channel freeze) old erased more w some disk place at at_is touches next last moves durable bits
-    bits_are left left_is alone q won =
-    freed_by d p (whom.Command channel freeze) old erased more w some disk place at at_is touches next last moves durable bits
-    bits_are left left_is (λ row bad. cc bad) q won
+freed_all d p (whom.Command channel freeze) old erased more w some disk place at at_is touches next last moves durable
+    bits bits_are left left_is alone q won =
+    freed_by d p (whom.Command channel freeze) old erased more w some disk place at at_is touches next last moves
+    durable bits bits_are left left_is (λ row bad. cc bad) q won
 freed_all d p (whom.Insert channel) old erased more w some disk place at at_is touches next last moves durable bits
     bits_are left left_is alone q won =
     freed_inserted d p (whom.Insert channel) old erased more w some disk place at at_is touches next last moves durable

@@ -1,5 +1,6 @@
 -- What is known of a job's replacement by which a blob is erased.
-use Rattle.std.proofs.Common.{◌≡◌, ◌≢◌, ℕ, ◌+◌, ◌<◌, Bool, true, false, All, List, [], ◌∷◌, Option, Some, None, refl, sym}
+use Rattle.std.proofs.Common.{◌≡◌, ◌≢◌, ℕ, ◌+◌, ◌<◌, Bool, true, false, All, List, [], ◌∷◌, Option, Some, None, refl}
+use Rattle.std.proofs.Common.{sym}
 use Rattle.std.proofs.Common.{ap, subst, get_or}
 use Rattle.std.proofs.lemmas.Bool.{eq-eqb}
 use Rattle.bit_array.specs.Bits.{is_in}

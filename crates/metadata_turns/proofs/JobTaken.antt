@@ -188,7 +188,8 @@ module _ {D : Type 0} (d : Ghosts D) (p : StoreView D) (channel : ℕ) (posted :
           → IsPrepared p.chains head later (is_some e.rooms.chain) p.pages pages x → (cluster_pages : ℕ)
           → cluster_pages ≡ cluster_pages_of p.super → (job : RunningJob)
           → job_seen job
-          ≡ begun_job (whom.Command channel None) (planned_with x head later (record e { claimed = claimed })) x.old cluster_pages []
+          ≡ begun_job (whom.Command channel None) (planned_with x head later (record e { claimed = claimed }))
+          x.old cluster_pages []
           → Begins s (state_of d (with_begun (record p { pages = pages; clusters = clusters }) channel job))
       job_begins low all e effects pages clusters set x prepared cluster_pages each job seen =
           let one_each = as_many all in

@@ -31,7 +31,8 @@ IsWon (whom.Command channel freeze) p q = q ≡ p
 IsWon (whom.Insert channel) p q = q ≡ let_go_at p channel (Decided Won)
 IsWon whom.Repair p q = q ≡ p
 
--- The store stopped, the blob that the job froze is released, and what waits for it in this channel is logged as failed.
+-- The store stopped, the blob that the job froze is released, and what waits for it in this channel is logged as
+-- failed.
 abbrev pub HasFailed : Option ℕ → Option ℕ → {D : Type 0} → StoreView D → StoreView D → ℕ → Type 0
 HasFailed freeze (Some channel) p q mark = IsGivenUp (stopped_at p freeze) q channel r.Fault mark
 HasFailed freeze None p q mark = q ≡ stopped_at p freeze

@@ -16,7 +16,11 @@ use running_store::{Erasure, Planned, Running, replace};
 
 /// Replaces the head's page, all fresh pages being written: the blob has its new metadata. The command is done, where
 /// this is the commit; or the cluster stands in its slot, or the blob has no mark any more.
-pub(crate) fn replace_head<D: PageDisk>(running: &mut Running<D>, beside: Beside, planned: Planned) -> JobTurn
+pub(crate) fn replace_head<D: PageDisk>(
+    running: &mut Running<D>,
+    beside: Beside,
+    planned: Planned,
+) -> JobTurn
     requires order { InOrder D.PageDisk running.old }
     requires matched { IsMatchedFor beside.serves planned }
     requires follows { MayFollow beside.serves beside.later.items }
@@ -45,7 +49,11 @@ pub(crate) fn replace_head<D: PageDisk>(running: &mut Running<D>, beside: Beside
 }
 
 /// Overwrites the head's page of a blob with zeros: the blob is gone. The command is done, where this is the commit.
-pub(crate) fn remove_head<D: PageDisk>(running: &mut Running<D>, beside: Beside, erasure: Erasure) -> JobTurn
+pub(crate) fn remove_head<D: PageDisk>(
+    running: &mut Running<D>,
+    beside: Beside,
+    erasure: Erasure,
+) -> JobTurn
     requires order { InOrder D.PageDisk running.old }
     requires removed { IsRemovedFor beside.serves erasure }
     requires follows { MayFollow beside.serves beside.later.items }

@@ -24,9 +24,7 @@ use crate::preparing::prepare;
 use blob_meta::Meta;
 use out_of_memory::Memory;
 use page_disk::PageDisk;
-use running_store::{
-    Decision, OpenClaim, Row, Running, Serves, Stage, give_back, give_up,
-};
+use running_store::{Decision, OpenClaim, Row, Running, Serves, Stage, give_back, give_up};
 use std::alloc::Global;
 use volume_model::{Reply, TryCopy};
 

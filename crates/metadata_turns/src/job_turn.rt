@@ -11,9 +11,7 @@ ghost use Rattle.running_store.specs.StoreView.{state_of};
 use crate::head_turns::{remove_head, replace_head};
 use crate::page_turns::{erase, free, write_fresh, zero};
 use page_disk::PageDisk;
-use running_store::{
-    LaidReplacement, Running, RunningJob, Serves, Work, give_up, waiting_for,
-};
+use running_store::{LaidReplacement, Running, RunningJob, Serves, Work, give_up, waiting_for};
 use std::collections::VecDeque;
 use super_block::Super;
 use volume_model::{PlaceList, Reply};
@@ -94,7 +92,8 @@ pub(crate) fn job_turn<D: PageDisk>(running: &mut Running<D>) -> JobTurn
             old,
             later,
         },
-    ) = running.job.take() else {
+    ) = running.job.take()
+    else {
         return JobTurn::Done;
     };
     let beside = Beside {

@@ -4,7 +4,8 @@ use Rattle.std.specs.Ordering.{nat_cmp}
 use Rattle.std.specs.FinSet as set
 use Rattle.std.specs.Prelude.{is_some}
 use Rattle.io_freeze.specs.Guards.{GuardsState, removed, renewed}
-use Rattle.running_store.specs.Blobs.{blobs_behind, numbered_in, Blobs, CanAllBeKept, CanBeKept, HasPlacesFor, WillBeKept}
+use Rattle.running_store.specs.Blobs.{blobs_behind, numbered_in, Blobs, CanAllBeKept, CanBeKept, HasPlacesFor}
+use Rattle.running_store.specs.Blobs.{WillBeKept}
 use Rattle.running_store.specs.Jobs.{to_come}
 use Rattle.running_store.specs.Places.{thawed, with_numbers, CanNumber}
 use Rattle.running_store.specs.declared.job.RunningJob.{RunningJob}

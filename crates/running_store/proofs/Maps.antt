@@ -1,5 +1,6 @@
 -- A finite map with one entry given or gone, as a function.
-use Rattle.std.proofs.Common.{◌≡◌, ℕ, Bool, cond, eqb, List, None, Option, Some, refl, sym, ap, subst, ◌∙◌, arith, inl, inr}
+use Rattle.std.proofs.Common.{◌≡◌, ℕ, Bool, cond, eqb, List, None, Option, Some, refl, sym, ap, subst, ◌∙◌, arith}
+use Rattle.std.proofs.Common.{inl, inr}
 use Rattle.std.specs.Prelude.{◌<◌, IsSome, if◌then◌else◌, slice_set, true, false}
 use Rattle.std.proofs.lemmas.List.{get_or-set_other, get_or-set_same, length-set}
 use Rattle.bit_array.specs.Bits.{is_in}

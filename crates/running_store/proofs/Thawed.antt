@@ -24,7 +24,7 @@ released_is guards (Some head) = fun_ext (λ k.
     set.contains-remove nat_cmp_total guards.frozen head k
     ∙ ap (λ b. not b && set.contains guards.frozen k) (is_key k head)
     ∙ elim (cases_eq k head) as (λ _. (not (k == head) && set.contains guards.frozen k)
-      ≡ (if k == head then false else set.contains guards.frozen k)) [
+    ≡ (if k == head then false else set.contains guards.frozen k)) [
       | inl e ↦ rw (eq-eqb k head e) refl
       | inr ne ↦ rw (ne_eqb k head ne) refl
     ])

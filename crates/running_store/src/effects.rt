@@ -63,12 +63,7 @@ pub fn effects_of<D>(
 }
 
 /// The head, if it gets a generation. (Want of memory too if none is left for it.)
-fn renews_if(
-    alloc: Global,
-    guards: &Guards,
-    head: u32,
-    gets: bool,
-) -> Result<PlaceList, Memory>
+fn renews_if(alloc: Global, guards: &Guards, head: u32, gets: bool) -> Result<PlaceList, Memory>
     ensures are { IfOk result (λ heads. heads ≡ numbered_by gets head) }
     ensures can { IfOk result (CanNumber guards.now) }
 {

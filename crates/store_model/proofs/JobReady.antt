@@ -145,7 +145,7 @@ module _ (known : Known) where
             record {
               named = λ h m there. (steady h m
                   (ap (λ (y : Metas). y h) (sym (steady_resolved p.super (with_replacement p.base x) steady)) ∙ there)
-              ).named;
+                  ).named;
               few = subst (λ (m : Metas). slots_together p.super.md_len m ≤ 2 ^ 24) same one.few;
               lawful = subst (λ (m : Metas). IsLawful p.super.md_len (resolved m)) same one.lawful;
             },

@@ -64,8 +64,8 @@ module _ (known : Known) (unmarked : HasNoMarks known.p.base) where
         })
     one_stored head new zeros steady = (
       λ m is.
-      let one : with_clusters new zeros claimed ≡ m = cc is in
-      subst (IsStoredWell p.super head) one (record { stored = steady.stored; named = steady.named }),
+          let one : with_clusters new zeros claimed ≡ m = cc is in
+          subst (IsStoredWell p.super head) one (record { stored = steady.stored; named = steady.named }),
       tt,
     )
 
@@ -90,10 +90,10 @@ module _ (known : Known) (unmarked : HasNoMarks known.p.base) where
         by : (changes : Changes) → IsJobFor p command changes commit → Stored changes
         by changes (syncs y) = subst Stored (sym y.is) (plain (one_of y.head y.new) refl (λ low. (
           λ m is.
-          let one : y.new ≡ m = cc is in
-          let steady = (sync_ready known unmarked runs command y.head y.new y.live y.asks
-          (bare_at y.head y.new false) refl refl refl).steady in
-          subst (IsStoredWell p.super y.head) one (record { stored = steady.stored; named = steady.named }),
+              let one : y.new ≡ m = cc is in
+              let steady = (sync_ready known unmarked runs command y.head y.new y.live y.asks
+              (bare_at y.head y.new false) refl refl refl).steady in
+              subst (IsStoredWell p.super y.head) one (record { stored = steady.stored; named = steady.named }),
           tt,
         )))
         by changes (creates y) = subst Stored (sym y.is) (λ one_each low.

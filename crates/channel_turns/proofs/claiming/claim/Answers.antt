@@ -106,8 +106,8 @@ pub returns-then-is_frozen-clause-frozen : goal.returns-then-is_frozen-clause-fr
 returns-then-is_frozen-clause-frozen g c said k ks left =
     let d = g.D.PageDisk in
     let p = view_of c.args.running.now in
-    let w = seen_write p c.args.channel Claiming c.requires.waits c.first_of.result.now c.in-Write.volume c.in-Write.page
-    c.in-Write.word
+    let w = seen_write p c.args.channel Claiming c.requires.waits c.first_of.result.now c.in-Write.volume
+    c.in-Write.page c.in-Write.word
     (λ k rest left. c.first_of.ensures k rest
     (ap (λ (l : List Row). (rows_of l c.args.channel).left) c.deref.ensures.value ∙ left)) c.in-Write.is in
     let both = sym (ap (λ (r : Row). r.left) w.row) ∙ left in

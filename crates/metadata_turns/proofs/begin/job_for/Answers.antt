@@ -186,14 +186,16 @@ returns-in-Ok-clause-kept g c =
     let prepared = subst (λ (b : Bool). IsPrepared running.chains c.args.head c.fill_slots.new.new b
     running.pages.bits c.prepare.new.pages.bits c.in-Ok.prepared) c.is_some-makes.ensures c.in-Ok.ensures.prepared in
     let are = c.in_ok-effects.ensures.are in
-    subst (CanAllBeKept (blobs_of running)) (sym c.job.ensures.coming)
-    (job_kept g.D.PageDisk (view_of running) c.args.channel c.requires.posted c.requires.running
-    c.requires.unmarked c.requires.runs c.args.head c.args.new c.args.zeros.now c.requires.asks
-    c.in_ok-effects-2.field-0 c.in_ok-effects-2.ensures.claimed
-    c.fill_slots.new.new c.in_ok-effects-2.ensures.filled
-    (ap (λ o. option_map job_seen o) c.requires.no_job) all c.in_ok-effects.effects are.shows
-    (was_there (is_some c.in_ok-effects.effects.rooms.chain) _ are.makes) c.in_ok-effects.ensures.places
-    c.prepare.new.pages.bits c.in-Ok.prepared prepared c.requires.order.resolves, tt)
+    subst (CanAllBeKept (blobs_of running)) (sym c.job.ensures.coming) (
+      job_kept g.D.PageDisk (view_of running) c.args.channel c.requires.posted c.requires.running
+          c.requires.unmarked c.requires.runs c.args.head c.args.new c.args.zeros.now c.requires.asks
+          c.in_ok-effects-2.field-0 c.in_ok-effects-2.ensures.claimed
+          c.fill_slots.new.new c.in_ok-effects-2.ensures.filled
+          (ap (λ o. option_map job_seen o) c.requires.no_job) all c.in_ok-effects.effects are.shows
+          (was_there (is_some c.in_ok-effects.effects.rooms.chain) _ are.makes) c.in_ok-effects.ensures.places
+          c.prepare.new.pages.bits c.in-Ok.prepared prepared c.requires.order.resolves,
+      tt,
+    )
 
 pub returns-in-Err-clause-lack : goal.returns-in-Err-clause-lack
 returns-in-Err-clause-lack g c =

@@ -95,10 +95,12 @@ returns-in-Ok-clause-order g c =
     let chain : IsSome (map.get now.chains claim.head) = ap is_some (has_chain (state_of g.D.PageDisk p)
     c.requires.running c.requires.runs c.args.channel claim c.requires.claimed c.requires.fills.0 c.requires.fills.1
     c.requires.unmarked).1 in
-    let kept = subst (CanAllBeKept (blobs_of now)) (sym c.alone-job.ensures.coming)
-    (kept_unmarked (blobs_of now) (planned_with c.in-Ok.prepared claim.head c.args.new no_effects)
-    c.requires.order.resolves c.requires.unmarked unmarked refl
-    (places_there (blobs_of now) claim.head c.args.new unmarked chain there), tt) in
+    let kept = subst (CanAllBeKept (blobs_of now)) (sym c.alone-job.ensures.coming) (
+      kept_unmarked (blobs_of now) (planned_with c.in-Ok.prepared claim.head c.args.new no_effects)
+          c.requires.order.resolves c.requires.unmarked unmarked refl
+          (places_there (blobs_of now) claim.head c.args.new unmarked chain there),
+      tt,
+    ) in
     let low : c.args.channel < length p.rows = omega (arith, c.requires.channel, c.requires.order.sixteen) in
     let same : left_in (slice_set p.rows c.args.channel c.serve.new.self) ≡ left_in p.rows =
     left_same p.rows c.args.channel c.serve.new.self c.index_mut.result.now low

@@ -55,7 +55,8 @@ returns-then-is_err-clause-case g c =
     failed_putting d p now c.requires.at_work disk
     (on_err c.write_last.result _ (sym c.is_err.ensures.value ∙ c.if-is_err.true) c.write_last.ensures.fails)
     (view_of c.fail_job.new.running)
-    (subst (λ o. HasFailed now.freeze o (view_of (record c.args.running.now { disk = disk })) (view_of c.fail_job.new.running)
+    (subst (λ o. HasFailed now.freeze o (view_of (record c.args.running.now { disk = disk }))
+    (view_of c.fail_job.new.running)
     (d.clock disk)) c.requires.waits c.fail_job.ensures.failed)
     (Frees place old) more
     (last_left d p c.args.beside.serves old c.args.erased more c.requires.at_work some place next c.requires.last)

@@ -60,7 +60,8 @@ returns-then-is_err-clause-case g c =
     failed_putting d p now c.requires.at_work disk
     (on_err c.write_one.result _ (sym c.is_err.ensures.value ∙ c.if-is_err.true) c.write_one.ensures.fails)
     (view_of c.fail_job.new.running)
-    (subst (λ o. HasFailed now.freeze o (view_of (record c.args.running.now { disk = disk })) (view_of c.fail_job.new.running)
+    (subst (λ o. HasFailed now.freeze o (view_of (record c.args.running.now { disk = disk }))
+    (view_of c.fail_job.new.running)
     (d.clock disk)) c.requires.waits c.fail_job.ensures.failed)
     (Writes x.place)
     (others d p c.args.beside.serves c.args.planned c.args.beside.old c.args.written more c.requires.at_work disk x

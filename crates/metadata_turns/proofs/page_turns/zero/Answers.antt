@@ -31,7 +31,8 @@ fail_job-requires-clause-row g c =
 pub returns-then-is_err-clause-case : goal.returns-then-is_err-clause-case
 returns-then-is_err-clause-case g c =
     failed_zeroing g.D.PageDisk (view_of c.args.running.now) c.args.beside.serves c.args.planned
-    c.args.beside.old c.args.zeroed (phases_in c.args.beside.later.items) c.requires.at_work c.requires.zeroed c.write_one.new.disk
+    c.args.beside.old c.args.zeroed (phases_in c.args.beside.later.items) c.requires.at_work c.requires.zeroed
+    c.write_one.new.disk
     c.next_page-page.result c.next_page-page.ensures
     (subst (λ page. CallsLeaveOnly g.D.PageDisk c.args.running.now.disk c.write_one.new.disk
     (Written (g.D.PageDisk.images c.args.running.now.disk) c.next_page-page.result Plain page)) zeros
@@ -45,7 +46,8 @@ returns-then-is_err-clause-case g c =
 pub returns-clause-case : goal.returns-clause-case
 returns-clause-case g c =
     zeroed_one g.D.PageDisk (view_of c.args.running.now) c.args.beside.serves c.args.planned
-    c.args.beside.old c.args.zeroed (phases_in c.args.beside.later.items) c.requires.at_work c.requires.zeroed c.write_one.new.disk
+    c.args.beside.old c.args.zeroed (phases_in c.args.beside.later.items) c.requires.at_work c.requires.zeroed
+    c.write_one.new.disk
     c.next_page-page.result c.next_page-page.ensures
     (subst (λ page. CallsLeaveOnly g.D.PageDisk c.args.running.now.disk c.write_one.new.disk
     (Written (g.D.PageDisk.images c.args.running.now.disk) c.next_page-page.result Plain page)) zeros

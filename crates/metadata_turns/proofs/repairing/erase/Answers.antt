@@ -40,7 +40,7 @@ returns-clause-begins g c =
     c.requires.order.resolves c.requires.removed c.in-Some.meta.now at in
     subst (λ (l : List LaidReplacement). BeginsRepair (state_of g.D.PageDisk p) (state_of g.D.PageDisk (record p {
       job = Some (removing_for whom.Repair (record { head = c.args.head; commit = None; freed = c.in_ok-freed.freed })
-      c.in_ok-old.old (phases_in l));
+          c.in_ok-old.old (phases_in l));
     }))) (sym c.new.ensures.items)
     (removes g.D.PageDisk p c.requires.running c.requires.runs no_job c.args.head c.requires.due
     c.requires.order.resolves c.requires.removed c.in-Some.meta.now at c.in_ok-beside.beside
@@ -55,7 +55,9 @@ returns-clause-kept g c =
     sym c.base_at.ensures ∙ ap option_copied c.in-Some.is in
     subst (λ (l : List LaidReplacement). CanAllBeKept (blobs_of now)
     (erases_laid (record { head = c.args.head; commit = None; freed = c.in_ok-freed.freed }) c.in_ok-old.old ∷ l))
-    (sym c.new.ensures.items)
-    (removes_to g.D.PageDisk p c.requires.running c.requires.runs (ap (λ o. option_map job_seen o) c.requires.no_job)
-    c.args.head c.requires.due c.requires.order.resolves c.requires.removed c.in-Some.meta.now at
-    c.in_ok-freed.freed, tt)
+    (sym c.new.ensures.items) (
+      removes_to g.D.PageDisk p c.requires.running c.requires.runs (ap (λ o. option_map job_seen o) c.requires.no_job)
+          c.args.head c.requires.due c.requires.order.resolves c.requires.removed c.in-Some.meta.now at
+          c.in_ok-freed.freed,
+      tt,
+    )

@@ -78,7 +78,9 @@ pub returns-in-Ok-clause-kept : goal.returns-in-Ok-clause-kept
 returns-in-Ok-clause-kept g c =
     let now = c.args.running.now in
     let p = view_of now in
-    subst (CanAllBeKept (blobs_of now)) (sym c.alone.ensures.coming)
-    (mends_to g.D.PageDisk p c.requires.running c.requires.runs (ap (λ o. option_map job_seen o) c.requires.no_job)
-    c.args.head c.requires.due c.requires.order.resolves c.args.new c.requires.kept c.prepare.new.pages.bits
-    c.in-Ok.prepared c.in-Ok.ensures.prepared, tt)
+    subst (CanAllBeKept (blobs_of now)) (sym c.alone.ensures.coming) (
+      mends_to g.D.PageDisk p c.requires.running c.requires.runs (ap (λ o. option_map job_seen o) c.requires.no_job)
+          c.args.head c.requires.due c.requires.order.resolves c.args.new c.requires.kept c.prepare.new.pages.bits
+          c.in-Ok.prepared c.in-Ok.ensures.prepared,
+      tt,
+    )
