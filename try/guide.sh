@@ -4,7 +4,8 @@
 set -euo pipefail
 cd "$(dirname "$0")/.."
 work=$(mktemp -d)
-trap 'rm -rf "$work" "${image:-}"' EXIT
+image=
+trap 'rm -rf "$work" "$image"' EXIT
 mkdir "$work/cases"
 crate=
 differs=0

@@ -59,6 +59,5 @@ returns-clause-order g c =
             c.requires.recovered c.with_blobs-pages.result c.with_blobs-pages.ensures;
       };
       resolves = resolved_at_start l c.requires.recovered;
-      will_resolve = tt;
-      roomy = tt;
+      kept = tt;
     }
