@@ -48,7 +48,7 @@ class Picture:
 COLUMNS_WIDE, COLUMN, ROW, LEFT, TOP = 6, 150, 70, 170, 20
 # name: first column, last column, row; a crate stands on crates of lower rows alone
 CRATES = {
-    "blobtool": (1, 6, 0), "blob_tool": (1, 6, 1), "channels": (3, 5, 2),
+    "blobtool": (1, 6, 0), "blob_tool": (1, 6, 1), "command_words": (3, 3, 2), "channels": (4, 5, 2),
     "script_lang": (1, 1, 3), "md_thread": (3, 4, 3), "streams": (6, 6, 3),
     "lvol_store": (3, 3, 4), "thin_write": (5, 5, 4), "store_format": (1, 1, 4),
     "unclean_load": (2, 2, 5), "data_path": (5, 5, 5), "blob_report": (6, 6, 5),
@@ -67,7 +67,7 @@ BANDS = [
     (10, 14, "metadata and|places"), (15, 15, "volumes, fields,|sets"), (16, 17, "the device and|the bottom"),
 ]
 STEPS = [
-    "1  main opens the image, and hands over words, source, sink and device",
+    "1  main opens the image that the words name, and hands over words, source, sink and device",
     "2  the source is read to its end, and the text becomes each channel's commands",
     "3  the store of the image is loaded: super block, heads, chains; the device is only read; then it is repaired",
     "4  channels and the metadata thread take turns; a put, sync, create or resize is planned from what the store shows",
