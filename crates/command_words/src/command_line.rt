@@ -43,8 +43,9 @@ fn run_line<'a>(alloc: Global) -> Result<Command<'a>, AllocError>
             alloc,
             "schedule",
             "LIST",
-            "The first steps, by who makes them: channels 0 to 15 and m, the metadata thread, as in{n}\
-             0*2,1+m*200; at most 65536 steps [default: none, all take turns]",
+            "The first steps, by who makes them: channels 0 to 15, and m for the{n}\
+             metadata thread, as in 0*2,1+m*200; then all take turns. At most{n}\
+             65536 steps [default: none]",
         ))
 }
 
@@ -59,19 +60,19 @@ fn format_line<'a>(alloc: Global) -> Result<Command<'a>, AllocError>
         .arg(placed(
             alloc,
             "IMAGE",
-            "The file that is to have the store; its size is that of the store",
+            "The file that is to have the store, which gets the size of the file",
         ))?
         .arg(option(
             alloc,
             "cluster",
             "BYTES",
-            "Bytes of a cluster: a multiple of 4096, from 4096 to 4294963200 [default: 1048576]",
+            "Bytes of a cluster: 4096 or a multiple, up to 4294963200 [default: 1048576]",
         ))?
         .arg(option(
             alloc,
             "md-pages",
             "N",
-            "Metadata pages, of 4096 bytes each: 1 to 1048576 [default: as many as clusters]",
+            "Metadata pages of 4096 bytes: 1 to 1048576 [default: as many as clusters]",
         ))
 }
 
@@ -103,8 +104,8 @@ fn generate_line<'a>(alloc: Global) -> Result<Command<'a>, AllocError>
 }
 
 /// The command without its subcommands.
-fn without_commands<'a>(alloc: Global) -> Command<'a>
-    ensures { app_of result ≡ said.without_commands }
+fn without_commands<'a>(alloc: Global) -> Result<Command<'a>, AllocError>
+    ensures { IfOk result (λ c. app_of c ≡ said.without_commands) }
 {
     Command::new(alloc, "blobtool")
         .about(
@@ -118,13 +119,14 @@ fn without_commands<'a>(alloc: Global) -> Command<'a>
         .no_binary_name(true)
         .arg_required_else_help(true)
         .subcommand_required(true)
+        .bin_name("blobtool")
 }
 
 /// The program's command line, for the words behind the program's name.
 pub fn command_line<'a>(alloc: Global) -> Result<Command<'a>, AllocError>
     ensures { IfOk result (λ c. app_of c ≡ said.command_line) }
 {
-    without_commands(alloc)
+    without_commands(alloc)?
         .subcommand(run_line(alloc)?)?
         .subcommand(format_line(alloc)?)?
         .subcommand(list_line(alloc)?)?

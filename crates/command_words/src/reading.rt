@@ -1,6 +1,6 @@
 //! The words are read.
 
-ghost use Rattle.std.specs.Prelude.{◌≡◌, IfOk, IfErr, [], option_map};
+ghost use Rattle.std.specs.Prelude.{◌≡◌, ◌↔◌, IfOk, IfErr, IsSome, [], option_map};
 ghost use Rattle.std.specs.Option.{option_copied};
 ghost use Rattle.clap.specs.Kinds.{IsAmong};
 ghost use Rattle.clap.specs.Matches.{found_of};
@@ -125,7 +125,8 @@ pub fn read_words<'a>(
     alloc: Global,
     words: &'a [String],
 ) -> Result<Option<CommandWords<'a>>, Memory>
-    ensures { IfOk result (λ command. option_map as_read command ≡ asked_in words.now) }
+    ensures command { IfOk result (λ command. option_map as_read command ≡ asked_in words.now) }
+    ensures taken { IfOk result (λ command. IsSome command ↔ (refusal_of words.now ≡ [])) }
 {
     let Ok(matches) = parse(alloc, words)? else {
         return Ok(None);

@@ -13,7 +13,7 @@ returns c =
     (c.in_ok-subcommand-2.ensures.shape c.in_ok-format_line.ensures.local
     ∙ ap₂ with_subcommand
     (c.in_ok-subcommand.ensures.shape c.in_ok-run_line.ensures.local
-    ∙ ap₂ with_subcommand c.without_commands.ensures c.in_ok-run_line.ensures.shape)
+    ∙ ap₂ with_subcommand c.in_ok-without_commands.ensures c.in_ok-run_line.ensures.shape)
     c.in_ok-format_line.ensures.shape)
     c.in_ok-list_line.ensures.shape)
     c.in_ok-generate_line.ensures.shape)
