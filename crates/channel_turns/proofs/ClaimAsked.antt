@@ -36,7 +36,8 @@ use Rattle.running_store.specs.Steps.{logged_on, OnlyRow, with_row_at}
 use Rattle.running_store.proofs.Entered.{disk_same_then, entered_then}
 use Rattle.store_model.proofs.Resolved.{resolved_of}
 use Rattle.running_store.proofs.Rowing.{only_row, rows_set, state_with_row}
-use Rattle.channel_turns.proofs.WriteMeant.{free, has_empty, has_place, HasEmpty, HasPlace, means_at, page_cause, place_by}
+use Rattle.channel_turns.proofs.WriteMeant.{free, has_empty, has_place, HasEmpty, HasPlace, means_at, page_cause}
+use Rattle.channel_turns.proofs.WriteMeant.{place_by}
 use Rattle.channel_turns.proofs.WriteMeant.{refused_so, slot_low, unfilled}
 
 module _ {D : Type 0} (d : Ghosts D) (p : StoreView D) (channel : ℕ) (running : IsRunning (state_of d p))

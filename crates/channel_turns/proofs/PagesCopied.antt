@@ -34,11 +34,6 @@ use Rattle.channel_turns.proofs.ReadAsked.{content_seen}
 use Rattle.running_store.proofs.Rowing.{state_with_row}
 use Rattle.channel_turns.proofs.Written.{blank}
 
--- the stage of a row that has some pages left
-pub some_left : (left : ℕ) → left ≢ 0 → Copying left ≡ stage_left left
-some_left zero some = absurd (some refl)
-some_left (suc n) some = refl
-
 -- ---- the copy itself
 
 module _ {D : Type 0} (d : Ghosts D) (p : StoreView D) (channel : ℕ) (from : Option ℕ) (to left : ℕ)

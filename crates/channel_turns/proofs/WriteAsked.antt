@@ -29,7 +29,8 @@ use Rattle.running_store.specs.Steps.{logged_on, with_row_at}
 use Rattle.running_store.proofs.Entered.{disk_same_then, entered_then}
 use Rattle.channel_turns.proofs.PagesShown.{page_low, writable}
 use Rattle.running_store.proofs.Rowing.{state_with_row}
-use Rattle.channel_turns.proofs.WriteMeant.{free, has_place, HasPlace, head_is, means_none, page_cause, place_by, refused_so}
+use Rattle.channel_turns.proofs.WriteMeant.{free, has_place, HasPlace, head_is, means_none, page_cause, place_by}
+use Rattle.channel_turns.proofs.WriteMeant.{refused_so}
 
 module _ {D : Type 0} (d : Ghosts D) (p : StoreView D) (channel : ℕ) (running : IsRunning (state_of d p))
     (runs : p.stopped ≡ None) (are : AreResolved p.metas p.marked) (w : WaitsToWrite p channel Idle) (head : Option ℕ)

@@ -26,7 +26,8 @@ IsSnapshot _ = ⊥
 module _ (metas : map.FinMap nat_cmp Meta) (sup : Super) where
   -- A copy of the blob that is meant, made at a head, with the attributes that a new volume has beside all volumes that
   -- show the metadata.
-  pub record CopiesMeant (job_of : ℕ → Meta → ℕ → Xattrs → Job) (head : ℕ) (volume : VolumeRef) (name : Text) (job : Job)
+  pub record CopiesMeant (job_of : ℕ → Meta → ℕ → Xattrs → Job) (head : ℕ) (volume : VolumeRef) (name : Text)
+      (job : Job)
       : Type 0 where
     pub of : ℕ
     pub old : Meta

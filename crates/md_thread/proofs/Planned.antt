@@ -1,15 +1,13 @@
--- What a store is as a plan finds it, and what a planned job is for its command.
+-- What a store is as a plan finds it, and which commands have no plan.
 use Rattle.std.proofs.Common.{◌≡◌, ℕ, Bool, List, Option, refl, inl, inr}
 use Rattle.page_disk.specs.declared.disk.PageDisk.{Ghosts}
 use Rattle.volume_model.specs.Xattrs.{Text}
 use Rattle.volume_model.specs.declared.command.VolumeRef.{VolumeRef}
 use Rattle.volume_model.specs.declared.command.Command.{Command}
 use Rattle.volume_model.specs.declared.command.Command.TheVariants as c
-use Rattle.blob_meta.specs.declared.job.Job.{Job}
 use Rattle.metadata_turns.specs.Answering.{IsAnswerable}
-use Rattle.metadata_turns.specs.Begins.{IsJobOf, ReplacesOne}
 use Rattle.running_store.specs.StoreInvariant.{IsRunning, StoreInvariant}
-use Rattle.running_store.specs.StoreView.{StoreView, WithOpening, state_of}
+use Rattle.running_store.specs.StoreView.{WithOpening, state_of}
 use Rattle.md_thread.specs.Served.{IsServedByMetadata}
 
 -- a store has what every state of a run has
@@ -24,18 +22,6 @@ is_running d b kept =
       facts = kept.facts;
     }
 
--- what a job is for the command that it was planned for
-abbrev pub IsFor : {D : Type 0} → Ghosts D → StoreView D → Command → Job → Type 0
-IsFor d p command job = ReplacesOne job × IsJobOf (state_of d p) command job
-
--- what a command asks for is one replacement
-pub is_for : {D : Type 0} (d : Ghosts D) (p : StoreView D) (command : Command) (job : Job)
-    → IsJobOf (state_of d p) command job → IsFor d p command job
-is_for d p command job asks = (
-  record { head = asks.head; new = asks.new; zeros = asks.zeros; is = asks.is },
-  asks,
-)
-
 -- what is served without a job is answered in memory
 pub answerable : (command : Command) → IsServedByMetadata command
     → ((name : Text) (slots : ℕ) (thick : Bool) (uuid : Option (List ℕ)) → command ≡ c.Create name slots thick uuid → ⊥)
@@ -44,20 +30,30 @@ pub answerable : (command : Command) → IsServedByMetadata command
     → ((volume : VolumeRef) → command ≡ c.ReadOnly volume → ⊥)
     → ((volume : VolumeRef) (slots : ℕ) → command ≡ c.Resize volume slots → ⊥)
     → ((volume : VolumeRef) (name : Text) → command ≡ c.Clone volume name → ⊥)
-    → ((volume : VolumeRef) (name : Text) → command ≡ c.Rename volume name → ⊥) → IsAnswerable command
-answerable (c.SetX volume key value) is create put sync read_only resize clone rename = inl (tt, tt)
-answerable (c.DelX volume key) is create put sync read_only resize clone rename = inl (tt, tt)
-answerable (c.GetX volume key) is create put sync read_only resize clone rename = inl (tt, tt)
-answerable (c.Info volume) is create put sync read_only resize clone rename = inr tt
-answerable c.List is create put sync read_only resize clone rename = inr tt
-answerable c.Df is create put sync read_only resize clone rename = inr tt
-answerable (c.Create name slots thick uuid) is create put sync read_only resize clone rename =
+    → ((volume : VolumeRef) (name : Text) → command ≡ c.Rename volume name → ⊥)
+    → ((volume : VolumeRef) (name : Text) → command ≡ c.Snapshot volume name → ⊥)
+    → ((volume : VolumeRef) → command ≡ c.Delete volume → ⊥) → IsAnswerable command
+answerable (c.SetX volume key value) is create put sync read_only resize clone rename snapshot delete = inl (tt, tt)
+answerable (c.DelX volume key) is create put sync read_only resize clone rename snapshot delete = inl (tt, tt)
+answerable (c.GetX volume key) is create put sync read_only resize clone rename snapshot delete = inl (tt, tt)
+answerable (c.Info volume) is create put sync read_only resize clone rename snapshot delete = inr tt
+answerable c.List is create put sync read_only resize clone rename snapshot delete = inr tt
+answerable c.Df is create put sync read_only resize clone rename snapshot delete = inr tt
+answerable (c.Create name slots thick uuid) is create put sync read_only resize clone rename snapshot delete =
     absurd (create name slots thick uuid refl)
-answerable (c.Put volume key value) is create put sync read_only resize clone rename =
+answerable (c.Put volume key value) is create put sync read_only resize clone rename snapshot delete =
     absurd (put volume key value refl)
-answerable (c.Sync volume) is create put sync read_only resize clone rename = absurd (sync volume refl)
-answerable (c.ReadOnly volume) is create put sync read_only resize clone rename = absurd (read_only volume refl)
-answerable (c.Resize volume slots) is create put sync read_only resize clone rename = absurd (resize volume slots refl)
-answerable (c.Clone volume name) is create put sync read_only resize clone rename = absurd (clone volume name refl)
-answerable (c.Rename volume name) is create put sync read_only resize clone rename = absurd (rename volume name refl)
-answerable _ is create put sync read_only resize clone rename = absurd is
+answerable (c.Sync volume) is create put sync read_only resize clone rename snapshot delete = absurd (sync volume refl)
+answerable (c.ReadOnly volume) is create put sync read_only resize clone rename snapshot delete =
+    absurd (read_only volume refl)
+answerable (c.Resize volume slots) is create put sync read_only resize clone rename snapshot delete =
+    absurd (resize volume slots refl)
+answerable (c.Clone volume name) is create put sync read_only resize clone rename snapshot delete =
+    absurd (clone volume name refl)
+answerable (c.Rename volume name) is create put sync read_only resize clone rename snapshot delete =
+    absurd (rename volume name refl)
+answerable (c.Snapshot volume name) is create put sync read_only resize clone rename snapshot delete =
+    absurd (snapshot volume name refl)
+answerable (c.Delete volume) is create put sync read_only resize clone rename snapshot delete =
+    absurd (delete volume refl)
+answerable _ is create put sync read_only resize clone rename snapshot delete = absurd is

@@ -27,23 +27,13 @@ use Rattle.store_model.specs.StoreState.{StoreState, shown}
 use Rattle.store_model.specs.Asking.{AsksFor, IsSyncing, syncs}
 use Rattle.store_model.specs.Cases.{IsRefusedBy}
 use Rattle.metadata_turns.specs.Answering.{IsFound}
-use Rattle.metadata_turns.specs.Begins.{AsksToWrite}
+use Rattle.metadata_turns.specs.Begins.{IsJobOf}
 use Rattle.running_store.specs.StoreInvariant.{IsRunning}
 use Rattle.store_core.specs.Planning.{HasBlob, PlanLaws}
 use Rattle.blob_meta.specs.Repairs.{HasNoMarks}
 use Rattle.running_store.specs.StoreView.{base_of, AreResolved, StoreView, state_of}
 use Rattle.md_thread.specs.Tasks.{IsPlanOf}
-use Rattle.md_thread.proofs.Planned.{IsFor}
-
--- what a verb that syncs asks for is to be written
-to_write : (p : StoreState) (command : Command) (head : ℕ) (new : Meta) (live : Xattrs)
-    → AsksFor p command head new live → AsksToWrite p command head new []
-to_write p command head new live asks =
-    record {
-      commit = record { reply = r.Ok; live = Some live; renews = [] };
-      asked = syncs (record { head = head; new = new; live = live; is = refl; asks = asks; commit_is = refl });
-      next = λ none. let e : None ≡ Some asks.old = sym none ∙ asks.there in absurd (cc e);
-    }
+use Rattle.store_core.proofs.NextHead.{next_there}
 
 -- a test has one least head that passes
 same_least : (test : ℕ → Bool) (h k : ℕ) → IsLeast test h → IsLeast test k → h ≡ k
@@ -77,24 +67,33 @@ module _ {D : Type 0} (d : Ghosts D) (laws : PlanLaws d) (p : StoreView D) (runn
       (job : Job) → (found : IsFound p.metas p.super p.live command head (Some live)) → found.volume ≡ volume
       → Remakes p.metas p.super volume made job
       → ((at : ℕ) (old : Meta) → HasBlob p at old live → IsHeadMeant p.metas p.super volume (Some at)
-      → AsksFor (state_of d p) command at (made old) later) → IsFor d p command job
+      → AsksFor (state_of d p) command at (made old) later) → IsJobOf (state_of d p) command job
   remade command volume head live later made job found asked plan asks =
-      let at = at_plan head live plan.head plan.old found asked plan.meant plan.there in (
-        record { head = plan.head; new = made plan.old; zeros = []; is = plan.job_is },
-        record {
+      let at = at_plan head live plan.head plan.old found asked plan.meant plan.there in
+      let it = asks plan.head plan.old at.0 at.1 in
+      record {
+        commit = record {
+          reply = r.Ok;
+          live = Some (record { head = plan.head; xattrs = Some later });
+          renews = [];
+        };
+        asked = syncs (record {
           head = plan.head;
           new = made plan.old;
-          zeros = [];
+          live = later;
           is = plan.job_is;
-          asks = to_write (state_of d p) command plan.head _ later (asks plan.head plan.old at.0 at.1);
-        },
-      )
+          asks = it;
+          commit_is = refl;
+        });
+        next = next_there (state_of d p) job.list (record { head = plan.head; new = Some (made plan.old) }) []
+            (ap (λ (j : Job). j.list) plan.job_is) it.old it.there;
+      }
 
   -- the job that is planned for a put is what the put asks for
   put_job : (volume : VolumeRef) (key value : Text) (head : Option ℕ) (o : Option Xattrs) (job : Job)
       → IsFound p.metas p.super p.live (c.Put volume key value) head o
       → PlansPut p.metas p.super o (c.Put volume key value) job
-      → IsFirstCause p.metas p.super o (c.Put volume key value) None → IsFor d p (c.Put volume key value) job
+      → IsFirstCause p.metas p.super o (c.Put volume key value) None → IsJobOf (state_of d p) (c.Put volume key value) job
   put_job volume key value head (Some live) job found plan cause =
       remade (c.Put volume key value) volume head live (with_value live key value)
       (λ old. record old { xattrs = with_value live key value }) job found (let e = found.asked in cc e) plan
@@ -104,7 +103,7 @@ module _ {D : Type 0} (d : Ghosts D) (laws : PlanLaws d) (p : StoreView D) (runn
   -- the job that is planned for a sync is what the sync asks for
   sync_job : (volume : VolumeRef) (head : Option ℕ) (o : Option Xattrs) (job : Job)
       → IsFound p.metas p.super p.live (c.Sync volume) head o → PlansSync p.metas p.super o (c.Sync volume) job
-      → IsFirstCause p.metas p.super o (c.Sync volume) None → IsFor d p (c.Sync volume) job
+      → IsFirstCause p.metas p.super o (c.Sync volume) None → IsJobOf (state_of d p) (c.Sync volume) job
   sync_job volume head (Some live) job found plan cause =
       remade (c.Sync volume) volume head live live (λ old. record old { xattrs = live }) job found
       (let e = found.asked in cc e) plan
@@ -115,7 +114,7 @@ module _ {D : Type 0} (d : Ghosts D) (laws : PlanLaws d) (p : StoreView D) (runn
   read_only_job : (volume : VolumeRef) (head : Option ℕ) (o : Option Xattrs) (job : Job)
       → IsFound p.metas p.super p.live (c.ReadOnly volume) head o
       → PlansReadOnly p.metas p.super o (c.ReadOnly volume) job
-      → IsFirstCause p.metas p.super o (c.ReadOnly volume) None → IsFor d p (c.ReadOnly volume) job
+      → IsFirstCause p.metas p.super o (c.ReadOnly volume) None → IsJobOf (state_of d p) (c.ReadOnly volume) job
   read_only_job volume head (Some live) job found plan cause =
       remade (c.ReadOnly volume) volume head live live
       (λ old. record old { xattrs = live; flags = read_only old.flags }) job found
@@ -153,7 +152,7 @@ module _ {D : Type 0} (d : Ghosts D) (laws : PlanLaws d) (p : StoreView D) (runn
   -- what is planned for a verb that syncs: its job, or the refusal
   planned_at : (command : Command) (head : Option ℕ) (o : Option Xattrs) (Plans : Job → Type 0) → IsSyncing command
       → IsFound p.metas p.super p.live command head o → (planned : Result Job Reply)
-      → ((job : Job) → Plans job → IsFirstCause p.metas p.super o command None → IsFor d p command job)
+      → ((job : Job) → Plans job → IsFirstCause p.metas p.super o command None → IsJobOf (state_of d p) command job)
       → IfOk planned Plans → IfOk planned (λ job. IsFirstCause p.metas p.super o command None)
       → IfErr planned (RefusesPlan p.metas p.super o command) → IsPlanOf d p command (Some planned)
   planned_at command head o Plans syncing found (Ok job) is_for plan cause refuses = is_for job plan cause
@@ -180,7 +179,7 @@ module _ {D : Type 0} (d : Ghosts D) (laws : PlanLaws d) (p : StoreView D) (runn
         → (command verb : Command) → command ≡ verb → IsSyncing verb → (head : Option ℕ)
         → IsFound p.metas p.super p.live command head o
         → ((job : Job) → IsFound p.metas p.super p.live verb head o → Plans p.metas p.super o verb job
-        → IsFirstCause p.metas p.super o verb None → IsFor d p verb job)
+        → IsFirstCause p.metas p.super o verb None → IsJobOf (state_of d p) verb job)
         → (planned : Result Job Reply) → IfOk planned (Plans metas sup o command)
         → IfOk planned (λ job. IsFirstCause metas sup o command None)
         → IfErr planned (RefusesPlan metas sup o command) → IsPlanOf d p command (Some planned)

@@ -1,4 +1,4 @@
--- What is planned for a create, a resize, a clone or a rename is what the command asks for.
+-- What is planned for a create, a resize, a copy, a delete or a rename is what the command asks for.
 use Rattle.std.proofs.Common.{◌≡◌, ℕ, Bool, List, Option, Some, None, Result, Ok, Err}
 use Rattle.std.proofs.Common.{sym, subst, inl, inr}
 use Rattle.std.specs.Prelude.{IfOk, IfErr}
@@ -22,8 +22,9 @@ use Rattle.blob_meta.specs.declared.job.Job.{Job}
 use Rattle.blob_meta.specs.Find.{is_meant, IsLeast}
 use Rattle.blob_meta.specs.ShownBy.{IsFirstRefusal, IsHeadMeant, ShowsMetas}
 use Rattle.blob_meta.specs.Jobs.{create_job, job_of_one, resize_job}
-use Rattle.snapshots.specs.SnapshotJobs.{clone_job}
-use Rattle.lvol_store.specs.CopyPlans.{Clones, ClonesAsAsked}
+use Rattle.inflate_delete.specs.DeletePlans.{IsDeleteJob}
+use Rattle.lvol_store.specs.CopyPlans.{CopiesMeant}
+use Rattle.lvol_store.specs.DeletePlans.{DeletesAsAsked}
 use Rattle.lvol_store.specs.RenamePlans.{renamed, PlansRename, Renames}
 use Rattle.lvol_store.specs.SlotPlans.{Creates, PlansCreate, PlansResize, RefusesFirst, Resizes}
 use Rattle.store_model.specs.Shown.{fixed_of}
@@ -33,7 +34,6 @@ use Rattle.metadata_turns.specs.Begins.{IsJobOf}
 use Rattle.running_store.specs.LoadedWhole.{IsNextHead}
 use Rattle.running_store.specs.StoreView.{StoreView, state_of}
 use Rattle.md_thread.specs.Tasks.{IsPlanOf}
-use Rattle.md_thread.proofs.Planned.{is_for}
 
 module _ {D : Type 0} (d : Ghosts D) (p : StoreView D) where
   by_first : (command : Command) (reply : Reply) → IsCauseOfRefusal reply
@@ -77,9 +77,8 @@ module _ {D : Type 0} (d : Ghosts D) (p : StoreView D) where
         → IfOk planned (λ job. IsFirstRefusal metas sup command None) → IfErr planned (RefusesFirst metas sup command)
         → IsPlanOf d p command (Some planned)
     by_plan command may Plans asks (Ok job) plan first refuses =
-        is_for d p command job
-        (asks job (given (λ metas sup. Plans metas sup job) plan)
-        (given (λ metas sup. IsFirstRefusal metas sup command None) first))
+        asks job (given (λ metas sup. Plans metas sup job) plan)
+        (given (λ metas sup. IsFirstRefusal metas sup command None) first)
     by_plan command may Plans asks (Err reply) plan first refuses =
         refused_first command reply shows may (given (λ metas sup. RefusesFirst metas sup command reply) refuses)
 
@@ -137,32 +136,48 @@ module _ {D : Type 0} (d : Ghosts D) (p : StoreView D) where
           (by_plan (c.Resize volume slots) tt (λ metas sup. PlansResize metas sup (c.Resize volume slots))
           (resize_asks volume slots))
 
-    module _ (made : (volume : VolumeRef) (name : Text) (parent : ℕ) (old : Meta) (head : ℕ) (xattrs : Xattrs)
-        → IsName name → IsHeadMeant p.metas p.super volume (Some parent) → map.get p.metas parent ≡ Some old
-        → IsNextHead p.super.md_len p.pages head → IsFirstRefusal p.metas p.super (c.Clone volume name) None
+    -- a copy of the blob that is meant, at the head that is next
+    module _ (copies : VolumeRef → Text → Command) (job_of : ℕ → Meta → ℕ → Xattrs → Job)
+        (made : (volume : VolumeRef) (name : Text) (of : ℕ) (old : Meta) (head : ℕ) (xattrs : Xattrs) → IsName name
+        → IsHeadMeant p.metas p.super volume (Some of) → map.get p.metas of ≡ Some old
+        → IsNextHead p.super.md_len p.pages head → IsFirstRefusal p.metas p.super (copies volume name) None
         → ((f : Fixed) (v : Volumes) → ShowsMetas f p.super p.metas v → two_xattrs f v name None ≡ xattrs)
-        → IsJobOf (state_of d p) (c.Clone volume name) (clone_job parent old head xattrs)) where
-      clone_asks : (head : ℕ) → IsNextHead p.super.md_len p.pages head → (volume : VolumeRef) (name : Text) (job : Job)
-          → Clones p.metas p.super head volume name job → IsFirstRefusal p.metas p.super (c.Clone volume name) None
-          → IsJobOf (state_of d p) (c.Clone volume name) job
-      clone_asks head next volume name job plan first =
-          subst (λ (job : Job). IsJobOf (state_of d p) (c.Clone volume name) job) (sym plan.job_is)
-          (made volume name plan.parent plan.old head plan.xattrs plan.is_name plan.meant plan.there next first
-          plan.named)
+        → IsJobOf (state_of d p) (copies volume name) (job_of of old head xattrs)) (head : ℕ)
+        (next : IsNextHead p.super.md_len p.pages head) where
+      copy_asks : (volume : VolumeRef) (name : Text) (job : Job)
+          → CopiesMeant p.metas p.super job_of head volume name job
+          → IsFirstRefusal p.metas p.super (copies volume name) None → IsJobOf (state_of d p) (copies volume name) job
+      copy_asks volume name job plan first =
+          subst (λ (job : Job). IsJobOf (state_of d p) (copies volume name) job) (sym plan.job_is)
+          (made volume name plan.of plan.old head plan.xattrs plan.is_name plan.meant plan.there next first plan.named)
 
-      -- what is planned for a clone
-      pub clone_plan : (head : ℕ) → IsNextHead p.super.md_len p.pages head → (command : Command) (volume : VolumeRef)
-          (name : Text) → command ≡ c.Clone volume name → (planned : Result Job Reply)
-          → IfOk planned (ClonesAsAsked metas sup head command)
+      -- what is planned for it
+      pub copy_plan : (command : Command) (volume : VolumeRef) (name : Text) → command ≡ copies volume name
+          → MayLackMemory (fixed_of p.super) (shown (state_of d p)) (copies volume name) → (planned : Result Job Reply)
+          → IfOk planned (λ job. CopiesMeant metas sup job_of head volume name job)
           → IfOk planned (λ job. IsFirstRefusal metas sup command None)
           → IfErr planned (RefusesFirst metas sup command) → IsPlanOf d p command (Some planned)
-      clone_plan head next command volume name e =
+      copy_plan command volume name e may planned plan =
+          subst (λ (command : Command). IfOk planned (λ job. IsFirstRefusal metas sup command None)
+          → IfErr planned (RefusesFirst metas sup command) → IsPlanOf d p command (Some planned)) (sym e)
+          (by_plan (copies volume name) may (λ metas sup. CopiesMeant metas sup job_of head volume name)
+          (copy_asks volume name) planned plan)
+
+    module _ (gone : (volume : VolumeRef) (of : ℕ) (job : Job) → IsHeadMeant p.metas p.super volume (Some of)
+        → IsFirstRefusal p.metas p.super (c.Delete volume) None → IsDeleteJob p.metas of job
+        → IsJobOf (state_of d p) (c.Delete volume) job) where
+      -- what is planned for a delete
+      pub delete_plan : (command : Command) (volume : VolumeRef) → command ≡ c.Delete volume
+          → (planned : Result Job Reply) → IfOk planned (DeletesAsAsked metas sup command)
+          → IfOk planned (λ job. IsFirstRefusal metas sup command None)
+          → IfErr planned (RefusesFirst metas sup command) → IsPlanOf d p command (Some planned)
+      delete_plan command volume e =
           subst
-          (λ (command : Command). (planned : Result Job Reply) → IfOk planned (ClonesAsAsked metas sup head command)
+          (λ (command : Command). (planned : Result Job Reply) → IfOk planned (DeletesAsAsked metas sup command)
           → IfOk planned (λ job. IsFirstRefusal metas sup command None)
           → IfErr planned (RefusesFirst metas sup command) → IsPlanOf d p command (Some planned)) (sym e)
-          (by_plan (c.Clone volume name) tt (λ metas sup. ClonesAsAsked metas sup head (c.Clone volume name))
-          (clone_asks head next volume name))
+          (by_plan (c.Delete volume) tt (λ metas sup. DeletesAsAsked metas sup (c.Delete volume))
+          (λ job plan first. gone volume plan.of job plan.meant first plan.job_is))
 
     module _ (given_name : (volume : VolumeRef) (name : Text) (head : ℕ) (old : Meta) (job : Job) → IsName name
         → IsHeadMeant p.metas p.super volume (Some head) → map.get p.metas head ≡ Some old

@@ -8,7 +8,7 @@ use Rattle.page_disk.specs.declared.disk.PageDisk.{Ghosts}
 use Rattle.store_model.specs.Cases.{IsRefusedBy}
 use Rattle.store_model.specs.Rows.{Posted}
 use Rattle.metadata_turns.specs.Answering.{IsAnswerable}
-use Rattle.metadata_turns.specs.Begins.{IsJobOf, ReplacesOne}
+use Rattle.metadata_turns.specs.Begins.{IsJobOf}
 use Rattle.running_store.specs.Requests.{IsInsertPosted, IsPostedBy}
 use Rattle.running_store.specs.StoreView.{rows_of, StoreView, state_of}
 use Rattle.running_store.specs.Steps.{Asks}
@@ -19,7 +19,7 @@ use Rattle.md_thread.specs.declared.tasks.Task.TheVariants as task
 -- for its first cause or for want of memory.
 abbrev pub IsPlanOf : {D : Type 0} → Ghosts D → StoreView D → Command → Option (Result Job Reply) → Type 0
 IsPlanOf d p command None = IsAnswerable command
-IsPlanOf d p command (Some (Ok job)) = ReplacesOne job × IsJobOf (state_of d p) command job
+IsPlanOf d p command (Some (Ok job)) = IsJobOf (state_of d p) command job
 IsPlanOf d p command (Some (Err reply)) = IsRefusedBy (state_of d p) command reply
 
 -- A message that is out of date asks for nothing, one of a row with a claim for its insert. A command in memory is
@@ -30,5 +30,5 @@ IsTaskOf d p msg task.Insert = IsInsertPosted p.rows msg
 IsTaskOf d p msg task.Answer = IsPostedBy p.rows msg × Asks p msg.channel IsAnswerable
 IsTaskOf d p msg (task.Refuse reply) = IsPostedBy p.rows msg
     × (p.stopped ≡ None → Asks p msg.channel (λ command. IsRefusedBy (state_of d p) command reply))
-IsTaskOf d p msg (task.Begin job) = IsPostedBy p.rows msg × ReplacesOne job
+IsTaskOf d p msg (task.Begin job) = IsPostedBy p.rows msg
     × (p.stopped ≡ None → Asks p msg.channel (λ command. IsJobOf (state_of d p) command job))

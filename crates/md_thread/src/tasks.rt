@@ -11,7 +11,8 @@ ghost use Rattle.running_store.specs.StoreView.{base_of, state_of};
 
 use blob_meta::{Job, least_heads_are_meant};
 use lvol_store::{
-    plan_clone, plan_create, plan_put, plan_readonly, plan_rename, plan_resize, plan_sync,
+    plan_clone, plan_create, plan_delete, plan_put, plan_readonly, plan_rename, plan_resize,
+    plan_snapshot, plan_sync,
 };
 use page_disk::PageDisk;
 use std::alloc::Global;
@@ -65,6 +66,8 @@ fn planned<D: PageDisk>(
         Command::Create { .. } => Some(plan_create(alloc, metas, sup, command, new)),
         Command::Resize { .. } => Some(plan_resize(alloc, metas, sup, command, new)),
         Command::Clone { .. } => Some(plan_clone(alloc, metas, sup, command, new)),
+        Command::Snapshot { .. } => Some(plan_snapshot(alloc, metas, sup, command, new)),
+        Command::Delete { .. } => Some(plan_delete(alloc, metas, sup, command)),
         Command::Rename { .. } => Some(plan_rename(alloc, metas, sup, command, new)),
         _ => None,
     }

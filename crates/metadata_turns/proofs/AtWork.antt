@@ -1,14 +1,13 @@
 -- What is known of the running job: the pages of its plan, and its places.
-use Rattle.std.proofs.Common.{◌≡◌, ◌≢◌, ℕ, zero, suc, ◌<◌, ◌≤◌, true, false, All, List, [], ◌∷◌, length, get_or, Some}
+use Rattle.std.proofs.Common.{◌≡◌, ◌≢◌, ℕ, zero, suc, ◌<◌, true, false, All, List, [], ◌∷◌, length, get_or, Some}
 use Rattle.std.proofs.Common.{None, refl, sym, ◌∙◌, ap, subst, arith, inl, inr, drop, take, ◌++◌, ◌+◌, Option, add-one}
 use Rattle.std.specs.Prelude.{slice_get}
-use Rattle.std.proofs.lemmas.Bool.{cases_Bool, both_ways, eq-eqb, ne_eqb, cases_lt}
+use Rattle.std.proofs.lemmas.Bool.{cases_Bool, both_ways, eq-eqb, ne_eqb}
 use Rattle.bit_array.specs.Bits.{is_in}
 use Rattle.md_chain.specs.Chain.{is_among}
 use Rattle.md_chain.specs.declared.plan.PlannedPage.{PlannedPage}
-use Rattle.store_model.specs.StoreState.{JobState, StoreState, planned_at, waiting, ForCommand}
+use Rattle.store_model.specs.StoreState.{JobState, StoreState, planned_at}
 use Rattle.running_store.specs.declared.job.Serves.{Serves}
-use Rattle.running_store.specs.declared.job.Serves.TheVariants as whom
 use Rattle.store_model.specs.Places.{held_by, AreDistinct}
 use Rattle.store_model.specs.Jobs.{gained_by, places_of, IsServed, JobStands, CanReplace, Does, IsStep, Lays}
 use Rattle.store_model.specs.Jobs.{ReadsZeros}

@@ -73,10 +73,6 @@ none_behind [] (suc n) le = refl
 none_behind (x ∷ map) zero le = absurd (omega (arith, le))
 none_behind (x ∷ map) (suc n) le = none_behind map n (omega (arith, le))
 
--- no slot is cut
-pub none_cut : (map : List (Option ℕ)) (n : ℕ) → length map ≤ n → clusters_of (drop n map) ≡ []
-none_cut map n le = ap clusters_of (none_behind map n le)
-
 -- ---- a blob that gets a map that is cut, or has empty slots added
 
 module _ (s : Super) (base : Metas) (head : ℕ) (old new : Meta) (slots : ℕ) (there : base head ≡ Some old)

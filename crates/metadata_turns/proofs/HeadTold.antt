@@ -7,12 +7,11 @@ use Rattle.page_disk.specs.Disk.{Only}
 use Rattle.page_disk.specs.Moments.{CallsLeaveOnly, IsReplaced}
 use Rattle.page_disk.specs.declared.disk.PageDisk.{Ghosts}
 use Rattle.volume_model.specs.declared.reply.Reply.{Reply}
-use Rattle.blob_meta.specs.declared.meta.Meta.{Meta}
 use Rattle.md_chain.specs.declared.plan.PlannedPage.{PlannedPage}
 use Rattle.store_model.specs.Cases.{FailsToReplace, WritesOnePage}
 use Rattle.store_model.specs.Claiming.{stage_behind}
 use Rattle.store_model.specs.Phases.{erasing, Committing, Phase}
-use Rattle.store_model.specs.Rows.{Row, Stage}
+use Rattle.store_model.specs.Rows.{Stage}
 use Rattle.store_model.specs.StoreState.{JobState}
 use Rattle.metadata_turns.specs.JobTurns.{with_job, IsAtWork, TurnsJob}
 use Rattle.metadata_turns.specs.Telling.{HasFailed, HasRow, IsTold}
@@ -52,11 +51,6 @@ pub record ReplacesHead {D : Type 0} (d : Ghosts D) (p : StoreView D) (serves : 
 abbrev pub now : Serves → Planned → List ℕ → List Phase → JobState
 now serves planned old more = writing_for serves planned old (length (drop 1 planned.chain)) more
 
--- a commit has new metadata
-given : (planned : Planned) (old : List ℕ) (c : Committing) → commit_in planned ≡ Some c
-    → (new : Meta) × ((replacing_of planned old).new ≡ Some new)
-given planned old c is = (planned.new, refl)
-
 no_commit : (planned : Planned) → planned.commits ≡ false → commit_in planned ≡ None
 no_commit planned is = ap (λ b. if b then Some (commit_of planned) else None) is
 
@@ -70,7 +64,6 @@ failed_head d p (whom.Command channel) planned old more disk x fails q is =
     failed_for_command d p (now serves planned old more) x.work refl disk fails q is (replacing_of planned old)
     (commit_in planned) (erasing old old more) (todo_is d p serves planned old more x.work)
     (touched d p serves planned old more x.work disk x.page x.at x.at_is x.first x.touches) channel refl
-    (given planned old)
 failed_head d p (whom.Insert channel) planned old more disk x fails q is =
     let serves = whom.Insert channel in
     failed_for_insert d p (now serves planned old more) x.work refl disk fails q is (replacing_of planned old)

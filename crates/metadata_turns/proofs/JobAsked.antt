@@ -7,9 +7,7 @@ use Rattle.std.proofs.lemmas.Bool.Decides.{nat_tests}
 use Rattle.super_block.specs.declared.page.Super.{Super}
 use Rattle.volume_model.specs.Xattrs.{Xattrs}
 use Rattle.volume_model.specs.Volumes.{two_xattrs}
-use Rattle.volume_model.specs.Steps.{MayLackMemory}
 use Rattle.volume_model.specs.declared.command.Command.{Command}
-use Rattle.volume_model.specs.declared.command.Command.TheVariants as c
 use Rattle.volume_model.specs.declared.reply.Reply.TheVariants as r
 use Rattle.blob_meta.specs.declared.meta.Meta.{Meta}
 use Rattle.blob_meta.specs.declared.job.Job.{Job}
@@ -17,27 +15,32 @@ use Rattle.blob_meta.specs.Jobs.{create_job, job_of_one, new_meta, resize_job, r
 use Rattle.blob_meta.specs.Faults.{clusters_of}
 use Rattle.blob_meta.specs.Parents.{slot}
 use Rattle.blob_meta.specs.Repairs.{HasNoMarks}
+use Rattle.blob_meta.specs.Resolving.{mark_of}
 use Rattle.store_model.specs.Maps.{with_entry}
 use Rattle.store_model.specs.Shown.{fixed_of}
 use Rattle.store_model.specs.StoreState.{StoreState, shown}
 use Rattle.store_model.specs.Places.{AreDistinct, AreLeastClear}
 use Rattle.store_model.specs.Jobs.{with_clusters, MovesClusters}
-use Rattle.store_model.specs.Asking.{AsksFor, clones, creates, IsJobFor, IsSyncing, resizes, syncs}
-use Rattle.snapshots.specs.SnapshotJobs.{clone_job, new_clone}
+use Rattle.store_model.specs.Asking.{AsksFor, clones, creates, deletes, IsJobFor, resizes, snapshots}
+use Rattle.store_model.specs.Asking.{syncs}
+use Rattle.snapshots.specs.SnapshotJobs.{clone_job, new_clone, snapshot_job}
 use Rattle.shown_volumes.proofs.GoodMarks.{named_good}
+use Rattle.shown_volumes.proofs.Valued.{mark_named}
+use Rattle.shown_volumes.specs.StoredLaws.{IsStoredWell}
 use Rattle.store_model.specs.RunInvariant.{CanBeWritten, IsSteady, RunsWell}
-use Rattle.store_model.proofs.JobReady.{job_writable}
+use Rattle.store_model.proofs.JobWritable.{job_writable}
 use Rattle.store_model.proofs.Cut.{cut, is_cut as is_taken, length_cut}
 use Rattle.store_model.proofs.OneReplacement.{base_lawful, base_steady}
 use Rattle.store_model.proofs.Known.{Known}
 use Rattle.store_model.proofs.NewBlob.{empty_slot, two_written}
 use Rattle.metadata_turns.specs.Begins.{job_with_zeros, AsksToWrite}
 use Rattle.running_store.specs.Effects.{cut_clusters, is_cut, live_behind}
+use Rattle.running_store.specs.Jobs.{live_at}
 use Rattle.running_store.specs.StoreInvariant.{IsRunning}
 use Rattle.metadata_turns.proofs.CutClusters.{cut_moves, cut_once}
 use Rattle.metadata_turns.proofs.LiveBehind.{synced_live}
 use Rattle.metadata_turns.proofs.SlotsOfZeros.{with_none}
-use Rattle.metadata_turns.proofs.JobPlanned.{commit_by, moves_made, same_one}
+use Rattle.metadata_turns.proofs.JobPlanned.{commit_by, many_replace, moves_made, none_deletes, same_one}
 
 -- a map of all its slots
 whole_cut : (map : List (Option ℕ)) → cut map (length map) None ≡ map
@@ -62,15 +65,14 @@ module _ (p : StoreState) (running : IsRunning p) (clean : HasNoMarks p.base) (r
   well : RunsWell running.first p
   well = running.facts.well runs
 
-  -- with clusters in its slots of zeros it is steady
-  pub steady : (claimed : List ℕ) → AreLeastClear p.clusters claimed → length claimed ≡ length zeros
-      → head < p.super.md_len → IsSteady p.super head (with_clusters new zeros claimed)
-  steady claimed least one_each low =
-      subst (λ s. IsSteady s head (with_clusters new zeros claimed)) (sym running.facts.super)
-      (job_writable known clean runs command (job_with_zeros head new zeros) asks.commit asks.asked claimed least
-      one_each
-      (record { head = head; new = Some new }) new refl refl
-      (subst (λ (s : Super). head < s.md_len) running.facts.super low))
+  -- with clusters in its slots of zeros it can be stored
+  pub stored_well : (claimed : List ℕ) → AreLeastClear p.clusters claimed → length claimed ≡ length zeros
+      → head < p.super.md_len → IsStoredWell p.super head (with_clusters new zeros claimed)
+  stored_well claimed least one_each low =
+      subst (λ s. IsStoredWell s head (with_clusters new zeros claimed)) (sym running.facts.super)
+      ((job_writable known clean runs command asks.commit claimed least (job_with_zeros head new zeros) asks.asked
+      one_each (subst (λ (s : Super). head < s.md_len) running.facts.super low, tt)).0
+      (with_clusters new zeros claimed) refl)
 
   there_low : (m : Meta) → p.base head ≡ Some m → head < p.super.md_len
   there_low m there = subst (λ (s : Super). head < s.md_len) (sym running.facts.super)
@@ -85,19 +87,9 @@ module _ (p : StoreState) (running : IsRunning p) (clean : HasNoMarks p.base) (r
         ≡ commit_by (is_some before) head (is_cut before new) (live_behind command (p.live head) new)
     pub xattrs : CanBeWritten new.xattrs
     pub internal : CanBeWritten new.internal
+    pub unmarked : mark_of new ≡ None
     pub once : AreDistinct (cut_clusters before new)
     pub moves : MovesClusters p.super p.base (with_entry p.base head new) (cut_clusters before new) []
-    pub memory : MayLackMemory (fixed_of p.super) (shown p) command
-
-  may_lack : IsSyncing command → MayLackMemory (fixed_of p.super) (shown p) command
-  may_lack is = by command is
-    where
-      by : (k : Command) → IsSyncing k → MayLackMemory (fixed_of p.super) (shown p) k
-      by (c.Put volume key value) is = tt
-      by (c.Sync volume) is = tt
-      by (c.ReadOnly volume) is = tt
-      by (c.Rename volume name) is = tt
-      by _ is = absurd is
 
   -- behind a verb that syncs its attributes are read as it makes them
   live_synced : (live : Xattrs) → AsksFor p command head new live → live_behind command (p.live head) new ≡ Some live
@@ -105,13 +97,12 @@ module _ (p : StoreState) (running : IsRunning p) (clean : HasNoMarks p.base) (r
 
   -- of a blob that is there, with its slots cut or others added
   asked_there : (old : Meta) → p.base head ≡ Some old → (slots : ℕ) → new.map ≡ cut old.map slots None
-      → CanBeWritten new.xattrs → new.internal ≡ old.internal → MayLackMemory (fixed_of p.super) (shown p) command
-      → asks.commit ≡ record {
+      → CanBeWritten new.xattrs → new.internal ≡ old.internal → asks.commit ≡ record {
         reply = r.Ok;
-        live = live_behind command (p.live head) new;
+        live = live_at head (live_behind command (p.live head) new);
         renews = if nat_lt slots (length old.map) then head ∷ [] else [];
       } → IsAsked (Some old)
-  asked_there old there slots map_is xattrs internal memory commit =
+  asked_there old there slots map_is xattrs internal commit =
       let long : length new.map ≡ slots = ap (λ (l : List (Option ℕ)). length l) map_is
       ∙ length_cut {X = Option ℕ} old.map slots None in
       let was = was_there old there in
@@ -119,22 +110,22 @@ module _ (p : StoreState) (running : IsRunning p) (clean : HasNoMarks p.base) (r
       record {
         commit = commit ∙ ap (λ n. record {
           reply = r.Ok;
-          live = live_behind command (p.live head) new;
+          live = live_at head (live_behind command (p.live head) new);
           renews = if nat_lt n (length old.map) then head ∷ [] else [];
         }) (sym long);
         xattrs = xattrs;
         internal = subst CanBeWritten (sym internal) was.stored.internal;
+        unmarked = subst (λ l. mark_of (record new { internal = l }) ≡ None) (sym internal) was.unmarked;
         once = subst (λ n. AreDistinct (clusters_of (drop n old.map))) (sym long)
             (cut_once p.super p.base head old new slots there lawful was map_is);
         moves = subst (λ n. MovesClusters p.super p.base (with_entry p.base head new) (clusters_of (drop n old.map)) [])
             (sym long) (cut_moves p.super p.base head old new slots there lawful was map_is);
-        memory = memory;
       }
 
   -- without clusters in its slots it is the same, but for the map
   bare_xattrs : zeros ≡ [] → head < p.super.md_len → CanBeWritten new.xattrs
   bare_xattrs none low = subst (λ (m : Meta). CanBeWritten m.xattrs) (with_none new zeros)
-      (steady [] tt (sym (ap (λ (l : List ℕ). length l) none)) low).stored.xattrs
+      (stored_well [] tt (sym (ap (λ (l : List ℕ). length l) none)) low).stored.xattrs
 
   asked_by : IsJobFor p command (job_with_zeros head new zeros) asks.commit → IsAsked (p.base head)
   asked_by (syncs y) =
@@ -145,13 +136,17 @@ module _ (p : StoreState) (running : IsRunning p) (clean : HasNoMarks p.base) (r
       ap (λ (m : Meta). m.map) mine.new_is ∙ sym (whole_cut mine.old.map) in
       subst IsAsked (sym mine.there) (asked_there mine.old mine.there (length mine.old.map) kept
       (bare_xattrs (ap (λ (j : Job). j.zero) y.is) (there_low mine.old mine.there))
-      (ap (λ (m : Meta). m.internal) mine.new_is) (may_lack y.asks.syncing)
+      (ap (λ (m : Meta). m.internal) mine.new_is)
       (y.commit_is
-      ∙ ap (λ (b : Bool). record { reply = r.Ok; live = Some y.live; renews = if b then head ∷ [] else [] })
-      (sym (ltb-irrefl (length mine.old.map)))
+      ∙ ap (λ (h : ℕ). record { reply = r.Ok; live = live_at h (Some y.live); renews = [] }) (sym same.head_is)
+      ∙ ap (λ (b : Bool). record {
+        reply = r.Ok;
+        live = live_at head (Some y.live);
+        renews = if b then head ∷ [] else [];
+      }) (sym (ltb-irrefl (length mine.old.map)))
       ∙ ap (λ (o : Option Xattrs). record {
         reply = r.Ok;
-        live = o;
+        live = live_at head o;
         renews = if nat_lt (length mine.old.map) (length mine.old.map) then head ∷ [] else [];
       }) (sym (live_synced y.live mine))))
   asked_by (creates y) =
@@ -161,21 +156,25 @@ module _ (p : StoreState) (running : IsRunning p) (clean : HasNoMarks p.base) (r
       let none : p.base head ≡ None = ap p.base same.head_is ∙ y.none in
       subst IsAsked (sym none) (record {
         commit = y.commit_is
-            ∙ ap (λ (h : ℕ). record { reply = r.Made h; live = Some xattrs; renews = h ∷ [] }) (sym same.head_is)
-            ∙ ap (λ (m : Meta). record { reply = r.Made head; live = Some m.xattrs; renews = head ∷ [] })
-            (sym same.new_is)
+            ∙ ap (λ (h : ℕ). record { reply = r.Made h; live = live_at h (Some xattrs); renews = h ∷ [] })
+            (sym same.head_is)
+            ∙ ap (λ (m : Meta). record {
+              reply = r.Made head;
+              live = live_at head (Some m.xattrs);
+              renews = head ∷ [];
+            }) (sym same.new_is)
             ∙ ap (λ (k : Command). record {
               reply = r.Made head;
-              live = live_behind k (p.live head) new;
+              live = live_at head (live_behind k (p.live head) new);
               renews = head ∷ [];
             }) (sym y.command_is);
         xattrs = subst (λ (m : Meta). CanBeWritten m.xattrs) (sym same.new_is)
             (two_written (fixed_of p.super) (shown p) y.name y.uuid y.named);
         internal = subst (λ (m : Meta). CanBeWritten m.internal) (sym same.new_is) (record { names = tt; short = tt });
+        unmarked = subst (λ (m : Meta). mark_of m ≡ None) (sym same.new_is) refl;
         once = tt;
         moves = moves_made p.super p.base head new none
             (λ i. ap (λ (m : Meta). slot m i) same.new_is ∙ empty_slot y.slots i);
-        memory = subst (MayLackMemory (fixed_of p.super) (shown p)) (sym y.command_is) tt;
       })
   asked_by (resizes y) =
       let made = resized_meta y.old y.slots in
@@ -184,7 +183,6 @@ module _ (p : StoreState) (running : IsRunning p) (clean : HasNoMarks p.base) (r
       subst IsAsked (sym there) (asked_there y.old there y.slots (ap (λ (m : Meta). m.map) same.new_is)
       (subst (λ (m : Meta). CanBeWritten m.xattrs) (sym same.new_is) (was_there y.old there).stored.xattrs)
       (ap (λ (m : Meta). m.internal) same.new_is)
-      (subst (MayLackMemory (fixed_of p.super) (shown p)) (sym y.command_is) tt)
       (y.commit_is
       ∙ ap (λ h. record {
         reply = r.Ok;
@@ -194,34 +192,41 @@ module _ (p : StoreState) (running : IsRunning p) (clean : HasNoMarks p.base) (r
       (sym same.head_is)
       ∙ ap (λ (k : Command). record {
         reply = r.Ok;
-        live = live_behind k (p.live head) new;
+        live = live_at head (live_behind k (p.live head) new);
         renews = if nat_lt y.slots (length y.old.map) then head ∷ [] else [];
       }) (sym y.command_is)))
   asked_by (clones y) =
       let xattrs = two_xattrs (fixed_of p.super) (shown p) y.name None in
-      let made = new_clone y.parent y.old y.head xattrs in
-      let same = same_one head y.head new made zeros (clone_job y.parent y.old y.head xattrs) y.is refl in
+      let made = new_clone y.of y.old y.head xattrs in
+      let same = same_one head y.head new made zeros (clone_job y.of y.old y.head xattrs) y.is refl in
       let none : p.base head ≡ None = ap p.base same.head_is ∙ y.none in
       subst IsAsked (sym none) (record {
         commit = y.commit_is
-            ∙ ap (λ (h : ℕ). record { reply = r.Made h; live = Some xattrs; renews = h ∷ [] }) (sym same.head_is)
-            ∙ ap (λ (m : Meta). record { reply = r.Made head; live = Some m.xattrs; renews = head ∷ [] })
-            (sym same.new_is)
+            ∙ ap (λ (h : ℕ). record { reply = r.Made h; live = live_at h (Some xattrs); renews = h ∷ [] })
+            (sym same.head_is)
+            ∙ ap (λ (m : Meta). record {
+              reply = r.Made head;
+              live = live_at head (Some m.xattrs);
+              renews = head ∷ [];
+            }) (sym same.new_is)
             ∙ ap (λ (k : Command). record {
               reply = r.Made head;
-              live = live_behind k (p.live head) new;
+              live = live_at head (live_behind k (p.live head) new);
               renews = head ∷ [];
             }) (sym y.command_is);
         xattrs = subst (λ (m : Meta). CanBeWritten m.xattrs) (sym same.new_is)
             (two_written (fixed_of p.super) (shown p) y.name None y.named);
         internal = subst (λ (m : Meta). CanBeWritten m.internal) (sym same.new_is)
-            (named_good [] (codes "SNAP") y.parent (omega arith)
+            (named_good [] (codes "SNAP") y.of (omega arith)
             (record { can = record { names = tt; short = tt }; good = tt })).can;
+        unmarked = subst (λ (m : Meta). mark_of m ≡ None) (sym same.new_is) (mark_named [] y.of);
         once = tt;
         moves = moves_made p.super p.base head new none
             (λ i. ap (λ (m : Meta). slot m i) same.new_is ∙ empty_slot (length y.old.map) i);
-        memory = subst (MayLackMemory (fixed_of p.super) (shown p)) (sym y.command_is) tt;
       })
+  asked_by (snapshots y) = absurd (many_replace head new zeros
+      (snapshot_job y.of y.old y.head (two_xattrs (fixed_of p.super) (shown p) y.name None)) y.is (omega arith))
+  asked_by (deletes y) = absurd (none_deletes p.base y.of y.old head new zeros y.clones y.is)
 
   pub asked : IsAsked (p.base head)
   asked = asked_by asks.asked

@@ -16,13 +16,14 @@ use Rattle.volume_model.specs.declared.reply.Reply.TheVariants as r
 use Rattle.blob_meta.specs.Repairs.{HasNoMarks}
 use Rattle.blob_meta.specs.declared.meta.Meta.{Meta}
 use Rattle.store_model.specs.Rows.{with_row, Ended, InJob, Row, Rows}
-use Rattle.store_model.specs.StoreState.{JobState, StoreState}
+use Rattle.store_model.specs.Shown.{fixed_of}
+use Rattle.store_model.specs.StoreState.{JobState, shown, StoreState}
 use Rattle.store_model.specs.Phases.{Committing, erasing, Replaces, writing, Zeros}
 use Rattle.store_model.specs.Places.{all_set, AreLeastClear}
 use Rattle.store_model.specs.Asking.{IsJobFor}
 use Rattle.store_model.specs.Cases.{Begins, CannotBegin, IsPosted, IsRefusedAtBegin, Refuses}
 use Rattle.store_model.proofs.JobReady.{lacks_for_one}
-use Rattle.running_store.specs.Jobs.{begun_job, commit_in, commit_of, replacing_of, writing_job}
+use Rattle.running_store.specs.Jobs.{begun_job, commit_in, commit_of, live_at, replacing_of, writing_job}
 use Rattle.metadata_turns.specs.Begins.{job_with_zeros, taken_for, AsksToWrite, IsUnprepared}
 use Rattle.running_store.specs.StoreInvariant.{IsRunning}
 use Rattle.running_store.specs.StoreView.{StoreView, rows_of, state_of}
@@ -31,6 +32,7 @@ use Rattle.running_store.specs.Steps.{logged_at, IsPostedAt}
 use Rattle.running_store.specs.declared.replacements.Planned.{Planned}
 use Rattle.running_store.proofs.Entered.{disk_same, entered}
 use Rattle.metadata_turns.proofs.JobAsked.{asked, IsAsked}
+use Rattle.metadata_turns.proofs.Lacking.{may_lack}
 use Rattle.metadata_turns.proofs.JobPrepared.{moves_filled, there_is}
 use Rattle.metadata_turns.proofs.JobPlanned.{commit_by, IsReady}
 use Rattle.running_store.proofs.Rowing.{rows_set}
@@ -98,7 +100,8 @@ module _ (s : StoreState) (running : IsRunning s) (clean : HasNoMarks s.base) (r
     enough = λ y. x.1 (subst (λ (m : Meta). LacksPages (is_some (s.chains head)) m s.pages) (sym (lacking x.0).1)
         (subst (λ (b : Bool). LacksPages b bare s.pages) there (for_one s.base head bare s.pages y)));
   }
-  why_unprepared fewer lacking r.Memory x = (asked s running clean runs command head bare zeros asks).memory
+  why_unprepared fewer lacking r.Memory x = may_lack (fixed_of s.super) (shown s) s command
+      (job_with_zeros head bare zeros) asks.commit asks.asked
   why_unprepared fewer lacking _ x = absurd x
 
 -- ---- it begins, or its command is logged
@@ -238,11 +241,11 @@ module _ {D : Type 0} (d : Ghosts D) (p : StoreView D) (channel : ℕ) (low : ch
         commit_is : (makes : Bool) (head : ℕ) (cut : Bool) (live : Option Xattrs)
             → commit_by (not makes) head cut live ≡ record {
               reply = if makes then r.Made head else r.Ok;
-              live = live;
+              live = live_at head live;
               renews = numbered_by (makes || cut) head;
             }
-        commit_is true head cut live = refl
-        commit_is false head cut live = refl
+        commit_is true head cut given = refl
+        commit_is false head cut given = refl
 
         chain_is : (makes : Bool) (head : ℕ) (old : List ℕ) (o : Option (List ℕ)) → is_some o ≡ not makes
             → (is_some o ≡ true → o ≡ Some (head ∷ old)) → o ≡ (if makes then None else Some (head ∷ old))

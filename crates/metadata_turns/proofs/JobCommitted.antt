@@ -1,5 +1,5 @@
 -- What the commit of a job makes of the store.
-use Rattle.std.proofs.Common.{◌≡◌, ℕ, ◌+◌, ◌<◌, Bool, List, [], ◌∷◌, length, Option, Some, None, refl, sym, ◌∙◌}
+use Rattle.std.proofs.Common.{◌≡◌, ℕ, ◌+◌, Bool, List, [], ◌∷◌, length, Option, Some, None, refl, sym, ◌∙◌}
 use Rattle.std.proofs.Common.{ap, subst, arith, IsTrue, drop}
 use Rattle.std.specs.Prelude.{slice_get, is_some, if◌then◌else◌, true, false}
 use Rattle.std.specs.FinMap as map
@@ -40,7 +40,7 @@ use Rattle.running_store.specs.declared.replacements.Planned.{Planned}
 use Rattle.store_model.specs.Phases.{erasing, has_commit, Phase, Replaces, page_in, with_live}
 use Rattle.store_model.specs.Places.{all_set}
 use Rattle.std.specs.Ordering.{nat_cmp}
-use Rattle.running_store.specs.Jobs.{writing_job, job_left, replacing_of, commit_of, reply_of}
+use Rattle.running_store.specs.Jobs.{live_at, writing_job, job_left, replacing_of, commit_of, reply_of}
 use Rattle.running_store.specs.Effects.{is_numbered, numbered_by}
 
 -- ---- generations
@@ -66,7 +66,7 @@ done_by false head = tt
 -- ---- attributes
 
 given_live : (live : map.FinMap nat_cmp Xattrs) (head : ℕ) (given : Option Xattrs)
-    → map.get (live_given live head given) ≡ with_live (map.get live) head given
+    → map.get (live_given live head given) ≡ with_live (map.get live) (live_at head given)
 given_live live head None = refl
 given_live live head (Some xattrs) = insert_given live head xattrs
 
@@ -221,8 +221,6 @@ module _ {D : Type 0} (d : Ghosts D) (p : StoreView D) (channel : ℕ) (planned 
                   next = todo_now;
                   runs = at_work.not_stopped;
                 };
-                new = planned.new;
-                new_is = refl;
                 served = record {
                   channel = channel;
                   serves = refl;

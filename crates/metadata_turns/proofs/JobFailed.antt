@@ -225,8 +225,8 @@ module _ {D : Type 0} (d : Ghosts D) (p : StoreView D) (j : JobState) (w : IsAtW
       })
 
       committing : (channel : ℕ) → j.serves ≡ ForCommand channel → (c : Committing) → commit ≡ Some c
-          → (new : Meta) → replacing.new ≡ Some new → TurnsJob d (with_job p j) q
-      committing channel serves c is new new_is =
+          → TurnsJob d (with_job p j) q
+      committing channel serves c is =
           let waits : has_commit j.todo ≡ true = ap has_commit (todo_as (Some c) is) in
           subst (TurnsJob d (with_job p j)) (sym (entry channel serves waits disk q
           (by_waiting (Some channel) (waits_for_commit j channel serves waits)))) (record {
@@ -234,7 +234,7 @@ module _ {D : Type 0} (d : Ghosts D) (p : StoreView D) (j : JobState) (w : IsAtW
             of_job = tt;
             made = (
               fails_case channel serves waits disk (Replaces replacing (Some c)) others (todo_as (Some c) is)
-                  (fail.head replacing c new refl new_is) fails,
+                  (fail.head replacing c refl) fails,
               record { moments = touches; durable = λ never. absurd (cc never) },
             );
           })
@@ -254,13 +254,11 @@ module _ {D : Type 0} (d : Ghosts D) (p : StoreView D) (j : JobState) (w : IsAtW
       before_commit channel serves no_commit false waits = no_row no_commit (waits_no_more j channel serves waits)
 
       -- of a command's job
-      pub failed_for_command : (channel : ℕ) → j.serves ≡ ForCommand channel
-          → ((c : Committing) → commit ≡ Some c → (new : Meta) × (replacing.new ≡ Some new))
-          → TurnsJob d (with_job p j) q
-      failed_for_command channel serves given = by commit refl
+      pub failed_for_command : (channel : ℕ) → j.serves ≡ ForCommand channel → TurnsJob d (with_job p j) q
+      failed_for_command channel serves = by commit refl
         where
           by : (o : Option Committing) → commit ≡ o → TurnsJob d (with_job p j) q
-          by (Some c) is = committing channel serves c is (given c is).0 (given c is).1
+          by (Some c) is = committing channel serves c is
           by None is = before_commit channel serves is (has_commit j.todo) refl
 
       -- of an insert's

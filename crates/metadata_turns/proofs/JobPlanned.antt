@@ -1,5 +1,5 @@
 -- A job of one replacement: what its commit makes, and what is taken and planned for it.
-use Rattle.std.proofs.Common.{◌≡◌, ℕ, Bool, true, List, [], ◌∷◌, length}
+use Rattle.std.proofs.Common.{◌≡◌, ◌<◌, ℕ, Bool, true, List, [], ◌∷◌, length, arith}
 use Rattle.std.proofs.Common.{All, Option, Some, None, sym, ◌∙◌, ap, subst, inl, inr}
 use Rattle.std.specs.Prelude.{◌||◌, if◌then◌else◌, not}
 use Rattle.std.proofs.lemmas.Bool.{cases_eq}
@@ -11,6 +11,8 @@ use Rattle.blob_meta.specs.declared.meta.Meta.{Meta}
 use Rattle.blob_meta.specs.declared.job.Job.{Job}
 use Rattle.blob_meta.specs.declared.job.Replacement.{Replacement}
 use Rattle.blob_meta.specs.Parents.{slot}
+use Rattle.inflate_delete.specs.DeleteJobs.{delete_job}
+use Rattle.inflate_delete.specs.DeletePlans.{IsJobBeside}
 use Rattle.md_chain.specs.Packing.{FitsPage}
 use Rattle.md_chain.specs.declared.plan.PlannedPage.{PlannedPage}
 use Rattle.store_model.specs.Maps.{Metas, with_entry}
@@ -25,6 +27,7 @@ use Rattle.store_model.proofs.Cut.{cut}
 use Rattle.store_model.proofs.WithEntry.{given_here, given_elsewhere}
 use Rattle.metadata_turns.specs.Begins.{job_with_zeros, taken_for}
 use Rattle.running_store.specs.Effects.{numbered_by}
+use Rattle.running_store.specs.Jobs.{live_at}
 
 -- attributes that can be written fit pages
 pub all_fit : (xattrs : Xattrs) → CanBeWritten xattrs → All FitsPage xattrs
@@ -45,11 +48,31 @@ same_one head other new meta zeros changes is list =
     let metas : Some new ≡ Some meta = ap (λ (x : Replacement). x.new) one in
     record { head_is = ap (λ (x : Replacement). x.head) one; new_is = cc metas }
 
+-- a job of several replacements isn't one of one
+pub many_replace : (head : ℕ) (new : Meta) (zeros : List ℕ) (changes : Job) → job_with_zeros head new zeros ≡ changes
+    → 1 < length changes.list → ⊥
+many_replace head new zeros changes is many =
+    let one : length changes.list ≡ 1 = sym (ap (λ (j : Job). length j.list) is) in omega (arith, one, many)
+
+abbrev given : ℕ → Option Meta → Replacement
+given head new = record { head = head; new = new }
+
+-- nor does one that deletes give a blob new metadata alone
+pub none_deletes : (metas : Metas) (of : ℕ) (old : Meta) (head : ℕ) (new : Meta) (zeros clones : List ℕ)
+    → IsJobBeside metas of old clones (job_with_zeros head new zeros) → ⊥
+none_deletes metas of old head new zeros [] is =
+    let lists : given head (Some new) ∷ [] ≡ given of None ∷ [] = ap (λ (j : Job). j.list) is in
+    let one : given head (Some new) ≡ given of None = cc lists in
+    let bad : Some new ≡ None = ap (λ (x : Replacement). x.new) one in absurd (cc bad)
+none_deletes metas of old head new zeros (clone ∷ []) is =
+    many_replace head new zeros (delete_job of old clone is.0) is.2 (omega arith)
+none_deletes metas of old head new zeros (clone ∷ other ∷ rest) is = is
+
 -- what the commit makes of a blob that is there, of which slots are cut or not, or of a new one
 abbrev pub commit_by : Bool → ℕ → Bool → Option Xattrs → Committing
 commit_by there head cut live = record {
   reply = if there then r.Ok else r.Made head;
-  live = live;
+  live = live_at head live;
   renews = numbered_by (not there || cut) head;
 }
 

@@ -9,7 +9,6 @@ use Rattle.bit_array.specs.Bits.{is_in}
 use Rattle.super_block.specs.Placed.{IsPlaced}
 use Rattle.volume_model.specs.declared.command.Command.{Command}
 use Rattle.blob_meta.specs.declared.meta.Meta.{Meta}
-use Rattle.blob_meta.specs.declared.job.Job.{Job}
 use Rattle.blob_meta.specs.Repairs.{HasNoMarks}
 use Rattle.blob_meta.specs.Resolving.{mark_of}
 use Rattle.blob_meta.specs.Says.{meta_of}
@@ -24,13 +23,13 @@ use Rattle.store_model.specs.Phases.{page_in}
 use Rattle.store_model.specs.StoreState.{StoreState}
 use Rattle.store_model.specs.Places.{held_by, AreDistinct, AreLeastClear, IsLinked, UsedPages}
 use Rattle.store_model.specs.Jobs.{places_of, with_clusters, MovesClusters}
-use Rattle.store_model.specs.RunInvariant.{IsSteady, RunsWell}
+use Rattle.store_model.specs.RunInvariant.{RunsWell}
+use Rattle.shown_volumes.specs.StoredLaws.{IsStoredWell}
 use Rattle.store_model.proofs.ClaimedZeros.{claimed_free, zeroed_is}
-use Rattle.store_model.proofs.JobReady.{head_of, new_of, one_change}
 use Rattle.store_model.proofs.Known.{Known}
 use Rattle.store_model.proofs.Sets.{among_either, among_first, are_distinct, were_clear}
 use Rattle.store_model.proofs.ZeroSlots.{each_claimed}
-use Rattle.metadata_turns.specs.Begins.{job_with_zeros, taken_for, AsksToWrite, IsPrepared, IsTaken}
+use Rattle.metadata_turns.specs.Begins.{taken_for, AsksToWrite, IsPrepared, IsTaken}
 use Rattle.running_store.specs.Effects.{cut_clusters}
 use Rattle.running_store.specs.StoreInvariant.{IsRunning}
 use Rattle.metadata_turns.specs.declared.preparing.Prepared.{Prepared}
@@ -39,9 +38,9 @@ use Rattle.running_store.proofs.PlainFacts.{got}
 use Rattle.running_store.proofs.Cleared.{among_get}
 use Rattle.metadata_turns.proofs.FilledMoves.{filled_moves}
 use Rattle.metadata_turns.proofs.JobPlaces.{once_each, places_from}
-use Rattle.metadata_turns.proofs.SlotsOfZeros.{can_be_filled, CanBeFilled}
-use Rattle.metadata_turns.proofs.JobPlanned.{same_one, IsReady}
-use Rattle.metadata_turns.proofs.JobAsked.{asked, known as known_store, steady}
+use Rattle.metadata_turns.proofs.SlotsOfZeros.{can_be_filled, filled_mark, CanBeFilled}
+use Rattle.metadata_turns.proofs.JobPlanned.{IsReady}
+use Rattle.metadata_turns.proofs.JobAsked.{asked, known as known_store, stored_well}
 
 module _ (p : StoreState) (running : IsRunning p) (clean : HasNoMarks p.base) (runs : p.stopped ≡ None)
     (command : Command) (head : ℕ) (new : Meta)
@@ -55,13 +54,7 @@ module _ (p : StoreState) (running : IsRunning p) (clean : HasNoMarks p.base) (r
   -- ---- its slots of zeros
 
   pub fillable : CanBeFilled p.base new zeros
-  fillable =
-      let is = one_change p command (job_with_zeros head new zeros) asks.commit asks.asked in
-      let same = same_one head (head_of p command _ asks.commit asks.asked) new
-      (new_of p command _ asks.commit asks.asked) zeros _ is refl in
-      subst (λ (m : Meta). CanBeFilled p.base m zeros) (sym same.new_is)
-      (subst (CanBeFilled p.base (new_of p command _ asks.commit asks.asked)) (sym (ap (λ (j : Job). j.zero) is))
-      (can_be_filled p command _ asks.commit asks.asked))
+  fillable = can_be_filled p command head new zeros asks.commit asks.asked
 
   -- each of them is a slot of the new map
   pub zeros_within : All (λ i. i < length new.map) zeros
@@ -184,12 +177,13 @@ module _ (p : StoreState) (running : IsRunning p) (clean : HasNoMarks p.base) (r
       planned_pages k d lt = page_of x.laid.pages k (get_or x.laid.pages k d)
           (subst AreDistinct (sym planned_places) (all_differ t.fresh t.least)) (got x.laid.pages k d lt)
 
-      whole : IsSteady p.super head later
-      whole = steady p running clean runs command head new zeros asks claimed least one_each (head_low t.fresh t.least)
+      whole : IsStoredWell p.super head later
+      whole = stored_well p running clean runs command head new zeros asks claimed least one_each
+          (head_low t.fresh t.least)
 
       -- and has no mark
       pub unmarked : mark_of later ≡ None
-      unmarked = whole.unmarked
+      unmarked = filled_mark new zeros claimed ∙ (asked p running clean runs command head new zeros asks).unmarked
 
       says_new : later ≡ meta_of head (written_items is.items)
       says_new = sym (written_say head is.items is.plannable

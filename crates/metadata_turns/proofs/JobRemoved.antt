@@ -1,7 +1,7 @@
 -- What a job's replacement makes of the store by which a blob is erased.
-use Rattle.std.proofs.Common.{◌≡◌, ◌≢◌, ℕ, ◌+◌, ◌<◌, Bool, true, false, All, List, [], ◌∷◌, length, Option, Some, None}
+use Rattle.std.proofs.Common.{◌≡◌, ◌≢◌, ℕ, ◌+◌, ◌<◌, Bool, true, false, All, List, [], ◌∷◌, Option, Some, None}
 use Rattle.std.proofs.Common.{refl, sym, ◌∙◌, ap, subst, get_or, IsTrue, arith}
-use Rattle.std.specs.Prelude.{if◌then◌else◌, not, slice_set, ◌&&◌}
+use Rattle.std.specs.Prelude.{not, slice_set, ◌&&◌}
 use Rattle.std.specs.FinMap as map
 use Rattle.std.specs.FinSet as set
 use Rattle.std.specs.Cmp.{nat_cmp_total}
@@ -21,11 +21,9 @@ use Rattle.store_model.specs.Jobs.{gained_by, CanReplace, JobStands}
 use Rattle.store_model.specs.Maps.{without_entry, Chains, Map, Metas}
 use Rattle.store_model.specs.Phases.{erasing, page_in, Phase}
 use Rattle.store_model.specs.Places.{all_set, AreDistinct}
-use Rattle.store_model.specs.Rows.{Row}
 use Rattle.store_model.specs.RunInvariant.{RunsWell}
-use Rattle.store_model.specs.StoreState.{going_on, ForInsert, JobState, StoreState, waiting}
+use Rattle.store_model.specs.StoreState.{going_on, ForInsert, JobState, StoreState}
 use Rattle.store_model.proofs.Guarding.{frozen_still, none_frozen_by}
-use Rattle.store_model.proofs.Phases.{no_commit}
 use Rattle.store_model.proofs.Sets.{among_first}
 use Rattle.metadata_turns.specs.JobTurns.{with_job, IsAtWork, TurnsJob}
 use Rattle.metadata_turns.specs.Telling.{HasFailed}
@@ -125,7 +123,7 @@ module _ {D : Type 0} (d : Ghosts D) (p : StoreView D) (serves : Serves) (head :
         by : (x : Serves) → serves ≡ x → TurnsJob d (with_job p j) q
         by (whom.Command channel) is =
             failed_for_command d p j w refl disk fails q failed (erasure_of head freed old) None others refl touched
-            channel (ap service_of is) (λ c bad. absurd (cc bad))
+            channel (ap service_of is)
         by (whom.Insert channel) is = absurd (subst (λ (x : Serves). IsRemovedFor x freed) is fits)
         by whom.Repair is =
             failed_for_repair d p j w refl disk fails q failed (erasure_of head freed old) None others refl touched

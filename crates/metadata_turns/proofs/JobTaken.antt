@@ -19,11 +19,11 @@ use Rattle.store_model.specs.Steady.{CanBeWritten}
 use Rattle.store_model.specs.Maps.{Metas}
 use Rattle.store_model.specs.Places.{all_set, AreDistinct}
 use Rattle.store_model.specs.Rows.{InJob, Row}
-use Rattle.store_model.specs.StoreState.{JobState, StoreState}
+use Rattle.store_model.specs.StoreState.{JobState, shown, StoreState}
 use Rattle.store_model.proofs.ZeroSlots.{zeroed_rest}
 use Rattle.running_store.specs.Jobs.{begun_job, job_seen}
 use Rattle.metadata_turns.specs.Begins.{planned_with, with_begun, AsksToWrite, HasChain, IsFreshHead, IsPrepared}
-use Rattle.metadata_turns.specs.Begins.{IsUnprepared}
+use Rattle.metadata_turns.specs.Begins.{IsUnprepared, job_with_zeros}
 use Rattle.running_store.specs.Effects.{cut_clusters, live_behind, AreEffects}
 use Rattle.running_store.specs.StoreInvariant.{IsRunning}
 use Rattle.running_store.specs.Running.{WillResolve}
@@ -33,6 +33,8 @@ use Rattle.running_store.specs.declared.effects.Effects.{Effects}
 use Rattle.running_store.specs.declared.replacements.Rooms.{Rooms}
 use Rattle.running_store.specs.declared.job.RunningJob.{RunningJob}
 use Rattle.metadata_turns.specs.declared.preparing.Prepared.{Prepared}
+use Rattle.store_model.specs.Shown.{fixed_of}
+use Rattle.metadata_turns.proofs.Lacking.{may_lack}
 use Rattle.metadata_turns.proofs.JobAsked.{asked, IsAsked}
 use Rattle.metadata_turns.proofs.JobPrepared.{first_in_use, has_chain, ready, there_is, unmarked, zeros_within}
 use Rattle.metadata_turns.proofs.JobPlanned.{all_fit}
@@ -77,7 +79,9 @@ module _ {D : Type 0} (d : Ghosts D) (p : StoreView D) (channel : ℕ) (posted :
 
   -- memory may always be wanting
   pub no_memory : Asks p channel (λ k. IsRefusedAtBegin s k Memory)
-  no_memory k ks left = (asked s running clean runs k head new zeros (asks_it k ks left)).memory
+  no_memory k ks left =
+      let it = asks_it k ks left in
+      may_lack (fixed_of s.super) (shown s) s k (job_with_zeros head new zeros) it.commit it.asked
 
   -- ---- the blob's chain
 

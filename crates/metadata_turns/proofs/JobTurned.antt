@@ -1,9 +1,7 @@
 -- What a turn of the running job makes of the store, by cases.
-use Rattle.std.proofs.Common.{None, ◌≡◌, ℕ, suc, ◌+◌, ◌<◌, Bool, false, List, ◌∷◌, length}
+use Rattle.std.proofs.Common.{None, ◌≡◌, ℕ, suc, ◌+◌, ◌<◌, List, ◌∷◌, length}
 use Rattle.std.proofs.Common.{Some, refl, sym, ◌∙◌, ap, subst, arith, add-one, drop}
 use Rattle.std.specs.Prelude.{slice_get}
-use Rattle.std.proofs.Math.Path.{fun_ext}
-use Rattle.store_model.proofs.Guarding.{none_frozen_by}
 use Rattle.page_disk.specs.Disk.{Written}
 use Rattle.page_disk.specs.Moments.{CallsLeaveOnly}
 use Rattle.page_disk.specs.declared.disk.PageDisk.{Ghosts}
@@ -12,31 +10,24 @@ use Rattle.volume_model.specs.declared.command.Command.{Command}
 use Rattle.volume_model.specs.declared.reply.Reply.{Reply}
 use Rattle.volume_model.specs.declared.reply.Reply.TheVariants as r
 use Rattle.md_chain.specs.declared.plan.PlannedPage.{PlannedPage}
-use Rattle.store_model.specs.Rows.{InJob, Row}
-use Rattle.store_model.specs.StoreState.{ForInsert, JobState, logged, StoreState, planned_at}
+use Rattle.store_model.specs.StoreState.{ForInsert, JobState, StoreState, planned_at}
 use Rattle.store_model.specs.Places.{without_claim}
 use Rattle.store_model.specs.Cases.{WritesOnePage}
 use Rattle.store_model.specs.Cases as kind
-use Rattle.store_model.specs.Cases.Fail.{Tried, page}
-use Rattle.store_model.specs.Cases.InsertFail as insert
 use Rattle.store_model.specs.Cases.{FailsToReplace}
 use Rattle.running_store.specs.StoreView.{StoreView, device_of, rows_of, state_of}
-use Rattle.running_store.specs.Steps.{logged_at}
 use Rattle.metadata_turns.specs.JobTurns.{stopped_at, with_job, IsAtWork, TurnsJob}
 use Rattle.metadata_turns.proofs.AtWork.{drop_one, take_one, next_low, next_page, next_place}
 use Rattle.metadata_turns.proofs.AtWork.{pages_planned}
 use Rattle.metadata_turns.proofs.AtWork.{behind}
-use Rattle.metadata_turns.proofs.InsertFailed.{fails_insert, low_left, command as write_of}
+use Rattle.metadata_turns.proofs.InsertFailed.{low_left, command as write_of}
 use Rattle.metadata_turns.proofs.InsertFailed.{waits as waits_to_insert}
-use Rattle.running_store.proofs.Rowing.{state_logged}
 use Rattle.running_store.specs.GivingBack.{claim_cleared, IsEntered, IsGivenUp}
 use Rattle.store_model.specs.Phases.{Phase, Writes, writing}
 use Rattle.running_store.specs.declared.replacements.Planned.{Planned}
 use Rattle.running_store.specs.declared.job.Serves.{Serves}
-use Rattle.running_store.specs.declared.job.Serves.TheVariants as whom
-use Rattle.running_store.specs.Jobs.{writing_for, writing_job}
+use Rattle.running_store.specs.Jobs.{writing_for}
 use Rattle.metadata_turns.specs.Telling.{HasCommand}
-use Rattle.store_model.specs.Jobs.{IsServed}
 
 -- ---- what waits for a job
 

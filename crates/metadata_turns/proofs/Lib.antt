@@ -6,6 +6,7 @@ pub mod CutClusters
 pub mod FilledMoves
 pub mod SlotsOfZeros
 pub mod JobPlanned
+pub mod Lacking
 pub mod LiveBehind
 pub mod JobAsked
 pub mod JobPrepared

@@ -1,12 +1,9 @@
 -- What a turn of a running job that overwrites a page of a claimed cluster makes of the store.
-use Rattle.std.proofs.Common.{None, ◌≡◌, ℕ, ◌*◌, ◌/◌, ◌%◌, ◌<◌, Bool, true, false, List, [], ◌∷◌, length}
-use Rattle.std.proofs.Common.{Some, refl, sym, ◌∙◌, ap, subst, arith, inl, inr, drop}
+use Rattle.std.proofs.Common.{◌≡◌, ℕ, ◌*◌, ◌/◌, ◌%◌, ◌<◌, Bool, true, false, List, [], ◌∷◌, length}
+use Rattle.std.proofs.Common.{Some, refl, sym, ◌∙◌, ap, subst, arith, inr, drop}
 use Rattle.std.specs.Prelude.{if◌then◌else◌, ◌||◌}
-use Rattle.std.proofs.lemmas.Bool.{cases_lt}
 use Rattle.std.proofs.lemmas.Nat.{div-add-mod', mul-add-lt}
 use Rattle.std.proofs.Math.Nat.{mod-lt}
-use Rattle.std.proofs.Math.ListN.{get_or-eq_default}
-use Rattle.std.proofs.Math.Path.{fun_ext}
 use Rattle.page_disk.specs.Disk.{Written}
 use Rattle.page_disk.specs.Moments.{CallsLeaveOnly}
 use Rattle.page_disk.specs.declared.disk.PageDisk.{Ghosts}
@@ -15,33 +12,26 @@ use Rattle.super_block.specs.Numbers.{cluster_pages_of, clusters_of}
 use Rattle.super_block.specs.Placed.{IsPlaced}
 use Rattle.volume_model.specs.Volumes.{zero_page}
 use Rattle.volume_model.specs.declared.command.Command.{Command}
-use Rattle.volume_model.specs.declared.reply.Reply.TheVariants as r
 use Rattle.md_chain.specs.Chain.{is_among}
-use Rattle.store_model.specs.Rows.{Row, InJob}
-use Rattle.store_model.specs.StoreState.{JobState, logged, StoreState}
+use Rattle.store_model.specs.StoreState.{JobState, StoreState}
 use Rattle.store_model.specs.Cases.{FailsToReplace, WritesOnePage}
 use Rattle.store_model.specs.Cases as kind
 use Rattle.store_model.specs.Cases.Fail.{zeros}
-use Rattle.store_model.specs.Jobs.{IsServed, JobStands, Lays}
+use Rattle.store_model.specs.Jobs.{JobStands, Lays}
 use Rattle.store_model.specs.Phases.{has_commit, Phase, Zeros}
 use Rattle.store_model.specs.RunInvariant.{RunsWell}
-use Rattle.store_model.proofs.Guarding.{none_frozen_by}
-use Rattle.store_model.proofs.Phases.{commit_behind}
 use Rattle.store_model.proofs.Used.{within}
 use Rattle.store_model.proofs.Zeroing.{commit_zeros}
-use Rattle.running_store.specs.Jobs.{behind_zero, commit_of, replacing_of, writing_job, zeroing_job}
+use Rattle.running_store.specs.Jobs.{behind_zero, writing_job, zeroing_job}
 use Rattle.running_store.specs.Zeroing.{next_zeroed, pages_from, IsLeft}
-use Rattle.metadata_turns.specs.JobTurns.{stopped_at, with_job, IsAtWork, TurnsJob}
-use Rattle.running_store.specs.Steps.{logged_at}
+use Rattle.metadata_turns.specs.JobTurns.{with_job, IsAtWork, TurnsJob}
 use Rattle.running_store.specs.StoreView.{StoreView, device_of, rows_of, state_of}
 use Rattle.running_store.specs.declared.replacements.Planned.{Planned}
 use Rattle.running_store.specs.declared.job.Zeroed.{Zeroed}
-use Rattle.running_store.proofs.Rowing.{state_logged}
 use Rattle.metadata_turns.proofs.JobFailed.{channel_low, entry, fails_case, row_left}
 use Rattle.metadata_turns.proofs.JobTurned.{entered}
 use Rattle.running_store.proofs.CommitLeft.{commit_writing}
 use Rattle.running_store.proofs.ZeroPages.{zeroes_next}
-use Rattle.store_model.specs.Phases.{Replaces, erasing}
 
 -- a page of one of so many clusters
 on_device : (page k clusters : ℕ) → 0 < k → page / k < clusters → page < k * clusters

@@ -18,6 +18,7 @@ use Rattle.volume_model.specs.declared.command.Command.{Command}
 use Rattle.volume_model.specs.declared.reply.Reply.{Reply}
 use Rattle.volume_model.specs.declared.reply.Reply.TheVariants as r
 use Rattle.blob_meta.specs.declared.job.Job.{Job}
+use Rattle.blob_meta.specs.declared.job.Replacement.{Replacement}
 use Rattle.blob_meta.specs.Jobs.{job_of_one}
 use Rattle.store_model.specs.StoreState.{StoreState}
 use Rattle.store_model.specs.Cases as kind
@@ -110,13 +111,6 @@ no_effects = record { live = None; renews = false; freed = []; claimed = []; roo
 abbrev pub job_with_zeros : ℕ → Meta → List ℕ → Job
 job_with_zeros head new zeros = record (job_of_one head new) { zero = zeros }
 
--- a job of one replacement, which is its commit, and which freezes nothing
-pub record ReplacesOne (job : Job) : Type 0 where
-  pub head : ℕ
-  pub new : Meta
-  pub zeros : List ℕ
-  pub is : job ≡ job_with_zeros head new zeros
-
 -- What a command asks to be written at a head: new metadata, in which each of these slots is to get a cluster of zeros.
 -- Where no blob is there the head is the page that is next.
 pub record AsksToWrite (p : StoreState) (command : Command) (head : ℕ) (new : Meta) (zeros : List ℕ) : Type 0 where
@@ -124,13 +118,12 @@ pub record AsksToWrite (p : StoreState) (command : Command) (head : ℕ) (new : 
   pub asked : IsJobFor p command (job_with_zeros head new zeros) commit
   pub next : p.base head ≡ None → IsFreshHead p.pages head
 
--- the job that a command asks for
+-- The job that a command asks for. Where its first replacement makes a blob, that one's head is the page that is next.
 pub record IsJobOf (p : StoreState) (command : Command) (job : Job) : Type 0 where
-  pub head : ℕ
-  pub new : Meta
-  pub zeros : List ℕ
-  pub is : job ≡ job_with_zeros head new zeros
-  pub asks : AsksToWrite p command head new zeros
+  pub commit : Committing
+  pub asked : IsJobFor p command job commit
+  pub next : (x : Replacement) (xs : List Replacement) → job.list ≡ x ∷ xs → p.base x.head ≡ None
+      → IsFreshHead p.pages x.head
 
 -- the job begins, or its command is logged: too few pages or clusters are clear, or memory ran out
 abbrev pub BeginsOrNot : {D : Type 0} → Ghosts D → StoreView D → StoreView D → BeginTurn → Type 0

@@ -1,12 +1,11 @@
 //! The begin of a job.
 
-ghost use Rattle.std.specs.Prelude.{◌≡◌, ◌<◌, Some, None, IfErr, IfOk, IsSome, OnErr};
+ghost use Rattle.std.specs.Prelude.{◌≡◌, ◌<◌, Some, None, IfErr, IfOk, IfSome, IsSome, OnErr};
 ghost use Rattle.super_block.specs.Faults.{IsFaultless};
 ghost use Rattle.store_model.specs.Cases.{Begins, IsRefusedAtBegin};
 ghost use Rattle.store_model.specs.Cases as kind;
 ghost use Rattle.metadata_turns.specs.declared.begin.BeginTurn.TheVariants.{Began, Logged};
 ghost use Rattle.metadata_turns.specs.Begins.{job_with_zeros, row_begun, with_begun, AsksToWrite, BeginsOrNot, IsJobOf};
-ghost use Rattle.metadata_turns.specs.Begins.{ReplacesOne};
 ghost use Rattle.running_store.specs.Jobs.{IsHeaded};
 ghost use Rattle.running_store.specs.StoreInvariant.{IsRunning};
 ghost use Rattle.running_store.specs.TurnMade.{TurnMade};
@@ -20,7 +19,9 @@ use crate::filling::fill_slots;
 use crate::preparing::{lack_beside_clusters, prepare};
 use blob_meta::{Job, Meta, Replacement};
 use page_disk::PageDisk;
-use running_store::{Running, RunningJob, clear_places, effects_of, first_of, halt, log};
+use running_store::{
+    Running, RunningJob, clear_places, effects_of, first_of, halt, log, refuse_or_halt,
+};
 use volume_model::{Reply, SlotList};
 
 /// What the begin of a job comes to.
@@ -131,14 +132,13 @@ fn job_for<D: PageDisk>(
     }
 }
 
-/// Begins the job of one replacement, for the posted command of a channel, of a store without a repair that is left;
-/// or, on a stopped store, logs that it is stopped.
+/// Begins the job that the posted command of a channel asks for, of a store without a repair that is left; or, on a
+/// stopped store, logs that it is stopped. (A job of several replacements wants more memory than there is so far.)
 pub fn begin_or_halt<D: PageDisk>(running: &mut Running<D>, channel: u8, job: Job) -> BeginTurn
     requires order { InOrder D.PageDisk running.old }
     requires channel { channel < 16 }
     requires posted { IsPostedAt (view_of running.old) channel }
     requires faultless { IsFaultless running.old.sup }
-    requires replaces { ReplacesOne job }
     requires asks { running.old.stopped ≡ None → Asks (view_of running.old) channel
         (λ command. IsJobOf (state_of D.PageDisk (view_of running.old)) command job) }
     requires running { IsRunning (state_of D.PageDisk (view_of running.old)) }
@@ -156,28 +156,35 @@ pub fn begin_or_halt<D: PageDisk>(running: &mut Running<D>, channel: u8, job: Jo
         halt(running, channel);
         return BeginTurn::Logged;
     }
-    let (head, new, zeros) = replacement_of(job);
-    begin(running, channel, head, new, &zeros)
+    match replacement_of(job) {
+        Some((head, new, zeros)) => begin(running, channel, head, new, &zeros),
+        None => {
+            refuse_or_halt(running, channel, Reply::Memory);
+            BeginTurn::Logged
+        }
+    }
 }
 
-/// The head and the new metadata of a job of one replacement, and its slots of zeros.
-fn replacement_of(job: Job) -> (u32, Meta, SlotList)
-    requires { ReplacesOne job }
-    ensures { job ≡ job_with_zeros result.0 result.1 result.2 }
+/// The head and the new metadata of a job of one replacement, which is its commit, and its slots of zeros.
+fn replacement_of(job: Job) -> Option<(u32, Meta, SlotList)>
+    ensures { IfSome result (λ one. job ≡ job_with_zeros one.0 one.1 one.2) }
 {
     let Job {
         list: mut replacements,
-        commit: _,
+        commit,
         zero: zeros,
-        freeze: _,
+        freeze,
     } = job;
+    if commit != 1 || freeze.is_some() || replacements.len() != 1 {
+        return None;
+    }
     match replacements.pop() {
         Some(
             Replacement {
                 head,
                 new: Some(new),
             },
-        ) => (head, new, zeros),
-        _ => unreachable!(),
+        ) => Some((head, new, zeros)),
+        _ => None,
     }
 }

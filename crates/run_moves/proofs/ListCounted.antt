@@ -9,7 +9,8 @@ use Rattle.blob_meta.specs.declared.job.Replacement.{Replacement}
 use Rattle.blob_meta.specs.declared.meta.Meta.{Meta}
 use Rattle.store_model.specs.Jobs.{AreLaid, IsJobPlanned, IsLaid}
 use Rattle.store_model.specs.Maps.{Chains, Metas}
-use Rattle.store_model.specs.Phases.{Committing, erasing, has_commit, phases_of, rechained, replaced, Replaces, Replacing}
+use Rattle.store_model.specs.Phases.{Committing, erasing, has_commit, phases_of, rechained, replaced, Replaces}
+use Rattle.store_model.specs.Phases.{Replacing}
 use Rattle.store_model.specs.Phases.{taken_by, todo_of}
 use Rattle.store_model.specs.Places.{all_set}
 use Rattle.store_model.specs.StoreState.{ForCommand, ForInsert, Service}

@@ -9,7 +9,8 @@ use Rattle.blob_meta.specs.declared.meta.Meta.{Meta}
 use Rattle.blob_meta.specs.contracts.meta.Meta as meta
 use Rattle.md_chain.specs.declared.plan.PlannedPage.{PlannedPage}
 use Rattle.md_chain.specs.contracts.plan.PlannedPage as planned_page
-use Rattle.store_model.specs.Phases.{Committing, Phase, Marks, Zeros, Writes, Replaces, Erases, Frees, Replacing}
+use Rattle.store_model.specs.Phases.{Committing, LiveChange, Phase, Marks, Zeros, Writes, Replaces, Erases, Frees}
+use Rattle.store_model.specs.Phases.{Replacing}
 use Rattle.store_model.specs.StoreState.{JobState, Service, ForCommand, ForInsert, ForRepair}
 use Rattle.std.proofs.Common.{ap, inl, inr}
 
@@ -29,10 +30,15 @@ replacing_code =
       freed = p.1.1.1.1.1.1;
     }) (λ _. refl)
 
+abbrev pub live_code : Coded LiveChange
+live_code =
+    code_by (ℕ × Option (List Xattr)) (coded× coded_ℕ (coded_option (coded_list xattr.the_row.coded)))
+    (λ x. (x.head, x.xattrs)) (λ p. record { head = p.0; xattrs = p.1 }) (λ _. refl)
+
 abbrev pub committing_code : Coded Committing
 committing_code =
-    code_by (Reply × (Option (List Xattr) × List ℕ))
-    (coded× reply.the_row.coded (coded× (coded_option (coded_list xattr.the_row.coded)) (coded_list coded_ℕ)))
+    code_by (Reply × (Option LiveChange × List ℕ))
+    (coded× reply.the_row.coded (coded× (coded_option live_code) (coded_list coded_ℕ)))
     (λ x. (x.reply, (x.live, x.renews))) (λ p. record { reply = p.0; live = p.1.0; renews = p.1.1 }) (λ _. refl)
 
 -- a phase is one of these

@@ -2,6 +2,7 @@
 use Rattle.std.specs.Prelude.{◌≡◌, ℕ, ◌<◌, if◌then◌else◌, is_some, Bool, true, false, List, [], ◌∷◌, ◌++◌, Option, None}
 use Rattle.std.specs.Prelude.{Some, drop, length, take}
 use Rattle.std.specs.List.{AllByRecursion}
+use Rattle.std.specs.Option.{option_map}
 use Rattle.std.specs.Ordering.{nat_cmp}
 use Rattle.std.specs.FinMap as map
 use Rattle.volume_model.specs.declared.reply.Reply.{Reply}
@@ -9,7 +10,7 @@ use Rattle.volume_model.specs.declared.reply.Reply.TheVariants as r
 use Rattle.volume_model.specs.Xattrs.{Xattrs}
 use Rattle.volume_model.specs.Volumes.{zero_page}
 use Rattle.blob_meta.specs.declared.meta.Meta.{Meta}
-use Rattle.store_model.specs.Phases.{Committing, Phase, Replaces, Replacing, erasing, phases_of, writing}
+use Rattle.store_model.specs.Phases.{Committing, LiveChange, Phase, Replaces, Replacing, erasing, phases_of, writing}
 use Rattle.store_model.specs.StoreState.{JobState, Service, waiting, ForCommand, ForInsert, ForRepair}
 use Rattle.store_model.specs.Places.{AreDistinct}
 use Rattle.running_store.specs.Effects.{is_numbered, numbered_by}
@@ -52,10 +53,17 @@ replacing_of p old = record {
 abbrev pub reply_of : Planned → Reply
 reply_of p = if is_some p.effects.rooms then r.Made p.head else r.Ok
 
+-- the attributes of the blob at a head, if they are read otherwise from a commit on
+abbrev pub live_at : ℕ → Option Xattrs → Option LiveChange
+live_at head = option_map (λ xattrs. record { head = head; xattrs = Some xattrs })
+
 -- what its commit makes
 abbrev pub commit_of : Planned → Committing
-commit_of p =
-    record { reply = reply_of p; live = p.effects.live; renews = numbered_by (is_numbered p.effects) p.head }
+commit_of p = record {
+  reply = reply_of p;
+  live = live_at p.head p.effects.live;
+  renews = numbered_by (is_numbered p.effects) p.head;
+}
 
 -- the commit, where it is one
 abbrev pub commit_in : Planned → Option Committing

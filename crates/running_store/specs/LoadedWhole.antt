@@ -1,15 +1,11 @@
--- When what was loaded of a store is whole in itself, whatever the device tells.
-use Rattle.std.specs.Prelude.{◌≡◌, ◌↔◌, ◌⊎◌, ◌<◌, ℕ, zero, suc, List, [], length, Bool, true, false, IsSome}
-use Rattle.std.specs.FinMap as map
+-- The masks of a loaded store, what is clear in them, and the head of the next blob.
+use Rattle.std.specs.Prelude.{◌≡◌, ◌↔◌, ◌⊎◌, ◌<◌, ℕ, zero, suc, List, [], length, Bool, true, IsSome}
 use Rattle.bit_array.specs.Bits.{is_in, IsFull, IsLeastClear}
 use Rattle.super_block.specs.declared.page.Super.{Super}
 use Rattle.super_block.specs.declared.masks.Masks.{Masks}
-use Rattle.blob_meta.specs.Resolving.{IsLawful}
 use Rattle.store_model.specs.Maps.{Metas, Chains}
 use Rattle.store_model.specs.Places.{Unclaimed, UsedClusters, UsedPages, without_claim}
 use Rattle.store_model.specs.Rows.{Rows}
-use Rattle.store_model.specs.RunInvariant.{AreSteady, HaveChains}
-use Rattle.running_store.specs.declared.loaded.Loaded.{Loaded}
 
 -- The masks are what the chains and the maps claim: pages, clusters and heads.
 pub record AreMasks (s : Super) (metas : Metas) (chains : Chains) (masks : Masks) : Type 0 where
@@ -22,18 +18,6 @@ pub record AreMasks (s : Super) (metas : Metas) (chains : Chains) (masks : Masks
 abbrev pub without_first : List Bool → Rows → ℕ → List Bool
 without_first bits rows zero = bits
 without_first bits rows (suc count) = without_claim (without_first bits rows count) (rows count).claim
-
--- The blobs are steady, and the metadata is lawful; each blob has its chain; no blob was read with a mark, and nothing
--- is left to recover.
-pub record IsWhole {D : Type 0} (loaded : Loaded D) : Type 0 where
-  pub steady : AreSteady loaded.sup (map.get loaded.metas)
-  pub lawful : IsLawful loaded.sup.md_len (map.get loaded.metas)
-  pub chains : HaveChains loaded.sup (map.get loaded.metas) (map.get loaded.chains)
-  pub masks : AreMasks loaded.sup (map.get loaded.metas) (map.get loaded.chains) loaded.masks
-  pub none_removed : loaded.removed ≡ map.empty
-  pub none_marked : loaded.marked ≡ map.empty
-  pub no_repairs : loaded.repairs ≡ []
-  pub read_whole : loaded.quick ≡ false
 
 -- the least place that is clear, or, where none is, how many there are
 abbrev pub IsNextHead : ℕ → List Bool → ℕ → Type 0

@@ -94,8 +94,8 @@ pub fn give_up_here<D: PageDisk>(running: &mut Running<D>, channel: u8, reply: R
     log_here(running, channel, reply);
 }
 
-/// Logs a reply to the first command of a channel, in a turn of the metadata thread, and gives its claim back, if it has
-/// one.
+/// Logs a reply to the first command of a channel, in a turn of the metadata thread, and gives its claim back, if it
+/// has one.
 pub fn give_up<D: PageDisk>(running: &mut Running<D>, channel: u8, reply: Reply)
     requires order { InOrder D.PageDisk running.old }
     requires channel { channel < 16 }

@@ -7,7 +7,8 @@ ghost use Rattle.running_store.specs.StoreView.{rows_of};
 ghost use Rattle.running_store.specs.Reserved.{is_read, IsContent, IsPage, IsReplyOf};
 ghost use Rattle.volume_model.specs.declared.reply.Reply.{Reply as AReply};
 ghost use Rattle.running_store.specs.Stages.{stage_seen};
-ghost use Rattle.running_store.specs.Steps.{decided, gone_on, Asks, left_at, logged_at, logged_on, logged_then, OnlyRow};
+ghost use Rattle.running_store.specs.Steps.{decided, gone_on, Asks, left_at, logged_at, logged_on, logged_then};
+ghost use Rattle.running_store.specs.Steps.{OnlyRow};
 
 use crate::rows::Taken;
 use crate::running::Running;

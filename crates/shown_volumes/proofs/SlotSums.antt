@@ -84,7 +84,8 @@ slots_gone md_len metas head low =
 pub slots_at_most : (md_len : ℕ) (metas other : Metas) → ((h : ℕ) → slots_in (other h) ≤ slots_in (metas h))
     → slots_together md_len metas ≤ 2 ^ 24 → slots_together md_len other ≤ 2 ^ 24
 slots_at_most md_len metas other less few =
-    let below = sum_at_most (λ h. slots_in (metas h)) (λ h. slots_in (other h)) 0 md_len less in omega (arith, below, few)
+    let below = sum_at_most (λ h. slots_in (metas h)) (λ h. slots_in (other h)) 0 md_len less in
+    omega (arith, below, few)
 
 -- ---- volumes
 

@@ -29,7 +29,8 @@ use Rattle.store_model.proofs.Shows.{or_empty}
 use Rattle.store_model.proofs.Synced.{edited_here}
 use Rattle.store_core.specs.Planning.{PlanLaws}
 use Rattle.running_store.specs.StoreView.{state_of}
-use Rattle.store_core.proofs.NextHead.{asks_clone, asks_create}
+use Rattle.store_core.proofs.DeleteAsked.{asks_delete}
+use Rattle.store_core.proofs.NextHead.{asks_clone, asks_create, asks_snapshot, next_there}
 use Rattle.running_store.proofs.Showing.{shows_metas}
 use Rattle.running_store.proofs.Resolved.{unmarked_base}
 use Rattle.metadata_turns.proofs.Answered.{found, live_same}
@@ -151,25 +152,23 @@ module _ (p : StoreState) (metas : map.FinMap nat_cmp Meta)
   asks_rename : (job : Job) → job ≡ job_of_one head new_name → IsJobOf p (c.Rename volume name) job
   asks_rename job is =
       record {
-        head = head;
-        new = new_name;
-        zeros = [];
-        is = is;
-        asks =
-            record {
-              commit = record { reply = r.Ok; live = Some (edit named_here).live; renews = [] };
-              asked =
-                  syncs
-                  (record {
-                    head = head;
-                    new = new_name;
-                    live = (edit named_here).live;
-                    is = refl;
-                    asks = asks_name;
-                    commit_is = refl;
-                  });
-              next = λ none. absurd (let bad = sym none ∙ there in cc bad);
-            };
+        commit = record {
+          reply = r.Ok;
+          live = Some (record { head = head; xattrs = Some (edit named_here).live });
+          renews = [];
+        };
+        asked =
+            syncs
+            (record {
+              head = head;
+              new = new_name;
+              live = (edit named_here).live;
+              is = is;
+              asks = asks_name;
+              commit_is = refl;
+            });
+        next = next_there p job.list (record { head = head; new = Some new_name }) []
+            (ap (λ (j : Job). j.list) is) old there;
       }
 
 -- a resize of a blob that is there
@@ -179,33 +178,23 @@ asks_resize : (p : StoreState) (metas : map.FinMap nat_cmp Meta) → ShowsMetas 
     → job ≡ resize_job head old slots → IsJobOf p (c.Resize volume slots) job
 asks_resize p metas shows volume slots head old job there meant unrefused is =
     record {
-      head = head;
-      new = resized_meta old slots;
-      zeros = (resize_job head old slots).zero;
-      is = is;
-      asks =
-          record {
-            commit = record {
-              reply = r.Ok;
-              live = None;
-              renews = if nat_lt slots (length old.map) then head ∷ [] else [];
-            };
-            asked =
-                resizes
-                (record {
-                  volume = volume;
-                  slots = slots;
-                  command_is = refl;
-                  asked = unrefused (fixed_of p.super) (shown p) shows;
-                  head = head;
-                  found = meant (fixed_of p.super) (shown p) shows;
-                  old = old;
-                  there = there;
-                  is = refl;
-                  commit_is = refl;
-                });
-            next = λ none. absurd (let bad = sym none ∙ there in cc bad);
-          };
+      commit = record { reply = r.Ok; live = None; renews = if nat_lt slots (length old.map) then head ∷ [] else [] };
+      asked =
+          resizes
+          (record {
+            volume = volume;
+            slots = slots;
+            command_is = refl;
+            asked = unrefused (fixed_of p.super) (shown p) shows;
+            head = head;
+            found = meant (fixed_of p.super) (shown p) shows;
+            old = old;
+            there = there;
+            is = is;
+            commit_is = refl;
+          });
+      next = next_there p job.list (record { head = head; new = Some (resized_meta old slots) }) []
+          (ap (λ (j : Job). j.list) is) old there;
     }
 
 pub plan_laws : {D : Type 0} (d : Ghosts D) → PlanLaws d
@@ -243,4 +232,12 @@ plan_laws d = record {
       asks_clone running.store running.first running.script (state_of d p) running.facts (running.facts.well runs)
       p.metas (shows_metas (state_of d p) running runs p.metas are.resolves) volume name parent old head xattrs is_name
       meant (ap (λ (m : Map Meta). m parent) (unmarked_base p.metas p.marked are clean) ∙ there) next unrefused named;
+  snapshot = λ p volume name of old head xattrs running runs are clean is_name meant there next unrefused named.
+      asks_snapshot running.store running.first running.script (state_of d p) running.facts (running.facts.well runs)
+      p.metas (shows_metas (state_of d p) running runs p.metas are.resolves) volume name of old head xattrs is_name
+      meant (ap (λ (m : Map Meta). m of) (unmarked_base p.metas p.marked are clean) ∙ there) next unrefused named;
+  delete = λ p volume of job running runs are clean meant unrefused is.
+      asks_delete running.store running.placed running.first running.script (state_of d p) running.facts p.metas
+      (shows_metas (state_of d p) running runs p.metas are.resolves) (unmarked_base p.metas p.marked are clean) volume
+      of job meant unrefused is;
 }

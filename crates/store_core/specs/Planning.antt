@@ -15,7 +15,8 @@ use Rattle.blob_meta.specs.Asked.{IsFirstCause, IsLiveOf, ShowsLive}
 use Rattle.blob_meta.specs.Jobs.{create_job, job_of_one, resize_job}
 use Rattle.blob_meta.specs.Repairs.{HasNoMarks}
 use Rattle.blob_meta.specs.ShownBy.{IsFirstRefusal, IsHeadMeant, ShowsMetas}
-use Rattle.snapshots.specs.SnapshotJobs.{clone_job}
+use Rattle.inflate_delete.specs.DeletePlans.{IsDeleteJob}
+use Rattle.snapshots.specs.SnapshotJobs.{clone_job, snapshot_job}
 use Rattle.store_model.specs.Shown.{fixed_of}
 use Rattle.store_model.specs.StoreState.{shown}
 use Rattle.store_model.specs.Asking.{AsksFor}
@@ -100,3 +101,18 @@ pub record PlanLaws {D : Type 0} (d : Ghosts D) : Type 0 where
       → IsFirstRefusal p.metas p.super (c.Clone volume name) None
       → ((f : Fixed) (v : Volumes) → ShowsMetas f p.super p.metas v → two_xattrs f v name None ≡ xattrs)
       → IsJobOf (state_of d p) (c.Clone volume name) (clone_job parent old head xattrs)
+  -- A snapshot that nothing refuses asks for a blob at the head that is next, with the slots and the parent of the blob
+  -- that is meant, which has it for its parent then, and with the attributes that a new volume has.
+  pub snapshot : (p : StoreView D) (volume : VolumeRef) (name : Text) (of : ℕ) (old : Meta) (head : ℕ)
+      (xattrs : Xattrs) → IsRunning (state_of d p) → p.stopped ≡ None → AreResolved p.metas p.marked
+      → HasNoMarks (base_of p.metas p.marked) → IsName name → IsHeadMeant p.metas p.super volume (Some of)
+      → map.get p.metas of ≡ Some old → IsNextHead p.super.md_len p.pages head
+      → IsFirstRefusal p.metas p.super (c.Snapshot volume name) None
+      → ((f : Fixed) (v : Volumes) → ShowsMetas f p.super p.metas v → two_xattrs f v name None ≡ xattrs)
+      → IsJobOf (state_of d p) (c.Snapshot volume name) (snapshot_job of old head xattrs)
+  -- A delete that nothing refuses asks for the blob that is meant to be erased, whose one clone, if it has one, takes
+  -- its clusters and its parent first.
+  pub delete : (p : StoreView D) (volume : VolumeRef) (of : ℕ) (job : Job) → IsRunning (state_of d p)
+      → p.stopped ≡ None → AreResolved p.metas p.marked → HasNoMarks (base_of p.metas p.marked)
+      → IsHeadMeant p.metas p.super volume (Some of) → IsFirstRefusal p.metas p.super (c.Delete volume) None
+      → IsDeleteJob p.metas of job → IsJobOf (state_of d p) (c.Delete volume) job

@@ -1,5 +1,6 @@
 -- A job on volumes, their parents and clones, laid on pages: what all its phases do.
-use Rattle.std.proofs.Common.{◌≡◌, ◌⊎◌, ℕ, zero, suc, ◌+◌, ◌<◌, ◌≤◌, Bool, true, false, List, [], ◌∷◌, length, None, Some}
+use Rattle.std.proofs.Common.{◌≡◌, ◌⊎◌, ℕ, zero, suc, ◌+◌, ◌<◌, ◌≤◌, Bool, true, false, List, [], ◌∷◌, length, None}
+use Rattle.std.proofs.Common.{Some}
 use Rattle.std.proofs.Common.{refl, sym, ap, ◌∙◌, subst, inl, inr, arith}
 use Rattle.std.specs.Prelude.{◌-◌, ◌==◌, if◌then◌else◌, drop, take}
 use Rattle.std.proofs.lemmas.Bool.{cases_Bool, cases_eq, eq-eqb, false≢true, ne_eqb}
@@ -16,7 +17,8 @@ use Rattle.shown_volumes.specs.EmptySlots.{Anything}
 use Rattle.shown_volumes.specs.ShowsStep.{part_of}
 use Rattle.store_model.specs.Jobs.{AreLaid, Does, IsErasure, IsJobPlanned, IsLaid, IsUnseen, Keeps, ReadsZeros}
 use Rattle.store_model.specs.Maps.{Chains, Metas}
-use Rattle.store_model.specs.Phases.{Committing, erasing, has_commit, phases_of, rechained, replaced, Replaces, Replacing}
+use Rattle.store_model.specs.Phases.{Committing, erasing, has_commit, phases_of, rechained, replaced, Replaces}
+use Rattle.store_model.specs.Phases.{Replacing}
 use Rattle.store_model.specs.Phases.{taken_by, todo_of}
 use Rattle.store_model.specs.Places.{all_set}
 use Rattle.store_model.specs.StoreState.{StoreState}

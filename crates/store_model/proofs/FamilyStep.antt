@@ -1,5 +1,6 @@
 -- A job on volumes, their parents and clones: from what is known of each part of its list to the step of its commit.
-use Rattle.std.proofs.Common.{◌≡◌, ◌⊎◌, ℕ, zero, suc, ◌+◌, ◌^◌, ◌<◌, ◌≤◌, Bool, true, false, List, [], ◌∷◌, length, None}
+use Rattle.std.proofs.Common.{◌≡◌, ◌⊎◌, ℕ, zero, suc, ◌+◌, ◌^◌, ◌<◌, ◌≤◌, Bool, true, false, List, [], ◌∷◌, length}
+use Rattle.std.proofs.Common.{None}
 use Rattle.std.proofs.Common.{Option, Some, refl, sym, ap, ◌∙◌, subst, inl, inr, arith}
 use Rattle.std.specs.Prelude.{IsSome}
 use Rattle.std.specs.List.{AllByRecursion}
@@ -34,8 +35,8 @@ use Rattle.store_model.proofs.Meanwhile.{reading}
 use Rattle.store_model.proofs.OneReplacement.{base_lawful, base_steady, some_pages}
 use Rattle.store_model.proofs.Writable.{AllWritable}
 
--- What a job on a family of volumes is known for, whatever an image holds: what its parts show, that they can be stored,
--- and what the command's step makes of attributes. A blob that it replaces, and that is there then, is renewed.
+-- What a job on a family of volumes is known for, whatever an image holds: what its parts show, that they can be
+-- stored, and what the command's step makes of attributes. A blob that it replaces, and that is there then, is renewed.
 pub record IsFamilyJob (p : StoreState) (command : Command) (job : Changes) (commit : Committing) : Type 0 where
   pub shows : ShowsStep (fixed_of p.super) p.base p.live command commit.reply job
   pub stored : AreStoredWell p.super job
@@ -44,8 +45,10 @@ pub record IsFamilyJob (p : StoreState) (command : Command) (job : Changes) (com
   pub allowed : (image : Image) → Allowed (fixed_of p.super) (shown (reading p image)) command commit.reply
   pub may_fail : (image : Image) → Allowed (fixed_of p.super) (shown (reading p image)) command r_.Fault
   pub lives : (image : Image)
-      → live_of (change (fixed_of p.super) (shown (reading p image)) command commit.reply) ≡ with_live p.live commit.live
-  pub writable : (image : Image) → AllWritable (change (fixed_of p.super) (shown (reading p image)) command commit.reply)
+      → live_of (change (fixed_of p.super) (shown (reading p image)) command commit.reply)
+      ≡ with_live p.live commit.live
+  pub writable : (image : Image)
+      → AllWritable (change (fixed_of p.super) (shown (reading p image)) command commit.reply)
   pub there : AllByRecursion (λ h. IsSome (part_of job p.base job.commit h)) commit.renews
   pub gone : (h : ℕ) → is_among h commit.renews ≡ false
       → (replaces job h ≡ false) ⊎ (resolved (part_of job p.base job.commit) h ≡ None)
@@ -109,7 +112,8 @@ module _ (known : Known) (unmarked : HasNoMarks known.p.base) where
             (live_of (change f v command commit.reply)) image ≡ change f v command commit.reply) (sym (before image))
             (ap (λ (m : Metas). shown_of p.super m (live_of (change f (shown (reading p image)) command commit.reply))
             image) next ∙ family.shows.since job.commit (omega arith) within image);
-        lives = λ image. subst (λ (v : Volumes). live_of (change f v command commit.reply) ≡ with_live p.live commit.live)
+        lives = λ image. subst
+            (λ (v : Volumes). live_of (change f v command commit.reply) ≡ with_live p.live commit.live)
             (sym (before image)) (family.lives image);
         writable = λ image h v is. family.writable image h v
             (ap (λ (u : Volumes). change f u command commit.reply h) (sym (before image)) ∙ is);

@@ -91,8 +91,8 @@ module _ (known : Known) (unmarked : HasNoMarks known.p.base) where
         by changes (syncs y) = subst Stored (sym y.is) (plain (one_of y.head y.new) refl (λ low. (
           λ m is.
           let one : y.new ≡ m = cc is in
-          let steady = (sync_ready known unmarked runs command y.head y.new y.live y.asks (bare_at y.head y.new false) refl refl
-          refl).steady in
+          let steady = (sync_ready known unmarked runs command y.head y.new y.live y.asks
+          (bare_at y.head y.new false) refl refl refl).steady in
           subst (IsStoredWell p.super y.head) one (record { stored = steady.stored; named = steady.named }),
           tt,
         )))

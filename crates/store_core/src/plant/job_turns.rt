@@ -13,7 +13,7 @@ impl<D: PageDisk> Plant<D> {
     ghost use Rattle.std.specs.Prelude.{◌≡◌, None, Some, IsSome};
     ghost use Rattle.std.specs.FinMap as map;
     ghost use Rattle.metadata_turns.specs.Answering.{IsAnswerable};
-    ghost use Rattle.metadata_turns.specs.Begins.{row_begun, BeginsOrNot, IsJobOf, ReplacesOne};
+    ghost use Rattle.metadata_turns.specs.Begins.{row_begun, BeginsOrNot, IsJobOf};
     ghost use Rattle.metadata_turns.specs.JobTurns.{answer_of, TurnsJob};
     ghost use Rattle.metadata_turns.specs.declared.begin.BeginTurn.TheVariants.{Logged as LoggedNow};
     ghost use Rattle.page_disk.specs.Moments.{CallsLeaveOnly};
@@ -71,7 +71,6 @@ impl<D: PageDisk> Plant<D> {
         requires posted { IsPostedBy self.old.at.rows msg }
         requires no_job { self.old.at.job ≡ None }
         requires repaired { IsRepaired (state_of D.PageDisk self.old.at) }
-        requires replaces { ReplacesOne job }
         requires asks { self.old.at.stopped ≡ None
             → Asks self.old.at msg.channel (λ command. IsJobOf (state_of D.PageDisk self.old.at) command job) }
         ensures begins { self.old.at.stopped ≡ None → BeginsOrNot D.PageDisk self.old.at self.new.at result }

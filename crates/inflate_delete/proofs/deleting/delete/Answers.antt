@@ -20,7 +20,8 @@ returns-in-Some c =
       there = c.requires.there;
       clones = ks;
       clones_are = c.requires.clones;
-      job_is = subst (λ (xs : List ℕ). IsJobBeside (map.get c.args.metas.now) c.args.volume c.args.old.now xs job) (sym one)
+      job_is = subst (λ (xs : List ℕ). IsJobBeside (map.get c.args.metas.now) c.args.volume c.args.old.now xs job)
+          (sym one)
           (c.in-Some.heir.now, sym c.in-Some.ensures, is);
     })
     c.delete_job.ensures

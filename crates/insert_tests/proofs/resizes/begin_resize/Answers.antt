@@ -23,7 +23,7 @@ begin_job-requires-clause-asks g c =
     let plan : IsPlanOf d p c.in-Ok-Meta.command.now (Some (Ok c.in-Ok.job)) =
     subst (λ (r : Result Job Reply). IsPlanOf d p c.in-Ok-Meta.command.now (Some r)) c.in-Ok.is c.in-Some.ensures in
     λ _ command rest left. subst (λ (k : Command). IsJobOf (state_of d p) k c.in-Ok.job)
-    (same_first c.in-Ok-Meta.command.now command asked.1 rest (sym asked.2 ∙ left)) plan.1
+    (same_first c.in-Ok-Meta.command.now command asked.1 rest (sym asked.2 ∙ left)) plan
 
 pub refuse-requires-clause-why : goal.refuse-requires-clause-why
 refuse-requires-clause-why g c =

@@ -15,7 +15,8 @@ returns-clause-job c =
     let name = c.in-Snapshot.name in
     IfOk-weaker c.plan_snapshot.result (PlansSnapshot metas head c.args.new name c.uuid_of_new-uuid.result)
     (SnapshotsAsAsked metas sup c.args.new c.args.command.now)
-    (λ (job : Job) plan. subst (λ (k : Command). SnapshotsAsAsked metas sup c.args.new k job) (sym c.in-Snapshot.is) (record {
+    (λ (job : Job) plan. subst (λ (k : Command). SnapshotsAsAsked metas sup c.args.new k job)
+    (sym c.in-Snapshot.is) (record {
       of = head;
       old = plan.old;
       meant = c.in-Some.ensures.meant;

@@ -1,7 +1,13 @@
+use Rattle.std.proofs.Common.{subst}
 use Rattle.std.specs.Option.{option_copied}
+use Rattle.std.specs.Prelude.{IfOk}
+use Rattle.volume_model.specs.declared.command.Command.{Command}
+use Rattle.volume_model.specs.declared.command.Command.TheVariants as command
+use Rattle.lvol_store.specs.CopyPlans.{ClonesAsAsked, SnapshotsAsAsked}
+use Rattle.snapshots.specs.SnapshotJobs.{clone_job, snapshot_job}
 use Rattle.md_thread.proofs.Planned.{answerable, is_running}
 use Rattle.md_thread.proofs.PlannedAttributes.{live_given, put_plan, read_only_plan, sync_plan}
-use Rattle.md_thread.proofs.PlannedSlots.{clone_plan, create_plan, rename_plan, resize_plan}
+use Rattle.md_thread.proofs.PlannedSlots.{copy_plan, create_plan, delete_plan, rename_plan, resize_plan}
 use Rattle.md_thread.proofs.tasks.planned.Goals as goal
 
 pub plan_put-requires-clause-live : goal.plan_put-requires-clause-live
@@ -99,12 +105,42 @@ returns-in-Clone g c =
     let d = g.D.PageDisk in
     let p = c.args.plant.now.at in
     let running = is_running d c.args.plant.now c.keeps.ensures in
-    clone_plan d p c.metas-metas.result.now c.sup-sup.result.now c.metas-metas.ensures c.sup-sup.ensures
-    (c.plans.ensures.shows_all p running c.requires.runs c.resolves.ensures)
-    (λ volume name parent old head xattrs. c.plans.ensures.clone p volume name parent old head xattrs running
+    copy_plan d p c.metas-metas.result.now c.sup-sup.result.now c.metas-metas.ensures c.sup-sup.ensures
+    (c.plans.ensures.shows_all p running c.requires.runs c.resolves.ensures) command.Clone clone_job
+    (λ volume name of old head xattrs. c.plans.ensures.clone p volume name of old head xattrs running
     c.requires.runs c.resolves.ensures c.requires.unmarked)
-    c.next_head-new.result c.next_head-new.ensures c.args.command.now c.in-Clone.volume c.in-Clone.name c.in-Clone.is
-    c.plan_clone.result c.plan_clone.ensures.job c.plan_clone.ensures.unrefused c.plan_clone.ensures.refused
+    c.next_head-new.result c.next_head-new.ensures c.args.command.now c.in-Clone.volume c.in-Clone.name c.in-Clone.is tt
+    c.plan_clone.result
+    (subst (λ (k : Command). IfOk c.plan_clone.result (ClonesAsAsked c.metas-metas.result.now c.sup-sup.result.now
+    c.next_head-new.result k)) c.in-Clone.is c.plan_clone.ensures.job)
+    c.plan_clone.ensures.unrefused c.plan_clone.ensures.refused
+
+pub returns-in-Snapshot : goal.returns-in-Snapshot
+returns-in-Snapshot g c =
+    let d = g.D.PageDisk in
+    let p = c.args.plant.now.at in
+    let running = is_running d c.args.plant.now c.keeps.ensures in
+    copy_plan d p c.metas-metas.result.now c.sup-sup.result.now c.metas-metas.ensures c.sup-sup.ensures
+    (c.plans.ensures.shows_all p running c.requires.runs c.resolves.ensures) command.Snapshot snapshot_job
+    (λ volume name of old head xattrs. c.plans.ensures.snapshot p volume name of old head xattrs running
+    c.requires.runs c.resolves.ensures c.requires.unmarked)
+    c.next_head-new.result c.next_head-new.ensures c.args.command.now c.in-Snapshot.volume c.in-Snapshot.name
+    c.in-Snapshot.is tt c.plan_snapshot.result
+    (subst (λ (k : Command). IfOk c.plan_snapshot.result (SnapshotsAsAsked c.metas-metas.result.now
+    c.sup-sup.result.now c.next_head-new.result k)) c.in-Snapshot.is c.plan_snapshot.ensures.job)
+    c.plan_snapshot.ensures.unrefused c.plan_snapshot.ensures.refused
+
+pub returns-in-Delete : goal.returns-in-Delete
+returns-in-Delete g c =
+    let d = g.D.PageDisk in
+    let p = c.args.plant.now.at in
+    let running = is_running d c.args.plant.now c.keeps.ensures in
+    delete_plan d p c.metas-metas.result.now c.sup-sup.result.now c.metas-metas.ensures c.sup-sup.ensures
+    (c.plans.ensures.shows_all p running c.requires.runs c.resolves.ensures)
+    (λ volume of job. c.plans.ensures.delete p volume of job running c.requires.runs c.resolves.ensures
+    c.requires.unmarked)
+    c.args.command.now c.in-Delete.volume c.in-Delete.is c.plan_delete.result c.plan_delete.ensures.job
+    c.plan_delete.ensures.unrefused c.plan_delete.ensures.refused
 
 pub returns-in-Rename : goal.returns-in-Rename
 returns-in-Rename g c =
@@ -122,3 +158,4 @@ pub returns-in_default : goal.returns-in_default
 returns-in_default g c =
     answerable c.args.command.now c.requires.served c.in_default.not-Create c.in_default.not-Put c.in_default.not-Sync
     c.in_default.not-ReadOnly c.in_default.not-Resize c.in_default.not-Clone c.in_default.not-Rename
+    c.in_default.not-Snapshot c.in_default.not-Delete

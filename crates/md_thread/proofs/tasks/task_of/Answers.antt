@@ -25,7 +25,6 @@ returns-in-Some-Ok g c =
     let plan : IsPlanOf d p c.in-Ok-Meta.command.now (Some (Ok job)) =
     subst (λ (o : Option (Result Job Reply)). IsPlanOf d p c.in-Ok-Meta.command.now o) is c.planned.ensures in (
       record { stage = found.posted; unclaimed = asked.0 },
-      plan.0,
       λ _ command rest left. subst (λ (k : Command). IsJobOf (state_of d p) k job)
-          (same_first c.in-Ok-Meta.command.now command asked.1 rest (sym asked.2 ∙ left)) plan.1,
+          (same_first c.in-Ok-Meta.command.now command asked.1 rest (sym asked.2 ∙ left)) plan,
     )

@@ -1,4 +1,4 @@
-use Rattle.std.proofs.Common.{◌≡◌, ◌≤◌, ◌+◌, ◌<◌, ℕ, List, sym, ◌∙◌, ap, refl, subst, arith}
+use Rattle.std.proofs.Common.{◌≡◌, ◌≤◌, ◌+◌, ℕ, List, sym, ◌∙◌, ap, refl, subst, arith}
 use Rattle.std.specs.Prelude.{false, slice_set}
 use Rattle.page_disk.specs.Moments.{CallsLeaveOnly, IsReplaced}
 use Rattle.page_disk.specs.declared.disk.PageDisk.{Ghosts}

@@ -1,4 +1,4 @@
-use Rattle.std.proofs.Common.{◌≡◌, ◌<◌, ◌+◌, ◌≤◌, ℕ, [], List, length, get_or, sym, ◌∙◌, ap, refl, subst, arith, Some}
+use Rattle.std.proofs.Common.{◌<◌, ◌+◌, ℕ, List, length, get_or, sym, ◌∙◌, ap, refl, subst, arith, Some}
 use Rattle.page_disk.specs.Disk.{Written}
 use Rattle.page_disk.specs.Moments.{CallsLeaveOnly}
 use Rattle.page_disk.specs.declared.disk.WriteKind.TheVariants.{Plain}

@@ -1,4 +1,4 @@
-use Rattle.std.proofs.Common.{◌≡◌, ◌<◌, ◌+◌, ◌≤◌, ℕ, [], List, length, get_or, sym, ◌∙◌, ap, refl, subst, arith}
+use Rattle.std.proofs.Common.{◌<◌, ◌+◌, ℕ, List, length, get_or, sym, ◌∙◌, ap, refl, subst, arith}
 use Rattle.page_disk.specs.Disk.{Written}
 use Rattle.page_disk.specs.Moments.{CallsLeaveOnly}
 use Rattle.page_disk.specs.declared.disk.WriteKind.TheVariants.{Plain}
@@ -10,7 +10,7 @@ use Rattle.running_store.proofs.PlainFacts.{got, on_err, on_ok, zeros}
 use Rattle.volume_model.specs.Volumes.{zero_page}
 use Rattle.store_model.specs.Phases.{Frees}
 use Rattle.metadata_turns.specs.Telling.{HasFailed, HasWaitingRow}
-use Rattle.metadata_turns.proofs.HeadReplaced.{comes_alone, resolves_behind, room_behind}
+use Rattle.metadata_turns.proofs.HeadReplaced.{comes_alone}
 use Rattle.metadata_turns.proofs.JobErased.{cleared, freed_all, insert_row, last_left, old_below, old_differ, old_used}
 use Rattle.metadata_turns.proofs.JobFailed.{failed_putting, waiting_row}
 use Rattle.metadata_turns.proofs.page_turns.free.Goals as goal

@@ -1,4 +1,4 @@
-use Rattle.std.proofs.Common.{refl, sym, ap, ◌∙◌, subst, arith, drop, ◌∷◌, Some}
+use Rattle.std.proofs.Common.{sym, ap, ◌∙◌, subst, arith, drop, ◌∷◌, Some}
 use Rattle.std.specs.Option.{option_map}
 use Rattle.md_chain.proofs.Fitting.{some_parts}
 use Rattle.store_model.specs.Cases.BeginRepair.{BeginsRepair}
