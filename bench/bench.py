@@ -5,6 +5,7 @@ It fails where an answer is wrong, where a put flushes too seldom, and where the
 pages. Whether a row is as fast as it must be is printed."""
 import argparse
 import os
+import signal
 import subprocess
 import sys
 import tempfile
@@ -146,6 +147,8 @@ def main():
 
 
 if __name__ == "__main__":
+    # Images are removed also where it is told to stop.
+    signal.signal(signal.SIGTERM, lambda _number, _frame: sys.exit("bench: stopped"))
     try:
         sys.exit(main())
     except (running.Failure, subprocess.CalledProcessError, OSError) as failure:
