@@ -1,9 +1,9 @@
--- What the words of `format` ask for.
-use Rattle.std.specs.Prelude.{ℕ, ◌*◌, ◌/◌, ◌%◌, ◌^◌, ◌==◌, nat_lt, ◌&&◌, if◌then◌else◌, List, [], ◌∷◌, Bool, Option}
-use Rattle.std.specs.Prelude.{Some, None, map, String, string_bytes, codes, option_and_then}
+-- What `format` is asked for with.
+use Rattle.std.specs.Prelude.{ℕ, ◌*◌, ◌/◌, ◌%◌, ◌^◌, ◌==◌, nat_lt, ◌&&◌, if◌then◌else◌, List, Option, Some, None}
+use Rattle.std.specs.Prelude.{String, option_and_then}
 use Rattle.std.specs.Option.{option_map}
-use Rattle.std.specs.Str.{bytes_eq}
 use Rattle.std.specs.declared.alloc.Global.{Global}
+use Rattle.command_words.specs.Words.{asked_in, format, Asked}
 use Rattle.script_lang.specs.Words.{number_below}
 use Rattle.blob_tool.specs.declared.format_words.Format.{Format}
 
@@ -33,26 +33,10 @@ of_options cluster md_pages =
     option_and_then (λ k. option_map (λ n. record { cluster_pages = k; md_pages = n }) (asked_md_pages md_pages))
     (asked_cluster cluster)
 
--- the name of the option for the bytes of a cluster
-abbrev pub is_cluster : List ℕ → Bool
-is_cluster name = bytes_eq name (codes "--cluster")
+abbrev pub format_asked : Option Asked → Option Format
+format_asked (Some (format image cluster md_pages)) = of_options cluster md_pages
+format_asked _ = None
 
--- the name of the option for the number of metadata pages
-abbrev pub is_md_pages : List ℕ → Bool
-is_md_pages name = bytes_eq name (codes "--md-pages")
-
--- the options behind the image, in any order, each at most once
-abbrev pub options_in : List (List ℕ) → Option Format
-options_in [] = of_options None None
-options_in (name ∷ x ∷ []) =
-    if is_cluster name then of_options (Some x) None else (if is_md_pages name then of_options None (Some x) else None)
-options_in (a ∷ x ∷ b ∷ y ∷ []) =
-    if is_cluster a && is_md_pages b then of_options (Some x) (Some y)
-    else (if is_md_pages a && is_cluster b then of_options (Some y) (Some x) else None)
-options_in _ = None
-
--- the words are `format`, an image and options
+-- the new store for which the words ask
 abbrev pub format_in : List (String Global) → Option Format
-format_in (verb ∷ image ∷ options) =
-    if bytes_eq (string_bytes verb) (codes "format") then options_in (map string_bytes options) else None
-format_in _ = None
+format_in words = format_asked (asked_in words)

@@ -3,7 +3,7 @@ use Rattle.std.specs.Prelude.{◌≡◌, ◌⊎◌, ℕ, ◌<◌, ◌≤◌, ◌
 use Rattle.page_disk.specs.Disk.{Rose}
 use Rattle.page_disk.specs.declared.disk.PageDisk as disk
 use Rattle.volume_model.specs.declared.command.Command.{Command}
-use Rattle.metadata_turns.specs.Repairs.{LacksForRepair}
+use Rattle.job_begins.specs.Repairs.{LacksForRepair}
 use Rattle.md_chain.specs.Reading.{OnlyRead}
 use Rattle.script_lang.specs.Script.{reads, IsFirstBad}
 use Rattle.script_lang.specs.declared.grammar.Grammar.TheVariants.{Served}

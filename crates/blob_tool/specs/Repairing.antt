@@ -3,7 +3,7 @@ use Rattle.std.specs.Prelude.{◌≡◌, ◌⊎◌, ℕ, ◌<◌, Option, Some, 
 use Rattle.page_disk.specs.Disk.{Rose}
 use Rattle.page_disk.specs.declared.disk.PageDisk.{Ghosts}
 use Rattle.blob_meta.specs.Repairs.{HasNoMarks}
-use Rattle.metadata_turns.specs.Repairs.{LacksForRepair}
+use Rattle.job_begins.specs.Repairs.{LacksForRepair}
 use Rattle.repair_runs.specs.RepairRuns.{marks_left, RepairRun}
 use Rattle.running_store.specs.StoreView.{base_of, rows_of, state_of, StoreView}
 use Rattle.running_store.specs.Surviving.{HasOneImage}

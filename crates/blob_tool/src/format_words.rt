@@ -1,9 +1,8 @@
-//! The words of `format`.
+//! What `format` is asked for with.
 
-ghost use Rattle.std.specs.Prelude.{◌≡◌, map, string_bytes};
+ghost use Rattle.std.specs.Prelude.{◌≡◌};
 ghost use Rattle.std.specs.Option.{option_copied};
-ghost use Rattle.blob_tool.specs.FormatWords.{cluster_in, md_pages_in, of_options as of_options_said, options_in};
-ghost use Rattle.blob_tool.specs.FormatWords.{format_in as format_said};
+ghost use Rattle.blob_tool.specs.FormatWords.{cluster_in, md_pages_in, of_options as of_options_said};
 
 use script_lang::number_below;
 
@@ -39,8 +38,8 @@ fn md_pages(pages: &str) -> Option<u32>
     }
 }
 
-/// What the options ask for, of which each may be missing.
-fn of_options(cluster: Option<&str>, pages: Option<&str>) -> Option<Format>
+/// What the options ask for, of which each may be missing; `None` where one isn't of its form.
+pub(crate) fn of_options(cluster: Option<&str>, pages: Option<&str>) -> Option<Format>
     ensures { result ≡ of_options_said (option_copied cluster.entry) (option_copied pages.entry) }
 {
     let cluster_pages = match cluster {
@@ -55,32 +54,4 @@ fn of_options(cluster: Option<&str>, pages: Option<&str>) -> Option<Format>
         cluster_pages,
         md_pages,
     })
-}
-
-/// What the options behind the image ask for: they stand in any order, each at most once.
-fn options(words: &[String]) -> Option<Format>
-    ensures { result ≡ options_in (map string_bytes words.now) }
-{
-    match words {
-        [] => of_options(None, None),
-        [name, x] if name.as_str() == "--cluster" => of_options(Some(x.as_str()), None),
-        [name, x] if name.as_str() == "--md-pages" => of_options(None, Some(x.as_str())),
-        [a, x, b, y] if a.as_str() == "--cluster" && b.as_str() == "--md-pages" => {
-            of_options(Some(x.as_str()), Some(y.as_str()))
-        }
-        [a, x, b, y] if a.as_str() == "--md-pages" && b.as_str() == "--cluster" => {
-            of_options(Some(y.as_str()), Some(x.as_str()))
-        }
-        _ => None,
-    }
-}
-
-/// What `format IMAGE` with its options asks for; `None` where the words aren't such a command.
-pub fn format_in(words: &[String]) -> Option<Format>
-    ensures { result ≡ format_said words.now }
-{
-    match words {
-        [verb, _image, rest @ ..] if verb.as_str() == "format" => options(rest),
-        _ => None,
-    }
 }

@@ -1,7 +1,7 @@
-//! The words of `generate`.
+//! What `generate` is asked for with.
 
 ghost use Rattle.std.specs.Prelude.{◌≡◌, ◌<◌, ◌≤◌, ◌^◌, IfSome};
-ghost use Rattle.blob_tool.specs.GenerateWords.{generated_script_in, generate_in as generate_said};
+ghost use Rattle.blob_tool.specs.GenerateWords.{generated_script_in};
 
 use script_lang::number_below;
 
@@ -14,8 +14,8 @@ pub struct GeneratedScript {
     pub size: u32,
 }
 
-/// The script of this number and this size.
-fn generated_script(number: &str, size: &str) -> Option<GeneratedScript>
+/// The script of this number and this size; `None` where one isn't of its form.
+pub(crate) fn generated_script(number: &str, size: &str) -> Option<GeneratedScript>
     ensures script { result ≡ generated_script_in number.now size.now }
     ensures number { IfSome result (λ script. script.number < 2 ^ 31) }
     ensures size { IfSome result (λ script. script.size ≤ 65000) }
@@ -26,18 +26,4 @@ fn generated_script(number: &str, size: &str) -> Option<GeneratedScript>
         number: number as u32,
         size: size as u32,
     })
-}
-
-/// The script that `generate NUMBER SIZE` asks for; `None` where the words aren't such a command.
-pub fn generate_in(words: &[String]) -> Option<GeneratedScript>
-    ensures script { result ≡ generate_said words.now }
-    ensures number { IfSome result (λ script. script.number < 2 ^ 31) }
-    ensures size { IfSome result (λ script. script.size ≤ 65000) }
-{
-    match words {
-        [verb, number, size] if verb.as_str() == "generate" => {
-            generated_script(number.as_str(), size.as_str())
-        }
-        _ => None,
-    }
 }

@@ -6,12 +6,12 @@ mod format_words;
 mod formatting;
 mod generate_words;
 mod generating;
-mod list_words;
 mod listing;
 mod playing;
 mod repairing;
 mod run_words;
 mod status;
+mod task;
 mod top;
 
 pub use script_lang::LineKind;

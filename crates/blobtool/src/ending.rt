@@ -1,7 +1,8 @@
-//! How the program ends: its exit status, and the line that it prints to standard error.
+//! How the program ends: its exit status, and what it prints to standard error.
 
 use crate::image::OpenFault;
 use blob_tool::{LineKind, Status};
+use clap::Error;
 use std::fmt::{Display, Formatter, Result, Write};
 use std::io;
 
@@ -10,6 +11,8 @@ use std::io;
 pub enum Ending {
     /// A command ended so.
     Ran(Status),
+    /// The words are no command, or ask for help or the version: what `clap` says of them.
+    Refused(Error),
     /// A word isn't UTF-8.
     NotText,
     /// The image isn't had.
@@ -30,7 +33,7 @@ impl Ending {
     pub fn code(&self) -> u8 {
         match self {
             Ending::Ran(Status::Good) => 0,
-            Ending::Ran(Status::Usage) | Ending::NotText => 1,
+            Ending::Ran(Status::Usage) | Ending::Refused(_) | Ending::NotText => 1,
             Ending::Ran(Status::Script { .. }) => 2,
             Ending::Ran(Status::Image { .. }) => 3,
             Ending::Ran(Status::ScriptRead) => 4,
@@ -40,11 +43,6 @@ impl Ending {
         }
     }
 }
-
-/// The commands.
-const USAGE: &str =
-    "usage: blobtool run IMAGE [--schedule LIST], or blobtool format IMAGE [--cluster BYTES] \
-     [--md-pages N], or blobtool list IMAGE, or blobtool generate NUMBER SIZE";
 
 /// What is wrong with a line, in words.
 fn wrong(kind: LineKind) -> &'static str {
@@ -64,7 +62,10 @@ impl Display for Ending {
     fn fmt<W: Write>(&self, f: &mut Formatter<W>) -> Result {
         match self {
             Ending::Ran(Status::Good) => write!(f, "done"),
-            Ending::Ran(Status::Usage) => write!(f, "{USAGE}"),
+            Ending::Ran(Status::Usage) => {
+                write!(f, "a value is not of its form: see blobtool COMMAND --help")
+            }
+            Ending::Refused(text) => write!(f, "{text}"),
             Ending::Ran(Status::Script { line: 0, .. }) => write!(f, "the script is too big"),
             Ending::Ran(Status::Script { line, kind }) => {
                 write!(f, "line {line} of the script: {}", wrong(*kind))
@@ -91,7 +92,19 @@ impl Display for Ending {
 mod tests {
     use super::*;
     use blob_tool::LoadFault;
+    use command_words::refusal;
+    use std::alloc::Global;
     use std::test::Fail;
+
+    /// What is said of words that ask for the version.
+    fn version(alloc: Global) -> std::result::Result<Error, Fail> {
+        let mut words = Vec::new(alloc);
+        words.push(format!(in alloc; "--version")?)?;
+        match refusal(alloc, &words)? {
+            Some(text) => Ok(text),
+            None => Err(Fail::new("the version is a command")),
+        }
+    }
 
     #[test]
     fn each_ending_has_its_status_and_text(rt: HostRuntime) -> std::result::Result<(), Fail> {
@@ -116,8 +129,12 @@ mod tests {
             (
                 Ending::Ran(Status::Usage),
                 1,
-                "usage: blobtool run IMAGE [--schedule LIST], or blobtool format IMAGE [--cluster BYTES] \
-                 [--md-pages N], or blobtool list IMAGE, or blobtool generate NUMBER SIZE",
+                "a value is not of its form: see blobtool COMMAND --help",
+            ),
+            (
+                Ending::Refused(version(rt.alloc())?),
+                1,
+                "blobtool 0.1.0 (SPDK Blobstore, format version 3)\n",
             ),
             (Ending::NotText, 1, "a word is not UTF-8"),
             (

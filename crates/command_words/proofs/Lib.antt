@@ -1,0 +1,4 @@
+mod FullRows
+mod Parsed
+mod Stops
+mod TakenWords

@@ -1,0 +1,49 @@
+-- The program's command line, as `clap` reads it: a command with one level of subcommands.
+use Rattle.std.specs.Prelude.{true, false, List, [], ◌∷◌, Some, codes}
+use Rattle.clap.specs.Walk.{Rule, Text}
+use Rattle.clap.specs.Simple.{App, Shape, new_rule, new_shape}
+
+-- an argument that is known by its place, and has to be there
+abbrev pub placed : Text → Rule
+placed id = record (new_rule id) { required = true }
+
+-- an option with a value, `--NAME VALUE`
+abbrev pub option : Text → Rule
+option name = record (new_rule name) { long = Some name; value_names = 1 }
+
+-- a subcommand with these arguments
+abbrev pub subcommand : Text → List Rule → Shape
+subcommand name rules = record (new_shape name) { rules = rules }
+
+abbrev pub run_line : Shape
+run_line = subcommand (codes "run") (placed (codes "IMAGE") ∷ option (codes "schedule") ∷ [])
+
+abbrev pub format_line : Shape
+format_line =
+    subcommand (codes "format")
+    (placed (codes "IMAGE") ∷ option (codes "cluster") ∷ option (codes "md-pages") ∷ [])
+
+abbrev pub list_line : Shape
+list_line = subcommand (codes "list") (placed (codes "IMAGE") ∷ [])
+
+abbrev pub generate_line : Shape
+generate_line = subcommand (codes "generate") (placed (codes "NUMBER") ∷ placed (codes "SIZE") ∷ [])
+
+-- The words are those behind the program's name. One of them names a subcommand; without words the answer is the help,
+-- and there is a version to ask for.
+abbrev pub without_commands : App
+without_commands = record {
+  top = record (new_shape (codes "blobtool")) {
+    no_binary_name = true;
+    arg_required_else_help = true;
+    subcommand_required = true;
+    has_version = true;
+  };
+  subs = [];
+}
+
+abbrev pub command_line : App
+command_line = record {
+  top = record without_commands.top { is_leaf = false };
+  subs = run_line ∷ format_line ∷ list_line ∷ generate_line ∷ [];
+}

@@ -1,0 +1,73 @@
+-- What the words behind the program's name ask for, by `clap`'s meaning of the program's command line.
+use Rattle.std.specs.Prelude.{if◌then◌else◌, List, [], ◌∷◌, Option, None, codes, map, option_and_then}
+use Rattle.std.specs.Prelude.{option_map, string_bytes, String}
+use Rattle.std.specs.Option.{option_copied}
+use Rattle.std.specs.Str.{bytes_eq}
+use Rattle.std.specs.declared.alloc.Global.{Global}
+use Rattle.clap.specs.Faults.{fault_of}
+use Rattle.clap.specs.Kinds.{Kinds}
+use Rattle.clap.specs.Simple.{subcommand_of}
+use Rattle.clap.specs.Walk.{first_of, Row, Text}
+use Rattle.command_words.specs.CommandLine.{command_line}
+use Rattle.command_words.specs.declared.reading.CommandWords.{CommandWords}
+use Rattle.command_words.specs.declared.reading.CommandWords.TheVariants as words
+
+-- a command with the texts of what stands behind it; an option may be missing
+pub data Asked : Type 0 where
+  -- an image, and a schedule
+  run : Text → Option Text → Asked
+  -- an image, the bytes of a cluster, and a number of metadata pages
+  format : Text → Option Text → Option Text → Asked
+  -- an image
+  list : Text → Asked
+  -- a number and a size
+  generate : Text → Text → Asked
+
+abbrev pub run_by : List Row → Option Asked
+run_by rows = option_map (λ image. run image (first_of (codes "schedule") rows)) (first_of (codes "IMAGE") rows)
+
+abbrev pub format_by : List Row → Option Asked
+format_by rows =
+    option_map (λ image. format image (first_of (codes "cluster") rows) (first_of (codes "md-pages") rows))
+    (first_of (codes "IMAGE") rows)
+
+abbrev pub list_by : List Row → Option Asked
+list_by rows = option_map list (first_of (codes "IMAGE") rows)
+
+abbrev pub generate_by : List Row → Option Asked
+generate_by rows =
+    option_and_then (λ number. option_map (generate number) (first_of (codes "SIZE") rows))
+    (first_of (codes "NUMBER") rows)
+
+-- the command that a subcommand is, with what was found behind it
+abbrev pub asked_by : Text → List Row → Option Asked
+asked_by name rows =
+    if bytes_eq name (codes "run") then run_by rows
+    else (if bytes_eq name (codes "format") then format_by rows
+    else (if bytes_eq name (codes "list") then list_by rows
+    else (if bytes_eq name (codes "generate") then generate_by rows else None)))
+
+-- the kinds of error with which `clap` refuses the words, or answers that they ask for help or the version; none where
+-- it takes them
+abbrev pub refusal_of : List (String Global) → Kinds
+refusal_of words = fault_of command_line (map string_bytes words)
+
+-- what was found, unless there is a kind of error
+abbrev pub unless_refused : Kinds → Option (Text × List Row) → Option (Text × List Row)
+unless_refused [] found = found
+unless_refused (kind ∷ kinds) found = None
+
+-- the subcommand that the words name, and what was found behind it, where `clap` takes them
+abbrev pub found_in : List (String Global) → Option (Text × List Row)
+found_in words = unless_refused (refusal_of words) (subcommand_of command_line (map string_bytes words))
+
+-- the command that the words ask for
+unfoldable pub asked_in : List (String Global) → Option Asked
+asked_in words = option_and_then (λ found. asked_by found.0 found.1) (found_in words)
+
+-- a command as it was read
+abbrev pub as_read : CommandWords → Asked
+as_read (words.Run image schedule) = run image.now (option_copied schedule)
+as_read (words.Format image cluster md_pages) = format image.now (option_copied cluster) (option_copied md_pages)
+as_read (words.List image) = list image.now
+as_read (words.Generate number size) = generate number.now size.now

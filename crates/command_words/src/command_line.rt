@@ -1,0 +1,134 @@
+//! The program's command line, with the texts of its help.
+
+ghost use Rattle.std.specs.Prelude.{◌≡◌, IfOk, false};
+ghost use Rattle.clap.specs.Simple.{app_of, shape_of};
+ghost use Rattle.clap.specs.Walk.{rule_of};
+ghost use Rattle.clap.specs.declared.builder.command.Command.TheViews.{out-Command as fields_of};
+ghost use Rattle.command_words.specs.CommandLine as said;
+
+use clap::{Arg, Command};
+use std::alloc::{AllocError, Global};
+
+/// An argument that is known by its place, and has to be there.
+fn placed<'a>(alloc: Global, id: &'a str, help: &'a str) -> Arg<'a>
+    ensures rule { rule_of result ≡ said.placed id.entry.now }
+    ensures local { result.global ≡ false }
+{
+    Arg::new(alloc, id).required(true).help(help)
+}
+
+/// An option with a value.
+fn option<'a>(alloc: Global, name: &'a str, value: &'a str, help: &'a str) -> Arg<'a>
+    ensures rule { rule_of result ≡ said.option name.entry.now }
+    ensures local { result.global ≡ false }
+{
+    Arg::new(alloc, name)
+        .long(name)
+        .value_name(value)
+        .help(help)
+}
+
+/// `run IMAGE`.
+fn run_line<'a>(alloc: Global) -> Result<Command<'a>, AllocError>
+    ensures shape { IfOk result (λ c. shape_of c ≡ said.run_line) }
+    ensures local { IfOk result (λ c. (fields_of c).has_globals ≡ false) }
+{
+    Command::new(alloc, "run")
+        .about(
+            "Runs the script on standard input on a store, and prints an answer for each command",
+        )
+        .after_help("Example: blobtool run store.img --schedule 0*2,1*2 < script.txt")
+        .arg(placed(alloc, "IMAGE", "The file that has the store"))?
+        .arg(option(
+            alloc,
+            "schedule",
+            "LIST",
+            "The first steps, by who makes them: channels 0 to 15, and m for the{n}\
+             metadata thread, as in 0*2,1+m*200; then all take turns. At most{n}\
+             65536 steps [default: none]",
+        ))
+}
+
+/// `format IMAGE`.
+fn format_line<'a>(alloc: Global) -> Result<Command<'a>, AllocError>
+    ensures shape { IfOk result (λ c. shape_of c ≡ said.format_line) }
+    ensures local { IfOk result (λ c. (fields_of c).has_globals ≡ false) }
+{
+    Command::new(alloc, "format")
+        .about("Writes an empty store, and prints how much space it has")
+        .after_help("Example: blobtool format store.img --cluster 16384 --md-pages 16")
+        .arg(placed(
+            alloc,
+            "IMAGE",
+            "The file that is to have the store, which gets the size of the file",
+        ))?
+        .arg(option(
+            alloc,
+            "cluster",
+            "BYTES",
+            "Bytes of a cluster: 4096 or a multiple, up to 4294963200 [default: 1048576]",
+        ))?
+        .arg(option(
+            alloc,
+            "md-pages",
+            "N",
+            "Metadata pages of 4096 bytes: 1 to 1048576 [default: as many as clusters]",
+        ))
+}
+
+/// `list IMAGE`.
+fn list_line<'a>(alloc: Global) -> Result<Command<'a>, AllocError>
+    ensures shape { IfOk result (λ c. shape_of c ≡ said.list_line) }
+    ensures local { IfOk result (λ c. (fields_of c).has_globals ≡ false) }
+{
+    Command::new(alloc, "list")
+        .about("Prints a store and its volumes, and writes nothing")
+        .after_help("Example: blobtool list store.img")
+        .arg(placed(alloc, "IMAGE", "The file that has the store"))
+}
+
+/// `generate NUMBER SIZE`.
+fn generate_line<'a>(alloc: Global) -> Result<Command<'a>, AllocError>
+    ensures shape { IfOk result (λ c. shape_of c ≡ said.generate_line) }
+    ensures local { IfOk result (λ c. (fields_of c).has_globals ≡ false) }
+{
+    Command::new(alloc, "generate")
+        .about("Prints a script to try a store with, always the same for the same two numbers")
+        .after_help("Example: blobtool generate 1 100 > script.txt")
+        .arg(placed(alloc, "NUMBER", "Which script: 0 to 2147483647"))?
+        .arg(placed(
+            alloc,
+            "SIZE",
+            "Lines that are drawn, behind the four that make volumes: 0 to 65000",
+        ))
+}
+
+/// The command without its subcommands.
+fn without_commands<'a>(alloc: Global) -> Result<Command<'a>, AllocError>
+    ensures { IfOk result (λ c. app_of c ≡ said.without_commands) }
+{
+    Command::new(alloc, "blobtool")
+        .about(
+            "A storage engine that is proved: SPDK Blobstore with logical volume stores, in a file",
+        )
+        .version("0.1.0 (SPDK Blobstore, format version 3)")
+        .after_help(
+            "Examples:{n}  blobtool format store.img --cluster 16384{n}  \
+             blobtool run store.img < script.txt",
+        )
+        .no_binary_name(true)
+        .arg_required_else_help(true)
+        .subcommand_required(true)
+        .bin_name("blobtool")
+}
+
+/// The program's command line, for the words behind the program's name.
+pub fn command_line<'a>(alloc: Global) -> Result<Command<'a>, AllocError>
+    ensures { IfOk result (λ c. app_of c ≡ said.command_line) }
+{
+    without_commands(alloc)?
+        .subcommand(run_line(alloc)?)?
+        .subcommand(format_line(alloc)?)?
+        .subcommand(list_line(alloc)?)?
+        .subcommand(generate_line(alloc)?)
+}

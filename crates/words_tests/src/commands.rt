@@ -1,0 +1,107 @@
+//! Commands, and words that spell none.
+
+use crate::words::words_of;
+use command_words::{read_words, refusal};
+use std::test::Fail;
+
+/// Words behind the program's name, and the command that they spell.
+const CASES: [(&str, &str); 13] = [
+    (
+        "run store.img",
+        "Run { image: \"store.img\", schedule: None }",
+    ),
+    (
+        "run store.img --schedule 0*2,1",
+        "Run { image: \"store.img\", schedule: Some(\"0*2,1\") }",
+    ),
+    // An option may stand before the image, and have its value behind a `=`. A value isn't tested here.
+    (
+        "run --schedule=x store.img",
+        "Run { image: \"store.img\", schedule: Some(\"x\") }",
+    ),
+    (
+        "run -- --schedule",
+        "Run { image: \"--schedule\", schedule: None }",
+    ),
+    (
+        "format store.img",
+        "Format { image: \"store.img\", cluster: None, md_pages: None }",
+    ),
+    (
+        "format store.img --cluster 16384",
+        "Format { image: \"store.img\", cluster: Some(\"16384\"), md_pages: None }",
+    ),
+    (
+        "format store.img --md-pages 16",
+        "Format { image: \"store.img\", cluster: None, md_pages: Some(\"16\") }",
+    ),
+    (
+        "format store.img --cluster 16384 --md-pages 16",
+        "Format { image: \"store.img\", cluster: Some(\"16384\"), md_pages: Some(\"16\") }",
+    ),
+    (
+        "format store.img --md-pages 16 --cluster 16384",
+        "Format { image: \"store.img\", cluster: Some(\"16384\"), md_pages: Some(\"16\") }",
+    ),
+    (
+        "format --md-pages 16 store.img --cluster 16384",
+        "Format { image: \"store.img\", cluster: Some(\"16384\"), md_pages: Some(\"16\") }",
+    ),
+    ("list store.img", "List { image: \"store.img\" }"),
+    ("list run", "List { image: \"run\" }"),
+    ("generate 1 3", "Generate { number: \"1\", size: \"3\" }"),
+];
+
+/// Words that spell no command.
+const NO_COMMANDS: [&str; 26] = [
+    "",
+    "help",
+    "help run",
+    "--help",
+    "-h",
+    "--version",
+    "-V",
+    "store.img",
+    "runs store.img",
+    "ru store.img",
+    "run",
+    "run store.img other.img",
+    "run store.img --schedule",
+    "run store.img --schedules 0",
+    "run store.img --schedule 0 --schedule 0",
+    "run store.img --cluster 16384",
+    "run store.img --help",
+    "run --version",
+    "format --cluster 16384",
+    "format store.img --cluster 16384 --cluster 16384",
+    "--cluster 16384 format store.img",
+    "list",
+    "list store.img -x",
+    "generate",
+    "generate 1",
+    "generate 1 -3",
+];
+
+#[test]
+fn words_spell_a_command(rt: HostRuntime) -> Result<(), Fail> {
+    for (line, expected) in &CASES {
+        let words = words_of(rt.alloc(), line)?;
+        let Some(command) = read_words(rt.alloc(), &words)? else {
+            return Err(Fail::new(format_args!("{line} is no command")));
+        };
+        assert_eq!(rt; format!(in rt.alloc(); "{command:?}")?.as_str(), *expected);
+        assert!(rt; refusal(rt.alloc(), &words)?.is_none());
+    }
+    Ok(())
+}
+
+#[test]
+fn other_words_are_refused(rt: HostRuntime) -> Result<(), Fail> {
+    for line in &NO_COMMANDS {
+        let words = words_of(rt.alloc(), line)?;
+        if read_words(rt.alloc(), &words)?.is_some() || refusal(rt.alloc(), &words)?.is_none() {
+            return Err(Fail::new(format_args!("{line} is a command")));
+        }
+    }
+    Ok(())
+}

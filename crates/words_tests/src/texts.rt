@@ -1,0 +1,134 @@
+//! What is said of words that are refused, or that ask for help or the version.
+
+use crate::words::words_of;
+use command_words::refusal;
+use std::test::Fail;
+
+const HELP: &str =
+    "A storage engine that is proved: SPDK Blobstore with logical volume stores, in a file
+
+Usage: blobtool <COMMAND>
+
+Commands:
+  run       Runs the script on standard input on a store, and prints an answer for each command
+  format    Writes an empty store, and prints how much space it has
+  list      Prints a store and its volumes, and writes nothing
+  generate  Prints a script to try a store with, always the same for the same two numbers
+  help      Print this message or the help of the given subcommand(s)
+
+Options:
+  -h, --help     Print help
+  -V, --version  Print version
+
+Examples:
+  blobtool format store.img --cluster 16384
+  blobtool run store.img < script.txt
+";
+
+const RUN: &str =
+    "Runs the script on standard input on a store, and prints an answer for each command
+
+Usage: blobtool run [OPTIONS] <IMAGE>
+
+Arguments:
+  <IMAGE>  The file that has the store
+
+Options:
+      --schedule <LIST>  The first steps, by who makes them: channels 0 to 15, and m for the
+                         metadata thread, as in 0*2,1+m*200; then all take turns. At most
+                         65536 steps [default: none]
+  -h, --help             Print help
+
+Example: blobtool run store.img --schedule 0*2,1*2 < script.txt
+";
+
+const FORMAT: &str = "Writes an empty store, and prints how much space it has
+
+Usage: blobtool format [OPTIONS] <IMAGE>
+
+Arguments:
+  <IMAGE>  The file that is to have the store, which gets the size of the file
+
+Options:
+      --cluster <BYTES>  Bytes of a cluster: 4096 or a multiple, up to 4294963200 [default: 1048576]
+      --md-pages <N>     Metadata pages of 4096 bytes: 1 to 1048576 [default: as many as clusters]
+  -h, --help             Print help
+
+Example: blobtool format store.img --cluster 16384 --md-pages 16
+";
+
+const LIST: &str = "Prints a store and its volumes, and writes nothing
+
+Usage: blobtool list <IMAGE>
+
+Arguments:
+  <IMAGE>  The file that has the store
+
+Options:
+  -h, --help  Print help
+
+Example: blobtool list store.img
+";
+
+const GENERATE: &str =
+    "Prints a script to try a store with, always the same for the same two numbers
+
+Usage: blobtool generate <NUMBER> <SIZE>
+
+Arguments:
+  <NUMBER>  Which script: 0 to 2147483647
+  <SIZE>    Lines that are drawn, behind the four that make volumes: 0 to 65000
+
+Options:
+  -h, --help  Print help
+
+Example: blobtool generate 1 100 > script.txt
+";
+
+const VERSION: &str = "blobtool 0.1.0 (SPDK Blobstore, format version 3)
+";
+
+const NO_IMAGE: &str = "error: the following required arguments were not provided:
+  <IMAGE>
+
+Usage: blobtool run <IMAGE>
+
+For more information, try '--help'.
+";
+
+const NO_COMMAND: &str = "error: unrecognized subcommand 'runs'
+
+  tip: a similar subcommand exists: 'run'
+
+Usage: blobtool <COMMAND>
+
+For more information, try '--help'.
+";
+
+/// Words behind the program's name, and all that is said of them.
+const CASES: [(&str, &str); 12] = [
+    ("", HELP),
+    ("--help", HELP),
+    ("-h", HELP),
+    ("help", HELP),
+    ("run --help", RUN),
+    ("help run", RUN),
+    ("format store.img --help", FORMAT),
+    ("list -h", LIST),
+    ("generate --help", GENERATE),
+    ("--version", VERSION),
+    ("run", NO_IMAGE),
+    ("runs store.img", NO_COMMAND),
+];
+
+#[test]
+fn clap_says_what_commands_there_are(rt: HostRuntime) -> Result<(), Fail> {
+    for (line, expected) in &CASES {
+        let words = words_of(rt.alloc(), line)?;
+        let Some(error) = refusal(rt.alloc(), &words)? else {
+            return Err(Fail::new(format_args!("{line} is a command")));
+        };
+        assert_eq!(rt; format!(in rt.alloc(); "{error}")?.as_str(), *expected);
+    }
+    Ok(())
+}
