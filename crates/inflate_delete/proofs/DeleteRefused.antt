@@ -35,7 +35,8 @@ volume_causes f v h x ks = delete_causes (is_super f h) (x.locked || only_clone 
     (only_clone f v (is_short_between f v x) ks)
 
 module _ (f : Fixed) (sup : Super) (metas : map.FinMap nat_cmp Meta) (v : Volumes) (s : ShowsMetas f sup metas v) where
-  test_same : (p : Volume → Bool) (q : Meta → Bool) → ((x : Volume) (m : Meta) → ShowsMeta f x m → p x ≡ q m)
+  -- a test of a volume and one of metadata, at what is shown
+  pub test_same : (p : Volume → Bool) (q : Meta → Bool) → ((x : Volume) (m : Meta) → ShowsMeta f x m → p x ≡ q m)
       → (x : Option Volume) (m : Option Meta) → ShowsAt f x m → option_map_or p x false ≡ option_map_or q m false
   test_same p q same None None e = refl
   test_same p q same (Some x) (Some m) e = same x m e
@@ -57,7 +58,8 @@ module _ (f : Fixed) (sup : Super) (metas : map.FinMap nat_cmp Meta) (v : Volume
   clones_shown h ks are = ap (λ (p : ℕ → Bool). filter p (heads f)) (fun_ext (clone_same h))
       ∙ are f.md_len s.few_heads s.heads_below
 
-  short_same : (x : Volume) (m : Meta) → ShowsMeta f x m → (y : Volume) (n : Meta) → ShowsMeta f y n
+  -- short between, by the slots of metadata
+  pub short_same : (x : Volume) (m : Meta) → ShowsMeta f x m → (y : Volume) (n : Meta) → ShowsMeta f y n
       → is_short_between f v x y ≡ (has_longer_parent metas m && nat_lt (length m.map) (length n.map))
   short_same x m e y n d =
       ap (λ b. b && nat_lt (slots_of f x) (slots_of f y)) (longer_same f sup metas v s x m e)

@@ -1,3 +1,4 @@
 mod Cloned
 mod DeleteRefused
+mod FillRefused
 mod SlotsOver

@@ -1,16 +1,13 @@
 -- What is shown where a blob is deleted, from which its one clone took over: the volumes of the step.
-use Rattle.std.proofs.Common.{◌≡◌, ◌≢◌, ◌⊎◌, ℕ, suc, ◌*◌, ◌/◌, ◌<◌, ◌≤◌, true, false, Option, Some, None, [], ◌∷◌}
-use Rattle.std.proofs.Common.{length, map, refl, sym, ap, ◌∙◌, subst, inl, inr, arith}
-use Rattle.std.specs.Prelude.{if◌then◌else◌, nat_lt}
+use Rattle.std.proofs.Common.{◌≡◌, ◌≢◌, ℕ, suc, ◌*◌, ◌/◌, ◌<◌, false, Option, Some, None, [], ◌∷◌}
+use Rattle.std.proofs.Common.{length, map, refl, sym, ap, ◌∙◌, subst, inl, inr}
 use Rattle.std.specs.List.{range_with_len}
-use Rattle.std.specs.Option.{option_map, option_map_or, option_or}
-use Rattle.std.proofs.Math.Nat.{mul-le-mul_left}
+use Rattle.std.specs.Option.{option_map, option_or}
 use Rattle.std.proofs.Math.Path.{fun_ext}
-use Rattle.std.proofs.lemmas.Bool.{cases_eq, cases_lt}
-use Rattle.std.proofs.lemmas.Bool.Decides.{nat_tests}
+use Rattle.std.proofs.lemmas.Bool.{cases_eq}
 use Rattle.page_disk.specs.Disk.{Image}
 use Rattle.volume_model.specs.Steps.{change}
-use Rattle.volume_model.specs.Volumes.{Fixed, head_of, Volume, Volumes, zero_page}
+use Rattle.volume_model.specs.Volumes.{Fixed, head_of, Volume, Volumes}
 use Rattle.volume_model.specs.Xattrs.{Xattrs}
 use Rattle.volume_model.specs.declared.command.Command.TheVariants as c
 use Rattle.volume_model.specs.declared.command.VolumeRef.{VolumeRef}
@@ -27,27 +24,12 @@ use Rattle.shown_volumes.proofs.BlobsShown.{shows_blob, volume_at}
 use Rattle.shown_volumes.proofs.DeletedVolumes as deleted
 use Rattle.shown_volumes.proofs.DeleteLawful as law
 use Rattle.shown_volumes.proofs.DeleteParts as parts
-use Rattle.shown_volumes.proofs.Fitting.{
-  Contents,
-  counted,
-  Fits,
-  from_parent,
-  in_empty,
-  in_filled,
-  opened,
-  pages_fit,
-  same_level,
-  same_still,
-}
-use Rattle.shown_volumes.proofs.HeirMaps.{empty_past, slot_behind, slot_below, slot_over}
+use Rattle.shown_volumes.proofs.Fitting.{Contents, Fits, in_filled, opened, pages_fit, same_level, same_still}
+use Rattle.shown_volumes.proofs.HeirMaps.{slot_below, slot_over}
 use Rattle.shown_volumes.proofs.Parts.{none_shown, some_shown}
 use Rattle.shown_volumes.proofs.Ranks.{Levels, levels}
 use Rattle.shown_volumes.proofs.SlotSums.{slots_in}
-
--- The parent of a blob has no more slots than the blob, or its clone has no more.
-abbrev pub IsLongBetween : Metas → Meta → Meta → Type 0
-IsLongBetween base old heir = (p : ℕ) (m : Meta) → parent_of old ≡ Some p → base p ≡ Some m
-    → (length m.map ≤ length old.map) ⊎ (length heir.map ≤ length old.map)
+use Rattle.shown_volumes.proofs.TakenOver.{IsLongBetween, through}
 
 module _ (f : Fixed) (base : Metas) (rest : IsAtRest f base) (of clone : ℕ) (old heir : Meta)
     (there : base of ≡ Some old) (there_too : base clone ≡ Some heir)
@@ -115,45 +97,6 @@ module _ (f : Fixed) (base : Metas) (rest : IsAtRest f base) (of clone : ℕ) (o
     abbrev was : Contents
     was = content k image base (suc f.md_len)
 
-    -- a page behind the blob's slots is none of its parent's, where the clone has it
-    beyond : (page p : ℕ) (m : Meta) → parent_of old ≡ Some p → base p ≡ Some m → k * length old.map ≤ page
-        → page < k * length heir.map → nat_lt page (k * length m.map) ≡ false
-    beyond page p m parent is behind lt = elim (between p m parent is) [
-      | inl le ↦ let less = mul-le-mul_left k le in grind (arith, nat_tests, less, behind)
-      | inr le ↦ let less = mul-le-mul_left k le in absurd (omega (arith, less, behind, lt))
-    ]
-
-    -- there the clone's parent shows zeros
-    zeros : (page : ℕ) → k * length old.map ≤ page → page < k * length heir.map → (o : Option ℕ) → parent_of old ≡ o
-        → from_parent k image page next was o ≡ zero_page
-    zeros page behind lt None parent = refl
-    zeros page behind lt (Some p) parent =
-        let up = rest.lawful.parents of p old there parent in
-        counted k image page base next was was (next p) (was p page)
-        ∙ ap (λ n. if nat_lt page (k * n) then was p page else zero_page)
-        (long p (not_self p parent) ∙ ap slots_in up.1)
-        ∙ ap (λ b. if b then was p page else zero_page) (beyond page p up.0 parent up.1 behind lt)
-
-    -- an empty slot of the clone that took over shows what it showed
-    by_old : (page : ℕ) → page < k * length heir.map → slot taking (page / k) ≡ slot old (page / k)
-        → content_by k image next was page taking
-        ≡ (if nat_lt page (k * length old.map) then was of page else zero_page)
-    by_old page lt slots = elim (cases_lt page (k * length old.map)) [
-      | inl inside ↦
-          let below : nat_lt page (k * length old.map) ≡ true = grind (arith, nat_tests, inside) in
-          same_level k image page base next was was old taking slots parent_taking
-          (λ p up. long p (not_self p up)) (λ _ _ _. refl)
-          ∙ sym (opened k image f.md_len base old_levels of page old there)
-          ∙ sym (ap (λ b. if b then was of page else zero_page) below)
-      | inr behind ↦
-          let past : nat_lt page (k * length old.map) ≡ false = grind (arith, nat_tests, behind) in
-          in_empty k image page next was taking
-          (slots ∙ empty_past old (page / k) (slot_behind k (length old.map) page rest.some_pages behind))
-          ∙ ap (from_parent k image page next was) parent_taking
-          ∙ zeros page behind lt (parent_of old) refl
-          ∙ sym (ap (λ b. if b then was of page else zero_page) past)
-    ]
-
     at_clone : (page : ℕ) → page < k * length heir.map → content_by k image next was page taking ≡ was clone page
     at_clone page lt = at (slot heir (page / k)) refl
         ∙ sym (opened k image f.md_len base old_levels clone page heir there_too)
@@ -165,12 +108,8 @@ module _ (f : Fixed) (base : Metas) (rest : IsAtRest f base) (of clone : ℕ) (o
             → content_by k image next was page taking ≡ content_by k image base was page heir
         at (Some cluster) is = in_filled k image page next was taking cluster
             (slots ∙ ap (λ o. option_or o (slot old (page / k))) is) heir base was is
-        at None is =
-            by_old page lt (slots ∙ ap (λ o. option_or o (slot old (page / k))) is)
-            ∙ sym (in_empty k image page base was heir is
-            ∙ ap (from_parent k image page base was) child
-            ∙ ap (λ o. option_map_or (λ (m : Meta). if nat_lt page (k * length m.map) then was of page else zero_page) o
-            zero_page) there)
+        at None is = through f base rest old_levels of old heir taking there child between parent_taking next
+            (λ p up. long p (not_self p up)) image page lt is (slots ∙ ap (λ o. option_or o (slot old (page / k))) is)
 
     fits : Fits k image f.md_len next new_levels was
     fits h page m is lt = law.each f base rest of clone old heir there there_too one unlocked m

@@ -1,12 +1,9 @@
 -- A delete's job, of a blob with one clone, shows the volumes as they were, and from its commit on those of the step.
-use Rattle.std.proofs.Common.{◌≡◌, ◌⊎◌, ℕ, ◌≤◌, Bool, true, false, Some, [], ◌∷◌, length, refl, sym, ap}
-use Rattle.std.proofs.Common.{◌∙◌, subst, inl, inr, arith}
-use Rattle.std.specs.Prelude.{◌&&◌, nat_lt}
-use Rattle.std.specs.Option.{option_map_or}
-use Rattle.std.proofs.lemmas.Bool.Decides.{nat_tests}
+use Rattle.std.proofs.Common.{◌≡◌, ℕ, false, Some, [], ◌∷◌, sym}
+use Rattle.std.proofs.Common.{◌∙◌, subst}
 use Rattle.page_disk.specs.Disk.{Image}
 use Rattle.volume_model.specs.Refusals.{is_short_between}
-use Rattle.volume_model.specs.Volumes.{Fixed, slots_at, slots_of, Volume, Volumes}
+use Rattle.volume_model.specs.Volumes.{Fixed, Volume, Volumes}
 use Rattle.volume_model.specs.Xattrs.{Xattrs}
 use Rattle.volume_model.specs.declared.command.Command.TheVariants as c
 use Rattle.volume_model.specs.declared.command.VolumeRef.{VolumeRef}
@@ -18,7 +15,7 @@ use Rattle.inflate_delete.specs.Clones.{clones_below}
 use Rattle.inflate_delete.specs.DeleteJobs.{delete_job}
 use Rattle.shown_volumes.specs.JobLaws.{ShowsDelete}
 use Rattle.shown_volumes.specs.Maps.{Map, Metas}
-use Rattle.shown_volumes.specs.Shown.{or_empty, shown_by}
+use Rattle.shown_volumes.specs.Shown.{shown_by}
 use Rattle.shown_volumes.specs.ShowsStep.{IsAskedOf, IsAtRest, ShowsStep}
 use Rattle.shown_volumes.proofs.Blanked.{blank_shown}
 use Rattle.shown_volumes.proofs.BlobsShown.{shows_blob, volume_at}
@@ -27,17 +24,7 @@ use Rattle.shown_volumes.proofs.DeleteParts as parts
 use Rattle.shown_volumes.proofs.DeleteShows as shows
 use Rattle.shown_volumes.proofs.Parts.{not_first, rest_resolved, shows_step}
 use Rattle.shown_volumes.proofs.Passing.{delete_long, delete_unlocked}
-use Rattle.shown_volumes.proofs.SlotSums.{slots_at_shown, slots_in, slots_shown}
-
--- one of two numbers isn't above a third
-one_below : (n a b : ℕ) → (nat_lt n a && nat_lt n b) ≡ false → (a ≤ n) ⊎ (b ≤ n)
-one_below n a b is = at (nat_lt n a) refl
-  where
-    at : (t : Bool) → nat_lt n a ≡ t → (a ≤ n) ⊎ (b ≤ n)
-    at false low = inl (grind (arith, nat_tests, low))
-    at true high =
-        let other : nat_lt n b ≡ false = sym (ap (λ t. t && nat_lt n b) high) ∙ is in
-        inr (grind (arith, nat_tests, other))
+use Rattle.shown_volumes.proofs.TakenOver.{IsLongBetween, long_between}
 
 module _ (f : Fixed) (base : Metas) (live : Map Xattrs) (image : Image) (volume : VolumeRef) (of : ℕ) (old : Meta)
     (clone : ℕ) (heir : Meta) (rest : IsAtRest f base) (one : clones_below f.md_len base of ≡ clone ∷ [])
@@ -62,20 +49,8 @@ module _ (f : Fixed) (base : Metas) (live : Map Xattrs) (image : Image) (volume 
   long = delete_long f v volume of x asked.found is_x asked.passed clone y
       (clones_shown f base live image of ∙ one) (shows_blob f base rest live image clone heir there_too)
 
-  between : shows.IsLongBetween base old heir
-  between p m parent is =
-      let own : slots_of f x ≡ length old.map = slots_shown f image base rest.some_pages (or_empty (live of)) of old in
-      let its : slots_of f y ≡ length heir.map =
-      slots_shown f image base rest.some_pages (or_empty (live clone)) clone heir in
-      let above : slots_at f v p ≡ length m.map =
-      slots_at_shown f image base rest.some_pages live p ∙ ap slots_in is in
-      let below = one_below (slots_of f x) (slots_at f v p) (slots_of f y)
-      (sym (ap (λ o. option_map_or (λ q. nat_lt (slots_of f x) (slots_at f v q)) o false
-      && nat_lt (slots_of f x) (slots_of f y)) parent) ∙ long) in
-      elim below [
-        | inl le ↦ inl (omega (arith, le, own, above))
-        | inr le ↦ inr (omega (arith, le, own, its))
-      ]
+  between : IsLongBetween base old heir
+  between = long_between f base rest live image of old clone heir long
 
   step : ShowsStep f base live (c.Delete volume) r.Ok (delete_job of old clone heir)
   step = shows_step f base live (c.Delete volume) r.Ok (delete_job of old clone heir)

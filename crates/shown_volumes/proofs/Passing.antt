@@ -1,7 +1,7 @@
 -- What is known where no cause of a refusal holds.
-use Rattle.std.proofs.Common.{◌≡◌, ℕ, ◌+◌, ◌≤◌, ◌^◌, Bool, true, false, not, ◌||◌, Some, None, List, [], ◌∷◌}
+use Rattle.std.proofs.Common.{◌≡◌, ℕ, ◌+◌, ◌≤◌, ◌^◌, Bool, true, false, not, ◌||◌, Option, Some, None, List, [], ◌∷◌}
 use Rattle.std.proofs.Common.{length, refl, sym, ap, ◌∙◌, arith}
-use Rattle.std.specs.Prelude.{find, nat_le}
+use Rattle.std.specs.Prelude.{find, is_none, nat_le}
 use Rattle.std.specs.List.{AllByRecursion}
 use Rattle.std.specs.Option.{option_map, option_map_or}
 use Rattle.std.proofs.lemmas.Bool.Decides.{nat_tests}
@@ -76,3 +76,26 @@ module _ (f : Fixed) (v : Volumes) (volume : VolumeRef) (head : ℕ) (x : Volume
   delete_long clone y one is =
       sym (ap (λ o. option_map_or (is_short_between f v x) o false) is)
       ∙ sym (ap (λ hs. only_clone f v (is_short_between f v x) hs) one) ∙ deletable.1.1.1.0
+
+module _ (f : Fixed) (v : Volumes) (volume : VolumeRef) (head : ℕ) (x : Volume)
+    (found : head_of f v volume ≡ Some head) (there : v head ≡ Some x)
+    (passed : refusal f v (c.Decouple volume) ≡ None) where
+  -- its parent has fewer slots than the volume and than its own parent
+  abbrev is_short_above : Option ℕ → Bool
+  is_short_above o = option_map_or (λ p. option_map_or (λ y. is_short_between f v y x) (v p) false) o false
+
+  decouplable : AllByRecursion (λ (cause : Bool × Reply). cause.0 ≡ false)
+      ((is_super f head, r.Reserved) ∷ (x.read_only, r.ReadOnly) ∷ (is_none x.parent, r.NoParent)
+      ∷ (is_short_above x.parent, r.Short) ∷ [])
+  decouplable = none_holds ((is_super f head, r.Reserved) ∷ (x.read_only, r.ReadOnly) ∷ (is_none x.parent, r.NoParent)
+      ∷ (is_short_above x.parent, r.Short) ∷ []) (rw (found, there) at passed)
+
+  -- what is decoupled has a parent
+  pub decouple_parent : is_none x.parent ≡ false
+  decouple_parent = decouplable.1.1.0
+
+  -- and wouldn't read the parent of that where it read zeros
+  pub decouple_long : (p : ℕ) (y : Volume) → x.parent ≡ Some p → v p ≡ Some y → is_short_between f v y x ≡ false
+  decouple_long p y parent is =
+      sym (ap (λ o. option_map_or (λ z. is_short_between f v z x) o false) is)
+      ∙ sym (ap is_short_above parent) ∙ decouplable.1.1.1.0

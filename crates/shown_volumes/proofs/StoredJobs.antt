@@ -1,4 +1,4 @@
--- Each new metadata of the jobs of snapshots, clones and deletes can be stored.
+-- Each new metadata of the jobs of snapshots, clones and deletes, and of those at the ends of fills, can be stored.
 use Rattle.std.proofs.Common.{◌≡◌, ℕ, ◌+◌, ◌^◌, ◌<◌, ◌≤◌, true, false, not, Option, Some, None, List, []}
 use Rattle.std.proofs.Common.{length, refl, sym, ap, ◌∙◌, subst, inl, inr, arith}
 use Rattle.std.specs.Prelude.{codes, if◌then◌else◌, is_none, is_some, IsSome, replicate}
@@ -24,12 +24,13 @@ use Rattle.shown_volumes.specs.StoredLaws.{StoreJobs, IsStoredWell}
 use Rattle.shown_volumes.proofs.GoodMarks.{AreGood, given_good, named_good}
 use Rattle.shown_volumes.proofs.WellStored.{
   empty_inside,
-  stored_well,
   MeetsTests,
   meets_tests,
   lifted,
   long_alike,
   named_given,
+  new_is,
+  no_hole,
   thin_clear,
   thin_full,
   thin_known,
@@ -38,6 +39,7 @@ use Rattle.shown_volumes.proofs.HeirMaps.{filled_within, long_over, slot_over}
 use Rattle.shown_volumes.proofs.Inside.{inside_slot, IsInside, none_of_map}
 use Rattle.shown_volumes.proofs.MapTests.{all_filled, all_inside, clear_flags, known_flags, slot_filled}
 use Rattle.shown_volumes.proofs.SnapshotShows.{thin_given, thin_set}
+use Rattle.shown_volumes.proofs.StoredFills.{fill_stored}
 use Rattle.shown_volumes.proofs.Valued.{parent_named, value_beside, value_set}
 
 -- no attributes
@@ -181,8 +183,7 @@ module _ (s : Super) (of clone : ℕ) (old heir : Meta) (was : MeetsTests s of o
         let less : i < length heir.map = omega (arith, lt, long) in
         subst (λ o. IsSome o) (sym (slot_over heir old i less))
         (own_first (slot heir i) (slot old i) (slot_filled heir.map none i less))) in
-        ap (λ b. if b then None else option_map faults.HoleInThick (position is_none taking.map)) thick
-        ∙ ap (option_map faults.HoleInThick) all
+        no_hole heir.flags taking.map all
   ]
 
   took : MeetsTests s clone taking
@@ -199,11 +200,7 @@ module _ (s : Super) (of clone : ℕ) (old heir : Meta) (was : MeetsTests s of o
     named = named_given heir.internal old taking refl was.named;
   }
 
--- a replacement's new metadata
-new_is : (s : Super) (head : ℕ) (new : Meta) → MeetsTests s head new → (m : Meta) → Some new ≡ Some m
-    → IsStoredWell s head m
-new_is s head new x m is = subst (IsStoredWell s head) (cc is) (stored_well s head new x)
-
+-- a replacement that erases a blob
 none_new : (s : Super) (head : ℕ) (m : Meta) → None ≡ Some m → IsStoredWell s head m
 none_new s head m is = absurd (cc is)
 
@@ -238,4 +235,5 @@ jobs_stored s = record {
         new_is s of _ (going s of clone old heir was its a b),
         (new_is s clone _ (took s of clone old heir was its a b), (none_new s of, tt)),
       );
+  fill = fill_stored s;
 }

@@ -128,6 +128,18 @@ mark_named internal head =
     ∙ ap (λ o. option_map_or (λ (bytes : Text). Some bytes) (value_of internal (codes "SNAPRM")) o)
     (value_beside internal (codes "SNAP") (id_bytes head) (codes "SNAPTMP") refl)
 
+-- nor does taking it away, after which none is named
+pub mark_without : (internal : Xattrs) → mark_in (without internal (codes "SNAP")) ≡ mark_in internal
+mark_without internal =
+    ap (λ o. option_map_or (λ (bytes : Text). Some bytes) o
+    (value_of (without internal (codes "SNAP")) (codes "SNAPTMP")))
+    (value_without internal (codes "SNAP") (codes "SNAPRM") refl)
+    ∙ ap (λ o. option_map_or (λ (bytes : Text). Some bytes) (value_of internal (codes "SNAPRM")) o)
+    (value_without internal (codes "SNAP") (codes "SNAPTMP") refl)
+
+pub parent_without : (internal : Xattrs) → parent_in (without internal (codes "SNAP")) ≡ None
+parent_without internal = ap (option_and_then named_in) (none_without internal (codes "SNAP"))
+
 module _ (internal : Xattrs) (m : Meta) where
   -- with the parent of a blob, or none where it has none
   abbrev pub with_its : Option Text → Xattrs

@@ -1,6 +1,6 @@
 -- Metadata that the store can hold, by its tests; and the flags and names of what jobs make.
 use Rattle.std.proofs.Common.{◌≡◌, ℕ, ◌+◌, ◌-◌, ◌*◌, ◌/◌, ◌^◌, ◌<◌, ◌==◌, true, Option, Some, None, List}
-use Rattle.std.proofs.Common.{length, refl, sym, ap, ◌∙◌, inl, inr, arith}
+use Rattle.std.proofs.Common.{length, refl, sym, ap, ◌∙◌, subst, inl, inr, arith}
 use Rattle.std.specs.Prelude.{codes, find, if◌then◌else◌, is_none, is_some, nat_le, replicate}
 use Rattle.std.specs.List.{position}
 use Rattle.std.specs.Option.{option_map}
@@ -24,7 +24,7 @@ use Rattle.shown_volumes.specs.StoredLaws.{IsStoredWell}
 use Rattle.shown_volumes.proofs.EmptyMaps.{none_in}
 use Rattle.shown_volumes.proofs.MapTests.{all_pass, passes}
 use Rattle.shown_volumes.proofs.GoodMarks.{AreGood, good_of, none_bad, without_good}
-use Rattle.shown_volumes.proofs.Valued.{parent_given, snap_given, value_without}
+use Rattle.shown_volumes.proofs.Valued.{none_without, parent_given, parent_without, snap_given, value_without}
 
 -- All that is asked of metadata which the store holds.
 pub record MeetsTests (s : Super) (head : ℕ) (m : Meta) : Type 0 where
@@ -54,6 +54,11 @@ stored_well s head m x = record {
   where
     map : map_fault (fixed_clusters_of s) (clusters_in s) m.map ≡ None
     map = rw (x.few, x.inside) refl
+
+-- so a replacement's new metadata is stored well
+pub new_is : (s : Super) (head : ℕ) (new : Meta) → MeetsTests s head new → (m : Meta) → Some new ≡ Some m
+    → IsStoredWell s head m
+new_is s head new x m is = subst (IsStoredWell s head) (cc is) (stored_well s head new x)
 
 pub meets_tests : (s : Super) (head : ℕ) (m : Meta) → IsStoredWell s head m → MeetsTests s head m
 meets_tests s head m x =
@@ -87,9 +92,17 @@ empty_inside fixed clusters n = ap (λ cs. option_map faults.ClusterOutside (fin
 pub thin_full : (f : Flags) (map : List (Option ℕ)) → is_thin f ≡ true → hole_in_thick f map ≡ None
 thin_full f map thin = ap (λ b. if b then None else option_map faults.HoleInThick (position is_none map)) thin
 
+-- one without a hole needn't be thin
+pub no_hole : (f : Flags) (map : List (Option ℕ)) → position is_none map ≡ None → hole_in_thick f map ≡ None
+no_hole f map none = elim (cases_Bool (is_thin f)) [
+  | inl thin ↦ thin_full f map thin
+  | inr thick ↦ ap (λ b. if b then None else option_map faults.HoleInThick (position is_none map)) thick
+      ∙ ap (option_map faults.HoleInThick) none
+]
+
 -- ---- flags
 
--- a blob that is made thin
+-- a blob that is made thin, or thick
 module _ (f : Flags) (known : unknown_flag f ≡ None) (clear : without_bit_1 f.invalid ≡ f.invalid) where
   low : f.invalid / 4 ≡ 0
   low = elim (cases_Bool (f.invalid / 4 == 0)) [
@@ -98,14 +111,23 @@ module _ (f : Flags) (known : unknown_flag f ≡ None) (clear : without_bit_1 f.
         let bad : Some (faults.UnknownFlag (f.invalid / 4 * 4)) ≡ None = sym (rw isnt refl) ∙ known in absurd (cc bad)
   ]
 
+  no_bit : f.invalid / 2 * 2 ≡ 0
+  no_bit = omega (arith, low, clear)
+
   one_bit : f.invalid / 2 * 2 + 1 ≡ 1
-  one_bit = omega (arith, low, clear)
+  one_bit = omega (arith, no_bit)
 
   pub thin_clear : without_bit_1 (f.invalid / 2 * 2 + 1) ≡ f.invalid / 2 * 2 + 1
   thin_clear = ap without_bit_1 one_bit ∙ sym one_bit
 
   pub thin_known : unknown_flag (record f { invalid = f.invalid / 2 * 2 + 1 }) ≡ None
   thin_known = ap (λ n. if n / 4 == 0 then None else Some (faults.UnknownFlag (n / 4 * 4))) one_bit
+
+  pub thick_clear : without_bit_1 (f.invalid / 2 * 2) ≡ f.invalid / 2 * 2
+  thick_clear = ap without_bit_1 no_bit ∙ sym no_bit
+
+  pub thick_known : unknown_flag (record f { invalid = f.invalid / 2 * 2 }) ≡ None
+  thick_known = ap (λ n. if n / 4 == 0 then None else Some (faults.UnknownFlag (n / 4 * 4))) no_bit
 
 -- ---- names
 
@@ -116,6 +138,14 @@ named_given internal m n is named =
     ∙ ap is_some (snap_given internal m (value_of m.internal (codes "SNAP"))) ∙ named
     ∙ ap is_some (sym (parent_given internal m))
     ∙ ap (λ (xs : Xattrs). is_some (parent_of (record n { internal = xs }))) (sym is)
+
+-- with no parent
+pub named_none : (internal : Xattrs) (m : Meta) → m.internal ≡ without internal (codes "SNAP") → NamesHead m
+named_none internal m is =
+    ap (λ (xs : Xattrs). is_some (value_of xs (codes "SNAP"))) is
+    ∙ ap is_some (none_without internal (codes "SNAP"))
+    ∙ ap is_some (sym (parent_without internal))
+    ∙ ap (λ (xs : Xattrs). is_some (parent_of (record m { internal = xs }))) (sym is)
 
 -- ---- marks
 

@@ -1,4 +1,5 @@
--- The laws of the jobs of snapshots, clones and deletes: what each part of them shows.
+-- The laws of the jobs of snapshots, clones and deletes, and of those at the ends of fills: what each part of them
+-- shows.
 use Rattle.std.specs.Prelude.{◌≡◌, ℕ, ◌<◌, Some, None, [], ◌∷◌}
 use Rattle.page_disk.specs.Disk.{Image}
 use Rattle.volume_model.specs.Volumes.{Fixed, two_xattrs}
@@ -10,6 +11,9 @@ use Rattle.blob_meta.specs.declared.meta.Meta.{Meta}
 use Rattle.snapshots.specs.SnapshotJobs.{clone_job, snapshot_job}
 use Rattle.inflate_delete.specs.Clones.{clones_below}
 use Rattle.inflate_delete.specs.DeleteJobs.{delete_job, erase_job}
+use Rattle.inflate_delete.specs.FillJobs.{fill_job}
+use Rattle.inflate_delete.specs.Fills.{command_of, IsFilled, parent_blob}
+use Rattle.inflate_delete.specs.declared.filling.FillKind.{FillKind}
 use Rattle.shown_volumes.specs.Maps.{Map, Metas}
 use Rattle.shown_volumes.specs.ShowsStep.{IsAskedOf, IsAtRest, shown_in, ShowsStep}
 
@@ -48,3 +52,9 @@ module _ (f : Fixed) (base : Metas) (live : Map Xattrs) (image : Image) (volume 
   ShowsDelete clone heir = IsAtRest f base → clones_below f.md_len base of ≡ clone ∷ [] → base clone ≡ Some heir
       → IsAskedOf f (shown_in f base live image) base (c.Delete volume) of old
       → ShowsStep f base live (c.Delete volume) r.Ok (delete_job of old clone heir)
+
+  -- the end of an inflate or a decouple of it, where no slot is left to fill
+  abbrev pub ShowsFill : FillKind → Type 0
+  ShowsFill kind = IsAtRest f base → IsFilled base of kind
+      → IsAskedOf f (shown_in f base live image) base (command_of kind volume) of old
+      → ShowsStep f base live (command_of kind volume) r.Ok (fill_job kind of old (parent_blob base old))

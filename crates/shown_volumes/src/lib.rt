@@ -3,4 +3,4 @@
 
 mod laws;
 
-pub use laws::{clones_show, deletes_show, jobs_are_stored, snapshots_show};
+pub use laws::{clones_show, deletes_show, fills_show, jobs_are_stored, snapshots_show};

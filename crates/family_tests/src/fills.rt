@@ -1,0 +1,375 @@
+//! Which slots an inflate or a decouple fills, the jobs at their ends, and the first cause for which each is refused.
+
+use crate::blobs::{Blob, CHILD, PLAIN, metas_of, replacements_shown};
+use blob_meta::{Job, Meta, Metas};
+use inflate_delete::{Fill, FillKind};
+use std::alloc::Global;
+use std::test::Fail;
+use super_block::{Layout, Super};
+use volume_model::{Memory, Reply};
+
+/// A read-only blob `g` at head 1 of six slots, and over it a read-only blob `s` at head 3 of four, of which two are
+/// empty.
+const GRANDPARENT: Blob = Blob {
+    head: 1,
+    name: b"g\0",
+    data_ro: 1,
+    map: &[Some(5), Some(6), Some(7), Some(8), Some(9), Some(10)],
+    ..PLAIN
+};
+
+const PARENT: Blob = Blob {
+    head: 3,
+    name: b"s\0",
+    data_ro: 1,
+    map: &[Some(11), None, Some(12), None],
+    snap: Some(1),
+    ..PLAIN
+};
+
+/// The map of a volume over `s`, and the slots that an inflate and a decouple of it fill next.
+struct Next {
+    map: &'static [Option<u32>],
+    inflate: Option<u32>,
+    decouple: Option<u32>,
+}
+
+const NEXTS: [Next; 10] = [
+    Next {
+        map: &[],
+        inflate: None,
+        decouple: None,
+    },
+    Next {
+        map: &[Some(20), Some(21), Some(22), Some(23), Some(24)],
+        inflate: None,
+        decouple: None,
+    },
+    Next {
+        map: &[None, None, None, None],
+        inflate: Some(0),
+        decouple: Some(0),
+    },
+    Next {
+        map: &[None, Some(20), Some(21)],
+        inflate: Some(0),
+        decouple: Some(0),
+    },
+    // The parent's parent alone holds slot 1.
+    Next {
+        map: &[Some(20), None, Some(21)],
+        inflate: Some(1),
+        decouple: None,
+    },
+    Next {
+        map: &[Some(20), None, None, Some(21)],
+        inflate: Some(1),
+        decouple: Some(2),
+    },
+    Next {
+        map: &[Some(20), Some(21), None],
+        inflate: Some(2),
+        decouple: Some(2),
+    },
+    Next {
+        map: &[Some(20), Some(21), Some(22), None],
+        inflate: Some(3),
+        decouple: None,
+    },
+    // Past the parent's end.
+    Next {
+        map: &[Some(20), Some(21), Some(22), Some(23), None, None, None],
+        inflate: Some(4),
+        decouple: None,
+    },
+    Next {
+        map: &[Some(20), Some(21), None, None, None],
+        inflate: Some(2),
+        decouple: Some(2),
+    },
+];
+
+/// What a fill of the volume at head 5 fills next.
+fn next_of(metas: &Metas, kind: FillKind) -> Option<u32> {
+    Fill { volume: 5, kind }.next(metas)
+}
+
+#[test]
+fn least_slots_to_fill(rt: HostRuntime) -> Result<(), Fail> {
+    let alloc = rt.alloc();
+    for case in &NEXTS {
+        let volume = Blob {
+            map: case.map,
+            ..CHILD
+        };
+        let metas = metas_of(alloc, &[GRANDPARENT, PARENT, volume])?;
+        assert_eq!(rt; next_of(&metas, FillKind::Inflate), case.inflate);
+        assert_eq!(rt; next_of(&metas, FillKind::Decouple), case.decouple);
+    }
+    Ok(())
+}
+
+/// A volume without a parent, one whose parent isn't there, and no volume.
+#[test]
+fn slots_to_fill_without_a_parent(rt: HostRuntime) -> Result<(), Fail> {
+    let alloc = rt.alloc();
+    let alone = Blob {
+        map: &[Some(20), None],
+        ..PLAIN
+    };
+    let metas = metas_of(alloc, &[GRANDPARENT, PARENT, alone])?;
+    assert_eq!(rt; next_of(&metas, FillKind::Inflate), Some(1));
+    assert_eq!(rt; next_of(&metas, FillKind::Decouple), None);
+    let metas = metas_of(alloc, &[GRANDPARENT, CHILD])?;
+    assert_eq!(rt; next_of(&metas, FillKind::Inflate), Some(0));
+    assert_eq!(rt; next_of(&metas, FillKind::Decouple), None);
+    let metas = metas_of(alloc, &[GRANDPARENT])?;
+    assert_eq!(rt; next_of(&metas, FillKind::Inflate), None);
+    assert_eq!(rt; next_of(&metas, FillKind::Decouple), None);
+    Ok(())
+}
+
+/// What is filled at a head; and the slot that is filled next, the job where there is none, or the first cause that
+/// refuses the command.
+struct Case {
+    kind: FillKind,
+    volume: u32,
+    wanted: &'static str,
+}
+
+/// Over `g` and `s`: `v` at head 5, whose empty slot `s` doesn't hold, and `c` at head 6, which has more slots than
+/// `s`. Over `g` is `w` at head 9, filled but for its last slot, past the end of `g`. At head 2 is `u` without a parent
+/// and without an empty slot. A read-only blob as long as `c` is at head 7, a locked one without a parent at head 8; at
+/// head 0 is the super blob, read-only too.
+const FAMILY: [Blob; 9] = [
+    Blob {
+        head: 0,
+        name: b"store\0",
+        data_ro: 1,
+        map: &[],
+        ..PLAIN
+    },
+    GRANDPARENT,
+    Blob {
+        head: 2,
+        name: b"u\0",
+        map: &[Some(13), Some(14)],
+        ..PLAIN
+    },
+    PARENT,
+    Blob {
+        name: b"v\0",
+        map: &[Some(15), None, Some(16), Some(17)],
+        ..CHILD
+    },
+    Blob {
+        head: 6,
+        name: b"c\0",
+        map: &[Some(18), Some(19), Some(20), Some(21), Some(22)],
+        ..CHILD
+    },
+    Blob {
+        head: 7,
+        data_ro: 1,
+        map: &[None, None, None, None, None],
+        ..CHILD
+    },
+    Blob {
+        head: 8,
+        md_ro: 8,
+        ..PLAIN
+    },
+    Blob {
+        head: 9,
+        name: b"w\0",
+        map: &[
+            Some(23),
+            Some(24),
+            Some(25),
+            Some(26),
+            Some(27),
+            Some(28),
+            None,
+        ],
+        snap: Some(1),
+        ..PLAIN
+    },
+];
+
+const CASES: [Case; 15] = [
+    Case {
+        kind: FillKind::Inflate,
+        volume: 6,
+        wanted: "6: 0 [Some(18), Some(19), Some(20), Some(21), Some(22)] None false;thin false id 6 name c attributes \
+                 1 internal 0;commit 1 zero 0 freeze None",
+    },
+    Case {
+        kind: FillKind::Decouple,
+        volume: 5,
+        wanted: "5: 0 [Some(15), None, Some(16), Some(17)] Some(1) false;thin true id 5 name v attributes 1 internal \
+                 1;commit 1 zero 0 freeze None",
+    },
+    // Its parent has none.
+    Case {
+        kind: FillKind::Decouple,
+        volume: 9,
+        wanted: "9: 0 [Some(23), Some(24), Some(25), Some(26), Some(27), Some(28), None] None false;thin true id 9 \
+                 name w attributes 1 internal 0;commit 1 zero 0 freeze None",
+    },
+    // It has none itself.
+    Case {
+        kind: FillKind::Inflate,
+        volume: 2,
+        wanted: "2: 0 [Some(13), Some(14)] None false;thin false id 2 name u attributes 1 internal 0;commit 1 zero 0 \
+                 freeze None",
+    },
+    Case {
+        kind: FillKind::Inflate,
+        volume: 5,
+        wanted: "1",
+    },
+    Case {
+        kind: FillKind::Inflate,
+        volume: 9,
+        wanted: "6",
+    },
+    Case {
+        kind: FillKind::Inflate,
+        volume: 0,
+        wanted: "Reserved",
+    },
+    Case {
+        kind: FillKind::Decouple,
+        volume: 0,
+        wanted: "Reserved",
+    },
+    Case {
+        kind: FillKind::Inflate,
+        volume: 3,
+        wanted: "ReadOnly",
+    },
+    Case {
+        kind: FillKind::Inflate,
+        volume: 8,
+        wanted: "ReadOnly",
+    },
+    Case {
+        kind: FillKind::Decouple,
+        volume: 8,
+        wanted: "ReadOnly",
+    },
+    Case {
+        kind: FillKind::Decouple,
+        volume: 7,
+        wanted: "ReadOnly",
+    },
+    Case {
+        kind: FillKind::Decouple,
+        volume: 2,
+        wanted: "NoParent",
+    },
+    Case {
+        kind: FillKind::Decouple,
+        volume: 6,
+        wanted: "Short",
+    },
+    Case {
+        kind: FillKind::Decouple,
+        volume: 4,
+        wanted: "NoVolume",
+    },
+];
+
+/// A store of 64 pages with clusters of 4 pages and 16 metadata pages, whose super blob is at head 0.
+fn sup() -> Result<Super, Fail> {
+    Ok(Layout::plan(64, 4, Some(16))?.new_super(1 << 32, [0; 16]))
+}
+
+/// What of the new metadata `replacements_shown` leaves out, and the rest of the job.
+fn job_shown(alloc: Global, job: &Job) -> Result<String, Memory> {
+    let mut text = replacements_shown(alloc, &job.list)?;
+    for replacement in job.list.as_slice() {
+        if let Some(new) = &replacement.new {
+            let (thin, id) = (new.flags.is_thin(), new.id % (1 << 32));
+            let (attributes, internal) = (
+                new.xattrs.as_slice().len(),
+                new.internal.as_slice().len(),
+            );
+            let name = name_shown(new);
+            let piece = format!(in alloc;
+                "thin {thin} id {id} name {name} attributes {attributes} internal {internal};"
+            );
+            text.push_str(piece.map_err(|_| Memory)?.as_str())?;
+        }
+    }
+    let (commit, zero, freeze) = (job.commit, job.zero.as_slice().len(), job.freeze);
+    let rest = format!(in alloc; "commit {commit} zero {zero} freeze {freeze:?}");
+    text.push_str(rest.map_err(|_| Memory)?.as_str())?;
+    Ok(text)
+}
+
+/// The name, where it is one letter.
+fn name_shown(meta: &Meta) -> char {
+    match meta.xattrs.value_of(b"name") {
+        Some(name) => match name.bytes() {
+            [letter, 0] => char::from(*letter),
+            _ => '?',
+        },
+        None => '-',
+    }
+}
+
+/// The job at the end of a fill that has no slot to fill.
+fn last_shown(alloc: Global, metas: &Metas, fill: &Fill) -> Result<String, Memory> {
+    if metas.get(fill.volume).is_none() {
+        return format!(in alloc; "{:?}", Reply::NoVolume).map_err(|_| Memory);
+    }
+    if let Some(at) = fill.next(metas) {
+        return format!(in alloc; "{at}").map_err(|_| Memory);
+    }
+    match fill.last_job(alloc, metas) {
+        Ok(job) => job_shown(alloc, &job),
+        Err(reply) => format!(in alloc; "{reply:?}").map_err(|_| Memory),
+    }
+}
+
+fn plan_shown(alloc: Global, metas: &Metas, sup: &Super, case: &Case) -> Result<String, Memory> {
+    if metas.get(case.volume).is_none() {
+        return format!(in alloc; "{:?}", Reply::NoVolume).map_err(|_| Memory);
+    }
+    match Fill::plan(metas, sup, case.volume, case.kind) {
+        Ok(fill) => last_shown(alloc, metas, &fill),
+        Err(reply) => format!(in alloc; "{reply:?}").map_err(|_| Memory),
+    }
+}
+
+#[test]
+fn fills_and_first_causes(rt: HostRuntime) -> Result<(), Fail> {
+    let alloc = rt.alloc();
+    let metas = metas_of(alloc, &FAMILY)?;
+    let sup = sup()?;
+    for case in &CASES {
+        assert_eq!(rt;
+            plan_shown(alloc, &metas, &sup, case)?.as_str(),
+            case.wanted
+        );
+    }
+    Ok(())
+}
+
+/// Of metadata that has changed since a fill was planned, its last job is refused by what holds then.
+#[test]
+fn last_jobs_are_refused(rt: HostRuntime) -> Result<(), Fail> {
+    let alloc = rt.alloc();
+    let metas = metas_of(alloc, &FAMILY)?;
+    for (kind, volume, wanted) in [
+        (FillKind::Inflate, 8, "ReadOnly"),
+        (FillKind::Decouple, 8, "ReadOnly"),
+        (FillKind::Decouple, 2, "NoParent"),
+        (FillKind::Decouple, 6, "Short"),
+    ] {
+        let fill = Fill { volume, kind };
+        assert_eq!(rt; last_shown(alloc, &metas, &fill)?.as_str(), wanted);
+    }
+    Ok(())
+}
