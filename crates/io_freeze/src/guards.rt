@@ -37,7 +37,7 @@ impl Model for Guards {
 }
 
 impl Guards {
-    ghost use Rattle.std.specs.Prelude.{◌≡◌, ◌<◌, ◌≤◌, ◌-◌, ◌^◌, ◌&&◌, nat_lt, None, IsSome, IsTrue, IfOk, IfSome};
+    ghost use Rattle.std.specs.Prelude.{◌≡◌, ◌+◌, ◌<◌, ◌≤◌, ◌-◌, ◌^◌, ◌&&◌, nat_lt, None, IsSome, IsTrue, IfOk, IfSome};
     ghost use Rattle.std.specs.Prelude.{false};
     ghost use Rattle.std.specs.FinMap as map;
     ghost use Rattle.std.specs.FinSet as set;
@@ -66,6 +66,13 @@ impl Guards {
         ensures { result ≡ nat_lt self.now.drawn (2 ^ 64 - 1) }
     {
         self.drawn < u64::MAX
+    }
+
+    /// Whether so many numbers are left for new generations.
+    pub fn can_draw(&self, count: u32) -> bool
+        ensures { result ≡ nat_lt (self.now.drawn + count) (2 ^ 64) }
+    {
+        self.drawn <= u64::MAX - u64::from(count)
     }
 
     /// Holds a head. It isn't frozen, and its generation is a number above every one drawn before.

@@ -14,12 +14,12 @@ use Rattle.store_model.specs.Cases.Halt.{stage_after}
 use Rattle.store_model.specs.Claiming.{given_back}
 use Rattle.store_model.specs.Rows.{Answered, Decided, InJob, Lost, Posted, Row, Rows, with_row}
 use Rattle.store_model.specs.StoreState.{StoreState}
-use Rattle.metadata_turns.specs.Begins.{BeginsOrNot}
-use Rattle.metadata_turns.specs.Inserts.{InsertsOrNot, IsLack}
-use Rattle.metadata_turns.specs.declared.begin.BeginTurn.{BeginTurn}
-use Rattle.metadata_turns.specs.declared.begin.BeginTurn.TheVariants as begin
-use Rattle.metadata_turns.specs.declared.inserting.InsertTurn.{InsertTurn}
-use Rattle.metadata_turns.specs.declared.inserting.InsertTurn.TheVariants as insert
+use Rattle.job_begins.specs.Begins.{BeginsOrNot}
+use Rattle.job_begins.specs.Inserts.{InsertsOrNot, IsLack}
+use Rattle.job_begins.specs.declared.begin.BeginTurn.{BeginTurn}
+use Rattle.job_begins.specs.declared.begin.BeginTurn.TheVariants as begin
+use Rattle.job_begins.specs.declared.inserting.InsertTurn.{InsertTurn}
+use Rattle.job_begins.specs.declared.inserting.InsertTurn.TheVariants as insert
 use Rattle.run_moves.specs.DriverSteps.{ServingTurn}
 use Rattle.run_moves.specs.DriverSteps as serving
 use Rattle.running_store.specs.Steps.{OnlyRow}

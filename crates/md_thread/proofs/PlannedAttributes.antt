@@ -27,7 +27,7 @@ use Rattle.store_model.specs.StoreState.{shown}
 use Rattle.store_model.specs.Asking.{AsksFor, IsSyncing, syncs}
 use Rattle.store_model.specs.Cases.{IsRefusedBy}
 use Rattle.metadata_turns.specs.Answering.{IsFound}
-use Rattle.metadata_turns.specs.Begins.{IsJobOf}
+use Rattle.job_begins.specs.Begins.{IsJobOf}
 use Rattle.running_store.specs.StoreInvariant.{IsRunning}
 use Rattle.store_core.specs.Planning.{HasBlob, PlanLaws}
 use Rattle.blob_meta.specs.Repairs.{HasNoMarks}

@@ -30,7 +30,7 @@ use Rattle.lvol_store.specs.SlotPlans.{Creates, PlansCreate, PlansResize, Refuse
 use Rattle.store_model.specs.Shown.{fixed_of}
 use Rattle.store_model.specs.StoreState.{shown}
 use Rattle.store_model.specs.Cases.{IsRefusedBy}
-use Rattle.metadata_turns.specs.Begins.{IsJobOf}
+use Rattle.job_begins.specs.Begins.{IsJobOf}
 use Rattle.running_store.specs.LoadedWhole.{IsNextHead}
 use Rattle.running_store.specs.StoreView.{StoreView, state_of}
 use Rattle.md_thread.specs.Tasks.{IsPlanOf}

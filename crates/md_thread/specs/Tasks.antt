@@ -8,7 +8,7 @@ use Rattle.page_disk.specs.declared.disk.PageDisk.{Ghosts}
 use Rattle.store_model.specs.Cases.{IsRefusedBy}
 use Rattle.store_model.specs.Rows.{Posted}
 use Rattle.metadata_turns.specs.Answering.{IsAnswerable}
-use Rattle.metadata_turns.specs.Begins.{IsJobOf}
+use Rattle.job_begins.specs.Begins.{IsJobOf}
 use Rattle.running_store.specs.Requests.{IsInsertPosted, IsPostedBy}
 use Rattle.running_store.specs.StoreView.{rows_of, StoreView, state_of}
 use Rattle.running_store.specs.Steps.{Asks}

@@ -33,7 +33,6 @@ use Rattle.running_store.specs.declared.replacements.Change.TheVariants as chang
 use Rattle.running_store.proofs.BaseBehind.{base_behind}
 use Rattle.running_store.proofs.Maps.{changed_given, insert_given, is_key, remove_given}
 use Rattle.running_store.proofs.Thawed.{released_is}
-use Rattle.metadata_turns.specs.Begins.{no_effects}
 use Rattle.metadata_turns.specs.JobTurns.{guards_left}
 
 -- ---- generations and attributes
@@ -264,17 +263,3 @@ module _ {D : Type 0} (d : Ghosts D) (p : StoreView D) (serves : Serves) (j : Jo
           removed_at : (k : ℕ) → set.contains (set.remove guards.frozen head) k
               ≡ (not (eq_by_cmp nat_cmp k head) && set.contains guards.frozen k)
           removed_at k = set.contains-remove nat_cmp_total guards.frozen head k
-
--- ---- a blob that is there, with which nothing is done besides
-
--- it takes no place
-pub places_there : (b : Blobs) (head : ℕ) (new : Meta) → mark_of new ≡ None → IsSome (map.get b.chains head)
-    → IsSome (map.get b.metas head) → HasPlaces b head new no_effects
-places_there b head new unmarked chain there = record {
-  rooms = record {
-    chain = chain;
-    meta = subst (λ (m : Bool). HasPlace (if m then b.marked else b.metas) head None) (sym (ap is_some unmarked))
-        there;
-  };
-  commit = record { live_fits = tt; shown_fits = tt; numbers = tt };
-}

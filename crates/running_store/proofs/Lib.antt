@@ -4,6 +4,7 @@ pub mod Maps
 pub mod Resolved
 pub mod Without
 pub mod BaseBehind
+pub mod KeptAs
 pub mod KeptThawed
 pub mod KeptAlone
 pub mod Thawed

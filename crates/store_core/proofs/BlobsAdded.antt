@@ -13,8 +13,8 @@ use Rattle.store_model.specs.Maps.{Metas, Chains}
 use Rattle.store_model.specs.Places.{IsLinked}
 use Rattle.store_model.proofs.Sets.{length_all_set}
 use Rattle.running_store.specs.Recovered.{chains_of}
-use Rattle.metadata_turns.proofs.ClustersAlone.{set_with}
-use Rattle.metadata_turns.proofs.CutClusters.{among_slots, in_slot}
+use Rattle.job_begins.proofs.ClustersAlone.{set_with}
+use Rattle.job_begins.proofs.CutClusters.{among_slots, in_slot}
 use Rattle.store_core.specs.Removing.{masks_with, those_below, AreWith, FitMasks}
 use Rattle.store_core.proofs.Starts.{below_past, next_here, next_none, next_other}
 use Rattle.store_core.proofs.UsedAtStart.{some_of}

@@ -23,7 +23,7 @@ use Rattle.store_model.specs.Shown.{fixed_of}
 use Rattle.store_model.specs.StoreState.{StoreState, shown}
 use Rattle.store_model.specs.RunInvariant.{RunInvariant}
 use Rattle.store_model.proofs.ChangedLive.{deleted_commit}
-use Rattle.metadata_turns.specs.Begins.{IsFreshHead, IsJobOf}
+use Rattle.job_begins.specs.Begins.{IsFreshHead, IsJobOf}
 use Rattle.store_core.proofs.NextHead.{next_there}
 
 module _ (s : Super) (placed : IsPlaced s) (first : Volumes) (script : ℕ → List Command) (p : StoreState)

@@ -5,13 +5,13 @@ use Rattle.page_disk.specs.declared.disk.PageDisk.{Ghosts}
 use Rattle.volume_model.specs.declared.reply.Msg.{Msg}
 use Rattle.store_model.specs.Cases as kind
 use Rattle.store_model.specs.Rows.{OpenClaim, Posted}
-use Rattle.metadata_turns.specs.Inserts.{HoldsPosted, InsertsOrNot}
+use Rattle.job_begins.specs.Inserts.{HoldsPosted, InsertsOrNot}
 use Rattle.running_store.specs.Requests.{IsInsertPosted}
 use Rattle.running_store.specs.StoreInvariant.{StoreInvariant}
 use Rattle.running_store.specs.StoreView.{StoreView, WithOpening, rows_of}
 use Rattle.running_store.specs.TurnMade.{TurnMade}
-use Rattle.metadata_turns.specs.declared.inserting.InsertTurn.{InsertTurn}
-use Rattle.metadata_turns.specs.declared.inserting.InsertTurn.TheVariants as insert
+use Rattle.job_begins.specs.declared.inserting.InsertTurn.{InsertTurn}
+use Rattle.job_begins.specs.declared.inserting.InsertTurn.TheVariants as insert
 use Rattle.running_store.proofs.Rowing.{low_of}
 
 some_of : (o : Option OpenClaim) → IsSome o → (claim : OpenClaim) × (o ≡ Some claim)

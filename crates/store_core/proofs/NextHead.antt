@@ -25,7 +25,7 @@ use Rattle.store_model.specs.StoreState.{StoreState, shown}
 use Rattle.store_model.specs.RunInvariant.{RunInvariant, RunsWell}
 use Rattle.store_model.proofs.ChangedLive.{made_commit}
 use Rattle.store_model.proofs.Sets.{among_first}
-use Rattle.metadata_turns.specs.Begins.{IsFreshHead, IsJobOf}
+use Rattle.job_begins.specs.Begins.{IsFreshHead, IsJobOf}
 use Rattle.running_store.specs.LoadedWhole.{IsNextHead}
 
 -- ---- the head of the first replacement of a list, where it makes a blob

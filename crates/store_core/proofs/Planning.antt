@@ -24,7 +24,7 @@ use Rattle.store_model.specs.Maps.{Map}
 use Rattle.store_model.specs.Shown.{fixed_of, volume_of}
 use Rattle.store_model.specs.StoreState.{StoreState, shown}
 use Rattle.store_model.specs.Asking.{resizes, syncs, AsksFor}
-use Rattle.metadata_turns.specs.Begins.{IsJobOf}
+use Rattle.job_begins.specs.Begins.{IsJobOf}
 use Rattle.store_model.proofs.Shows.{or_empty}
 use Rattle.store_model.proofs.Synced.{edited_here}
 use Rattle.store_core.specs.Planning.{PlanLaws}

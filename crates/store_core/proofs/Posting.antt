@@ -10,13 +10,13 @@ use Rattle.store_model.specs.Rows.{Claiming, Copying, Decided, Ended, Idle, InJo
 use Rattle.store_model.specs.Rows.{Posted, Ready, Row, Stage}
 use Rattle.store_model.specs.Cases as kind
 use Rattle.running_store.specs.declared.rows.RowStage.TheVariants.{Meta, Over}
-use Rattle.metadata_turns.specs.declared.begin.BeginTurn.{BeginTurn}
-use Rattle.metadata_turns.specs.declared.begin.BeginTurn.TheVariants as begin
+use Rattle.job_begins.specs.declared.begin.BeginTurn.{BeginTurn}
+use Rattle.job_begins.specs.declared.begin.BeginTurn.TheVariants as begin
 use Rattle.channel_turns.specs.declared.page_reading.ReadTurn.{ReadTurn}
 use Rattle.channel_turns.specs.declared.page_reading.ReadTurn.TheVariants as read
 use Rattle.channel_turns.specs.ChannelTurns.{IsOfRead}
 use Rattle.running_store.specs.TurnMade.{TurnMade, TurnsAs}
-use Rattle.metadata_turns.specs.Begins.{BeginsOrNot}
+use Rattle.job_begins.specs.Begins.{BeginsOrNot}
 use Rattle.running_store.specs.StoreInvariant.{IsRunning, StoreInvariant}
 use Rattle.running_store.specs.StoreView.{StoreView, WithOpening, rows_of, state_of}
 use Rattle.running_store.specs.Requests.{HavePosted, IsPostedBy}

@@ -3,9 +3,9 @@ use Rattle.std.proofs.Common.{subst, sym}
 use Rattle.page_disk.specs.declared.disk.PageDisk.{Ghosts}
 use Rattle.store_model.specs.Cases.{Kind}
 use Rattle.store_model.specs.Cases as kind
-use Rattle.metadata_turns.specs.Repairs.{RepairsOrNot}
-use Rattle.metadata_turns.specs.declared.repairing.RepairTurn.{RepairTurn}
-use Rattle.metadata_turns.specs.declared.repairing.RepairTurn.TheVariants as repair
+use Rattle.job_begins.specs.Repairs.{RepairsOrNot}
+use Rattle.job_begins.specs.declared.repairing.RepairTurn.{RepairTurn}
+use Rattle.job_begins.specs.declared.repairing.RepairTurn.TheVariants as repair
 use Rattle.running_store.specs.StoreInvariant.{StoreInvariant}
 use Rattle.running_store.specs.StoreView.{StoreView, WithOpening}
 use Rattle.running_store.specs.TurnMade.{TurnMade}

@@ -18,7 +18,7 @@ use Rattle.store_model.specs.Regions.{region_of}
 use Rattle.store_model.proofs.Inside.{inside_slot}
 use Rattle.store_model.proofs.Resolved.{resolved_mapped, resolved_of, slot_of}
 use Rattle.running_store.specs.Recovered.{chains_of, IsRecovered}
-use Rattle.metadata_turns.proofs.CutClusters.{in_slot}
+use Rattle.job_begins.proofs.CutClusters.{in_slot}
 use Rattle.store_core.specs.Removing.{those_below, AreWith, FitMasks}
 use Rattle.store_core.proofs.ReadBlobs.{removed_read, stays_or_goes}
 use Rattle.store_core.proofs.Starts.{below_in, below_past}

@@ -21,7 +21,7 @@ use Rattle.store_model.specs.Shown.{fixed_of}
 use Rattle.store_model.specs.StoreState.{shown}
 use Rattle.store_model.specs.Asking.{AsksFor}
 use Rattle.metadata_turns.specs.Answering.{IsFound}
-use Rattle.metadata_turns.specs.Begins.{IsJobOf}
+use Rattle.job_begins.specs.Begins.{IsJobOf}
 use Rattle.running_store.specs.LoadedWhole.{IsNextHead}
 use Rattle.running_store.specs.StoreInvariant.{IsRunning}
 use Rattle.running_store.specs.StoreView.{base_of, AreResolved, StoreView, state_of}

@@ -8,7 +8,7 @@ ghost use Rattle.store_core.specs.Removing.{masks_with, those_below, AreWith, Fi
 ghost use Rattle.store_model.specs.Places.{all_set};
 
 use blob_meta::{Chains, Metas};
-use metadata_turns::add_clusters;
+use job_begins::add_clusters;
 use pools::Bits;
 use super_block::Masks;
 use volume_model::PlaceList;

@@ -3,7 +3,7 @@
 use crate::keeping::goes_on;
 use crate::plant::Plant;
 use crate::right::MdRight;
-use metadata_turns::{InsertTurn, begin_insert_or_halt};
+use job_begins::{InsertTurn, begin_insert_or_halt};
 use page_disk::PageDisk;
 use volume_model::Msg;
 
@@ -11,8 +11,8 @@ impl<D: PageDisk> Plant<D> {
     ghost use Rattle.std.specs.Prelude.{◌≡◌, None, IsSome};
     ghost use Rattle.store_model.specs.Cases as kind;
     ghost use Rattle.store_model.specs.Repairing.{IsRepaired};
-    ghost use Rattle.metadata_turns.specs.declared.inserting.InsertTurn.TheVariants.{Logged};
-    ghost use Rattle.metadata_turns.specs.Inserts.{row_inserting, InsertsOrNot};
+    ghost use Rattle.job_begins.specs.declared.inserting.InsertTurn.TheVariants.{Logged};
+    ghost use Rattle.job_begins.specs.Inserts.{row_inserting, InsertsOrNot};
     ghost use Rattle.running_store.specs.Requests.{IsInsertPosted};
     ghost use Rattle.running_store.specs.Steps.{OnlyRow};
     ghost use Rattle.running_store.specs.StoreView.{rows_of, state_of};

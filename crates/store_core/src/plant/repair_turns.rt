@@ -3,12 +3,12 @@
 use crate::keeping::goes_on;
 use crate::plant::Plant;
 use crate::right::MdRight;
-use metadata_turns::{RepairTurn, begin_repair};
+use job_begins::{RepairTurn, begin_repair};
 use page_disk::PageDisk;
 
 impl<D: PageDisk> Plant<D> {
     ghost use Rattle.std.specs.Prelude.{◌≡◌, None};
-    ghost use Rattle.metadata_turns.specs.Repairs.{RepairsOrNot};
+    ghost use Rattle.job_begins.specs.Repairs.{RepairsOrNot};
 
     /// Begins the first repair that is left, on a store that runs no job and hasn't stopped: a blob that is kept loses
     /// its marks, or, where no such is left, one that recovery removes is erased. `Clean` comes exactly where no repair

@@ -1,6 +1,6 @@
 use Rattle.store_model.specs.Rows.{Row}
-use Rattle.metadata_turns.specs.Begins.{row_begun}
-use Rattle.metadata_turns.specs.Inserts.{row_inserting}
+use Rattle.job_begins.specs.Begins.{row_begun}
+use Rattle.job_begins.specs.Inserts.{row_inserting}
 use Rattle.running_store.specs.Steps.{decided}
 use Rattle.running_store.specs.StoreView.{rows_of}
 use Rattle.md_thread.proofs.MessageTurns.{by_answer, by_begin, by_insert, by_refusal}

@@ -3,7 +3,7 @@ use Rattle.std.specs.Prelude.{Option, Result}
 use Rattle.volume_model.specs.declared.command.Command.{Command}
 use Rattle.volume_model.specs.declared.reply.Reply.{Reply}
 use Rattle.blob_meta.specs.declared.job.Job.{Job}
-use Rattle.metadata_turns.specs.Begins.{IsJobOf}
+use Rattle.job_begins.specs.Begins.{IsJobOf}
 use Rattle.running_store.specs.Requests.{IsAsked}
 use Rattle.running_store.specs.StoreView.{rows_of, state_of}
 use Rattle.md_thread.specs.Tasks.{IsPlanOf}

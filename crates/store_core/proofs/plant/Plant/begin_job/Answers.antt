@@ -1,6 +1,6 @@
 use Rattle.std.proofs.Common.{◌≡◌, None, subst, sym}
 use Rattle.running_store.specs.Running.{view_of, with_opening}
-use Rattle.metadata_turns.specs.Begins.{IsJobOf}
+use Rattle.job_begins.specs.Begins.{IsJobOf}
 use Rattle.store_model.specs.Repairing.{IsRepaired}
 use Rattle.running_store.specs.StoreView.{WithOpening, state_of}
 use Rattle.running_store.specs.Steps.{Asks}

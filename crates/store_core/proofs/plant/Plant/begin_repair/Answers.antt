@@ -1,5 +1,5 @@
 use Rattle.std.proofs.Common.{subst}
-use Rattle.metadata_turns.specs.Repairs.{RepairsOrNot}
+use Rattle.job_begins.specs.Repairs.{RepairsOrNot}
 use Rattle.running_store.specs.Running.{view_of, with_opening}
 use Rattle.running_store.specs.StoreView.{WithOpening}
 use Rattle.store_core.proofs.RepairsKept.{repairing_or_not}

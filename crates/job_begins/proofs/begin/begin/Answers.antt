@@ -1,0 +1,62 @@
+use Rattle.std.proofs.Common.{◌≡◌, ◌<◌, ◌+◌, ◌^◌, ◌≤◌, length, Some, sym, ap, subst, ◌∙◌, arith, rules}
+use Rattle.std.specs.Prelude.{slice_set, vec_capacity}
+use Rattle.store_model.specs.Cases.{Begins}
+use Rattle.store_model.specs.Rows.{InJob, Row}
+use Rattle.running_store.specs.Jobs.{job_seen}
+use Rattle.running_store.specs.Running.{left_in, view_of}
+use Rattle.running_store.specs.StoreView.{state_of}
+use Rattle.running_store.specs.declared.running.Running.{Running}
+use Rattle.running_store.proofs.Counting.{left_same}
+use Rattle.job_begins.proofs.JobBegin.{indexed_row, refused}
+use Rattle.job_begins.proofs.begin.begin.Goals as goal
+
+pub returns-in-Ok-clause-began : goal.returns-in-Ok-clause-began
+returns-in-Ok-clause-began g c = λ _.
+    let d = g.D.PageDisk in
+    let q = view_of c.job_asked.new.running in
+    let low : c.args.channel < length q.rows = omega (arith, c.requires.channel, c.job_asked.ensures.order.sixteen) in
+    let row = c.serve.ensures ∙ ap (λ (r : Row). record r { stage = InJob })
+    (indexed_row q.rows c.args.channel low c.index_mut.result.now c.index_mut.ensures.value) in (
+      subst (λ (r : Row). Begins (state_of d (view_of c.args.running.now)) (state_of d (record q {
+        rows = slice_set q.rows c.args.channel r;
+        job = Some (job_seen c.in-Ok.job);
+      }))) (sym row) c.in-Ok.ensures.begins,
+      c.job_asked.ensures.disk,
+    )
+
+pub returns-in-Ok-clause-order : goal.returns-in-Ok-clause-order
+returns-in-Ok-clause-order g c =
+    let q = c.job_asked.new.running in
+    let order = c.job_asked.ensures.order in
+    let low : c.args.channel < length q.rows.items = omega (arith, c.requires.channel, order.sixteen) in
+    let same : left_in (slice_set q.rows.items c.args.channel c.serve.new.self) ≡ left_in q.rows.items =
+    left_same q.rows.items c.args.channel c.serve.new.self c.index_mut.result.now low
+    (ap (λ (r : Row). length r.left) (sym c.index_mut.ensures.value)
+    ∙ sym (ap (λ (r : Row). length r.left) c.serve.ensures)) in
+    record {
+      inside = order.inside;
+      device = order.device;
+      sixteen = search (rules);
+      entries = subst (λ n. length q.entries.items + n ≤ vec_capacity q.entries) (sym same) order.entries;
+      marks = subst (λ n. length q.marks.items + n ≤ vec_capacity q.marks) (sym same) order.marks;
+      few = subst (λ n. length q.entries.items + n < 2 ^ 31) (sym same) order.few;
+      counts = order.counts;
+      counted = order.counted;
+      no_page = order.no_page;
+      no_cluster = order.no_cluster;
+      headed = c.in-Ok.ensures.headed;
+      heads = order.heads;
+      resolves = order.resolves;
+      kept = c.in-Ok.ensures.kept;
+    }
+
+pub returns-in-Err-clause-logged : goal.returns-in-Err-clause-logged
+returns-in-Err-clause-logged g c = λ _.
+    let p = view_of c.args.running.now in
+    let posted = c.requires.posted in
+    let waits = posted.waits in
+    let low : c.args.channel < length p.rows = omega (arith, c.requires.channel, c.requires.order.sixteen) in
+    refused g.D.PageDisk p c.args.channel low posted c.requires.runs c.in-Err.reply
+    (c.in-Err.ensures.lack waits.command waits.rest (ap (λ (r : Row). r.left) waits.row))
+    (view_of c.job_asked.new.running) (view_of c.log.new.running)
+    (ap (λ (r : Running g.row.D.Denot). view_of r) c.in-Err.ensures.same) c.log.ensures.logged

@@ -1,0 +1,57 @@
+use Rattle.std.proofs.Common.{◌≡◌, ◌↔◌, ◌<◌, Bool, true, List, length, None, Some, sym, ap, subst, ◌∙◌, arith}
+use Rattle.std.proofs.lemmas.Bool.Decides.{nat_tests}
+use Rattle.blob_meta.specs.Faults.{clusters_of}
+use Rattle.md_chain.specs.Chain.{is_among}
+use Rattle.store_model.proofs.Sets.{length_all_set}
+use Rattle.job_begins.specs.Alone.{IsMissing}
+use Rattle.job_begins.proofs.deleting.effects_of.Goals as goal
+
+pub add_clusters-requires : goal.add_clusters-requires
+add_clusters-requires g c = λ k among.
+    subst (λ n. k < n) (sym c.in_ok-beside.ensures.count) (c.requires.taking k among)
+
+pub missing-requires : goal.missing-requires
+missing-requires g c = λ k among.
+    let slots = c.args.ask.now.taking.map in
+    let long : length c.add_clusters.new.clusters ≡ length c.args.running.now.clusters.bits =
+    ap (λ (l : List Bool). length l) c.add_clusters.ensures
+    ∙ length_all_set c.in_ok-beside.beside (clusters_of slots) true ∙ c.in_ok-beside.ensures.count in
+    subst (λ n. k < n) (sym long) (c.requires.going k among)
+
+pub returns-clause-are : goal.returns-clause-are
+returns-clause-are g c =
+    let ask = c.args.ask.now in
+    let freed = c.in_ok-freed.freed in
+    record {
+      mark_room = c.in_ok-place.field-0;
+      mark = c.in_ok-place.ensures.place;
+      begin = λ i. record {
+        commit = None;
+        freed = c.new.ensures i;
+        claimed = c.new-2.ensures i;
+        rooms = record { chain = None; meta = c.in_ok-place.field-0 };
+      };
+      commit = λ i. record {
+        commit = Some (record {
+          made = None;
+          live = Some (record { head = ask.of; value = None; room = None });
+          renews = (c.from_vec.ensures ∙ c.in_ok-renews.ensures.items) i;
+          shows = Some (record { head = ask.of; value = None; room = None });
+        });
+        freed = c.new-3.ensures i;
+        claimed = c.new-4.ensures i;
+        rooms = record { chain = None; meta = None };
+      };
+      beside = c.in_ok-beside.beside;
+      count = c.in_ok-beside.ensures.count;
+      beside_are = c.in_ok-beside.ensures.are;
+      once = c.in_ok-freed.ensures.once;
+      freed = λ k. subst (λ (bits : List Bool). (is_among k freed ≡ true) ↔ IsMissing bits ask.going.map k)
+          c.add_clusters.ensures (c.in_ok-freed.ensures.are k);
+    }
+
+pub returns-clause-numbers : goal.returns-clause-numbers
+returns-clause-numbers g c =
+    let can = c.can_renew.ensures in
+    let is = c.if-not-can_renew.false in
+    grind (arith, nat_tests, can, is)

@@ -1,0 +1,32 @@
+use Rattle.std.proofs.Common.{ap}
+use Rattle.running_store.specs.Running.{view_of}
+use Rattle.job_begins.proofs.RepairBegins.{lack_or_not}
+use Rattle.job_begins.proofs.repairing.begin_repair.Goals as goal
+
+pub returns-in-Ok-clause-case : goal.returns-in-Ok-clause-case
+returns-in-Ok-clause-case g c = (c.in-Ok.ensures.begins, c.repair_of.ensures.disk)
+
+pub returns-in-Ok-clause-order : goal.returns-in-Ok-clause-order
+returns-in-Ok-clause-order g c =
+    let order = c.repair_of.ensures.order in
+    record {
+      inside = order.inside;
+      device = order.device;
+      sixteen = order.sixteen;
+      entries = order.entries;
+      marks = order.marks;
+      few = order.few;
+      counts = order.counts;
+      counted = order.counted;
+      no_page = order.no_page;
+      no_cluster = order.no_cluster;
+      headed = c.in-Ok.ensures.headed;
+      heads = order.heads;
+      resolves = order.resolves;
+      kept = c.in-Ok.ensures.kept;
+    }
+
+pub returns-in-Err-clause-case : goal.returns-in-Err-clause-case
+returns-in-Err-clause-case g c =
+    lack_or_not g.D.PageDisk (view_of c.args.running.now) (view_of c.repair_of.new.running) c.in-Some.head
+    c.in-Err.turn c.in-Some.ensures.due c.in-Err.ensures.lack (ap view_of c.in-Err.ensures.same)

@@ -1,0 +1,102 @@
+-- What the delete of a blob with one clone asks a job to do, and its job.
+use Rattle.std.specs.Prelude.{◌≡◌, ◌↔◌, ◌+◌, ℕ, Bool, true, false, Option, Some, None, List, [], ◌∷◌, ◌++◌, length}
+use Rattle.bit_array.specs.Bits.{is_in}
+use Rattle.volume_model.specs.declared.command.Command.{Command}
+use Rattle.blob_meta.specs.Faults.{clusters_of}
+use Rattle.blob_meta.specs.declared.job.Job.{Job}
+use Rattle.blob_meta.specs.declared.job.Replacement.{Replacement}
+use Rattle.md_chain.specs.Chain.{is_among}
+use Rattle.md_chain.specs.Packing.{parts_of}
+use Rattle.store_model.specs.Asking.{IsJobFor}
+use Rattle.store_model.specs.Phases.{Committing}
+use Rattle.store_model.specs.Places.{all_set, AreDistinct}
+use Rattle.store_model.specs.StoreState.{ForCommand, StoreState}
+use Rattle.running_store.specs.Blobs.{Blobs}
+use Rattle.running_store.specs.Jobs.{erases_laid, job_seen, phases_in, to_come, writes_laid}
+use Rattle.running_store.specs.Places.{HasPlace}
+use Rattle.running_store.specs.StoreView.{base_of}
+use Rattle.running_store.specs.declared.job.RunningJob.{RunningJob}
+use Rattle.running_store.specs.declared.replacements.Planned.{Planned}
+use Rattle.job_begins.specs.Alone.{IsMappedBeside, IsMissing}
+use Rattle.job_begins.specs.Begins.{needed, no_effects}
+use Rattle.job_begins.specs.Drafts.{IsDraftOf, IsPlannedOn}
+use Rattle.job_begins.specs.ListJobs.{effects_in}
+use Rattle.job_begins.specs.declared.deleting.DeletionAsk.{DeletionAsk}
+use Rattle.job_begins.specs.declared.deleting.DeletionDrafts.{DeletionDrafts}
+use Rattle.job_begins.specs.declared.deleting.DeletionEffects.{DeletionEffects}
+
+-- the changes of metadata, in their order
+abbrev pub deletion_changes : DeletionAsk → List Replacement
+deletion_changes x =
+    record { head = x.of; new = Some x.going }
+    ∷ record { head = x.clone; new = Some x.taking }
+    ∷ record { head = x.of; new = None }
+    ∷ []
+
+-- These are the changes of the job that a command asks for.
+pub record AsksToDelete (p : StoreState) (command : Command) (x : DeletionAsk) : Type 0 where
+  pub job : Job
+  pub commit : Committing
+  pub asked : IsJobFor p command job commit
+  pub changes : job.list ≡ deletion_changes x
+
+-- the drafts of the two replacements that write some
+pub record AreDeletionDrafts (ask : DeletionAsk) (x : DeletionDrafts) : Type 0 where
+  pub going : IsDraftOf ask.of ask.going x.going
+  pub taking : IsDraftOf ask.clone ask.taking x.taking
+
+-- how many pages they take
+abbrev pub deletion_needs : DeletionDrafts → ℕ
+deletion_needs x = needed false x.going.items + needed false x.taking.items
+
+-- The blob has room among the marked ones, and the commit makes it gone and renews its clone. Its clusters that neither
+-- another blob nor the clone's new metadata has are freed, each once; of so many clusters.
+pub record AreDeletionEffects (md_len : ℕ) (b : Blobs) (clusters : ℕ) (ask : DeletionAsk) (x : DeletionEffects)
+    : Type 0 where
+  pub mark_room : Option ℕ
+  pub mark : HasPlace b.marked ask.of mark_room
+  pub begin : x.begin ≡ effects_in None mark_room
+  pub commit : x.commit ≡ record no_effects {
+    commit = Some (record {
+      made = None;
+      live = Some (record { head = ask.of; value = None; room = None });
+      renews = ask.clone ∷ [];
+      shows = Some (record { head = ask.of; value = None; room = None });
+    });
+  }
+  -- the clusters that other blobs had
+  pub beside : List Bool
+  pub count : length beside ≡ clusters
+  pub beside_are : (c : ℕ) → (is_in beside c ≡ true) ↔ IsMappedBeside md_len (base_of b.metas b.marked) ask.of c
+  pub once : AreDistinct x.freed
+  pub freed : (c : ℕ)
+      → (is_among c x.freed ≡ true) ↔ IsMissing (all_set beside (clusters_of ask.taking.map) true) ask.going.map c
+
+-- The job on these places: each of the two is laid on its head and on those that are its own, in their order, and then
+-- the blob is erased, with the places that the first one gave it. The old ones stood behind the heads of the blob and of
+-- its clone.
+pub record IsDeletionLaid (x : DeletionDrafts) (effects : DeletionEffects) (channel : ℕ)
+    (taken old old_of_clone : List ℕ) (job : RunningJob) : Type 0 where
+  -- the places behind the head of each
+  pub going : List ℕ
+  pub taking : List ℕ
+  pub taken_are : taken ≡ going ++ taking
+  -- as many as each needs
+  pub going_count : length going + 1 ≡ length (parts_of x.going.items)
+  pub taking_count : length taking + 1 ≡ length (parts_of x.taking.items)
+  pub first : Planned
+  pub second : Planned
+  pub first_laid : IsPlannedOn x.going going effects.begin first
+  pub second_laid : IsPlannedOn x.taking taking effects.commit second
+  pub coming : to_come job
+      ≡ writes_laid first old
+      ∷ writes_laid second old_of_clone
+      ∷ erases_laid (record { head = x.going.head; commit = None; freed = effects.freed }) going
+      ∷ []
+  pub seen : job_seen job ≡ record {
+    serves = ForCommand channel;
+    freeze = None;
+    claimed = first.effects.claimed;
+    written = [];
+    todo = phases_in (to_come job);
+  }

@@ -1,0 +1,10 @@
+pub mod Begins
+pub mod Alone
+pub mod Repairs
+pub mod Inserts
+pub mod ListJobs
+pub mod ListPlaces
+pub mod Drafts
+pub mod Snapshots
+pub mod Deletions
+pub mod Asks

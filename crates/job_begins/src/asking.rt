@@ -1,0 +1,113 @@
+//! What a job asks for, by the form of its list of replacements.
+
+ghost use Rattle.std.specs.Prelude.{◌≡◌, None, length};
+ghost use Rattle.blob_meta.specs.declared.job.Job.{Job as AJob};
+ghost use Rattle.job_begins.specs.Asks.{IsAskOf};
+
+use crate::deleting::DeletionAsk;
+use crate::snapshotting::SnapshotAsk;
+use blob_meta::{Job, Meta, Replacement, ReplacementList};
+use volume_model::SlotList;
+
+/// What a job asks for.
+#[derive(Drop)]
+pub(crate) enum Ask {
+    /// New metadata of the blob at a head, with a cluster of zeros in each of these slots.
+    Writes {
+        head: u32,
+        new: Meta,
+        zeros: SlotList,
+    },
+    /// The blob at this head is to be erased.
+    Erases(u32),
+    /// A blob is to be deleted, whose one clone takes over from it.
+    Deletes(DeletionAsk),
+    /// A snapshot is to be made.
+    Snapshots(SnapshotAsk),
+    /// What no command asks for.
+    Other,
+}
+
+/// What a job asks for.
+pub(crate) fn ask_of(job: Job) -> Ask
+    ensures { IsAskOf job result }
+{
+    let Job {
+        list,
+        commit,
+        zero: zeros,
+        freeze,
+    } = job;
+    match list.len() {
+        1 if commit == 1 && freeze.is_none() => single(list, zeros),
+        3 => deletion(list),
+        4 => snapshot(list),
+        _ => Ask::Other,
+    }
+}
+
+/// One replacement asks for new metadata, with a cluster of zeros in each of these slots, or for an erasing.
+fn single(mut list: ReplacementList, zeros: SlotList) -> Ask
+    requires { length list ≡ 1 }
+    ensures { (job : AJob) → job.list ≡ list → job.commit ≡ 1 → job.zero ≡ zeros → job.freeze ≡ None
+        → IsAskOf job result }
+{
+    let Some(Replacement { head, new }) = list.pop() else {
+        return Ask::Other;
+    };
+    match new {
+        Some(new) => Ask::Writes { head, new, zeros },
+        None if zeros.len() == 0 => Ask::Erases(head),
+        None => Ask::Other,
+    }
+}
+
+/// Three ask for a delete: a blob is marked, another one is written, and the first is erased.
+fn deletion(mut list: ReplacementList) -> Ask
+    requires { length list ≡ 3 }
+    ensures { (job : AJob) → job.list ≡ list → IsAskOf job result }
+{
+    let (Some(finish), Some(commit), Some(begin)) = (list.pop(), list.pop(), list.pop()) else {
+        return Ask::Other;
+    };
+    match (begin.new, commit.new, finish.new) {
+        (Some(going), Some(taking), None) if begin.head == finish.head => Ask::Deletes(
+            DeletionAsk {
+                of: begin.head,
+                clone: commit.head,
+                going,
+                taking,
+            },
+        ),
+        _ => Ask::Other,
+    }
+}
+
+/// Four ask for a snapshot: a blob is written twice, then another one, and the first again.
+fn snapshot(mut list: ReplacementList) -> Ask
+    requires { length list ≡ 4 }
+    ensures { (job : AJob) → job.list ≡ list → IsAskOf job result }
+{
+    let (Some(finish), Some(commit), Some(fill), Some(begin)) = (
+        list.pop(),
+        list.pop(),
+        list.pop(),
+        list.pop(),
+    ) else {
+        return Ask::Other;
+    };
+    if begin.head != fill.head || begin.head != finish.head {
+        return Ask::Other;
+    }
+    match (begin.new, fill.new, commit.new, finish.new) {
+        (Some(begun), Some(filled), Some(emptied), Some(made)) => Ask::Snapshots(SnapshotAsk {
+            head: begin.head,
+            of: commit.head,
+            begun,
+            filled,
+            emptied,
+            made,
+        }),
+        _ => Ask::Other,
+    }
+}

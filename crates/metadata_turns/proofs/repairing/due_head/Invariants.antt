@@ -1,6 +1,0 @@
-use Rattle.metadata_turns.proofs.RepairDue.{AreNoneKept}
-use Rattle.metadata_turns.proofs.repairing.due_head.Given as goal
-
--- no head so far has a mark and is kept
-abbrev pub invariant-loop-head : goal.invariant-loop-head
-invariant-loop-head g l = AreNoneKept l.running.metas l.running.marked l.head
