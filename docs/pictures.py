@@ -48,29 +48,29 @@ class Picture:
 COLUMNS_WIDE, COLUMN, ROW, LEFT, TOP = 6, 150, 70, 170, 20
 # name: first column, last column, row; a crate stands on crates of lower rows alone
 CRATES = {
-    "blobtool": (1, 6, 0), "blob_tool": (1, 6, 1), "channels": (3, 5, 2),
+    "blobtool": (1, 6, 0), "blob_tool": (1, 6, 1), "command_words": (3, 3, 2), "channels": (4, 5, 2),
     "script_lang": (1, 1, 3), "md_thread": (3, 4, 3), "streams": (6, 6, 3),
     "lvol_store": (3, 3, 4), "thin_write": (5, 5, 4), "store_format": (1, 1, 4),
     "unclean_load": (2, 2, 5), "data_path": (5, 5, 5), "blob_report": (6, 6, 5),
-    "store_core": (4, 4, 6), "run_moves": (6, 6, 6),
-    "channel_turns": (3, 3, 7), "metadata_turns": (4, 4, 7), "repair_runs": (6, 6, 7), "running_store": (3, 4, 8),
-    "md_queue": (1, 1, 9), "io_freeze": (3, 3, 9), "store_model": (4, 4, 9),
-    "md_chain": (2, 2, 10), "pools": (4, 4, 10), "shown_volumes": (6, 6, 10),
-    "md_page": (3, 3, 11), "inflate_delete": (6, 6, 11), "snapshots": (6, 6, 12), "blob_meta": (1, 1, 13),
-    "clean_stop": (4, 4, 13), "descriptors": (1, 1, 14), "super_block": (3, 3, 14), "page_runs": (4, 4, 14),
-    "run_work": (6, 6, 14),
-    "volume_model": (1, 1, 15), "page_fields": (3, 3, 15), "bit_array": (4, 4, 15),
-    "page_disk": (2, 6, 16), "out_of_memory": (1, 2, 17), "crc32c": (3, 6, 17),
+    "store_core": (4, 4, 6), "run_moves": (6, 6, 6), "job_begins": (4, 4, 7),
+    "channel_turns": (3, 3, 8), "metadata_turns": (4, 4, 8), "repair_runs": (6, 6, 8), "running_store": (3, 4, 9),
+    "md_queue": (1, 1, 10), "io_freeze": (3, 3, 10), "store_model": (4, 4, 10),
+    "md_chain": (2, 2, 11), "pools": (4, 4, 11), "shown_volumes": (6, 6, 11),
+    "md_page": (3, 3, 12), "inflate_delete": (6, 6, 12), "snapshots": (6, 6, 13), "blob_meta": (1, 1, 14),
+    "clean_stop": (4, 4, 14), "descriptors": (1, 1, 15), "super_block": (3, 3, 15), "page_runs": (4, 4, 15),
+    "run_work": (6, 6, 15),
+    "volume_model": (1, 1, 16), "page_fields": (3, 3, 16), "bit_array": (4, 4, 16),
+    "page_disk": (2, 6, 17), "out_of_memory": (1, 2, 18), "crc32c": (3, 6, 18),
 }
 BANDS = [
-    (0, 1, "the program"), (2, 4, "a run's actors,|scripts, plans,|a new store"), (5, 9, "the running|store"),
-    (10, 14, "metadata and|places"), (15, 15, "volumes, fields,|sets"), (16, 17, "the device and|the bottom"),
+    (0, 1, "the program"), (2, 4, "a run's actors,|scripts, plans,|a new store"), (5, 10, "the running|store"),
+    (11, 15, "metadata and|places"), (16, 16, "volumes, fields,|sets"), (17, 18, "the device and|the bottom"),
 ]
 STEPS = [
-    "1  main opens the image, and hands over words, source, sink and device",
+    "1  main opens the image that the words name, and hands over words, source, sink and device",
     "2  the source is read to its end, and the text becomes each channel's commands",
     "3  the store of the image is loaded: super block, heads, chains; the device is only read; then it is repaired",
-    "4  channels and the metadata thread take turns; a put, sync, create or resize is planned from what the store shows",
+    "4  channels and the metadata thread take turns; a put, a create, a snapshot is planned from what the store shows",
     "5  each step is one turn of the store: read, write, flush, post or settle; answer, refuse, or one of a job's",
     "6  a turn of a job writes and flushes; its entry is logged, with the clock as its mark",
     "7  the log is printed, an entry a line",

@@ -29,13 +29,17 @@ fn expect_stops(alloc: Global, play: &ChannelPlay) -> Result<(), Fail> {
     Err(Fail::new("the script makes more calls"))
 }
 
-/// Stops the plays with these places.
-fn expect_all(rt: HostRuntime, places: (u64, u64)) -> Result<(), Fail> {
+/// Stops the plays with these places, such that families grow or others.
+fn expect_all(rt: HostRuntime, places: (u64, u64), in_family: bool) -> Result<(), Fail> {
     let alloc = rt.alloc();
     let (from, end) = places;
     let stores = new_stores(alloc)?;
     for place in from..end {
-        let play = ChannelPlay::drawn(alloc, number_at(place), &stores)?;
+        let play = if in_family {
+            ChannelPlay::in_family(alloc, place, &stores)?
+        } else {
+            ChannelPlay::drawn(alloc, number_at(place), &stores)?
+        };
         if let Err(why) = expect_stops(alloc, &play) {
             play.tell(rt);
             return Err(why);
@@ -46,15 +50,25 @@ fn expect_all(rt: HostRuntime, places: (u64, u64)) -> Result<(), Fail> {
 
 #[test]
 fn each_crash_on_many_channels_leaves_what_was_answered(rt: HostRuntime) -> Result<(), Fail> {
-    expect_all(rt, (0, 10))
+    expect_all(rt, (0, 10), false)
 }
 
 #[test]
 fn each_crash_of_ten_others_leaves_what_was_answered(rt: HostRuntime) -> Result<(), Fail> {
-    expect_all(rt, (10, 20))
+    expect_all(rt, (10, 20), false)
 }
 
 #[test]
 fn each_crash_of_the_last_ten_leaves_what_was_answered(rt: HostRuntime) -> Result<(), Fail> {
-    expect_all(rt, (20, 30))
+    expect_all(rt, (20, 30), false)
+}
+
+#[test]
+fn each_crash_of_families_leaves_what_was_answered(rt: HostRuntime) -> Result<(), Fail> {
+    expect_all(rt, (70, 80), true)
+}
+
+#[test]
+fn each_crash_of_ten_other_families_leaves_what_was_answered(rt: HostRuntime) -> Result<(), Fail> {
+    expect_all(rt, (80, 90), true)
 }

@@ -1,11 +1,11 @@
 //! Stores, and random scripts that run on them on many channels.
 
-use crate::channel_scripts::{ChannelScript, drawn_making, drawn_script, small};
+use crate::channel_scripts::{ChannelScript, Size, drawn_making, drawn_script, small};
 use crate::replays::Replay;
 use crate::schedules::drawn_schedule;
 use blob_tool::Status;
 use page_disk::{MemDisk, PageDisk};
-use random_worlds::{Draws, World, number_at, size_of, store_for};
+use random_worlds::{Draws, World, number_at, number_in_family, size_of, store_for};
 use std::alloc::Global;
 use std::test::Fail;
 use test_runs::{Call, Ran, perform, run};
@@ -26,23 +26,26 @@ pub struct ChannelPlay {
 /// A schedule, if there is one, whether the run ends with a `df`, and the script.
 type DrawnRun = (Option<String>, bool, ChannelScript);
 
-/// A run of so many creates and other lines. Where a schedule is drawn the other channels end before the one with the
-/// `df` has its first step; and a channel alone ends with it too.
-fn drawn_run(alloc: Global, draws: &mut Draws, creates: u64, lines: u64) -> Result<DrawnRun, Fail> {
+/// A run of this size but for the channels, which are drawn. Where a schedule is drawn the other channels end before
+/// the one with the `df` has its first step; and a channel alone ends with it too.
+fn drawn_run(alloc: Global, draws: &mut Draws, size: Size) -> Result<DrawnRun, Fail> {
+    let mut size = size;
     if draws.is_zero(3) {
-        let channels = draws.below(16).wrapping_add(1);
-        let script = drawn_script(alloc, draws, (channels, creates, lines), 0)?;
-        return Ok((None, channels == 1, script));
+        size.channels = draws.below(16).wrapping_add(1);
+        let script = drawn_script(alloc, draws, &size, 0)?;
+        return Ok((None, size.channels == 1, script));
     }
-    let channels = draws.below(15).wrapping_add(1);
-    let script = drawn_script(alloc, draws, (channels, creates, lines), 15)?;
-    let schedule = drawn_schedule(alloc, draws, channels)?;
+    size.channels = draws.below(15).wrapping_add(1);
+    let script = drawn_script(alloc, draws, &size, 15)?;
+    let schedule = drawn_schedule(alloc, draws, size.channels)?;
     Ok((Some(schedule), true, script))
 }
 
-/// How many lines are drawn for the play of a number: few where it is stopped.
-fn drawn_length(draws: &mut Draws, number: u64) -> u64 {
-    if number == number_at(number / 8) {
+/// How many lines are drawn for the play of a number, with or without a family: few where it is stopped.
+fn drawn_length(draws: &mut Draws, number: u64, family: Option<u64>) -> u64 {
+    if family.is_some() {
+        draws.below(4).wrapping_add(5)
+    } else if number == number_at(number / 8) {
         draws.below(3).wrapping_add(2)
     } else {
         draws.below(20).wrapping_add(4)
@@ -67,16 +70,36 @@ fn made_store(
 }
 
 impl ChannelPlay {
-    /// The play of a number. In half of them the volumes are made by a script of their own.
+    /// The play of a number.
     pub fn drawn(alloc: Global, number: u64, stores: &[MemDisk]) -> Result<ChannelPlay, Fail> {
+        ChannelPlay::of(alloc, number, None, stores)
+    }
+
+    /// The play of a place in which families of four volumes grow.
+    pub fn in_family(alloc: Global, place: u64, stores: &[MemDisk]) -> Result<ChannelPlay, Fail> {
+        ChannelPlay::of(alloc, number_in_family(place), Some(4), stores)
+    }
+
+    /// The play of a number, maybe such that families of so many volumes grow. In half of them the volumes are made by
+    /// a script of their own.
+    fn of(
+        alloc: Global,
+        number: u64,
+        family: Option<u64>,
+        stores: &[MemDisk],
+    ) -> Result<ChannelPlay, Fail> {
         let mut draws = Draws::new(number);
         let creates = draws.below(3).wrapping_add(1);
         let are_made = draws.is_zero(2);
         let making = drawn_making(alloc, &mut draws, if are_made { creates } else { 0 })?;
         let (store, made) = made_store(alloc, &making, store_for(number, stores)?)?;
-        let lines = drawn_length(&mut draws, number);
-        let left = if are_made { 0 } else { creates };
-        let (schedule, ends_with_df, script) = drawn_run(alloc, &mut draws, left, lines)?;
+        let size = Size {
+            channels: 1,
+            creates: if are_made { 0 } else { creates },
+            lines: drawn_length(&mut draws, number, family),
+            family,
+        };
+        let (schedule, ends_with_df, script) = drawn_run(alloc, &mut draws, size)?;
         Ok(ChannelPlay {
             number,
             store,

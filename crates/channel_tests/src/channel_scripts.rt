@@ -1,6 +1,6 @@
 //! Random scripts on many channels.
 
-use random_worlds::{Ask, Draws, drawn, drawn_count, push_words};
+use random_worlds::{Ask, Draws, drawn, drawn_count, drawn_in_family, push_words};
 use std::alloc::Global;
 use std::test::Fail;
 
@@ -18,6 +18,16 @@ pub struct ChannelScript {
     pub lists: Vec<Vec<Request>>,
 }
 
+/// How large a script is: on how many channels, with how many creates and other lines, and of how many volumes families
+/// are to grow; without that number they do in one of three scripts, of twelve.
+#[derive(Clone, Copy)]
+pub struct Size {
+    pub channels: u64,
+    pub creates: u64,
+    pub lines: u64,
+    pub family: Option<u64>,
+}
+
 /// A draw as a number of one byte.
 pub fn small(number: u64) -> u8 {
     u8::try_from(number).unwrap_or(0)
@@ -32,10 +42,12 @@ fn drawn_write(draws: &mut Draws) -> Ask {
     }
 }
 
-/// What is drawn: two of five times such a write.
-fn drawn_request(draws: &mut Draws) -> Request {
+/// What is drawn: two of five times such a write, and else what makes families of so many volumes grow, or anything.
+fn drawn_request(draws: &mut Draws, family: Option<u64>) -> Request {
     let ask = if draws.below(5) < 2 {
         drawn_write(draws)
+    } else if let Some(names) = family {
+        drawn_in_family(draws, names)
     } else {
         drawn(draws)
     };
@@ -136,17 +148,15 @@ impl ChannelScript {
         Ok(())
     }
 
-    /// Appends lines on the first of the channels, so many.
-    fn push_drawn(
-        &mut self,
-        alloc: Global,
-        draws: &mut Draws,
-        channels: u64,
-        lines: u64,
-    ) -> Result<(), Fail> {
-        for _ in 0..lines {
-            let channel = small(draws.below(channels));
-            let request = drawn_request(draws);
+    /// Appends the lines behind the creates.
+    fn push_drawn(&mut self, alloc: Global, draws: &mut Draws, size: &Size) -> Result<(), Fail> {
+        let family = match size.family {
+            None if draws.is_zero(3) => Some(12),
+            family => family,
+        };
+        for _ in 0..size.lines {
+            let channel = small(draws.below(size.channels));
+            let request = drawn_request(draws, family);
             let count = drawn_count(draws, &request.ask);
             self.push(alloc, channel, request, count)?;
         }
@@ -161,18 +171,16 @@ pub fn drawn_making(alloc: Global, draws: &mut Draws, creates: u64) -> Result<Ch
     Ok(script)
 }
 
-/// A script on the first of the channels, so many, of so many creates and other lines; and a `df` behind them on some
-/// channel.
+/// A script of this size on the first of the channels, and a `df` behind it on some channel.
 pub fn drawn_script(
     alloc: Global,
     draws: &mut Draws,
-    sizes: (u64, u64, u64),
+    size: &Size,
     last: u8,
 ) -> Result<ChannelScript, Fail> {
-    let (channels, creates, lines) = sizes;
     let mut script = ChannelScript::new(alloc)?;
-    script.push_creates(alloc, draws, channels, creates)?;
-    script.push_drawn(alloc, draws, channels, lines)?;
+    script.push_creates(alloc, draws, size.channels, size.creates)?;
+    script.push_drawn(alloc, draws, size)?;
     script.push_df(alloc, last)?;
     Ok(script)
 }

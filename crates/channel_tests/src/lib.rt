@@ -11,6 +11,8 @@ mod channel_runs;
 #[cfg(test)]
 mod channel_scripts;
 #[cfg(test)]
+mod long_families;
+#[cfg(test)]
 mod replays;
 #[cfg(test)]
 mod schedules;

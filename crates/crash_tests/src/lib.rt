@@ -22,4 +22,8 @@ mod settled;
 #[cfg(test)]
 mod slots;
 #[cfg(test)]
+mod snapshot_crashes;
+#[cfg(test)]
+mod snapshot_stops;
+#[cfg(test)]
 mod writes;

@@ -1,14 +1,16 @@
-//! Tests of a running store by its public calls: writes of several channels to empty slots, in an order that is given
-//! turn by turn.
+//! Tests of a running store by its public calls: writes of several channels to empty slots, beside resizes, snapshots
+//! and deletes, in an order that is given turn by turn.
 #![tactic(auto)]
 
+#[cfg(test)]
+mod begins;
+#[cfg(test)]
+mod families;
 #[cfg(test)]
 mod inserts;
 #[cfg(test)]
 mod lacks;
 #[cfg(test)]
 mod orders;
-#[cfg(test)]
-mod resizes;
 #[cfg(test)]
 mod sessions;

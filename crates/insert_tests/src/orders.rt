@@ -8,13 +8,14 @@ use std::test::Fail;
 use test_stores::{ChainRow, expect_chains};
 
 /// What is done next: a turn of a channel; its turns to the post of an insert, from the first one or from the claim;
-/// the begin of what it has posted; the turns of the job; a look at what is clear.
+/// the begin of what it has posted; one turn of the job, or those to its last; a look at what is clear.
 #[derive(Clone, Copy, Debug)]
 pub enum Next {
     Turn(u8),
     Post(u8),
     Fill(u8),
     Begin(u8),
+    Job,
     Finish,
     Clear(u32),
 }
@@ -37,6 +38,7 @@ fn told(alloc: Global, session: &mut Session, next: Next) -> &'static str {
         Next::Post(channel) => session.post(channel),
         Next::Fill(channel) => session.fill(channel),
         Next::Begin(channel) => session.begin(alloc, channel),
+        Next::Job => session.job_turn(),
         Next::Finish => session.finish(),
         Next::Clear(clusters) => {
             if session.clear().0 == clusters {

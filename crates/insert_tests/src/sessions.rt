@@ -2,7 +2,7 @@
 
 ghost use Rattle.std.specs.Prelude.{◌≡◌};
 
-use crate::resizes::begin_resize;
+use crate::begins::begin_asked;
 use blob_report::render_entry;
 use page_disk::MemDisk;
 use script_lang::{Grammar, read_script};
@@ -154,7 +154,7 @@ impl Session {
             return "not posted";
         };
         if !matches!(self.plant.request(&self.right, msg), Ok(Request::Insert)) {
-            return begin_resize(alloc, &mut self.plant, &mut self.right, msg);
+            return begin_asked(alloc, &mut self.plant, &mut self.right, msg);
         }
         match self.plant.begin_insert(&mut self.right, msg) {
             InsertTurn::Began => "began",
@@ -164,7 +164,7 @@ impl Session {
     }
 
     /// One turn of the job that runs.
-    fn job_turn(&mut self) -> &'static str {
+    pub fn job_turn(&mut self) -> &'static str {
         if !self.plant.job_runs() {
             return "no job";
         }

@@ -1,7 +1,9 @@
 //! Random scripts, and power that fails at each call of the device.
 
 use page_disk::{FaultDisk, MemDisk, PageDisk};
-use random_worlds::{Play, State, expect_left, new_store, number_at, play_of, size_of};
+use random_worlds::{
+    Play, State, expect_left, new_store, number_at, number_in_family, play_of, size_of,
+};
 use std::alloc::Global;
 use std::test::Fail;
 use test_runs::{Ran, run};
@@ -20,12 +22,16 @@ fn answered(lines: &[Vec<u8>], printed: &[u8]) -> usize {
     count
 }
 
-/// Whether the first line of a text, if it has one, tells a fault.
-fn begins_with_fault(printed: &[u8]) -> bool {
-    match printed.split(|byte| *byte == b'\n').next() {
-        Some(line) => line.is_empty() || line.ends_with(b" fault"),
+/// Whether the first line of a text, if it has one, tells a fault, or that the store has stopped behind so many
+/// commands: what fails behind the commit of a job has no line.
+fn begins_with_fault(alloc: Global, printed: &[u8], count: usize) -> Result<bool, Fail> {
+    let stopped = format!(in alloc; " stopped {count}")?;
+    Ok(match printed.split(|byte| *byte == b'\n').next() {
+        Some(line) => {
+            line.is_empty() || line.ends_with(b" fault") || line.ends_with(stopped.as_bytes())
+        }
         None => true,
-    }
+    })
 }
 
 /// The device after so many calls, and how many commands were answered by then; behind them only one may have met the
@@ -47,7 +53,7 @@ fn stopped(
         length = length.saturating_add(line.len());
     }
     match out.bytes().get(length..) {
-        Some(rest) if begins_with_fault(rest) => Ok((count, disk.into_inner())),
+        Some(rest) if begins_with_fault(alloc, rest, count)? => Ok((count, disk.into_inner())),
         _ => Err(Fail::new(format_args!("another answer than {count} is wanted in {calls} calls"))),
     }
 }
@@ -58,18 +64,16 @@ fn states_at(done: &Play, count: usize) -> Result<&[State], Fail> {
     Ok(rest.get(..2).unwrap_or(rest))
 }
 
-/// Expects that whenever power fails in a run of a script on a store of few metadata pages, each command that was
-/// answered is done. Where a call leaves nothing else than the one before it, the crashes are the same.
-fn expect_crashes(alloc: Global, place: u64) -> Result<(), Fail> {
-    let number = number_at(place);
-    let done = play_of(alloc, number, (place % 4).wrapping_add(3))?;
+/// Expects that whenever power fails in a run of a play on a new store for its number, each command that was answered
+/// is done. Where a call leaves nothing else than the one before it, the crashes are the same.
+fn expect_crashes(alloc: Global, number: u64, done: &Play) -> Result<(), Fail> {
     let (md_pages, fixed) = size_of(number);
     let store = new_store(alloc, md_pages)?;
     let mut before = None;
     for calls in 0..1000 {
-        let (count, disk) = stopped(alloc, &done, calls, store.crash(0)?)?;
+        let (count, disk) = stopped(alloc, done, calls, store.crash(0)?)?;
         if before != Some((count, disk.clock())) {
-            expect_left(alloc, states_at(&done, count)?, fixed, &disk)?;
+            expect_left(alloc, states_at(done, count)?, fixed, &disk)?;
         }
         before = Some((count, disk.clock()));
         if count == done.lines.len() {
@@ -79,11 +83,25 @@ fn expect_crashes(alloc: Global, place: u64) -> Result<(), Fail> {
     Err(Fail::new("the script makes more calls"))
 }
 
-/// Stops each of the scripts with these places.
+/// Stops each of the scripts with these places, on stores of few metadata pages.
 fn expect_all(alloc: Global, places: (u64, u64)) -> Result<(), Fail> {
     let (from, end) = places;
     for place in from..end {
-        expect_crashes(alloc, place)?;
+        let number = number_at(place);
+        let family = if place % 3 == 0 { Some(12) } else { None };
+        let done = play_of(alloc, number, (place % 4).wrapping_add(3), family)?;
+        expect_crashes(alloc, number, &done)?;
+    }
+    Ok(())
+}
+
+/// Stops each of the scripts with these places in which families of four volumes grow, on the larger stores.
+fn expect_families(alloc: Global, places: (u64, u64)) -> Result<(), Fail> {
+    let (from, end) = places;
+    for place in from..end {
+        let number = number_in_family(place);
+        let done = play_of(alloc, number, (place % 5).wrapping_add(4), Some(4))?;
+        expect_crashes(alloc, number, &done)?;
     }
     Ok(())
 }
@@ -101,4 +119,21 @@ fn each_crash_of_seven_others_leaves_what_was_answered(rt: HostRuntime) -> Resul
 #[test]
 fn each_crash_of_the_last_six_leaves_what_was_answered(rt: HostRuntime) -> Result<(), Fail> {
     expect_all(rt.alloc(), (14, 20))
+}
+
+#[test]
+fn each_crash_of_families_leaves_what_was_answered(rt: HostRuntime) -> Result<(), Fail> {
+    expect_families(rt.alloc(), (40, 50))
+}
+
+#[test]
+fn each_crash_of_ten_other_families_leaves_what_was_answered(rt: HostRuntime) -> Result<(), Fail> {
+    expect_families(rt.alloc(), (50, 60))
+}
+
+#[test]
+fn each_crash_of_the_last_ten_families_leaves_what_was_answered(
+    rt: HostRuntime,
+) -> Result<(), Fail> {
+    expect_families(rt.alloc(), (60, 70))
 }

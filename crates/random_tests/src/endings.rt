@@ -2,30 +2,34 @@
 
 use std::test::Fail;
 
-/// The ways in which a line may end that the scripts are to meet.
-const ENDINGS: [&[u8]; 10] = [
-    b" ok",
-    b" full",
-    b" no page",
-    b" out of range",
-    b" name taken",
+/// The ways in which a line may end that scripts are to meet: five that those of families may miss, and at last two
+/// that others may miss.
+const ENDINGS: [&[u8]; 13] = [
     b" too large",
     b" too long",
     b" no value",
-    b" no volume",
     b" reserved",
+    b" no page",
+    b" ok",
+    b" full",
+    b" out of range",
+    b" name taken",
+    b" no volume",
+    b" not read only",
+    b" busy 2",
+    b" short",
 ];
 
 /// Which of the endings some line has had.
 #[derive(Drop)]
 pub struct Endings {
-    found: [bool; 10],
+    found: [bool; 13],
 }
 
 impl Endings {
     /// None yet.
     pub fn new() -> Endings {
-        Endings { found: [false; 10] }
+        Endings { found: [false; 13] }
     }
 
     /// Notes the endings of the lines of a log.
@@ -40,9 +44,14 @@ impl Endings {
         }
     }
 
-    /// Expects that some line had each of them.
-    pub fn expect_all(&self) -> Result<(), Fail> {
-        if self.found.contains(&false) {
+    /// Expects that some line had each of them that the scripts are to meet.
+    pub fn expect_all(&self, in_family: bool) -> Result<(), Fail> {
+        let wanted = if in_family {
+            self.found.get(5..)
+        } else {
+            self.found.get(..11)
+        };
+        if wanted.ok_or("no endings")?.contains(&false) {
             return Err(Fail::new(format_args!("an ending is missing: {:?}", self.found)));
         }
         Ok(())

@@ -2,7 +2,9 @@
 
 use crate::endings::Endings;
 use page_disk::MemDisk;
-use random_worlds::{Play, expect_volumes, new_stores, play_of, size_of, store_for};
+use random_worlds::{
+    Play, expect_volumes, new_stores, number_in_family, play_of, size_of, store_for,
+};
 use std::alloc::Global;
 use std::test::Fail;
 use test_runs::play;
@@ -24,20 +26,20 @@ fn expect_last(alloc: Global, done: &Play, fixed: u32, disk: MemDisk) -> Result<
     shown.expect_in_use(last)
 }
 
-/// Runs the script of a number on a new store of its size, and expects each answer and what is left. Notes the endings
+/// Runs a script for the store of a number on a new one, and expects each answer and what is left. Notes the endings
 /// that its lines have.
 fn expect_whole(
     alloc: Global,
     number: u64,
+    done: &Play,
     stores: &[MemDisk],
     endings: &mut Endings,
 ) -> Result<(), Fail> {
-    let done = play_of(alloc, number, (number % 15).wrapping_add(6))?;
     let (_, fixed) = size_of(number);
     let printed = printed_of(alloc, &done.lines)?;
     let disk = play(alloc, &done.script, &printed, store_for(number, stores)?)?;
     endings.note(&printed);
-    expect_last(alloc, &done, fixed, disk.crash(1)?)
+    expect_last(alloc, done, fixed, disk.crash(1)?)
 }
 
 /// Runs the scripts of these numbers, and expects that they meet each ending.
@@ -46,9 +48,10 @@ fn expect_all(alloc: Global, numbers: (u64, u64)) -> Result<(), Fail> {
     let stores = new_stores(alloc)?;
     let mut endings = Endings::new();
     for number in from..end {
-        expect_whole(alloc, number, &stores, &mut endings)?;
+        let done = play_of(alloc, number, (number % 15).wrapping_add(6), None)?;
+        expect_whole(alloc, number, &done, &stores, &mut endings)?;
     }
-    endings.expect_all()
+    endings.expect_all(false)
 }
 
 #[test]
@@ -59,4 +62,18 @@ fn each_answer_is_that_of_plain_volumes(rt: HostRuntime) -> Result<(), Fail> {
 #[test]
 fn each_answer_of_other_scripts_is_that_of_plain_volumes(rt: HostRuntime) -> Result<(), Fail> {
     expect_all(rt.alloc(), (100, 200))
+}
+
+/// On the larger stores long scripts that make deep and wide families.
+#[test]
+fn each_answer_in_families_is_that_of_plain_volumes(rt: HostRuntime) -> Result<(), Fail> {
+    let alloc = rt.alloc();
+    let stores = new_stores(alloc)?;
+    let mut endings = Endings::new();
+    for place in 0..40u64 {
+        let number = number_in_family(place);
+        let done = play_of(alloc, number, 50, Some(12))?;
+        expect_whole(alloc, number, &done, &stores, &mut endings)?;
+    }
+    endings.expect_all(true)
 }

@@ -1,6 +1,7 @@
 //! What the lines of a script ask for, as text, and as commands of the plain machine.
 
 use crate::attributes::{Attribute, key_text, value_of};
+use lvol_store::check_name;
 use std::alloc::Global;
 use std::test::Fail;
 use test_runs::push_long;
@@ -19,6 +20,11 @@ pub enum Ask {
     Remove { name: u8, key: u8 },
     Get { name: u8, key: u8 },
     Sync { name: u8 },
+    Snapshot { name: u8, new: u8 },
+    Clone { name: u8, new: u8 },
+    Rename { name: u8, new: u8 },
+    Delete { name: u8 },
+    ReadOnly { name: u8 },
     Df,
 }
 
@@ -34,7 +40,12 @@ impl Ask {
             | Ask::Put { name, .. }
             | Ask::Remove { name, .. }
             | Ask::Get { name, .. }
-            | Ask::Sync { name } => Some(name),
+            | Ask::Sync { name }
+            | Ask::Snapshot { name, .. }
+            | Ask::Clone { name, .. }
+            | Ask::Rename { name, .. }
+            | Ask::Delete { name }
+            | Ask::ReadOnly { name } => Some(name),
             Ask::Flush | Ask::Df => None,
         }
     }
@@ -46,6 +57,14 @@ impl Ask {
             Some(name) => Some(*name),
             None => None,
         }
+    }
+
+    /// Whether a new volume comes of it.
+    pub fn makes(&self) -> bool {
+        matches!(
+            self,
+            Ask::Create { .. } | Ask::Snapshot { .. } | Ask::Clone { .. }
+        )
     }
 
     /// The same of another volume.
@@ -104,10 +123,20 @@ pub fn push_words(
         Ask::Remove { key, .. } => format!(in alloc; "delx {volume} {}\n", key_text(*key))?,
         Ask::Get { key, .. } => format!(in alloc; "getx {volume} {}\n", key_text(*key))?,
         Ask::Sync { .. } => format!(in alloc; "sync {volume}\n")?,
+        Ask::Delete { .. } => format!(in alloc; "delete {volume}\n")?,
+        Ask::ReadOnly { .. } => format!(in alloc; "readonly {volume}\n")?,
+        Ask::Snapshot { new, .. } => naming(alloc, "snapshot", volume, *new)?,
+        Ask::Clone { new, .. } => naming(alloc, "clone", volume, *new)?,
+        Ask::Rename { new, .. } => naming(alloc, "rename", volume, *new)?,
         Ask::Df => format!(in alloc; "df\n")?,
     };
     script.extend_from_slice(line.as_bytes())?;
     Ok(())
+}
+
+/// The words of a verb that gives a name, which a letter tells.
+fn naming(alloc: Global, verb: &str, volume: &str, new: u8) -> Result<String, Fail> {
+    Ok(format!(in alloc; "{verb} {volume} {}\n", char::from(new))?)
 }
 
 /// Appends the words that set an attribute by this verb, of the volume that a word tells.
@@ -126,14 +155,11 @@ fn push_value(
     )
 }
 
-/// The name that a letter tells. No volume has the last one.
+/// The name that a letter tells.
 fn name_of(letter: u8) -> Name {
-    match letter {
-        b'a' => Name::new(b"a"),
-        b'b' => Name::new(b"b"),
-        b'c' => Name::new(b"c"),
-        b'd' => Name::new(b"d"),
-        _ => Name::new(b"z"),
+    match check_name(&[letter]) {
+        Ok(name) => name,
+        Err(_) => Name::new(b"z"),
     }
 }
 
@@ -141,7 +167,7 @@ fn volume_of(letter: u8) -> VolumeRef {
     VolumeRef::Named(name_of(letter))
 }
 
-/// The command on an attribute, or a flush.
+/// The command on an attribute; or a flush.
 fn command_on_key(alloc: Global, ask: &Ask) -> Result<Command, Fail> {
     Ok(match ask {
         Ask::Set { name, attribute } => Command::SetX {
@@ -164,6 +190,31 @@ fn command_on_key(alloc: Global, ask: &Ask) -> Result<Command, Fail> {
         },
         _ => Command::Flush,
     })
+}
+
+/// The command on a volume that gives a name, or that ends something of it; or a flush.
+fn command_on_family(ask: &Ask) -> Command {
+    match ask {
+        Ask::Snapshot { name, new } => Command::Snapshot {
+            volume: volume_of(*name),
+            name: name_of(*new),
+        },
+        Ask::Clone { name, new } => Command::Clone {
+            volume: volume_of(*name),
+            name: name_of(*new),
+        },
+        Ask::Rename { name, new } => Command::Rename {
+            volume: volume_of(*name),
+            name: name_of(*new),
+        },
+        Ask::Delete { name } => Command::Delete {
+            volume: volume_of(*name),
+        },
+        Ask::ReadOnly { name } => Command::ReadOnly {
+            volume: volume_of(*name),
+        },
+        _ => Command::Flush,
+    }
 }
 
 /// The command that asks for this.
@@ -192,8 +243,10 @@ pub fn command_of(alloc: Global, ask: &Ask) -> Result<Command, Fail> {
             volume: volume_of(*name),
         },
         Ask::Df => Command::Df,
-        Ask::Flush | Ask::Set { .. } | Ask::Put { .. } | Ask::Remove { .. } | Ask::Get { .. } => {
+        Ask::Flush => Command::Flush,
+        Ask::Set { .. } | Ask::Put { .. } | Ask::Remove { .. } | Ask::Get { .. } => {
             command_on_key(alloc, ask)?
         }
+        _ => command_on_family(ask),
     })
 }

@@ -27,6 +27,8 @@ fn new_volume(alloc: Global, name: u8, slots: u64, thick: bool, head: u32) -> Re
     Ok(Volume {
         name,
         thick,
+        read_only: false,
+        parent: None,
         live: Vec::new(alloc),
         synced: Vec::new(alloc),
         map: Vec::new(alloc),
@@ -37,9 +39,14 @@ fn new_volume(alloc: Global, name: u8, slots: u64, thick: bool, head: u32) -> Re
 
 /// Whether all pages outlast a crash from then on.
 fn settles(ask: &Ask) -> bool {
-    matches!(
+    !matches!(
         ask,
-        Ask::Create { .. } | Ask::Resize { .. } | Ask::Put { .. } | Ask::Sync { .. } | Ask::Flush
+        Ask::Write { .. }
+            | Ask::Read { .. }
+            | Ask::Set { .. }
+            | Ask::Remove { .. }
+            | Ask::Get { .. }
+            | Ask::Df
     )
 }
 
@@ -59,9 +66,14 @@ impl Volume {
                 set(&mut self.live, attribute)?;
             }
             Ask::Remove { key, .. } => self.live = without(alloc, &self.live, key)?,
+            Ask::Rename { new, .. } => self.name = new,
+            Ask::ReadOnly { .. } => self.read_only = true,
             _ => {}
         }
-        if matches!(ask, Ask::Put { .. } | Ask::Sync { .. }) {
+        if matches!(
+            ask,
+            Ask::Put { .. } | Ask::Sync { .. } | Ask::ReadOnly { .. }
+        ) {
             self.synced = Vec::from_slice(alloc, &self.live)?;
         }
         Ok(())
@@ -69,14 +81,68 @@ impl Volume {
 }
 
 impl State {
+    /// Makes a volume that shows what another one does, without attributes: its clone, or its snapshot, by which the
+    /// other one reads from then on.
+    fn make_copy(&mut self, alloc: Global, ask: &Ask, name: u8, head: u32) -> Result<(), Fail> {
+        let of = self.find(name).ok_or("no volume")?;
+        let mut made = of.copy(alloc)?;
+        let was = of.head();
+        made.live.clear();
+        made.synced.clear();
+        made.map.clear();
+        made.chain = vec![in alloc; head]?;
+        if let Ask::Snapshot { new, .. } = *ask {
+            made.name = new;
+            made.read_only = true;
+            let of = self.find_mut(name).ok_or("no volume")?;
+            of.thick = false;
+            of.parent = Some(head);
+        } else if let Ask::Clone { new, .. } = *ask {
+            made.name = new;
+            made.thick = false;
+            made.read_only = false;
+            made.parent = was;
+        }
+        self.volumes.push(made)?;
+        Ok(())
+    }
+
+    /// Deletes a volume, whose clone has its parent from then on.
+    fn delete(&mut self, alloc: Global, name: u8) -> Result<(), Fail> {
+        let gone = self.find(name).ok_or("no volume")?;
+        let (head, parent) = (gone.head(), gone.parent);
+        let mut rest = Vec::new(alloc);
+        for volume in &self.volumes {
+            if volume.name != name {
+                rest.push(volume.copy(alloc)?)?;
+            }
+        }
+        self.volumes = rest;
+        for volume in self.volumes.iter_mut() {
+            if volume.parent.is_some() && volume.parent == head {
+                volume.parent = parent;
+            }
+        }
+        Ok(())
+    }
+
     /// Does what is asked for. A new volume gets this head; its map is empty and its chain one page, and the maps and
     /// chains of others stay.
     pub fn change(&mut self, alloc: Global, ask: &Ask, head: u32) -> Result<(), Fail> {
-        if let Ask::Create { name, slots, thick } = *ask {
-            self.volumes
-                .push(new_volume(alloc, name, slots, thick, head)?)?;
-        } else if let Some(name) = ask.name() {
-            self.find_mut(name).ok_or("no volume")?.change(alloc, ask)?;
+        match *ask {
+            Ask::Create { name, slots, thick } => {
+                let made = new_volume(alloc, name, slots, thick, head)?;
+                self.volumes.push(made)?;
+            }
+            Ask::Snapshot { name, .. } | Ask::Clone { name, .. } => {
+                self.make_copy(alloc, ask, name, head)?;
+            }
+            Ask::Delete { name } => self.delete(alloc, name)?,
+            _ => {
+                if let Some(name) = ask.name() {
+                    self.find_mut(name).ok_or("no volume")?.change(alloc, ask)?;
+                }
+            }
         }
         if settles(ask) {
             self.settle();

@@ -40,13 +40,33 @@ fn drawn_key(draws: &mut Draws) -> u8 {
     }
 }
 
-/// The name that is drawn, of four.
+/// The name that is drawn, of four or of all.
 fn drawn_name(draws: &mut Draws) -> u8 {
-    match draws.below(6) {
-        0 | 1 => b'a',
-        2 | 3 => b'b',
-        4 => b'c',
-        _ => b'd',
+    match draws.below(20) {
+        0..6 => b'a',
+        6..11 => b'b',
+        11..14 => b'c',
+        14..16 => b'd',
+        _ => drawn_letter(draws, 12),
+    }
+}
+
+/// The name that is drawn, of the first so many.
+fn drawn_letter(draws: &mut Draws, names: u64) -> u8 {
+    u8::try_from(draws.below(names).wrapping_add(97)).unwrap_or(b'z')
+}
+
+/// What is drawn of the verbs by which families grow and shrink: a snapshot of this volume, or what is done with any of
+/// so many.
+fn drawn_relation(draws: &mut Draws, name: u8, names: u64) -> Ask {
+    let any = drawn_letter(draws, names);
+    let new = drawn_letter(draws, names);
+    match draws.below(20) {
+        0..9 => Ask::Snapshot { name, new },
+        9..14 => Ask::Clone { name: any, new },
+        14..18 => Ask::Delete { name: any },
+        18 => Ask::Rename { name: any, new },
+        _ => Ask::ReadOnly { name: any },
     }
 }
 
@@ -71,26 +91,50 @@ fn drawn_change(draws: &mut Draws, name: u8) -> Ask {
     }
 }
 
-/// What is drawn.
-pub fn drawn(draws: &mut Draws) -> Ask {
-    let name = drawn_name(draws);
+/// What is drawn where families are to grow: more than half of it by the verbs on them, on one volume or on any of so
+/// many.
+pub fn drawn_in_family(draws: &mut Draws, names: u64) -> Ask {
+    let name = if draws.is_zero(2) {
+        b'a'
+    } else {
+        drawn_letter(draws, names)
+    };
     match draws.below(20) {
-        0..8 => drawn_change(draws, name),
-        8..14 => Ask::Write {
+        0..11 => drawn_relation(draws, name, names),
+        11..16 => Ask::Write {
             name,
             page: draws.below(22),
             word: draws.below(1 << 20),
         },
-        14..16 => Ask::Read {
+        16..18 => Ask::Resize {
+            name,
+            slots: drawn_slots(draws, 0),
+        },
+        _ => drawn(draws),
+    }
+}
+
+/// What is drawn.
+pub fn drawn(draws: &mut Draws) -> Ask {
+    let name = drawn_name(draws);
+    match draws.below(26) {
+        0..6 => drawn_relation(draws, name, 12),
+        6..13 => drawn_change(draws, name),
+        13..20 => Ask::Write {
+            name,
+            page: draws.below(22),
+            word: draws.below(1 << 20),
+        },
+        20..22 => Ask::Read {
             name,
             page: draws.below(22),
         },
-        16 => Ask::Flush,
-        17 => Ask::Set {
+        22 => Ask::Flush,
+        23 => Ask::Set {
             name,
             attribute: drawn_attribute(draws),
         },
-        18 => Ask::Remove {
+        24 => Ask::Remove {
             name,
             key: drawn_key(draws),
         },

@@ -2,12 +2,14 @@
 
 use crate::shown::shown_of;
 use crate::states::State;
+use blob_tool::Status;
 use page_disk::MemDisk;
 use std::alloc::Global;
 use std::test::Fail;
+use test_runs::{Ran, run};
 
-/// Expects that a crash leaves one of some states.
-fn expect_state(alloc: Global, states: &[State], fixed: u32, disk: MemDisk) -> Result<(), Fail> {
+/// Loads a store, and expects that it has one of some states. Tells whether a repair is left.
+fn expect_state(alloc: Global, states: &[State], fixed: u32, disk: MemDisk) -> Result<bool, Fail> {
     let mut shown = shown_of(alloc, disk)?;
     let mut is_known = false;
     for state in states {
@@ -17,10 +19,23 @@ fn expect_state(alloc: Global, states: &[State], fixed: u32, disk: MemDisk) -> R
     if !is_known {
         return Err(Fail::new("another state is left"));
     }
-    Ok(())
+    Ok(shown.is_marked)
 }
 
-/// Expects that what each crash leaves of a device is one of some states.
+/// The device behind a run without commands, which makes the repairs that are left.
+fn repaired(alloc: Global, disk: MemDisk) -> Result<MemDisk, Fail> {
+    let Ran {
+        status,
+        out: _,
+        disk,
+    } = run(alloc, b"", disk)?;
+    if !matches!(status, Status::Good) {
+        return Err(Fail::new(format_args!("the repairs ended with {status:?}")));
+    }
+    Ok(disk.crash(0)?)
+}
+
+/// Expects that what each crash leaves of a device is one of some states, and is so once it is repaired.
 pub fn expect_left(
     alloc: Global,
     states: &[State],
@@ -28,7 +43,12 @@ pub fn expect_left(
     disk: &MemDisk,
 ) -> Result<(), Fail> {
     for pick in 0..4 {
-        expect_state(alloc, states, fixed, disk.crash(pick)?)?;
+        if expect_state(alloc, states, fixed, disk.crash(pick)?)? {
+            let whole = repaired(alloc, disk.crash(pick)?)?;
+            if expect_state(alloc, states, fixed, whole)? {
+                return Err(Fail::new("a repair is left"));
+            }
+        }
     }
     Ok(())
 }
@@ -39,4 +59,12 @@ pub fn number_at(place: u64) -> u64 {
         .wrapping_mul(8)
         .wrapping_add(2)
         .wrapping_add(place % 2)
+}
+
+/// The number of a script in which families grow: its store has 16 metadata pages, or 32.
+pub fn number_in_family(place: u64) -> u64 {
+    place
+        .wrapping_mul(4)
+        .wrapping_add(place % 2)
+        .wrapping_add(1000)
 }

@@ -1,7 +1,7 @@
 //! Random scripts, and what they are to print.
 
 use crate::asks::{Ask, command_of, push_words};
-use crate::drawn_asks::{drawn, drawn_count};
+use crate::drawn_asks::{drawn, drawn_count, drawn_in_family};
 use crate::draws::Draws;
 use crate::states::State;
 use crate::worlds::World;
@@ -113,8 +113,9 @@ fn push_ask(
     Ok(())
 }
 
-/// The script of a number, with so many drawn lines, between a first volume and a last `df`.
-pub fn play_of(alloc: Global, number: u64, lines: u64) -> Result<Play, Fail> {
+/// The script of a number, with so many drawn lines, maybe such by which families of so many volumes grow, between a
+/// first volume and a last `df`; and a `df` behind each delete, which is answered before its last clusters are clear.
+pub fn play_of(alloc: Global, number: u64, lines: u64, family: Option<u64>) -> Result<Play, Fail> {
     let (md_pages, fixed) = size_of(number);
     let mut world = World::new(alloc, md_pages, fixed)?;
     let mut draws = Draws::new(number);
@@ -130,8 +131,14 @@ pub fn play_of(alloc: Global, number: u64, lines: u64) -> Result<Play, Fail> {
     };
     push_ask(alloc, &mut play, &mut world, &mut draws, &first)?;
     for _ in 0..lines {
-        let ask = drawn(&mut draws);
+        let ask = match family {
+            Some(names) => drawn_in_family(&mut draws, names),
+            None => drawn(&mut draws),
+        };
         push_ask(alloc, &mut play, &mut world, &mut draws, &ask)?;
+        if matches!(ask, Ask::Delete { .. }) {
+            push_ask(alloc, &mut play, &mut world, &mut draws, &Ask::Df)?;
+        }
     }
     push_ask(alloc, &mut play, &mut world, &mut draws, &Ask::Df)?;
     Ok(play)

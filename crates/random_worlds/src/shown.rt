@@ -3,7 +3,7 @@
 use crate::attributes::{Attribute, key_text, value_of};
 use crate::states::{CLUSTER_PAGES, PageState, State, Volume};
 use bit_array::Bits;
-use blob_meta::{Chains, Meta, Metas};
+use blob_meta::{Chains, Meta, Metas, parent_of};
 use page_disk::{MemDisk, PageDisk};
 use running_store::Loaded;
 use std::alloc::Global;
@@ -12,13 +12,14 @@ use super_block::Masks;
 use unclean_load::load;
 use volume_model::{Df, PageWord, Xattr, page_of};
 
-/// What is loaded of a device.
+/// What is loaded of a device, and whether a blob is marked, so that a repair is left.
 #[derive(Drop)]
 pub struct Shown {
     disk: MemDisk,
     metas: Metas,
     chains: Chains,
     masks: Masks,
+    pub is_marked: bool,
 }
 
 /// What is shown of a loaded store.
@@ -28,7 +29,7 @@ pub fn shown_in(loaded: Loaded<MemDisk>) -> Shown {
         sup: _,
         metas,
         removed: _,
-        marked: _,
+        marked,
         chains,
         repairs: _,
         masks,
@@ -39,6 +40,7 @@ pub fn shown_in(loaded: Loaded<MemDisk>) -> Shown {
         metas,
         chains,
         masks,
+        is_marked: marked.next_from(0).is_some(),
     }
 }
 
@@ -59,7 +61,7 @@ pub fn expect_volumes(
     disk: MemDisk,
 ) -> Result<Shown, Fail> {
     let mut shown = shown_of(alloc, disk)?;
-    if !shown.is(alloc, state, true)? {
+    if shown.is_marked || !shown.is(alloc, state, true)? {
         return Err(Fail::new("other volumes are loaded"));
     }
     shown.expect_claimed(state, fixed)?;
@@ -73,6 +75,14 @@ fn is_attribute(alloc: Global, found: &Xattr, wanted: Attribute) -> Result<bool,
         found.key.bytes() == key_text(wanted.key).as_bytes()
             && found.value.bytes() == value.as_slice(),
     )
+}
+
+/// Whether a blob is thin, and read-only, as a volume is, has its parent, and has no mark.
+fn is_of_form(meta: &Meta, volume: &Volume) -> bool {
+    meta.flags.is_thin() != volume.thick
+        && meta.flags.is_read_only() == volume.read_only
+        && parent_of(meta) == volume.parent.map(u64::from)
+        && meta.internal.len() == if volume.parent.is_some() { 1 } else { 0 }
 }
 
 /// Whether a blob has, behind `name` and `uuid`, the attributes that the volume has synced.
@@ -89,15 +99,42 @@ fn has_synced(alloc: Global, meta: &Meta, volume: &Volume) -> Result<bool, Fail>
     Ok(true)
 }
 
+/// The blob's parent, if it has one that has the page with this number.
+fn parent_with<'a>(metas: &'a Metas, meta: &Meta, at: usize) -> Option<&'a Meta> {
+    let head = u32::try_from(parent_of(meta)?).ok()?;
+    let parent = metas.get(head)?;
+    if at / CLUSTER_PAGES < parent.map.as_slice().len() {
+        Some(parent)
+    } else {
+        None
+    }
+}
+
+/// The page of the device where a blob's page with this number stands: in its own cluster, or else where its parent's
+/// page stands. `None` where it reads as zeros.
+fn place_of(metas: &Metas, meta: &Meta, at: usize) -> Option<u64> {
+    let mut of = meta;
+    for _ in 0..1024 {
+        if let Some(Some(cluster)) = of.map.as_slice().get(at / CLUSTER_PAGES) {
+            let first = u64::from(*cluster).saturating_mul(CLUSTER_PAGES as u64);
+            return Some(first.saturating_add((at % CLUSTER_PAGES) as u64));
+        }
+        of = parent_with(metas, of, at)?;
+    }
+    None
+}
+
 /// Whether the page with this number of a blob is filled by a word.
-fn is_filled(disk: &mut MemDisk, meta: &Meta, at: usize, word: u64) -> Result<bool, Fail> {
-    let slot = meta.map.as_slice().get(at / CLUSTER_PAGES);
-    let Some(Some(cluster)) = slot else {
-        return Ok(slot.is_some() && word == 0);
+fn is_filled(
+    disk: &mut MemDisk,
+    metas: &Metas,
+    meta: &Meta,
+    at: usize,
+    word: u64,
+) -> Result<bool, Fail> {
+    let Some(page) = place_of(metas, meta, at) else {
+        return Ok(word == 0);
     };
-    let page = u64::from(*cluster)
-        .saturating_mul(CLUSTER_PAGES as u64)
-        .saturating_add((at % CLUSTER_PAGES) as u64);
     if page >= disk.pages() {
         return Ok(false);
     }
@@ -109,6 +146,7 @@ fn is_filled(disk: &mut MemDisk, meta: &Meta, at: usize, word: u64) -> Result<bo
 /// Whether a blob has the volume's pages, those that are settled, or all.
 fn has_pages(
     disk: &mut MemDisk,
+    metas: &Metas,
     meta: &Meta,
     pages: &[PageState],
     all: bool,
@@ -117,7 +155,7 @@ fn has_pages(
         return Ok(false);
     }
     for (at, page) in pages.iter().enumerate() {
-        if (all || page.is_settled) && !is_filled(disk, meta, at, page.word)? {
+        if (all || page.is_settled) && !is_filled(disk, metas, meta, at, page.word)? {
             return Ok(false);
         }
     }
@@ -132,15 +170,22 @@ impl Shown {
             return Ok(false);
         };
         Ok(
-            meta.flags.is_thin() != volume.thick
+            is_of_form(meta, volume)
                 && has_synced(alloc, meta, volume)?
-                && has_pages(&mut self.disk, meta, &volume.pages, all)?,
+                && has_pages(&mut self.disk, &self.metas, meta, &volume.pages, all)?,
         )
+    }
+
+    /// How many blobs there are, without those that recovery removes.
+    fn blob_count(&self) -> usize {
+        (0..self.masks.pages.len())
+            .filter(|head| self.metas.get(*head).is_some())
+            .count()
     }
 
     /// Whether these volumes are there and no others.
     pub fn is(&mut self, alloc: Global, state: &State, all: bool) -> Result<bool, Fail> {
-        if self.masks.blobs.count() as usize != state.volumes.len() {
+        if self.blob_count() != state.volumes.len() {
             return Ok(false);
         }
         for volume in &state.volumes {
@@ -151,7 +196,8 @@ impl Shown {
         Ok(true)
     }
 
-    /// Expects that the masks are what the chains claim, beside so many clusters that the store takes itself.
+    /// Expects that the masks are what the chains and maps claim, without those of blobs that recovery removes, beside
+    /// so many clusters that the store takes itself.
     pub fn expect_claimed(&self, state: &State, fixed: u32) -> Result<(), Fail> {
         let (mut pages, mut clusters) = (0usize, fixed as usize);
         for head in 0..self.masks.pages.len() {

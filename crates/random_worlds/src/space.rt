@@ -1,8 +1,10 @@
 //! What is clear: which commands find too little of it, and what the others take.
 
 use crate::asks::Ask;
-use crate::attributes::{Attribute, has};
-use crate::states::{CLUSTER_PAGES, State, clear_count, give_back, take_least};
+use crate::attributes::Attribute;
+use crate::causes::is_done;
+use crate::families::{clone, delete, snapshot};
+use crate::states::{CLUSTER_PAGES, State, Volume, clear_count, give_back, take_least};
 use std::alloc::Global;
 use std::test::Fail;
 use volume_model::Reply;
@@ -28,6 +30,13 @@ const UUID: usize = 50;
 /// What the attribute `name` takes of a page, where the name is one letter.
 const NAME: usize = 15;
 
+/// What internal attributes take: SNAP, SNAPRM and SNAPTMP.
+pub const SNAP: usize = 21;
+
+pub const SNAPRM: usize = 23;
+
+pub const SNAPTMP: usize = 24;
+
 /// How many runs the map of a volume is.
 fn runs_in(map: &[Option<u32>]) -> usize {
     let mut runs = 0usize;
@@ -42,12 +51,14 @@ fn runs_in(map: &[Option<u32>]) -> usize {
 }
 
 /// How many pages a chain has: the first begins with the flags, each attribute goes to a new page where it doesn't fit,
-/// and the runs go on in new pages as long as some are left.
-pub fn chain_length(attributes: &[Attribute], map: &[Option<u32>]) -> usize {
+/// as each internal one does behind them, of these sizes, and the runs go on in new pages as long as some are left.
+pub fn chain_length(attributes: &[Attribute], internal: &[usize], map: &[Option<u32>]) -> usize {
     let mut pages = 1usize;
     let mut left = BODY - FLAGS - NAME - UUID;
-    for attribute in attributes {
-        let size = attribute.length.saturating_add(10);
+    let sizes = attributes
+        .iter()
+        .map(|attribute| attribute.length.saturating_add(10));
+    for size in sizes.chain(internal.iter().copied()) {
         if size > left {
             pages = pages.wrapping_add(1);
             left = BODY;
@@ -85,7 +96,7 @@ fn added_slots(
 }
 
 /// The least clear metadata pages, so many.
-fn taken_pages(alloc: Global, state: &mut State, count: usize) -> Result<Vec<u32>, Fail> {
+pub fn taken_pages(alloc: Global, state: &mut State, count: usize) -> Result<Vec<u32>, Fail> {
     let mut places = Vec::new(alloc);
     for _ in 0..count {
         places.push(take_least(&mut state.used_pages)?)?;
@@ -96,7 +107,7 @@ fn taken_pages(alloc: Global, state: &mut State, count: usize) -> Result<Vec<u32
 fn create(alloc: Global, next: State, ask: &Ask, slots: u64, thick: bool) -> Result<Outcome, Fail> {
     let mut next = next;
     let (map, has_room) = added_slots(alloc, &mut next, thick, slots)?;
-    let length = chain_length(&[], &map);
+    let length = chain_length(&[], &[], &map);
     if clear_count(&next.used_pages) < length {
         return Ok(Outcome::Lacks(Reply::NoPage));
     }
@@ -111,11 +122,20 @@ fn create(alloc: Global, next: State, ask: &Ask, slots: u64, thick: bool) -> Res
     Ok(Outcome::Next(next))
 }
 
+/// The sizes of a volume's internal attributes: it has one where it has a parent.
+pub fn internal_of(volume: &Volume) -> &'static [usize] {
+    if volume.parent.is_some() {
+        &[SNAP]
+    } else {
+        &[]
+    }
+}
+
 /// Gives a volume the chain that its attributes and its map take: the pages behind the head are fresh, and the old ones
 /// are clear then. `false` where too few are clear.
 fn replace_chain(alloc: Global, next: &mut State, name: u8) -> Result<bool, Fail> {
     let volume = next.find(name).ok_or("no volume")?;
-    let length = chain_length(&volume.synced, &volume.map);
+    let length = chain_length(&volume.synced, internal_of(volume), &volume.map);
     let head = volume.head().ok_or("no head")?;
     let old = Vec::from_slice(alloc, &volume.chain)?;
     let fresh = length.saturating_sub(1);
@@ -182,28 +202,6 @@ fn write(alloc: Global, next: State, ask: &Ask, name: u8, page: usize) -> Result
     Ok(Outcome::Next(next))
 }
 
-/// Whether an attribute may be set, of a volume that is there.
-fn may_set(attribute: Attribute) -> bool {
-    attribute.key != b'n' && attribute.length <= 4062
-}
-
-/// Whether what is asked for changes something, as far as not too little is clear.
-pub fn is_done(state: &State, ask: &Ask) -> bool {
-    let meant = match ask.name() {
-        Some(name) => state.find(name),
-        None => return matches!(ask, Ask::Flush),
-    };
-    match (ask, meant) {
-        (Ask::Create { slots, .. }, None) => *slots <= 1 << 20,
-        (Ask::Resize { slots, .. }, Some(_)) => *slots <= 1 << 20,
-        (Ask::Write { page, .. }, Some(volume)) => *page < volume.pages.len() as u64,
-        (Ask::Set { attribute, .. } | Ask::Put { attribute, .. }, Some(_)) => may_set(*attribute),
-        (Ask::Remove { key, .. }, Some(volume)) => has(&volume.live, *key),
-        (Ask::Sync { .. }, Some(_)) => true,
-        _ => false,
-    }
-}
-
 /// What a command makes of a state.
 pub fn outcome_of(alloc: Global, state: &State, ask: &Ask) -> Result<Outcome, Fail> {
     if !is_done(state, ask) {
@@ -214,10 +212,17 @@ pub fn outcome_of(alloc: Global, state: &State, ask: &Ask) -> Result<Outcome, Fa
         Ask::Create { slots, thick, .. } => create(alloc, next, ask, slots, thick),
         Ask::Resize { name, slots } => resize(alloc, next, ask, name, slots),
         Ask::Write { name, page, .. } => write(alloc, next, ask, name, page as usize),
-        Ask::Put { name, .. } | Ask::Sync { name } => {
+        Ask::Put { name, .. } | Ask::Sync { name } | Ask::ReadOnly { name } => {
             next.change(alloc, ask, 0)?;
             replaced(alloc, next, name, true)
         }
+        Ask::Rename { new, .. } => {
+            next.change(alloc, ask, 0)?;
+            replaced(alloc, next, new, true)
+        }
+        Ask::Snapshot { name, new } => snapshot(alloc, next, ask, name, new),
+        Ask::Clone { name, new } => clone(alloc, next, ask, name, new),
+        Ask::Delete { name } => delete(alloc, next, ask, name),
         _ => {
             next.change(alloc, ask, 0)?;
             Ok(Outcome::Next(next))

@@ -12,12 +12,14 @@ pub struct PageState {
     pub is_settled: bool,
 }
 
-/// A volume: its name, told by a letter, its attributes as they are read and as they were last synced, beside `name`
-/// and `uuid`, the clusters in its slots, the places of its chain, and its pages.
+/// A volume: its name, told by a letter, its parent's head, if it has one, its attributes as they are read and as they
+/// were last synced, beside `name` and `uuid`, the clusters in its slots, the places of its chain, and its pages.
 #[derive(Drop)]
 pub struct Volume {
     pub name: u8,
     pub thick: bool,
+    pub read_only: bool,
+    pub parent: Option<u32>,
     pub live: Vec<Attribute>,
     pub synced: Vec<Attribute>,
     pub map: Vec<Option<u32>>,
@@ -74,10 +76,12 @@ pub fn give_back(marks: &mut [bool], place: u32) {
 }
 
 impl Volume {
-    fn copy(&self, alloc: Global) -> Result<Volume, Fail> {
+    pub fn copy(&self, alloc: Global) -> Result<Volume, Fail> {
         Ok(Volume {
             name: self.name,
             thick: self.thick,
+            read_only: self.read_only,
+            parent: self.parent,
             live: Vec::from_slice(alloc, &self.live)?,
             synced: Vec::from_slice(alloc, &self.synced)?,
             map: Vec::from_slice(alloc, &self.map)?,
@@ -89,6 +93,11 @@ impl Volume {
     /// The head, the first place of its chain.
     pub fn head(&self) -> Option<u32> {
         self.chain.first().copied()
+    }
+
+    /// How many slots it has.
+    pub fn slots(&self) -> usize {
+        self.pages.len() / CLUSTER_PAGES
     }
 }
 
@@ -122,6 +131,25 @@ impl State {
     /// The volume of a name, to be changed.
     pub fn find_mut(&mut self, name: u8) -> Option<&mut Volume> {
         self.volumes.iter_mut().find(|volume| volume.name == name)
+    }
+
+    /// The parent of a volume, if it has one.
+    pub fn parent_of(&self, volume: &Volume) -> Option<&Volume> {
+        let head = volume.parent?;
+        self.volumes.iter().find(|other| other.head() == Some(head))
+    }
+
+    /// How many volumes have this one for their parent.
+    pub fn clone_count(&self, volume: &Volume) -> usize {
+        self.volumes
+            .iter()
+            .filter(|other| other.parent.is_some() && other.parent == volume.head())
+            .count()
+    }
+
+    /// The first volume that has this one for its parent.
+    pub fn first_clone(&self, volume: &Volume) -> Option<&Volume> {
+        self.volumes.iter().find(|other| other.parent.is_some() && other.parent == volume.head())
     }
 
     /// The letter of the volume at a head; another letter where there is none.

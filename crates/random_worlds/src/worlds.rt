@@ -1,7 +1,8 @@
 //! The plain machine, and beside it what is clear.
 
 use crate::asks::{Ask, command_of};
-use crate::space::{Outcome, is_done, outcome_of};
+use crate::causes::is_done;
+use crate::space::{Outcome, outcome_of};
 use crate::states::{State, Volume};
 use script_lang::number_below;
 use std::alloc::Global;
@@ -91,7 +92,7 @@ impl World {
         if !is_done(&self.state, ask) {
             return Ok(());
         }
-        let makes = matches!(ask, Ask::Create { .. });
+        let makes = ask.makes();
         let heads = if makes { self.state.df().pages } else { 1 };
         for head in 0..heads {
             if !makes || self.state.is_free_head(head) {
@@ -164,7 +165,16 @@ fn lack_told(ask: &Ask, told: &[u8]) -> Option<Reply> {
         ask,
         Ask::Create { .. } | Ask::Resize { .. } | Ask::Write { .. }
     );
-    let takes_pages = takes_clusters || matches!(ask, Ask::Put { .. } | Ask::Sync { .. });
+    let takes_pages = takes_clusters
+        || ask.makes()
+        || matches!(
+            ask,
+            Ask::Put { .. }
+                | Ask::Sync { .. }
+                | Ask::Rename { .. }
+                | Ask::Delete { .. }
+                | Ask::ReadOnly { .. }
+        );
     match told {
         b"full" if takes_clusters => Some(Reply::Full),
         b"no page" if takes_pages => Some(Reply::NoPage),

@@ -22,7 +22,7 @@ const NINE_SETS: &[u8] =
 const NINE_ANSWERS: &[u8] =
     b"0 0 ok\n1 0 ok\n2 0 ok\n3 0 ok\n4 0 ok\n5 0 ok\n6 0 ok\n7 0 ok\n8 0 ok\n8 1 value 38\n";
 
-const CASES: [Case; 9] = [
+const CASES: [Case; 14] = [
     // Both channels claim a cluster for the slot. The first insert wins, and the other write begins again in its
     // cluster.
     (
@@ -107,6 +107,86 @@ const CASES: [Case; 9] = [
             b"0 0 page fill 0000000000000000\n1 0 ok @1\n",
         ),
         (b"0 df\n", b"0 0 df clusters 6 of 16 pages 14 of 16\n"),
+    ),
+    // What channel 0 has copied is out of date once the volume has another snapshot, whose slot the other channel
+    // filled. Its claim is lost, and it copies what the snapshot shows.
+    (
+        (
+            b"0 create a 1 thin\n0 write a 0 1 1\n0 snapshot a s\n",
+            b"0 0 ok @0\n0 1 ok\n0 2 ok @1\n",
+        ),
+        (
+            "run store.img --schedule 0*6,1+m*200",
+            b"0 write a 1 1 20\n1 write a 0 1 21\n1 snapshot a t\n",
+            b"1 0 ok\n1 1 ok @2\n0 0 ok\n",
+        ),
+        (
+            b"0 read a 0 2\n0 read t 0 2\n0 df\n",
+            b"0 0 page fill 0000000000000015\n0 1 page fill 0000000000000014\n\
+                0 2 page fill 0000000000000015\n0 3 page fill 0000000000000000\n\
+                0 4 df clusters 8 of 16 pages 13 of 16\n",
+        ),
+    ),
+    // While a snapshot is made the volume is neither read nor written; another one is.
+    (
+        (
+            b"0 create v 1 thick\n0 create w 1 thick\n0 write v 0 1 1\n",
+            b"0 0 ok @0\n0 1 ok @1\n0 2 ok\n",
+        ),
+        (
+            "run store.img --schedule 1*2,m*2,0+2+3*9",
+            b"0 write v 0 1 2\n0 read v 0 1\n1 snapshot v s\n2 write w 0 1 5\n2 read w 0 1\n3 read v 0 1\n",
+            b"2 0 ok\n2 1 page fill 0000000000000005\n1 0 ok @2\n3 0 page fill 0000000000000001\n0 0 ok\n\
+                0 1 page fill 0000000000000002\n",
+        ),
+        (
+            b"0 read s 0 1\n0 read v 0 1\n",
+            b"0 0 page fill 0000000000000001\n0 1 page fill 0000000000000002\n",
+        ),
+    ),
+    // The parent is deleted while a slot of its clone is copied. The clone has the parent's cluster by then.
+    (
+        (
+            b"0 create v 1 thin\n0 write v 0 1 1\n0 snapshot v s\n",
+            b"0 0 ok @0\n0 1 ok\n0 2 ok @1\n",
+        ),
+        (
+            "run store.img --schedule 0*6,1+m*200",
+            b"0 write v 1 1 20\n1 delete s\n",
+            b"1 0 ok\n0 0 ok\n",
+        ),
+        (
+            b"0 read v 0 2\n0 df\n",
+            b"0 0 page fill 0000000000000001\n0 1 page fill 0000000000000014\n\
+                0 2 df clusters 10 of 16 pages 15 of 16\n",
+        ),
+    ),
+    // The volume is deleted while its slot is copied.
+    (
+        (b"0 create v 2 thin\n", b"0 0 ok @0\n"),
+        (
+            "run store.img --schedule 0*6,1+m*200",
+            b"0 write v 4 1 1\n1 delete v\n",
+            b"1 0 ok\n0 0 no volume\n",
+        ),
+        (b"0 df\n", b"0 0 df clusters 11 of 16 pages 16 of 16\n"),
+    ),
+    // The same, and one of its name is made at its head: the copies are lost, and the new one is written.
+    (
+        (
+            b"0 create v 2 thick\n0 write v 5 1 9\n0 snapshot v s\n",
+            b"0 0 ok @0\n0 1 ok\n0 2 ok @1\n",
+        ),
+        (
+            "run store.img --schedule 0*6,1+m*200",
+            b"0 write v 4 1 1\n1 delete v\n1 create v 2 thin\n",
+            b"1 0 ok\n1 1 ok @0\n0 0 ok\n",
+        ),
+        (
+            b"0 read v 4 2\n0 df\n",
+            b"0 0 page fill 0000000000000001\n0 1 page fill 0000000000000000\n\
+                0 2 df clusters 8 of 16 pages 14 of 16\n",
+        ),
     ),
     // No script, no step.
     (

@@ -41,7 +41,7 @@ volume_served : (verb : Verb) (volume : VolumeRef) → serves Served verb ≡ tr
 volume_served v.Sync volume s = one_served_alone _ tt
 volume_served v.Inflate volume s = absurd (false≢true s)
 volume_served v.Decouple volume s = absurd (false≢true s)
-volume_served v.Delete volume s = absurd (false≢true s)
+volume_served v.Delete volume s = one_served_alone _ tt
 volume_served v.ReadOnly volume s = one_served_alone _ tt
 volume_served v.Info volume s = one_served_alone _ tt
 volume_served _ volume s = tt
@@ -52,7 +52,7 @@ slots_served _ volume slots = tt
 
 name_served : (verb : Verb) (volume : VolumeRef) (name : List ℕ) → serves Served verb ≡ true
     → IfOk (alone (on_name verb volume name)) AreServed
-name_served v.Snapshot volume name s = absurd (false≢true s)
+name_served v.Snapshot volume name s = one_served_alone _ tt
 name_served v.Clone volume name s = one_served_alone _ tt
 name_served v.Rename volume name s = one_served_alone _ tt
 name_served _ volume name s = tt

@@ -32,8 +32,10 @@ impl Grammar {
                     | Verb::Sync
                     | Verb::ReadOnly
                     | Verb::Resize
+                    | Verb::Snapshot
                     | Verb::Clone
                     | Verb::Rename
+                    | Verb::Delete
                     | Verb::Info
                     | Verb::List
                     | Verb::Df

@@ -3,6 +3,8 @@
 #![tactic(auto)]
 
 #[cfg(test)]
+mod family_plan_tests;
+#[cfg(test)]
 mod generator_tests;
 #[cfg(test)]
 mod grammar_tests;

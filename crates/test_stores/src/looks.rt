@@ -10,8 +10,8 @@ use unclean_load::load;
 /// A head, and the places of its chain.
 pub type ChainRow<'a> = (u32, &'a [u32]);
 
-/// Expects that the blobs at these heads have these chains, once the store is loaded, and that no other metadata page
-/// is in use, or fails.
+/// Expects that the blobs at these heads have these chains, once the store is loaded, that no other metadata page is in
+/// use, and that no blob is marked, or fails.
 pub fn expect_chains(alloc: Global, disk: MemDisk, wanted: &[ChainRow<'_>]) -> Result<(), Fail> {
     let Ok(loaded) = load(alloc, disk) else {
         return Err(Fail::new("the store is not loaded"));
@@ -21,12 +21,15 @@ pub fn expect_chains(alloc: Global, disk: MemDisk, wanted: &[ChainRow<'_>]) -> R
         sup: _,
         metas: _,
         removed: _,
-        marked: _,
+        marked,
         chains,
         repairs: _,
         masks,
         quick: _,
     } = loaded;
+    if marked.next_from(0).is_some() {
+        return Err(Fail::new("a blob is marked"));
+    }
     for (head, chain) in wanted {
         let is_there = match chains.get(*head) {
             Some(places) => places.as_slice() == *chain,

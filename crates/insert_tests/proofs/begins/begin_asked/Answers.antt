@@ -4,11 +4,11 @@ use Rattle.volume_model.specs.declared.command.Command.{Command}
 use Rattle.volume_model.specs.declared.reply.Reply.{Reply}
 use Rattle.blob_meta.specs.declared.job.Job.{Job}
 use Rattle.store_model.specs.Cases.{IsRefusedBy}
-use Rattle.metadata_turns.specs.Begins.{IsJobOf}
+use Rattle.job_begins.specs.Begins.{IsJobOf}
 use Rattle.running_store.specs.Requests.{IsAsked}
 use Rattle.running_store.specs.StoreView.{rows_of, state_of}
 use Rattle.md_thread.specs.Tasks.{IsPlanOf}
-use Rattle.insert_tests.proofs.resizes.begin_resize.Goals as goal
+use Rattle.insert_tests.proofs.begins.begin_asked.Goals as goal
 
 -- a list begins with one command
 same_first : (c k : Command) (cs ks : List Command) → c ∷ cs ≡ k ∷ ks → c ≡ k

@@ -1,4 +1,4 @@
-//! The begin of a resize by the metadata thread.
+//! The begins of jobs by the metadata thread: resizes, snapshots and deletes.
 
 ghost use Rattle.std.specs.Prelude.{◌≡◌, IfSome, None, Some};
 ghost use Rattle.blob_meta.specs.Repairs.{HasNoMarks};
@@ -6,13 +6,13 @@ ghost use Rattle.md_thread.specs.Tasks.{IsPlanOf};
 ghost use Rattle.running_store.specs.StoreView.{base_of};
 
 use blob_meta::{Job, least_heads_are_meant};
-use lvol_store::plan_resize;
+use lvol_store::{plan_delete, plan_resize, plan_snapshot};
 use page_disk::PageDisk;
 use std::alloc::Global;
 use store_core::{BeginTurn, MdRight, Plant, Request, plans};
 use volume_model::{Command, Msg, Reply};
 
-/// The job that is planned for a resize, or why it is refused; `None` for another command.
+/// The job that is planned for a resize, a snapshot or a delete, or why it is refused; `None` for another command.
 fn planned<D: PageDisk>(
     alloc: Global,
     plant: &Plant<D>,
@@ -29,12 +29,14 @@ fn planned<D: PageDisk>(
     let (metas, sup, new) = (plant.metas(), plant.sup(), plant.next_head());
     match command {
         Command::Resize { .. } => Some(plan_resize(alloc, metas, sup, command, new)),
+        Command::Snapshot { .. } => Some(plan_snapshot(alloc, metas, sup, command, new)),
+        Command::Delete { .. } => Some(plan_delete(alloc, metas, sup, command)),
         _ => None,
     }
 }
 
-/// Begins the resize that a message asks for, and tells what comes of it.
-pub fn begin_resize<D: PageDisk>(
+/// Begins the job that a message asks for, and tells what comes of it.
+pub fn begin_asked<D: PageDisk>(
     alloc: Global,
     plant: &mut Plant<D>,
     right: &mut MdRight,
