@@ -17,9 +17,10 @@ use Rattle.clap.specs.Simple.{rows_at, Shape, subcommand_of, with_leaf_noted}
 use Rattle.clap.specs.Takes.{is_given}
 use Rattle.clap.specs.Walk.{answers_to, first_of, nothing_held, Row, rows_after, settled, stop_after, Text, walk}
 use Rattle.clap.specs.Walk.{Rule, walk_from}
-use Rattle.command_words.specs.CommandLine.{command_line, format_line, generate_line, list_line, run_line}
+use Rattle.command_words.specs.CommandLine.{command_line, exercise_line, format_line, generate_line, list_line}
+use Rattle.command_words.specs.CommandLine.{run_line}
 use Rattle.command_words.specs.Words.{as_read, asked_by, asked_in, refusal_of, unless_refused}
-use Rattle.command_words.specs.Words.{format, generate, list, run, Asked}
+use Rattle.command_words.specs.Words.{exercise, format, generate, list, options_by, run, Asked}
 use Rattle.command_words.specs.declared.reading.CommandWords.{CommandWords}
 use Rattle.command_words.proofs.FullRows.{AllReady, both_none, full-level, given-first}
 use Rattle.command_words.proofs.Stops.{StopsAtNoHelp, stops_at_no_help}
@@ -32,6 +33,12 @@ is_some-both : {X Y Z : Type 0} (f : X → Y → Z) (a : Option X) (b : Option Y
     → is_some (option_and_then (λ x. option_map (f x) b) a) ≡ true
 is_some-both f None b has more = cc has
 is_some-both f (Some x) b has more = is_some-map (f x) b ∙ more
+
+is_some-three : {W X Y Z : Type 0} (f : W → X → Y → Z) (a : Option W) (b : Option X) (c : Option Y)
+    → is_some a ≡ true → is_some b ≡ true → is_some c ≡ true
+    → is_some (option_and_then (λ w. option_and_then (λ x. option_map (f w x) c) b) a) ≡ true
+is_some-three f None b c has more most = cc has
+is_some-three f (Some w) b c has more most = is_some-both (f w) b c more most
 
 -- ---- the last checks
 
@@ -102,10 +109,11 @@ module _ (words : List Text) where
   format_taken : IsTaken words (leaf format_line)
   format_taken none =
       let rows = rows_after (leaf format_line).rules [] words in
-      is_some-map (λ image. format image (first_of (codes "cluster") rows) (first_of (codes "md-pages") rows))
-      (first_of (codes "IMAGE") rows)
-      ∙ image_given (leaf format_line)
-      (inl (refl, refl), (inl (refl, refl), (inl (refl, refl), (inr refl, tt)))) (λ r. refl) none
+      is_some-map (λ image. format image (options_by rows)) (first_of (codes "IMAGE") rows)
+      ∙ image_given (leaf format_line) (
+        inl (refl, refl),
+        (inl (refl, refl), (inl (refl, refl), (inl (refl, refl), (inl (refl, refl), (inr refl, tt))))),
+      ) (λ r. refl) none
 
   list_taken : IsTaken words (leaf list_line)
   list_taken none =
@@ -123,6 +131,22 @@ module _ (words : List Text) where
       is_some-both generate (first_of (codes "NUMBER") rows) (first_of (codes "SIZE") rows)
       (given-first (codes "NUMBER") rows level.0 (given_from number (not size || false) lacks))
       (given-first (codes "SIZE") rows level.0 (given_from size false (more_from number (not size || false) lacks)))
+
+  exercise_taken : IsTaken words (leaf exercise_line)
+  exercise_taken none =
+      let rows = rows_after (leaf exercise_line).rules [] words in
+      let image = is_given (codes "IMAGE") rows in
+      let number = is_given (codes "NUMBER") rows in
+      let size = is_given (codes "SIZE") rows in
+      let level = full-level (leaf exercise_line)
+      (inl (refl, refl), (inl (refl, refl), (inl (refl, refl), (inr refl, tt)))) [] words false [] none in
+      let lacks = none_lacks (not image || (not number || (not size || false))) level.1 in
+      let others = more_from image (not number || (not size || false)) lacks in
+      is_some-three exercise (first_of (codes "IMAGE") rows) (first_of (codes "NUMBER") rows)
+      (first_of (codes "SIZE") rows)
+      (given-first (codes "IMAGE") rows level.0 (given_from image (not number || (not size || false)) lacks))
+      (given-first (codes "NUMBER") rows level.0 (given_from number (not size || false) others))
+      (given-first (codes "SIZE") rows level.0 (given_from size false (more_from number (not size || false) others)))
 
 or_false : (b : Bool) → (b || false) ≡ true → b ≡ true
 or_false true is = refl
@@ -143,10 +167,11 @@ module _ (p : Text × List Text) (no_help : (bytes_eq p.0 (codes "help") && true
   among_taken s (inr (inl is)) none = subst (IsTaken p.1) is.0 (format_taken p.1) none
   among_taken s (inr (inr (inl is))) none = subst (IsTaken p.1) is.0 (list_taken p.1) none
   among_taken s (inr (inr (inr (inl is)))) none = subst (IsTaken p.1) is.0 (generate_taken p.1) none
-  among_taken s (inr (inr (inr (inr (inl is))))) none =
+  among_taken s (inr (inr (inr (inr (inl is))))) none = subst (IsTaken p.1) is.0 (exercise_taken p.1) none
+  among_taken s (inr (inr (inr (inr (inr (inl is)))))) none =
       let help = (bytes_eq-Decides (codes "help") p.0).0 (or_false (bytes_eq (codes "help") p.0) is.1) in
       let bad = subst (λ (name : Text). (bytes_eq name (codes "help") && true) ≡ false) (sym help) no_help in cc bad
-  among_taken s (inr (inr (inr (inr (inr never))))) none = absurd never
+  among_taken s (inr (inr (inr (inr (inr (inr never)))))) none = absurd never
 
   shape_taken : (found : Option Shape) → ((s : Shape) → found ≡ Some s → Among answers s line.subs)
       → option_map_or (λ s. level_fault s [] nothing_held p.1 false []) found [] ≡ []

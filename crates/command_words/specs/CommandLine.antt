@@ -1,5 +1,5 @@
 -- The program's command line, as `clap` reads it: a command with one level of subcommands.
-use Rattle.std.specs.Prelude.{true, false, List, [], ◌∷◌, Some, codes}
+use Rattle.std.specs.Prelude.{true, false, List, [], ◌∷◌, ◌++◌, Some, codes}
 use Rattle.clap.specs.Walk.{Rule, Text}
 use Rattle.clap.specs.Simple.{App, Shape, new_rule, new_shape}
 
@@ -18,16 +18,28 @@ subcommand name rules = record (new_shape name) { rules = rules }
 abbrev pub run_line : Shape
 run_line = subcommand (codes "run") (placed (codes "IMAGE") ∷ option (codes "schedule") ∷ [])
 
-abbrev pub format_line : Shape
-format_line =
+-- with the options on sizes
+abbrev pub sized_format_line : Shape
+sized_format_line =
     subcommand (codes "format")
     (placed (codes "IMAGE") ∷ option (codes "cluster") ∷ option (codes "md-pages") ∷ [])
+
+-- and with those that make a logical volume store
+abbrev pub format_line : Shape
+format_line = record sized_format_line {
+  rules = sized_format_line.rules ++ (option (codes "lvol") ∷ option (codes "uuid") ∷ []);
+}
 
 abbrev pub list_line : Shape
 list_line = subcommand (codes "list") (placed (codes "IMAGE") ∷ [])
 
 abbrev pub generate_line : Shape
 generate_line = subcommand (codes "generate") (placed (codes "NUMBER") ∷ placed (codes "SIZE") ∷ [])
+
+abbrev pub exercise_line : Shape
+exercise_line =
+    subcommand (codes "exercise")
+    (placed (codes "IMAGE") ∷ placed (codes "NUMBER") ∷ placed (codes "SIZE") ∷ [])
 
 -- The words are those behind the program's name. One of them names a subcommand; without words the answer is the help,
 -- and there is a version to ask for.
@@ -45,5 +57,5 @@ without_commands = record {
 abbrev pub command_line : App
 command_line = record {
   top = record without_commands.top { is_leaf = false };
-  subs = run_line ∷ format_line ∷ list_line ∷ generate_line ∷ [];
+  subs = run_line ∷ format_line ∷ list_line ∷ generate_line ∷ exercise_line ∷ [];
 }

@@ -11,25 +11,42 @@ use Rattle.clap.specs.Walk.{first_of, Row, Text}
 use Rattle.command_words.specs.CommandLine.{command_line}
 use Rattle.command_words.specs.declared.reading.CommandWords.{CommandWords}
 use Rattle.command_words.specs.declared.reading.CommandWords.TheVariants as words
+use Rattle.command_words.specs.declared.reading.FormatOptions.{FormatOptions}
+
+-- the texts of the options of a new store, each of which may be missing: the bytes of a cluster, a number of metadata
+-- pages, and the name and the uuid of a logical volume store
+pub record FormatTexts : Type 0 where
+  pub cluster : Option Text
+  pub md_pages : Option Text
+  pub lvol : Option Text
+  pub uuid : Option Text
 
 -- a command with the texts of what stands behind it; an option may be missing
 pub data Asked : Type 0 where
   -- an image, and a schedule
   run : Text → Option Text → Asked
-  -- an image, the bytes of a cluster, and a number of metadata pages
-  format : Text → Option Text → Option Text → Asked
+  -- an image, and what the new store is to be like
+  format : Text → FormatTexts → Asked
   -- an image
   list : Text → Asked
   -- a number and a size
   generate : Text → Text → Asked
+  -- an image, a number and a size
+  exercise : Text → Text → Text → Asked
 
 abbrev pub run_by : List Row → Option Asked
 run_by rows = option_map (λ image. run image (first_of (codes "schedule") rows)) (first_of (codes "IMAGE") rows)
 
+abbrev pub options_by : List Row → FormatTexts
+options_by rows = record {
+  cluster = first_of (codes "cluster") rows;
+  md_pages = first_of (codes "md-pages") rows;
+  lvol = first_of (codes "lvol") rows;
+  uuid = first_of (codes "uuid") rows;
+}
+
 abbrev pub format_by : List Row → Option Asked
-format_by rows =
-    option_map (λ image. format image (first_of (codes "cluster") rows) (first_of (codes "md-pages") rows))
-    (first_of (codes "IMAGE") rows)
+format_by rows = option_map (λ image. format image (options_by rows)) (first_of (codes "IMAGE") rows)
 
 abbrev pub list_by : List Row → Option Asked
 list_by rows = option_map list (first_of (codes "IMAGE") rows)
@@ -39,13 +56,20 @@ generate_by rows =
     option_and_then (λ number. option_map (generate number) (first_of (codes "SIZE") rows))
     (first_of (codes "NUMBER") rows)
 
+abbrev pub exercise_by : List Row → Option Asked
+exercise_by rows =
+    option_and_then
+    (λ image. option_and_then (λ number. option_map (exercise image number) (first_of (codes "SIZE") rows))
+    (first_of (codes "NUMBER") rows)) (first_of (codes "IMAGE") rows)
+
 -- the command that a subcommand is, with what was found behind it
 abbrev pub asked_by : Text → List Row → Option Asked
 asked_by name rows =
     if bytes_eq name (codes "run") then run_by rows
     else (if bytes_eq name (codes "format") then format_by rows
     else (if bytes_eq name (codes "list") then list_by rows
-    else (if bytes_eq name (codes "generate") then generate_by rows else None)))
+    else (if bytes_eq name (codes "generate") then generate_by rows
+    else (if bytes_eq name (codes "exercise") then exercise_by rows else None))))
 
 -- the kinds of error with which `clap` refuses the words, or answers that they ask for help or the version; none where
 -- it takes them
@@ -65,9 +89,19 @@ found_in words = unless_refused (refusal_of words) (subcommand_of command_line (
 unfoldable pub asked_in : List (String Global) → Option Asked
 asked_in words = option_and_then (λ found. asked_by found.0 found.1) (found_in words)
 
+-- the options as they were read
+abbrev pub texts_of : FormatOptions → FormatTexts
+texts_of options = record {
+  cluster = option_copied options.cluster;
+  md_pages = option_copied options.md_pages;
+  lvol = option_copied options.lvol;
+  uuid = option_copied options.uuid;
+}
+
 -- a command as it was read
 abbrev pub as_read : CommandWords → Asked
 as_read (words.Run image schedule) = run image.now (option_copied schedule)
-as_read (words.Format image cluster md_pages) = format image.now (option_copied cluster) (option_copied md_pages)
+as_read (words.Format image options) = format image.now (texts_of options)
 as_read (words.List image) = list image.now
 as_read (words.Generate number size) = generate number.now size.now
+as_read (words.Exercise image number size) = exercise image.now number.now size.now

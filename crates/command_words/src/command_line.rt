@@ -49,14 +49,17 @@ fn run_line<'a>(alloc: Global) -> Result<Command<'a>, AllocError>
         ))
 }
 
-/// `format IMAGE`.
-fn format_line<'a>(alloc: Global) -> Result<Command<'a>, AllocError>
-    ensures shape { IfOk result (λ c. shape_of c ≡ said.format_line) }
+/// `format IMAGE`, with the options on sizes.
+fn sized_format_line<'a>(alloc: Global) -> Result<Command<'a>, AllocError>
+    ensures shape { IfOk result (λ c. shape_of c ≡ said.sized_format_line) }
     ensures local { IfOk result (λ c. (fields_of c).has_globals ≡ false) }
 {
     Command::new(alloc, "format")
         .about("Writes an empty store, and prints how much space it has")
-        .after_help("Example: blobtool format store.img --cluster 16384 --md-pages 16")
+        .after_help(
+            "Examples:{n}  blobtool format store.img --cluster 16384 --md-pages 16{n}  \
+             blobtool format store.img --lvol store0 --uuid 5f2b4e66-0d0c-4c1e-9a55-3f0a7c2d9b10",
+        )
         .arg(placed(
             alloc,
             "IMAGE",
@@ -66,13 +69,37 @@ fn format_line<'a>(alloc: Global) -> Result<Command<'a>, AllocError>
             alloc,
             "cluster",
             "BYTES",
-            "Bytes of a cluster: 4096 or a multiple, up to 4294963200 [default: 1048576]",
+            "Bytes of a cluster: 4096 or a multiple, up to 4294963200 [default: 1048576,{n}\
+             or 4194304 with --lvol]",
         ))?
         .arg(option(
             alloc,
             "md-pages",
             "N",
             "Metadata pages of 4096 bytes: 1 to 1048576 [default: as many as clusters]",
+        ))
+}
+
+/// `format IMAGE`, also with the options that make a logical volume store.
+fn format_line<'a>(alloc: Global) -> Result<Command<'a>, AllocError>
+    ensures shape { IfOk result (λ c. shape_of c ≡ said.format_line) }
+    ensures local { IfOk result (λ c. (fields_of c).has_globals ≡ false) }
+{
+    sized_format_line(alloc)?
+        .arg(option(
+            alloc,
+            "lvol",
+            "NAME",
+            "Makes a logical volume store of this name: 1 to 63 printable characters{n}\
+             without a space, the first neither @ nor #; --uuid has to be there too{n}\
+             [default: no logical volume store]",
+        ))?
+        .arg(option(
+            alloc,
+            "uuid",
+            "UUID",
+            "The uuid of the logical volume store, 32 hexadecimal digits with or{n}\
+             without hyphens; --lvol has to be there too",
         ))
 }
 
@@ -95,6 +122,23 @@ fn generate_line<'a>(alloc: Global) -> Result<Command<'a>, AllocError>
     Command::new(alloc, "generate")
         .about("Prints a script to try a store with, always the same for the same two numbers")
         .after_help("Example: blobtool generate 1 100 > script.txt")
+        .arg(placed(alloc, "NUMBER", "Which script: 0 to 2147483647"))?
+        .arg(placed(
+            alloc,
+            "SIZE",
+            "Lines that are drawn, behind the four that make volumes: 0 to 65000",
+        ))
+}
+
+/// `exercise IMAGE NUMBER SIZE`.
+fn exercise_line<'a>(alloc: Global) -> Result<Command<'a>, AllocError>
+    ensures shape { IfOk result (λ c. shape_of c ≡ said.exercise_line) }
+    ensures local { IfOk result (λ c. (fields_of c).has_globals ≡ false) }
+{
+    Command::new(alloc, "exercise")
+        .about("Runs a script of generate on a store, and prints one line that sums up its answers")
+        .after_help("Example: blobtool exercise store.img 1 100")
+        .arg(placed(alloc, "IMAGE", "The file that has the store"))?
         .arg(placed(alloc, "NUMBER", "Which script: 0 to 2147483647"))?
         .arg(placed(
             alloc,
@@ -130,5 +174,6 @@ pub fn command_line<'a>(alloc: Global) -> Result<Command<'a>, AllocError>
         .subcommand(run_line(alloc)?)?
         .subcommand(format_line(alloc)?)?
         .subcommand(list_line(alloc)?)?
-        .subcommand(generate_line(alloc)?)
+        .subcommand(generate_line(alloc)?)?
+        .subcommand(exercise_line(alloc)?)
 }

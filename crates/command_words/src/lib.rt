@@ -5,5 +5,5 @@ mod command_line;
 mod reading;
 mod refusing;
 
-pub use reading::{CommandWords, read_words};
+pub use reading::{CommandWords, FormatOptions, read_words};
 pub use refusing::refusal;

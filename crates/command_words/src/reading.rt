@@ -16,6 +16,19 @@ use clap::{ArgMatches, Error};
 use out_of_memory::Memory;
 use std::alloc::Global;
 
+/// The texts of the options of a `format`, as far as they are there.
+#[derive(Clone, Copy, Debug)]
+pub struct FormatOptions<'a> {
+    /// The bytes of a cluster.
+    pub cluster: Option<&'a str>,
+    /// The number of metadata pages.
+    pub md_pages: Option<&'a str>,
+    /// The name of a logical volume store.
+    pub lvol: Option<&'a str>,
+    /// Its uuid.
+    pub uuid: Option<&'a str>,
+}
+
 /// A command, with the texts of what stands behind it.
 #[derive(Clone, Copy, Debug)]
 pub enum CommandWords<'a> {
@@ -24,11 +37,10 @@ pub enum CommandWords<'a> {
         image: &'a str,
         schedule: Option<&'a str>,
     },
-    /// `format IMAGE`, with the texts of its options, as far as they are there.
+    /// `format IMAGE`, with the texts of its options.
     Format {
         image: &'a str,
-        cluster: Option<&'a str>,
-        md_pages: Option<&'a str>,
+        options: FormatOptions<'a>,
     },
     /// `list IMAGE`.
     List {
@@ -36,6 +48,12 @@ pub enum CommandWords<'a> {
     },
     /// `generate NUMBER SIZE`.
     Generate {
+        number: &'a str,
+        size: &'a str,
+    },
+    /// `exercise IMAGE NUMBER SIZE`.
+    Exercise {
+        image: &'a str,
         number: &'a str,
         size: &'a str,
     },
@@ -80,13 +98,13 @@ fn format_of<'a>(found: &ArgMatches<'a>) -> Option<CommandWords<'a>>
     ensures { option_map as_read result ≡ said.format_by (rows_of (found_of found.now)) }
 {
     let image = text_of(found, "IMAGE")?;
-    let cluster = text_of(found, "cluster");
-    let md_pages = text_of(found, "md-pages");
-    Some(CommandWords::Format {
-        image,
-        cluster,
-        md_pages,
-    })
+    let options = FormatOptions {
+        cluster: text_of(found, "cluster"),
+        md_pages: text_of(found, "md-pages"),
+        lvol: text_of(found, "lvol"),
+        uuid: text_of(found, "uuid"),
+    };
+    Some(CommandWords::Format { image, options })
 }
 
 /// A `list` with what was found behind it.
@@ -106,6 +124,20 @@ fn generate_of<'a>(found: &ArgMatches<'a>) -> Option<CommandWords<'a>>
     Some(CommandWords::Generate { number, size })
 }
 
+/// An `exercise` with what was found behind it.
+fn exercise_of<'a>(found: &ArgMatches<'a>) -> Option<CommandWords<'a>>
+    ensures { option_map as_read result ≡ said.exercise_by (rows_of (found_of found.now)) }
+{
+    let image = text_of(found, "IMAGE")?;
+    let number = text_of(found, "NUMBER")?;
+    let size = text_of(found, "SIZE")?;
+    Some(CommandWords::Exercise {
+        image,
+        number,
+        size,
+    })
+}
+
 /// The command that a subcommand is, with what was found behind it.
 fn command_of<'a>(name: &str, found: &ArgMatches<'a>) -> Option<CommandWords<'a>>
     ensures { option_map as_read result ≡ asked_by name.now (rows_of (found_of found.now)) }
@@ -115,6 +147,7 @@ fn command_of<'a>(name: &str, found: &ArgMatches<'a>) -> Option<CommandWords<'a>
         "format" => format_of(found),
         "list" => list_of(found),
         "generate" => generate_of(found),
+        "exercise" => exercise_of(found),
         _ => None,
     }
 }
