@@ -1,2 +1,5 @@
 mod Regions
 mod NewStore
+mod SuperBlobPage
+mod FirstPage
+mod Loading

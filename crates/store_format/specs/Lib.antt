@@ -1,1 +1,2 @@
+pub mod SuperBlob
 pub mod NewStore

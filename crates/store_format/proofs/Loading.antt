@@ -1,0 +1,250 @@
+-- A new store is loaded as it was planned.
+use Rattle.std.proofs.Common.{◌≡◌, ℕ, zero, suc, ◌+◌, ◌/◌, ◌^◌, ◌<◌, ◌≤◌, true, false, List, [], ◌∷◌, length, None}
+use Rattle.std.proofs.Common.{Option, Some, refl, sym, ap, subst, ◌∙◌, inl, inr, arith}
+use Rattle.std.specs.Prelude.{nat_lt}
+use Rattle.std.specs.List.{range_with_len, sum_by}
+use Rattle.std.specs.Option.{option_and_then, option_map_or}
+use Rattle.std.proofs.lemmas.Bool.{cases_Bool, ltb-true}
+use Rattle.std.proofs.lemmas.List.Sums.{sum_by-cons}
+use Rattle.crc32c.proofs.Zeros.{is_sound-zeros}
+use Rattle.page_disk.specs.Disk.{Image}
+use Rattle.super_block.specs.Faults.{clusters_fault, pages_fault, super_fault}
+use Rattle.super_block.specs.Layout.{cluster_pages_fault, layout_of, new_super, plan_fault, room_fault, IsPlanned}
+use Rattle.super_block.specs.Page.{super_of}
+use Rattle.super_block.proofs.Passed.{all_pass, few_pages, AllPass}
+use Rattle.super_block.specs.declared.layout.Layout.{Layout}
+use Rattle.super_block.specs.declared.page.Super.{Super}
+use Rattle.volume_model.specs.Names.{IsName}
+use Rattle.blob_meta.specs.declared.meta.Meta.{Meta}
+use Rattle.blob_meta.specs.Faults.{meta_fault}
+use Rattle.blob_meta.specs.Parents.{parent_of, slot}
+use Rattle.blob_meta.specs.Resolving.{resolved, resolved_one, IsLawful, slots_together}
+use Rattle.md_chain.specs.Chain.{Look}
+use Rattle.store_model.specs.Laws.{ScanLaws}
+use Rattle.store_model.specs.Maps.{Metas}
+use Rattle.store_model.specs.Recovers.{IsSameStore}
+use Rattle.store_model.specs.Regions.{look_of, region_of, MdRegion}
+use Rattle.store_model.specs.Scans.{is_head, BlobAt, Says}
+use Rattle.store_model.specs.Steady.{AreNamed}
+use Rattle.store_model.proofs.NewBlob.{new_steady, two_written}
+use Rattle.unclean_load.specs.Accepted.{IsAccepted, StoresAreAccepted}
+use Rattle.store_format.specs.NewStore.{first_super, md_page, zero_page, IsNewStore, IsReadAsPlanned}
+use Rattle.store_format.specs.NewStore.{LoadsAsPlanned}
+use Rattle.store_format.specs.SuperBlob.{new_chains, new_metas, page_of, store_xattrs, super_blob_page, super_items}
+use Rattle.store_format.specs.SuperBlob.{super_meta, AreReadable, IsReadable}
+use Rattle.store_format.specs.declared.super_blob.StoreName.{StoreName}
+use Rattle.store_format.proofs.SuperBlobPage.{says_super_meta}
+
+-- ---- metadata without clusters and without parents
+
+-- no blob has a slot, or an internal attribute
+abbrev AreBare : Metas → Type 0
+AreBare metas = (head : ℕ) (m : Meta) → metas head ≡ Some m → (m.map ≡ []) × (m.internal ≡ [])
+
+no_cluster : (m : Meta) → m.map ≡ [] → (i : ℕ) → slot m i ≡ None
+no_cluster m none i = rw none refl
+
+no_parent : (m : Meta) → m.internal ≡ [] → parent_of m ≡ None
+no_parent m none = rw none refl
+
+abbrev slots_at : Metas → ℕ → ℕ
+slots_at metas head = option_map_or (λ (m : Meta). length m.map) (metas head) 0
+
+no_slots : (found : Option Meta) → ((m : Meta) → found ≡ Some m → (m.map ≡ []) × (m.internal ≡ []))
+    → option_map_or (λ (m : Meta). length m.map) found 0 ≡ 0
+no_slots None bare = refl
+no_slots (Some m) bare = ap (λ (map : List (Option ℕ)). length map) (bare m refl).0
+
+none_together : (metas : Metas) → AreBare metas → (heads : List ℕ) → sum_by (slots_at metas) heads ≡ 0
+none_together metas bare [] = refl
+none_together metas bare (head ∷ heads) =
+    let more = sum_by-cons (slots_at metas) head heads in
+    let here : slots_at metas head ≡ 0 = no_slots (metas head) (bare head) in
+    let rest = none_together metas bare heads in
+    omega (arith, more, here, rest)
+
+few_slots : (metas : Metas) → AreBare metas → (md_len : ℕ) → slots_together md_len metas ≤ 2 ^ 24
+few_slots metas bare md_len = let none = none_together metas bare (range_with_len 0 md_len) in omega (arith, none)
+
+bare_is_lawful : (metas : Metas) → AreBare metas → (md_len : ℕ) → IsLawful md_len metas
+bare_is_lawful metas bare md_len = record {
+  alone =
+      λ h k i j cluster m n is also at same.
+      absurd (let bad = sym (no_cluster m (bare h m is).0 i) ∙ at in cc bad);
+  parents = λ h p m is of. absurd (let bad = sym (no_parent m (bare h m is).1) ∙ of in cc bad);
+  rank = λ head. 0;
+  falls = λ h p m is of. absurd (let bad = sym (no_parent m (bare h m is).1) ∙ of in cc bad);
+  few = few_slots metas bare md_len;
+}
+
+-- nothing is marked, so recovery leaves it as it is
+found_as_is : (metas : Metas) (head : ℕ) (found : Option Meta)
+    → ((m : Meta) → found ≡ Some m → (m.map ≡ []) × (m.internal ≡ []))
+    → option_and_then (resolved_one metas head) found ≡ found
+found_as_is metas head None bare = refl
+found_as_is metas head (Some m) bare = rw (bare m refl).1 refl
+
+resolved_as_is : (metas : Metas) → AreBare metas → (head : ℕ) → resolved metas head ≡ metas head
+resolved_as_is metas bare head = found_as_is metas head (metas head) (bare head)
+
+resolved_bare : (metas : Metas) → AreBare metas → AreBare (resolved metas)
+resolved_bare metas bare head m is = bare head m (sym (resolved_as_is metas bare head) ∙ is)
+
+bare_are_named : (metas : Metas) → AreBare metas → AreNamed metas
+bare_are_named metas bare head m is = rw (bare head m is).1 refl
+
+new_bare : (named : Option StoreName) → AreBare (new_metas named)
+new_bare None head m is = absurd (cc is)
+new_bare (Some named) zero m is =
+    let same : super_meta named ≡ m = cc is in
+    subst (λ (n : Meta). (n.map ≡ []) × (n.internal ≡ [])) same (refl, refl)
+new_bare (Some named) (suc head) m is = absurd (cc is)
+
+-- ---- the super block
+
+-- the number of the device's pages isn't read from the page
+given_pages : (page : List ℕ) (pages : ℕ) → (super_of page pages).device_pages ≡ pages
+unfolding super_of
+given_pages page pages = refl
+
+first_md : (plan : Layout) (blob : Option (List ℕ))
+    → ((first_super plan blob).md_start ≡ plan.md_start) × ((first_super plan blob).md_len ≡ plan.md_pages)
+unfolding new_super
+first_md plan None = (refl, refl)
+first_md plan (Some page) = (refl, refl)
+
+planned_md : (plan : Layout) (blob : Option (List ℕ)) (sum : ℕ) (s : Super)
+    → s ≡ record (first_super plan blob) { crc = sum } → (s.md_start ≡ plan.md_start) × (s.md_len ≡ plan.md_pages)
+planned_md plan blob sum s is = (
+  ap (λ (t : Super). t.md_start) is ∙ (first_md plan blob).0,
+  ap (λ (t : Super). t.md_len) is ∙ (first_md plan blob).1,
+)
+
+-- there are few metadata pages
+pub few_md_pages : (plan : Layout) → IsPlanned plan → plan.md_pages ≤ 2 ^ 20
+unfolding plan_fault AllPass
+few_md_pages plan is =
+    let faults = cluster_pages_fault plan.cluster_pages ∷ pages_fault plan.md_pages
+    ∷ clusters_fault (plan.device_pages / plan.cluster_pages)
+    ∷ room_fault (layout_of plan.device_pages plan.cluster_pages plan.md_pages) ∷ [] in
+    let pass : AllPass faults = all_pass faults is.no_fault in
+    few_pages plan.md_pages pass.1.0
+
+-- ---- the metadata region
+
+no_head : (place : ℕ) (page : List ℕ) → page ≡ zero_page → is_head place page ≡ false
+no_head place page is = rw is (rw is_sound-zeros refl)
+
+-- a region whose pages are those of a new store
+module _ (r : MdRegion) (image : Image) (some : 0 < r.len) (few : r.len < 2 ^ 32) where
+  abbrev look : Look
+  look = look_of r image
+
+  -- where its pages are zeros there is no blob
+  no_blob : (head : ℕ) → (head < r.len → look head ≡ zero_page) → BlobAt look r head None None
+  no_blob head zeros = inr (record {
+    no_head = elim (cases_Bool (nat_lt head r.len)) [
+      | inl lt ↦ rw lt (no_head head (look head) (zeros (ltb-true head r.len lt)))
+      | inr high ↦ rw high refl
+    ];
+    no_meta = refl;
+    no_chain = refl;
+  })
+
+  -- at the first page there is the super blob
+  super_blob_at : (s : Super) → region_of s ≡ r → (named : StoreName) → IsReadable named
+      → look 0 ≡ super_blob_page named
+      → BlobAt look r 0 (Some (super_meta named)) (Some (0 ∷ []))
+  super_blob_at s is named readable here = inl (record {
+    meta = super_meta named;
+    pages = 0 ∷ [];
+    says = record {
+      items = super_items named;
+      chain = readable.chain look r.len some few here;
+      meta_is = sym (says_super_meta named readable.is_name);
+      faultless = faultless_at s is named readable.is_name;
+    };
+    meta_is = refl;
+    pages_are = refl;
+  })
+    where
+      faultless_at : (s : Super) → region_of s ≡ r → (named : StoreName) → IsName named.name
+          → meta_fault r.fixed r.clusters (super_meta named) ≡ None
+      faultless_at s is named is_name =
+          subst (λ (x : MdRegion). meta_fault x.fixed x.clusters (super_meta named) ≡ None) is
+          (new_steady s 0 (store_xattrs named) true 0
+          (subst (λ (x : MdRegion). 0 < x.len) (sym is) some)
+          (two_written (record { cluster_pages = 1; md_len = 1; super_blob = None }) (λ head. None) named.name
+          (Some named.uuid) is_name) (omega arith) (inr refl)).stored.faultless
+
+  -- the region says the super blob alone, or nothing
+  says_new : (s : Super) → region_of s ≡ r → (named : Option StoreName) → AreReadable named
+      → ((k : ℕ) → k < r.len → look k ≡ md_page (page_of named) k)
+      → Says r (new_metas named) (new_chains named) image
+  says_new s is None readable pages head = no_blob head (pages head)
+  says_new s is (Some named) readable pages zero = super_blob_at s is named readable (pages 0 some)
+  says_new s is (Some named) readable pages (suc head) = no_blob (suc head) (pages (suc head))
+
+-- ---- the store
+
+module _ (plan : Layout) (named : Option StoreName) (image : Image) (some : 0 < plan.md_pages)
+    (few : plan.md_pages ≤ 2 ^ 20) (readable : AreReadable named) (new : IsNewStore plan (page_of named) image)
+    (read : IsReadAsPlanned plan (page_of named)) where
+  abbrev sup : Super
+  sup = super_of (image 0) plan.device_pages
+
+  sup_is : sup ≡ record (first_super plan (page_of named)) { crc = read.sum }
+  sup_is = ap (λ (page : List ℕ). super_of page plan.device_pages) new.super ∙ read.same
+
+  md_is : (sup.md_start ≡ plan.md_start) × (sup.md_len ≡ plan.md_pages)
+  md_is = planned_md plan (page_of named) read.sum sup sup_is
+
+  says : Says (region_of sup) (new_metas named) (new_chains named) image
+  says =
+      says_new (region_of sup) image (omega (arith, some, md_is.1)) (omega (arith, few, md_is.1)) sup refl named
+      readable
+      (λ k lt. ap (λ (n : ℕ). image (n + k)) md_is.0 ∙ new.regions.md k (omega (arith, lt, md_is.1)))
+
+  -- the number of pages that the super block tells is that of the device
+  same_pages : sup.device_pages ≡ plan.device_pages
+  same_pages = given_pages (image 0) plan.device_pages
+
+  faultless : super_fault (image 0) sup.device_pages ≡ None
+  faultless =
+      subst (λ (n : ℕ). super_fault (image 0) n ≡ None) (sym same_pages)
+      (ap (λ (page : List ℕ). super_fault page plan.device_pages) new.super ∙ read.no_fault)
+
+  read_again : sup ≡ super_of (image 0) sup.device_pages
+  read_again = ap (super_of (image 0)) (sym same_pages)
+
+  bare : AreBare (new_metas named)
+  bare = new_bare named
+
+  -- a new store is accepted, and holds the super blob alone, if it has one
+  loads_as_planned : StoresAreAccepted → ScanLaws → LoadsAsPlanned plan named image
+  loads_as_planned accepts scans = record {
+    sum = read.sum;
+    super_is = sup_is;
+    accepted = subst (λ (n : ℕ). IsAccepted n image) same_pages
+        (accepts sup image (new_metas named) (new_chains named) faultless read_again says
+        (few_slots (new_metas named) bare sup.md_len)
+        (bare_are_named (resolved (new_metas named)) (resolved_bare (new_metas named) bare))
+        (bare_is_lawful (resolved (new_metas named)) (resolved_bare (new_metas named) bare) sup.md_len));
+    holds = record {
+      store = record { faultless = faultless; same = subst (IsSameStore sup) read_again refl };
+      says = says;
+    };
+    no_other = λ metas chains other head.
+        scans.one (look_of (region_of sup) image) (region_of sup) metas (new_metas named) chains (new_chains named)
+        other says head;
+  }
+
+-- the same by the page of its super blob
+pub loads : (plan : Layout) (named : Option StoreName) (image : Image) (blob : Option (List ℕ)) → blob ≡ page_of named
+    → 0 < plan.md_pages → plan.md_pages ≤ 2 ^ 20 → AreReadable named → StoresAreAccepted → ScanLaws
+    → IsNewStore plan blob image → IsReadAsPlanned plan blob → LoadsAsPlanned plan named image
+loads plan named image blob is some few readable accepts scans =
+    subst
+    (λ (b : Option (List ℕ)). IsNewStore plan b image → IsReadAsPlanned plan b → LoadsAsPlanned plan named image)
+    (sym is)
+    (λ new read. loads_as_planned plan named image some few readable new read accepts scans)
