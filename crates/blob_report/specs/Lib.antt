@@ -2,3 +2,4 @@ pub mod Pieces
 pub mod PageText
 pub mod Text
 pub mod StoreText
+pub mod Summary
