@@ -68,7 +68,7 @@ all_served script all channel = elim (cases_lt channel (length script)) [
   | inr past ↦ subst (All IsServed) (sym (get_or_past script channel [] past)) (All-nil IsServed)
 ]
 
-served_pushed : (channel : ℕ) (commands : List Command) (script : List (List Command)) → All (All IsServed) script
+pub served_pushed : (channel : ℕ) (commands : List Command) (script : List (List Command)) → All (All IsServed) script
     → All IsServed commands → All (All IsServed) (fold (with_command channel) script commands)
 served_pushed channel [] script all on = all
 served_pushed channel (command ∷ commands) script all on =

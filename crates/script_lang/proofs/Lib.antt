@@ -18,3 +18,4 @@ pub mod SpacedWords
 pub mod GeneratedSays
 pub mod EndedLines
 pub mod GeneratedScripts
+mod GeneratedServed

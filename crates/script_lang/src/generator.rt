@@ -1,11 +1,14 @@
 //! Generated scripts: their draws, and their lines one by one.
 
 ghost use Rattle.std.specs.Prelude.{◌≡◌, ◌+◌, ◌-◌, ◌*◌, ◌/◌, ◌%◌, ◌<◌, ◌≤◌, ◌^◌, ◌++◌, codes, length, Some, OnOk, IfOk};
+ghost use Rattle.std.specs.Prelude.{ℕ, [], slice_index_or};
+ghost use Rattle.std.specs.List.{All};
 ghost use Rattle.std.specs.Option.{option_map};
 ghost use Rattle.volume_model.specs.Scripts.{commands_in};
 ghost use Rattle.script_lang.specs.declared.grammar.Grammar.TheVariants.{Whole};
 ghost use Rattle.script_lang.specs.Generated as said;
 ghost use Rattle.script_lang.specs.Generator as draws;
+ghost use Rattle.script_lang.specs.Served.{IsServed};
 ghost use Rattle.script_lang.specs.Script.{lines, reads_as, requests_in, script_of, with_request};
 
 use crate::generated::{GeneratedCommand, GeneratedLine};
@@ -202,7 +205,7 @@ pub fn generate_text(alloc: Global, number: u32, size: u32) -> Result<Vec<u8>, M
 }
 
 /// The script of a number: the commands of the lines of its text. Each of these lines is of the whole grammar, so
-/// `read_script` reads this script in the text, unless the text is too long for it.
+/// `read_script` reads this script in the text, unless the text is too long for it. The program serves all of them.
 pub fn generate(alloc: Global, number: u32, size: u32) -> Result<Script, Memory>
     requires number { number < 2 ^ 31 }
     requires size { size ≤ 65000 }
@@ -211,6 +214,7 @@ pub fn generate(alloc: Global, number: u32, size: u32) -> Result<Script, Memory>
         (λ script. option_map script_of (requests_in Whole (lines (said.generated number size))) ≡ Some script) }
     ensures read { IfOk result (λ script. length (said.generated number size) ≤ 2 ^ 20
         → reads_as Whole (said.generated number size) ≡ Some script) }
+    ensures all_served { IfOk result (λ script. (channel : ℕ) → All IsServed (slice_index_or script channel [])) }
 {
     let mut script = Script::new(alloc);
     let mut generator = Generator::new(number);
