@@ -125,8 +125,8 @@ module _ (words : List Text) where
       let rows = rows_after (leaf generate_line).rules [] words in
       let number = is_given (codes "NUMBER") rows in
       let size = is_given (codes "SIZE") rows in
-      let level = full-level (leaf generate_line) (inl (refl, refl), (inl (refl, refl), (inr refl, tt))) [] words false []
-      none in
+      let level = full-level (leaf generate_line)
+      (inl (refl, refl), (inl (refl, refl), (inr refl, tt))) [] words false [] none in
       let lacks = none_lacks (not number || (not size || false)) level.1 in
       is_some-both generate (first_of (codes "NUMBER") rows) (first_of (codes "SIZE") rows)
       (given-first (codes "NUMBER") rows level.0 (given_from number (not size || false) lacks))
