@@ -10,7 +10,7 @@ mod source;
 
 pub use list_sink::ListSink;
 pub use list_source::ListSource;
-pub use printing::{PrintFault, offer, print};
+pub use printing::{PrintFault, offer, print, print_summary};
 pub use reading::{ReadFault, read_text};
 pub use sink::{Sink, SinkFault};
 pub use source::{Source, SourceFault};

@@ -1,13 +1,14 @@
-//! Printing a log, or another text.
+//! Printing a log or what sums it up, or another text.
 
 ghost use Rattle.std.specs.Prelude.{◌≡◌, ◌≤◌, ◌++◌, IsTrue, OnOk, Err};
 ghost use Rattle.page_disk.specs.Disk.{Rose};
 ghost use Rattle.streams.specs.Streams.{Caused};
+ghost use Rattle.blob_report.specs.Summary.{summary_text};
 ghost use Rattle.blob_report.specs.Text.{log_text};
 ghost use Rattle.streams.specs.Printing.{IsPartOf};
 
 use crate::sink::{Sink, SinkFault};
-use blob_report::render_entry;
+use blob_report::{render_entry, render_summary};
 use out_of_memory::Memory;
 use std::alloc::Global;
 use thiserror::Error;
@@ -72,5 +73,22 @@ pub fn print<K: Sink>(alloc: Global, entries: &[Entry], sink: &mut K) -> Result<
         render_entry(entry, &mut text)?;
         offer(text.as_slice(), sink)?;
     }
+    Ok(())
+}
+
+/// Prints the line that sums up the entries.
+pub fn print_summary<K: Sink>(
+    alloc: Global,
+    entries: &[Entry],
+    sink: &mut K,
+) -> Result<(), PrintFault>
+    ensures whole { IsTrue K.tells → OnOk result (K.written sink.new ≡ K.written sink.old ++ summary_text entries.now) }
+    ensures part { IsTrue K.tells → IsPartOf (K.written sink.old) (K.written sink.new) (summary_text entries.now) }
+    ensures later { K.faults sink.old ≤ K.faults sink.new }
+    ensures cause { result ≡ Err PrintFault.Sink → Rose (K.faults sink.old) (K.faults sink.new) }
+{
+    let mut line = Vec::new(alloc);
+    render_summary(alloc, entries, &mut line)?;
+    offer(line.as_slice(), sink)?;
     Ok(())
 }

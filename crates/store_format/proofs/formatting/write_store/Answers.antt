@@ -6,5 +6,6 @@ pub returns-clause-loads : goal.returns-clause-loads
 returns-clause-loads g c = λ told.
     let plan = c.args.layout.now in
     loads plan (option_copied c.args.named) (g.D.PageDisk.now c.write_new.new.disk) c.in_ok-super_blob.super_blob
-    c.in_ok-super_blob.ensures.page c.requires.some_page (few_md_pages plan c.requires.planned) c.in_ok-super_blob.ensures.readable
+    c.in_ok-super_blob.ensures.page
+    c.requires.some_page (few_md_pages plan c.requires.planned) c.in_ok-super_blob.ensures.readable
     c.stores_are_accepted.ensures c.scans.ensures (c.in_ok-write_new.ensures.store told) c.in_ok-write_new.ensures.read
