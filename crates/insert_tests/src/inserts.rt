@@ -16,7 +16,7 @@ fn thin(alloc: Global) -> Result<MemDisk, Fail> {
     image(alloc, (64, 4), &[(0, 0, 0, LAST, &[THIN, NAMED, TWO])])
 }
 
-const ORDERS: [Order; 10] = [
+const ORDERS: [Order; 11] = [
     // The slot is filled by the other channel between the claim and the insert.
     Order {
         script: b"0 write v 0 1 10\n1 write v 1 1 11\n2 read v 0 3\n",
@@ -203,6 +203,26 @@ const ORDERS: [Order; 10] = [
         log: b"1 0 ok\n1 1 ok\n0 0 ok\n2 0 page fill 000000000000000a\n",
         used: 3,
         chains: &[(0, &[0])],
+    },
+    // The blob is gone.
+    Order {
+        script: b"0 write v 0 1 10\n1 delete v\n",
+        nexts: &[
+            (Post(0), "posted"),
+            (Clear(13), "clear"),
+            (Turn(1), "posted"),
+            (Begin(1), "began"),
+            (Finish, "done"),
+            (Turn(1), "settled"),
+            (Clear(13), "clear"),
+            (Begin(0), "decided"),
+            (Clear(14), "clear"),
+            (Turn(0), "lost"),
+            (Turn(0), "logged"),
+        ],
+        log: b"1 0 ok\n0 0 no volume\n",
+        used: 2,
+        chains: &[],
     },
     // The copies are taken after a resize: the first one is lost, whether the slot is there or not.
     Order {
