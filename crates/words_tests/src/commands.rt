@@ -5,7 +5,7 @@ use command_words::{read_words, refusal};
 use std::test::Fail;
 
 /// Words behind the program's name, and the command that they spell.
-const CASES: [(&str, &str); 13] = [
+const CASES: [(&str, &str); 16] = [
     (
         "run store.img",
         "Run { image: \"store.img\", schedule: None }",
@@ -25,35 +25,55 @@ const CASES: [(&str, &str); 13] = [
     ),
     (
         "format store.img",
-        "Format { image: \"store.img\", cluster: None, md_pages: None }",
+        "Format { image: \"store.img\", \
+            options: FormatOptions { cluster: None, md_pages: None, lvol: None, uuid: None } }",
     ),
     (
         "format store.img --cluster 16384",
-        "Format { image: \"store.img\", cluster: Some(\"16384\"), md_pages: None }",
+        "Format { image: \"store.img\", \
+            options: FormatOptions { cluster: Some(\"16384\"), md_pages: None, lvol: None, uuid: None } }",
     ),
     (
         "format store.img --md-pages 16",
-        "Format { image: \"store.img\", cluster: None, md_pages: Some(\"16\") }",
+        "Format { image: \"store.img\", \
+            options: FormatOptions { cluster: None, md_pages: Some(\"16\"), lvol: None, uuid: None } }",
     ),
     (
         "format store.img --cluster 16384 --md-pages 16",
-        "Format { image: \"store.img\", cluster: Some(\"16384\"), md_pages: Some(\"16\") }",
+        "Format { image: \"store.img\", \
+            options: FormatOptions { cluster: Some(\"16384\"), md_pages: Some(\"16\"), lvol: None, uuid: None } }",
     ),
     (
         "format store.img --md-pages 16 --cluster 16384",
-        "Format { image: \"store.img\", cluster: Some(\"16384\"), md_pages: Some(\"16\") }",
+        "Format { image: \"store.img\", \
+            options: FormatOptions { cluster: Some(\"16384\"), md_pages: Some(\"16\"), lvol: None, uuid: None } }",
     ),
     (
         "format --md-pages 16 store.img --cluster 16384",
-        "Format { image: \"store.img\", cluster: Some(\"16384\"), md_pages: Some(\"16\") }",
+        "Format { image: \"store.img\", \
+            options: FormatOptions { cluster: Some(\"16384\"), md_pages: Some(\"16\"), lvol: None, uuid: None } }",
+    ),
+    (
+        "format store.img --lvol store0 --uuid x",
+        "Format { image: \"store.img\", \
+            options: FormatOptions { cluster: None, md_pages: None, lvol: Some(\"store0\"), uuid: Some(\"x\") } }",
+    ),
+    (
+        "format --uuid x store.img",
+        "Format { image: \"store.img\", \
+            options: FormatOptions { cluster: None, md_pages: None, lvol: None, uuid: Some(\"x\") } }",
     ),
     ("list store.img", "List { image: \"store.img\" }"),
     ("list run", "List { image: \"run\" }"),
     ("generate 1 3", "Generate { number: \"1\", size: \"3\" }"),
+    (
+        "exercise store.img 1 3",
+        "Exercise { image: \"store.img\", number: \"1\", size: \"3\" }",
+    ),
 ];
 
 /// Words that spell no command.
-const NO_COMMANDS: [&str; 26] = [
+const NO_COMMANDS: [&str; 28] = [
     "",
     "help",
     "help run",
@@ -80,6 +100,8 @@ const NO_COMMANDS: [&str; 26] = [
     "generate",
     "generate 1",
     "generate 1 -3",
+    "exercise 1 3",
+    "exercise store.img 1 3 4",
 ];
 
 #[test]

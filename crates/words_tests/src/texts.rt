@@ -14,6 +14,7 @@ Commands:
   format    Writes an empty store, and prints how much space it has
   list      Prints a store and its volumes, and writes nothing
   generate  Prints a script to try a store with, always the same for the same two numbers
+  exercise  Runs a script of generate on a store, and prints one line that sums up its answers
   help      Print this message or the help of the given subcommand(s)
 
 Options:
@@ -50,11 +51,19 @@ Arguments:
   <IMAGE>  The file that is to have the store, which gets the size of the file
 
 Options:
-      --cluster <BYTES>  Bytes of a cluster: 4096 or a multiple, up to 4294963200 [default: 1048576]
+      --cluster <BYTES>  Bytes of a cluster: 4096 or a multiple, up to 4294963200 [default: 1048576,
+                         or 4194304 with --lvol]
       --md-pages <N>     Metadata pages of 4096 bytes: 1 to 1048576 [default: as many as clusters]
+      --lvol <NAME>      Makes a logical volume store of this name: 1 to 63 printable characters
+                         without a space, the first neither @ nor #; --uuid has to be there too
+                         [default: no logical volume store]
+      --uuid <UUID>      The uuid of the logical volume store, 32 hexadecimal digits with or
+                         without hyphens; --lvol has to be there too
   -h, --help             Print help
 
-Example: blobtool format store.img --cluster 16384 --md-pages 16
+Examples:
+  blobtool format store.img --cluster 16384 --md-pages 16
+  blobtool format store.img --lvol store0 --uuid 5f2b4e66-0d0c-4c1e-9a55-3f0a7c2d9b10
 ";
 
 const LIST: &str = "Prints a store and its volumes, and writes nothing
@@ -85,6 +94,22 @@ Options:
 Example: blobtool generate 1 100 > script.txt
 ";
 
+const EXERCISE: &str =
+    "Runs a script of generate on a store, and prints one line that sums up its answers
+
+Usage: blobtool exercise <IMAGE> <NUMBER> <SIZE>
+
+Arguments:
+  <IMAGE>   The file that has the store
+  <NUMBER>  Which script: 0 to 2147483647
+  <SIZE>    Lines that are drawn, behind the four that make volumes: 0 to 65000
+
+Options:
+  -h, --help  Print help
+
+Example: blobtool exercise store.img 1 100
+";
+
 const VERSION: &str = "blobtool 0.1.0 (SPDK Blobstore, format version 3)
 ";
 
@@ -106,7 +131,7 @@ For more information, try '--help'.
 ";
 
 /// Words behind the program's name, and all that is said of them.
-const CASES: [(&str, &str); 12] = [
+const CASES: [(&str, &str); 13] = [
     ("", HELP),
     ("--help", HELP),
     ("-h", HELP),
@@ -116,6 +141,7 @@ const CASES: [(&str, &str); 12] = [
     ("format store.img --help", FORMAT),
     ("list -h", LIST),
     ("generate --help", GENERATE),
+    ("exercise -h", EXERCISE),
     ("--version", VERSION),
     ("run", NO_IMAGE),
     ("runs store.img", NO_COMMAND),
