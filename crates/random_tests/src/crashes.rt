@@ -1,9 +1,8 @@
 //! Random scripts, and power that fails at each call of the device.
 
+use crate::families::family_at;
 use page_disk::{FaultDisk, MemDisk, PageDisk};
-use random_worlds::{
-    Play, State, expect_left, new_store, number_at, number_in_family, play_of, size_of,
-};
+use random_worlds::{Play, State, expect_left, new_store, number_at, play_of, size_of};
 use std::alloc::Global;
 use std::test::Fail;
 use test_runs::{Ran, run};
@@ -95,12 +94,11 @@ fn expect_all(alloc: Global, places: (u64, u64)) -> Result<(), Fail> {
     Ok(())
 }
 
-/// Stops each of the scripts with these places in which families of four volumes grow, on the larger stores.
+/// Stops one in five of the scripts with these places in which families grow.
 fn expect_families(alloc: Global, places: (u64, u64)) -> Result<(), Fail> {
     let (from, end) = places;
-    for place in from..end {
-        let number = number_in_family(place);
-        let done = play_of(alloc, number, (place % 5).wrapping_add(4), Some(4))?;
+    for place in (from..end).step_by(5) {
+        let (number, done) = family_at(alloc, place)?;
         expect_crashes(alloc, number, &done)?;
     }
     Ok(())
@@ -122,18 +120,53 @@ fn each_crash_of_the_last_six_leaves_what_was_answered(rt: HostRuntime) -> Resul
 }
 
 #[test]
-fn each_crash_of_families_leaves_what_was_answered(rt: HostRuntime) -> Result<(), Fail> {
-    expect_families(rt.alloc(), (40, 50))
+fn each_crash_of_the_first_families_leaves_what_was_answered(rt: HostRuntime) -> Result<(), Fail> {
+    expect_families(rt.alloc(), (0, 50))
 }
 
 #[test]
-fn each_crash_of_ten_other_families_leaves_what_was_answered(rt: HostRuntime) -> Result<(), Fail> {
-    expect_families(rt.alloc(), (50, 60))
+fn each_crash_of_the_second_families_leaves_what_was_answered(rt: HostRuntime) -> Result<(), Fail> {
+    expect_families(rt.alloc(), (50, 100))
 }
 
 #[test]
-fn each_crash_of_the_last_ten_families_leaves_what_was_answered(
+fn each_crash_of_the_third_families_leaves_what_was_answered(rt: HostRuntime) -> Result<(), Fail> {
+    expect_families(rt.alloc(), (100, 150))
+}
+
+#[test]
+fn each_crash_of_the_fourth_families_leaves_what_was_answered(rt: HostRuntime) -> Result<(), Fail> {
+    expect_families(rt.alloc(), (150, 200))
+}
+
+#[test]
+fn each_crash_of_the_fifth_families_leaves_what_was_answered(rt: HostRuntime) -> Result<(), Fail> {
+    expect_families(rt.alloc(), (200, 250))
+}
+
+#[test]
+fn each_crash_of_the_sixth_families_leaves_what_was_answered(rt: HostRuntime) -> Result<(), Fail> {
+    expect_families(rt.alloc(), (250, 300))
+}
+
+#[test]
+fn each_crash_of_the_seventh_families_leaves_what_was_answered(
     rt: HostRuntime,
 ) -> Result<(), Fail> {
-    expect_families(rt.alloc(), (60, 70))
+    expect_families(rt.alloc(), (300, 350))
+}
+
+#[test]
+fn each_crash_of_the_eighth_families_leaves_what_was_answered(rt: HostRuntime) -> Result<(), Fail> {
+    expect_families(rt.alloc(), (350, 400))
+}
+
+#[test]
+fn each_crash_of_the_ninth_families_leaves_what_was_answered(rt: HostRuntime) -> Result<(), Fail> {
+    expect_families(rt.alloc(), (400, 450))
+}
+
+#[test]
+fn each_crash_of_the_last_families_leaves_what_was_answered(rt: HostRuntime) -> Result<(), Fail> {
+    expect_families(rt.alloc(), (450, 500))
 }

@@ -1,6 +1,7 @@
 //! Random scripts that are run whole.
 
 use crate::endings::Endings;
+use crate::families::family_at;
 use page_disk::MemDisk;
 use random_worlds::{
     Play, expect_volumes, new_stores, number_in_family, play_of, size_of, store_for,
@@ -62,6 +63,30 @@ fn each_answer_is_that_of_plain_volumes(rt: HostRuntime) -> Result<(), Fail> {
 #[test]
 fn each_answer_of_other_scripts_is_that_of_plain_volumes(rt: HostRuntime) -> Result<(), Fail> {
     expect_all(rt.alloc(), (100, 200))
+}
+
+/// Runs the scripts of these places in which families grow.
+fn expect_families(alloc: Global, places: (u64, u64)) -> Result<(), Fail> {
+    let (from, end) = places;
+    let stores = new_stores(alloc)?;
+    let mut endings = Endings::new();
+    for place in from..end {
+        let (number, done) = family_at(alloc, place)?;
+        expect_whole(alloc, number, &done, &stores, &mut endings)?;
+    }
+    Ok(())
+}
+
+#[test]
+fn each_answer_in_small_families_is_that_of_plain_volumes(rt: HostRuntime) -> Result<(), Fail> {
+    expect_families(rt.alloc(), (0, 250))
+}
+
+#[test]
+fn each_answer_in_other_small_families_is_that_of_plain_volumes(
+    rt: HostRuntime,
+) -> Result<(), Fail> {
+    expect_families(rt.alloc(), (250, 500))
 }
 
 /// On the larger stores long scripts that make deep and wide families.
