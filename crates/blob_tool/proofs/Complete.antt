@@ -15,12 +15,13 @@ use Rattle.blob_tool.specs.Outcome.{NothingFails, Started}
 use Rattle.blob_tool.specs.Repairing.{EndedInRepair}
 use Rattle.blob_tool.specs.Runs.{Ended, EndedFrom}
 use Rattle.blob_tool.specs.Statuses.{IsRunDone}
+use Rattle.blob_tool.specs.declared.run_script.RunScript.{RunScript}
 use Rattle.blob_tool.specs.declared.status.Status.{Status}
 use Rattle.blob_tool.specs.declared.status.Status.TheVariants as status
 
 module _ {S : Type 0} (s : source.Ghosts S) (script script_now : S) {D : Type 0} (d : disk.Ghosts D) {K : Type 0}
-    (k : sink.Ghosts K) (out out_now : K) (before back : D)
-    (fails : NothingFails s script script_now d k out out_now before back) (first : StoreView D)
+    (k : sink.Ghosts K) (out out_now : K) (before back : D) (from : RunScript)
+    (fails : NothingFails s script script_now d k out out_now before back from) (first : StoreView D)
     (counts : d.write_faults first.disk ≡ d.write_faults before) where
   -- no write or flush failed since the store was opened
   no_fault : Rose (d.write_faults first.disk) (d.write_faults back) → ⊥
@@ -28,7 +29,7 @@ module _ {S : Type 0} (s : source.Ghosts S) (script script_now : S) {D : Type 0}
 
   -- a run behind the repairs
   pub run_done : (commands : List (List Command)) (schedule : List Actor) (st : Status)
-      → Ended d commands schedule k out out_now back first st → IsRunDone st
+      → Ended d commands schedule from k out out_now back first st → IsRunDone st
   run_done commands schedule status.Good ended = tt
   run_done commands schedule status.Memory ended = tt
   run_done commands schedule status.OutWrite ended = absurd (fails.sink ended.2)
@@ -44,7 +45,7 @@ module _ {S : Type 0} (s : source.Ghosts S) (script script_now : S) {D : Type 0}
 
   -- the repairs
   pub repairs_done : (commands : List (List Command))
-      → Started s script script_now d k out out_now before back commands first → (st : Status)
+      → Started s script script_now d k out out_now before back from commands first → (st : Status)
       → EndedInRepair d k out out_now back first st → IsRunDone st
   repairs_done commands started status.Memory ended = tt
   repairs_done commands started (status.Device at) ended = absurd (no_fault ended.3)
@@ -59,21 +60,23 @@ module _ {S : Type 0} (s : source.Ghosts S) (script script_now : S) {D : Type 0}
 
 -- whatever a run from a loaded store came to
 pub done_from : {S : Type 0} (s : source.Ghosts S) (script script_now : S) {D : Type 0} (d : disk.Ghosts D)
-    {K : Type 0} (k : sink.Ghosts K) (out out_now : K) (before back : D)
-    → NothingFails s script script_now d k out out_now before back → (loaded : Loaded D) → OnlyRead d before loaded.disk
+    {K : Type 0} (k : sink.Ghosts K) (out out_now : K) (before back : D) (from : RunScript)
+    → NothingFails s script script_now d k out out_now before back from → (loaded : Loaded D)
+    → OnlyRead d before loaded.disk
     → (commands : List (List Command)) (schedule : List Actor) (st : Status)
     → ((first : StoreView D) → IsOpened d loaded commands first
-    → Started s script script_now d k out out_now before back commands first)
-    → EndedFrom d commands schedule k out out_now back loaded st → IsRunDone st
-done_from s script script_now {D} d k out out_now before back fails loaded same commands schedule st starts (inl x) =
+    → Started s script script_now d k out out_now before back from commands first)
+    → EndedFrom d commands schedule from k out out_now back loaded st → IsRunDone st
+done_from s script script_now {D} d k out out_now before back from fails loaded same commands schedule st starts
+    (inl x) =
     let disk : x.0.disk ≡ loaded.disk = ap (λ (p : StoreView D). p.disk) x.1.at in
     let counts : d.write_faults x.0.disk ≡ d.write_faults before = ap d.write_faults disk ∙ same.write_faults in
     elim x.2 [
       | inl ended ↦
-          run_done s script script_now d k out out_now before back fails x.0 counts commands schedule st ended
+          run_done s script script_now d k out out_now before back from fails x.0 counts commands schedule st ended
       | inr ended ↦
-          repairs_done s script script_now d k out out_now before back fails x.0 counts commands (starts x.0 x.1) st
-          ended
+          repairs_done s script script_now d k out out_now before back from fails x.0 counts commands
+          (starts x.0 x.1) st ended
     ]
-done_from s script script_now d k out out_now before back fails loaded same commands schedule st starts (inr x) =
+done_from s script script_now d k out out_now before back from fails loaded same commands schedule st starts (inr x) =
     subst IsRunDone (sym x.0) tt

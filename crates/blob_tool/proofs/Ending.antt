@@ -34,7 +34,6 @@ use Rattle.unclean_load.specs.declared.fault.LoadFault.{LoadFault}
 use Rattle.unclean_load.specs.declared.fault.LoadFault.TheVariants as loading
 use Rattle.unclean_load.specs.Accepted.{IsAccepted, IsFaultOf, IsImageFault}
 use Rattle.unclean_load.specs.Reading.{IsFaultCounted}
-use Rattle.blob_report.specs.Text.{log_text}
 use Rattle.streams.specs.declared.printing.PrintFault.{PrintFault}
 use Rattle.streams.specs.declared.printing.PrintFault.TheVariants as printing
 use Rattle.blob_tool.specs.Statuses.{of_loading, of_run}
@@ -45,19 +44,21 @@ use Rattle.store_model.specs.StoreState.{shown}
 use Rattle.script_lang.specs.declared.schedule.Actor.{Actor}
 use Rattle.blob_tool.specs.Outcome.{EndedRepairing, HasScript, Outcome, RanTo}
 use Rattle.blob_tool.specs.Untouched.{NothingWritten}
-use Rattle.blob_tool.specs.Outcome.{ReadsScript, Started}
+use Rattle.blob_tool.specs.Outcome.{HasCommands, Started}
+use Rattle.blob_tool.specs.RunScripts.{printed_text}
+use Rattle.blob_tool.specs.declared.run_script.RunScript.{RunScript}
 
-module _ {D : Type 0} (d : disk.Ghosts D) (script : List (List Command)) (schedule : List Actor) {K : Type 0}
-    (k : sink.Ghosts K) (out out_now : K) (back : D) (first : StoreView D) where
+module _ {D : Type 0} (d : disk.Ghosts D) (script : List (List Command)) (schedule : List Actor) (from : RunScript)
+    {K : Type 0} (k : sink.Ghosts K) (out out_now : K) (back : D) (first : StoreView D) where
   -- how a run ended, by where it stopped or was closed and how much was printed
-  pub ends : (p : Played d script schedule k out out_now back first) (stopped ended : Option ℕ)
+  pub ends : (p : Played d script schedule from k out out_now back first) (stopped ended : Option ℕ)
       (printed : Result (Unit {0}) PrintFault) → p.last.stopped ≡ stopped
       → Closes d p.last.disk back (length p.last.log) stopped ended
       → ((IsTrue d.tells → Only (d.now back) (d.images back)) → p.last.stopped ≡ None → HasOneImage d first.disk
       → IsLasting d first.super (shown (state_of d first)) p.last back)
-      → (IsTrue k.tells → OnOk printed (k.written out_now ≡ k.written out ++ log_text p.last.log))
+      → (IsTrue k.tells → OnOk printed (k.written out_now ≡ k.written out ++ printed_text from p.last.log))
       → (printed ≡ Err printing.Sink → Rose (k.faults out) (k.faults out_now))
-      → Ended d script schedule k out out_now back first (of_run ended printed)
+      → Ended d script schedule from k out out_now back first (of_run ended printed)
   ends p stopped ended (Err printing.Memory) is closes lasts whole rose = p
   ends p None None (Err printing.Sink) is closes lasts whole rose = (p, (is, lasts closes.lasting is), rose refl)
   ends p None None (Ok done) is closes lasts whole rose = (p, (is, lasts closes.lasting is), whole)
@@ -71,10 +72,10 @@ module _ {D : Type 0} (d : disk.Ghosts D) (script : List (List Command)) (schedu
       (p, inl (is ∙ sym closes.0, closes.1), inl whole)
 
 module _ {S : Type 0} (s : source.Ghosts S) (script script_now : S) {D : Type 0} (d : disk.Ghosts D) {K : Type 0}
-    (k : sink.Ghosts K) (out out_now : K) (before back : D) (schedule : List Actor) where
+    (k : sink.Ghosts K) (out out_now : K) (before back : D) (from : RunScript) (schedule : List Actor) where
   -- what a run came to is the outcome of the call
-  ran_to : (st : Status) → RanTo s script script_now d k out out_now before back schedule st
-      → Outcome s script script_now d k out out_now before back schedule st
+  ran_to : (st : Status) → RanTo s script script_now d k out out_now before back from schedule st
+      → Outcome s script script_now d k out out_now before back from schedule st
   ran_to status.Good ran = ran
   ran_to status.OutWrite ran = ran
   ran_to (status.Device at) ran = inl ran
@@ -85,8 +86,8 @@ module _ {S : Type 0} (s : source.Ghosts S) (script script_now : S) {D : Type 0}
   ran_to status.ScriptRead ran = absurd ran.ended
 
   -- and so is what repairs came to
-  in_repair : (st : Status) → EndedRepairing s script script_now d k out out_now before back st
-      → Outcome s script script_now d k out out_now before back schedule st
+  in_repair : (st : Status) → EndedRepairing s script script_now d k out out_now before back from st
+      → Outcome s script script_now d k out out_now before back from schedule st
   in_repair (status.Device at) x = inr (inr x)
   in_repair status.Memory x = inr (inr x)
   in_repair (status.Image (loading.NoRoom head has wants)) x = x
@@ -99,29 +100,29 @@ module _ {S : Type 0} (s : source.Ghosts S) (script script_now : S) {D : Type 0}
 
   -- what a run from the loaded store came to is the outcome of the call
   pub of_a_run : (commands : List (List Command)) (loaded : Loaded D) (st : Status)
-      → ReadsScript s script script_now commands
+      → HasCommands s script script_now from commands
       → ((first : StoreView D) → IsOpened d loaded commands first → IsLoaded d commands before loaded first)
       → OnlyRead d before loaded.disk
-      → EndedFrom d commands schedule k out out_now back loaded st → Outcome s script script_now d k out out_now
-      before back schedule st
+      → EndedFrom d commands schedule from k out out_now back loaded st → Outcome s script script_now d k out out_now
+      before back from schedule st
   of_a_run commands loaded st reads opens same (inl x) =
-      let started : Started s script script_now d k out out_now before back commands x.0 =
+      let started : Started s script script_now d k out out_now before back from commands x.0 =
       record { script_is = reads; loaded = loaded; as_found = opens x.0 x.1 } in
       elim x.2 [
         | inl ended ↦ ran_to st (record { commands = commands; first = x.0; started = started; ended = ended })
         | inr ended ↦ in_repair st (record { commands = commands; first = x.0; started = started; ended = ended })
       ]
   of_a_run commands loaded st reads opens same (inr x) =
-      subst (Outcome s script script_now d k out out_now before back schedule) (sym x.0)
+      subst (Outcome s script script_now d k out out_now before back from schedule) (sym x.0)
       (inr (inl (record { quiet = x.1; device = subst (OnlyRead d before) (sym x.2) same })))
 
   -- a store that wasn't loaded
   pub of_a_fault : (fault : LoadFault) → NothingWritten d before out out_now back
-      → HasScript s script script_now d k out out_now before back
+      → HasScript s script script_now d k out out_now before back from
       → IsFaultCounted (d.read_faults before) (d.read_faults back) fault
       → (IsTrue d.tells → IsFaultOf (d.pages before) (d.now before) fault)
       → (IsTrue d.tells → IsImageFault fault → IsAccepted (d.pages before) (d.now before) → ⊥)
-      → Outcome s script script_now d k out out_now before back schedule (of_loading fault)
+      → Outcome s script script_now d k out out_now before back from schedule (of_loading fault)
   of_a_fault loading.ReadFault stays script counted cause refused = inr (inl (stays, script, refl, counted))
   of_a_fault loading.Memory stays script counted cause refused = inr (inl stays)
   of_a_fault (loading.Super why) stays script counted cause refused =

@@ -1,13 +1,15 @@
 -- What the words ask for. Whatever it is, they ask for nothing else.
-use Rattle.std.specs.Prelude.{◌≡◌, ◌<◌, ◌≤◌, ◌^◌, List, Option, Some, None, true, false, String}
+use Rattle.std.specs.Prelude.{◌≡◌, ◌<◌, List, Option, Some, None, true, false, IfSome, String}
 use Rattle.std.specs.declared.alloc.Global.{Global}
 use Rattle.script_lang.specs.declared.schedule.Actor.{Actor}
+use Rattle.blob_tool.specs.RunScripts.{CanBeRun, IsWithinLimits}
 use Rattle.blob_tool.specs.RunWords.{AsksToRun, AskForNoRun}
 use Rattle.blob_tool.specs.FormatWords.{format_in}
 use Rattle.blob_tool.specs.GenerateWords.{generate_in}
 use Rattle.blob_tool.specs.ListWords.{asks_to_list}
 use Rattle.blob_tool.specs.declared.format_words.Format.{Format}
 use Rattle.blob_tool.specs.declared.generate_words.GeneratedScript.{GeneratedScript}
+use Rattle.blob_tool.specs.declared.run_script.RunScript.{RunScript}
 use Rattle.blob_tool.specs.declared.task.Task.{Task}
 use Rattle.blob_tool.specs.declared.task.Task.TheVariants as task
 
@@ -19,17 +21,20 @@ pub record AskForNothing (words : List (String Global)) : Type 0 where
   pub no_generate : generate_in words ≡ None
 
 module _ (words : List (String Global)) where
-  -- a run by this schedule, and by no other
-  pub record AskToRun (schedule : List Actor) : Type 0 where
-    pub asked : AsksToRun words schedule
-    pub one : (steps : List Actor) → AsksToRun words steps → steps ≡ schedule
+  -- a run of this script by this schedule, and of no other
+  pub record AskToRun (script : RunScript) (schedule : List Actor) : Type 0 where
+    pub asked : AsksToRun words script schedule
+    pub one : (other : RunScript) (steps : List Actor) → AsksToRun words other steps
+        → (other ≡ script) × (steps ≡ schedule)
+    pub within : CanBeRun script
     pub no_format : format_in words ≡ None
     pub no_list : asks_to_list words ≡ false
     pub no_generate : generate_in words ≡ None
 
-  -- a new store like this
+  -- a new store like this, with at least one metadata page
   pub record AskToFormat (new : Format) : Type 0 where
     pub asked : format_in words ≡ Some new
+    pub some_page : IfSome new.md_pages (λ pages. 0 < pages)
     pub no_run : AskForNoRun words
     pub no_list : asks_to_list words ≡ false
     pub no_generate : generate_in words ≡ None
@@ -44,8 +49,7 @@ module _ (words : List (String Global)) where
   -- this generated script, whose number and size are within their limits
   pub record AskToGenerate (script : GeneratedScript) : Type 0 where
     pub asked : generate_in words ≡ Some script
-    pub number : script.number < 2 ^ 31
-    pub size : script.size ≤ 65000
+    pub within : IsWithinLimits script
     pub no_run : AskForNoRun words
     pub no_format : format_in words ≡ None
     pub no_list : asks_to_list words ≡ false
@@ -53,7 +57,7 @@ module _ (words : List (String Global)) where
   -- what they ask for, if it is anything
   abbrev pub AskFor : Option Task → Type 0
   AskFor None = AskForNothing words
-  AskFor (Some (task.Run schedule)) = AskToRun schedule
+  AskFor (Some (task.Run script schedule)) = AskToRun script schedule
   AskFor (Some (task.Format new)) = AskToFormat new
   AskFor (Some task.List) = AskToList
   AskFor (Some (task.Generate script)) = AskToGenerate script

@@ -1,4 +1,5 @@
 pub mod FormatWords
+pub mod RunScripts
 pub mod Surviving
 pub mod Found
 pub mod Untouched

@@ -17,9 +17,12 @@ use Rattle.unclean_load.specs.declared.fault.LoadFault.{LoadFault}
 use Rattle.unclean_load.specs.declared.fault.LoadFault.TheVariants as fault
 use Rattle.streams.specs.declared.source.Source as source
 use Rattle.streams.specs.declared.sink.Sink as sink
+use Rattle.blob_tool.specs.declared.run_script.RunScript.{RunScript}
+use Rattle.blob_tool.specs.declared.run_script.RunScript.TheVariants.{Generated, Given}
 use Rattle.blob_tool.specs.declared.status.Status.{Status}
 use Rattle.blob_tool.specs.declared.status.Status.TheVariants as status
 use Rattle.blob_tool.specs.Repairing.{EndedInRepair}
+use Rattle.blob_tool.specs.RunScripts.{generated_commands}
 use Rattle.blob_tool.specs.Runs.{Ended, IsLoaded}
 use Rattle.blob_tool.specs.Untouched.{IsRefused, NothingDone, NothingWritten}
 
@@ -48,17 +51,52 @@ module _ {S : Type 0} (s : source.Ghosts S) (script script_now : S) where
     pub is_text : IsText text
     pub reads_as : reads text ≡ Some commands
 
-  -- why a script's commands weren't had
-  abbrev pub HasNoCommands : Status → Type 0
-  HasNoCommands (status.Script line kind) = (HasBadLine line kind ⊎ IsTooLong line)
-  HasNoCommands status.ScriptRead = Rose (s.faults script) (s.faults script_now)
-  HasNoCommands status.Memory = Unit {0}
-  HasNoCommands _ = ⊥
+  -- the commands of the script that is run; for a generated one the source isn't read
+  abbrev pub HasCommands : RunScript → List (List Command) → Type 0
+  HasCommands Given commands = ReadsScript commands
+  HasCommands (Generated drawn) commands = (commands ≡ generated_commands drawn) × (script_now ≡ script)
+
+  -- why the commands of a script that is given weren't had
+  abbrev pub HasNoScript : Status → Type 0
+  HasNoScript (status.Script line kind) = (HasBadLine line kind ⊎ IsTooLong line)
+  HasNoScript status.ScriptRead = Rose (s.faults script) (s.faults script_now)
+  HasNoScript status.Memory = Unit {0}
+  HasNoScript _ = ⊥
+
+  -- why those of the script that is run weren't: of a generated one for want of memory alone
+  abbrev pub HasNoCommands : RunScript → Status → Type 0
+  HasNoCommands Given st = HasNoScript st
+  HasNoCommands (Generated drawn) status.Memory = script_now ≡ script
+  HasNoCommands (Generated drawn) _ = ⊥
+
+  -- the source has a script and nothing else, and doesn't fail
+  pub record SourceHasScript : Type 0 where
+    pub tells : IsTrue s.tells
+    pub commands : List (List Command)
+    pub reads_as : reads (s.left script) ≡ Some commands
+    pub small : length (s.left script) ≤ 2 ^ 20
+    pub quiet : Rose (s.faults script) (s.faults script_now) → ⊥
+
+  -- the script that is run can be had
+  abbrev pub CanBeHad : RunScript → Type 0
+  CanBeHad Given = SourceHasScript
+  CanBeHad (Generated drawn) = Unit {0}
 
   module _ {D : Type 0} (d : disk.Ghosts D) {K : Type 0} (k : sink.Ghosts K) (out out_now : K) (before back : D) where
-    -- the whole text was a script, and the store was loaded and opened with its commands
+    -- the script is none, or can't be read: then the device isn't touched
+    abbrev pub IsBadScript : ℕ → LineKind → Type 0
+    IsBadScript line kind = NothingDone out out_now before back × (HasBadLine line kind ⊎ IsTooLong line)
+
+    -- the source failed, and the device isn't touched
+    abbrev pub IsUnread : Type 0
+    IsUnread = NothingDone out out_now before back × Rose (s.faults script) (s.faults script_now)
+
+  -- a run of this script
+  module _ {D : Type 0} (d : disk.Ghosts D) {K : Type 0} (k : sink.Ghosts K) (out out_now : K) (before back : D)
+      (from : RunScript) where
+    -- the script was had, and the store was loaded and opened with its commands
     pub record Started (commands : List (List Command)) (first : StoreView D) : Type 0 where
-      pub script_is : ReadsScript commands
+      pub script_is : HasCommands from commands
       pub loaded : Loaded D
       pub as_found : IsLoaded d commands before loaded first
 
@@ -67,7 +105,7 @@ module _ {S : Type 0} (s : source.Ghosts S) (script script_now : S) where
       pub commands : List (List Command)
       pub first : StoreView D
       pub started : Started commands first
-      pub ended : Ended d commands schedule k out out_now back first status
+      pub ended : Ended d commands schedule from k out out_now back first status
 
     -- a run that ended with its repairs, and what they came to
     pub record EndedRepairing (status : Status) : Type 0 where
@@ -82,18 +120,10 @@ module _ {S : Type 0} (s : source.Ghosts S) (script script_now : S) where
         (p : StoreView D) → RepairRun d.tells (state_of d first) (state_of d p) → p.stopped ≡ None
         → (head has wants : ℕ) → LacksForRepair (state_of d p) head has wants → ⊥
 
-    -- the text was a script, whatever the device holds
+    -- the script was had, whatever the device holds
     pub record HasScript : Type 0 where
       pub commands : List (List Command)
-      pub script_is : ReadsScript commands
-
-    -- the script is none, or can't be read: then the device isn't touched
-    abbrev pub IsBadScript : ℕ → LineKind → Type 0
-    IsBadScript line kind = NothingDone out out_now before back × (HasBadLine line kind ⊎ IsTooLong line)
-
-    -- the source failed, and the device isn't touched
-    abbrev pub IsUnread : Type 0
-    IsUnread = NothingDone out out_now before back × Rose (s.faults script) (s.faults script_now)
+      pub script_is : HasCommands from commands
 
     -- The image has this fault, and isn't accepted; or it is accepted, and a repair needs more pages than are clear.
     abbrev pub IsBadImage : LoadFault → Type 0
@@ -110,27 +140,23 @@ module _ {S : Type 0} (s : source.Ghosts S) (script script_now : S) where
     abbrev pub Outcome : List Actor → Status → Type 0
     Outcome schedule status.Good = RanTo schedule status.Good
     Outcome schedule status.Usage = NothingDone out out_now before back × (script_now ≡ script)
-    Outcome schedule (status.Script line kind) = IsBadScript line kind
+    Outcome schedule (status.Script line kind) = (from ≡ Given) × IsBadScript d k out out_now before back line kind
     Outcome schedule (status.Image fault) = IsBadImage fault
-    Outcome schedule status.ScriptRead = IsUnread
+    Outcome schedule status.ScriptRead = (from ≡ Given) × IsUnread d k out out_now before back
     Outcome schedule status.OutWrite = RanTo schedule status.OutWrite
     Outcome schedule (status.Device at) =
         RanTo schedule (status.Device at) ⊎ (IsUnloaded at ⊎ EndedRepairing (status.Device at))
     Outcome schedule status.Memory =
         RanTo schedule status.Memory ⊎ (NothingWritten d before out out_now back ⊎ EndedRepairing status.Memory)
 
-    -- the source has a script and nothing else, the image is accepted, each repair has the pages that it needs, and no
-    -- count of faults rose in the call
+    -- the script can be had, the image is accepted, each repair has the pages that it needs, and no count of faults
+    -- rose in the call
     pub record NothingFails : Type 0 where
-      pub source_tells : IsTrue s.tells
-      pub commands : List (List Command)
-      pub reads_as : reads (s.left script) ≡ Some commands
-      pub small : length (s.left script) ≤ 2 ^ 20
+      pub script_is : CanBeHad from
       pub device_tells : IsTrue d.tells
       pub accepted : IsAccepted (d.pages before) (d.now before)
       pub room : (commands : List (List Command)) (first : StoreView D) → Started commands first
           → HasRoomForRepairs first
-      pub source : Rose (s.faults script) (s.faults script_now) → ⊥
       pub sink : Rose (k.faults out) (k.faults out_now) → ⊥
       pub reading : Rose (d.read_faults before) (d.read_faults back) → ⊥
       pub writing : Rose (d.write_faults before) (d.write_faults back) → ⊥

@@ -24,7 +24,6 @@ use Rattle.running_store.specs.Surviving.{HasOneImage}
 use Rattle.running_store.specs.Recovered.{IsLoadedFrom}
 use Rattle.unclean_load.specs.Accepted.{IsAccepted}
 use Rattle.blob_meta.specs.Repairs.{HasNoMarks}
-use Rattle.blob_report.specs.Text.{log_text}
 use Rattle.streams.specs.declared.sink.Sink as sink
 use Rattle.blob_tool.specs.declared.status.Status.{Status}
 use Rattle.blob_tool.specs.declared.status.Status.TheVariants as status
@@ -38,6 +37,8 @@ use Rattle.blob_tool.specs.Closing.{AddsNoImage}
 use Rattle.blob_tool.specs.Repairing.{AreMade, EndedInRepair}
 use Rattle.blob_tool.specs.Surviving.{IsLasting, RunSurvives}
 use Rattle.blob_tool.specs.Found.{IsFound}
+use Rattle.blob_tool.specs.RunScripts.{printed_text}
+use Rattle.blob_tool.specs.declared.run_script.RunScript.{RunScript}
 
 -- The turns that lead from one state of a store to another are those of the steps of a schedule, and then of rounds of
 -- the channels and the metadata thread until all have ended. No message is on its way at first.
@@ -79,7 +80,8 @@ module _ {D : Type 0} (d : disk.Ghosts D) (script : List (List Command)) where
           → shown (state_of d last)
           ≡ replay (fixed_of first.super) (shown (state_of d first)) (seen d.tells last.log)
 
-    module _ {K : Type 0} (k : sink.Ghosts K) (out out_now : K) (back : D) where
+    -- what is printed of the log depends on which script it is
+    module _ (from : RunScript) {K : Type 0} (k : sink.Ghosts K) (out out_now : K) (back : D) where
       -- a run from this state, whose device was flushed at most behind it and is handed back, and of the text of its
       -- log as much as was printed
       pub record Played (first : StoreView D) : Type 0 where
@@ -88,11 +90,11 @@ module _ {D : Type 0} (d : disk.Ghosts D) (script : List (List Command)) where
         pub device : AddsNoImage d last.disk back
         -- power may fail at any moment, of a device that had one image
         pub survives : HasOneImage d first.disk → RunSurvives d first.super (shown (state_of d first)) last back
-        pub printed : IsTrue k.tells → IsPartOf (k.written out) (k.written out_now) (log_text last.log)
+        pub printed : IsTrue k.tells → IsPartOf (k.written out) (k.written out_now) (printed_text from last.log)
 
-      -- the whole log's text was printed
+      -- the whole text was printed
       abbrev pub IsPrinted : {first : StoreView D} → Played first → Type 0
-      IsPrinted p = IsTrue k.tells → k.written out_now ≡ k.written out ++ log_text p.last.log
+      IsPrinted p = IsTrue k.tells → k.written out_now ≡ k.written out ++ printed_text from p.last.log
 
       -- the store didn't stop, and all that was written is lasting
       abbrev pub IsWhole : {first : StoreView D} → Played first → Type 0

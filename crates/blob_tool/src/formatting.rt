@@ -1,8 +1,9 @@
 //! A new store is written.
 
-ghost use Rattle.std.specs.Prelude.{◌≡◌, IfOk};
-ghost use Rattle.super_block.specs.Layout.{IsPlanned, new_masks};
-ghost use Rattle.blob_tool.specs.FormatOutcome.{new_store_text, FormatEnded};
+ghost use Rattle.std.specs.Prelude.{◌≡◌, ◌<◌, IfOk, IfSome};
+ghost use Rattle.std.specs.Option.{option_copied};
+ghost use Rattle.super_block.specs.Layout.{IsPlanned};
+ghost use Rattle.blob_tool.specs.FormatOutcome.{new_store_text, used_pages, FormatEnded};
 
 use crate::format_words::Format;
 use crate::status::Status;
@@ -10,39 +11,50 @@ use blob_report::space_line;
 use out_of_memory::Memory as NoMemory;
 use page_disk::PageDisk;
 use std::alloc::Global;
-use store_format::write_store;
+use store_format::{FormatFault, StoreName, write_store};
 use streams::{Sink, SinkFault, offer};
-use super_block::{Layout, Masks};
+use super_block::{Layout, layouts_are_placed};
 use unclean_load::LoadFault;
 use volume_model::Df;
 
-/// The masks of a new store with this layout, and its line.
-fn prepared(alloc: Global, layout: &Layout) -> Result<(Masks, Vec<u8>), NoMemory>
-    requires { IsPlanned layout.now }
-    ensures masks { IfOk result (λ p. p.0 ≡ new_masks layout.now) }
-    ensures line { IfOk result (λ p. p.1.items ≡ new_store_text layout.now) }
+/// The metadata pages that a new store uses at first.
+fn used_pages(named: Option<&StoreName>) -> u32
+    ensures { result ≡ used_pages (option_copied named.entry) }
 {
-    let masks = Masks::new(alloc, layout)?;
+    match named {
+        Some(_) => 1,
+        None => 0,
+    }
+}
+
+/// The line of a new store with this layout, which may have a name.
+fn line_of(alloc: Global, layout: &Layout, named: Option<&StoreName>) -> Result<Vec<u8>, NoMemory>
+    requires planned { IsPlanned layout.now }
+    requires some_page { 0 < layout.now.md_pages }
+    ensures { IfOk result (λ line. line.items ≡ new_store_text layout.now (option_copied named.entry)) }
+{
     let space = Df {
         free_clusters: layout.free_clusters(),
         clusters: layout.clusters,
-        free_pages: layout.md_pages,
+        free_pages: layout.md_pages - used_pages(named),
         pages: layout.md_pages,
     };
     let mut line = Vec::new(alloc);
     space_line(space, &mut line)?;
-    Ok((masks, line))
+    Ok(line)
 }
 
-/// Writes an empty store with the layout that is asked for, and prints its line.
+/// Writes a new store with the layout that is asked for, with a super blob where it has a name, and prints its line.
 pub(crate) fn format_image<K: Sink, D: PageDisk>(
     alloc: Global,
     format: &Format,
     out: &mut K,
     disk: D,
 ) -> (Status, D)
+    requires some_page { IfSome format.now.md_pages (λ pages. 0 < pages) }
     ensures { FormatEnded D.PageDisk disk result.1 format.now K.Sink out.old out.new result.0 }
 {
+    layouts_are_placed();
     let mut disk = disk;
     let layout = match Layout::plan(disk.pages(), format.cluster_pages, format.md_pages) {
         Ok(layout) => layout,
@@ -51,12 +63,14 @@ pub(crate) fn format_image<K: Sink, D: PageDisk>(
             return (Status::Image { fault }, disk);
         }
     };
-    let (masks, line) = match prepared(alloc, &layout) {
-        Ok(prepared) => prepared,
+    let line = match line_of(alloc, &layout, format.lvol.as_ref()) {
+        Ok(line) => line,
         Err(NoMemory) => return (Status::Memory, disk),
     };
-    if write_store(&mut disk, &layout, masks).is_err() {
-        return (Status::Device { at: 0 }, disk);
+    match write_store(alloc, &mut disk, &layout, format.lvol.as_ref()) {
+        Ok(()) => {}
+        Err(FormatFault::Device) => return (Status::Device { at: 0 }, disk),
+        Err(FormatFault::Memory) => return (Status::Memory, disk),
     }
     match offer(&line, out) {
         Ok(()) => (Status::Good, disk),

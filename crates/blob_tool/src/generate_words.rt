@@ -1,7 +1,8 @@
 //! What `generate` is asked for with.
 
-ghost use Rattle.std.specs.Prelude.{◌≡◌, ◌<◌, ◌≤◌, ◌^◌, IfSome};
+ghost use Rattle.std.specs.Prelude.{◌≡◌, IfSome};
 ghost use Rattle.blob_tool.specs.GenerateWords.{generated_script_in};
+ghost use Rattle.blob_tool.specs.RunScripts.{IsWithinLimits};
 
 use script_lang::number_below;
 
@@ -17,8 +18,7 @@ pub struct GeneratedScript {
 /// The script of this number and this size; `None` where one isn't of its form.
 pub(crate) fn generated_script(number: &str, size: &str) -> Option<GeneratedScript>
     ensures script { result ≡ generated_script_in number.now size.now }
-    ensures number { IfSome result (λ script. script.number < 2 ^ 31) }
-    ensures size { IfSome result (λ script. script.size ≤ 65000) }
+    ensures within { IfSome result IsWithinLimits }
 {
     let number = number_below(1 << 31, number.as_bytes())?;
     let size = number_below(65_001, size.as_bytes())?;

@@ -1,9 +1,10 @@
 //! Generated scripts are printed.
 
-ghost use Rattle.std.specs.Prelude.{◌≡◌, ◌<◌, ◌≤◌, ◌^◌, IsTrue, OnOk, Err};
+ghost use Rattle.std.specs.Prelude.{◌≡◌, ◌≤◌, IsTrue, OnOk, Err};
 ghost use Rattle.page_disk.specs.Disk.{Rose};
 ghost use Rattle.streams.specs.declared.printing.PrintFault.TheVariants as printing;
 ghost use Rattle.blob_tool.specs.GenerateOutcome.{GenerateEnded, IsPartOfScript, IsPrintedScript};
+ghost use Rattle.blob_tool.specs.RunScripts.{IsWithinLimits};
 
 use crate::generate_words::GeneratedScript;
 use crate::status::Status;
@@ -17,8 +18,7 @@ fn print_script<K: Sink>(
     script: GeneratedScript,
     out: &mut K,
 ) -> Result<(), PrintFault>
-    requires number { script.number < 2 ^ 31 }
-    requires size { script.size ≤ 65000 }
+    requires within { IsWithinLimits script }
     ensures whole { OnOk result (IsPrintedScript script K.Sink out.old out.new) }
     ensures part { IsPartOfScript script K.Sink out.old out.new }
     ensures later { K.faults out.old ≤ K.faults out.new }
@@ -35,8 +35,7 @@ fn print_script<K: Sink>(
 
 /// Prints the generated script that is asked for.
 pub(crate) fn generate<K: Sink>(alloc: Global, script: GeneratedScript, out: &mut K) -> Status
-    requires number { script.number < 2 ^ 31 }
-    requires size { script.size ≤ 65000 }
+    requires within { IsWithinLimits script }
     ensures { GenerateEnded script K.Sink out.old out.new result }
 {
     match print_script(alloc, script, out) {

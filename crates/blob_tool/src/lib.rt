@@ -9,6 +9,8 @@ mod generating;
 mod listing;
 mod playing;
 mod repairing;
+mod reporting;
+mod run_script;
 mod run_words;
 mod status;
 mod task;

@@ -19,6 +19,8 @@ ghost use Rattle.volume_model.specs.declared.command.Command.{Command as AComman
 
 use crate::closing::close;
 use crate::repairing::repair;
+use crate::reporting::report;
+use crate::run_script::RunScript;
 use crate::status::Status;
 use channels::run_stepwise;
 use page_disk::PageDisk;
@@ -26,7 +28,7 @@ use script_lang::Schedule;
 use std::alloc::Global;
 use store_core::{Loaded, MdRight, Parts, Plant};
 use store_model::state_stops;
-use streams::{Sink, print};
+use streams::Sink;
 use unclean_load::stores_are_accepted;
 use volume_model::Script;
 
@@ -49,9 +51,10 @@ pub(crate) fn disk_of<D>(loaded: Loaded<D>) -> D
 }
 
 /// Runs the script on a store with nothing left to repair, by a schedule, makes lasting what was written, and prints
-/// the log.
+/// what is printed of its log.
 fn run_repaired<K: Sink, D: PageDisk>(
     alloc: Global,
+    from: RunScript,
     schedule: &Schedule,
     plant: Plant<D>,
     right: MdRight,
@@ -63,7 +66,7 @@ fn run_repaired<K: Sink, D: PageDisk>(
     requires repaired { IsRepaired (state_of D.PageDisk plant.at) }
     ensures { (script : List (List ACommand)) → AreRows script plant.opening.rows
         → AreMade D.PageDisk plant.opening plant.at → HasNoMarks (base_of plant.at.metas plant.at.marked)
-        → Ended D.PageDisk script schedule.now K.Sink out.old out.new result.1 plant.opening result.0 }
+        → Ended D.PageDisk script schedule.now from K.Sink out.old out.new result.1 plant.opening result.0 }
 {
     state_stops();
     stores_are_accepted();
@@ -76,7 +79,7 @@ fn run_repaired<K: Sink, D: PageDisk>(
         entries,
     } = plant.into_parts(right);
     let ended = close(&mut disk, stopped, entries.len() as u32);
-    let printed = print(alloc, entries.as_slice(), out);
+    let printed = report(alloc, from, entries.as_slice(), out);
     (Status::of_run(ended, printed), disk)
 }
 
@@ -97,9 +100,10 @@ fn device_left<D: PageDisk>(plant: Plant<D>, right: MdRight) -> D
 }
 
 /// Opens a loaded store, makes its repairs, and then runs the script on it by a schedule, makes lasting what was
-/// written, and prints the log.
+/// written, and prints what is printed of its log.
 pub(crate) fn play<K: Sink, D: PageDisk>(
     alloc: Global,
+    from: RunScript,
     schedule: &Schedule,
     script: Script,
     loaded: Loaded<D>,
@@ -112,7 +116,7 @@ pub(crate) fn play<K: Sink, D: PageDisk>(
     requires inside { loaded.sup.md_start + loaded.sup.md_len ≤ D.pages loaded.disk }
     requires device { loaded.sup.device_pages ≤ D.pages loaded.disk }
     requires all_served { (channel : ℕ) → All IsServed (slice_index_or script channel []) }
-    ensures { EndedFrom D.PageDisk script schedule.now K.Sink out.old out.new result.1 loaded result.0 }
+    ensures { EndedFrom D.PageDisk script schedule.now from K.Sink out.old out.new result.1 loaded result.0 }
 {
     state_stops();
     stores_are_accepted();
@@ -123,6 +127,6 @@ pub(crate) fn play<K: Sink, D: PageDisk>(
     let end = repair(&mut plant, &mut right);
     match end.status() {
         Some(status) => (status, device_left(plant, right)),
-        None => run_repaired(alloc, schedule, plant, right, out),
+        None => run_repaired(alloc, from, schedule, plant, right, out),
     }
 }

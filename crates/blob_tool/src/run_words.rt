@@ -1,6 +1,6 @@
 //! What `run` is asked for with.
 
-ghost use Rattle.std.specs.Prelude.{IfOk, Some};
+ghost use Rattle.std.specs.Prelude.{IfOk};
 ghost use Rattle.std.specs.Option.{option_copied};
 ghost use Rattle.blob_tool.specs.RunWords.{FindsSchedule};
 
@@ -10,7 +10,7 @@ use std::alloc::Global;
 
 /// The schedule that a text says; `None` where it says none. Without a text it has no steps.
 pub(crate) fn schedule_of(alloc: Global, text: Option<&str>) -> Result<Option<Schedule>, Memory>
-    ensures { IfOk result (FindsSchedule (Some (option_copied text.entry))) }
+    ensures { IfOk result (FindsSchedule (option_copied text.entry)) }
 {
     let Some(text) = text else {
         return Ok(Some(Schedule::new(alloc)));

@@ -1,7 +1,7 @@
-//! Runs a script from standard input on the store in an image file, and prints its log to standard output; writes a new
-//! store into the file, and prints its line; prints the store in the file and its volumes; or prints a generated
-//! script. Any exit status other than 0 comes with one line on standard error; where the words are no command, or ask
-//! for help, with `clap`'s text.
+//! Runs a script from standard input on the store in an image file, and prints its log to standard output, or runs a
+//! generated one and prints what sums it up; writes a new store into the file, and prints its line; prints the store in
+//! the file and its volumes; or prints a generated script. Any exit status other than 0 comes with one line on standard
+//! error; where the words are no command, or ask for help, with `clap`'s text.
 #![tactic(auto)]
 
 mod ending;
@@ -89,9 +89,13 @@ fn image_beside(words: &[String]) -> Option<&str> {
 /// are no command.
 fn start(rt: &HostRuntime, words: &[String]) -> Ending {
     match read_words(rt.alloc(), words) {
-        Ok(Some(CommandWords::Run { image, .. } | CommandWords::Format { image, .. })) => {
-            over_image(rt, words, image, Access::Write)
-        }
+        Ok(
+            Some(
+                CommandWords::Run { image, .. }
+                | CommandWords::Format { image, .. }
+                | CommandWords::Exercise { image, .. },
+            ),
+        ) => over_image(rt, words, image, Access::Write),
         Ok(Some(CommandWords::List { image })) => over_image(rt, words, image, Access::Read),
         Ok(Some(CommandWords::Generate { .. })) => without_image(rt, words),
         Ok(None) => match image_beside(words) {

@@ -42,7 +42,7 @@ fn number(status: &Status) -> u8 {
 /// So many pages, options, the exit status, and what is printed.
 type Case = (u64, &'static str, u8, &'static [u8]);
 
-const CASES: [Case; 22] = [
+const CASES: [Case; 28] = [
     (
         64,
         "--cluster 16384",
@@ -85,6 +85,27 @@ const CASES: [Case; 22] = [
     (64, "--clusters 16384", 1, b""),
     (64, "--cluster 16384 --md-pages", 1, b""),
     (64, "--cluster 16384 --md-pages 16 16", 1, b""),
+    (
+        64,
+        "--cluster 16384 --lvol store0 --uuid 5f2b4e66-0d0c-4c1e-9a55-3f0a7c2d9b10",
+        0,
+        b"clusters 16 free 11 pages 16 free 15\n",
+    ),
+    (
+        4096,
+        "--uuid 5f2b4e660d0c4c1e9a553f0a7c2d9b10 --lvol store0",
+        0,
+        b"clusters 4 free 3 pages 4 free 3\n",
+    ),
+    (4096, "--lvol store0", 1, b""),
+    (4096, "--uuid 5f2b4e66-0d0c-4c1e-9a55-3f0a7c2d9b10", 1, b""),
+    (
+        4096,
+        "--lvol @store --uuid 5f2b4e66-0d0c-4c1e-9a55-3f0a7c2d9b10",
+        1,
+        b"",
+    ),
+    (4096, "--lvol store0 --uuid 5f2b4e66", 1, b""),
 ];
 
 /// Expects the exit status of a case and what is printed.

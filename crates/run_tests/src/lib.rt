@@ -1,12 +1,15 @@
 //! Tests of the program's calls over a device in memory: the verbs on attributes, new volumes, volumes that are thick
 //! or get another number of slots, clones, snapshots, deletes, volumes that are renamed or told, pages that are read
-//! and written, channels that take turns, new stores, listings, generated scripts, and each status.
+//! and written, channels that take turns, new stores, listings, generated scripts, printed or
+//! run, and each status.
 #![tactic(auto)]
 
 #[cfg(test)]
 mod clones;
 #[cfg(test)]
 mod deletes;
+#[cfg(test)]
+mod exercises;
 #[cfg(test)]
 mod failures;
 #[cfg(test)]
@@ -17,6 +20,8 @@ mod formats;
 mod generated_scripts;
 #[cfg(test)]
 mod listings;
+#[cfg(test)]
+mod lvol_stores;
 #[cfg(test)]
 mod many_volumes;
 #[cfg(test)]

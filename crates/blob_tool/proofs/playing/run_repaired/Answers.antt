@@ -1,9 +1,9 @@
 use Rattle.std.proofs.Common.{◌≡◌, List, ◌++◌, OnOk, ap, length, sym, subst, ◌∙◌, arith}
 use Rattle.volume_model.specs.declared.reply.Entry.{Entry}
-use Rattle.blob_report.specs.Text.{log_text}
 use Rattle.streams.specs.Printing.{IsPartOf}
 use Rattle.blob_tool.specs.Closing.{AddsNoImage, Closes}
 use Rattle.blob_tool.specs.Repairing.{AreMade}
+use Rattle.blob_tool.specs.RunScripts.{printed_text}
 use Rattle.blob_tool.specs.Runs.{Ended, Played}
 use Rattle.blob_tool.proofs.Closed.{closing_adds}
 use Rattle.blob_tool.proofs.Ending.{ends}
@@ -36,7 +36,7 @@ returns g c script rows made unmarked =
     let made_here : AreMade d store.opening c.args.plant.at =
     subst (λ (first : StoreView g.row.D.Denot). AreMade d first c.args.plant.at) (sym same) made in
     let rows_here = subst (λ (first : StoreView g.row.D.Denot). AreRows script first.rows) (sym same) rows in
-    let played : Played d script c.args.schedule.now k c.args.out.now c.print-printed.new.sink back
+    let played : Played d script c.args.schedule.now c.args.from k c.args.out.now c.report-printed.new.out back
     store.opening = record {
       last = store.at;
       run = is_run d script store kept rows_here c.run_stepwise-plant.ensures.ended c.args.plant.at made_here unmarked
@@ -46,18 +46,20 @@ returns g c script rows made unmarked =
       survives = survives d c.stores_are_accepted.ensures law store kept back adds;
       printed =
           λ tells. subst
-          (λ (l : List Entry). IsPartOf (k.written c.args.out.now) (k.written c.print-printed.new.sink)
-          (log_text l)) entries (c.print-printed.ensures.part tells);
+          (λ (l : List Entry). IsPartOf (k.written c.args.out.now) (k.written c.report-printed.new.out)
+          (printed_text c.args.from l)) entries (c.report-printed.ensures.part tells);
     } in
     subst
-    (λ (first : StoreView g.row.D.Denot). Ended d script c.args.schedule.now k c.args.out.now c.print-printed.new.sink
+    (λ (first : StoreView g.row.D.Denot). Ended d script c.args.schedule.now c.args.from k c.args.out.now
+    c.report-printed.new.out
     back first c.of_run.result) same
-    (subst (Ended d script c.args.schedule.now k c.args.out.now c.print-printed.new.sink back store.opening)
+    (subst
+    (Ended d script c.args.schedule.now c.args.from k c.args.out.now c.report-printed.new.out back store.opening)
     (sym c.of_run.ensures)
-    (ends d script c.args.schedule.now k c.args.out.now c.print-printed.new.sink back store.opening played
-    c.stopped-stopped.result c.close-ended.result c.print-printed.result (sym c.stopped-stopped.ensures) closes
+    (ends d script c.args.schedule.now c.args.from k c.args.out.now c.report-printed.new.out back store.opening played
+    c.stopped-stopped.result c.close-ended.result c.report-printed.result (sym c.stopped-stopped.ensures) closes
     (λ only runs one. lasting d c.stores_are_accepted.ensures law store kept back adds runs only one)
     (λ tells. subst
-    (λ (l : List Entry). OnOk c.print-printed.result
-    (k.written c.print-printed.new.sink ≡ k.written c.args.out.now ++ log_text l)) entries
-    (c.print-printed.ensures.whole tells)) c.print-printed.ensures.cause))
+    (λ (l : List Entry). OnOk c.report-printed.result
+    (k.written c.report-printed.new.out ≡ k.written c.args.out.now ++ printed_text c.args.from l)) entries
+    (c.report-printed.ensures.whole tells)) c.report-printed.ensures.cause))

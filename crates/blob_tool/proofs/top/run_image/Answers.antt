@@ -1,17 +1,19 @@
 use Rattle.std.proofs.Common.{refl, subst, sym}
+use Rattle.md_chain.proofs.DeviceWalk.{no_read}
 use Rattle.blob_tool.specs.Outcome.{Outcome}
 use Rattle.blob_tool.specs.declared.status.Status.{Status}
 use Rattle.blob_tool.proofs.Complete.{done_from}
 use Rattle.blob_tool.proofs.Ending.{of_a_fault, of_a_run}
 use Rattle.blob_tool.proofs.FoundStore.{found_by}
+use Rattle.blob_tool.proofs.HavingCommands.{no_usage, only_memory, unread, unread_without, without_commands}
 use Rattle.blob_tool.proofs.top.run_image.Goals as goal
 
 pub returns-in-Ok-load-clause-outcome : goal.returns-in-Ok-load-clause-outcome
 returns-in-Ok-load-clause-outcome g c =
     let d = g.D.PageDisk in
     let loaded = c.in-Ok-load.loaded in
-    of_a_run g.S.Source c.args.script.now c.script_of.new.source d g.K.Sink c.args.out.now c.play.new.out c.args.disk
-    c.play.result.1 c.args.schedule.now c.in-Ok.commands loaded c.play.result.0 c.in-Ok.ensures.text
+    of_a_run g.S.Source c.args.script.now c.commands_of.new.source d g.K.Sink c.args.out.now c.play.new.out c.args.disk
+    c.play.result.1 c.args.from c.args.schedule.now c.in-Ok.commands loaded c.play.result.0 c.in-Ok.ensures.commands
     (λ first opened. record {
       found = found_by d c.args.disk loaded c.in-Ok-load.ensures.super_block c.in-Ok-load.ensures.found
           c.in-Ok-load.ensures.accepted c.in-Ok-load.ensures.recovered c.in-Ok-load.ensures.same;
@@ -22,10 +24,11 @@ pub returns-in-Ok-load-clause-complete : goal.returns-in-Ok-load-clause-complete
 returns-in-Ok-load-clause-complete g c fails =
     let d = g.D.PageDisk in
     let loaded = c.in-Ok-load.loaded in
-    done_from g.S.Source c.args.script.now c.script_of.new.source d g.K.Sink c.args.out.now c.play.new.out c.args.disk
-    c.play.result.1 fails loaded c.in-Ok-load.ensures.same c.in-Ok.commands c.args.schedule.now c.play.result.0
+    done_from g.S.Source c.args.script.now c.commands_of.new.source d g.K.Sink c.args.out.now c.play.new.out c.args.disk
+    c.play.result.1 c.args.from fails loaded c.in-Ok-load.ensures.same c.in-Ok.commands c.args.schedule.now
+    c.play.result.0
     (λ first opened. record {
-      script_is = c.in-Ok.ensures.text;
+      script_is = c.in-Ok.ensures.commands;
       loaded = loaded;
       as_found = record {
         found = found_by d c.args.disk loaded c.in-Ok-load.ensures.super_block c.in-Ok-load.ensures.found
@@ -37,10 +40,39 @@ returns-in-Ok-load-clause-complete g c fails =
 pub returns-in-Err-load-clause-outcome : goal.returns-in-Err-load-clause-outcome
 returns-in-Err-load-clause-outcome g c =
     let d = g.D.PageDisk in
-    subst (λ (st : Status). Outcome g.S.Source c.args.script.now c.script_of.new.source d g.K.Sink c.args.out.now
-    c.args.out.now c.args.disk c.in-Err-load.disk c.args.schedule.now st) (sym c.from.ensures)
-    (of_a_fault g.S.Source c.args.script.now c.script_of.new.source d g.K.Sink c.args.out.now c.args.out.now c.args.disk
-    c.in-Err-load.disk c.args.schedule.now c.in-Err-load.fault
+    subst (λ (st : Status). Outcome g.S.Source c.args.script.now c.commands_of.new.source d g.K.Sink c.args.out.now
+    c.args.out.now c.args.disk c.in-Err-load.disk c.args.from c.args.schedule.now st) (sym c.from.ensures)
+    (of_a_fault g.S.Source c.args.script.now c.commands_of.new.source d g.K.Sink c.args.out.now c.args.out.now
+    c.args.disk
+    c.in-Err-load.disk c.args.from c.args.schedule.now c.in-Err-load.fault
     (record { quiet = refl; device = c.in-Err-load.ensures.same })
-    (record { commands = c.in-Ok.commands; script_is = c.in-Ok.ensures.text })
+    (record { commands = c.in-Ok.commands; script_is = c.in-Ok.ensures.commands })
     c.in-Err-load.ensures.counted c.in-Err-load.ensures.cause c.in-Err-load.ensures.refused)
+
+pub returns-in-Err-clause-no_usage : goal.returns-in-Err-clause-no_usage
+returns-in-Err-clause-no_usage g c =
+    no_usage g.S.Source c.args.script.now c.commands_of.new.source c.args.from c.in-Err.status c.in-Err.ensures.why
+
+pub returns-in-Err-clause-outcome : goal.returns-in-Err-clause-outcome
+returns-in-Err-clause-outcome g c =
+    let d = g.D.PageDisk in
+    without_commands g.S.Source c.args.script.now c.commands_of.new.source d g.K.Sink c.args.out.now c.args.disk
+    (no_read d c.args.disk) c.args.from c.args.schedule.now c.in-Err.status c.in-Err.ensures.why
+
+pub returns-in-Err-clause-complete : goal.returns-in-Err-clause-complete
+returns-in-Err-clause-complete g c fails =
+    only_memory g.S.Source c.args.script.now c.commands_of.new.source c.args.from c.in-Err.status fails.script_is
+    c.in-Err.ensures.why
+
+pub returns-in-Err-clause-unread : goal.returns-in-Err-clause-unread
+returns-in-Err-clause-unread g c =
+    unread_without g.S.Source c.args.script.now c.commands_of.new.source c.args.from c.in-Err.status
+    c.in-Err.ensures.why
+
+pub returns-in-Ok-load-clause-unread : goal.returns-in-Ok-load-clause-unread
+returns-in-Ok-load-clause-unread g c =
+    unread g.S.Source c.args.script.now c.commands_of.new.source c.args.from c.in-Ok.commands c.in-Ok.ensures.commands
+
+pub returns-in-Err-load-clause-unread : goal.returns-in-Err-load-clause-unread
+returns-in-Err-load-clause-unread g c =
+    unread g.S.Source c.args.script.now c.commands_of.new.source c.args.from c.in-Ok.commands c.in-Ok.ensures.commands
