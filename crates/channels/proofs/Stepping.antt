@@ -1,5 +1,5 @@
 -- A step of a driver as one of its run, and what the driver keeps.
-use Rattle.std.proofs.Common.{◌≡◌, inl, inr, ℕ, ◌<◌, List, length, Option, Some, sym, ◌∙◌, ap, subst, arith, get_or}
+use Rattle.std.proofs.Common.{◌≡◌, false, inl, inr, ℕ, ◌<◌, List, length, Option, Some, sym, ◌∙◌, ap, subst, arith, get_or}
 use Rattle.std.specs.Prelude.{slice_get, slice_set}
 use Rattle.std.proofs.lemmas.Bool.{cases_eq}
 use Rattle.std.proofs.lemmas.Option.{slice_get-get_or, slice_get_within}
@@ -27,10 +27,12 @@ use Rattle.run_moves.specs.Sizes.{sizes_of}
 use Rattle.md_thread.proofs.TurnsRepaired.{turned}
 use Rattle.channels.specs.ChannelState.{ChannelState}
 use Rattle.channels.specs.ChannelSteps.{IsHeldUp, made_turn, MadeStep, TurnsOrPosts, was_held, was_kept, was_sent}
-use Rattle.channels.specs.Driving.{AreChannelsOf, driven, IsChannelOf, IsDriven, IsSameStore, Steps}
+use Rattle.channels.specs.Driving.{AreChannelsOf, driven, IsChannelOf, IsDriven, IsSameStore, KeepsFill, Steps}
 use Rattle.channels.specs.declared.driver.Driver.{Driver}
-use Rattle.channels.proofs.Acting.{held_acts, keeping_acts, sending_acts, turn_acts, with_messages}
-use Rattle.channels.proofs.Keeping.{of_channels, rows_step, still_own, still_served, turn_or_none}
+use Rattle.channels.proofs.Acting.{held_acts, keeping_acts, sending_acts, turn_acts}
+use Rattle.channels.specs.Driving.{driven_of}
+use Rattle.md_thread.specs.Holding.{MetadataState}
+use Rattle.channels.proofs.Keeping.{of_channels, rows_step, stands, still_own, still_served, turn_or_none}
 use Rattle.channels.proofs.OneRow.{RowStep}
 
 -- ---- the same store
@@ -46,7 +48,7 @@ same_then a b c first next = record {
 
 module _ {D : Type 0} (d : Ghosts D) (laws : DriverLaws) (plain : PlainRowLaws) (fact : FactLaws) (w v : Driver D)
     (is : IsDriven d w) (kept : StoreInvariant d w.plant) (later : StoreInvariant d v.plant) (store : IsSameStore w v)
-    (actor : ActorInRun) (step : DriverStep d.tells actor (driven d w) (driven d v)) where
+    (actor : ActorInRun) (step : DriverStep d.tells actor (driven d w) (driven d v)) (state : StateLaws) where
   later_facts : RunInvariant w.plant.opening.super (shown (state_of d w.plant.opening))
       (opening_script w.plant.opening) (state_of d v.plant.at)
   later_facts = subst (λ (o : StoreView D). RunInvariant o.super (shown (state_of d o)) (opening_script o)
@@ -54,40 +56,43 @@ module _ {D : Type 0} (d : Ghosts D) (laws : DriverLaws) (plain : PlainRowLaws) 
 
   in_run : StepOf (sizes_of w.plant.opening.super) actor (run_of (driven d w)) (run_of (driven d v))
   in_run = (laws w.plant.opening.super (shown (state_of d w.plant.opening)) (opening_script w.plant.opening)).step
-      d.tells actor (driven d w) (driven d v) kept.placed.some_pages (of_channels d w.plant kept is.sixteen) kept.facts
+      d.tells actor (driven d w) (driven d v) kept.placed.some_pages (of_channels d w.plant kept is.seventeen) kept.facts
       later_facts
       (plain.run d.tells kept.run.0 (state_of d w.plant.opening) (state_of d w.plant.at) kept.run.1
       (plain.opens (state_of d w.plant.opening) kept.began))
-      step
+      (stands d state w.plant kept) is.works is.run step
 
   -- it is one of the run
   pub steps : Steps d.tells w.plant.opening.super actor (driven d w) (driven d v)
   steps = record { driver = step; run = in_run }
 
   -- and what the driver keeps is kept
-  pub still_driven : StateLaws → AreChannelsOf v.plant.at.rows v.channels → IsDriven d v
-  still_driven state channels = record {
+  pub still_driven : AreChannelsOf v.plant.at.rows v.channels → KeepsFill v → IsDriven d v
+  still_driven channels fill = record {
     right = store.right ∙ is.right ∙ sym store.name;
-    sixteen = ap (λ (o : StoreView D). length o.rows) store.opening ∙ is.sixteen;
+    seventeen = ap (λ (o : StoreView D). length o.rows) store.opening ∙ is.seventeen;
     served = still_served w.plant.at.rows v.plant.at.rows
-        (rows_step d.tells (driven d w) (driven d v) actor step) is.served;
+        (rows_step d.tells (driven d w) (driven d v) (stands d state w.plant kept) actor step) is.served;
     channels = channels;
     repaired = elim (turn_or_none d.tells (driven d w) (driven d v) actor step) [
       | inl turn ↦ turned d state w.plant v.plant kept turn is.repaired
       | inr same ↦ subst IsRepaired (sym same) is.repaired
     ];
     run = fact.step (sizes_of w.plant.opening.super) actor (run_of (driven d w)) (run_of (driven d v)) is.run in_run;
+    fill = fill;
+    works = (laws w.plant.opening.super (shown (state_of d w.plant.opening)) (opening_script w.plant.opening)).fill
+        d.tells actor (driven d w) (driven d v) (stands d state w.plant kept) is.works step;
   }
 
 -- ---- a step of a channel
 
 module _ {D : Type 0} (d : Ghosts D) (laws : DriverLaws) (p q : WithOpening D) (kept : StoreInvariant d p)
-    (channels : List ChannelState) (queue later : List Msg) (held : Option Msg)
-    (facts : RunFacts (run_of (with_messages (state_of d p.at) channels queue held))) (k : ℕ) (low : k < 16)
+    (channels : List ChannelState) (queue later : List Msg) (held : MetadataState)
+    (facts : RunFacts (run_of (driven_of (state_of d p.at) channels queue held))) (k : ℕ) (low : k < 16)
     (c e : ChannelState) (at : slice_get channels k ≡ Some c) (number : c.channel ≡ k) where
   abbrev Acts : WithOpening D → List Msg → Type 0
-  Acts after l = DriverStep d.tells (ChannelActs k) (with_messages (state_of d p.at) channels queue held)
-      (with_messages (state_of d after.at) (slice_set channels k e) l held)
+  Acts after l = DriverStep d.tells (ChannelActs k) (driven_of (state_of d p.at) channels queue held)
+      (driven_of (state_of d after.at) (slice_set channels k e) l held)
 
   pub made_acts : MadeStep d p q c e queue later → Acts q later
   made_acts (made_turn none turn same) = subst (Acts q) (sym same)

@@ -4,12 +4,13 @@ ghost use Rattle.std.specs.Prelude.{◌≡◌, ◌↔◌, ◌<◌, IsTrue, lengt
 ghost use Rattle.md_thread.specs.Holding.{HaveEnded};
 ghost use Rattle.running_store.specs.StoreView.{rows_of, state_of};
 ghost use Rattle.store_model.specs.Repairing.{IsRepaired};
-ghost use Rattle.store_model.specs.Rows.{Ended};
+ghost use Rattle.store_model.specs.Filling.{unused_row};
+ghost use Rattle.store_model.specs.Rows.{fill_row, Ended};
 ghost use Rattle.run_work.specs.Following.{ChannelActs, MetadataActs, Round, Scheduled};
 ghost use Rattle.run_moves.specs.DrivenStore.{driven_at_start};
 ghost use Rattle.run_moves.specs.DriverSteps.{has_all_ended, DriverStep, StoreFollows};
 ghost use Rattle.channels.specs.Actors.{actor_in_run, actors_in_run};
-ghost use Rattle.channels.specs.Driving.{driven, AreChannelsOf, AreStarting, IsDriven, IsSameStore, Steps};
+ghost use Rattle.channels.specs.Driving.{driven, AreChannelsOf, AreStarting, IsDriven, IsSameStore, KeepsFill, Steps};
 ghost use Rattle.channels.specs.Served.{AreServed};
 ghost use Rattle.script_lang.specs.Schedules.{repeated};
 
@@ -19,7 +20,8 @@ use md_queue::ListQueue;
 use md_thread::{MdState, Turn};
 use page_disk::PageDisk;
 use run_moves::{rows_stay_plain, steps_are_moves};
-use run_work::{moves_keep_facts, rounds_end};
+use run_work::{moves_keep_facts, rounds_end, what_is_due};
+use running_store::FILL_ROW;
 use script_lang::{Actor, Part, Schedule};
 use std::alloc::Global;
 use store_core::{MdRight, Plant, RowStage};
@@ -68,8 +70,9 @@ impl<D: PageDisk> Driver<D> {
     /// A driver that begins on a store, at whatever stages its rows are.
     pub(crate) fn new(plant: Plant<D>, right: MdRight) -> Driver<D>
         requires right { right ≡ plant.right }
-        requires sixteen { length plant.opening.rows ≡ 16 }
+        requires seventeen { length plant.opening.rows ≡ 17 }
         requires served { AreServed plant.at.rows }
+        requires unused { rows_of plant.at.rows fill_row ≡ unused_row }
         requires repaired { IsRepaired (state_of D.PageDisk plant.at) }
         ensures starts { driven D.PageDisk result ≡ driven_at_start (state_of D.PageDisk plant.at) }
         ensures driven { IsDriven D.PageDisk result }
@@ -77,6 +80,7 @@ impl<D: PageDisk> Driver<D> {
         ensures right { (result.right ≡ right) × (result.plant.right ≡ plant.right) }
     {
         steps_are_moves();
+        state_turns();
         plant.keeps();
         let channels = channels_of(&plant);
         Driver {
@@ -95,6 +99,7 @@ impl<D: PageDisk> Driver<D> {
         ensures step { DriverStep D.tells (ChannelActs channel) (driven D.PageDisk self.old)
             (driven D.PageDisk self.new) }
         ensures channels { AreChannelsOf self.new.plant.at.rows self.new.channels }
+        ensures keeps { KeepsFill self.new }
         ensures store { IsSameStore self.old self.new }
     {
         steps_are_moves();
@@ -105,20 +110,28 @@ impl<D: PageDisk> Driver<D> {
         self.channels[at] = own;
     }
 
-    /// The metadata thread makes a turn of the store, or, where none is to be made, takes a message.
+    /// The metadata thread makes a turn of the store; where none is to be made it takes a message, or, where none is
+    /// queued, makes a turn of the fill, if one goes on.
     fn metadata_acts(&mut self, alloc: Global)
         requires driven { IsDriven D.PageDisk self.old }
         ensures step { DriverStep D.tells MetadataActs (driven D.PageDisk self.old) (driven D.PageDisk self.new) }
         ensures channels { self.new.channels ≡ self.old.channels }
+        ensures keeps { KeepsFill self.new }
         ensures store { IsSameStore self.old self.new }
     {
         moves_keep_facts();
+        what_is_due();
         self.plant.keeps();
-        if let Turn::Idle = self
+        let turn = self
             .metadata
-            .md_turn(alloc, &mut self.right, &mut self.plant)
-        {
-            self.metadata.md_take(&mut self.queue);
+            .md_turn(alloc, &mut self.right, &mut self.plant);
+        if let Turn::Moved = turn {
+            return;
+        }
+        self.metadata.md_take(&mut self.queue);
+        if !self.metadata.holds() {
+            self.metadata
+                .md_turn(alloc, &mut self.right, &mut self.plant);
         }
     }
 
@@ -128,6 +141,7 @@ impl<D: PageDisk> Driver<D> {
         ensures step { DriverStep D.tells (actor_in_run actor) (driven D.PageDisk self.old)
             (driven D.PageDisk self.new) }
         ensures channels { AreChannelsOf self.new.plant.at.rows self.new.channels }
+        ensures keeps { KeepsFill self.new }
         ensures store { IsSameStore self.old self.new }
     {
         match actor {
@@ -211,14 +225,16 @@ impl<D: PageDisk> Driver<D> {
         }
     }
 
-    /// Whether all have ended: every channel, and no job runs.
+    /// Whether all have ended: every channel, no job runs, and the fill's row isn't in use.
     fn have_ended(&self) -> bool
         requires driven { IsDriven D.PageDisk self.now }
         ensures { result ≡ has_all_ended (driven D.PageDisk self.now) }
     {
         moves_keep_facts();
         self.plant.keeps();
-        rows_ended(&self.plant) && !self.plant.job_runs()
+        rows_ended(&self.plant)
+            && !self.plant.job_runs()
+            && matches!(self.plant.stage(FILL_ROW), RowStage::Over)
     }
 
     /// The steps of a schedule, and then rounds until all have ended.

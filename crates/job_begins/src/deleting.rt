@@ -1,7 +1,7 @@
 //! The begin of a delete's job, of a blob with one clone, of three replacements: the blob is marked, its clone takes
 //! over from it, and it is erased.
 
-ghost use Rattle.std.specs.Prelude.{◌≡◌, ◌<◌, ◌-◌, ◌^◌, ℕ, [], true, length, None, IfErr, IfOk, OnErr};
+ghost use Rattle.std.specs.Prelude.{◌≡◌, ◌≢◌, ◌<◌, ◌-◌, ◌^◌, ℕ, [], true, length, None, Some, IfErr, IfOk, OnErr};
 ghost use Rattle.super_block.specs.Faults.{IsFaultless};
 ghost use Rattle.blob_meta.specs.Faults.{clusters_of};
 ghost use Rattle.blob_meta.specs.Repairs.{HasNoMarks};
@@ -223,6 +223,7 @@ pub(crate) fn deletion_job<D: PageDisk>(
     requires faultless { IsFaultless running.old.sup }
     requires channel { channel < 16 }
     requires posted { IsPostedAt (view_of running.old) channel }
+    requires unfilled { running.old.filling ≢ Some channel }
     requires asks { Asks (view_of running.old) channel
         (λ command. AsksToDelete (state_of D.PageDisk (view_of running.old)) command ask) }
     requires running { IsRunning (state_of D.PageDisk (view_of running.old)) }

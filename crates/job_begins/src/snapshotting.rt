@@ -1,6 +1,6 @@
 //! The begin of a snapshot's job, of four replacements: the blob that is made, three times, and the volume.
 
-ghost use Rattle.std.specs.Prelude.{◌≡◌, ◌<◌, ◌+◌, ◌^◌, [], None, IfErr, IfOk, OnErr};
+ghost use Rattle.std.specs.Prelude.{◌≡◌, ◌≢◌, ◌<◌, ◌+◌, ◌^◌, [], None, Some, IfErr, IfOk, OnErr};
 ghost use Rattle.std.specs.FinMap as map;
 ghost use Rattle.super_block.specs.Faults.{IsFaultless};
 ghost use Rattle.blob_meta.specs.Repairs.{HasNoMarks};
@@ -225,6 +225,7 @@ pub(crate) fn snapshot_job<D: PageDisk>(
     requires faultless { IsFaultless running.old.sup }
     requires channel { channel < 16 }
     requires posted { IsPostedAt (view_of running.old) channel }
+    requires unfilled { running.old.filling ≢ Some channel }
     requires asks { Asks (view_of running.old) channel
         (λ command. AsksToSnapshot (state_of D.PageDisk (view_of running.old)) command ask) }
     requires running { IsRunning (state_of D.PageDisk (view_of running.old)) }

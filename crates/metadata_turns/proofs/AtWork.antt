@@ -18,12 +18,12 @@ use Rattle.running_store.proofs.Cleared.{among_get}
 use Rattle.running_store.proofs.PlainFacts.{got}
 use Rattle.running_store.specs.declared.replacements.Planned.{Planned}
 use Rattle.running_store.specs.Jobs.{commit_in, erasing_for, replacing_of, writing_for}
-use Rattle.store_model.specs.Phases.{page_in, held_in, Erases, Frees, Phase, Replacing, erasing, has_commit, taken_in}
+use Rattle.store_model.specs.Phases.{page_in, held_in, Erases, Frees, Phase, Replacing, erasing, taken_in}
 use Rattle.store_model.specs.Phases.{Replaces, taken_by}
 use Rattle.store_model.proofs.Phases.{planned_behind, held_behind, lays_reached}
 use Rattle.blob_meta.specs.declared.meta.Meta.{Meta}
 use Rattle.store_model.proofs.LeftToDo.{among_left, distinct_left}
-use Rattle.std.specs.Prelude.{if◌then◌else◌, is_some, Bool, ◌||◌}
+use Rattle.std.specs.Prelude.{if◌then◌else◌, is_some, Bool}
 
 -- ---- the pages of a plan
 

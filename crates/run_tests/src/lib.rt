@@ -12,6 +12,8 @@ mod failures;
 #[cfg(test)]
 mod family_faults;
 #[cfg(test)]
+mod fills;
+#[cfg(test)]
 mod formats;
 #[cfg(test)]
 mod generated_scripts;

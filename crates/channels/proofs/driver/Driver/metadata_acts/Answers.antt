@@ -1,24 +1,21 @@
-use Rattle.channels.proofs.Keeping.{asks_served, unused}
-use Rattle.channels.proofs.MetadataActing.{moves, takes}
+use Rattle.std.proofs.Common.{false, sym, ◌∙◌}
+use Rattle.std.proofs.lemmas.Bool.{false≢true}
+use Rattle.channels.specs.Driving.{driven, unsent_of}
+use Rattle.channels.proofs.Keeping.{asks_served}
+use Rattle.channels.proofs.MetadataActing.{acts_due, is_kept}
 use Rattle.channels.proofs.driver.Driver.metadata_acts.Goals as goal
 
-pub md_turn-requires-clause-served : goal.md_turn-requires-clause-served
-md_turn-requires-clause-served g c msg held posted =
+pub md_turn-turn-requires-clause-served : goal.md_turn-turn-requires-clause-served
+md_turn-turn-requires-clause-served g c msg posted =
     asks_served g.D.PageDisk c.args.self.now.plant c.keeps.ensures c.requires.driven.served msg posted
 
-pub returns-in-Idle-clause-step : goal.returns-in-Idle-clause-step
-returns-in-Idle-clause-step g c =
+pub returns-in-Moved-clause-step : goal.returns-in-Moved-clause-step
+returns-in-Moved-clause-step g c =
     let d = g.D.PageDisk in
     let w = c.args.self.now in
-    takes d w.plant c.md_turn.new.plant w.channels w.queue w.metadata.held c.md_turn.new.self.held
-    (unused d w.plant c.keeps.ensures c.requires.driven.sixteen) c.requires.driven.run c.md_turn.result
-    c.md_turn.ensures.job c.md_turn.ensures.message c.md_turn.ensures.idle c.md_take.new.inbox c.md_take.new.self.held
-    c.in-Idle.is c.md_take.ensures.taken c.md_take.ensures.empty (λ none. (c.md_take.ensures.unchanged none).1)
-
-pub returns-in_default-clause-step : goal.returns-in_default-clause-step
-returns-in_default-clause-step g c =
-    let d = g.D.PageDisk in
-    let w = c.args.self.now in
-    moves d w.plant c.md_turn.new.plant w.channels w.queue w.metadata.held c.md_turn.new.self.held
-    (unused d w.plant c.keeps.ensures c.requires.driven.sixteen) c.requires.driven.run c.md_turn.result
-    c.md_turn.ensures.job c.md_turn.ensures.message c.md_turn.ensures.idle c.in_default.not-Idle
+    let is = c.requires.driven in
+    acts_due c.what_is_due.ensures d.tells (driven d w) _
+    (c.md_turn-turn.ensures.step c.in-Moved.is
+    (is_kept d w.plant.at w.metadata (unsent_of w.channels) w.queue c.moves_keep_facts.ensures is.run is.fill.asked
+    is.works)
+    (unsent_of w.channels) w.queue (λ found. absurd (false≢true (sym is.fill.looks ∙ found))))
