@@ -54,13 +54,13 @@ fn its_super_blob_has_one_page(rt: HostRuntime) -> Result<(), Fail> {
     assert!(rt; 5 < disk.pages());
     disk.read(4, &mut page)?;
     assert_eq!(rt; page.get(..SUPER_BLOB.len()), Some(SUPER_BLOB));
-    assert_eq!(rt; &page[4088..4092], [0xFF; 4].as_slice());
+    assert_eq!(rt; page.get(4088..4092), Some([0xFF; 4].as_slice()));
     disk.read(5, &mut page)?;
     assert_eq!(rt; page, [0; 4096]);
     disk.read(1, &mut page)?;
-    assert_eq!(rt; &page[..8], [0, 16, 0, 0, 0, 1, 0, 0].as_slice());
+    assert_eq!(rt; page.get(..8), Some([0, 16, 0, 0, 0, 1, 0, 0].as_slice()));
     disk.read(3, &mut page)?;
-    assert_eq!(rt; &page[..8], [2, 16, 0, 0, 0, 1, 0, 0].as_slice());
+    assert_eq!(rt; page.get(..8), Some([2, 16, 0, 0, 0, 1, 0, 0].as_slice()));
     Ok(())
 }
 
