@@ -1,5 +1,5 @@
 -- A loaded store, and a run from it to its end.
-use Rattle.std.specs.Prelude.{◌≡◌, ◌⊎◌, ℕ, List, length, ◌++◌, slice_get, Some, None, IsTrue}
+use Rattle.std.specs.Prelude.{◌≡◌, ◌⊎◌, ℕ, ◌<◌, List, length, ◌++◌, slice_get, Some, None, IsTrue}
 use Rattle.std.specs.List.{All}
 use Rattle.std.specs.FinMap as map
 use Rattle.page_disk.specs.Disk.{Rose}
@@ -10,7 +10,9 @@ use Rattle.volume_model.specs.declared.command.Command.{Command}
 use Rattle.volume_model.specs.declared.reply.Reply.TheVariants as r
 use Rattle.volume_model.specs.declared.reply.Entry.{Entry}
 use Rattle.md_chain.specs.Reading.{OnlyRead}
+use Rattle.store_model.specs.Filling.{unused_row}
 use Rattle.store_model.specs.Regions.{region_of}
+use Rattle.store_model.specs.Rows.{fill_row}
 use Rattle.store_model.specs.Scans.{Says}
 use Rattle.store_model.specs.Seen.{seen}
 use Rattle.store_model.specs.Shown.{fixed_of}
@@ -54,11 +56,11 @@ module _ {D : Type 0} (d : disk.Ghosts D) (script : List (List Command)) where
     pub opened : IsOpened d loaded script first
 
   module _ (schedule : List Actor) where
-    -- A run leads from one state of the store to another, in which every channel has ended and no job runs. Its turns
-    -- are repairs, until no blob has a mark, and then those of the steps of its schedule, and of rounds of the channels
-    -- and the metadata thread. Its log is a legal one of the script's commands, and the volumes shown at the end are
-    -- its replay, unless the store stopped. Of a device that doesn't tell what it holds both are said but for what
-    -- pages hold (`seen`).
+    -- A run leads from one state of the store to another, in which every channel has ended, no slots are filled and no
+    -- job runs. Its turns are repairs, until no blob has a mark, and then those of the steps of its schedule, and of
+    -- rounds of the channels and the metadata thread. Its log is a legal one of the script's commands, and the volumes
+    -- shown at the end are its replay, unless the store stopped. Of a device that doesn't tell what it holds both are
+    -- said but for what pages hold (`seen`).
     pub record IsRun (first last : StoreView D) : Type 0 where
       pub opens : Opens (state_of d first)
       pub repaired : StoreView D
@@ -66,7 +68,8 @@ module _ {D : Type 0} (d : disk.Ghosts D) (script : List (List Command)) where
       pub unmarked : HasNoMarks (base_of repaired.metas repaired.marked)
       pub follows : FollowsSchedule d schedule repaired last
       pub turns : (kinds : List Kind) × Run d.tells (state_of d first) kinds (state_of d last)
-      pub over : (channel : ℕ) → rows_of last.rows channel ≡ ended_row
+      pub over : (channel : ℕ) → channel < 16 → rows_of last.rows channel ≡ ended_row
+      pub unused : rows_of last.rows fill_row ≡ unused_row
       pub no_job : last.job ≡ None
       pub interleaves : Interleaves last.log script
       pub legal : IsLegal (fixed_of first.super) (shown (state_of d first)) (seen d.tells last.log)

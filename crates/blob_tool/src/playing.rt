@@ -9,11 +9,13 @@ ghost use Rattle.blob_tool.specs.Runs.{Ended, EndedFrom};
 ghost use Rattle.channels.specs.Served.{AreServed};
 ghost use Rattle.running_store.specs.Recovered.{base_of, IsLoadedFrom};
 ghost use Rattle.running_store.specs.StoreInvariant.{StoreInvariant};
-ghost use Rattle.running_store.specs.StoreView.{state_of};
+ghost use Rattle.running_store.specs.StoreView.{rows_of, state_of};
 ghost use Rattle.running_store.specs.Surviving.{HoldsMetadata};
 ghost use Rattle.script_lang.specs.Served.{IsServed};
 ghost use Rattle.store_core.specs.Opening.{AreRows};
+ghost use Rattle.store_model.specs.Filling.{unused_row};
 ghost use Rattle.store_model.specs.Repairing.{IsRepaired};
+ghost use Rattle.store_model.specs.Rows.{fill_row};
 ghost use Rattle.super_block.specs.Faults.{IsFaultless};
 ghost use Rattle.volume_model.specs.declared.command.Command.{Command as ACommand};
 
@@ -61,8 +63,9 @@ fn run_repaired<K: Sink, D: PageDisk>(
     out: &mut K,
 ) -> (Status, D)
     requires right { right ≡ plant.right }
-    requires sixteen { length plant.opening.rows ≡ 16 }
+    requires seventeen { length plant.opening.rows ≡ 17 }
     requires served { AreServed plant.at.rows }
+    requires unused { rows_of plant.at.rows fill_row ≡ unused_row }
     requires repaired { IsRepaired (state_of D.PageDisk plant.at) }
     ensures { (script : List (List ACommand)) → AreRows script plant.opening.rows
         → AreMade D.PageDisk plant.opening plant.at → HasNoMarks (base_of plant.at.metas plant.at.marked)

@@ -3,7 +3,8 @@
 use page_disk::PageDisk;
 use std::alloc::Global;
 use std::test::Fail;
-use test_runs::{Letters, play, push_long, push_told};
+use test_lines::{Letters, push_long, push_told};
+use test_runs::play;
 use test_stores::{ChainRow, expect_chains, expect_written, two_blobs, volume};
 
 /// Puts on a store of so many metadata pages, whose volume has a value of 4062 bytes and a chain of the places 0 to 2.

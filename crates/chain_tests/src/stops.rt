@@ -1,10 +1,10 @@
 //! A long put of which a call of the device fails.
 
-use blob_tool::Status;
 use page_disk::{CallKind, Fail, FaultDisk, MemDisk};
 use std::alloc::Global;
 use std::test::Fail as TestFail;
-use test_runs::{Ran, expect_printed, play, push_long, push_told, run};
+use test_lines::{push_long, push_told};
+use test_runs::{Ran, Status, expect_printed, play, run};
 use test_stores::volume;
 
 /// A call of the device that fails, how many entries the log has then, what is printed, and the letter of the value

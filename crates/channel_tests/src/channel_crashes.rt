@@ -1,12 +1,10 @@
 //! Random scripts on many channels, and power that fails at each call of the device.
 
 use crate::channel_plays::ChannelPlay;
-use blob_tool::Status;
 use page_disk::{FaultDisk, PageDisk};
-use random_worlds::{expect_left, new_stores, number_at};
+use random_plays::{Ran, Status, expect_left, new_stores, number_at};
 use std::alloc::Global;
 use std::test::Fail;
-use test_runs::Ran;
 
 /// Expects that whenever power fails in a run of a play, each command that was answered is done. Where a call leaves
 /// nothing else than the one before it, the crashes are the same.

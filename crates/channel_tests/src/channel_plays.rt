@@ -3,12 +3,13 @@
 use crate::channel_scripts::{ChannelScript, Size, drawn_making, drawn_script, small};
 use crate::replays::Replay;
 use crate::schedules::drawn_schedule;
-use blob_tool::Status;
 use page_disk::{MemDisk, PageDisk};
-use random_worlds::{Draws, World, number_at, number_in_family, size_of, store_for};
+use random_plays::{
+    Call, Ran, Status, number_at, number_in_family, perform, run, size_of, store_for,
+};
+use random_worlds::{Draws, World};
 use std::alloc::Global;
 use std::test::Fail;
-use test_runs::{Call, Ran, perform, run};
 
 /// A store, the script that made its volumes and what that printed, a script that is to run on it, by a schedule if
 /// there is one, and whether the run ends with a `df`.

@@ -2,7 +2,8 @@
 
 use crate::channel_plays::ChannelPlay;
 use page_disk::PageDisk;
-use random_worlds::{expect_volumes, new_stores};
+use random_plays::new_stores;
+use random_worlds::expect_volumes;
 use std::alloc::Global;
 use std::test::Fail;
 
@@ -47,4 +48,14 @@ fn each_answer_of_a_second_hundred_is_that_of_plain_volumes(rt: HostRuntime) -> 
 #[test]
 fn each_answer_of_a_third_hundred_is_that_of_plain_volumes(rt: HostRuntime) -> Result<(), Fail> {
     expect_all(rt, (200, 300))
+}
+
+#[test]
+fn each_answer_of_a_fourth_hundred_is_that_of_plain_volumes(rt: HostRuntime) -> Result<(), Fail> {
+    expect_all(rt, (300, 400))
+}
+
+#[test]
+fn each_answer_of_a_fifth_hundred_is_that_of_plain_volumes(rt: HostRuntime) -> Result<(), Fail> {
+    expect_all(rt, (400, 500))
 }

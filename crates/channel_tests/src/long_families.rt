@@ -2,10 +2,10 @@
 
 use blob_report::render_entry;
 use page_disk::MemDisk;
+use random_plays::{Call, perform, play};
 use script_lang::{Grammar, read_script};
 use std::alloc::Global;
 use std::test::Fail;
-use test_runs::{Call, perform, play};
 use volume_model::{Entry, Volumes};
 
 /// How many snapshots there are.

@@ -26,7 +26,7 @@ pub struct Replay {
     pub last_space: Option<Df>,
 }
 
-/// A line of a log: its channel, its index, and what it tells.
+/// The text of an entry: its channel, its index, and what it tells.
 type Parts<'a> = (u8, u32, &'a [u8]);
 
 /// The number at the begin of a text, below an end, and what stands behind it and a space.
@@ -40,7 +40,23 @@ fn number_before(end: u64, text: &[u8]) -> Result<(u64, &[u8]), Fail> {
     Ok((number_below(end, digits).ok_or("no number")?, rest))
 }
 
-/// The parts of a line.
+/// The texts of the entries of a log, without their ends: a line each, and behind one that lists volumes those of the
+/// volumes.
+fn texts_of(alloc: Global, printed: &[u8]) -> Result<Vec<Vec<u8>>, Fail> {
+    let mut texts: Vec<Vec<u8>> = Vec::new(alloc);
+    for line in printed.split(|byte| *byte == b'\n') {
+        if line.starts_with(b"volume ") {
+            let text = texts.last_mut().ok_or("no entry")?;
+            text.push(b'\n')?;
+            text.extend_from_slice(line)?;
+        } else if !line.is_empty() {
+            texts.push(Vec::from_slice(alloc, line)?)?;
+        }
+    }
+    Ok(texts)
+}
+
+/// The parts of the text of an entry.
 fn parts_of(line: &[u8]) -> Result<Parts<'_>, Fail> {
     let (channel, rest) = number_before(16, line)?;
     let (index, told) = number_before(1 << 17, rest)?;
@@ -49,6 +65,14 @@ fn parts_of(line: &[u8]) -> Result<Parts<'_>, Fail> {
         u32::try_from(index).unwrap_or(0),
         told,
     ))
+}
+
+/// Whether what is asked for may read pages of volumes.
+fn copies_or_reads(ask: &Ask) -> bool {
+    matches!(
+        ask,
+        Ask::Read { .. } | Ask::Write { .. } | Ask::Inflate { .. } | Ask::Decouple { .. }
+    )
 }
 
 impl Replay {
@@ -127,22 +151,20 @@ impl Replay {
                 self.stop = Some(Stop { at, met: None });
                 Ok(Reply::Stopped(at))
             }
-            b"read fault" if may_fail && matches!(ask, Ask::Read { .. } | Ask::Write { .. }) => {
-                Ok(Reply::ReadFault)
-            }
+            b"read fault" if may_fail && copies_or_reads(ask) => Ok(Reply::ReadFault),
             _ => self.world.follow(alloc, ask, told),
         }
     }
 
-    /// Replays the entry that a line tells, and expects the line.
-    fn replay_line(
+    /// Replays the entry that a text tells, and expects the text.
+    fn replay_text(
         &mut self,
         alloc: Global,
         script: &ChannelScript,
-        line: &[u8],
+        text: &[u8],
         may_fail: bool,
     ) -> Result<(), Fail> {
-        let (channel, index, told) = parts_of(line)?;
+        let (channel, index, told) = parts_of(text)?;
         let ask = self.next_ask(script, channel, index)?;
         let reply = self.reply(alloc, &ask, told, may_fail)?;
         self.last_space = match &reply {
@@ -157,14 +179,14 @@ impl Replay {
         };
         let mut wanted = Vec::new(alloc);
         render_entry(&entry, &mut wanted)?;
-        if wanted.strip_suffix(b"\n") != Some(line) {
+        if wanted.strip_suffix(b"\n") != Some(text) {
             return Err(Fail::new(format_args!("{channel} {index} {ask:?}: {:?}", entry.reply)));
         }
         self.entries = self.entries.wrapping_add(1);
         Ok(())
     }
 
-    /// Replays a log, and expects each line.
+    /// Replays a log, and expects each entry.
     pub fn replay(
         &mut self,
         alloc: Global,
@@ -172,10 +194,9 @@ impl Replay {
         printed: &[u8],
         may_fail: bool,
     ) -> Result<(), Fail> {
-        for line in printed.split(|byte| *byte == b'\n') {
-            if !line.is_empty() {
-                self.replay_line(alloc, script, line, may_fail)?;
-            }
+        let texts = texts_of(alloc, printed)?;
+        for text in &texts {
+            self.replay_text(alloc, script, text, may_fail)?;
         }
         Ok(())
     }

@@ -1,6 +1,6 @@
 -- What a channel's flush makes of the store.
-use Rattle.std.proofs.Common.{None, false, true, Bool, ◌≡◌, ℕ, ◌<◌, List, ◌∷◌, length, sym, ◌∙◌, ap, subst}
-use Rattle.std.proofs.Common.{Some, IsTrue}
+use Rattle.std.proofs.Common.{None, false, true, ◌≡◌, ℕ, ◌<◌, List, ◌∷◌, length, sym, ◌∙◌, ap, subst}
+use Rattle.std.proofs.Common.{IsTrue}
 use Rattle.page_disk.specs.Disk.{Only}
 use Rattle.page_disk.specs.Moments.{CallsLeaveOnly}
 use Rattle.page_disk.specs.declared.disk.PageDisk.{Ghosts}
@@ -18,7 +18,7 @@ use Rattle.running_store.specs.TurnMade.{TurnsAs}
 use Rattle.running_store.proofs.Thawed.{state_stopped}
 use Rattle.channel_turns.proofs.Thawed.{IsThawed}
 use Rattle.running_store.specs.Steps.{logged_on, stopped_here}
-use Rattle.running_store.specs.StoreView.{StoreView, device_of, rows_of, state_of}
+use Rattle.running_store.specs.StoreView.{StoreView, device_of, rows_of}
 use Rattle.running_store.proofs.Entered.{disk_same_then, entered_then}
 
 module _ {D : Type 0} (d : Ghosts D) (p : StoreView D) (channel : ℕ) (low : channel < length p.rows)

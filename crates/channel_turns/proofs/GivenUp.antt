@@ -1,21 +1,22 @@
 -- A channel's first command as one that it logs itself, and a copy that came to nothing.
-use Rattle.std.proofs.Common.{None, Some, ◌≡◌, ℕ, ◌<◌, ◌∷◌, Bool, false, List, length, ◌∙◌, ap}
+use Rattle.std.proofs.Common.{None, ◌≡◌, ℕ, ◌<◌, length, refl, subst}
 use Rattle.page_disk.specs.declared.disk.PageDisk.{Ghosts}
-use Rattle.volume_model.specs.declared.command.Command.{Command}
 use Rattle.volume_model.specs.declared.command.Command.TheVariants as c
+use Rattle.volume_model.specs.declared.reply.Reply.{Reply}
 use Rattle.volume_model.specs.declared.reply.Reply.TheVariants as r
-use Rattle.store_model.specs.Claiming.{given_back, IsCopying, LogsOwn, own}
-use Rattle.store_model.specs.Rows.{Idle, Row, Stage}
-use Rattle.store_model.specs.StoreState.{logged_here, StoreState}
+use Rattle.store_model.specs.Claiming.{IsCopying, LogsWork, Works}
+use Rattle.store_model.specs.Filling.{FillStands}
+use Rattle.store_model.specs.Rows.{Idle, Stage}
+use Rattle.store_model.specs.StoreState.{StoreState}
 use Rattle.store_model.specs.Turning.{stopped_now}
 use Rattle.channel_turns.specs.ChannelTurns.{WaitsToFlush, WaitsToRead, WaitsToWrite}
 use Rattle.channel_turns.specs.ClaimTurns.{HoldsClaim}
-use Rattle.running_store.specs.GivingBack.{IsOwnStage, row_given_back, WaitsHere}
-use Rattle.running_store.specs.StoreView.{device_of, rows_of, state_of, StoreView}
+use Rattle.running_store.specs.GivingBack.{IsGivenUp, IsOwnStage, WaitsHere}
+use Rattle.running_store.specs.StoreView.{device_of, state_of, StoreView}
 use Rattle.running_store.proofs.Thawed.{state_stopped}
 use Rattle.channel_turns.proofs.Thawed.{IsThawed}
-use Rattle.running_store.specs.Steps.{logged_on, stopped_here}
-use Rattle.running_store.proofs.GivenBack.{given_up}
+use Rattle.running_store.specs.Steps.{stopped_here}
+use Rattle.running_store.proofs.WorkLogged.{fill_still, logs_seen, work_disk, work_logged, work_low, works_still}
 
 -- a channel's first command, by what it is
 module _ {D : Type 0} (p : StoreView D) (channel : ℕ) where
@@ -42,54 +43,48 @@ module _ {D : Type 0} (p : StoreView D) (channel : ℕ) where
     own = mine;
   }
 
-  pub claim_here : (stage : Stage) → IsOwnStage stage → HoldsClaim p channel stage → WaitsHere p channel
-  claim_here stage mine w = record {
-    command = c.Write w.volume w.page w.word;
-    rest = w.rest;
-    stage = stage;
-    claim = Some w.claim;
-    row = w.row;
-    own = mine;
-  }
-
 -- ---- a copy that came to nothing
 
-module _ {D : Type 0} (d : Ghosts D) (p : StoreView D) (channel : ℕ) (stage : Stage) (low : channel < length p.rows)
-    (w : HoldsClaim p channel stage) where
+module _ {D : Type 0} (d : Ghosts D) (p : StoreView D) (row : ℕ) (stage : Stage) (w : HoldsClaim d p row stage) where
   abbrev pub copying : IsCopying (state_of d p) stage
-  copying = record {
-    row = channel;
-    left = c.Write w.volume w.page w.word ∷ w.rest;
-    claim = w.claim;
-    is = w.row;
-    works = own w.volume w.page w.word w.rest (ap (λ (x : Row). x.left) w.row);
-  }
+  copying = record { row = row; left = w.left; claim = w.claim; is = w.is; works = w.works }
 
-  -- a write or a flush failed, and the store stops
-  pub logs_failed : IsThawed p → (disk : D) (q : StoreView D)
-      → ((command : Command) (rest : List Command) → (rows_of p.rows channel).left ≡ command ∷ rest
-      → q ≡ logged_on (row_given_back (stopped_here (record p { disk = disk })) channel Idle) channel command rest
-      r.Fault (d.clock q.disk))
-      → LogsOwn (stopped_now (state_of d p)) channel Idle r.Fault (device_of d disk) (state_of d q)
-  logs_failed thawed disk q logged =
-      let left = ap (λ (x : Row). x.left) w.row in
-      let command : Command = c.Write w.volume w.page w.word in
-      record {
-        volume = w.volume;
-        page = w.page;
-        word = w.word;
-        rest = w.rest;
-        left = left;
-        next = given_up d (stopped_here (record p { disk = disk })) channel low q command w.rest r.Fault
-            (logged command w.rest left)
-            ∙ ap (λ (a : StoreState). logged_here (given_back a channel Idle) channel command w.rest r.Fault
-            (device_of d disk)) (state_stopped d (record p { disk = disk }) thawed);
-      }
+  module _ (fill : FillStands (state_of d p)) (seventeen : length p.rows ≡ 17) (disk : D) (q : StoreView D) where
+    -- the store with the device behind the call that failed, and as it stops
+    abbrev called : StoreView D
+    called = record p { disk = disk }
 
-  pub disk_failed : (disk : D) (q : StoreView D)
-      → ((command : Command) (rest : List Command) → (rows_of p.rows channel).left ≡ command ∷ rest
-      → q ≡ logged_on (row_given_back (stopped_here (record p { disk = disk })) channel Idle) channel command rest
-      r.Fault (d.clock q.disk))
-      → q.disk ≡ disk
-  disk_failed disk q logged = ap (λ (a : StoreView D). a.disk)
-      (logged (c.Write w.volume w.page w.word) w.rest (ap (λ (x : Row). x.left) w.row))
+    low : row < 17
+    low = work_low d p seventeen fill row w.works
+
+    -- the store runs on
+    pub logs_still : (reply : Reply) → IsGivenUp called q row Idle reply (d.clock q.disk)
+        → LogsWork (state_of d p) row Idle reply (device_of d disk) (state_of d q)
+    logs_still reply given =
+        logs_seen (state_of d p) (device_of d disk) row Idle reply (device_of d disk) (state_of d q)
+        (work_logged d called seventeen (fill_still (state_of d p) (state_of d called) refl refl fill) q row Idle reply
+        low (works_still (state_of d p) (state_of d called) refl refl row w.works) given)
+
+    pub disk_still : (reply : Reply) → IsGivenUp called q row Idle reply (d.clock q.disk) → q.disk ≡ disk
+    disk_still reply given =
+        work_disk d called seventeen (fill_still (state_of d p) (state_of d called) refl refl fill) q row Idle reply
+        low (works_still (state_of d p) (state_of d called) refl refl row w.works) given
+
+    module _ (given : IsGivenUp (stopped_here called) q row Idle r.Fault (d.clock q.disk)) where
+      abbrev fill_here : FillStands (state_of d (stopped_here called))
+      fill_here = fill_still (state_of d p) (state_of d (stopped_here called)) refl refl fill
+
+      abbrev works_here : Works (state_of d (stopped_here called)) row
+      works_here = works_still (state_of d p) (state_of d (stopped_here called)) refl refl row w.works
+
+      -- a write or a flush failed, and the store stops
+      pub logs_failed : IsThawed p
+          → LogsWork (stopped_now (state_of d p)) row Idle r.Fault (device_of d disk) (state_of d q)
+      logs_failed thawed =
+          logs_seen (stopped_now (state_of d p)) (device_of d disk) row Idle r.Fault (device_of d disk) (state_of d q)
+          (subst (λ (s : StoreState). LogsWork s row Idle r.Fault (device_of d disk) (state_of d q))
+          (state_stopped d called thawed)
+          (work_logged d (stopped_here called) seventeen fill_here q row Idle r.Fault low works_here given))
+
+      pub disk_failed : q.disk ≡ disk
+      disk_failed = work_disk d (stopped_here called) seventeen fill_here q row Idle r.Fault low works_here given

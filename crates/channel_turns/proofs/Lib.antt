@@ -10,3 +10,4 @@ pub mod Written
 pub mod ReadAsked
 pub mod Thawed
 pub mod GivenUp
+pub mod FillClaimed

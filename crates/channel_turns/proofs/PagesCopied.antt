@@ -1,5 +1,5 @@
 -- What a channel's copy of a page comes to.
-use Rattle.std.proofs.Common.{◌≡◌, ◌≢◌, ◌⊎◌, ℕ, zero, suc, ◌<◌, Bool, false, List, ◌∷◌, Option, Some, None, length}
+use Rattle.std.proofs.Common.{◌≡◌, ◌≢◌, ◌⊎◌, ℕ, suc, ◌<◌, Bool, false, List, Option, Some, None, length}
 use Rattle.std.proofs.Common.{refl, sym, ◌∙◌, ap, subst, arith, IsTrue}
 use Rattle.std.specs.Prelude.{if◌then◌else◌}
 use Rattle.std.specs.Option.{option_map_or}
@@ -10,8 +10,6 @@ use Rattle.page_disk.specs.declared.disk.PageDisk.{Ghosts}
 use Rattle.page_disk.specs.declared.disk.WriteKind.TheVariants.{Plain}
 use Rattle.page_disk.proofs.Moments.{joined, kept_before}
 use Rattle.volume_model.specs.Volumes.{zero_page}
-use Rattle.volume_model.specs.declared.command.Command.{Command}
-use Rattle.volume_model.specs.declared.command.Command.TheVariants as c
 use Rattle.volume_model.specs.declared.reply.Reply.TheVariants as r
 use Rattle.store_model.specs.Cases as kind
 use Rattle.store_model.specs.Cases.{FailsToReplace, WritesOnePage}
@@ -19,74 +17,64 @@ use Rattle.store_model.specs.Cases.Copy.{stage_left}
 use Rattle.store_model.specs.Cases.CopyFail.{copy}
 use Rattle.store_model.specs.Cases.Read.{IsRead}
 use Rattle.store_model.specs.Copying.{page_of_claim}
+use Rattle.store_model.specs.Filling.{FillStands}
 use Rattle.store_model.specs.Rows.{Copying, Idle, Row}
 use Rattle.store_model.specs.StoreState.{StoreState}
 use Rattle.store_model.specs.Touches.{no_new, puts, Touched}
 use Rattle.store_model.specs.Turning.{read_after}
 use Rattle.channel_turns.proofs.Thawed.{IsThawed}
-use Rattle.running_store.specs.Steps.{logged_on, stopped_here, with_row_at}
+use Rattle.running_store.specs.Steps.{stopped_here, with_row_at}
 use Rattle.running_store.specs.TurnMade.{TurnMade, TurnsAs}
 use Rattle.channel_turns.specs.ClaimTurns.{CopiesNow, HoldsClaim, IsOfCopy, WaitsToCopy}
-use Rattle.running_store.specs.GivingBack.{row_given_back}
+use Rattle.running_store.specs.GivingBack.{filling_left, IsGivenUp, row_given_back}
 use Rattle.running_store.specs.StoreView.{device_of, rows_of, state_of, StoreView}
-use Rattle.channel_turns.proofs.GivenUp.{copying, disk_failed, logs_failed}
-use Rattle.running_store.proofs.GivenBack.{given_up, state_given_back}
+use Rattle.channel_turns.proofs.GivenUp.{copying, disk_failed, disk_still, logs_failed, logs_still}
+use Rattle.running_store.proofs.GivenBack.{state_given_back}
+use Rattle.running_store.proofs.WorkLogged.{work_low}
 use Rattle.channel_turns.proofs.ReadAsked.{content_seen}
 use Rattle.running_store.proofs.Rowing.{state_with_row}
 use Rattle.channel_turns.proofs.Written.{blank}
 
 -- ---- the copy itself
 
-module _ {D : Type 0} (d : Ghosts D) (p : StoreView D) (channel : ℕ) (from : Option ℕ) (to left : ℕ)
-    (x : CopiesNow d p channel from to left) (low : channel < length p.rows) where
+module _ {D : Type 0} (d : Ghosts D) (p : StoreView D) (row : ℕ) (from : Option ℕ) (to left : ℕ)
+    (x : CopiesNow d p row from to left) (fill : FillStands (state_of d p)) (seventeen : length p.rows ≡ 17) where
   abbrev now : StoreState
   now = state_of d p
 
-  abbrev w : HoldsClaim p channel (Copying (suc left))
+  abbrev w : HoldsClaim d p row (Copying (suc left))
   w = x.holds
 
-  abbrev command : Command
-  command = c.Write w.volume w.page w.word
+  low : row < length p.rows
+  low = let lt = work_low d p seventeen fill row w.works in omega (arith, lt, seventeen)
 
   -- the page can't be read
   pub copy_not_read : (disk : D) → CallsLeaveOnly d p.disk disk (d.images p.disk)
       → IsRead (device_of d p.disk) (device_of d disk) r.ReadFault → (q : StoreView D)
-      → ((command : Command) (rest : List Command) → (rows_of p.rows channel).left ≡ command ∷ rest
-      → q ≡ logged_on (row_given_back (record p { disk = disk }) channel Idle) channel command rest r.ReadFault
-      (d.clock q.disk))
-      → TurnsAs d IsOfCopy p q
-  copy_not_read disk moments read q logged =
-      let row_left = ap (λ (y : Row). y.left) w.row in
-      let is = logged command w.rest row_left in
+      → IsGivenUp (record p { disk = disk }) q row Idle r.ReadFault (d.clock q.disk) → TurnsAs d IsOfCopy p q
+  copy_not_read disk moments read q given = record {
+    kind = kind.copy_not_read;
+    is = tt;
+    made = (
       record {
-        kind = kind.copy_not_read;
-        is = tt;
-        made = (
-          record {
-            left = left;
-            copying = copying d p channel (Copying (suc left)) low w;
-            runs = x.runs;
-            current = x.current;
-            device = device_of d disk;
-            failed = record {
-              reads = read.reads;
-              clock = read.clock;
-              read_faults = read.fault refl;
-              write_faults = read.write_faults;
-            };
-            logs = record {
-              volume = w.volume;
-              page = w.page;
-              word = w.word;
-              rest = w.rest;
-              left = row_left;
-              next = given_up d (record p { disk = disk }) channel low q command w.rest r.ReadFault is;
-            };
-          },
-          subst (λ (y : D). Touched d p.disk y (no_new false)) (sym (ap (λ (a : StoreView D). a.disk) is))
-              (record { moments = moments; durable = λ never. absurd (cc never) }),
-        );
-      }
+        left = left;
+        copying = copying d p row (Copying (suc left)) w;
+        runs = x.runs;
+        current = x.current;
+        device = device_of d disk;
+        failed = record {
+          reads = read.reads;
+          clock = read.clock;
+          read_faults = read.fault refl;
+          write_faults = read.write_faults;
+        };
+        logs = logs_still d p row (Copying (suc left)) w fill seventeen disk q r.ReadFault given;
+      },
+      subst (λ (y : D). Touched d p.disk y (no_new false))
+          (sym (disk_still d p row (Copying (suc left)) w fill seventeen disk q r.ReadFault given))
+          (record { moments = moments; durable = λ never. absurd (cc never) }),
+    );
+  }
 
   -- the page is read, and then it is written or not
   module _ (law : IsTrue d.tells → Telling d.now d.images d.since d.clock) (mid : D)
@@ -119,14 +107,14 @@ module _ {D : Type 0} (d : Ghosts D) (p : StoreView D) (channel : ℕ) (from : O
 
     pub copy_made : (IsTrue d.tells → content ≡ option_map_or (d.now p.disk) from zero_page)
         → WritesOnePage d.tells (device_of d mid) to content 1 (device_of d disk)
-        → (row : Row) → row ≡ record (rows_of p.rows channel) { stage = stage_left left }
-        → TurnMade d p (record (with_row_at p channel row) { disk = disk }) kind.copies
-    copy_made content_is moves row is = (
+        → (new : Row) → new ≡ record (rows_of p.rows row) { stage = stage_left left }
+        → TurnMade d p (record (with_row_at p row new) { disk = disk }) kind.copies
+    copy_made content_is moves new is = (
       record {
         told_so = refl;
         blank = blank d.tells (d.now p.disk);
         left = left;
-        copying = copying d p channel (Copying (suc left)) low w;
+        copying = copying d p row (Copying (suc left)) w;
         runs = x.runs;
         current = x.current;
         page = x.page;
@@ -143,26 +131,24 @@ module _ {D : Type 0} (d : Ghosts D) (p : StoreView D) (channel : ℕ) (from : O
         read_calls = calls (d.reads disk) moves.read_calls;
         read_faults = moves.read_faults ∙ no_read_fault;
         write_faults = moves.write_faults ∙ read.write_faults;
-        next = state_with_row d (record p { disk = disk }) channel row
-            (record { left = command ∷ w.rest; stage = stage_left left; claim = Some w.claim })
-            (is ∙ ap (λ (y : Row). record y { stage = stage_left left }) w.row) low;
+        next = state_with_row d (record p { disk = disk }) row new
+            (record { left = w.left; stage = stage_left left; claim = Some w.claim })
+            (is ∙ ap (λ (y : Row). record y { stage = stage_left left }) w.is) low;
       },
       touched,
     )
 
     pub copy_failed : IsThawed p → FailsToReplace (device_of d mid) (device_of d disk)
         → (q : StoreView D)
-        → ((command : Command) (rest : List Command) → (rows_of p.rows channel).left ≡ command ∷ rest
-        → q ≡ logged_on (row_given_back (stopped_here (record p { disk = disk })) channel Idle) channel command rest
-        r.Fault (d.clock q.disk))
+        → IsGivenUp (stopped_here (record p { disk = disk })) q row Idle r.Fault (d.clock q.disk)
         → TurnsAs d IsOfCopy p q
-    copy_failed thawed fails q logged = record {
+    copy_failed thawed fails q given = record {
       kind = kind.copy_fails;
       is = tt;
       made = (
         record {
           stage = Copying (suc left);
-          copying = copying d p channel (Copying (suc left)) low w;
+          copying = copying d p row (Copying (suc left)) w;
           tried = copy left x.page content refl x.current x.is_next;
           runs = x.runs;
           device = device_of d disk;
@@ -172,26 +158,28 @@ module _ {D : Type 0} (d : Ghosts D) (p : StoreView D) (channel : ℕ) (from : O
             write_faults = subst (λ n. Rose n (d.write_faults disk)) read.write_faults fails.write_faults;
             read_calls = calls (d.reads disk) fails.read_calls;
           };
-          logs = logs_failed d p channel (Copying (suc left)) low w thawed disk q logged;
+          logs = logs_failed d p row (Copying (suc left)) w fill seventeen disk q given thawed;
         },
         subst (λ (y : D). Touched d p.disk y (puts (page_of_claim now w.claim x.page) content false))
-            (sym (disk_failed d p channel (Copying (suc left)) low w disk q logged)) touched,
+            (sym (disk_failed d p row (Copying (suc left)) w fill seventeen disk q given)) touched,
       );
     }
 
 -- ---- the claim is lost
 
-pub copy_lost : {D : Type 0} (d : Ghosts D) (p : StoreView D) (channel : ℕ) → channel < length p.rows
-    → p.stopped ≡ None → (w : WaitsToCopy p channel)
+pub copy_lost : {D : Type 0} (d : Ghosts D) (p : StoreView D) (row : ℕ) → row < length p.rows → p.stopped ≡ None
+    → (w : WaitsToCopy d p row)
     → map.get p.guards.generations w.holds.claim.head ≢ Some w.holds.claim.generation → (q : StoreView D)
-    → q ≡ row_given_back p channel Idle → TurnMade d p q kind.loses_copy
-copy_lost {D = D} d p channel low runs w late q is = (
+    → q ≡ record (row_given_back p row Idle) { filling = filling_left p.filling row } → TurnMade d p q kind.loses_copy
+copy_lost {D = D} d p row low runs w late q is = (
   record {
     left = w.left;
-    copying = copying d p channel (Copying (suc w.left)) low w.holds;
+    copying = copying d p row (Copying (suc w.left)) w.holds;
     runs = runs;
     late = late;
-    next = ap (state_of d) is ∙ state_given_back d p channel low Idle;
+    next = ap (state_of d) is
+        ∙ ap (λ (s : StoreState). record s { filling = filling_left p.filling row })
+        (state_given_back d p row low Idle);
   },
   ap (λ (a : StoreView D). a.disk) is,
 )

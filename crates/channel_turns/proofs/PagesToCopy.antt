@@ -1,5 +1,5 @@
 -- The next page that a channel's claim has to copy: where it is read, and where it goes.
-use Rattle.std.proofs.Common.{◌≡◌, ℕ, suc, ◌+◌, ◌*◌, ◌<◌, ◌≤◌, Bool, true, false, ◌∷◌, Option, Some, None, refl, sym}
+use Rattle.std.proofs.Common.{◌≡◌, ℕ, suc, ◌+◌, ◌*◌, ◌<◌, ◌≤◌, Bool, true, false, Option, Some, None, refl, sym}
 use Rattle.std.proofs.Common.{◌∙◌, ap, subst, arith, inl, add-one, IsTrue}
 use Rattle.std.specs.Prelude.{◌↔◌, IfSome}
 use Rattle.std.specs.Ordering.{nat_cmp}
@@ -12,7 +12,6 @@ use Rattle.page_disk.specs.declared.disk.PageDisk.{Ghosts}
 use Rattle.super_block.specs.Numbers.{cluster_pages_of, clusters_of}
 use Rattle.super_block.specs.Placed.{IsPlaced}
 use Rattle.volume_model.specs.Volumes.{zero_page}
-use Rattle.volume_model.specs.declared.command.Command.TheVariants as c
 use Rattle.blob_meta.specs.Pages.{place_read}
 use Rattle.blob_meta.specs.Resolving.{resolved}
 use Rattle.store_model.specs.Copying.{shown_in_slot}
@@ -29,29 +28,27 @@ use Rattle.channel_turns.proofs.PagesShown.{read_content, read_low}
 -- ---- what is read of the claim
 
 -- a claim with pages to copy, by what is read of its row
-abbrev pub seen_copy : {D : Type 0} (p : StoreView D) (channel : ℕ) (w : WaitsToCopy p channel) (claim : OpenClaim)
-    → (rows_of p.rows channel).claim ≡ Some claim → WaitsToCopy p channel
-seen_copy p channel w claim is = record {
+abbrev pub seen_copy : {D : Type 0} (d : Ghosts D) (p : StoreView D) (row : ℕ) (w : WaitsToCopy d p row)
+    (claim : OpenClaim) → (rows_of p.rows row).claim ≡ Some claim → WaitsToCopy d p row
+seen_copy d p row w claim is = record {
   left = w.left;
   holds = record {
-    volume = w.holds.volume;
-    page = w.holds.page;
-    word = w.holds.word;
-    rest = w.holds.rest;
+    left = w.holds.left;
     claim = claim;
-    row = w.holds.row ∙ ap (λ (o : Option OpenClaim). record {
-      left = c.Write w.holds.volume w.holds.page w.holds.word ∷ w.holds.rest;
+    is = w.holds.is ∙ ap (λ (o : Option OpenClaim). record {
+      left = w.holds.left;
       stage = Copying (suc w.left);
       claim = o;
-    }) (sym (ap (λ (x : Row). x.claim) w.holds.row) ∙ is);
+    }) (sym (ap (λ (x : Row). x.claim) w.holds.is) ∙ is);
+    works = w.holds.works;
   };
   few = w.few;
 }
 
-pub left_read : {D : Type 0} (p : StoreView D) (channel : ℕ) (w : WaitsToCopy p channel) (left : ℕ)
-    → Some left ≡ to_copy_in (rows_of p.rows channel).stage → left ≡ suc w.left
-left_read p channel w left is =
-    let both : Some left ≡ Some (suc w.left) = is ∙ ap (λ (x : Row). to_copy_in x.stage) w.holds.row in cc both
+pub left_read : {D : Type 0} (d : Ghosts D) (p : StoreView D) (row : ℕ) (w : WaitsToCopy d p row) (left : ℕ)
+    → Some left ≡ to_copy_in (rows_of p.rows row).stage → left ≡ suc w.left
+left_read d p row w left is =
+    let both : Some left ≡ Some (suc w.left) = is ∙ ap (λ (x : Row). to_copy_in x.stage) w.holds.is in cc both
 
 -- a test that came out so
 pub late : (b : Bool) (F : Type 0) → (IsTrue b ↔ F) → b ≡ false → F → ⊥
@@ -69,8 +66,8 @@ from_is metas sup head slot page k pages n is =
 
 -- ---- where a page is copied from and to
 
-module _ {D : Type 0} (d : Ghosts D) (p : StoreView D) (channel : ℕ) (running : IsRunning (state_of d p))
-    (runs : p.stopped ≡ None) (are : AreResolved p.metas p.marked) (w : WaitsToCopy p channel)
+module _ {D : Type 0} (d : Ghosts D) (p : StoreView D) (row : ℕ) (running : IsRunning (state_of d p))
+    (runs : p.stopped ≡ None) (are : AreResolved p.metas p.marked) (w : WaitsToCopy d p row)
     (current : map.get p.guards.generations w.holds.claim.head ≡ Some w.holds.claim.generation) where
   abbrev s : StoreState
   s = state_of d p
@@ -94,7 +91,7 @@ module _ {D : Type 0} (d : Ghosts D) (p : StoreView D) (channel : ℕ) (running 
         (sym (add-one p.super.md_len))
         ∙ ap (λ (o : Option ℕ). option_map_or s.device.reads o zero_page) (sym from_is)
 
-    pub copies_now : (to : ℕ) → to ≡ claim.cluster * k + page → CopiesNow d p channel from to w.left
+    pub copies_now : (to : ℕ) → to ≡ claim.cluster * k + page → CopiesNow d p row from to w.left
     copies_now to to_is = record {
       holds = w.holds;
       runs = runs;
@@ -123,9 +120,9 @@ module _ {D : Type 0} (d : Ghosts D) (p : StoreView D) (channel : ℕ) (running 
     to_inside to to_is =
         let used = (running.facts.well runs).clusters in
         let low = within p.clusters claim.cluster (used.claimed_too claim.cluster (inl (record {
-          channel = channel;
+          channel = row;
           claim = claim;
-          held = ap (λ (x : Row). x.claim) w.holds.row;
+          held = ap (λ (x : Row). x.claim) w.holds.is;
           is = refl;
         }))) in
         let count = used.count in

@@ -1,2 +1,3 @@
 pub mod ChannelTurns
 pub mod ClaimTurns
+pub mod FillTurns

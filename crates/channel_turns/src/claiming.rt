@@ -1,6 +1,7 @@
-//! A channel's claim of a cluster, for a write that has found its slot empty.
+//! The claim of a cluster, for a channel's write that has found its slot empty.
 
-ghost use Rattle.std.specs.Prelude.{◌≡◌, ◌⊎◌, ◌<◌, ◌/◌, ◌^◌, [], true, slice_set, None, IfNone, IfSome};
+ghost use Rattle.std.specs.Prelude.{◌≡◌, ◌⊎◌, ◌<◌, ◌/◌, ◌^◌, [], true, false, slice_set, None, IfNone, IfSome, IsSome};
+ghost use Rattle.std.specs.FinMap as map;
 ghost use Rattle.bit_array.specs.Bits.{IsFull, IsLeastClear};
 ghost use Rattle.super_block.specs.Faults.{IsFaultless};
 ghost use Rattle.super_block.specs.Numbers.{cluster_pages_of};
@@ -9,7 +10,7 @@ ghost use Rattle.store_model.specs.Rows.{Claiming};
 ghost use Rattle.channel_turns.specs.declared.claiming.ClaimTurn.TheVariants.{Claimed, Filled, Frozen, Logged};
 ghost use Rattle.channel_turns.specs.ChannelTurns.{IsFrozenFor, WaitsToWrite};
 ghost use Rattle.running_store.specs.TurnMade.{TurnMade, TurnsAs};
-ghost use Rattle.channel_turns.specs.ClaimTurns.{row_claimed, ClaimsNow, IsOfClaim};
+ghost use Rattle.channel_turns.specs.ClaimTurns.{row_claimed, ClaimsNow, HoldsLeast, IsOfClaim};
 ghost use Rattle.running_store.specs.StoreInvariant.{IsRunning};
 ghost use Rattle.running_store.specs.Running.{view_of, InOrder};
 ghost use Rattle.running_store.specs.StoreView.{rows_of, state_of};
@@ -59,6 +60,40 @@ fn take_cluster(clusters: &mut ClusterPool) -> Option<u32>
     Some(clusters.keep(claim))
 }
 
+/// A row holds a claim on the least clear cluster from now on, for a slot of the blob at a head; `false` exactly where
+/// none is clear.
+pub(crate) fn hold_least<D: PageDisk>(
+    running: &mut Running<D>,
+    row: u8,
+    head: u32,
+    slot: u32,
+) -> bool
+    requires order { InOrder D.PageDisk running.old }
+    requires row { row < 17 }
+    requires there { IsSome (map.get running.old.guards.generations head) }
+    requires faultless { IsFaultless running.old.sup }
+    ensures held { result ≡ true → HoldsLeast (view_of running.old) (view_of running.new) row head slot }
+    ensures full { result ≡ false
+        → IsFull running.old.clusters.bits × (view_of running.new ≡ view_of running.old) }
+    ensures order { InOrder D.PageDisk running.new }
+{
+    let Some(generation) = running.guards.generation(head) else {
+        unreachable!()
+    };
+    let Some(cluster) = take_cluster(&mut running.clusters) else {
+        return false;
+    };
+    let pages = running.sup.cluster_pages();
+    let claim = OpenClaim {
+        cluster,
+        head,
+        slot,
+        generation,
+    };
+    running.rows[row as usize].hold(claim, pages);
+    true
+}
+
 /// Claims the least clear cluster for an empty slot of the blob at a head, or, where none is clear, logs the write as
 /// `Full`.
 fn claim_least<D: PageDisk>(
@@ -81,22 +116,12 @@ fn claim_least<D: PageDisk>(
         (rows_of running.old.rows.items channel)) }
     ensures order { InOrder D.PageDisk running.new }
 {
-    let Some(generation) = running.guards.generation(head) else {
-        unreachable!()
-    };
-    let Some(cluster) = take_cluster(&mut running.clusters) else {
+    if hold_least(running, channel, head, slot) {
+        ClaimTurn::Claimed
+    } else {
         log_here(running, channel, Reply::Full);
-        return ClaimTurn::Logged;
-    };
-    let pages = running.sup.cluster_pages();
-    let claim = OpenClaim {
-        cluster,
-        head,
-        slot,
-        generation,
-    };
-    running.rows[channel as usize].hold(claim, pages);
-    ClaimTurn::Claimed
+        ClaimTurn::Logged
+    }
 }
 
 /// Claims a cluster for the first command of a channel, or says why that isn't done.

@@ -1,4 +1,4 @@
-//! A channel takes the word of what is decided of its row.
+//! Whoever waits for a row takes the word of what is decided of it.
 
 ghost use Rattle.std.specs.Prelude.{None, Some, ◌≡◌, ◌≢◌, ◌<◌};
 ghost use Rattle.store_model.specs.Cases as kind;
@@ -41,34 +41,34 @@ fn told(outcome: Decision) -> SettleTurn
     }
 }
 
-/// What is decided of the row of a channel, if something is; of a number from 16 on nothing is.
-fn decision_of(rows: &[Row], channel: u8) -> Option<Decision>
-    ensures { option_map decision_seen result ≡ decided_in (rows_of rows.now channel).stage }
+/// What is decided of a row, if something is; of a number past the rows nothing is.
+fn decision_of(rows: &[Row], row: u8) -> Option<Decision>
+    ensures { option_map decision_seen result ≡ decided_in (rows_of rows.now row).stage }
 {
-    match rows.get(channel as usize) {
-        Some(row) => row.decision(),
+    match rows.get(row as usize) {
+        Some(own) => own.decision(),
         None => None,
     }
 }
 
-/// A channel takes the word of what is decided of its row, if something is.
-pub fn settle_or_wait<D: PageDisk>(running: &mut Running<D>, channel: u8) -> SettleTurn
+/// Whoever waits for a row takes the word of what is decided of it, if something is.
+pub fn settle_or_wait<D: PageDisk>(running: &mut Running<D>, row: u8) -> SettleTurn
     requires order { InOrder D.PageDisk running.old }
-    requires decided { (outcome : ADecision) → (rows_of running.old.rows.items channel).stage ≡ Decided outcome
-        → (channel < 16) × ((rows_of running.old.rows.items channel).claim ≡ None) }
+    requires decided { (outcome : ADecision) → (rows_of running.old.rows.items row).stage ≡ Decided outcome
+        → (row < 17) × ((rows_of running.old.rows.items row).claim ≡ None) }
     ensures waiting { result ≡ Waiting → (view_of running.new ≡ view_of running.old)
-        × ((outcome : ADecision) → (rows_of running.old.rows.items channel).stage ≢ Decided outcome) }
-    ensures told { (outcome : ADecision) → (rows_of running.old.rows.items channel).stage ≡ Decided outcome
+        × ((outcome : ADecision) → (rows_of running.old.rows.items row).stage ≢ Decided outcome) }
+    ensures told { (outcome : ADecision) → (rows_of running.old.rows.items row).stage ≡ Decided outcome
         → result ≡ told_as outcome }
     ensures settled { result ≢ Waiting
         → TurnMade D.PageDisk (view_of running.old) (view_of running.new) kind.settles }
-    ensures row { result ≢ Waiting → OnlyRow running.old.rows.items running.new.rows.items channel
-        (record (rows_of running.old.rows.items channel) { stage = Idle }) }
+    ensures row { result ≢ Waiting → OnlyRow running.old.rows.items running.new.rows.items row
+        (record (rows_of running.old.rows.items row) { stage = Idle }) }
     ensures order { InOrder D.PageDisk running.new }
 {
-    let Some(outcome) = decision_of(running.rows.as_slice(), channel) else {
+    let Some(outcome) = decision_of(running.rows.as_slice(), row) else {
         return SettleTurn::Waiting;
     };
-    settle(running, channel);
+    settle(running, row);
     told(outcome)
 }

@@ -30,7 +30,9 @@ use Rattle.run_moves.specs.DriverSteps.{driven_at_turn, DriverStep, JobTurn, Met
 use Rattle.run_moves.specs.Projection.{job_in_run, stage_in_run}
 use Rattle.channels.specs.ChannelState.{ChannelState}
 use Rattle.channels.specs.ChannelSteps.{IsHeldUp, posted, turned, TurnsOrPosts}
-use Rattle.channels.specs.Driving.{messages_of, unsent_of}
+use Rattle.channels.specs.Driving.{driven_of, unsent_of}
+use Rattle.md_thread.specs.Holding.{driven_by, messages_by, MetadataState}
+use Rattle.run_moves.specs.Projection.{RunMessages}
 use Rattle.channels.proofs.HeldUp.{full, held_up, sends}
 
 -- ---- messages that are still to be sent
@@ -96,54 +98,42 @@ posted_stage InJob serial is = absurd (cc is)
 posted_stage (Decided outcome) serial is = absurd (cc is)
 posted_stage Ended serial is = absurd (cc is)
 
-abbrev pub with_messages : StoreState → List ChannelState → List Msg → Option Msg → DrivenStore
-with_messages p channels queue held = record { store = p; messages = messages_of channels queue held }
-
 module _ (told : Bool) (s : Super) (first : Volumes) (script : ℕ → List Command) (laws : DriverLawsOf s first script)
     (p q : StoreState) (inv : RunInvariant s first script p) (channels : List ChannelState) (queue : List Msg)
-    (held : Option Msg) (k : ℕ) (low : k < 16) (c e : ChannelState) (at : slice_get channels k ≡ Some c) where
+    (s_ : MetadataState) (k : ℕ) (low : k < 16) (c e : ChannelState) (at : slice_get channels k ≡ Some c) where
   abbrev Acts : StoreState → List Msg → Type 0
-  Acts after later = DriverStep told (ChannelActs k) (with_messages p channels queue held)
-      (with_messages after (slice_set channels k e) later held)
+  Acts after later = DriverStep told (ChannelActs k) (driven_of p channels queue s_)
+      (driven_of after (slice_set channels k e) later s_)
 
   -- a turn of its own, or a posting
   pub turn_acts : c.unsent ≡ None → TurnsOrPosts told p q k e.unsent → Acts q queue
   turn_acts none (turned turn is) = inl (
-    laws.turn_can told p q (messages_of channels queue held) k inv low turn,
+    laws.turn_can told p q (messages_by s_ (unsent_of channels) queue) k inv low turn,
     by_turn turn
-        (ap (λ u. record { unsent = u; queue = queue; held = held; waiting = []; fill = None })
+        (ap (λ u. messages_by s_ u queue)
         (unsent_same channels k c at e (is ∙ sym none))),
   )
   turn_acts none (posted turn is) = inl (
-    laws.posting_can told p q (messages_of channels queue held) k inv low turn,
+    laws.posting_can told p q (messages_by s_ (unsent_of channels) queue) k inv low turn,
     by_posting turn
-        (ap (λ u. record { unsent = u; queue = queue; held = held; waiting = []; fill = None })
+        (ap (λ u. messages_by s_ u queue)
         (unsent_more channels k c at e p.serial low is)),
   )
 
   stays : e.unsent ≡ c.unsent
-      → with_messages p (slice_set channels k e) queue held ≡ with_messages p channels queue held
+      → driven_of p (slice_set channels k e) queue s_ ≡ driven_of p channels queue s_
   stays same = ap
-      (λ u. record {
-        store = p;
-        messages = record {
-          unsent = u;
-          queue = queue;
-          held = held;
-          waiting = [];
-          fill = None;
-        };
-      })
+      (λ u. driven_by p s_ u queue)
       (unsent_same channels k c at e same)
 
   -- none, where it is held up
   pub held_acts : c.unsent ≡ None → e.unsent ≡ None → IsHeldUp p k → Acts p queue
   held_acts none still up = inr (
-    held_up p (messages_of channels queue held) k (ap unsent_in at ∙ none) up,
+    held_up p (messages_by s_ (unsent_of channels) queue) k (ap unsent_in at ∙ none) up,
     stays (still ∙ sym none),
   )
 
-  module _ (facts : RunFacts (run_of (with_messages p channels queue held))) (serial : ℕ)
+  module _ (facts : RunFacts (run_of (driven_of p channels queue s_))) (serial : ℕ)
       (some : c.unsent ≡ Some serial) where
     waits : unsent_of channels k ≡ Some serial
     waits = ap unsent_in at ∙ some
@@ -157,108 +147,21 @@ module _ (told : Bool) (s : Super) (first : Volumes) (script : ℕ → List Comm
         later
         → Acts p later
     sending_acts later none x = inl (
-      sends p (messages_of channels queue held) k serial serial low is_posted waits x.room,
+      sends p (messages_by s_ (unsent_of channels) queue) k serial serial low is_posted waits x.room,
       by_sending serial waits x.room
-          (λ i. record {
-            store = p;
-            messages = record {
-              unsent = unsent_less channels k c at e none i;
-              queue = x.behind i;
-              held = held;
-              waiting = [];
-              fill = None;
-            };
-          }),
+          (λ i. driven_by p s_ (unsent_less channels k c at e none i) (x.behind i)),
     )
 
     -- or keeps it
     pub keeping_acts : e.unsent ≡ c.unsent → IsFull queue → Acts p queue
-    keeping_acts same many = inr (full p (messages_of channels queue held) k serial is_posted many, stays same)
+    keeping_acts same many = inr (full p (messages_by s_ (unsent_of channels) queue) k serial is_posted many, stays same)
 
 -- ---- the metadata thread
 
-all_false : (a b c : Bool) → (a && b && c && false) ≡ false
-all_false true true true = refl
-all_false true true false = refl
-all_false true false c = refl
-all_false false b c = refl
-
-module _ (told : Bool) (p : StoreState) (channels : List ChannelState) (queue : List Msg) (held : Option Msg)
-    (unused : is_in_use (stage_in_run (p.rows 16).stage) ≡ false) where
-  abbrev w : DrivenStore
-  w = with_messages p channels queue held
-
-  none_waits : has_to_wait (run_of w) ≡ false
-  none_waits = all_false (not (is_there (run_of w).job)) (is_there (run_of w).fill || not
-      (is_in_use ((run_of w).rows 16).stage))
-      (holds_command (run_of w) held)
-
-  at_turn : driven_at_turn w ≡ w
-  at_turn = ap (λ b. record w { messages = if b then behind_others w.messages held else w.messages }) none_waits
-
-  acts : (v : DrivenStore) → MetadataActsOn told w v → MetadataActsOn told (driven_at_turn w) v
-  acts v x = subst (λ (u : DrivenStore). MetadataActsOn told u v) (sym at_turn) x
-
-  abbrev Steps : DrivenStore → Type 0
-  Steps v = DriverStep told MetadataActs w v
-
-  -- a turn of the running job
-  pub job_acts : (q : StoreState) (job : JobState) → p.job ≡ Some job → JobTurn told p q
-      → Steps (with_messages q channels queue held)
-  job_acts q job is turn = inl (
-    ap (λ (o : Option JobState). is_there (option_map job_in_run o) || is_there held || has_any queue || has_any
-        {X = Msg} []
-        || is_there {X = Msg} None || is_in_use (stage_in_run (p.rows 16).stage)) is,
-    acts (with_messages q channels queue held) (by_job
-        (ap (λ (o : Option JobState). due (is_there (option_map job_in_run o)) held None
-        (is_in_use (stage_in_run (p.rows 16).stage)) [] queue) is) turn refl),
-  )
-
-  -- a message is served
-  pub message_acts : (q : StoreState) (message : Msg) → p.job ≡ None → held ≡ Some message
-      → ServingTurn told p q message.channel → Steps (with_messages q channels queue None)
-  message_acts q message none is turn = inl (
-    ap (λ (o : Option JobState). is_there (option_map job_in_run o) || is_there held || has_any queue || has_any
-        {X = Msg} []
-        || is_there {X = Msg} None || is_in_use (stage_in_run (p.rows 16).stage)) none
-        ∙ ap (λ (o : Option Msg). is_there o || has_any queue || has_any {X = Msg} [] || is_there {X = Msg} None
-        || is_in_use (stage_in_run (p.rows 16).stage)) is,
-    acts (with_messages q channels queue None) (by_message message None []
-        (ap (λ (o : Option JobState). due (is_there (option_map job_in_run o)) held None
-        (is_in_use (stage_in_run (p.rows 16).stage)) [] queue) none
-        ∙ ap (λ (o : Option Msg). due false o None (is_in_use (stage_in_run (p.rows 16).stage)) [] queue) is
-        ∙ ap (λ b. due false (Some message) None b [] queue) unused)
-        (the_held is refl refl) turn refl),
-  )
-
-  -- a message is taken
-  pub taking_acts : (front : Msg) (rest : List Msg) → p.job ≡ None → held ≡ None → queue ≡ front ∷ rest
-      → Steps (with_messages p channels rest (Some front))
-  taking_acts front rest none free is = inl (
-    ap (λ (o : Option JobState). is_there (option_map job_in_run o) || is_there held || has_any queue || has_any
-        {X = Msg} []
-        || is_there {X = Msg} None || is_in_use (stage_in_run (p.rows 16).stage)) none
-        ∙ ap (λ (o : Option Msg). is_there o || has_any queue || has_any {X = Msg} [] || is_there {X = Msg} None
-        || is_in_use (stage_in_run (p.rows 16).stage)) free
-        ∙ ap (λ (l : List Msg). has_any l || has_any {X = Msg} [] || is_there {X = Msg} None
-        || is_in_use (stage_in_run (p.rows 16).stage)) is,
-    acts (with_messages p channels rest (Some front)) (by_taking front rest
-        (ap (λ (o : Option JobState). due (is_there (option_map job_in_run o)) held None
-        (is_in_use (stage_in_run (p.rows 16).stage)) [] queue) none
-        ∙ ap (λ (o : Option Msg). due false o None (is_in_use (stage_in_run (p.rows 16).stage)) [] queue) free
-        ∙ ap (λ b. due false None None b [] queue) unused)
-        is refl),
-  )
-
-  -- nothing is to be done
-  pub idle_acts : p.job ≡ None → held ≡ None → queue ≡ [] → Steps w
-  idle_acts none free is = inr (
-    ap (λ (o : Option JobState). is_there (option_map job_in_run o) || is_there held || has_any queue || has_any
-        {X = Msg} []
-        || is_there {X = Msg} None || is_in_use (stage_in_run (p.rows 16).stage)) none
-        ∙ ap (λ (o : Option Msg). is_there o || has_any queue || has_any {X = Msg} [] || is_there {X = Msg} None
-        || is_in_use (stage_in_run (p.rows 16).stage)) free
-        ∙ ap (λ (l : List Msg). has_any l || has_any {X = Msg} [] || is_there {X = Msg} None
-        || is_in_use (stage_in_run (p.rows 16).stage)) is ∙ unused,
-    refl,
-  )
+-- where none is held no command comes to wait
+pub none_joins : (w : DrivenStore) → w.messages.held ≡ None → driven_at_turn w ≡ w
+none_joins w none = ap (λ (m : RunMessages). record w { messages = m }) (go (has_to_wait (run_of w)))
+  where
+    go : (b : Bool) → (if b then behind_others w.messages w.messages.held else w.messages) ≡ w.messages
+    go true = ap (behind_others w.messages) none
+    go false = refl

@@ -1,13 +1,18 @@
 -- What a driver keeps over steps: what its rows have left, which of them have ended, and that row 16 is unused.
-use Rattle.std.proofs.Common.{◌≡◌, ◌⊎◌, inl, inr, ℕ, ◌≤◌, Bool, false, List, [], ◌∷◌, length, None}
+use Rattle.std.proofs.Common.{◌≡◌, ◌⊎◌, inl, inr, ℕ, ◌≤◌, Bool, false, List, [], ◌∷◌, length, None, refl}
 use Rattle.std.proofs.Common.{sym, ◌∙◌, ap, subst, arith}
 use Rattle.std.specs.List.{AllByRecursion}
 use Rattle.std.proofs.Math.ListN.{get_or-eq_default}
+use Rattle.std.proofs.lemmas.Bool.{cases_eq}
+use Rattle.store_model.specs.Filling.{FillStands, IsFilledFor}
+use Rattle.store_model.specs.StateLaws.{StateLaws}
+use Rattle.run_moves.specs.FillTurns as fills
+use Rattle.run_moves.specs.FillTurns.{FailedFill, FillEnd, FillTurn}
 use Rattle.page_disk.specs.declared.disk.PageDisk.{Ghosts}
 use Rattle.volume_model.specs.declared.command.Command.{Command}
 use Rattle.volume_model.specs.declared.reply.Msg.{Msg}
 use Rattle.store_model.specs.Cases as kind
-use Rattle.store_model.specs.Rows.{Ended, Posted, Row, Stage}
+use Rattle.store_model.specs.Rows.{Ended, fill_row, Posted, Row}
 use Rattle.store_model.specs.StoreState.{StoreState}
 use Rattle.running_store.specs.Requests.{IsPostedBy}
 use Rattle.running_store.specs.StoreInvariant.{opening_script, StoreInvariant}
@@ -18,7 +23,7 @@ use Rattle.run_moves.specs.DrivenStore.{DrivenStore}
 use Rattle.run_moves.specs.DriverLaws.{IsOfChannels}
 use Rattle.run_moves.specs.DriverSteps as turns
 use Rattle.run_moves.specs.DriverSteps.{ChannelActsOn, ChannelTurn, DriverStep, MetadataActsOn, PostingTurn}
-use Rattle.run_moves.specs.DriverSteps.{driven_at_turn}
+use Rattle.run_moves.specs.DriverSteps.{driven_at_turn, FillActsOn}
 use Rattle.run_moves.specs.Projection.{stage_in_run}
 use Rattle.md_thread.specs.Served.{IsServedByMetadata}
 use Rattle.md_thread.proofs.TurnsRepaired.{job_kind, serving_kind, SomeTurn}
@@ -26,7 +31,7 @@ use Rattle.channels.specs.ChannelState.{ChannelState}
 use Rattle.channels.specs.Driving.{AreChannelsOf, IsChannelOf}
 use Rattle.channels.specs.Served.{AreServed, IsServed}
 use Rattle.channels.proofs.OneRow.{AsksUnclaimed, HasMetadata, IsAsked, IsAskedAt, IsLeftOf, RowsStep, RowStep, stays}
-use Rattle.channels.proofs.RowSteps.{asked_along, ended_along, row_steps}
+use Rattle.channels.proofs.RowSteps.{asked_along, row_steps}
 
 -- ---- each turn is one of a kind
 
@@ -54,10 +59,36 @@ module _ (told : Bool) (p q : StoreState) (channel : ℕ) where
   posting_kind (turns.posts t is) = (kind.posts, t)
   posting_kind (turns.sends t is) = (kind.sends, t)
 
+module _ (told : Bool) (p q : StoreState) (channel : ℕ) where
+  fill_kind : FillTurn told p q channel → SomeTurn told p q
+  fill_kind (fills.claims_fill t is) = (kind.claims_fill, t)
+  fill_kind (fills.copies t is) = (kind.copies, t)
+  fill_kind (fills.loses_copy t is) = (kind.loses_copy, t)
+  fill_kind (fills.sends t is) = (kind.sends, t)
+  fill_kind (fills.begins_insert t is) = (kind.begins_insert, t)
+  fill_kind (fills.loses_insert t is) = (kind.loses_insert, t)
+  fill_kind (fills.settles t is) = (kind.settles, t)
+
+  end_kind : FillEnd told p q channel → SomeTurn told p q
+  end_kind (fills.begins t is unused) = (kind.begins, t)
+  end_kind (fills.answers t is unused) = (kind.answers, t)
+  end_kind (fills.refuses t is unused) = (kind.refuses, t)
+  end_kind (fills.halts serial t at is unused) = (kind.halts, t)
+  end_kind (fills.lacks_for_fill t is) = (kind.lacks_for_fill, t)
+  end_kind (fills.halts_fill t is) = (kind.halts_fill, t)
+  end_kind (fills.copy_not_read t is) = (kind.copy_not_read, t)
+  end_kind (fills.copy_fails t is) = (kind.copy_fails, t)
+  end_kind (fills.lacks_for_insert t is) = (kind.lacks_for_insert, t)
+  end_kind (fills.lacks_memory_for_insert t is) = (kind.lacks_memory_for_insert, t)
+
+failed_kind : (told : Bool) (p q : StoreState) → FailedFill p q → SomeTurn told p q
+failed_kind told p q (fills.insert_fails t is) = (kind.insert_fails, t)
+failed_kind told p q (fills.insert_breaks_down t is) = (kind.insert_breaks_down, t)
+
 -- ---- rows over a step
 
-some_step : (told : Bool) (p q : StoreState) → SomeTurn told p q → RowsStep p q
-some_step told p q x = row_steps told p q x.0 x.1
+some_step : (told : Bool) (p q : StoreState) → FillStands p → SomeTurn told p q → RowsStep p q
+some_step told p q stands x = row_steps told p q stands x.0 x.1
 
 same_step : (p q : StoreState) → q ≡ p → RowsStep p q
 same_step p q is k = subst (λ (s : StoreState). RowStep (p.rows k) (s.rows k)) (sym is) (stays (p.rows k))
@@ -71,8 +102,19 @@ module _ (told : Bool) (w v : DrivenStore) where
   by_channel channel (turns.by_posting turn is) = inl (posting_kind told w.store v.store channel turn)
   by_channel channel (turns.by_sending serial waits room is) = inr (ap (λ (x : DrivenStore). x.store) is)
 
+  by_fill : (u : DrivenStore) (message : Msg) → u.store ≡ w.store → FillActsOn told u message v → TurnOrNone
+  by_fill u message same (turns.fill_goes_on turn is) = inl (subst (λ (p : StoreState). SomeTurn told p v.store) same
+      (fill_kind told u.store v.store message.channel turn))
+  by_fill u message same (turns.fill_ends turn is) = inl (subst (λ (p : StoreState). SomeTurn told p v.store) same
+      (end_kind told u.store v.store message.channel turn))
+
   by_metadata : MetadataActsOn told (driven_at_turn w) v → TurnOrNone
   by_metadata (turns.by_job due turn is) = inl (job_kind told w.store v.store turn)
+  by_metadata (turns.by_failed_fill due turn is) = inl (failed_kind told w.store v.store turn)
+  by_metadata (turns.by_closing due turn is) = inl (kind.ends_fill, turn)
+  by_metadata (turns.by_fill message due fill acts) = by_fill (driven_at_turn w) message refl acts
+  by_metadata (turns.by_taking_up message held waiting due none takes acts) =
+      by_fill (turns.taken_up (driven_at_turn w) held waiting message) message refl acts
   by_metadata (turns.by_message message held waiting due takes turn is) =
       inl (serving_kind told w.store v.store message.channel turn)
   by_metadata (turns.by_taking front rest due queue is) = inr (ap (λ (x : DrivenStore). x.store) is)
@@ -84,9 +126,9 @@ module _ (told : Bool) (w v : DrivenStore) where
   turn_or_none actor (inr none) = inr (ap (λ (x : DrivenStore). x.store) none.1)
 
   -- each row takes a step
-  pub rows_step : (actor : ActorInRun) → DriverStep told actor w v → RowsStep w.store v.store
-  rows_step actor step = elim (turn_or_none actor step) [
-    | inl turn ↦ some_step told w.store v.store turn
+  pub rows_step : FillStands w.store → (actor : ActorInRun) → DriverStep told actor w v → RowsStep w.store v.store
+  rows_step stands actor step = elim (turn_or_none actor step) [
+    | inl turn ↦ some_step told w.store v.store stands turn
     | inr same ↦ same_step w.store v.store same
   ]
 
@@ -113,26 +155,27 @@ module _ (rows later : List Row) (steps : (k : ℕ) → RowStep (rows_of rows k)
 
 -- ---- what a run gives
 
-module _ {D : Type 0} (d : Ghosts D) (p : WithOpening D) (kept : StoreInvariant d p)
-    (sixteen : length p.opening.rows ≡ 16) where
-  abbrev blank : Row
-  blank = record { left = []; stage = Ended; claim = None }
+-- what is known of the fill's row
+pub stands : {D : Type 0} (d : Ghosts D) (laws : StateLaws) (p : WithOpening D) → StoreInvariant d p
+    → FillStands (state_of d p.at)
+stands d laws p kept =
+    laws.fill_stands d.tells (state_of d p.opening) (state_of d p.at) kept.run.0 kept.began kept.run.1
 
-  opened : (k : ℕ) → 16 ≤ k → rows_of p.opening.rows k ≡ blank
-  opened k high = get_or-eq_default p.opening.rows blank (omega (arith, high, sixteen))
+-- the rows of channels alone have commands
+pub of_channels : {D : Type 0} (d : Ghosts D) (p : WithOpening D) → StoreInvariant d p → length p.opening.rows ≡ 17
+    → IsOfChannels (opening_script p.opening)
+of_channels d p kept seventeen k high = elim (cases_eq k fill_row) [
+  | inl e ↦ ap (λ n. (rows_of p.opening.rows n).left) e ∙ ap (λ (r : Row). r.left) kept.began.fill
+  | inr ne ↦ ap (λ (r : Row). r.left) (get_or-eq_default p.opening.rows
+      (record { left = []; stage = Ended; claim = None }) (omega (arith, high, ne, seventeen)))
+]
 
-  -- a row behind those of the channels has ended
-  pub above : (k : ℕ) → 16 ≤ k → (rows_of p.at.rows k).stage ≡ Ended
-  above k high =
-      let first = ap (λ (r : Row). r.stage) (opened k high) in
-      ap (λ (r : Row). r.stage)
-      (ended_along d.tells (state_of d p.opening) kept.run.0 (state_of d p.at) kept.run.1 k first) ∙ first
-
-  pub unused : is_in_use (stage_in_run (rows_of p.at.rows 16).stage) ≡ false
-  unused = ap (λ (s : Stage). is_in_use (stage_in_run s)) (above 16 (omega arith))
-
-  pub of_channels : IsOfChannels (opening_script p.opening)
-  of_channels k high = ap (λ (r : Row). r.left) (opened k high)
+-- a row that is posted still is as it was
+pub filled_still : {D : Type 0} (d : Ghosts D) (p q : WithOpening D) → RowsStep (state_of d p.at) (state_of d q.at)
+    → (channel serial : ℕ) → (rows_of q.at.rows channel).stage ≡ Posted serial → IsFilledFor (rows_of p.at.rows channel)
+    → IsFilledFor (rows_of q.at.rows channel)
+filled_still d p q steps channel serial now was = subst IsFilledFor (sym ((steps channel).posted was.serial serial
+    (ap (λ (r : Row). r.stage) was.is) now)) was
 
 -- the command of a posted row is served
 module _ {D : Type 0} (d : Ghosts D) (p : WithOpening D) (kept : StoreInvariant d p) (served : AreServed p.at.rows)

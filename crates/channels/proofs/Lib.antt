@@ -13,5 +13,6 @@ pub mod Keeping
 pub mod Stepping
 pub mod MetadataActing
 pub mod Ending
+pub mod QueueLooked
 pub mod Looping
 pub mod Starting

@@ -1,15 +1,17 @@
 -- A step of a row: one that has ended stays, commands only leave it, and what is posted without a claim is a command
 -- for the metadata thread. And a step of all rows, where one of them changes at most.
-use Rattle.std.proofs.Common.{◌≡◌, ◌≢◌, ◌⊎◌, inl, inr, ℕ, List, ◌∷◌, Option, Some, None, refl, sym, ◌∙◌, ap}
+use Rattle.std.proofs.Common.{◌≡◌, ◌≢◌, ◌⊎◌, inl, inr, ℕ, List, [], ◌∷◌, Option, Some, None, refl, sym, ◌∙◌, ap}
 use Rattle.std.proofs.Common.{subst}
 use Rattle.std.proofs.lemmas.Bool.{cases_eq}
 use Rattle.volume_model.specs.declared.command.Command.{Command}
 use Rattle.volume_model.specs.declared.command.Command.TheVariants as c
 use Rattle.volume_model.specs.declared.reply.Reply.{Reply}
-use Rattle.store_model.specs.Claiming.{given_back, LogsOwn}
+use Rattle.store_model.specs.Claiming.{given_back, logs_filled, logs_own, LogsOwn, LogsWork}
 use Rattle.store_model.specs.Device.{Device}
-use Rattle.store_model.specs.Rows.{Ended, IsForMetadata, OpenClaim, Posted, Row, Rows, Stage, with_row}
+use Rattle.store_model.specs.Rows.{Answered, Decided, Ended, IsForMetadata, OpenClaim, Posted, Row, Rows, Stage}
+use Rattle.store_model.specs.Rows.{with_row}
 use Rattle.store_model.specs.StoreState.{StoreState}
+use Rattle.store_model.specs.Turning.{IsPosted}
 use Rattle.store_model.proofs.RowsKept.{row_here, row_other}
 
 -- ---- rows
@@ -41,10 +43,13 @@ pub record RowStep (old new : Row) : Type 0 where
   pub ended : old.stage ≡ Ended → new ≡ old
   pub left : IsLeftOf old.left new.left
   pub asked : IsAsked old → IsAsked new
+  -- a row that is posted still is as it was
+  pub posted : (serial other : ℕ) → old.stage ≡ Posted serial → new.stage ≡ Posted other → new ≡ old
 
 -- it stays
 pub stays : (row : Row) → RowStep row row
-stays row = record { ended = λ e. refl; left = inl refl; asked = λ is. is }
+stays row =
+    record { ended = λ e. refl; left = inl refl; asked = λ is. is; posted = λ serial other was is. refl }
 
 -- the stages of a row that hasn't ended
 abbrev pub IsLive : Stage → Type 0
@@ -55,29 +60,36 @@ IsLive _ = Unit {0}
 pub live : (row : Row) (stage : Stage) → row.stage ≡ stage → IsLive stage → row.stage ≡ Ended → ⊥
 live row stage is alive e = subst IsLive (sym is ∙ e) alive
 
+-- a stage at which nothing is posted
+abbrev pub IsUnposted : Stage → Type 0
+IsUnposted stage = (left : List Command) (claim : Option OpenClaim) → IsAskedAt left claim stage
+
+pub unposted : (stage : Stage) → IsUnposted stage → (serial : ℕ) → stage ≡ Posted serial → ⊥
+unposted stage plain serial is =
+    let asked : HasMetadata [] = subst (IsAskedAt [] None) is (plain [] None) in
+    let bad : [] ≡ asked.command ∷ asked.rest = asked.is in cc bad
+
 -- the first command is logged
 pub logged : (row : Row) (command : Command) (rest : List Command) (next : Stage) → row.left ≡ command ∷ rest
-    → (row.stage ≡ Ended → ⊥) → IsAskedAt rest None next
-    → RowStep row (record { left = rest; stage = next; claim = None })
-logged row command rest next left alive asked = record {
+    → (row.stage ≡ Ended → ⊥) → IsUnposted next → RowStep row (record { left = rest; stage = next; claim = None })
+logged row command rest next left alive plain = record {
   ended = λ e. absurd (alive e);
   left = inr (command, left);
-  asked = λ is. asked;
+  asked = λ is. plain rest None;
+  posted = λ serial other was is. absurd (unposted next plain other is);
 }
 
 -- it is at another stage
 pub goes : (row : Row) (left : List Command) (next : Stage) (claim : Option OpenClaim) → left ≡ row.left
     → (row.stage ≡ Ended → ⊥) → IsAskedAt left claim next
+    → ((serial other : ℕ) → row.stage ≡ Posted serial → next ≡ Posted other → ⊥)
     → RowStep row (record { left = left; stage = next; claim = claim })
-goes row left next claim same alive asked = record {
+goes row left next claim same alive asked apart = record {
   ended = λ e. absurd (alive e);
   left = inl same;
   asked = λ is. asked;
+  posted = λ serial other was is. absurd (apart serial other was is);
 }
-
--- a stage at which nothing is posted
-abbrev pub IsUnposted : Stage → Type 0
-IsUnposted stage = (left : List Command) (claim : Option OpenClaim) → IsAskedAt left claim stage
 
 -- ---- all rows, where at most one changes
 
@@ -123,4 +135,56 @@ module _ (p q : StoreState) where
       ∙ ap (λ (r : Rows). r k) rows)
       (ap (λ (s : StoreState). s.rows) logs.next)
       (logged (p.rows row) (c.Write logs.volume logs.page logs.word) logs.rest next left
-      (live (p.rows row) stage at alive) (plain logs.rest None))
+      (live (p.rows row) stage at alive) plain)
+
+  -- a row gives its claim back, and a posted command is logged
+  pub logged_posted : (mid : StoreState) → mid.rows ≡ p.rows → (row : ℕ) (next : Stage)
+      → ((p.rows row).stage ≡ Ended → ⊥) → IsUnposted next → (posted : IsPosted mid)
+      → q.rows ≡ with_row (given_back mid row next).rows posted.channel
+      (record { left = posted.rest; stage = Decided Answered; claim = None }) → RowsStep
+  logged_posted mid rows row next alive plain posted is k = elim (cases_eq k posted.channel) [
+    | inl e ↦
+        let here : q.rows k ≡ now = ap (λ (r : Rows). r k) is ∙ row_here gave.rows posted.channel now k e in
+        subst (λ (r : Row). RowStep (p.rows k) r) (sym here)
+        (subst (λ j. RowStep (p.rows j) now) (sym e)
+        (logged (p.rows posted.channel) posted.command posted.rest (Decided Answered)
+        (ap (λ (r : Rows). (r posted.channel).left) (sym rows) ∙ ap (λ (r : Row). r.left) posted.row)
+        (live (p.rows posted.channel) (Posted posted.serial)
+        (ap (λ (r : Rows). (r posted.channel).stage) (sym rows) ∙ ap (λ (r : Row). r.stage) posted.row) tt)
+        (λ left claim. tt)))
+    | inr ne ↦
+        let there : q.rows k ≡ gave.rows k =
+        ap (λ (r : Rows). r k) is ∙ row_other gave.rows posted.channel now k ne in
+        subst (λ (r : Row). RowStep (p.rows k) r) (sym there) (given k)
+  ]
+    where
+      gave : StoreState
+      gave = given_back mid row next
+
+      now : Row
+      now = record { left = posted.rest; stage = Decided Answered; claim = None }
+
+      left_now : Row
+      left_now = record { left = (mid.rows row).left; stage = next; claim = None }
+
+      given : (k : ℕ) → RowStep (p.rows k) (gave.rows k)
+      given k = elim (cases_eq k row) [
+        | inl e ↦
+            subst (λ (r : Row). RowStep (p.rows k) r) (sym (row_here mid.rows row left_now k e))
+            (subst (λ j. RowStep (p.rows j) left_now) (sym e)
+            (goes (p.rows row) (mid.rows row).left next None (ap (λ (r : Rows). (r row).left) rows) alive
+            (plain (mid.rows row).left None) (λ serial other was is. unposted next plain other is)))
+        | inr ne ↦
+            subst (λ (r : Row). RowStep (p.rows k) r)
+            (sym (row_other mid.rows row left_now k ne ∙ ap (λ (r : Rows). r k) rows)) (stays (p.rows k))
+      ]
+
+  -- whoever the row worked for
+  pub logged_work : (mid : StoreState) → mid.rows ≡ p.rows → (row : ℕ) (stage next : Stage) (reply : Reply)
+      (device : Device)
+      → LogsWork mid row next reply device q → (p.rows row).stage ≡ stage → IsLive stage → IsUnposted next → RowsStep
+  logged_work mid rows row stage next reply device (logs_own logs) at alive plain =
+      logged_own mid rows row stage next reply device logs at alive plain
+  logged_work mid rows row stage next reply device (logs_filled logs) at alive plain =
+      logged_posted mid rows row next (live (p.rows row) stage at alive) plain logs.posted
+      (ap (λ (s : StoreState). s.rows) logs.next)

@@ -2,19 +2,22 @@
 -- changes.
 use Rattle.std.proofs.Common.{◌≡◌, inl, inr, ℕ, zero, suc, true, List, ◌∷◌, None, refl}
 use Rattle.std.proofs.Common.{length, sym, ◌∙◌, ap, subst, arith}
-use Rattle.std.proofs.lemmas.Bool.{cases_eq}
+use Rattle.std.proofs.lemmas.Bool.{cases_eq, false≢true}
 use Rattle.page_disk.specs.declared.disk.PageDisk.{Ghosts}
 use Rattle.volume_model.specs.declared.command.Command.{Command}
 use Rattle.volume_model.specs.declared.reply.Msg.{Msg}
+use Rattle.volume_model.specs.declared.reply.Reply.{Reply}
 use Rattle.store_model.specs.Cases as kind
 use Rattle.store_model.specs.Cases.{Kind}
 use Rattle.store_model.specs.Cases.Copy.{stage_left}
-use Rattle.store_model.specs.Claiming.{given_back}
-use Rattle.store_model.specs.Rows.{Claiming, Copying, Decided, Idle, Ready, Row, Rows, Stage}
+use Rattle.store_model.specs.Cases.CopyFail.{copy, flush, TriedCopy}
+use Rattle.store_model.specs.Claiming.{given_back, logs_filled, logs_own, LogsWork}
+use Rattle.store_model.specs.Device.{Device}
+use Rattle.store_model.specs.Rows.{Claiming, Copying, Decided, fill_row, Idle, OpenClaim, Posted, Ready, Row, Rows, Stage}
 use Rattle.store_model.specs.Rows.{with_row}
 use Rattle.store_model.specs.StoreState.{StoreState}
 use Rattle.store_model.specs.Turning.{stopped_now}
-use Rattle.store_model.proofs.RowsKept.{row_here}
+use Rattle.store_model.proofs.RowsKept.{row_here, row_other}
 use Rattle.channel_turns.specs.ChannelTurns.{IsOfFlush, IsOfRead, IsOfWrite}
 use Rattle.channel_turns.specs.ClaimTurns.{IsOfClaim, IsOfCopy, IsOfSend}
 use Rattle.running_store.specs.TurnMade.{TurnMade, TurnsAs}
@@ -49,6 +52,7 @@ IsOwn kind.copy_fails = Unit {0}
 IsOwn kind.flushes = Unit {0}
 IsOwn kind.flush_fails = Unit {0}
 IsOwn kind.halts = Unit {0}
+IsOwn kind.halts_fill = Unit {0}
 IsOwn _ = ⊥
 
 read_own : (k : Kind) → IsOfRead k → IsOwn k
@@ -78,11 +82,13 @@ copy_own : (k : Kind) → IsOfCopy k → IsOwn k
 copy_own kind.copy_not_read is = tt
 copy_own kind.copy_fails is = tt
 copy_own kind.halts is = tt
+copy_own kind.halts_fill is = tt
 copy_own _ is = absurd is
 
 send_own : (k : Kind) → IsOfSend k → IsOwn k
 send_own kind.copy_fails is = tt
 send_own kind.halts is = tt
+send_own kind.halts_fill is = tt
 send_own _ is = absurd is
 
 -- a page that is copied leaves another stage
@@ -123,6 +129,22 @@ module _ {D : Type 0} (d : Ghosts D) (p q : StoreView D) (channel : ℕ)
   goes next is k now at stage was differs =
       its_own k now (here next is k (rows_of p.rows) now at)
       (λ e. differs (sym was ∙ ap (λ (r : Row). r.stage) e))
+
+  -- one that gives its claim back, whoever's command is logged
+  stops : (mid : StoreState) → mid.rows ≡ rows_of p.rows → (row : ℕ) (stage : Stage)
+      → (rows_of p.rows row).stage ≡ stage → (stage ≡ Idle → ⊥) → ((serial : ℕ) → stage ≡ Posted serial → ⊥)
+      → (reply : Reply) (device : Device) → LogsWork mid row Idle reply device (state_of d q) → row ≡ channel
+  stops mid rows row stage at waits unposted reply device work = its_own row (rows_of q.rows row) refl (λ e.
+      waits (sym at ∙ ap (λ (r : Row). r.stage) e ∙ idle work))
+    where
+      idle : LogsWork mid row Idle reply device (state_of d q) → (rows_of q.rows row).stage ≡ Idle
+      idle (logs_own x) = ap (λ (r : Row). r.stage) (ap (λ (s : StoreState). s.rows row) x.next
+          ∙ row_here (given_back mid row Idle).rows row _ row refl)
+      idle (logs_filled x) = ap (λ (r : Row). r.stage) (ap (λ (s : StoreState). s.rows row) x.next
+          ∙ row_other (given_back mid row Idle).rows x.posted.channel _ row (λ same.
+          unposted x.posted.serial (sym at ∙ ap (λ k. (rows_of p.rows k).stage) same
+          ∙ ap (λ (r : Rows). (r x.posted.channel).stage) (sym rows) ∙ ap (λ (r : Row). r.stage) x.posted.row))
+          ∙ row_here mid.rows row _ row refl)
 
   abbrev Own : Type 0
   Own = ChannelTurn d.tells (state_of d p) (state_of d q) channel
@@ -167,14 +189,27 @@ module _ {D : Type 0} (d : Ghosts D) (p q : StoreView D) (channel : ℕ)
       turns.loses_copy t
       (goes _ t.next t.copying.row _ refl (Copying (suc t.left)) (ap (λ (r : Row). r.stage) t.copying.is) (λ e. cc e))
   own itself kind.copy_not_read is made = let t = made.0 in
-      turns.copy_not_read t
-      (logs _ t.logs.next t.copying.row (given_back (state_of d p) t.copying.row Idle).rows _ t.logs.rest _ refl
-      t.logs.left)
+      turns.copy_not_read t (stops (state_of d p) refl t.copying.row (Copying (suc t.left))
+      (ap (λ (r : Row). r.stage) t.copying.is) (λ e. cc e) (λ serial e. cc e) _ _ t.logs)
   own itself kind.copy_fails is made = let t = made.0 in
-      turns.copy_fails t
-      (logs _ t.logs.next t.copying.row (given_back (stopped_now (state_of d p)) t.copying.row Idle).rows _
-      t.logs.rest _
-      refl t.logs.left)
+      turns.copy_fails t (stops (stopped_now (state_of d p)) refl t.copying.row t.stage
+      (ap (λ (r : Row). r.stage) t.copying.is) (tried_waits t.copying.claim t.stage t.tried)
+      (tried_unposted t.copying.claim t.stage t.tried) _ _ t.logs)
+    where
+      tried_waits : (claim : OpenClaim) (stage : Stage) → TriedCopy (state_of d p) claim stage → stage ≡ Idle → ⊥
+      tried_waits claim stage (copy left page content at current next) bad = let both = sym at ∙ bad in cc both
+      tried_waits claim stage (flush at) bad = let both = sym at ∙ bad in cc both
+
+      tried_unposted : (claim : OpenClaim) (stage : Stage) → TriedCopy (state_of d p) claim stage → (serial : ℕ)
+          → stage ≡ Posted serial → ⊥
+      tried_unposted claim stage (copy left page content at current next) serial bad =
+          let both = sym at ∙ bad in cc both
+      tried_unposted claim stage (flush at) serial bad = let both = sym at ∙ bad in cc both
+  own itself kind.halts_fill is made = let t = made.0 in
+      let e = logs _ t.next t.posted.channel (given_back (state_of d p) fill_row _).rows t.posted.command t.posted.rest _
+      refl (ap (λ (r : Row). r.left) t.posted.row) in
+      absurd (false≢true (sym (ap (λ (r : Row). logs_itself (stage_in_run r.stage)) t.posted.row)
+      ∙ subst LogsItself (sym e) itself))
   own itself kind.flushes is made = let t = made.0 in
       turns.flushes t (logs _ t.next t.channel (rows_of p.rows) _ t.rest _ refl (ap (λ (r : Row). r.left) t.row))
   own itself kind.flush_fails is made = let t = made.0 in

@@ -14,7 +14,13 @@ use Rattle.page_disk.specs.declared.disk.PageDisk.{Ghosts}
 use Rattle.volume_model.specs.declared.command.Command.{Command}
 use Rattle.volume_model.specs.declared.command.Command.TheVariants as c
 use Rattle.store_model.specs.Repairing.{IsRepaired}
-use Rattle.store_model.specs.Rows.{Claiming, Copying, Decided, Ended, Idle, InJob, OpenClaim, Posted, Ready, Row, Stage}
+use Rattle.store_model.specs.Rows.{Claiming, Copying, Decided, Ended, fill_row, Idle, InJob, OpenClaim, Posted, Ready}
+use Rattle.store_model.specs.Rows.{Row, Stage}
+use Rattle.store_model.specs.Filling.{StandsAt, unused_row}
+use Rattle.store_model.specs.StateLaws.{StateLaws}
+use Rattle.md_thread.specs.Holding.{driven_by, MetadataState}
+use Rattle.md_thread.specs.declared.state.Next.TheVariants as on
+use Rattle.channels.proofs.Keeping.{stands}
 use Rattle.running_store.specs.Stages.{is_stage, waits_for}
 use Rattle.running_store.specs.StoreInvariant.{StoreInvariant}
 use Rattle.running_store.specs.StoreView.{rows_of, state_of}
@@ -75,31 +81,40 @@ module _ (rows : List Row) (channels : List ChannelState) (are : AreStarting row
   pub own_then : AreChannelsOf rows channels
   own_then = record { sixteen = are.sixteen; each = each_own }
 
+-- how the metadata thread begins
+abbrev pub fresh : MetadataState
+fresh = record { held = None; waiting = []; fill = None; found_none = false; next = on.Plant }
+
+-- a fill's row that isn't in use works for none
+none_filled : (filling : Option ℕ) (stage : Stage) → StandsAt filling stage → stage ≡ Idle → filling ≡ None
+none_filled None stage at is = refl
+none_filled (Some channel) stage at is = absurd (subst (StandsAt (Some channel)) is at)
+
 -- a driver that starts on a store is that store with the messages of its posted rows
 module _ {D : Type 0} (d : Ghosts D) (laws : DriverLaws) (w : Driver D) (kept : StoreInvariant d w.plant)
-    (are : AreStarting w.plant.at.rows w.channels) (queue : w.queue ≡ []) (held : w.metadata.held ≡ None) where
+    (are : AreStarting w.plant.at.rows w.channels) (queue : w.queue ≡ []) (begins : w.metadata ≡ fresh) where
   pub starts_as : driven d w ≡ driven_at_start (state_of d w.plant.at)
-  starts_as = λ i. record {
-    store = state_of d w.plant.at;
-    messages = record {
-      unsent = unsent_then w.plant.at.rows w.channels are i;
-      queue = queue i;
-      held = held i;
-      waiting = [];
-      fill = None;
-    };
-  }
+  starts_as = λ i. driven_by (state_of d w.plant.at) (begins i) (unsent_then w.plant.at.rows w.channels are i) (queue i)
 
-  pub starts_driven : w.right ≡ w.plant.right → length w.plant.opening.rows ≡ 16 → AreServed w.plant.at.rows
-      → IsRepaired (state_of d w.plant.at) → IsDriven d w
-  starts_driven right sixteen served repaired = record {
+  pub starts_driven : StateLaws → w.right ≡ w.plant.right → length w.plant.opening.rows ≡ 17 → AreServed w.plant.at.rows
+      → rows_of w.plant.at.rows fill_row ≡ unused_row → IsRepaired (state_of d w.plant.at) → IsDriven d w
+  starts_driven state right seventeen served unused repaired = record {
     right = right;
-    sixteen = sixteen;
+    seventeen = seventeen;
     served = served;
     channels = own_then w.plant.at.rows w.channels are;
     repaired = repaired;
     run = subst (λ (x : DrivenStore). RunFacts (run_of x)) (sym starts_as)
         ((laws _ _ _).start (state_of d w.plant.at) kept.facts);
+    fill = record {
+      looks = ap (λ (s : MetadataState). s.found_none) begins;
+      asked = λ msg is. let bad : None ≡ Some msg = sym (ap (λ (s : MetadataState). s.fill) begins) ∙ is in
+          absurd (cc bad);
+    };
+    works = λ channel is.
+        let none = none_filled w.plant.at.filling _ (stands d state w.plant kept).stage
+        (ap (λ (r : Row). r.stage) unused) in
+        let bad : None ≡ Some channel = sym none ∙ is in absurd (cc bad);
   }
 
 -- ---- one channel after the other

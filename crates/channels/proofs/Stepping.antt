@@ -1,5 +1,5 @@
 -- A step of a driver as one of its run, and what the driver keeps.
-use Rattle.std.proofs.Common.{◌≡◌, inl, inr, ℕ, ◌<◌, List, length, Option, Some, sym, ◌∙◌, ap, subst, arith, get_or}
+use Rattle.std.proofs.Common.{◌≡◌, false, inl, inr, ℕ, ◌<◌, List, length, Option, Some, sym, ◌∙◌, ap, subst, arith, get_or}
 use Rattle.std.specs.Prelude.{slice_get, slice_set}
 use Rattle.std.proofs.lemmas.Bool.{cases_eq}
 use Rattle.std.proofs.lemmas.Option.{slice_get-get_or, slice_get_within}
@@ -17,7 +17,7 @@ use Rattle.store_model.proofs.Ranges.{get_set_other}
 use Rattle.running_store.specs.StoreInvariant.{opening_script, StoreInvariant}
 use Rattle.running_store.specs.StoreView.{rows_of, state_of, StoreView, WithOpening}
 use Rattle.run_work.specs.Following.{ActorInRun, ChannelActs}
-use Rattle.run_work.specs.RunFacts.{RunFacts}
+use Rattle.run_work.specs.RunFacts.{is_filled_for, RunFacts}
 use Rattle.run_work.specs.RunLaws.{FactLaws}
 use Rattle.run_work.specs.Steps.{StepOf}
 use Rattle.run_moves.specs.DrivenStore.{run_of}
@@ -27,10 +27,13 @@ use Rattle.run_moves.specs.Sizes.{sizes_of}
 use Rattle.md_thread.proofs.TurnsRepaired.{turned}
 use Rattle.channels.specs.ChannelState.{ChannelState}
 use Rattle.channels.specs.ChannelSteps.{IsHeldUp, made_turn, MadeStep, TurnsOrPosts, was_held, was_kept, was_sent}
-use Rattle.channels.specs.Driving.{AreChannelsOf, driven, IsChannelOf, IsDriven, IsSameStore, Steps}
+use Rattle.channels.specs.Driving.{AreChannelsOf, driven, IsChannelOf, IsDriven, IsSameStore, KeepsFill, StillKeepsFill}
+use Rattle.channels.specs.Driving.{Steps}
 use Rattle.channels.specs.declared.driver.Driver.{Driver}
-use Rattle.channels.proofs.Acting.{held_acts, keeping_acts, sending_acts, turn_acts, with_messages}
-use Rattle.channels.proofs.Keeping.{of_channels, rows_step, still_own, still_served, turn_or_none}
+use Rattle.channels.proofs.Acting.{held_acts, keeping_acts, posted_stage, sending_acts, turn_acts}
+use Rattle.channels.specs.Driving.{driven_of}
+use Rattle.md_thread.specs.Holding.{MetadataState}
+use Rattle.channels.proofs.Keeping.{filled_still, of_channels, rows_step, stands, still_own, still_served, turn_or_none}
 use Rattle.channels.proofs.OneRow.{RowStep}
 
 -- ---- the same store
@@ -46,7 +49,7 @@ same_then a b c first next = record {
 
 module _ {D : Type 0} (d : Ghosts D) (laws : DriverLaws) (plain : PlainRowLaws) (fact : FactLaws) (w v : Driver D)
     (is : IsDriven d w) (kept : StoreInvariant d w.plant) (later : StoreInvariant d v.plant) (store : IsSameStore w v)
-    (actor : ActorInRun) (step : DriverStep d.tells actor (driven d w) (driven d v)) where
+    (actor : ActorInRun) (step : DriverStep d.tells actor (driven d w) (driven d v)) (state : StateLaws) where
   later_facts : RunInvariant w.plant.opening.super (shown (state_of d w.plant.opening))
       (opening_script w.plant.opening) (state_of d v.plant.at)
   later_facts = subst (λ (o : StoreView D). RunInvariant o.super (shown (state_of d o)) (opening_script o)
@@ -54,40 +57,61 @@ module _ {D : Type 0} (d : Ghosts D) (laws : DriverLaws) (plain : PlainRowLaws) 
 
   in_run : StepOf (sizes_of w.plant.opening.super) actor (run_of (driven d w)) (run_of (driven d v))
   in_run = (laws w.plant.opening.super (shown (state_of d w.plant.opening)) (opening_script w.plant.opening)).step
-      d.tells actor (driven d w) (driven d v) kept.placed.some_pages (of_channels d w.plant kept is.sixteen) kept.facts
+      d.tells actor (driven d w) (driven d v) kept.placed.some_pages (of_channels d w.plant kept is.seventeen) kept.facts
       later_facts
       (plain.run d.tells kept.run.0 (state_of d w.plant.opening) (state_of d w.plant.at) kept.run.1
       (plain.opens (state_of d w.plant.opening) kept.began))
-      step
+      (stands d state w.plant kept) is.works is.run step
 
   -- it is one of the run
   pub steps : Steps d.tells w.plant.opening.super actor (driven d w) (driven d v)
   steps = record { driver = step; run = in_run }
 
   -- and what the driver keeps is kept
-  pub still_driven : StateLaws → AreChannelsOf v.plant.at.rows v.channels → IsDriven d v
-  still_driven state channels = record {
+  along : (k : ℕ) → RowStep (rows_of w.plant.at.rows k) (rows_of v.plant.at.rows k)
+  along = rows_step d.tells (driven d w) (driven d v) (stands d state w.plant kept) actor step
+
+  in_run_then : RunFacts (run_of (driven d v))
+  in_run_then =
+      fact.step (sizes_of w.plant.opening.super) actor (run_of (driven d w)) (run_of (driven d v)) is.run in_run
+
+  -- the row of the fill's command is as it was, since its message is on its way still
+  keeps_fill : StillKeepsFill w v → KeepsFill v
+  keeps_fill (inl fill) = fill
+  keeps_fill (inr same) = record {
+    looks = ap (λ (s : MetadataState). s.found_none) same ∙ is.fill.looks;
+    asked = λ msg fills.
+        let at = fact.posted (run_of (driven d v)) msg in_run_then (is_filled_for fills) in
+        filled_still d w.plant v.plant along msg.channel msg.serial
+        (posted_stage (rows_of v.plant.at.rows msg.channel).stage msg.serial at.1)
+        (is.fill.asked msg (ap (λ (s : MetadataState). s.fill) (sym same) ∙ fills));
+  }
+
+  pub still_driven : AreChannelsOf v.plant.at.rows v.channels → StillKeepsFill w v → IsDriven d v
+  still_driven channels fill = record {
     right = store.right ∙ is.right ∙ sym store.name;
-    sixteen = ap (λ (o : StoreView D). length o.rows) store.opening ∙ is.sixteen;
-    served = still_served w.plant.at.rows v.plant.at.rows
-        (rows_step d.tells (driven d w) (driven d v) actor step) is.served;
+    seventeen = ap (λ (o : StoreView D). length o.rows) store.opening ∙ is.seventeen;
+    served = still_served w.plant.at.rows v.plant.at.rows along is.served;
     channels = channels;
     repaired = elim (turn_or_none d.tells (driven d w) (driven d v) actor step) [
       | inl turn ↦ turned d state w.plant v.plant kept turn is.repaired
       | inr same ↦ subst IsRepaired (sym same) is.repaired
     ];
-    run = fact.step (sizes_of w.plant.opening.super) actor (run_of (driven d w)) (run_of (driven d v)) is.run in_run;
+    run = in_run_then;
+    fill = keeps_fill fill;
+    works = (laws w.plant.opening.super (shown (state_of d w.plant.opening)) (opening_script w.plant.opening)).fill
+        d.tells actor (driven d w) (driven d v) (stands d state w.plant kept) is.works step;
   }
 
 -- ---- a step of a channel
 
 module _ {D : Type 0} (d : Ghosts D) (laws : DriverLaws) (p q : WithOpening D) (kept : StoreInvariant d p)
-    (channels : List ChannelState) (queue later : List Msg) (held : Option Msg)
-    (facts : RunFacts (run_of (with_messages (state_of d p.at) channels queue held))) (k : ℕ) (low : k < 16)
+    (channels : List ChannelState) (queue later : List Msg) (held : MetadataState)
+    (facts : RunFacts (run_of (driven_of (state_of d p.at) channels queue held))) (k : ℕ) (low : k < 16)
     (c e : ChannelState) (at : slice_get channels k ≡ Some c) (number : c.channel ≡ k) where
   abbrev Acts : WithOpening D → List Msg → Type 0
-  Acts after l = DriverStep d.tells (ChannelActs k) (with_messages (state_of d p.at) channels queue held)
-      (with_messages (state_of d after.at) (slice_set channels k e) l held)
+  Acts after l = DriverStep d.tells (ChannelActs k) (driven_of (state_of d p.at) channels queue held)
+      (driven_of (state_of d after.at) (slice_set channels k e) l held)
 
   pub made_acts : MadeStep d p q c e queue later → Acts q later
   made_acts (made_turn none turn same) = subst (Acts q) (sym same)

@@ -1,5 +1,5 @@
 -- The driver of a run as a store with its messages, and what it keeps.
-use Rattle.std.specs.Prelude.{◌≡◌, ℕ, ◌<◌, Option, Some, None, Bool, true, List, [], length, slice_get}
+use Rattle.std.specs.Prelude.{◌≡◌, ◌⊎◌, ℕ, ◌<◌, Option, Some, Bool, true, false, List, length, slice_get}
 use Rattle.std.specs.Option.{option_and_then}
 use Rattle.page_disk.specs.declared.disk.PageDisk.{Ghosts}
 use Rattle.super_block.specs.declared.page.Super.{Super}
@@ -13,8 +13,11 @@ use Rattle.run_work.specs.RunFacts.{RunFacts}
 use Rattle.run_work.specs.Steps.{StepOf}
 use Rattle.run_moves.specs.DrivenStore.{DrivenStore, run_of}
 use Rattle.run_moves.specs.DriverSteps.{DriverStep}
-use Rattle.run_moves.specs.Projection.{RunMessages}
+use Rattle.run_moves.specs.FillTurns.{HoldsFill}
 use Rattle.run_moves.specs.Sizes.{sizes_of}
+use Rattle.md_thread.specs.Holding.{driven_by, MetadataState}
+use Rattle.store_model.specs.Filling.{IsFilledFor}
+use Rattle.store_model.specs.StoreState.{StoreState}
 use Rattle.channels.specs.ChannelState.{channel_at, ChannelState}
 use Rattle.channels.specs.Served.{AreServed}
 use Rattle.channels.specs.declared.driver.Driver.{Driver}
@@ -23,14 +26,12 @@ use Rattle.channels.specs.declared.driver.Driver.{Driver}
 abbrev pub unsent_of : List ChannelState → ℕ → Option ℕ
 unsent_of channels k = option_and_then (λ (c : ChannelState). c.unsent) (slice_get channels k)
 
--- the messages on their way; no command waits, since no fill is made
-abbrev pub messages_of : List ChannelState → List Msg → Option Msg → RunMessages
-messages_of channels queue held =
-    record { unsent = unsent_of channels; queue = queue; held = held; waiting = []; fill = None }
+-- a store with the messages on their way: those of the channels, of the queue and of the metadata thread
+abbrev pub driven_of : StoreState → List ChannelState → List Msg → MetadataState → DrivenStore
+driven_of p channels queue s = driven_by p s (unsent_of channels) queue
 
 abbrev pub driven : {D : Type 0} → Ghosts D → Driver D → DrivenStore
-driven d w =
-    record { store = state_of d w.plant.at; messages = messages_of w.channels w.queue w.metadata.held }
+driven d w = driven_of (state_of d w.plant.at) w.channels w.queue w.metadata
 
 -- ---- channels
 
@@ -50,15 +51,27 @@ pub record AreStarting (rows : List Row) (channels : List ChannelState) : Type 0
 
 -- ---- the driver
 
--- What it keeps: the right is the store's, of which sixteen rows began; each command that is left is served; nothing is
--- left to repair; and the store with its messages has what every state of a run has.
+-- The metadata thread looks into the queue anew, and fills slots for an inflate or a decouple.
+pub record KeepsFill {D : Type 0} (w : Driver D) : Type 0 where
+  pub looks : w.metadata.found_none ≡ false
+  pub asked : (msg : Msg) → w.metadata.fill ≡ Some msg → IsFilledFor (rows_of w.plant.at.rows msg.channel)
+
+-- so it does, or the state of the metadata thread is as it was
+abbrev pub StillKeepsFill : {D : Type 0} → Driver D → Driver D → Type 0
+StillKeepsFill w v = KeepsFill v ⊎ (v.metadata ≡ w.metadata)
+
+-- What it keeps: the right is the store's, of which sixteen channels' rows and the fill's began; each command that is
+-- left is served; nothing is left to repair; the store with its messages has what every state of a run has; and the
+-- fill that goes on is the one that the fill's row works for.
 pub record IsDriven {D : Type 0} (d : Ghosts D) (w : Driver D) : Type 0 where
   pub right : w.right ≡ w.plant.right
-  pub sixteen : length w.plant.opening.rows ≡ 16
+  pub seventeen : length w.plant.opening.rows ≡ 17
   pub served : AreServed w.plant.at.rows
   pub channels : AreChannelsOf w.plant.at.rows w.channels
   pub repaired : IsRepaired (state_of d w.plant.at)
   pub run : RunFacts (run_of (driven d w))
+  pub fill : KeepsFill w
+  pub works : HoldsFill (state_of d w.plant.at) (driven d w).messages
 
 -- it is the same store, with the same right to change it
 pub record IsSameStore {D : Type 0} (w v : Driver D) : Type 0 where

@@ -29,7 +29,7 @@ impl Model for Channel {
 }
 
 impl Channel {
-    ghost use Rattle.std.specs.Prelude.{◌≡◌, ◌↔◌, ℕ, ◌++◌, ◌∷◌, [], Some, None};
+    ghost use Rattle.std.specs.Prelude.{◌≡◌, ◌<◌, ◌↔◌, ℕ, ◌++◌, ◌∷◌, [], Some, None};
     ghost use Rattle.md_thread.specs.declared.state.Next.TheVariants as next;
     ghost use Rattle.md_thread.specs.declared.state.Turn.TheVariants.{Idle, Moved};
     ghost use Rattle.channels.specs.ChannelState.{channel_at, has_ended_at, message_of, next_of};
@@ -69,6 +69,7 @@ impl Channel {
     /// request is at the metadata thread, or it has ended: the store is as it was.
     pub fn turn<D: PageDisk>(&mut self, plant: &mut Plant<D>) -> Turn
         requires next { next_of self.old ≡ next.Plant }
+        requires low { self.old.channel < 16 }
         ensures moved { result ≡ Moved → TurnsOrPosts D.tells (state_of D.PageDisk plant.old.at)
             (state_of D.PageDisk plant.new.at) self.old.channel self.new.unsent }
         ensures idle { result ≡ Idle → IsHeldUp (state_of D.PageDisk plant.old.at) self.old.channel }

@@ -1,6 +1,6 @@
 //! One step of a channel, between the store and the queue.
 
-ghost use Rattle.std.specs.Prelude.{◌≡◌};
+ghost use Rattle.std.specs.Prelude.{◌≡◌, ◌<◌};
 ghost use Rattle.channels.specs.ChannelSteps.{MadeStep};
 ghost use Rattle.channels.specs.Driving.{IsChannelOf};
 
@@ -17,6 +17,7 @@ pub(crate) fn channel_step<D: PageDisk>(
     queue: &mut ListQueue,
 )
     requires channel { IsChannelOf plant.old.at.rows own.old.channel own.old }
+    requires low { own.old.channel < 16 }
     ensures step { MadeStep D.PageDisk plant.old plant.new own.old own.new queue.old queue.new }
     ensures channel { IsChannelOf plant.new.at.rows own.old.channel own.new }
     ensures opening { plant.new.opening ≡ plant.old.opening }

@@ -1,25 +1,25 @@
 //! The driver of a stepwise run: the store, its channels and the metadata thread, and the queue between them.
 
-ghost use Rattle.std.specs.Prelude.{◌≡◌, ◌↔◌, ◌<◌, IsTrue, length};
-ghost use Rattle.md_thread.specs.Holding.{HaveEnded};
+ghost use Rattle.std.specs.Prelude.{◌≡◌, ◌<◌, length};
 ghost use Rattle.running_store.specs.StoreView.{rows_of, state_of};
 ghost use Rattle.store_model.specs.Repairing.{IsRepaired};
-ghost use Rattle.store_model.specs.Rows.{Ended};
+ghost use Rattle.store_model.specs.Filling.{unused_row};
+ghost use Rattle.store_model.specs.Rows.{fill_row};
 ghost use Rattle.run_work.specs.Following.{ChannelActs, MetadataActs, Round, Scheduled};
 ghost use Rattle.run_moves.specs.DrivenStore.{driven_at_start};
 ghost use Rattle.run_moves.specs.DriverSteps.{has_all_ended, DriverStep, StoreFollows};
 ghost use Rattle.channels.specs.Actors.{actor_in_run, actors_in_run};
-ghost use Rattle.channels.specs.Driving.{driven, AreChannelsOf, AreStarting, IsDriven, IsSameStore, Steps};
+ghost use Rattle.channels.specs.Driving.{driven, AreChannelsOf, AreStarting, IsDriven, IsSameStore, KeepsFill, StillKeepsFill, Steps};
 ghost use Rattle.channels.specs.Served.{AreServed};
 ghost use Rattle.script_lang.specs.Schedules.{repeated};
 
 use crate::channel::Channel;
 use crate::channel_step::channel_step;
 use md_queue::ListQueue;
-use md_thread::{MdState, Turn};
+use md_thread::{MdState, Turn, fill_row_is_over, have_ended};
 use page_disk::PageDisk;
 use run_moves::{rows_stay_plain, steps_are_moves};
-use run_work::{moves_keep_facts, rounds_end};
+use run_work::{moves_keep_facts, rounds_end, what_is_due};
 use script_lang::{Actor, Part, Schedule};
 use std::alloc::Global;
 use store_core::{MdRight, Plant, RowStage};
@@ -45,31 +45,13 @@ fn channels_of<D: PageDisk>(plant: &Plant<D>) -> [Channel; 16]
     channels
 }
 
-/// Whether every channel has ended.
-fn rows_ended<D: PageDisk>(plant: &Plant<D>) -> bool
-    ensures { IsTrue result ↔ HaveEnded plant.now.at.rows }
-{
-    for channel in 0..16 {
-        if !has_ended(plant, channel) {
-            return false;
-        }
-    }
-    true
-}
-
-/// Whether a channel has ended.
-fn has_ended<D: PageDisk>(plant: &Plant<D>, channel: u8) -> bool
-    ensures { IsTrue result ↔ (rows_of plant.now.at.rows channel).stage ≡ Ended }
-{
-    matches!(plant.stage(channel), RowStage::Ended)
-}
-
 impl<D: PageDisk> Driver<D> {
     /// A driver that begins on a store, at whatever stages its rows are.
     pub(crate) fn new(plant: Plant<D>, right: MdRight) -> Driver<D>
         requires right { right ≡ plant.right }
-        requires sixteen { length plant.opening.rows ≡ 16 }
+        requires seventeen { length plant.opening.rows ≡ 17 }
         requires served { AreServed plant.at.rows }
+        requires unused { rows_of plant.at.rows fill_row ≡ unused_row }
         requires repaired { IsRepaired (state_of D.PageDisk plant.at) }
         ensures starts { driven D.PageDisk result ≡ driven_at_start (state_of D.PageDisk plant.at) }
         ensures driven { IsDriven D.PageDisk result }
@@ -77,6 +59,7 @@ impl<D: PageDisk> Driver<D> {
         ensures right { (result.right ≡ right) × (result.plant.right ≡ plant.right) }
     {
         steps_are_moves();
+        state_turns();
         plant.keeps();
         let channels = channels_of(&plant);
         Driver {
@@ -95,9 +78,11 @@ impl<D: PageDisk> Driver<D> {
         ensures step { DriverStep D.tells (ChannelActs channel) (driven D.PageDisk self.old)
             (driven D.PageDisk self.new) }
         ensures channels { AreChannelsOf self.new.plant.at.rows self.new.channels }
+        ensures metadata { self.new.metadata ≡ self.old.metadata }
         ensures store { IsSameStore self.old self.new }
     {
         steps_are_moves();
+        state_turns();
         self.plant.keeps();
         let at = usize::from(channel);
         let mut own = self.channels[at];
@@ -105,21 +90,30 @@ impl<D: PageDisk> Driver<D> {
         self.channels[at] = own;
     }
 
-    /// The metadata thread makes a turn of the store, or, where none is to be made, takes a message.
+    /// The metadata thread makes a turn of the store; where none is to be made it takes a message, or, where none is
+    /// queued, makes a turn of the fill, if one goes on.
     fn metadata_acts(&mut self, alloc: Global)
         requires driven { IsDriven D.PageDisk self.old }
         ensures step { DriverStep D.tells MetadataActs (driven D.PageDisk self.old) (driven D.PageDisk self.new) }
         ensures channels { self.new.channels ≡ self.old.channels }
+        ensures keeps { KeepsFill self.new }
         ensures store { IsSameStore self.old self.new }
     {
         moves_keep_facts();
+        what_is_due();
         self.plant.keeps();
-        if let Turn::Idle = self
+        let turn = self
             .metadata
-            .md_turn(alloc, &mut self.right, &mut self.plant)
-        {
-            self.metadata.md_take(&mut self.queue);
+            .md_turn(alloc, &mut self.right, &mut self.plant);
+        if let Turn::Moved = turn {
+            return;
         }
+        self.metadata.md_take(&mut self.queue);
+        if self.metadata.holds() {
+            return;
+        }
+        self.metadata
+            .md_turn(alloc, &mut self.right, &mut self.plant);
     }
 
     /// An actor acts, if it is one.
@@ -128,8 +122,11 @@ impl<D: PageDisk> Driver<D> {
         ensures step { DriverStep D.tells (actor_in_run actor) (driven D.PageDisk self.old)
             (driven D.PageDisk self.new) }
         ensures channels { AreChannelsOf self.new.plant.at.rows self.new.channels }
+        ensures fill { StillKeepsFill self.old self.new }
         ensures store { IsSameStore self.old self.new }
     {
+        state_turns();
+        self.plant.keeps();
         match actor {
             Actor::Channel(channel) => {
                 if channel < 16 {
@@ -211,14 +208,15 @@ impl<D: PageDisk> Driver<D> {
         }
     }
 
-    /// Whether all have ended: every channel, and no job runs.
+    /// Whether all have ended: every channel, no job runs, and the fill's row isn't in use.
     fn have_ended(&self) -> bool
         requires driven { IsDriven D.PageDisk self.now }
         ensures { result ≡ has_all_ended (driven D.PageDisk self.now) }
     {
         moves_keep_facts();
+        state_turns();
         self.plant.keeps();
-        rows_ended(&self.plant) && !self.plant.job_runs()
+        have_ended(&self.plant) && !self.plant.job_runs() && fill_row_is_over(&self.plant)
     }
 
     /// The steps of a schedule, and then rounds until all have ended.

@@ -1,6 +1,6 @@
 //! One turn of a row's channel on the store.
 
-ghost use Rattle.std.specs.Prelude.{◌≡◌, ◌⊎◌};
+ghost use Rattle.std.specs.Prelude.{◌≡◌, ◌⊎◌, ◌<◌};
 ghost use Rattle.volume_model.specs.declared.reply.Msg.{Msg as AMsg};
 ghost use Rattle.data_path.specs.declared.reading.Stage.TheVariants.{Again, Logged, Send, Waiting};
 ghost use Rattle.running_store.specs.StoreView.{state_of};
@@ -14,6 +14,7 @@ use thin_write::write_turn;
 
 /// The turn that the stage of a channel's row names. `Waiting`: it can't make one now, and nothing is done.
 pub(crate) fn own_turn<D: PageDisk>(plant: &mut Plant<D>, channel: u8) -> Stage
+    requires low { channel < 16 }
     ensures turns { (result ≡ Again) ⊎ (result ≡ Logged)
         → ChannelTurn D.tells (state_of D.PageDisk plant.old.at) (state_of D.PageDisk plant.new.at) channel }
     ensures posts { (msg : AMsg) → result ≡ Send msg → Posts D.PageDisk plant.old.at plant.new.at channel msg }

@@ -1,6 +1,8 @@
 //! A run by a schedule, a step at a time.
 
-ghost use Rattle.std.specs.Prelude.{◌≡◌, ℕ, None, length};
+ghost use Rattle.std.specs.Prelude.{◌≡◌, ℕ, ◌<◌, None, length};
+ghost use Rattle.store_model.specs.Filling.{unused_row};
+ghost use Rattle.store_model.specs.Rows.{fill_row};
 ghost use Rattle.store_model.specs.Repairing.{IsRepaired};
 ghost use Rattle.running_store.specs.StoreView.{rows_of, state_of};
 ghost use Rattle.run_moves.specs.DrivenStore.{driven_at_start, DrivenStore};
@@ -14,6 +16,7 @@ use page_disk::PageDisk;
 use script_lang::Schedule;
 use std::alloc::Global;
 use store_core::{MdRight, Plant};
+use store_model::state_turns;
 
 /// How a run ended: all channels have, each with all its commands answered.
 #[derive(Clone, Copy, Debug, PartialEq, Eq)]
@@ -34,18 +37,21 @@ pub fn run_stepwise<D: PageDisk>(
     schedule: &Schedule,
 ) -> (Plant<D>, MdRight, RunEnd)
     requires right { right ≡ plant.right }
-    requires sixteen { length plant.opening.rows ≡ 16 }
+    requires seventeen { length plant.opening.rows ≡ 17 }
     requires served { AreServed plant.at.rows }
+    requires unused { rows_of plant.at.rows fill_row ≡ unused_row }
     requires repaired { IsRepaired (state_of D.PageDisk plant.at) }
     ensures follows { (w : DrivenStore) × (w.store ≡ state_of D.PageDisk result.0.at)
         × StoreFollows D.tells (actors_in_run schedule.now) (driven_at_start (state_of D.PageDisk plant.at)) w }
-    ensures ended { (channel : ℕ) → rows_of result.0.at.rows channel ≡ ended_row }
+    ensures ended { (channel : ℕ) → channel < 16 → rows_of result.0.at.rows channel ≡ ended_row }
+    ensures unused { rows_of result.0.at.rows fill_row ≡ unused_row }
     ensures no_job { result.0.at.job ≡ None }
     ensures repaired { IsRepaired (state_of D.PageDisk result.0.at) }
     ensures end { result.2 ≡ end_of result.0.at.stopped }
     ensures opening { result.0.opening ≡ plant.opening }
     ensures right { (result.1 ≡ right) × (result.0.right ≡ plant.right) }
 {
+    state_turns();
     let mut driver = Driver::new(plant, right);
     driver.run(alloc, schedule);
     let (plant, right) = driver.into_parts();

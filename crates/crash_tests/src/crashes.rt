@@ -1,10 +1,9 @@
 //! What is found of attributes after power failed.
 
-use blob_tool::Status;
 use page_disk::{CallKind, Fail, FaultDisk, MemDisk};
 use std::alloc::Global;
 use std::test::Fail as TestFail;
-use test_runs::{Ran, expect_printed, play, run};
+use test_runs::{Ran, Status, expect_printed, play, run};
 use test_stores::{first_value, store};
 
 /// The device on which the third of three puts failed with its second flush, that of the head.

@@ -1,10 +1,10 @@
 //! A put on a volume with a chain of three pages, cut off at each call of the device.
 
-use blob_tool::Status;
 use page_disk::{FaultDisk, MemDisk};
 use std::alloc::Global;
 use std::test::Fail;
-use test_runs::{Ran, expect_printed, play, push_long, push_told, run};
+use test_lines::{push_long, push_told};
+use test_runs::{Ran, Status, expect_printed, play, run};
 use test_stores::{expect_written, volume};
 
 /// What comes of so many calls of a put of 4062 times the letter y, on a store whose chain of three pages leaves two

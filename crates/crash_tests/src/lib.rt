@@ -10,6 +10,8 @@ mod creates;
 #[cfg(test)]
 mod cut_puts;
 #[cfg(test)]
+mod fills;
+#[cfg(test)]
 mod long_creates;
 #[cfg(test)]
 mod points;

@@ -56,11 +56,18 @@ fn stopped(alloc: Global, cut: &Cut, calls: u64, disk: MemDisk) -> Result<MemDis
     Ok(disk.into_inner())
 }
 
-/// Expects that what each crash leaves after so many calls is loaded, and is as at a point. A command whose head is
-/// written and not flushed may be done or not: it is where a crash leaves the last write, as pick 1 says.
-fn expect_point(alloc: Global, cut: &Cut, calls: u64, disk: &MemDisk) -> Result<(), Fail> {
-    for pick in 0..4 {
-        let reached = if pick == 1 {
+/// Expects that what each of so many crashes leaves after so many calls is loaded, and is as at a point. A command
+/// whose head is written and not flushed may be done or not: it is where a crash leaves the last write, as pick 1 says,
+/// and each fourth one behind it.
+fn expect_point(
+    alloc: Global,
+    cut: &Cut,
+    calls: u64,
+    picks: u64,
+    disk: &MemDisk,
+) -> Result<(), Fail> {
+    for pick in 0..picks {
+        let reached = if pick % 4 == 1 {
             calls.saturating_add(1)
         } else {
             calls
@@ -76,13 +83,19 @@ fn expect_point(alloc: Global, cut: &Cut, calls: u64, disk: &MemDisk) -> Result<
 /// are done, and the one that is cut off is done or not.
 pub fn expect_cut_after(alloc: Global, cut: &Cut, calls: u64, disk: &MemDisk) -> Result<(), Fail> {
     let disk = stopped(alloc, cut, calls, disk.crash(0)?)?;
-    expect_point(alloc, cut, calls, &disk)
+    expect_point(alloc, cut, calls, 4, &disk)
 }
 
 /// Expects it of each number of calls.
 pub fn expect_cut(alloc: Global, cut: &Cut, disk: &MemDisk) -> Result<(), Fail> {
+    expect_cut_with(alloc, cut, 4, disk)
+}
+
+/// Expects it of each number of calls and so many crashes.
+pub fn expect_cut_with(alloc: Global, cut: &Cut, picks: u64, disk: &MemDisk) -> Result<(), Fail> {
     for calls in 0..cut.calls.saturating_add(1) {
-        expect_cut_after(alloc, cut, calls, disk)?;
+        let disk = stopped(alloc, cut, calls, disk.crash(0)?)?;
+        expect_point(alloc, cut, calls, picks, &disk)?;
     }
     Ok(())
 }

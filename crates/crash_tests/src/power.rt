@@ -3,7 +3,8 @@
 use page_disk::{FaultDisk, MemDisk};
 use std::alloc::Global;
 use std::test::Fail;
-use test_runs::{Letters, Ran, play, push_long, push_told, run};
+use test_lines::{Letters, push_long, push_told};
+use test_runs::{Ran, play, run};
 use test_stores::{LAST, THICK, expect_chains, expect_written, image};
 
 /// What stands once some of the puts are done: how many calls of the device were made until the head of the last one

@@ -4,7 +4,8 @@ use crate::points::{Cut, Point, expect_cut};
 use page_disk::MemDisk;
 use std::alloc::Global;
 use std::test::Fail;
-use test_runs::{play, push_long};
+use test_lines::push_long;
+use test_runs::play;
 use test_stores::{fill, image};
 
 /// A thick volume is made, grows and shrinks, and is looked at from the last page of each slot.

@@ -1,10 +1,10 @@
 //! A snapshot that is made while another channel writes, and power that fails at each call of the device.
 
-use blob_tool::Status;
 use page_disk::{FaultDisk, MemDisk};
 use std::alloc::Global;
 use std::test::Fail;
-use test_runs::{Call, Ran, perform, play, push_long, run};
+use test_lines::push_long;
+use test_runs::{Call, Ran, Status, perform, play, run};
 use test_stores::{ChainRow, expect_chains, image};
 
 /// One channel makes a snapshot, another one writes a page again and again, with the words 1 to 6 in turn.

@@ -4,7 +4,8 @@ use crate::settled::{Stand, Story, expect_story};
 use page_disk::{FaultDisk, MemDisk};
 use std::alloc::Global;
 use std::test::Fail;
-use test_runs::{Ran, expect_printed, play, push_long, run};
+use test_lines::push_long;
+use test_runs::{Ran, expect_printed, play, run};
 use test_stores::{fill, image};
 
 /// Writes over pages that are settled and over others, between a flush, a put and a sync.

@@ -7,9 +7,11 @@ ghost use Rattle.running_store.specs.StoreView.{base_of};
 
 use blob_meta::{Job, least_heads_are_meant};
 use lvol_store::{plan_delete, plan_resize, plan_snapshot};
+use md_thread::fill_row_is_over;
 use page_disk::PageDisk;
 use std::alloc::Global;
 use store_core::{BeginTurn, MdRight, Plant, Request, plans};
+use store_model::state_turns;
 use volume_model::{Command, Msg, Reply};
 
 /// The job that is planned for a resize, a snapshot or a delete, or why it is refused; `None` for another command.
@@ -48,6 +50,11 @@ pub fn begin_asked<D: PageDisk>(
     requires unmarked { HasNoMarks (base_of plant.old.at.metas plant.old.at.marked) }
     ensures right { (right.new ≡ right.old) × (plant.new.right ≡ plant.old.right) }
 {
+    state_turns();
+    plant.keeps();
+    if !fill_row_is_over(plant) {
+        return "slots are filled";
+    }
     let Ok(Request::Meta(command)) = plant.request(right, msg) else {
         return "no command";
     };

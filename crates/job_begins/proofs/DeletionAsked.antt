@@ -18,6 +18,8 @@ use Rattle.snapshots.specs.SnapshotJobs.{clone_job, snapshot_job}
 use Rattle.inflate_delete.specs.Clones.{clones_below}
 use Rattle.inflate_delete.specs.DeleteJobs.{delete_job, erase_job, going_blob, heir_of}
 use Rattle.inflate_delete.specs.DeletePlans.{IsJobBeside}
+use Rattle.inflate_delete.specs.FillJobs.{fill_job}
+use Rattle.inflate_delete.specs.Fills.{parent_blob}
 use Rattle.shown_volumes.specs.ShowsStep.{IsAtRest}
 use Rattle.shown_volumes.specs.StoredLaws.{AreStoredWell, IsStoredWell}
 use Rattle.shown_volumes.proofs.BlobsShown.{shows_blob, volume_at}
@@ -25,7 +27,7 @@ use Rattle.shown_volumes.proofs.DeleteParts as parts
 use Rattle.shown_volumes.proofs.PartsStored.{parts_stored}
 use Rattle.shown_volumes.proofs.Passing.{delete_unlocked}
 use Rattle.shown_volumes.proofs.StoredJobs.{jobs_stored}
-use Rattle.store_model.specs.Asking.{clones, creates, deletes, IsJobFor, resizes, snapshots, syncs}
+use Rattle.store_model.specs.Asking.{clones, creates, deletes, fills, IsJobFor, resizes, snapshots, syncs}
 use Rattle.store_model.specs.Maps.{with_entry, Metas}
 use Rattle.store_model.specs.Phases.{Committing}
 use Rattle.store_model.specs.Places.{IsMapped}
@@ -102,6 +104,8 @@ module _ (p : StoreState) (command : Command) (x : DeletionAsk) (asks : AsksToDe
   by (snapshots y) =
       let bad = three (snapshot_job y.of y.old y.head (two_xattrs (fixed_of p.super) (shown p) y.name None)) y.is in
       absurd (omega (arith, bad))
+  by (fills y) =
+      let bad = three (fill_job y.kind y.head y.old (parent_blob p.base y.old)) y.is in absurd (omega (arith, bad))
   by (deletes y) = beside y.clones y.clones_are y.is y.commit_is
     where
       beside : (clones_of : List ℕ) → clones_below p.super.md_len p.base y.of ≡ clones_of

@@ -1,5 +1,5 @@
 -- The begin of a delete's job, of a blob with one clone, and why it doesn't begin.
-use Rattle.std.proofs.Common.{◌≡◌, ◌∙◌, ℕ, ◌+◌, ◌-◌, ◌<◌, ◌^◌, Bool, true, List, [], ◌∷◌, ◌++◌, length, Some, None}
+use Rattle.std.proofs.Common.{◌≡◌, ◌≢◌, ◌∙◌, ℕ, ◌+◌, ◌-◌, ◌<◌, ◌^◌, Bool, true, List, [], ◌∷◌, ◌++◌, length, Some, None}
 use Rattle.std.proofs.Common.{refl, sym, ap, append-nil, arith, inl, subst}
 use Rattle.std.specs.Prelude.{if◌then◌else◌, is_some, slice_set}
 use Rattle.std.specs.FinMap as map
@@ -36,7 +36,7 @@ use Rattle.running_store.specs.StoreView.{base_of, rows_of, state_of, AreResolve
 use Rattle.running_store.specs.declared.job.RunningJob.{RunningJob}
 use Rattle.running_store.specs.declared.replacements.LaidReplacement.{LaidReplacement}
 use Rattle.running_store.specs.declared.replacements.Planned.{Planned}
-use Rattle.metadata_turns.proofs.Behind.{blobs_in}
+use Rattle.job_views.specs.Replacing.{blobs_in}
 use Rattle.job_begins.specs.Begins.{with_begun}
 use Rattle.job_begins.specs.Deletions.{deletion_needs, AreDeletionDrafts, AreDeletionEffects, AsksToDelete}
 use Rattle.job_begins.specs.Deletions.{IsDeletionLaid}
@@ -194,9 +194,10 @@ module _ {D : Type 0} (d : Ghosts D) (p : StoreView D) (running : IsRunning (sta
 
       -- it begins,
       pub begins_deletion : (posted : IsPostedAt p channel) → posted.waits.command ≡ command
-          → channel < length p.rows → (after : List Bool) → after ≡ all_set p.pages taken true
+          → p.filling ≢ Some channel → channel < length p.rows → (after : List Bool)
+          → after ≡ all_set p.pages taken true
           → Begins s (state_of d (with_begun (record p { pages = after }) channel job))
-      begins_deletion posted same low after set =
+      begins_deletion posted same unfilled low after set =
           subst (λ (j : JobState). Begins s (state_of d (record p {
             rows = slice_set p.rows channel (record (rows_of p.rows channel) { stage = InJob });
             job = Some j;
@@ -208,7 +209,7 @@ module _ {D : Type 0} (d : Ghosts D) (p : StoreView D) (running : IsRunning (sta
           (are_laid d p running clean runs no_job command x it drafts are effects does channel taken least old
           old_of_clone chain chain_too job laid) after
           (set ∙ ap (λ (l : List ℕ). all_set p.pages l true) (laid.taken_are
-          ∙ ap (λ (l : List ℕ). laid.going ++ l) (sym (append-nil laid.taking)))) low)
+          ∙ ap (λ (l : List ℕ). laid.going ++ l) (sym (append-nil laid.taking)))) unfilled low)
 
       -- and all can be kept in memory
       pub keeps_deletion : AreResolved p.metas p.marked → p.guards.drawn < 2 ^ 64 - 1

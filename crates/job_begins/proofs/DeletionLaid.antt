@@ -27,7 +27,7 @@ use Rattle.running_store.specs.declared.effects.Effects.{Effects}
 use Rattle.running_store.specs.declared.job.RunningJob.{RunningJob}
 use Rattle.running_store.specs.declared.replacements.LaidReplacement.{LaidReplacement}
 use Rattle.running_store.specs.declared.replacements.Planned.{Planned}
-use Rattle.metadata_turns.proofs.Behind.{blobs_in}
+use Rattle.job_views.specs.Replacing.{blobs_in}
 use Rattle.job_begins.specs.Alone.{IsMissing}
 use Rattle.job_begins.specs.Begins.{no_effects}
 use Rattle.job_begins.specs.Deletions.{AreDeletionDrafts, AreDeletionEffects, IsDeletionLaid}

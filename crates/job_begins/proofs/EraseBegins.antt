@@ -1,5 +1,5 @@
 -- The begin of a job that erases one blob as its commit.
-use Rattle.std.proofs.Common.{◌≡◌, ◌↔◌, ℕ, ◌<◌, Bool, true, List, [], ◌∷◌, length, Some, None, refl, sym}
+use Rattle.std.proofs.Common.{◌≡◌, ◌≢◌, ◌↔◌, ℕ, ◌<◌, Bool, true, List, [], ◌∷◌, length, Some, None, refl, sym}
 use Rattle.std.proofs.Common.{◌∙◌, ap, subst, inl, inr}
 use Rattle.std.specs.Prelude.{slice_set}
 use Rattle.std.proofs.lemmas.Bool.{cases_eq}
@@ -15,9 +15,11 @@ use Rattle.blob_meta.specs.Jobs.{create_job, job_of_one, resize_job}
 use Rattle.blob_meta.specs.Repairs.{HasNoMarks}
 use Rattle.inflate_delete.specs.DeleteJobs.{delete_job, erase_job}
 use Rattle.inflate_delete.specs.DeletePlans.{IsJobBeside}
+use Rattle.inflate_delete.specs.FillJobs.{fill_job}
+use Rattle.inflate_delete.specs.Fills.{parent_blob}
 use Rattle.md_chain.specs.Chain.{is_among}
 use Rattle.snapshots.specs.SnapshotJobs.{clone_job, snapshot_job}
-use Rattle.store_model.specs.Asking.{clones, creates, deletes, IsJobFor, resizes, snapshots, syncs}
+use Rattle.store_model.specs.Asking.{clones, creates, deletes, fills, IsJobFor, resizes, snapshots, syncs}
 use Rattle.store_model.specs.Cases.{Begins, IsPosted}
 use Rattle.store_model.specs.Maps.{without_entry, Metas}
 use Rattle.store_model.specs.Phases.{Committing}
@@ -40,7 +42,7 @@ use Rattle.running_store.proofs.Maps.{remove_given}
 use Rattle.running_store.proofs.Resolved.{unmarked_base}
 use Rattle.running_store.proofs.Rowing.{rows_set}
 use Rattle.job_begins.specs.Alone.{IsMappedBeside, IsMissing}
-use Rattle.metadata_turns.proofs.Behind.{blobs_in}
+use Rattle.job_views.specs.Replacing.{blobs_in}
 use Rattle.job_begins.proofs.ClustersAlone.{erased_moves}
 use Rattle.job_begins.proofs.RepairBegins.{stored_base}
 use Rattle.job_begins.proofs.JobPlanned.{given}
@@ -78,6 +80,8 @@ asks_to_erase p command head commit (clones y) =
 asks_to_erase p command head commit (snapshots y) =
     let job = snapshot_job y.of y.old y.head (two_xattrs (fixed_of p.super) (shown p) y.name None) in
     absurd (writes_none head job y.is y.head _ _ refl)
+asks_to_erase p command head commit (fills y) =
+    absurd (writes_none head (fill_job y.kind y.head y.old (parent_blob p.base y.old)) y.is y.head _ [] refl)
 asks_to_erase p command head commit (deletes y) = by y.clones y.is y.commit_is
   where
     by : (clones_of : List ℕ) → IsJobBeside p.base y.of y.old clones_of (erase_job head)
@@ -149,18 +153,20 @@ module _ {D : Type 0} (d : Ghosts D) (p : StoreView D) (channel : ℕ) (posted :
   abbrev in_job : Row
   in_job = record { left = command ∷ rest; stage = InJob; claim = None }
 
-  pub begins_erasing : channel < length p.rows → (old : Meta) → s.base head ≡ Some old → (bits : List Bool)
-      → ((c : ℕ) → (is_in bits c ≡ true) ↔ IsMappedBeside s.super.md_len s.base head c) → (freed : List ℕ)
+  pub begins_erasing : p.filling ≢ Some channel → channel < length p.rows → (old : Meta) → s.base head ≡ Some old
+      → (bits : List Bool) → ((c : ℕ) → (is_in bits c ≡ true) ↔ IsMappedBeside s.super.md_len s.base head c)
+      → (freed : List ℕ)
       → ((c : ℕ) → (is_among c freed ≡ true) ↔ IsMissing bits old.map c) → (behind : List ℕ)
       → s.chains head ≡ Some (head ∷ behind)
       → Begins s (state_of d (record p {
         rows = slice_set p.rows channel (record (rows_of p.rows channel) { stage = InJob });
         job = Some (removing_for (whom.Command channel None) (erasing head freed) behind []);
       }))
-  begins_erasing low old there bits bits_are freed freed_are behind chain = record {
+  begins_erasing unfilled low old there bits bits_are freed freed_are behind chain = record {
     posted = is_posted;
     runs = runs;
     no_job = no_job;
+    unfilled = unfilled;
     repaired = clean;
     changes = erase_job head;
     commit = record { reply = r.Ok; live = Some (record { head = head; xattrs = None }); renews = [] };

@@ -1,9 +1,9 @@
 -- The begin of a job, and a command that is logged instead.
-use Rattle.std.proofs.Common.{◌≡◌, ℕ, ◌+◌, ◌<◌, Bool, true, false, List, [], ◌∷◌, ◌++◌, length, drop, map}
+use Rattle.std.proofs.Common.{◌≡◌, ◌≢◌, ℕ, ◌+◌, ◌<◌, Bool, true, false, List, [], ◌∷◌, ◌++◌, length, drop, map}
 use Rattle.std.proofs.Common.{Option, Some, None, refl, sym, ◌∙◌, ap, subst, append-nil, arith}
 use Rattle.store_model.specs.Jobs.{with_clusters, AreForZeros, LacksPages, LacksPagesFor, MovesClusters}
 use Rattle.store_model.specs.Maps.{with_entry, Metas}
-use Rattle.running_store.specs.Effects.{commit_by, is_cut, live_behind, AreEffects}
+use Rattle.running_store.specs.Effects.{commit_by, is_renewed, live_behind, AreEffects}
 use Rattle.std.specs.Prelude.{if◌then◌else◌, is_some, not, slice_index_or, slice_set}
 use Rattle.std.proofs.lemmas.List.{get_or_default}
 use Rattle.page_disk.specs.declared.disk.PageDisk.{Ghosts}
@@ -155,12 +155,14 @@ module _ {D : Type 0} (d : Ghosts D) (p : StoreView D) (channel : ℕ) (low : ch
           ++ writing (drop 1 planned.chain) (Replaces (replacing_of planned old) commit ∷ erasing old old []);
     }
 
-    -- the attributes as they are read from the commit on, if they are others
-    abbrev live : Option Xattrs
-    live = live_behind command (s.live planned.head) bare
+    -- what its commit makes, of a blob that is there or not
+    abbrev commit_if : Bool → Committing
+    commit_if there = commit_by there planned.head (is_renewed command (s.base planned.head) bare)
+        (live_behind command (s.live planned.head) bare)
 
-    pub begun : AreEffects (is_some (s.chains planned.head)) planned.head (s.base planned.head) live bare claimed
-        planned.effects
+    pub begun : p.filling ≢ Some channel
+        → AreEffects (is_some (s.chains planned.head)) planned.head (s.base planned.head) command (s.live planned.head)
+        bare claimed planned.effects
         → AreLeastClear p.clusters claimed → length claimed ≡ length zeros → planned.new ≡ filled
         → (cluster_pages : ℕ) → cluster_pages ≡ cluster_pages_of p.super
         → is_some (s.chains planned.head) ≡ not makes
@@ -174,18 +176,18 @@ module _ {D : Type 0} (d : Ghosts D) (p : StoreView D) (channel : ℕ) (low : ch
           clusters = clusters;
           job = Some (begun_job serves planned old cluster_pages []);
         }))
-    begun effects least one_each new_is cluster_pages each was chain unerased pages clusters set is =
-        let commit : Committing =
-        commit_by (is_some (s.chains planned.head)) planned.head (is_cut (s.base planned.head) bare) live in
+    begun unfilled effects least one_each new_is cluster_pages each was chain unerased pages clusters set is =
+        let commit : Committing = commit_if (is_some (s.chains planned.head)) in
         record {
           posted = is_posted;
           runs = runs;
           no_job = no_job;
+          unfilled = unfilled;
           repaired = clean;
           changes = job_with_zeros planned.head bare zeros;
           commit = commit;
           asked = subst (IsJobFor s command (job_with_zeros planned.head bare zeros)) (known.commit
-              ∙ ap (λ (b : Bool). commit_by b planned.head (is_cut (s.base planned.head) bare) live)
+              ∙ ap commit_if
               (there_is s running clean runs command planned.head bare zeros asks)) asks.asked;
           claimed = claimed;
           clusters = least;
@@ -246,15 +248,16 @@ module _ {D : Type 0} (d : Ghosts D) (p : StoreView D) (channel : ℕ) (low : ch
         chain_is true head old (Some chain) was is = absurd (cc was)
         chain_is false head old o was is = is was
 
-  refused_here : (reply : Reply) → IsRefusedAtBegin s command reply → (new : StoreView D)
+  refused_here : p.filling ≢ Some channel → (reply : Reply) → IsRefusedAtBegin s command reply → (new : StoreView D)
       → ((k : Command) (ks : List Command) → (rows_of p.rows channel).left ≡ k ∷ ks
       → new ≡ logged_at p channel k ks reply (d.clock new.disk))
       → Refuses s (state_of d new) × (new.disk ≡ p.disk)
-  refused_here reply why new entry =
+  refused_here unfilled reply why new entry =
       let is = entry command rest (ap (λ (r : Row). r.left) posted.waits.row) in (
         record {
           posted = is_posted;
           runs = runs;
+          unfilled = unfilled;
           reply = reply;
           why = why;
           next = entered d p new channel command rest reply low is;
@@ -263,10 +266,11 @@ module _ {D : Type 0} (d : Ghosts D) (p : StoreView D) (channel : ℕ) (low : ch
       )
 
   -- the store is logged on as it was
-  pub refused : (reply : Reply) → IsRefusedAtBegin s command reply → (same new : StoreView D) → same ≡ p
+  pub refused : p.filling ≢ Some channel → (reply : Reply) → IsRefusedAtBegin s command reply
+      → (same new : StoreView D) → same ≡ p
       → ((k : Command) (ks : List Command) → (rows_of same.rows channel).left ≡ k ∷ ks
       → new ≡ logged_at same channel k ks reply (d.clock new.disk))
       → Refuses s (state_of d new) × (new.disk ≡ p.disk)
-  refused reply why same new is entry = refused_here reply why new (λ k ks left.
+  refused unfilled reply why same new is entry = refused_here unfilled reply why new (λ k ks left.
       subst (λ (o : StoreView D). new ≡ logged_at o channel k ks reply (d.clock new.disk)) is
       (entry k ks (subst (λ (o : StoreView D). (rows_of o.rows channel).left ≡ k ∷ ks) (sym is) left)))

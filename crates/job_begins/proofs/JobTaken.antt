@@ -1,5 +1,5 @@
 -- A job for the posted command of a channel, while its pages and clusters are taken.
-use Rattle.std.proofs.Common.{◌≡◌, ℕ, ◌<◌, ◌≤◌, All, Bool, true, false, List, [], length, Option, Some, None}
+use Rattle.std.proofs.Common.{◌≡◌, ◌≢◌, ℕ, ◌<◌, ◌≤◌, All, Bool, true, false, List, [], length, Option, Some, None}
 use Rattle.std.proofs.Common.{IfSome, refl, sym, ap, ◌∙◌, subst, arith, inl, inr}
 use Rattle.std.specs.Prelude.{if◌then◌else◌, is_some, not, slice_set}
 use Rattle.page_disk.specs.declared.disk.PageDisk.{Ghosts}
@@ -23,7 +23,7 @@ use Rattle.store_model.proofs.ZeroSlots.{zeroed_rest}
 use Rattle.running_store.specs.Jobs.{begun_job, job_seen}
 use Rattle.job_begins.specs.Begins.{planned_with, with_begun, AsksToWrite, HasChain, IsFreshHead, IsPrepared}
 use Rattle.job_begins.specs.Begins.{IsUnprepared, job_with_zeros}
-use Rattle.running_store.specs.Effects.{cut_clusters, live_behind, AreEffects}
+use Rattle.running_store.specs.Effects.{cut_clusters, AreEffects}
 use Rattle.running_store.specs.StoreInvariant.{IsRunning}
 use Rattle.running_store.specs.Blobs.{metas_given, shows_of, Blobs, CanBeKept, HasPlaces}
 use Rattle.running_store.specs.Places.{HasPlace, HasPlaceFor}
@@ -43,7 +43,7 @@ use Rattle.job_begins.proofs.JobPlanned.{all_fit}
 use Rattle.job_begins.proofs.JobBegin.{begun, why_unprepared}
 use Rattle.job_begins.proofs.SlotsOfZeros.{with_none}
 use Rattle.running_store.proofs.KeptAlone.{kept_unmarked}
-use Rattle.metadata_turns.proofs.Behind.{blobs_in}
+use Rattle.job_views.specs.Replacing.{blobs_in}
 
 -- a new blob isn't there
 pub was_there : (makes there : Bool) → makes ≡ not there → there ≡ not makes
@@ -182,8 +182,8 @@ module _ {D : Type 0} (d : Ghosts D) (p : StoreView D) (channel : ℕ) (posted :
           shows (places_filled (blobs_in p) head new later e claimed marks shows places)
 
       -- the job begins, once all that it needs is taken
-      pub job_begins : channel < length p.rows → length zeros ≤ length claimed → (e : Effects)
-          → AreEffects (is_some (s.chains head)) head (s.base head) (live_behind command (s.live head) new) new [] e
+      pub job_begins : p.filling ≢ Some channel → channel < length p.rows → length zeros ≤ length claimed
+          → (e : Effects) → AreEffects (is_some (s.chains head)) head (s.base head) command (s.live head) new [] e
           → (pages clusters : List Bool) → clusters ≡ all_set p.clusters claimed true → (x : Prepared)
           → IsPrepared p.chains head later (is_some e.rooms.chain) p.pages pages x → (cluster_pages : ℕ)
           → cluster_pages ≡ cluster_pages_of p.super → (job : RunningJob)
@@ -191,14 +191,14 @@ module _ {D : Type 0} (d : Ghosts D) (p : StoreView D) (channel : ℕ) (posted :
           ≡ begun_job (whom.Command channel None) (planned_with x head later (record e { claimed = claimed }))
           x.old cluster_pages []
           → Begins s (state_of d (with_begun (record p { pages = pages; clusters = clusters }) channel job))
-      job_begins low all e effects pages clusters set x prepared cluster_pages each job seen =
+      job_begins unfilled low all e effects pages clusters set x prepared cluster_pages each job seen =
           let one_each = as_many all in
           let there = was_there (is_some e.rooms.chain) (is_some (s.chains head)) effects.makes in
           let with_its : IsPrepared p.chains head (with_clusters new zeros claimed) (is_some e.rooms.chain) p.pages
           pages x = subst (λ (m : Meta). IsPrepared p.chains head m (is_some e.rooms.chain) p.pages pages x) is prepared
           in
           let begins = begun d p channel low posted runs running clean no_job
-          (planned_with x head later (record e { claimed = claimed })) x.old new zeros asks
+          (planned_with x head later (record e { claimed = claimed })) x.old new zeros asks unfilled
           (record {
             commit = effects.commit;
             shows = effects.shows;

@@ -24,7 +24,7 @@ use Rattle.running_store.proofs.Cleared.{among_get}
 use Rattle.running_store.proofs.PlainFacts.{got}
 use Rattle.job_begins.specs.Begins.{taken_for, IsTaken}
 use Rattle.job_begins.specs.declared.preparing.Laid.{Laid}
-use Rattle.metadata_turns.proofs.AtWork.{page_of}
+use Rattle.job_views.proofs.PlannedPages.{page_of}
 use Rattle.job_begins.proofs.JobPlaces.{once_each, places_from}
 use Rattle.job_begins.proofs.JobPlanned.{IsReadyOn}
 

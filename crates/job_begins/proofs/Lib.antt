@@ -39,3 +39,4 @@ pub mod ListParts
 pub mod DeletionAsked
 pub mod DeletionLaid
 pub mod DeletionBegins
+mod ChainFound

@@ -7,7 +7,7 @@ use Rattle.running_store.specs.Jobs.{phases_for, phases_in}
 use Rattle.running_store.specs.declared.replacements.Change.{Change}
 use Rattle.running_store.specs.declared.replacements.Change.TheVariants as change
 use Rattle.running_store.specs.declared.replacements.LaidReplacement.{LaidReplacement}
-use Rattle.metadata_turns.proofs.Behind.{committing, replacing_for}
+use Rattle.job_views.specs.Replacing.{committing, replacing_for}
 
 -- as the model has them
 abbrev pub replacings : List LaidReplacement → List Replacing

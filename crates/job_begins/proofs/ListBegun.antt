@@ -1,6 +1,6 @@
 -- The begin of a job of several replacements, as the model has it.
-use Rattle.std.proofs.Common.{◌≡◌, ℕ, ◌<◌, Bool, true, false, List, [], ◌∷◌, length, Option, Some, None, refl, sym, ap}
-use Rattle.std.proofs.Common.{◌∙◌, subst}
+use Rattle.std.proofs.Common.{◌≡◌, ◌≢◌, ℕ, ◌<◌, Bool, true, false, List, [], ◌∷◌, length, Option, Some, None, refl, sym}
+use Rattle.std.proofs.Common.{◌∙◌, ap, subst}
 use Rattle.std.specs.Prelude.{if◌then◌else◌, slice_set, ◌||◌, ◌==◌}
 use Rattle.std.specs.Cmp.{nat_cmp_total}
 use Rattle.std.specs.FinSet as set
@@ -82,8 +82,8 @@ module _ {D : Type 0} (d : Ghosts D) (p : StoreView D) (channel : ℕ) (posted :
       ∙ rows_set p.rows channel in_job low
 
   -- All pages are taken and the blob is frozen as the job begins.
-  pub begins_list : channel < length p.rows → Begins s (state_of d begun)
-  begins_list low = record {
+  pub begins_list : p.filling ≢ Some channel → channel < length p.rows → Begins s (state_of d begun)
+  begins_list unfilled low = record {
     posted = record {
       channel = channel;
       serial = posted.serial;
@@ -93,6 +93,7 @@ module _ {D : Type 0} (d : Ghosts D) (p : StoreView D) (channel : ℕ) (posted :
     };
     runs = runs;
     no_job = no_job;
+    unfilled = unfilled;
     repaired = clean;
     changes = job;
     commit = commit;

@@ -1,5 +1,5 @@
 -- The attributes as they are read behind the commit of a verb that syncs.
-use Rattle.std.proofs.Common.{◌≡◌, ℕ, true, Some, refl, sym, ap, ◌∙◌}
+use Rattle.std.proofs.Common.{◌≡◌, ℕ, true, false, Some, refl, sym, ap, ◌∙◌}
 use Rattle.std.specs.Option.{option_map}
 use Rattle.volume_model.specs.Xattrs.{Xattrs, name_key, with_nul, with_value}
 use Rattle.volume_model.specs.Volumes.{Fixed, Volume, Volumes}
@@ -13,7 +13,15 @@ use Rattle.store_model.specs.StoreState.{StoreState, shown}
 use Rattle.store_model.specs.Asking.{AsksFor, IsSyncing}
 use Rattle.store_model.proofs.Moved.{live_shown, HaveLive, NoOtherLive}
 use Rattle.store_model.proofs.Synced.{edited_from, edited_here}
-use Rattle.running_store.specs.Effects.{live_behind}
+use Rattle.running_store.specs.Effects.{live_behind, takes_parent}
+
+-- a verb that syncs leaves the parent
+pub syncing_stays : (k : Command) → IsSyncing k → takes_parent k ≡ false
+syncing_stays (c.Put volume key value) is = refl
+syncing_stays (c.Sync volume) is = refl
+syncing_stays (c.ReadOnly volume) is = refl
+syncing_stays (c.Rename volume name) is = refl
+syncing_stays _ is = absurd is
 
 module _ (p : StoreState) (have_live : HaveLive p) (no_live : NoOtherLive p) (command : Command) (head : ℕ) (new : Meta)
     (live : Xattrs) (asks : AsksFor p command head new live) where

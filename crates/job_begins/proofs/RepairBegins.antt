@@ -35,7 +35,7 @@ use Rattle.running_store.specs.declared.job.Serves.TheVariants as whom
 use Rattle.running_store.proofs.KeptAlone.{kept_given, kept_without}
 use Rattle.running_store.proofs.Maps.{insert_given, remove_given}
 use Rattle.running_store.proofs.Resolved.{resolved_none}
-use Rattle.metadata_turns.proofs.Behind.{blobs_in}
+use Rattle.job_views.specs.Replacing.{blobs_in}
 use Rattle.job_begins.proofs.PlacesThere.{places_there}
 use Rattle.job_begins.specs.Alone.{HaveRoom, IsMappedBeside, IsMissing}
 use Rattle.job_begins.specs.Begins.{no_effects, planned_with, IsPrepared}

@@ -9,7 +9,7 @@ use Rattle.store_model.specs.Inserting.{with_slot}
 use Rattle.store_model.specs.Jobs.{with_clusters}
 use Rattle.store_model.specs.Places.{AreLeastClear}
 use Rattle.store_model.proofs.Sets.{were_clear}
-use Rattle.metadata_turns.proofs.AtWork.{drop_end}
+use Rattle.std.proofs.Math.Seq.{drop-length}
 use Rattle.running_store.proofs.Cleared.{among_get}
 
 -- so many have their clusters
@@ -40,7 +40,7 @@ module _ (m : Meta) (slots clusters : List ℕ) where
 
     pub fills_all : i ≡ length slots → now ≡ with_clusters m slots clusters
     fills_all end =
-        sym (ap (λ l. with_clusters now l (drop i clusters)) (ap (λ n. drop n slots) end ∙ drop_end slots)) ∙ f.so_far
+        sym (ap (λ l. with_clusters now l (drop i clusters)) (ap (λ n. drop n slots) end ∙ drop-length slots)) ∙ f.so_far
 
 -- where place 0 is in use it isn't among the least clear ones
 pub some_claimed : (bits : List Bool) (claimed : List ℕ) → is_in bits 0 ≡ true → AreLeastClear bits claimed

@@ -11,8 +11,12 @@ use Rattle.blob_meta.specs.Resolving.{mark_of}
 use Rattle.md_chain.specs.Chain.{is_among}
 use Rattle.blob_meta.specs.Jobs.{create_job, job_of_one, new_meta, resize_job, resized_meta}
 use Rattle.volume_model.specs.Volumes.{two_xattrs}
+use Rattle.inflate_delete.specs.FillJobs.{fill_job, filled_blob}
+use Rattle.inflate_delete.specs.Fills.{parent_blob}
+use Rattle.inflate_delete.specs.declared.filling.FillKind.{FillKind}
+use Rattle.inflate_delete.specs.declared.filling.FillKind.TheVariants.{Inflate, Decouple}
 use Rattle.snapshots.specs.SnapshotJobs.{clone_job, new_clone, snapshot_job}
-use Rattle.store_model.specs.Asking.{clones, creates, deletes, resizes, snapshots, syncs, IsJobFor}
+use Rattle.store_model.specs.Asking.{clones, creates, deletes, fills, resizes, snapshots, syncs, IsJobFor}
 use Rattle.store_model.specs.Shown.{fixed_of}
 use Rattle.store_model.specs.Inserting.{with_slot}
 use Rattle.store_model.specs.Jobs.{with_clusters}
@@ -69,6 +73,13 @@ added_lie false len slots i among =
     let le = x.0 in
     let lt = x.1 in
     (le, omega (arith, le, lt))
+
+-- ---- that of the end of a fill
+
+-- the end of a fill leaves the map
+pub filled_map : (kind : FillKind) (old : Meta) (parent : Option Meta) → (filled_blob kind old parent).map ≡ old.map
+filled_map Inflate old parent = refl
+filled_map Decouple old parent = refl
 
 -- whichever verb asks for new metadata, its slots of zeros can be filled
 module _ (p : StoreState) (command : Command) (head : ℕ) (new : Meta) (zeros : List ℕ) (commit : Committing) where
@@ -132,4 +143,18 @@ module _ (p : StoreState) (command : Command) (head : ℕ) (new : Meta) (zeros :
       })
   can_be_filled (snapshots x) = absurd (many_replace head new zeros
       (snapshot_job x.of x.old x.head (two_xattrs (fixed_of p.super) (shown p) x.name None)) x.is (omega arith))
+  can_be_filled (fills x) =
+      as_those (fill_job x.kind x.head x.old (parent_blob p.base x.old)) x.is x.head
+      (filled_blob x.kind x.old (parent_blob p.base x.old)) refl (record {
+        distinct = tt;
+        empty = λ i among. absurd (cc among);
+        had = λ i c at. record {
+          head = x.head;
+          meta = x.old;
+          there = x.there;
+          place = i;
+          in_slot = sym (ap (λ (l : List (Option ℕ)). slot (record x.old { map = l }) i)
+              (filled_map x.kind x.old (parent_blob p.base x.old))) ∙ at;
+        };
+      })
   can_be_filled (deletes x) = absurd (none_deletes p.base x.of x.old head new zeros x.clones x.is)

@@ -19,7 +19,8 @@ use Rattle.shown_volumes.specs.StoredLaws.{AreStoredWell, IsStoredWell}
 use Rattle.shown_volumes.proofs.GoodMarks.{named_good}
 use Rattle.shown_volumes.proofs.StoredJobs.{jobs_stored}
 use Rattle.shown_volumes.proofs.WellStored.{meets_tests}
-use Rattle.store_model.specs.Asking.{clones, creates, deletes, IsJobFor, IsSnapshotJob, resizes, snapshots, syncs}
+use Rattle.store_model.specs.Asking.{clones, creates, deletes, fills, IsJobFor, IsSnapshotJob, resizes, snapshots}
+use Rattle.store_model.specs.Asking.{syncs}
 use Rattle.store_model.specs.Phases.{Committing}
 use Rattle.store_model.specs.Places.{held_by, UsedPages}
 use Rattle.store_model.specs.RunInvariant.{CanBeWritten, RunsWell}
@@ -48,6 +49,8 @@ with_four p command job commit (creates y) four =
 with_four p command job commit (resizes y) four =
     absurd (let one : length job.list ≡ 1 = ap (λ (j : Job). length j.list) y.is in omega (arith, four, one))
 with_four p command job commit (clones y) four =
+    absurd (let one : length job.list ≡ 1 = ap (λ (j : Job). length j.list) y.is in omega (arith, four, one))
+with_four p command job commit (fills y) four =
     absurd (let one : length job.list ≡ 1 = ap (λ (j : Job). length j.list) y.is in omega (arith, four, one))
 with_four p command job commit (snapshots y) four = y
 with_four p command job commit (deletes y) four = absurd (by y.clones y.is)

@@ -1,6 +1,6 @@
 -- The job of a snapshot begins, as the model has it, and can be kept in memory, once its pages are taken.
-use Rattle.std.proofs.Common.{◌≡◌, ◌∙◌, ℕ, ◌+◌, ◌<◌, ◌^◌, Bool, true, List, [], ◌∷◌, ◌++◌, drop, length, Option, Some}
-use Rattle.std.proofs.Common.{None}
+use Rattle.std.proofs.Common.{◌≡◌, ◌≢◌, ◌∙◌, ℕ, ◌+◌, ◌<◌, ◌^◌, Bool, true, List, [], ◌∷◌, ◌++◌, drop, length, Option}
+use Rattle.std.proofs.Common.{None, Some}
 use Rattle.std.proofs.Common.{refl, sym, ap, subst, IsSome}
 use Rattle.std.specs.Prelude.{is_some, slice_set}
 use Rattle.std.specs.FinMap as map
@@ -38,7 +38,7 @@ use Rattle.running_store.specs.declared.job.Serves.TheVariants as whom
 use Rattle.running_store.specs.declared.job.Work.TheVariants as work
 use Rattle.running_store.specs.declared.replacements.LaidReplacement.{LaidReplacement}
 use Rattle.running_store.specs.declared.replacements.Planned.{Planned}
-use Rattle.metadata_turns.proofs.Behind.{blobs_in}
+use Rattle.job_views.specs.Replacing.{blobs_in}
 use Rattle.job_begins.specs.Begins.{no_effects}
 use Rattle.job_begins.specs.Drafts.{IsDraftOf}
 use Rattle.job_begins.specs.ListJobs.{effects_in, snapshot_commit}
@@ -279,14 +279,15 @@ module _ {D : Type 0} (d : Ghosts D) (p : StoreView D) (channel : ℕ) (posted :
       })
 
       -- It begins, with its pages taken and the volume frozen,
-      pub snapshot_begins_so : channel < length p.rows → (after : List Bool) → after ≡ all_set p.pages taken true
+      pub snapshot_begins_so : p.filling ≢ Some channel → channel < length p.rows → (after : List Bool)
+          → after ≡ all_set p.pages taken true
           → Begins s (state_of d (record p {
             rows = slice_set p.rows channel (record (rows_of p.rows channel) { stage = InJob });
             job = Some (job_seen job);
             guards = frozen_at p.guards x.of;
             pages = after;
           }))
-      snapshot_begins_so low after set =
+      snapshot_begins_so unfilled low after set =
           let all = snapshot_list_laid p.super placed s.base s.chains p.pages used.count x.of x.head known.old
           known.xattrs known.there known.none known.apart old behind known.no_chain known.volume_in_use laid.begun
           laid.filled laid.emptied laid.made least_parts stored_begun stored_filled stored_emptied stored_made
@@ -300,7 +301,7 @@ module _ {D : Type 0} (d : Ghosts D) (p : StoreView D) (channel : ℕ) (posted :
           }))) (sym job_is)
           (begins_list d p channel posted clean runs no_job (snapshot_job x.of known.old x.head known.xattrs) commit
           asked refl list all.commits_at all.laid after
-          (set ∙ ap (λ l. all_set p.pages l true) (taken_are ∙ sym all.takes)) low)
+          (set ∙ ap (λ l. all_set p.pages l true) (taken_are ∙ sym all.takes)) unfilled low)
 
       -- is headed,
       pub snapshot_headed : IsHeaded job

@@ -1,6 +1,6 @@
 //! The begin of a job.
 
-ghost use Rattle.std.specs.Prelude.{◌≡◌, ◌<◌, None, IfErr, IfOk, IsSome, OnErr};
+ghost use Rattle.std.specs.Prelude.{◌≡◌, ◌≢◌, ◌<◌, None, Some, IfErr, IfOk, IsSome, OnErr};
 ghost use Rattle.super_block.specs.Faults.{IsFaultless};
 ghost use Rattle.store_model.specs.Cases.{Begins, IsRefusedAtBegin};
 ghost use Rattle.store_model.specs.Cases as kind;
@@ -45,6 +45,7 @@ fn begin<D: PageDisk>(running: &mut Running<D>, channel: u8, ask: Ask) -> BeginT
     requires faultless { IsFaultless running.old.sup }
     requires channel { channel < 16 }
     requires posted { IsPostedAt (view_of running.old) channel }
+    requires unfilled { running.old.filling ≢ Some channel }
     requires asks { Asks (view_of running.old) channel
         (λ command. IsAskedAs (state_of D.PageDisk (view_of running.old)) command ask) }
     requires running { IsRunning (state_of D.PageDisk (view_of running.old)) }
@@ -81,6 +82,7 @@ fn job_asked<D: PageDisk>(
     requires faultless { IsFaultless running.old.sup }
     requires channel { channel < 16 }
     requires posted { IsPostedAt (view_of running.old) channel }
+    requires unfilled { running.old.filling ≢ Some channel }
     requires asks { Asks (view_of running.old) channel
         (λ command. IsAskedAs (state_of D.PageDisk (view_of running.old)) command ask) }
     requires running { IsRunning (state_of D.PageDisk (view_of running.old)) }
@@ -121,6 +123,7 @@ fn job_for<D: PageDisk>(
     requires faultless { IsFaultless running.old.sup }
     requires channel { channel < 16 }
     requires posted { IsPostedAt (view_of running.old) channel }
+    requires unfilled { running.old.filling ≢ Some channel }
     requires asks { Asks (view_of running.old) channel
         (λ command. AsksToWrite (state_of D.PageDisk (view_of running.old)) command head new zeros.now) }
     requires running { IsRunning (state_of D.PageDisk (view_of running.old)) }
@@ -170,6 +173,7 @@ pub fn begin_or_halt<D: PageDisk>(running: &mut Running<D>, channel: u8, job: Jo
     requires order { InOrder D.PageDisk running.old }
     requires channel { channel < 16 }
     requires posted { IsPostedAt (view_of running.old) channel }
+    requires unfilled { running.old.filling ≢ Some channel }
     requires faultless { IsFaultless running.old.sup }
     requires asks { running.old.stopped ≡ None → Asks (view_of running.old) channel
         (λ command. IsJobOf (state_of D.PageDisk (view_of running.old)) command job) }

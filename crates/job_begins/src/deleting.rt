@@ -1,7 +1,7 @@
 //! The begin of a delete's job, of a blob with one clone, of three replacements: the blob is marked, its clone takes
 //! over from it, and it is erased.
 
-ghost use Rattle.std.specs.Prelude.{◌≡◌, ◌<◌, ◌-◌, ◌^◌, ℕ, [], true, length, None, IfErr, IfOk, OnErr};
+ghost use Rattle.std.specs.Prelude.{◌≡◌, ◌≢◌, ◌<◌, ◌-◌, ◌^◌, ℕ, [], true, length, None, Some, IfErr, IfOk, OnErr};
 ghost use Rattle.super_block.specs.Faults.{IsFaultless};
 ghost use Rattle.blob_meta.specs.Faults.{clusters_of};
 ghost use Rattle.blob_meta.specs.Repairs.{HasNoMarks};
@@ -76,10 +76,8 @@ impl DeletionDrafts {
             going,
             taking,
         } = ask;
-        Ok(DeletionDrafts {
-            going: Draft::new(alloc, of, going)?,
-            taking: Draft::new(alloc, clone, taking)?,
-        })
+        let (going, taking) = Draft::two(alloc, (of, going), (clone, taking))?;
+        Ok(DeletionDrafts { going, taking })
     }
 
     /// How many pages the job takes.
@@ -170,16 +168,20 @@ fn effects_of<D>(running: &Running<D>, ask: &DeletionAsk) -> Result<DeletionEffe
     if !running.guards.can_renew() {
         return Err(Memory);
     }
+    let room = place(alloc, &running.marked, ask.of)?;
+    let renews = vec![in alloc; ask.clone]?;
+    let mut beside = clusters_beside(running, ask.of)?;
+    add_clusters(&mut beside, &ask.taking.map);
+    let freed = missing(alloc, &mut beside, &ask.going.map)?;
     let begin = Effects {
         commit: None,
         freed: PlaceList::new(alloc),
         claimed: PlaceList::new(alloc),
         rooms: Rooms {
             chain: None,
-            meta: place(alloc, &running.marked, ask.of)?,
+            meta: room,
         },
     };
-    let renews = vec![in alloc; ask.clone]?;
     let commit = Effects {
         commit: Some(Commit {
             made: None,
@@ -202,9 +204,6 @@ fn effects_of<D>(running: &Running<D>, ask: &DeletionAsk) -> Result<DeletionEffe
             meta: None,
         },
     };
-    let mut beside = clusters_beside(running, ask.of)?;
-    add_clusters(&mut beside, &ask.taking.map);
-    let freed = missing(alloc, &mut beside, &ask.going.map)?;
     Ok(DeletionEffects {
         begin,
         commit,
@@ -223,6 +222,7 @@ pub(crate) fn deletion_job<D: PageDisk>(
     requires faultless { IsFaultless running.old.sup }
     requires channel { channel < 16 }
     requires posted { IsPostedAt (view_of running.old) channel }
+    requires unfilled { running.old.filling ≢ Some channel }
     requires asks { Asks (view_of running.old) channel
         (λ command. AsksToDelete (state_of D.PageDisk (view_of running.old)) command ask) }
     requires running { IsRunning (state_of D.PageDisk (view_of running.old)) }

@@ -31,6 +31,23 @@ impl Draft {
         Ok(Draft { head, new, items })
     }
 
+    /// The drafts of two blobs' metadata, each with its head.
+    pub(crate) fn two(
+        alloc: Global,
+        one: (u32, Meta),
+        other: (u32, Meta),
+    ) -> Result<(Draft, Draft), Memory>
+        requires one { All FitsPage one.1.xattrs × All FitsPage one.1.internal }
+        requires other { All FitsPage other.1.xattrs × All FitsPage other.1.internal }
+        ensures { IfOk result (λ both. IsDraftOf one.0 one.1 both.0 × IsDraftOf other.0 other.1 both.1) }
+    {
+        let (head, new) = one;
+        let (other_head, other_new) = other;
+        let one = Draft::new(alloc, head, new)?;
+        let other = Draft::new(alloc, other_head, other_new)?;
+        Ok((one, other))
+    }
+
     /// How many pages its chain takes: those behind the head, and the head's where the blob is new.
     pub(crate) fn needs(&self, makes: bool) -> u32
         requires { IsDraft self.now }

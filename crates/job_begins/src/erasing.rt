@@ -1,6 +1,6 @@
 //! The begin of a job that erases a blob and replaces no other: the delete of a volume without clones.
 
-ghost use Rattle.std.specs.Prelude.{◌≡◌, ◌<◌, None, IfOk};
+ghost use Rattle.std.specs.Prelude.{◌≡◌, ◌≢◌, ◌<◌, None, Some, IfOk};
 ghost use Rattle.blob_meta.specs.Repairs.{HasNoMarks};
 ghost use Rattle.inflate_delete.specs.DeleteJobs.{erase_job};
 ghost use Rattle.job_begins.specs.Asks.{IsAskedFor};
@@ -30,6 +30,7 @@ pub(crate) fn erasing_job<D: PageDisk>(
     requires order { InOrder D.PageDisk running.now }
     requires channel { channel < 16 }
     requires posted { IsPostedAt (view_of running.now) channel }
+    requires unfilled { running.now.filling ≢ Some channel }
     requires asks { Asks (view_of running.now) channel
         (λ command. IsAskedFor (state_of D.PageDisk (view_of running.now)) command (erase_job head)) }
     requires running { IsRunning (state_of D.PageDisk (view_of running.now)) }

@@ -7,15 +7,14 @@ ghost use Rattle.blob_meta.specs.declared.meta.Meta.{Meta as AMeta};
 ghost use Rattle.blob_meta.specs.Parents.{slot};
 ghost use Rattle.blob_meta.specs.Repairs.{HasNoMarks};
 ghost use Rattle.store_model.specs.Repairing.{IsRepaired};
-ghost use Rattle.store_model.specs.Cases as kind;
 ghost use Rattle.store_model.specs.Claiming.{CanInsert};
+ghost use Rattle.store_model.specs.Filling.{FillStands};
 ghost use Rattle.store_model.specs.Inserting.{with_slot};
 ghost use Rattle.job_begins.specs.declared.inserting.InsertTurn.TheVariants.{Logged};
-ghost use Rattle.job_begins.specs.Inserts.{row_inserting, Fills, HoldsPosted, InsertsOrNot};
-ghost use Rattle.metadata_turns.specs.OwnWrites.{AreOwn};
+ghost use Rattle.job_begins.specs.Inserts.{Fills, HoldsPosted, InsertsOrNot, RowsInserting};
+ghost use Rattle.running_store.specs.GivingBack.{halting};
 ghost use Rattle.running_store.specs.Running.{view_of, InOrder};
 ghost use Rattle.running_store.specs.Stages.{claim_seen};
-ghost use Rattle.running_store.specs.Steps.{decided, OnlyRow};
 ghost use Rattle.running_store.specs.StoreInvariant.{IsRunning};
 ghost use Rattle.running_store.specs.StoreView.{base_of, rows_of, state_of};
 ghost use Rattle.running_store.specs.TurnMade.{TurnMade};
@@ -24,7 +23,9 @@ use crate::preparing::prepare;
 use blob_meta::Meta;
 use out_of_memory::Memory;
 use page_disk::PageDisk;
-use running_store::{Decision, OpenClaim, Row, Running, Serves, Stage, give_back, give_up};
+use running_store::{
+    Decision, OpenClaim, Row, Running, Serves, Stage, give_back, give_up, halt_work,
+};
 use std::alloc::Global;
 use volume_model::{Reply, TryCopy};
 
@@ -34,50 +35,52 @@ pub enum InsertTurn {
     /// The job runs that puts the cluster into its slot.
     Began,
     /// The claim is lost: the blob is gone or has another generation, or the slot isn't there or is filled. It is given
-    /// back, and the write begins again.
+    /// back, and whoever works on the row begins again.
     Decided,
-    /// Too few pages are clear, memory ran out, or the store has stopped: the write is logged as that, and the claim
-    /// given back.
+    /// Too few pages are clear, memory ran out, or the store has stopped: the command that the row works for is logged
+    /// as that, and the claim given back.
     Logged,
 }
 
-/// Begins the job that puts the cluster of a posted row into its slot, or decides that the claim is lost, or logs its
-/// write as `NoPage` or `Memory`.
-pub(crate) fn begin_insert<D: PageDisk>(running: &mut Running<D>, channel: u8) -> InsertTurn
+/// The stage of a row behind an entry: whoever waits for it is to be told.
+const ANSWERED: Stage = Stage::Decided(Decision::Answered);
+
+/// Begins the job that puts the cluster of a posted row into its slot, or decides that the claim is lost, or logs the
+/// command that the row works for as `NoPage` or `Memory`.
+pub(crate) fn begin_insert<D: PageDisk>(running: &mut Running<D>, row: u8) -> InsertTurn
     requires order { InOrder D.PageDisk running.old }
-    requires channel { channel < 16 }
-    requires posted { HoldsPosted (view_of running.old) channel }
+    requires row { row < 17 }
+    requires posted { HoldsPosted D.PageDisk (view_of running.old) row }
     requires running { IsRunning (state_of D.PageDisk (view_of running.old)) }
-    requires own { AreOwn (state_of D.PageDisk (view_of running.old)) }
+    requires fill { FillStands (state_of D.PageDisk (view_of running.old)) }
     requires runs { running.old.stopped ≡ None }
     requires no_job { running.old.job ≡ None }
     requires unmarked { HasNoMarks (base_of running.old.metas running.old.marked) }
     ensures case { InsertsOrNot D.PageDisk (view_of running.old) (view_of running.new) result }
-    ensures row { OnlyRow running.old.rows.items running.new.rows.items channel
-        (row_inserting result (rows_of running.old.rows.items channel)) }
+    ensures rows { RowsInserting result running.old.filling running.old.rows.items running.new.rows.items row }
     ensures order { InOrder D.PageDisk running.new }
 {
-    let claim = claim_of(running.rows.as_slice(), channel);
+    let claim = claim_of(running.rows.as_slice(), row);
     match filled(running, claim) {
         None => {
-            give_back(running, channel, Stage::Decided(Decision::Lost));
+            give_back(running, row, Stage::Decided(Decision::Lost));
             InsertTurn::Decided
         }
-        Some(Ok(new)) => start(running, channel, claim, new),
+        Some(Ok(new)) => start(running, row, claim, new),
         Some(Err(Memory)) => {
-            give_up(running, channel, Reply::Memory);
+            give_up(running, row, Reply::Memory, ANSWERED);
             InsertTurn::Logged
         }
     }
 }
 
 /// The claim of a row that holds one.
-fn claim_of(rows: &[Row], channel: u8) -> OpenClaim
-    requires low { channel < length rows.now }
-    requires claimed { IsSome (rows_of rows.now channel).claim }
-    ensures { (rows_of rows.now channel).claim ≡ Some (claim_seen result) }
+fn claim_of(rows: &[Row], row: u8) -> OpenClaim
+    requires low { row < length rows.now }
+    requires claimed { IsSome (rows_of rows.now row).claim }
+    ensures { (rows_of rows.now row).claim ≡ Some (claim_seen result) }
 {
-    match rows[channel as usize].claim() {
+    match rows[row as usize].claim() {
         Some(claim) => claim,
         None => unreachable!(),
     }
@@ -124,27 +127,21 @@ fn fill(alloc: Global, meta: &Meta, place: u32, cluster: u32) -> Result<Meta, Me
 
 /// Begins the job that gives a claim's blob this metadata, or logs that too few pages are clear for it, or that memory
 /// ran out.
-fn start<D: PageDisk>(
-    running: &mut Running<D>,
-    channel: u8,
-    claim: OpenClaim,
-    new: Meta,
-) -> InsertTurn
+fn start<D: PageDisk>(running: &mut Running<D>, row: u8, claim: OpenClaim, new: Meta) -> InsertTurn
     requires order { InOrder D.PageDisk running.old }
-    requires channel { channel < 16 }
-    requires posted { HoldsPosted (view_of running.old) channel }
-    requires claimed { (rows_of running.old.rows.items channel).claim ≡ Some (claim_seen claim) }
+    requires row { row < 17 }
+    requires posted { HoldsPosted D.PageDisk (view_of running.old) row }
+    requires claimed { (rows_of running.old.rows.items row).claim ≡ Some (claim_seen claim) }
     requires fills { (meta : AMeta)
         × CanInsert (state_of D.PageDisk (view_of running.old)) (claim_seen claim) meta
         × (new ≡ with_slot meta claim.slot claim.cluster) }
     requires running { IsRunning (state_of D.PageDisk (view_of running.old)) }
-    requires own { AreOwn (state_of D.PageDisk (view_of running.old)) }
+    requires fill { FillStands (state_of D.PageDisk (view_of running.old)) }
     requires runs { running.old.stopped ≡ None }
     requires no_job { running.old.job ≡ None }
     requires unmarked { HasNoMarks (base_of running.old.metas running.old.marked) }
     ensures case { InsertsOrNot D.PageDisk (view_of running.old) (view_of running.new) result }
-    ensures row { OnlyRow running.old.rows.items running.new.rows.items channel
-        (row_inserting result (rows_of running.old.rows.items channel)) }
+    ensures rows { RowsInserting result running.old.filling running.old.rows.items running.new.rows.items row }
     ensures order { InOrder D.PageDisk running.new }
 {
     let head = claim.head;
@@ -157,56 +154,39 @@ fn start<D: PageDisk>(
         false,
     ) {
         Ok(prepared) => {
-            let job = prepared.alone(running.alloc, Serves::Insert(channel), head, new);
+            let job = prepared.alone(running.alloc, Serves::Insert(row), head, new);
             running.job = Some(job);
-            running.rows[channel as usize].serve();
+            running.rows[row as usize].serve();
             InsertTurn::Began
         }
         Err(reply) => {
-            give_up(running, channel, reply);
+            give_up(running, row, reply, ANSWERED);
             InsertTurn::Logged
         }
     }
 }
 
-/// Begins the insert of a posted row, of a store without a repair that is left, or, on a stopped store, logs its write
-/// as that.
-pub fn begin_insert_or_halt<D: PageDisk>(running: &mut Running<D>, channel: u8) -> InsertTurn
+/// Begins the insert of a posted row, of a store without a repair that is left, or, on a stopped store, logs the
+/// command that the row works for as that.
+pub fn begin_insert_or_halt<D: PageDisk>(running: &mut Running<D>, row: u8) -> InsertTurn
     requires order { InOrder D.PageDisk running.old }
-    requires channel { channel < 16 }
-    requires posted { HoldsPosted (view_of running.old) channel }
+    requires row { row < 17 }
+    requires posted { HoldsPosted D.PageDisk (view_of running.old) row }
     requires running { IsRunning (state_of D.PageDisk (view_of running.old)) }
-    requires own { AreOwn (state_of D.PageDisk (view_of running.old)) }
+    requires fill { FillStands (state_of D.PageDisk (view_of running.old)) }
     requires no_job { running.old.job ≡ None }
     requires repaired { IsRepaired (state_of D.PageDisk (view_of running.old)) }
     ensures begins { running.old.stopped ≡ None
         → InsertsOrNot D.PageDisk (view_of running.old) (view_of running.new) result }
     ensures halted { IsSome running.old.stopped
-        → (result ≡ Logged) × TurnMade D.PageDisk (view_of running.old) (view_of running.new) kind.halts }
-    ensures row { OnlyRow running.old.rows.items running.new.rows.items channel
-        (row_inserting result (rows_of running.old.rows.items channel)) }
+        → (result ≡ Logged) × TurnMade D.PageDisk (view_of running.old) (view_of running.new) (halting row) }
+    ensures rows { RowsInserting result running.old.filling running.old.rows.items running.new.rows.items row }
     ensures order { InOrder D.PageDisk running.new }
 {
-    match running.stopped {
-        Some(at) => {
-            halt_insert(running, channel, at);
-            InsertTurn::Logged
-        }
-        None => begin_insert(running, channel),
+    if running.stopped.is_some() {
+        halt_work(running, row, ANSWERED);
+        InsertTurn::Logged
+    } else {
+        begin_insert(running, row)
     }
-}
-
-/// Logs the write of a posted row on a stopped store, and its claim is given back.
-fn halt_insert<D: PageDisk>(running: &mut Running<D>, channel: u8, at: u32)
-    requires order { InOrder D.PageDisk running.old }
-    requires channel { channel < 16 }
-    requires posted { HoldsPosted (view_of running.old) channel }
-    requires own { AreOwn (state_of D.PageDisk (view_of running.old)) }
-    requires stopped { running.old.stopped ≡ Some at }
-    ensures case { TurnMade D.PageDisk (view_of running.old) (view_of running.new) kind.halts }
-    ensures row { OnlyRow running.old.rows.items running.new.rows.items channel
-        (decided (rows_of running.old.rows.items channel)) }
-    ensures order { InOrder D.PageDisk running.new }
-{
-    give_up(running, channel, Reply::Stopped(at));
 }

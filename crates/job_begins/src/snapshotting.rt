@@ -1,6 +1,6 @@
 //! The begin of a snapshot's job, of four replacements: the blob that is made, three times, and the volume.
 
-ghost use Rattle.std.specs.Prelude.{◌≡◌, ◌<◌, ◌+◌, ◌^◌, [], None, IfErr, IfOk, OnErr};
+ghost use Rattle.std.specs.Prelude.{◌≡◌, ◌≢◌, ◌<◌, ◌+◌, ◌^◌, [], None, Some, IfErr, IfOk, OnErr};
 ghost use Rattle.std.specs.FinMap as map;
 ghost use Rattle.super_block.specs.Faults.{IsFaultless};
 ghost use Rattle.blob_meta.specs.Repairs.{HasNoMarks};
@@ -77,11 +77,13 @@ impl SnapshotDrafts {
             emptied,
             made,
         } = ask;
+        let (begun, filled) = Draft::two(alloc, (head, begun), (head, filled))?;
+        let (emptied, made) = Draft::two(alloc, (of, emptied), (head, made))?;
         Ok(SnapshotDrafts {
-            begun: Draft::new(alloc, head, begun)?,
-            filled: Draft::new(alloc, head, filled)?,
-            emptied: Draft::new(alloc, of, emptied)?,
-            made: Draft::new(alloc, head, made)?,
+            begun,
+            filled,
+            emptied,
+            made,
         })
     }
 
@@ -177,32 +179,36 @@ fn effects_of<D>(running: &Running<D>, ask: &SnapshotAsk) -> Result<SnapshotEffe
     if !running.guards.can_add() || !running.guards.can_draw(3) {
         return Err(Memory);
     }
+    let chain_room = place(alloc, &running.chains, ask.head)?;
+    let mark_room = place(alloc, &running.marked, ask.head)?;
+    let live_room = place(alloc, &running.live, ask.head)?;
+    let shown_room = place(alloc, &running.metas, ask.head)?;
+    let renews = vec![in alloc; ask.of, ask.head]?;
+    let xattrs = ask.made.xattrs.try_copy(alloc)?;
+    let shown = ask.made.try_copy(alloc)?;
     let begin = Effects {
         commit: None,
         freed: PlaceList::new(alloc),
         claimed: PlaceList::new(alloc),
         rooms: Rooms {
-            chain: place(alloc, &running.chains, ask.head)?,
-            meta: place(alloc, &running.marked, ask.head)?,
+            chain: chain_room,
+            meta: mark_room,
         },
     };
-    let live = EntryChange {
-        head: ask.head,
-        value: Some(ask.made.xattrs.try_copy(alloc)?),
-        room: place(alloc, &running.live, ask.head)?,
-    };
-    let shows = EntryChange {
-        head: ask.head,
-        value: Some(ask.made.try_copy(alloc)?),
-        room: place(alloc, &running.metas, ask.head)?,
-    };
-    let renews = vec![in alloc; ask.of, ask.head]?;
     let commit = Effects {
         commit: Some(Commit {
             made: Some(ask.head),
-            live: Some(live),
+            live: Some(EntryChange {
+                head: ask.head,
+                value: Some(xattrs),
+                room: live_room,
+            }),
             renews: PlaceList::from_vec(renews),
-            shows: Some(shows),
+            shows: Some(EntryChange {
+                head: ask.head,
+                value: Some(shown),
+                room: shown_room,
+            }),
         }),
         freed: PlaceList::new(alloc),
         claimed: PlaceList::new(alloc),
@@ -225,6 +231,7 @@ pub(crate) fn snapshot_job<D: PageDisk>(
     requires faultless { IsFaultless running.old.sup }
     requires channel { channel < 16 }
     requires posted { IsPostedAt (view_of running.old) channel }
+    requires unfilled { running.old.filling ≢ Some channel }
     requires asks { Asks (view_of running.old) channel
         (λ command. AsksToSnapshot (state_of D.PageDisk (view_of running.old)) command ask) }
     requires running { IsRunning (state_of D.PageDisk (view_of running.old)) }

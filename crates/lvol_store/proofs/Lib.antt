@@ -1,2 +1,3 @@
 pub mod Named
+mod LastRefused
 mod NewNames

@@ -4,7 +4,9 @@
 mod ends;
 mod laws;
 mod list_queue;
+mod message_list;
 
 pub use ends::{Inbox, Outbox};
 pub use laws::first_in_first_out;
 pub use list_queue::ListQueue;
+pub use message_list::MessageList;

@@ -3,6 +3,7 @@
 ghost use Rattle.std.specs.Prelude.{◌≡◌, []};
 
 use crate::ends::{Inbox, Outbox};
+use crate::message_list::MessageList;
 use std::marker::Model;
 use volume_model::Msg;
 
@@ -13,20 +14,16 @@ const CAPACITY: usize = 8;
 /// Contracts see the list of its messages, the oldest first. No call takes memory.
 #[derive(Drop)]
 pub struct ListQueue {
-    messages: [Msg; CAPACITY],
-    held: usize,
+    list: MessageList<CAPACITY>,
 }
 
 impl Model for ListQueue {
-    ghost use Rattle.std.specs.Prelude.{List, ◌≤◌, take};
+    ghost use Rattle.std.specs.Prelude.{List};
     ghost use Rattle.volume_model.specs.declared.reply.Msg.{Msg};
-    ghost use Rattle.md_queue.specs.Queue.{capacity};
 
     ghost Value = { List Msg };
 
-    ghost view = { λ queue. take queue.held queue.messages };
-
-    ghost invariant = { λ queue. queue.held ≤ capacity };
+    ghost view = { λ queue. queue.list };
 }
 
 impl ListQueue {
@@ -34,13 +31,8 @@ impl ListQueue {
     pub fn new() -> ListQueue
         ensures { result ≡ [] }
     {
-        let blank = Msg {
-            channel: 0,
-            serial: 0,
-        };
         ListQueue {
-            messages: [blank; CAPACITY],
-            held: 0,
+            list: MessageList::new(),
         }
     }
 }
@@ -59,11 +51,10 @@ impl Outbox for ListQueue {
     ghost was_full = { IsFull };
 
     fn send(&mut self, msg: Msg) -> Result<(), Msg> {
-        if self.held == CAPACITY {
+        if !self.list.has_room() {
             return Err(msg);
         }
-        self.messages[self.held] = msg;
-        self.held += 1;
+        self.list.push(msg);
         Ok(())
     }
 }
@@ -77,12 +68,6 @@ impl Inbox for ListQueue {
     ghost was_empty = { IsEmpty };
 
     fn take(&mut self) -> Option<Msg> {
-        if self.held == 0 {
-            return None;
-        }
-        let oldest = self.messages[0];
-        self.messages.copy_within(1..self.held, 0);
-        self.held -= 1;
-        Some(oldest)
+        self.list.take_oldest()
     }
 }

@@ -3,3 +3,17 @@ mod PlannedAttributes
 pub mod PlannedSlots
 mod MessageTurns
 pub mod TurnsRepaired
+mod RowsLeft
+pub mod StepsDue
+mod StepsMade
+mod PlannedFills
+mod FillSteps
+mod JobsMade
+pub mod StandsNow
+mod Joining
+mod Services
+mod FillsEnded
+mod SomeTurns
+mod FillMade
+mod FillStage
+mod Dropped

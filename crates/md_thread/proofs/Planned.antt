@@ -8,6 +8,7 @@ use Rattle.volume_model.specs.declared.command.Command.TheVariants as c
 use Rattle.metadata_turns.specs.Answering.{IsAnswerable}
 use Rattle.running_store.specs.StoreInvariant.{IsRunning, StoreInvariant}
 use Rattle.running_store.specs.StoreView.{WithOpening, state_of}
+use Rattle.lvol_store.specs.FillPlans.{IsFill}
 use Rattle.md_thread.specs.Served.{IsServedByMetadata}
 
 -- a store has what every state of a run has
@@ -23,7 +24,7 @@ is_running d b kept =
     }
 
 -- what is served without a job is answered in memory
-pub answerable : (command : Command) → IsServedByMetadata command
+pub answerable : (command : Command) → IsServedByMetadata command → ¬ IsFill command
     → ((name : Text) (slots : ℕ) (thick : Bool) (uuid : Option (List ℕ)) → command ≡ c.Create name slots thick uuid → ⊥)
     → ((volume : VolumeRef) (key value : Text) → command ≡ c.Put volume key value → ⊥)
     → ((volume : VolumeRef) → command ≡ c.Sync volume → ⊥)
@@ -33,27 +34,32 @@ pub answerable : (command : Command) → IsServedByMetadata command
     → ((volume : VolumeRef) (name : Text) → command ≡ c.Rename volume name → ⊥)
     → ((volume : VolumeRef) (name : Text) → command ≡ c.Snapshot volume name → ⊥)
     → ((volume : VolumeRef) → command ≡ c.Delete volume → ⊥) → IsAnswerable command
-answerable (c.SetX volume key value) is create put sync read_only resize clone rename snapshot delete = inl (tt, tt)
-answerable (c.DelX volume key) is create put sync read_only resize clone rename snapshot delete = inl (tt, tt)
-answerable (c.GetX volume key) is create put sync read_only resize clone rename snapshot delete = inl (tt, tt)
-answerable (c.Info volume) is create put sync read_only resize clone rename snapshot delete = inr tt
-answerable c.List is create put sync read_only resize clone rename snapshot delete = inr tt
-answerable c.Df is create put sync read_only resize clone rename snapshot delete = inr tt
-answerable (c.Create name slots thick uuid) is create put sync read_only resize clone rename snapshot delete =
+answerable (c.SetX volume key value) is fill create put sync read_only resize clone rename snapshot delete = inl (tt, tt)
+answerable (c.DelX volume key) is fill create put sync read_only resize clone rename snapshot delete = inl (tt, tt)
+answerable (c.GetX volume key) is fill create put sync read_only resize clone rename snapshot delete = inl (tt, tt)
+answerable (c.Info volume) is fill create put sync read_only resize clone rename snapshot delete = inr tt
+answerable c.List is fill create put sync read_only resize clone rename snapshot delete = inr tt
+answerable c.Df is fill create put sync read_only resize clone rename snapshot delete = inr tt
+answerable (c.Create name slots thick uuid) is fill create put sync read_only resize clone rename snapshot delete =
     absurd (create name slots thick uuid refl)
-answerable (c.Put volume key value) is create put sync read_only resize clone rename snapshot delete =
+answerable (c.Put volume key value) is fill create put sync read_only resize clone rename snapshot delete =
     absurd (put volume key value refl)
-answerable (c.Sync volume) is create put sync read_only resize clone rename snapshot delete = absurd (sync volume refl)
-answerable (c.ReadOnly volume) is create put sync read_only resize clone rename snapshot delete =
+answerable (c.Sync volume) is fill create put sync read_only resize clone rename snapshot delete =
+    absurd (sync volume refl)
+answerable (c.ReadOnly volume) is fill create put sync read_only resize clone rename snapshot delete =
     absurd (read_only volume refl)
-answerable (c.Resize volume slots) is create put sync read_only resize clone rename snapshot delete =
+answerable (c.Resize volume slots) is fill create put sync read_only resize clone rename snapshot delete =
     absurd (resize volume slots refl)
-answerable (c.Clone volume name) is create put sync read_only resize clone rename snapshot delete =
+answerable (c.Clone volume name) is fill create put sync read_only resize clone rename snapshot delete =
     absurd (clone volume name refl)
-answerable (c.Rename volume name) is create put sync read_only resize clone rename snapshot delete =
+answerable (c.Rename volume name) is fill create put sync read_only resize clone rename snapshot delete =
     absurd (rename volume name refl)
-answerable (c.Snapshot volume name) is create put sync read_only resize clone rename snapshot delete =
+answerable (c.Snapshot volume name) is fill create put sync read_only resize clone rename snapshot delete =
     absurd (snapshot volume name refl)
-answerable (c.Delete volume) is create put sync read_only resize clone rename snapshot delete =
+answerable (c.Delete volume) is fill create put sync read_only resize clone rename snapshot delete =
     absurd (delete volume refl)
-answerable _ is create put sync read_only resize clone rename snapshot delete = absurd is
+answerable (c.Inflate volume) is fill create put sync read_only resize clone rename snapshot delete =
+    absurd (fill tt)
+answerable (c.Decouple volume) is fill create put sync read_only resize clone rename snapshot delete =
+    absurd (fill tt)
+answerable _ is fill create put sync read_only resize clone rename snapshot delete = absurd is

@@ -42,8 +42,8 @@ job_kind told p q (turns.more_fails t) = (kind.more_fails, t)
 job_kind told p q (turns.more_breaks_off t) = (kind.more_breaks_off, t)
 job_kind told p q (turns.inserts t) = (kind.inserts, t)
 job_kind told p q (turns.insert_ends t) = (kind.insert_ends, t)
-job_kind told p q (turns.insert_fails t) = (kind.insert_fails, t)
-job_kind told p q (turns.insert_breaks_down t) = (kind.insert_breaks_down, t)
+job_kind told p q (turns.insert_fails t apart) = (kind.insert_fails, t)
+job_kind told p q (turns.insert_breaks_down t apart) = (kind.insert_breaks_down, t)
 
 -- a turn of any kind leaves it so
 pub turned : {D : Type 0} (d : Ghosts D) (laws : StateLaws) (p q : WithOpening D) → StoreInvariant d p

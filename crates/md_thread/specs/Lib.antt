@@ -1,3 +1,4 @@
 pub mod Served
 pub mod Tasks
 pub mod Holding
+pub mod Turns

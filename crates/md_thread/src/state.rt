@@ -1,18 +1,19 @@
 //! The steps of the metadata thread, and what it keeps between them.
 
-ghost use Rattle.std.specs.Prelude.{◌≡◌, ◌↔◌, IsTrue};
-ghost use Rattle.md_thread.specs.declared.state.Turn.TheVariants.{Idle};
-ghost use Rattle.md_thread.specs.Holding.{HaveEnded, IsNextAfter};
-ghost use Rattle.running_store.specs.StoreView.{rows_of};
-ghost use Rattle.store_model.specs.Rows.{Ended};
+mod turns;
 
-use crate::serving::serve;
-use md_queue::Inbox;
+ghost use Rattle.std.specs.Prelude.{◌≡◌, ◌↔◌, None, false, IsFalse, IsSome, IsTrue};
+ghost use Rattle.md_thread.specs.declared.state.Turn.TheVariants.{Idle};
+ghost use Rattle.md_thread.specs.Holding.{IsNextAfter};
+ghost use Rattle.running_store.specs.StoreView.{rows_of};
+ghost use Rattle.store_model.specs.Rows.{Posted};
+
+use crate::ending::have_ended;
+use md_queue::{Inbox, MessageList};
 use page_disk::PageDisk;
 use std::alloc::Global;
 use std::marker::Model;
-use store_core::{MdRight, Plant, RowStage};
-use store_model::state_turns;
+use store_core::{MdRight, Plant};
 use volume_model::Msg;
 
 /// What the next step of an actor is made on.
@@ -35,41 +36,63 @@ pub enum Turn {
     Idle,
 }
 
-/// The state of the metadata thread: the message that it took and hasn't served yet, if there is one, and what its next
-/// step is made on. It takes no memory.
+/// How many commands wait at most.
+const WAITING: usize = 16;
+
+/// The state of the metadata thread: the message that it took and hasn't served yet, if there is one; those of commands
+/// that wait while a fill goes on; that of the command which slots are filled for; whether it found no message when it
+/// last looked, and made no turn since; and what its next step is made on. It takes no memory.
 #[derive(Drop)]
 pub struct MdState {
     held: Option<Msg>,
+    waiting: MessageList<WAITING>,
+    fill: Option<Msg>,
+    found_none: bool,
     next: Next,
 }
 
 impl Model for MdState {
+    ghost use Rattle.std.specs.Prelude.{◌≡◌, ◌<◌, length, IsSome};
     ghost use Rattle.md_thread.specs.Holding.{MetadataState};
 
     ghost Value = { MetadataState };
 
-    ghost view = { λ s. record { held = s.held; next = s.next } };
+    ghost view = { λ s. record {
+      held = s.held;
+      waiting = s.waiting;
+      fill = s.fill;
+      found_none = s.found_none;
+      next = s.next;
+    } };
+
+    ghost invariant = { λ s. IsSome s.held → length s.waiting < 16 };
 }
 
 impl MdState {
-    ghost use Rattle.std.specs.Prelude.{◌≡◌, ◌≢◌, None, Some, IsSome, IfSome};
+    ghost use Rattle.std.specs.Prelude.{◌≡◌, ◌≢◌, ◌⊎◌, ◌<◌, [], None, Some, IfSome, true, is_none, length};
+    ghost use Rattle.running_store.specs.Stages.{is_stage};
+    ghost use Rattle.running_store.specs.declared.rows.RowStage.TheVariants.{Over};
+    ghost use Rattle.store_model.specs.Rows.{fill_row};
     ghost use Rattle.md_thread.specs.declared.state.Next.TheVariants as on;
     ghost use Rattle.md_thread.specs.declared.state.Turn.TheVariants.{Moved};
+    ghost use Rattle.md_thread.specs.Holding.{ComesNext, IsKept, LooksForMessage, looks_first, MakesStep, without_next};
     ghost use Rattle.md_thread.specs.Served.{IsServedByMetadata};
-    ghost use Rattle.run_moves.specs.DriverSteps.{JobTurn, ServingTurn};
     ghost use Rattle.running_store.specs.Requests.{IsPostedBy};
     ghost use Rattle.running_store.specs.Steps.{Asks};
     ghost use Rattle.running_store.specs.StoreView.{rows_of, state_of};
+    ghost use Rattle.store_model.specs.Filling.{IsFilledFor};
     ghost use Rattle.store_model.specs.Repairing.{IsRepaired};
-    ghost use Rattle.store_model.specs.Rows.{Posted};
     ghost use Rattle.volume_model.specs.declared.reply.Msg.{Msg as AMsg};
 
     /// Nothing is held, and the first step is made on the store, where a job may run.
     pub fn new() -> MdState
-        ensures { result ≡ record { held = None; next = on.Plant } }
+        ensures { result ≡ record { held = None; waiting = []; fill = None; found_none = false; next = on.Plant } }
     {
         MdState {
             held: None,
+            waiting: MessageList::new(),
+            fill: None,
+            found_none: false,
             next: Next::Plant,
         }
     }
@@ -81,23 +104,36 @@ impl MdState {
         self.next
     }
 
-    /// Takes the oldest message of a queue and holds it, so that the next step is made on the store. Nothing changes
-    /// where the queue was empty at some moment of the call.
-    pub fn md_take<I: Inbox>(&mut self, inbox: &mut I)
-        requires free { self.old.held ≡ None }
-        ensures taken { IfSome self.new.held (λ msg. I.gives inbox.old msg inbox.new) }
-        ensures next { IsSome self.new.held → self.new.next ≡ on.Plant }
-        ensures empty { self.new.held ≡ None → I.was_empty inbox.old }
-        ensures unchanged { self.new.held ≡ None → (self.new ≡ self.old) × (inbox.new ≡ inbox.old) }
+    /// Whether it holds a message.
+    pub fn holds(&self) -> bool
+        ensures { IsTrue result ↔ IsSome self.now.held }
     {
-        if let Some(msg) = inbox.take() {
-            self.held = Some(msg);
-            self.next = Next::Plant;
-        }
+        self.held.is_some()
     }
 
-    /// Makes one turn of the store, of which nothing is left to repair: the running job's next, or else the one that
-    /// serves the message that is held. `Idle` comes exactly where no job runs and nothing is held.
+    /// Takes the oldest message of a queue and holds it. The next step is made on the store, also where the queue was
+    /// empty at some moment of the call.
+    pub fn md_take<I: Inbox>(&mut self, inbox: &mut I)
+        requires free { self.old.held ≡ None }
+        requires room { length self.old.waiting < 16 }
+        ensures taken { IfSome self.new.held (λ msg. I.gives inbox.old msg inbox.new) }
+        ensures empty { self.new.held ≡ None → I.was_empty inbox.old }
+        ensures unchanged { self.new.held ≡ None → inbox.new ≡ inbox.old }
+        ensures state { self.new ≡ record self.old {
+          held = self.new.held;
+          found_none = is_none self.new.held;
+          next = on.Plant;
+        } }
+    {
+        self.held = inbox.take();
+        self.found_none = self.held.is_none();
+        self.next = Next::Plant;
+    }
+
+    /// Makes the one turn of the store that is due, of which nothing is left to repair: the running job's next; else the
+    /// end of the fill's row, where it is used without a fill; else what is held is served, or waits where it has to;
+    /// else the fill makes its turn; else the first that waits is served. `Idle` comes where none is due before the
+    /// queue is looked at: the store is as it was.
     pub fn md_turn<D: PageDisk>(
         &mut self,
         alloc: Global,
@@ -105,76 +141,66 @@ impl MdState {
         plant: &mut Plant<D>,
     ) -> Turn
         requires right { right.old ≡ plant.old.right }
-        requires served { (msg : AMsg) → self.old.held ≡ Some msg → IsPostedBy plant.old.at.rows msg
+        requires served { (msg : AMsg) → IsPostedBy plant.old.at.rows msg
             → Asks plant.old.at msg.channel IsServedByMetadata }
         requires repaired { IsRepaired (state_of D.PageDisk plant.old.at) }
-        // The running job makes its next turn, and what is held stays.
-        ensures job { IsSome plant.old.at.job → (result ≡ Moved)
-            × JobTurn D.tells (state_of D.PageDisk plant.old.at) (state_of D.PageDisk plant.new.at)
-            × (self.new.held ≡ self.old.held) }
-        // Without one the message that is held is served,
-        ensures message { plant.old.at.job ≡ None → (msg : AMsg) → self.old.held ≡ Some msg
-            → (rows_of plant.old.at.rows msg.channel).stage ≡ Posted msg.serial → (result ≡ Moved)
-            × ServingTurn D.tells (state_of D.PageDisk plant.old.at) (state_of D.PageDisk plant.new.at) msg.channel
-            × (self.new.held ≡ None) }
-        // or dropped where its row isn't posted under its number any more.
-        ensures stale { plant.old.at.job ≡ None → (msg : AMsg) → self.old.held ≡ Some msg
+        // It is the step that is due,
+        ensures step { result ≡ Moved → IsKept D.PageDisk plant.old.at self.old
+            → MakesStep D.tells (state_of D.PageDisk plant.old.at) self.old (state_of D.PageDisk plant.new.at) self.new }
+        // and the fill goes on of an inflate or a decouple.
+        ensures asked { IsKept D.PageDisk plant.old.at self.old → (msg : AMsg) → self.new.fill ≡ Some msg
+            → IsFilledFor (rows_of plant.new.at.rows msg.channel) }
+        ensures looks { result ≡ Idle → IsKept D.PageDisk plant.old.at self.old
+            → LooksForMessage (state_of D.PageDisk plant.old.at) self.old self.new }
+        ensures idle { result ≡ Idle → (plant.new ≡ plant.old) × (self.new.held ≡ None)
+            × (length self.new.waiting < 16) }
+        // The fill makes no turn before the queue is looked at.
+        ensures first { looks_first plant.old.at.job self.old ≡ true → self.old.found_none ≡ false → result ≡ Idle }
+        ensures looked { self.new.found_none ≡ false }
+        ensures next { IsNextAfter result plant.new.at.rows (looks_first plant.new.at.job self.new) self.new.next }
+        // A message that is served when its row isn't posted under its number any more is dropped.
+        ensures stale { plant.old.at.job ≡ None → is_stage (rows_of plant.old.at.rows fill_row) fill_row ≡ Over
+            → self.old.fill ≡ None → (msg : AMsg) → ComesNext self.old msg
             → (rows_of plant.old.at.rows msg.channel).stage ≢ Posted msg.serial
-            → (result ≡ Moved) × (plant.new ≡ plant.old) × (self.new.held ≡ None) }
-        // Where nothing is held either, the store is as it was.
-        ensures idle { plant.old.at.job ≡ None → self.old.held ≡ None
-            → (result ≡ Idle) × (plant.new ≡ plant.old) × (self.new.held ≡ None) }
-        ensures next { IsNextAfter result plant.new.at.rows self.new.next }
+            → (result ≡ Moved) × (plant.new ≡ plant.old)
+            × (self.new ≡ record (without_next self.old) { found_none = false; next = self.new.next }) }
         ensures repaired { IsRepaired (state_of D.PageDisk plant.new.at) }
         ensures opening { plant.new.opening ≡ plant.old.opening }
         ensures right { (right.new ≡ right.old) × (plant.new.right ≡ plant.old.right) }
     {
-        state_turns();
-        plant.keeps();
-        if plant.job_runs() {
-            plant.job_turn(right);
-            self.next = Next::Plant;
-            return Turn::Moved;
+        let turn = self.turn_due(alloc, right, plant);
+        self.found_none = false;
+        self.next = self.next_after(plant, turn);
+        turn
+    }
+
+    /// What the next step is made on behind a turn.
+    fn next_after<D: PageDisk>(&self, plant: &Plant<D>, turn: Turn) -> Next
+        ensures { IsNextAfter turn plant.now.at.rows (looks_first plant.now.at.job self.now) result }
+    {
+        if self.looks_first(plant) {
+            return Next::Queue;
         }
-        match self.held.take() {
-            Some(msg) => {
-                serve(alloc, plant, right, msg);
-                self.next = Next::Plant;
-                Turn::Moved
-            }
-            None => {
-                self.next = next_when_idle(plant);
-                Turn::Idle
-            }
+        match turn {
+            Turn::Moved => Next::Plant,
+            Turn::Idle => next_when_idle(plant),
         }
+    }
+
+    /// Whether a message is looked for before the fill makes its turn.
+    fn looks_first<D: PageDisk>(&self, plant: &Plant<D>) -> bool
+        ensures { result ≡ looks_first plant.now.at.job self.now }
+    {
+        !plant.job_runs() && self.held.is_none() && self.fill.is_some() && self.waiting.has_room()
     }
 }
 
 /// What the next step is made on where there was nothing to do.
 fn next_when_idle<D: PageDisk>(plant: &Plant<D>) -> Next
-    ensures { IsNextAfter Idle plant.now.at.rows result }
+    ensures { IsNextAfter Idle plant.now.at.rows false result }
 {
     if have_ended(plant) {
         return Next::Ended;
     }
     Next::Queue
-}
-
-/// Whether every channel has ended.
-fn have_ended<D: PageDisk>(plant: &Plant<D>) -> bool
-    ensures { IsTrue result ↔ HaveEnded plant.now.at.rows }
-{
-    for channel in 0..16 {
-        if !has_ended(plant, channel) {
-            return false;
-        }
-    }
-    true
-}
-
-/// Whether a channel has ended.
-fn has_ended<D: PageDisk>(plant: &Plant<D>, channel: u8) -> bool
-    ensures { IsTrue result ↔ (rows_of plant.now.at.rows channel).stage ≡ Ended }
-{
-    matches!(plant.stage(channel), RowStage::Ended)
 }

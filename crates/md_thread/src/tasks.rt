@@ -1,18 +1,21 @@
 //! What is to be done for a message.
 
-ghost use Rattle.std.specs.Prelude.{◌≡◌, None};
+ghost use Rattle.std.specs.Prelude.{◌≡◌, ◌↔◌, None, IfOk, IfErr, IsFalse, IsSome, IsTrue};
 ghost use Rattle.blob_meta.specs.Repairs.{HasNoMarks};
+ghost use Rattle.store_model.specs.Cases.{IsRefusedBy};
 ghost use Rattle.store_model.specs.Repairing.{IsRepaired};
+ghost use Rattle.store_model.specs.Rows.{Posted};
 ghost use Rattle.md_thread.specs.Served.{IsServedByMetadata};
-ghost use Rattle.md_thread.specs.Tasks.{IsPlanOf, IsTaskOf};
+ghost use Rattle.lvol_store.specs.FillPlans.{IsFill};
+ghost use Rattle.md_thread.specs.Tasks.{IsFillPlanOf, IsPlanOf, IsTaskOf};
 ghost use Rattle.running_store.specs.Requests.{IsPostedBy};
 ghost use Rattle.running_store.specs.Steps.{Asks};
-ghost use Rattle.running_store.specs.StoreView.{base_of, state_of};
+ghost use Rattle.running_store.specs.StoreView.{base_of, rows_of, state_of};
 
 use blob_meta::{Job, least_heads_are_meant};
 use lvol_store::{
-    plan_clone, plan_create, plan_delete, plan_put, plan_readonly, plan_rename, plan_resize,
-    plan_snapshot, plan_sync,
+    FillPlan, plan_clone, plan_create, plan_delete, plan_fill, plan_put, plan_readonly,
+    plan_rename, plan_resize, plan_snapshot, plan_sync,
 };
 use page_disk::PageDisk;
 use std::alloc::Global;
@@ -32,15 +35,54 @@ pub(crate) enum Task {
     Refuse(Reply),
     /// This job is begun for its command.
     Begin(Job),
+    /// A cluster is claimed for this slot, which is filled next for its command.
+    Claim(u32),
 }
 
-/// The job that is planned for a command, or why it is refused; `None` for a command that is answered in memory.
+/// Whether a message asks for an insert. It asks for none where its row isn't posted under its number any more.
+pub(crate) fn is_insert<D: PageDisk>(plant: &Plant<D>, right: &MdRight, msg: Msg) -> bool
+    requires right { right.now ≡ plant.now.right }
+    ensures insert { IsTrue result → IsSome (rows_of plant.now.at.rows msg.channel).claim }
+    ensures command { IsFalse result → (rows_of plant.now.at.rows msg.channel).stage ≡ Posted msg.serial
+        → (rows_of plant.now.at.rows msg.channel).claim ≡ None }
+{
+    matches!(plant.request(right, msg), Ok(Request::Insert))
+}
+
+/// Whether slots are filled for a command: an inflate or a decouple.
+fn is_fill(command: &Command) -> bool
+    ensures { IsTrue result ↔ IsFill command.now }
+{
+    matches!(command, Command::Inflate { .. } | Command::Decouple { .. })
+}
+
+/// What is planned next for an inflate or a decouple, or why it is refused.
+fn planned_fill<D: PageDisk>(
+    alloc: Global,
+    plant: &Plant<D>,
+    command: &Command,
+) -> Result<FillPlan, Reply>
+    requires fill { IsFill command.now }
+    requires runs { plant.now.at.stopped ≡ None }
+    requires unmarked { HasNoMarks (base_of plant.now.at.metas plant.now.at.marked) }
+    ensures plan { IfOk result (IsFillPlanOf D.PageDisk plant.now.at command.now) }
+    ensures refused { IfErr result (IsRefusedBy (state_of D.PageDisk plant.now.at) command.now) }
+{
+    plans::<D>();
+    plant.keeps();
+    plant.resolves();
+    plan_fill(alloc, plant.metas(), plant.sup(), command)
+}
+
+/// The job that is planned for a command which no slots are filled for, or why it is refused; `None` for a command that
+/// is answered in memory.
 fn planned<D: PageDisk>(
     alloc: Global,
     plant: &Plant<D>,
     command: &Command,
 ) -> Option<Result<Job, Reply>>
     requires served { IsServedByMetadata command.now }
+    requires unfilled { ¬ IsFill command.now }
     requires runs { plant.now.at.stopped ≡ None }
     requires unmarked { HasNoMarks (base_of plant.now.at.metas plant.now.at.marked) }
     ensures { IsPlanOf D.PageDisk plant.now.at command.now result }
@@ -93,6 +135,13 @@ pub(crate) fn task_of<D: PageDisk>(
     };
     if let Some(at) = plant.stopped() {
         return Task::Refuse(Reply::Stopped(at));
+    }
+    if is_fill(command) {
+        return match planned_fill(alloc, plant, command) {
+            Ok(FillPlan::Slot(slot)) => Task::Claim(slot),
+            Ok(FillPlan::Last(job)) => Task::Begin(job),
+            Err(reply) => Task::Refuse(reply),
+        };
     }
     match planned(alloc, plant, command) {
         None => Task::Answer,

@@ -1,5 +1,5 @@
 -- The turn that answers in memory, by what the answer is in the volumes that are shown.
-use Rattle.std.proofs.Common.{◌≡◌, ℕ, ◌<◌, Option, None, length, ◌∙◌, ap}
+use Rattle.std.proofs.Common.{◌≡◌, ◌≢◌, ℕ, ◌<◌, Option, None, Some, length, ◌∙◌, ap}
 use Rattle.std.specs.Ordering.{nat_cmp}
 use Rattle.std.specs.FinMap as map
 use Rattle.page_disk.specs.declared.disk.PageDisk.{Ghosts}
@@ -20,7 +20,8 @@ use Rattle.metadata_turns.proofs.Answered.{Answered, live_after}
 use Rattle.running_store.proofs.Entered.{disk_same, entered}
 
 module _ {D : Type 0} (d : Ghosts D) (p q : StoreView D) (channel : ℕ) (low : channel < length p.rows)
-    (posted : IsPostedAt p channel) (runs : p.stopped ≡ None) (no_job : p.job ≡ None) where
+    (posted : IsPostedAt p channel) (unfilled : p.filling ≢ Some channel) (runs : p.stopped ≡ None)
+    (no_job : p.job ≡ None) where
   pub answer_made : (reply : Reply) (new : Option NewLive) (live : map.FinMap nat_cmp Xattrs)
       → IsInMemory posted.waits.command
       → Answered (fixed_of p.super) (shown (state_of d p)) (map.get p.live) posted.waits.command reply new
@@ -41,6 +42,7 @@ module _ {D : Type 0} (d : Ghosts D) (p q : StoreView D) (channel : ℕ) (low : 
           };
           runs = runs;
           no_job = no_job;
+          unfilled = unfilled;
           in_memory = in_memory;
           reply = reply;
           quiet = x.quiet;

@@ -1,8 +1,9 @@
 -- What is known of the running job: the pages of its plan, and its places.
-use Rattle.std.proofs.Common.{◌≡◌, ◌≢◌, ℕ, zero, suc, ◌<◌, true, false, All, List, [], ◌∷◌, length, get_or, Some}
+use Rattle.std.proofs.Common.{◌≡◌, ℕ, zero, suc, ◌<◌, true, false, All, List, [], ◌∷◌, length, get_or, Some}
 use Rattle.std.proofs.Common.{None, refl, sym, ◌∙◌, ap, subst, arith, inl, inr, drop, take, ◌++◌, ◌+◌, Option, add-one}
 use Rattle.std.specs.Prelude.{slice_get}
-use Rattle.std.proofs.lemmas.Bool.{cases_Bool, both_ways, eq-eqb, ne_eqb}
+use Rattle.std.proofs.Math.Seq.{drop-length}
+use Rattle.std.proofs.lemmas.Bool.{cases_Bool}
 use Rattle.bit_array.specs.Bits.{is_in}
 use Rattle.md_chain.specs.Chain.{is_among}
 use Rattle.md_chain.specs.declared.plan.PlannedPage.{PlannedPage}
@@ -18,40 +19,13 @@ use Rattle.running_store.proofs.Cleared.{among_get}
 use Rattle.running_store.proofs.PlainFacts.{got}
 use Rattle.running_store.specs.declared.replacements.Planned.{Planned}
 use Rattle.running_store.specs.Jobs.{commit_in, erasing_for, replacing_of, writing_for}
-use Rattle.store_model.specs.Phases.{page_in, held_in, Erases, Frees, Phase, Replacing, erasing, has_commit, taken_in}
+use Rattle.store_model.specs.Phases.{page_in, held_in, Erases, Frees, Phase, Replacing, erasing, taken_in}
 use Rattle.store_model.specs.Phases.{Replaces, taken_by}
 use Rattle.store_model.proofs.Phases.{planned_behind, held_behind, lays_reached}
 use Rattle.blob_meta.specs.declared.meta.Meta.{Meta}
 use Rattle.store_model.proofs.LeftToDo.{among_left, distinct_left}
-use Rattle.std.specs.Prelude.{if◌then◌else◌, is_some, Bool, ◌||◌}
-
--- ---- the pages of a plan
-
-pub among_at : (ps : List ℕ) (k place : ℕ) → slice_get ps k ≡ Some place → is_among place ps ≡ true
-among_at [] k place is = absurd (cc is)
-among_at (p ∷ ps) zero place is =
-    let e : p ≡ place = cc is in subst (λ x. is_among x (p ∷ ps) ≡ true) e (among_first p ps)
-among_at (p ∷ ps) (suc k) place is = among_later place p ps (among_at ps k place is)
-
-place_of : (plan : List PlannedPage) (k : ℕ) (x : PlannedPage) → slice_get plan k ≡ Some x
-    → slice_get (places_of plan) k ≡ Some x.place
-place_of [] k x is = absurd (cc is)
-place_of (y ∷ ys) zero x is = let e : y ≡ x = cc is in ap (λ (z : PlannedPage). Some z.place) e
-place_of (y ∷ ys) (suc k) x is = place_of ys k x is
-
--- the page for a place is the planned one, where the places differ
-pub page_of : (plan : List PlannedPage) (k : ℕ) (x : PlannedPage) → AreDistinct (places_of plan)
-    → slice_get plan k ≡ Some x → page_in plan x.place ≡ x.page
-page_of [] k x distinct is = absurd (cc is)
-page_of (y ∷ ys) zero x distinct is =
-    let e : y ≡ x = cc is in
-    let here : page_in (y ∷ ys) y.place ≡ y.page = rw (eq-eqb y.place y.place refl) refl in
-    subst (λ (z : PlannedPage). page_in (y ∷ ys) z.place ≡ z.page) e here
-page_of (y ∷ ys) (suc k) x distinct is =
-    let among = among_at (places_of ys) k x.place (place_of ys k x is) in
-    let ne : x.place ≢ y.place = λ e. both_ways (is_among y.place (places_of ys)) distinct.0
-    (subst (λ q. is_among q (places_of ys) ≡ true) e among) in
-    rw (ne_eqb x.place y.place ne) (page_of ys k x distinct.1 is)
+use Rattle.job_views.proofs.PlannedPages.{among_at, page_of, place_of}
+use Rattle.std.specs.Prelude.{if◌then◌else◌, is_some, Bool}
 
 -- ---- places of a list
 
@@ -64,10 +38,6 @@ pub take_one : (l : List ℕ) (k x : ℕ) → slice_get l k ≡ Some x → take 
 take_one [] k x is = absurd (cc is)
 take_one (y ∷ ys) zero x is = let e : y ≡ x = cc is in ap (λ n. n ∷ []) e
 take_one (y ∷ ys) (suc k) x is = ap (λ l. y ∷ l) (take_one ys k x is)
-
-pub drop_end : (l : List ℕ) → drop (length l) l ≡ []
-drop_end [] = refl
-drop_end (x ∷ xs) = drop_end xs
 
 take_drop : (k : ℕ) (l : List ℕ) → take k l ++ drop k l ≡ l
 take_drop zero l = refl
@@ -205,7 +175,7 @@ module _ (p : StoreState) (r : IsRunning p) (runs : p.stopped ≡ None) where
     pub last_one : (place : ℕ) → slice_get old erased ≡ Some place → erased + 1 ≡ length old
         → (erasing_for serves old erased more).todo ≡ Frees place old ∷ more
     last_one place at last =
-        let none : drop (suc erased) old ≡ [] = ap (λ n. drop n old) (sym (add-one erased) ∙ last) ∙ drop_end old in
+        let none : drop (suc erased) old ≡ [] = ap (λ n. drop n old) (sym (add-one erased) ∙ last) ∙ drop-length old in
         ap (λ l. erasing old l more) (drop_one old erased place at ∙ ap (λ l. place ∷ l) none)
 
     held_here : held_by p.job ≡ old ++ taken_in more

@@ -1,7 +1,7 @@
 -- What a replacement makes of the state: what the store has in memory then is what the model says.
-use Rattle.std.proofs.Common.{◌≡◌, ◌≢◌, ℕ, ◌+◌, Bool, true, false, List, [], ◌∷◌, length, Option, Some, None, refl, sym}
-use Rattle.std.proofs.Common.{◌∙◌, ap, subst, drop, inl, inr, arith}
-use Rattle.std.specs.Prelude.{if◌then◌else◌, is_some, not, ◌&&◌, slice_set, IsSome}
+use Rattle.std.proofs.Common.{◌≡◌, ℕ, ◌+◌, Bool, false, List, [], ◌∷◌, length, Option, Some, None, refl, sym}
+use Rattle.std.proofs.Common.{◌∙◌, ap, drop, inl, inr, arith}
+use Rattle.std.specs.Prelude.{is_some, not, ◌&&◌, slice_set}
 use Rattle.std.specs.Option.{option_map}
 use Rattle.std.specs.Cmp.{nat_cmp_total}
 use Rattle.std.specs.Ordering.{eq_by_cmp, nat_cmp}
@@ -11,20 +11,18 @@ use Rattle.std.proofs.Math.Path.{fun_ext}
 use Rattle.std.proofs.lemmas.Bool.{cases_eq, eq-eqb, ne_eqb}
 use Rattle.page_disk.specs.declared.disk.PageDisk.{Ghosts}
 use Rattle.volume_model.specs.Xattrs.{Xattrs}
-use Rattle.blob_meta.specs.declared.meta.Meta.{Meta}
-use Rattle.blob_meta.specs.Resolving.{mark_of}
 use Rattle.io_freeze.specs.Guards.{GuardsState, removed, renewed}
 use Rattle.store_model.specs.Guarding.{all_renewed, frozen_behind, releasing}
 use Rattle.store_model.specs.Maps.{with_option, without_entry, Chains, Map, Metas}
-use Rattle.store_model.specs.Phases.{with_live, Committing, Phase, Replacing}
+use Rattle.store_model.specs.Phases.{with_live, Phase}
 use Rattle.store_model.specs.Places.{all_set}
 use Rattle.store_model.specs.StoreState.{JobState, StoreState}
 use Rattle.store_model.specs.WithReplaced.{with_replaced}
-use Rattle.running_store.specs.Blobs.{blobs_behind, commit_of, live_of, numbered_in, Blobs, CanBeKept, HasPlaces}
-use Rattle.running_store.specs.Effects.{commit_seen, live_seen}
-use Rattle.running_store.specs.Jobs.{erasure_of, freeze_of, job_left, job_seen, replacing_of}
-use Rattle.running_store.specs.Places.{thawed, with_changes, with_numbers, HasPlace}
-use Rattle.running_store.specs.StoreView.{base_of, device_of, state_of, StoreView}
+use Rattle.running_store.specs.Blobs.{blobs_behind, commit_of, live_of, numbered_in, Blobs, CanBeKept}
+use Rattle.running_store.specs.Effects.{live_seen}
+use Rattle.running_store.specs.Jobs.{freeze_of, job_left, job_seen}
+use Rattle.running_store.specs.Places.{thawed, with_changes, with_numbers}
+use Rattle.running_store.specs.StoreView.{device_of, state_of, StoreView}
 use Rattle.running_store.specs.declared.entries.EntryChange.{EntryChange}
 use Rattle.running_store.specs.declared.job.RunningJob.{RunningJob}
 use Rattle.running_store.specs.declared.job.Serves.{Serves}
@@ -33,6 +31,7 @@ use Rattle.running_store.specs.declared.replacements.Change.TheVariants as chang
 use Rattle.running_store.proofs.BaseBehind.{base_behind}
 use Rattle.running_store.proofs.Maps.{changed_given, insert_given, is_key, remove_given}
 use Rattle.running_store.proofs.Thawed.{released_is}
+use Rattle.job_views.specs.Replacing.{blobs_in, committing, replacing_for}
 use Rattle.metadata_turns.specs.JobTurns.{guards_left}
 
 -- ---- generations and attributes
@@ -116,17 +115,6 @@ state_left d p serves j freezes rest left left_is =
     (frozen_left p.guards serves j freezes rest left left_is)
 
 -- ---- the store behind a replacement
-
-abbrev pub blobs_in : {D : Type 0} → StoreView D → Blobs
-blobs_in p = record { metas = p.metas; marked = p.marked; chains = p.chains; live = p.live; guards = p.guards }
-
--- as the model has it
-abbrev pub replacing_for : Change → List ℕ → Replacing
-replacing_for (change.Writes p) old = replacing_of p old
-replacing_for (change.Erases e) old = erasure_of e old
-
-abbrev pub committing : Change → Option Committing
-committing x = option_map commit_seen (commit_of x)
 
 -- the blobs that get generations
 abbrev pub numbered_for : Change → List ℕ

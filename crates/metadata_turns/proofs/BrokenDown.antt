@@ -1,33 +1,34 @@
 -- The end of a job on a stopped store.
-use Rattle.std.proofs.Common.{◌≡◌, ◌⊎◌, ℕ, ◌<◌, Bool, true, false, List, ◌∷◌, length, Option, Some, None, refl}
-use Rattle.std.proofs.Common.{sym, ◌∙◌, ap, arith, inl, inr, option_map, subst}
+use Rattle.std.proofs.Common.{◌≡◌, ◌⊎◌, ℕ, Bool, true, false, ◌∷◌, length, Option, Some, None, refl}
+use Rattle.std.proofs.Common.{sym, ◌∙◌, ap, inl, inr, option_map}
 use Rattle.std.specs.Option.{option_and_then}
 use Rattle.std.specs.Prelude.{IsSome}
 use Rattle.page_disk.specs.declared.disk.PageDisk.{Ghosts}
-use Rattle.volume_model.specs.declared.command.Command.{Command}
 use Rattle.volume_model.specs.declared.reply.Reply.TheVariants.{Stopped}
 use Rattle.store_model.specs.Cases as kind
-use Rattle.store_model.specs.Claiming.{LogsOwn}
+use Rattle.store_model.specs.Filling.{FillStands}
 use Rattle.store_model.specs.Phases.{has_commit}
-use Rattle.store_model.specs.Rows.{Answered, Decided, InJob, Row}
+use Rattle.store_model.specs.Rows.{Answered, Decided, Row}
 use Rattle.store_model.specs.RunInvariant.{IsServedRow}
-use Rattle.store_model.specs.StoreState.{ForCommand, ForInsert, JobState, logged, Service, waiting}
+use Rattle.store_model.specs.StoreState.{ForCommand, ForInsert, JobState, Service, waiting}
 use Rattle.store_model.proofs.Shaped.{waits_for_commit, waits_no_more}
 use Rattle.running_store.specs.Jobs.{job_seen, service_of, waits_for_job}
 use Rattle.metadata_turns.specs.JobTurns.{TurnsJob}
-use Rattle.metadata_turns.specs.OwnWrites.{AreOwn, WaitsToInsert}
+use Rattle.metadata_turns.specs.RowsWork.{RowsWork, WaitsToInsert}
 use Rattle.running_store.specs.StoreInvariant.{IsRunning}
-use Rattle.running_store.specs.StoreView.{StoreView, device_of, rows_of, state_of}
-use Rattle.running_store.specs.GivingBack.{IsGivenUp}
+use Rattle.running_store.specs.Steps.{logged_at}
+use Rattle.running_store.specs.StoreView.{StoreView, rows_of, state_of}
+use Rattle.running_store.specs.GivingBack.{HasWork, IsGivenUp, own}
 use Rattle.running_store.specs.declared.job.RunningJob.{RunningJob}
 use Rattle.running_store.specs.declared.job.Serves.{Serves}
 use Rattle.running_store.specs.declared.job.Serves.TheVariants as whom
 use Rattle.running_store.specs.declared.job.Work.{Work}
 use Rattle.running_store.specs.declared.job.Work.TheVariants as works
 use Rattle.running_store.proofs.Entered.{disk_same, entered}
-use Rattle.metadata_turns.proofs.InsertFailed.{command as write_of, given_up_after, logs_own}
-use Rattle.metadata_turns.proofs.JobTurned.{entered_plainly}
-use Rattle.running_store.proofs.Rowing.{low_of}
+use Rattle.metadata_turns.proofs.JobTurned.{has_command}
+use Rattle.running_store.proofs.Rowing.{low_left}
+use Rattle.running_store.proofs.WorkLogged.{fill_still, given_up_plainly, given_up_rest, has_work, own_row, work_disk}
+use Rattle.running_store.proofs.WorkLogged.{work_logged, work_low, works_still}
 
 -- ---- what waits for a job
 
@@ -106,58 +107,45 @@ none_waiting d p (Some j) seen some waits at stands = record {
 
 -- ---- it is logged as stopped
 
--- a row that waits in the job
-record Waiting (row : Row) : Type 0 where
-  command : Command
-  rest : List Command
-  left : row.left ≡ command ∷ rest
-  stage : row.stage ≡ InJob
-
 module _ {D : Type 0} (d : Ghosts D) (p : StoreView D) (running : IsRunning (state_of d p))
-    (own : AreOwn (state_of d p)) (sixteen : length p.rows ≡ 16) (channel : ℕ) where
-  served : WaitsIn p.job channel → IsServedRow (rows_of p.rows channel)
-  served w = running.facts.shaped.served w.job channel w.is w.serves w.commit
+    (work : RowsWork (state_of d p)) (seventeen : length p.rows ≡ 17) (row : ℕ) where
+  served : WaitsIn p.job row → IsServedRow (rows_of p.rows row)
+  served w = running.facts.shaped.served w.job row w.is w.serves w.commit
 
-  to_insert : InsertsIn p.job channel → WaitsToInsert (rows_of p.rows channel)
-  to_insert w = own.inserts w.job channel w.is w.serves
+  to_insert : InsertsIn p.job row → WaitsToInsert (state_of d p) row
+  to_insert w = work.inserts w.job row w.is w.serves
 
-  waiting_row : WaitsIn p.job channel ⊎ InsertsIn p.job channel → Waiting (rows_of p.rows channel)
-  waiting_row (inl w) = record {
+  row_left : (w : WaitsIn p.job row) → (rows_of p.rows row).left ≡ (served w).command ∷ (served w).rest
+  row_left w = ap (λ (r : Row). r.left) (served w).is
+
+  -- it works for a command
+  pub waiting_works : WaitsIn p.job row ⊎ InsertsIn p.job row → HasWork p.filling p.rows row
+  waiting_works (inl w) = own (has_command d p row seventeen work.fill (record {
     command = (served w).command;
     rest = (served w).rest;
-    left = ap (λ (r : Row). r.left) (served w).is;
-    stage = ap (λ (r : Row). r.stage) (served w).is;
-  }
-  waiting_row (inr w) = record {
-    command = write_of d p channel (to_insert w).writes;
-    rest = (to_insert w).writes.rest;
-    left = (to_insert w).writes.is;
-    stage = (to_insert w).stage;
-  }
-
-  pub low : WaitsIn p.job channel ⊎ InsertsIn p.job channel → channel < 16
-  low w = low_of p.rows channel InJob sixteen (waiting_row w).stage (λ e. cc e)
-
-  below : WaitsIn p.job channel ⊎ InsertsIn p.job channel → channel < length p.rows
-  below w = let lt = low w in omega (arith, lt, sixteen)
-
-  pub some_left : WaitsIn p.job channel ⊎ InsertsIn p.job channel → 0 < length (rows_of p.rows channel).left
-  some_left w = let n = ap (λ (l : List Command). length l) (waiting_row w).left in omega (arith, n)
+    left = row_left w;
+  }))
+  waiting_works (inr w) = has_work d p seventeen work.fill row (to_insert w).works
 
   abbrev ended : StoreView D
   ended = record p { job = None }
 
+  fill : FillStands (state_of d ended)
+  fill = fill_still (state_of d p) (state_of d ended) refl refl work.fill
+
   module _ (at : ℕ) (stands : p.stopped ≡ Some at) (new : StoreView D)
-      (entry : IsGivenUp ended new channel (Stopped at) (d.clock new.disk)) where
-    -- its command is logged as stopped, and no job runs any more; or the write for which it inserts is
-    pub broken_down : WaitsIn p.job channel ⊎ InsertsIn p.job channel → TurnsJob d p new
+      (given : IsGivenUp ended new row (Decided Answered) (Stopped at) (d.clock new.disk)) where
+    -- a row that serves a command is a channel's
+    plainly : (w : WaitsIn p.job row)
+        → new ≡ logged_at ended row (served w).command (served w).rest (Stopped at) (d.clock new.disk)
+    plainly w = given_up_plainly ended new row (Decided Answered) (Stopped at) (d.clock new.disk)
+        (own_row d p seventeen work.fill new row (Decided Answered) (Stopped at) (served w).command (served w).rest
+        (row_left w)) (ap (λ (r : Row). r.claim) (served w).is) given (served w).command (served w).rest (row_left w)
+
+    -- its command is logged as stopped, and no job runs any more; or that which the row of an insert works for is
+    pub broken_down : WaitsIn p.job row ⊎ InsertsIn p.job row → TurnsJob d p new
     broken_down (inl w) =
-        let row = (served w).is in
-        let is = entered_plainly ended new channel (Stopped at) (d.clock new.disk) (ap (λ (r : Row). r.claim) row) entry
-        (served w).command (served w).rest (ap (λ (r : Row). r.left) row) in
-        let next : state_of d new ≡ logged (record (state_of d p) { job = None }) channel (served w).command
-        (served w).rest (Stopped at) (device_of d p.disk) =
-        entered d ended new channel (served w).command (served w).rest (Stopped at) (below (inl w)) is in
+        let low = low_left p.rows row (served w).command (served w).rest (row_left w) in
         record {
           kind = kind.breaks_down;
           of_job = tt;
@@ -169,23 +157,23 @@ module _ {D : Type 0} (d : Ghosts D) (p : StoreView D) (running : IsRunning (sta
               stands = stands;
               ends = inl (record {
                 served = record {
-                  channel = channel;
+                  channel = row;
                   serves = w.serves;
                   command = (served w).command;
                   rest = (served w).rest;
-                  row = row;
+                  row = (served w).is;
                 };
                 waits = w.commit;
-                next = next;
+                next = entered d ended new row (served w).command (served w).rest (Stopped at) low (plainly w);
               });
             },
-            disk_same d ended new channel (served w).command (served w).rest (Stopped at) (below (inl w)) is,
+            disk_same d ended new row (served w).command (served w).rest (Stopped at) low (plainly w),
           );
         }
     broken_down (inr w) =
-        let x = (to_insert w).writes in
-        let command = write_of d p channel x in
-        let is = given_up_after d ended ended new channel (Stopped at) refl entry command x.rest x.is in
+        let x = to_insert w in
+        let low = work_low d p seventeen work.fill row x.works in
+        let still = works_still (state_of d p) (state_of d ended) refl refl row x.works in
         record {
           kind = kind.insert_breaks_down;
           of_job = tt;
@@ -193,17 +181,17 @@ module _ {D : Type 0} (d : Ghosts D) (p : StoreView D) (running : IsRunning (sta
             record {
               job = w.job;
               is = w.is;
-              inserting = record { row = channel; serves = w.serves; waits = (to_insert w).stage };
+              inserting = record { row = row; serves = w.serves; waits = x.stage };
               at = at;
               stands = stands;
-              logs = subst
-                  (LogsOwn (state_of d ended) channel (Decided Answered) (Stopped at) (device_of d p.disk))
-                  (sym (ap (state_of d) is)) (logs_own d ended channel x (Stopped at));
+              logs = work_logged d ended seventeen fill new row (Decided Answered) (Stopped at) low still given;
             },
-            ap (λ (a : StoreView D). a.disk) is,
+            work_disk d ended seventeen fill new row (Decided Answered) (Stopped at) low still given,
           );
         }
 
-    pub stopped_still : WaitsIn p.job channel ⊎ InsertsIn p.job channel → new.stopped ≡ Some at
-    stopped_still w = ap (λ (a : StoreView D). a.stopped)
-        (entry (waiting_row w).command (waiting_row w).rest (waiting_row w).left) ∙ stands
+    pub stopped_still : WaitsIn p.job row ⊎ InsertsIn p.job row → new.stopped ≡ Some at
+    stopped_still waits =
+        let same = given_up_rest ended new row (Decided Answered) (Stopped at) (d.clock new.disk)
+        (waiting_works waits) given in
+        same.0 ∙ stands

@@ -2,7 +2,7 @@
 use Rattle.std.proofs.Common.{◌≡◌, ◌≢◌, ℕ, ◌+◌, ◌<◌, Bool, true, false, List, [], ◌∷◌, length, Option, Some, None}
 use Rattle.std.proofs.Common.{refl, sym}
 use Rattle.std.proofs.Common.{◌∙◌, ap, subst, IsTrue, arith}
-use Rattle.std.specs.Prelude.{if◌then◌else◌, is_some}
+use Rattle.std.specs.Prelude.{is_some}
 use Rattle.std.specs.Option.{option_map}
 use Rattle.std.specs.FinSet as set
 use Rattle.page_disk.specs.Disk.{Only}
@@ -12,16 +12,15 @@ use Rattle.volume_model.specs.Steps.{change}
 use Rattle.volume_model.specs.Xattrs.{Xattrs}
 use Rattle.volume_model.specs.declared.command.Command.{Command}
 use Rattle.volume_model.specs.declared.reply.Reply.{Reply}
-use Rattle.blob_meta.specs.declared.meta.Meta.{Meta}
 use Rattle.store_model.specs.Cases.{FailsToReplace, WritesOnePage}
 use Rattle.store_model.specs.Cases as kind
 use Rattle.store_model.specs.Claiming.{stage_behind}
 use Rattle.store_model.specs.Guarding.{all_renewed, frozen_behind}
-use Rattle.store_model.specs.Jobs.{Does, IsServed, IsStep, JobStands, ReadsZeros}
+use Rattle.store_model.specs.Jobs.{Does, IsStep, ReadsZeros}
 use Rattle.store_model.specs.Maps.{Map}
 use Rattle.store_model.specs.Phases.{erasing, has_commit, page_in, with_live, Committing, Phase, Replaces, Replacing}
 use Rattle.store_model.specs.Places.{all_set}
-use Rattle.store_model.specs.Rows.{Row, Rows, Stage, with_row}
+use Rattle.store_model.specs.Rows.{InJob, Row, Rows, Stage, with_row}
 use Rattle.store_model.specs.Shown.{fixed_of}
 use Rattle.store_model.specs.StoreState.{going_on, live_of as live_shown, logged, shown, ForCommand, ForInsert}
 use Rattle.store_model.specs.StoreState.{JobState}
@@ -35,24 +34,23 @@ use Rattle.running_store.specs.Jobs.{freeze_of, job_left, service_of, waits_for_
 use Rattle.running_store.specs.Jobs.{IsRemovedFor}
 use Rattle.running_store.specs.Steps.{logged_at}
 use Rattle.running_store.specs.StoreView.{StoreView, device_of, rows_of, state_of}
-use Rattle.running_store.specs.declared.effects.Effects.{Effects}
 use Rattle.running_store.specs.declared.job.Serves.{Serves}
 use Rattle.running_store.specs.declared.job.Serves.TheVariants as whom
 use Rattle.running_store.specs.declared.replacements.Change.{Change}
 use Rattle.running_store.specs.declared.replacements.Change.TheVariants as changed
 use Rattle.running_store.specs.declared.replacements.Commit.{Commit}
-use Rattle.running_store.specs.declared.replacements.Erasure.{Erasure}
 use Rattle.running_store.specs.declared.replacements.Planned.{Planned}
 use Rattle.running_store.proofs.JobLeft.{goes_on_left}
-use Rattle.running_store.proofs.Rowing.{rows_set, state_logged}
+use Rattle.running_store.proofs.Rowing.{low_stage, rows_set, state_logged}
 use Rattle.metadata_turns.specs.JobTurns.{with_job, IsAtWork, TurnsJob}
 use Rattle.metadata_turns.specs.Telling.{let_go_at, HasFailed, HasRow, IsTold}
-use Rattle.metadata_turns.proofs.Behind.{behind_state, behind_view, blobs_in, committing, replacing_for, state_behind}
+use Rattle.job_views.specs.Replacing.{blobs_in, committing, replacing_for}
+use Rattle.metadata_turns.proofs.Behind.{behind_state, behind_view, state_behind}
 use Rattle.metadata_turns.proofs.Behind.{IsWhole}
-use Rattle.metadata_turns.proofs.InsertFailed.{inserting}
+use Rattle.metadata_turns.proofs.InsertFailed.{insert_low, inserting, waits as waits_to_insert}
 use Rattle.metadata_turns.proofs.JobFailed.{channel_low, command, failed_for_command, failed_for_insert}
 use Rattle.metadata_turns.proofs.JobFailed.{failed_for_repair, rest, row, row_left, x_served}
-use Rattle.metadata_turns.proofs.JobTurned.{first_low, first_to_insert, has_command}
+use Rattle.metadata_turns.proofs.JobTurned.{has_command}
 
 -- what is planned or erased is so for whom the job serves
 abbrev pub IsFor : Serves → Change → Type 0
@@ -81,29 +79,29 @@ module _ {D : Type 0} (d : Ghosts D) (p : StoreView D) (x : Change) (old : List 
     (disk : D) (touched : TouchesHead d p (replacing_for x old) disk) where
   -- ---- it failed
 
-  pub head_failed : (serves : Serves) → IsAtHead d p serves x old more j
+  pub head_failed : (serves : Serves) → IsAtHead d p serves x old more j → length p.rows ≡ 17
       → FailsToReplace (device_of d p.disk) (device_of d disk) → (q : StoreView D)
-      → HasFailed j.freeze (waits_for_job j) (record p { disk = disk }) q (d.clock disk) → TurnsJob d (with_job p j) q
-  head_failed (whom.Command channel freeze) n fails q is =
-      failed_for_command d p j n.work disk fails q is (replacing_for x old) (committing x) (erasing old old more)
-      n.todo touched channel n.serves_is
-  head_failed (whom.Insert channel) n fails q is = by x refl n.fits
+      → HasFailed j.freeze (waits_for_job j) (record p { disk = disk }) q (d.clock q.disk) → TurnsJob d (with_job p j) q
+  head_failed (whom.Command channel freeze) n seventeen fails q is =
+      failed_for_command d p j n.work seventeen disk fails q is (replacing_for x old) (committing x)
+      (erasing old old more) n.todo touched channel n.serves_is
+  head_failed (whom.Insert channel) n seventeen fails q is = by x refl n.fits
     where
       by : (y : Change) → x ≡ y → IsFor (whom.Insert channel) y → TurnsJob d (with_job p j) q
       by (changed.Writes planned) e fits =
-          failed_for_insert d p j n.work disk fails q is (replacing_for x old) (committing x) (erasing old old more)
-          n.todo touched channel n.serves_is (ap committing e ∙ ap (option_map commit_seen) fits.1.commit) planned.new
+          failed_for_insert d p j n.work seventeen disk fails q is (replacing_for x old) (committing x)
+          (erasing old old more) n.todo touched channel n.serves_is (ap committing e ∙ ap (option_map commit_seen) fits.1.commit) planned.new
           (ap (λ (y : Change). (replacing_for y old).new) e)
       by (changed.Erases erasure) e fits = absurd fits
-  head_failed whom.Repair n fails q is = by x refl n.fits
+  head_failed whom.Repair n seventeen fails q is = by x refl n.fits
     where
       by : (y : Change) → x ≡ y → IsFor whom.Repair y → TurnsJob d (with_job p j) q
       by (changed.Writes planned) e fits =
-          failed_for_repair d p j n.work disk fails q is (replacing_for x old) (committing x) (erasing old old more)
-          n.todo touched n.serves_is (ap committing e ∙ ap (option_map commit_seen) fits.1.commit)
+          failed_for_repair d p j n.work seventeen disk fails q is (replacing_for x old) (committing x)
+          (erasing old old more) n.todo touched n.serves_is (ap committing e ∙ ap (option_map commit_seen) fits.1.commit)
       by (changed.Erases erasure) e fits =
-          failed_for_repair d p j n.work disk fails q is (replacing_for x old) (committing x) (erasing old old more)
-          n.todo touched n.serves_is (ap committing e ∙ ap (option_map commit_seen) fits.1)
+          failed_for_repair d p j n.work seventeen disk fails q is (replacing_for x old) (committing x)
+          (erasing old old more) n.todo touched n.serves_is (ap committing e ∙ ap (option_map commit_seen) fits.1)
 
   -- ---- it is made
 
@@ -327,7 +325,7 @@ module _ {D : Type 0} (d : Ghosts D) (p : StoreView D) (row : ℕ) (planned : Pl
       ∙ ap (with_all [] [] si.live si.drawn) (frozen_still si.frozen j others_i n.freezes)
 
   below : row < length p.rows
-  below = first_low p row (first_to_insert d p j n.work row n.serves_is)
+  below = low_stage p.rows row InJob (waits_to_insert d p j n.work row n.serves_is).stage (λ e. cc e)
 
   abbrev row_at : Stage → Row
   row_at g = record { left = (rows_of p.rows row).left; stage = g; claim = None }
@@ -375,10 +373,10 @@ module _ {D : Type 0} (d : Ghosts D) (p : StoreView D) (row : ℕ) (planned : Pl
 
 module _ {D : Type 0} (d : Ghosts D) (p : StoreView D) (x : Change) (old : List ℕ) (more : List Phase) (j : JobState)
   where
-    -- it is one of the sixteen
-    pub told_row : (serves : Serves) → IsAtHead d p serves x old more j → length p.rows ≡ 16
+    -- it is one of those that there are
+    pub told_row : (serves : Serves) → IsAtHead d p serves x old more j → length p.rows ≡ 17
         → HasRow p.rows serves (option_map reply_of (commit_of x))
-    told_row (whom.Command channel freeze) n sixteen = by (commit_of x) refl
+    told_row (whom.Command channel freeze) n seventeen = by (commit_of x) refl
       where
         by : (o : Option Commit) → commit_of x ≡ o
             → HasRow p.rows (whom.Command channel freeze) (option_map reply_of (commit_of x))
@@ -387,14 +385,13 @@ module _ {D : Type 0} (d : Ghosts D) (p : StoreView D) (x : Change) (old : List 
             let waits : has_commit j.todo ≡ true = ap has_commit (n.todo
             ∙ ap (λ (o : Option Commit). Replaces (replacing_for x old) (option_map commit_seen o) ∷ erasing old old more)
             is) in
-            rw is (has_command p channel sixteen (record {
+            rw is (has_command d (with_job p j) channel seventeen n.work.work.fill (record {
               command = command d p j n.work channel n.serves_is waits;
               rest = rest d p j n.work channel n.serves_is waits;
               left = row_left d p j n.work channel n.serves_is waits;
             }))
-    told_row (whom.Insert channel) n sixteen =
-        has_command p channel sixteen (first_to_insert d p j n.work channel n.serves_is)
-    told_row whom.Repair n sixteen = tt
+    told_row (whom.Insert at) n seventeen = insert_low d p j n.work at n.serves_is seventeen
+    told_row whom.Repair n seventeen = tt
 
 -- ---- whomever it is for
 

@@ -24,7 +24,8 @@ use Rattle.running_store.specs.declared.replacements.Planned.{Planned}
 use Rattle.running_store.specs.declared.job.Serves.{Serves}
 use Rattle.running_store.specs.declared.replacements.Change.TheVariants as change
 use Rattle.metadata_turns.proofs.HeadMade.{IsAtHead, TouchesHead}
-use Rattle.metadata_turns.proofs.AtWork.{can, drop_end, has_meta, head_low, head_page, well}
+use Rattle.std.proofs.Math.Seq.{drop-length}
+use Rattle.metadata_turns.proofs.AtWork.{can, has_meta, head_low, head_page, well}
 use Rattle.running_store.proofs.Cleared.{among_get}
 
 -- an insert's replacement comes alone
@@ -80,7 +81,7 @@ module _ {D : Type 0} (d : Ghosts D) (p : StoreView D) (serves : Serves) (planne
 
   pub todo_is : j.todo ≡ Replaces (replacing_of planned old) (commit_in planned) ∷ others
   todo_is = ap (λ l. writing l (Replaces (replacing_of planned old) (commit_in planned) ∷ others))
-      (drop_end (drop 1 planned.chain))
+      (drop-length (drop 1 planned.chain))
 
   -- whether the blob is new
   abbrev makes : Bool

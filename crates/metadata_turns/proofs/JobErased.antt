@@ -14,8 +14,8 @@ use Rattle.store_model.specs.Cases as kind
 use Rattle.store_model.specs.Phases.{Phase}
 use Rattle.store_model.specs.Phases as phase
 use Rattle.store_model.specs.Places.{all_set, AreDistinct}
-use Rattle.store_model.specs.Rows.{Decided, Row, Rows, with_row, Won}
-use Rattle.store_model.specs.StoreState.{going_on, ForInsert, JobState, StoreState}
+use Rattle.store_model.specs.Rows.{Decided, InJob, Row, Rows, with_row, Won}
+use Rattle.store_model.specs.StoreState.{ForInsert, JobState, StoreState}
 use Rattle.store_model.specs.Guarding.{frozen_behind}
 use Rattle.store_model.proofs.Guarding.{frozen_still}
 use Rattle.running_store.specs.Jobs.{erasing_for, freeze_of, job_left, service_of}
@@ -23,22 +23,22 @@ use Rattle.running_store.specs.StoreView.{StoreView, device_of, rows_of, state_o
 use Rattle.running_store.specs.declared.job.Serves.{Serves}
 use Rattle.running_store.specs.declared.job.Serves.TheVariants as whom
 use Rattle.running_store.proofs.JobLeft.{goes_on_left}
-use Rattle.running_store.proofs.Rowing.{rows_set}
+use Rattle.running_store.proofs.Rowing.{low_stage, rows_set}
 use Rattle.metadata_turns.specs.JobTurns.{guards_left, with_job, IsAtWork, TurnsJob}
 use Rattle.metadata_turns.specs.Telling.{HasInsertRow, IsWon}
-use Rattle.metadata_turns.proofs.AtWork.{among_at, last_one, old_distinct, old_in_use, old_low, one_more}
+use Rattle.job_views.proofs.PlannedPages.{among_at}
+use Rattle.metadata_turns.proofs.AtWork.{last_one, old_distinct, old_in_use, old_low, one_more}
 use Rattle.metadata_turns.proofs.Behind.{state_left}
-use Rattle.metadata_turns.proofs.InsertFailed.{inserting}
-use Rattle.metadata_turns.proofs.JobTurned.{first_low, first_to_insert, has_command}
+use Rattle.metadata_turns.proofs.InsertFailed.{insert_low, inserting, waits}
 
 -- the row of an insert waits for the old pages
 pub insert_row : {D : Type 0} (d : Ghosts D) (p : StoreView D) (serves : Serves) (old : List ℕ) (erased : ℕ)
-    (more : List Phase) → IsAtWork d p (erasing_for serves old erased more) → length p.rows ≡ 16
-    → HasInsertRow p.rows serves
-insert_row d p (whom.Command channel freeze) old erased more w sixteen = tt
-insert_row d p (whom.Insert channel) old erased more w sixteen = has_command p channel sixteen
-    (first_to_insert d p (erasing_for (whom.Insert channel) old erased more) w channel refl)
-insert_row d p whom.Repair old erased more w sixteen = tt
+    (more : List Phase) → IsAtWork d p (erasing_for serves old erased more) → length p.rows ≡ 17
+    → HasInsertRow serves
+insert_row d p (whom.Command channel freeze) old erased more w seventeen = tt
+insert_row d p (whom.Insert row) old erased more w seventeen =
+    insert_low d p (erasing_for (whom.Insert row) old erased more) w row refl seventeen
+insert_row d p whom.Repair old erased more w seventeen = tt
 
 module _ {D : Type 0} (d : Ghosts D) (p : StoreView D) (serves : Serves) (old : List ℕ) (erased : ℕ)
     (more : List Phase) (w : IsAtWork d p (erasing_for serves old erased more)) (some : erased < length old) where
@@ -155,7 +155,6 @@ module _ {D : Type 0} (d : Ghosts D) (p : StoreView D) (serves : Serves) (old : 
             → TurnsJob d (with_job p k) q
         freed_inserted channel is none q won =
             let inserts : service_of serves ≡ ForInsert channel = ap service_of is in
-            let x = first_to_insert d p k w channel inserts in
             let given : Row = record { left = (rows_of p.rows channel).left; stage = Decided Won; claim = None } in
             subst (TurnsJob d (with_job p k)) (sym won) (record {
               kind = kind.insert_ends;
@@ -186,7 +185,8 @@ module _ {D : Type 0} (d : Ghosts D) (p : StoreView D) (serves : Serves) (old : 
                       }) (frozen_still t.frozen k more (ap freeze_of is))
                       ∙ ap (λ (rows : Rows).
                       record t { rows = rows; job = left; pages = bits; device = device_of d disk })
-                      (rows_set p.rows channel given (first_low p channel x))
+                      (rows_set p.rows channel given
+                      (low_stage p.rows channel InJob (waits d p k w channel inserts).stage (λ e. cc e)))
                       ∙ ap (λ b. record t {
                         rows = with_row (rows_of p.rows) channel given;
                         job = left;

@@ -1,7 +1,6 @@
 -- A job of which a write or a flush failed: the store stops, and what waits for it is logged.
-use Rattle.std.proofs.Common.{◌≡◌, ℕ, ◌+◌, ◌<◌, Bool, true, false, List, ◌∷◌, length, Option, Some, None, refl, sym}
-use Rattle.std.proofs.Common.{◌∙◌}
-use Rattle.std.proofs.Common.{ap, subst}
+use Rattle.std.proofs.Common.{◌≡◌, ◌≢◌, ℕ, ◌+◌, ◌<◌, Bool, true, false, List, ◌∷◌, length, Option, Some, None, refl}
+use Rattle.std.proofs.Common.{sym, ◌∙◌, ap, subst}
 use Rattle.page_disk.specs.Disk.{Written}
 use Rattle.page_disk.specs.Moments.{CallsLeaveOnly, IsReplaced}
 use Rattle.page_disk.specs.declared.disk.PageDisk.{Ghosts}
@@ -20,6 +19,7 @@ use Rattle.store_model.specs.Phases.{has_commit, page_in, Committing, Phase, Rep
 use Rattle.store_model.specs.Rows.{InJob, Row}
 use Rattle.store_model.specs.StoreState.{ForCommand, ForInsert, ForRepair, JobState, logged, Service, StoreState}
 use Rattle.store_model.specs.StoreState.{waiting}
+use Rattle.store_model.specs.Touches.{puts, replaces, Touched}
 use Rattle.store_model.proofs.Shaped.{waits_for_commit, waits_no_more}
 use Rattle.running_store.specs.Jobs.{waits_for_job}
 use Rattle.running_store.specs.Steps.{logged_at}
@@ -27,9 +27,13 @@ use Rattle.running_store.specs.StoreView.{StoreView, device_of, rows_of, state_o
 use Rattle.running_store.proofs.Rowing.{state_logged}
 use Rattle.metadata_turns.specs.JobTurns.{stopped_at, with_job, IsAtWork, TurnsJob}
 use Rattle.metadata_turns.specs.Telling.{HasFailed, HasWaitingRow}
-use Rattle.metadata_turns.proofs.InsertFailed.{fails_insert, low_left, stopped_state, command as write_of}
+use Rattle.metadata_turns.proofs.InsertFailed.{fails_insert, insert_disk, stopped_state}
 use Rattle.metadata_turns.proofs.InsertFailed.{waits as waits_to_insert}
-use Rattle.metadata_turns.proofs.JobTurned.{entered, entered_plainly, first_to_insert, has_command}
+use Rattle.metadata_turns.proofs.JobTurned.{entered, has_command}
+use Rattle.running_store.proofs.Rowing.{low_left}
+use Rattle.running_store.proofs.WorkLogged.{given_up_plainly, has_work}
+use Rattle.running_store.specs.GivingBack.{own}
+use Rattle.store_model.specs.Rows.{Answered, Decided, fill_row}
 
 module _ {D : Type 0} (d : Ghosts D) (p : StoreView D) (j : JobState) (w : IsAtWork d p j) where
   abbrev s : StoreState
@@ -59,6 +63,12 @@ module _ {D : Type 0} (d : Ghosts D) (p : StoreView D) (j : JobState) (w : IsAtW
     pub channel_low : channel < length p.rows
     channel_low = low_left p.rows channel command rest row_left
 
+    -- its row is a channel's
+    own_row : channel ≢ fill_row
+    own_row here =
+        let none = w.work.fill.left in
+        let bad = sym none ∙ ap (λ n. (rows_of p.rows n).left) (sym here) ∙ row_left in cc bad
+
     module _ (disk : D) where
       abbrev pub fault : StoreView D
       fault =
@@ -66,8 +76,12 @@ module _ {D : Type 0} (d : Ghosts D) (p : StoreView D) (j : JobState) (w : IsAtW
 
       -- the entry of a command that failed
       pub entry : (q : StoreView D) → entered d p j.freeze channel disk q → q ≡ fault
-      entry q is = entered_plainly (stopped_at (record p { disk = disk }) j.freeze) q channel r.Fault (d.clock disk)
-          (ap (λ (x : Row). x.claim) row) is command rest row_left
+      entry q given =
+          let is = given_up_plainly (stopped_at (record p { disk = disk }) j.freeze) q channel (Decided Answered)
+          r.Fault (d.clock q.disk) own_row (ap (λ (x : Row). x.claim) row) given command rest
+          row_left in
+          is ∙ ap (λ mark. logged_at (stopped_at (record p { disk = disk }) j.freeze) channel command rest r.Fault mark)
+          (ap (λ (b : StoreView D). d.clock b.disk) is)
 
       pub next : state_of d fault
           ≡ logged (record s { stopped = Some (length p.log); job = None; frozen = λ head. false })
@@ -104,32 +118,33 @@ module _ {D : Type 0} (d : Ghosts D) (p : StoreView D) (j : JobState) (w : IsAtW
   -- ---- what waits
 
   -- the row of the channel that waits for it
-  pub waiting_row : length p.rows ≡ 16 → HasWaitingRow p.rows (waits_for_job j)
-  waiting_row sixteen = by j.serves refl (has_commit j.todo) refl
+  pub waiting_row : length p.rows ≡ 17 → HasWaitingRow p.filling p.rows (waits_for_job j)
+  waiting_row seventeen = by j.serves refl (has_commit j.todo) refl
     where
       by : (x : Service) → j.serves ≡ x → (b : Bool) → has_commit j.todo ≡ b
-          → HasWaitingRow p.rows (waits_for_job j)
+          → HasWaitingRow p.filling p.rows (waits_for_job j)
       by (ForCommand channel) serves true commit =
-          subst (HasWaitingRow p.rows) (sym (waits_for_commit j channel serves commit))
-          (has_command p channel sixteen (record {
+          subst (HasWaitingRow p.filling p.rows) (sym (waits_for_commit j channel serves commit))
+          (own (has_command d (with_job p j) channel seventeen w.work.fill (record {
             command = command channel serves commit;
             rest = rest channel serves commit;
             left = row_left channel serves commit;
-          }))
+          })))
       by (ForCommand channel) serves false commit =
-          subst (HasWaitingRow p.rows) (sym (waits_no_more j channel serves commit)) tt
+          subst (HasWaitingRow p.filling p.rows) (sym (waits_no_more j channel serves commit)) tt
       by (ForInsert channel) serves b commit =
-          subst (HasWaitingRow p.rows) (sym (ap (λ (x : Service). waiting x j.todo) serves))
-          (has_command p channel sixteen (first_to_insert d p j w channel serves))
+          subst (HasWaitingRow p.filling p.rows) (sym (ap (λ (x : Service). waiting x j.todo) serves))
+          (has_work d (with_job p j) seventeen w.work.fill channel (waits_to_insert d p j w channel serves).works)
       by ForRepair serves b commit =
-          subst (HasWaitingRow p.rows) (sym (ap (λ (x : Service). waiting x j.todo) serves)) tt
+          subst (HasWaitingRow p.filling p.rows) (sym (ap (λ (x : Service). waiting x j.todo) serves)) tt
 
-  module _ (disk : D) (fails : FailsToReplace (device_of d p.disk) (device_of d disk)) (q : StoreView D)
-      (failed : HasFailed j.freeze (waits_for_job j) (record p { disk = disk }) q (d.clock disk)) where
+  module _ (seventeen : length p.rows ≡ 17) (disk : D)
+      (fails : FailsToReplace (device_of d p.disk) (device_of d disk)) (q : StoreView D)
+      (failed : HasFailed j.freeze (waits_for_job j) (record p { disk = disk }) q (d.clock q.disk)) where
     by_waiting : (o : Option ℕ) → waits_for_job j ≡ o
-        → HasFailed j.freeze o (record p { disk = disk }) q (d.clock disk)
+        → HasFailed j.freeze o (record p { disk = disk }) q (d.clock q.disk)
     by_waiting o is =
-        subst (λ (x : Option ℕ). HasFailed j.freeze x (record p { disk = disk }) q (d.clock disk)) is failed
+        subst (λ (x : Option ℕ). HasFailed j.freeze x (record p { disk = disk }) q (d.clock q.disk)) is failed
 
     stopped : state_of d (stopped_at (record p { disk = disk }) j.freeze)
         ≡ record s { stopped = Some (length p.log); job = None; frozen = λ head. false; device = device_of d disk }
@@ -176,16 +191,18 @@ module _ {D : Type 0} (d : Ghosts D) (p : StoreView D) (j : JobState) (w : IsAtW
               })
           by (ForCommand channel) serves false commit = none_waits (waits_no_more j channel serves commit)
           by (ForInsert channel) serves b commit =
-              let writes = (waits_to_insert d p j w channel serves).writes in
-              let is = by_waiting (Some channel) (ap (λ (x : Service). waiting x j.todo) serves) in
-              subst (TurnsJob d (with_job p j)) (sym (is (write_of d p channel writes) writes.rest writes.is)) (record {
+              let given = by_waiting (Some channel) (ap (λ (x : Service). waiting x j.todo) serves) in
+              record {
                 kind = kind.insert_fails;
                 of_job = tt;
                 made = (
-                  fails_insert d p j w channel serves disk phase others todo (insert.page put is_put) fails,
-                  record { moments = touches; durable = λ never. absurd (cc never) },
+                  fails_insert d p j w channel serves seventeen disk q given phase others todo (insert.page put is_put)
+                      fails,
+                  subst (λ (x : D). Touched d p.disk x (puts (p.super.md_start + put.place) put.page false))
+                      (sym (insert_disk d p j w channel serves seventeen disk q given))
+                      (record { moments = touches; durable = λ never. absurd (cc never) }),
                 );
-              })
+              }
           by ForRepair serves b commit = none_waits (ap (λ (x : Service). waiting x j.todo) serves)
 
     -- ---- a head that was being replaced
@@ -260,18 +277,20 @@ module _ {D : Type 0} (d : Ghosts D) (p : StoreView D) (j : JobState) (w : IsAtW
       -- of an insert's
       pub failed_for_insert : (row : ℕ) → j.serves ≡ ForInsert row → commit ≡ None → (new : Meta)
           → replacing.new ≡ Some new → TurnsJob d (with_job p j) q
-      failed_for_insert row serves no_commit new new_is =
-          let writes = (waits_to_insert d p j w row serves).writes in
-          let is = by_waiting (Some row) (ap (λ (x : Service). waiting x j.todo) serves) in
-          subst (TurnsJob d (with_job p j)) (sym (is (write_of d p row writes) writes.rest writes.is)) (record {
+      failed_for_insert at serves no_commit new new_is =
+          let given = by_waiting (Some at) (ap (λ (x : Service). waiting x j.todo) serves) in
+          record {
             kind = kind.insert_fails;
             of_job = tt;
             made = (
-              fails_insert d p j w row serves disk (Replaces replacing None) others (todo_as None no_commit)
-                  (insert.head replacing new refl new_is) fails,
-              record { moments = touches; durable = λ never. absurd (cc never) },
+              fails_insert d p j w at serves seventeen disk q given (Replaces replacing None) others
+                  (todo_as None no_commit) (insert.head replacing new refl new_is) fails,
+              subst (λ (x : D). Touched d p.disk x (replaces (p.super.md_start + replacing.head)
+                  (page_in replacing.planned replacing.head) false))
+                  (sym (insert_disk d p j w at serves seventeen disk q given))
+                  (record { moments = touches; durable = λ never. absurd (cc never) }),
             );
-          })
+          }
 
       -- of a repair's
       pub failed_for_repair : j.serves ≡ ForRepair → commit ≡ None → TurnsJob d (with_job p j) q

@@ -1,5 +1,5 @@
 -- What a turn of the running job makes of the store, by cases.
-use Rattle.std.proofs.Common.{None, Option, ◌≡◌, ℕ, suc, ◌+◌, ◌<◌, List, ◌∷◌, length}
+use Rattle.std.proofs.Common.{Option, ◌≡◌, ℕ, suc, ◌+◌, ◌<◌, List, ◌∷◌, length}
 use Rattle.std.proofs.Common.{Some, refl, sym, ◌∙◌, ap, subst, arith, add-one, drop}
 use Rattle.std.specs.Prelude.{slice_get}
 use Rattle.page_disk.specs.Disk.{Written}
@@ -7,11 +7,9 @@ use Rattle.page_disk.specs.Moments.{CallsLeaveOnly}
 use Rattle.page_disk.specs.declared.disk.PageDisk.{Ghosts}
 use Rattle.page_disk.specs.declared.disk.WriteKind.TheVariants.{Plain}
 use Rattle.volume_model.specs.declared.command.Command.{Command}
-use Rattle.volume_model.specs.declared.reply.Reply.{Reply}
 use Rattle.volume_model.specs.declared.reply.Reply.TheVariants as r
 use Rattle.md_chain.specs.declared.plan.PlannedPage.{PlannedPage}
-use Rattle.store_model.specs.StoreState.{ForInsert, JobState, StoreState, planned_at}
-use Rattle.store_model.specs.Places.{without_claim}
+use Rattle.store_model.specs.StoreState.{JobState, StoreState, planned_at}
 use Rattle.store_model.specs.Cases.{WritesOnePage}
 use Rattle.store_model.specs.Cases as kind
 use Rattle.store_model.specs.Cases.{FailsToReplace}
@@ -20,31 +18,21 @@ use Rattle.metadata_turns.specs.JobTurns.{stopped_at, with_job, IsAtWork, TurnsJ
 use Rattle.metadata_turns.proofs.AtWork.{drop_one, take_one, next_low, next_page, next_place}
 use Rattle.metadata_turns.proofs.AtWork.{pages_planned}
 use Rattle.metadata_turns.proofs.AtWork.{behind}
-use Rattle.metadata_turns.proofs.InsertFailed.{low_left, command as write_of}
-use Rattle.metadata_turns.proofs.InsertFailed.{waits as waits_to_insert}
-use Rattle.running_store.specs.GivingBack.{claim_cleared, IsEntered, IsGivenUp}
+use Rattle.running_store.specs.GivingBack.{HasCommand, IsGivenUp}
+use Rattle.running_store.proofs.Rowing.{channel_low, low_left}
+use Rattle.store_model.specs.Filling.{FillStands}
+use Rattle.store_model.specs.Rows.{Answered, Decided}
 use Rattle.store_model.specs.Phases.{Phase, Writes, writing}
 use Rattle.running_store.specs.declared.replacements.Planned.{Planned}
 use Rattle.running_store.specs.declared.job.Serves.{Serves}
 use Rattle.running_store.specs.Jobs.{writing_for}
-use Rattle.metadata_turns.specs.Telling.{HasCommand}
 
 -- ---- what waits for a job
 
--- a row without a claim gives none back
-pub none_cleared : {D : Type 0} (p : StoreView D) (channel : ℕ) → (rows_of p.rows channel).claim ≡ None
-    → claim_cleared p channel ≡ p
-none_cleared p channel none = ap (λ o. record p { clusters = without_claim p.clusters o }) none
-
-pub entered_plainly : {D : Type 0} (p q : StoreView D) (channel : ℕ) (reply : Reply) (mark : ℕ)
-    → (rows_of p.rows channel).claim ≡ None → IsGivenUp p q channel reply mark → IsEntered p q channel reply mark
-entered_plainly {D = D} p q channel reply mark none is =
-    subst (λ (a : StoreView D). IsEntered a q channel reply mark) (none_cleared p channel none) is
-
 -- what waits for a job that failed is logged
 abbrev pub entered : {D : Type 0} → Ghosts D → StoreView D → Option ℕ → ℕ → D → StoreView D → Type 0
-entered d p freeze channel disk q =
-    IsGivenUp (stopped_at (record p { disk = disk }) freeze) q channel r.Fault (d.clock disk)
+entered d p freeze row disk q =
+    IsGivenUp (stopped_at (record p { disk = disk }) freeze) q row (Decided Answered) r.Fault (d.clock q.disk)
 
 -- a row has a first command
 pub record HasFirst {D : Type 0} (p : StoreView D) (channel : ℕ) : Type 0 where
@@ -59,18 +47,11 @@ pub first_some : {D : Type 0} (p : StoreView D) (channel : ℕ) → HasFirst p c
     → 0 < length (rows_of p.rows channel).left
 first_some p channel x = let long = ap (λ (l : List Command). length l) x.left in omega (arith, long)
 
--- so it is one of the sixteen, and has a command
-pub has_command : {D : Type 0} (p : StoreView D) (channel : ℕ) → length p.rows ≡ 16 → HasFirst p channel
-    → HasCommand p.rows channel
-has_command p channel sixteen x =
-    let low = first_low p channel x in (omega (arith, low, sixteen), first_some p channel x)
-
--- a job of an insert has its write
-pub first_to_insert : {D : Type 0} (d : Ghosts D) (p : StoreView D) (j : JobState) (w : IsAtWork d p j) (row : ℕ)
-    → j.serves ≡ ForInsert row → HasFirst p row
-first_to_insert d p j w row serves =
-    let x = (waits_to_insert d p j w row serves).writes in
-    record { command = write_of d p row x; rest = x.rest; left = x.is }
+-- so it is a channel's, and has a command
+pub has_command : {D : Type 0} (d : Ghosts D) (p : StoreView D) (channel : ℕ) → length p.rows ≡ 17
+    → FillStands (state_of d p) → HasFirst p channel → HasCommand p.rows channel
+has_command d p channel seventeen fill x =
+    (channel_low p.rows channel x.command x.rest seventeen fill.left x.left, first_some p channel x)
 
 -- ---- a job of which fresh pages are written
 

@@ -1,8 +1,7 @@
 -- What a turn of a running job that overwrites a page of a claimed cluster makes of the store.
-use Rattle.std.proofs.Common.{Option, ◌≡◌, ℕ, ◌*◌, ◌/◌, ◌%◌, ◌<◌, Bool, true, false, List, [], ◌∷◌, ◌++◌, length}
-use Rattle.std.proofs.Common.{Some, refl, sym, ◌∙◌, ap, subst, arith, inl, inr, drop}
+use Rattle.std.proofs.Common.{Option, ◌≡◌, ℕ, ◌*◌, ◌/◌, ◌%◌, ◌<◌, Bool, true, false, List, [], ◌∷◌, ◌++◌}
+use Rattle.std.proofs.Common.{Some, refl, sym, ◌∙◌, ap, subst, arith, inr, drop}
 use Rattle.std.specs.Prelude.{if◌then◌else◌, ◌||◌}
-use Rattle.std.proofs.lemmas.Bool.{cases_lt}
 use Rattle.std.proofs.lemmas.Nat.{div-add-mod', mul-add-lt}
 use Rattle.std.proofs.Math.Nat.{mod-lt}
 use Rattle.page_disk.specs.Disk.{Written}
@@ -25,8 +24,8 @@ use Rattle.store_model.proofs.Shaped.{waits_for_commit}
 use Rattle.store_model.proofs.Zeroing.{commit_zeros}
 use Rattle.running_store.specs.Jobs.{behind_zero, service_of, waits_for_job, writing_for, zeroing_for, IsZeroedFor}
 use Rattle.running_store.specs.Zeroing.{next_zeroed, pages_from, IsLeft}
-use Rattle.metadata_turns.specs.JobTurns.{stopped_at, with_job, IsAtWork, TurnsJob}
-use Rattle.running_store.specs.StoreView.{StoreView, device_of, rows_of, state_of}
+use Rattle.metadata_turns.specs.JobTurns.{with_job, IsAtWork, TurnsJob}
+use Rattle.running_store.specs.StoreView.{StoreView, device_of, state_of}
 use Rattle.running_store.specs.declared.replacements.Planned.{Planned}
 use Rattle.running_store.specs.declared.job.Serves.{Serves}
 use Rattle.running_store.specs.declared.job.Serves.TheVariants as whom
@@ -117,14 +116,14 @@ module _ {D : Type 0} (d : Ghosts D) (p : StoreView D) (serves : Serves) (planne
     touched = subst (λ n. CallsLeaveOnly d p.disk disk (Written (d.images p.disk) n Plain zero_page)) at_is touches
 
     pub failed_zeroing : FailsToReplace (device_of d p.disk) (device_of d disk) → (q : StoreView D)
-        → HasFailed j.freeze (waits_for_job j) (record p { disk = disk }) q (d.clock disk)
+        → HasFailed j.freeze (waits_for_job j) (record p { disk = disk }) q (d.clock q.disk)
         → TurnsJob d (with_job p j) q
     failed_zeroing fails q is = by serves refl
       where
         by : (x : Serves) → serves ≡ x → TurnsJob d (with_job p j) q
         by (whom.Command channel freeze) e =
             let for_command : j.serves ≡ ForCommand channel = ap service_of e in
-            let given = subst (λ (o : Option ℕ). HasFailed j.freeze o (record p { disk = disk }) q (d.clock disk))
+            let given = subst (λ (o : Option ℕ). HasFailed j.freeze o (record p { disk = disk }) q (d.clock q.disk))
             (waits_for_commit j channel for_command waits) is in
             subst (TurnsJob d (with_job p j)) (sym (entry d p j w channel for_command waits disk q given)) (record {
               kind = kind.fails;

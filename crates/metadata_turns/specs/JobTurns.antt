@@ -13,7 +13,7 @@ use Rattle.running_store.specs.StoreView.{StoreView, state_of}
 use Rattle.running_store.specs.declared.job.Serves.{Serves}
 use Rattle.running_store.specs.TurnMade.{TurnMade}
 use Rattle.running_store.specs.StoreInvariant.{IsRunning}
-use Rattle.metadata_turns.specs.OwnWrites.{AreOwn}
+use Rattle.metadata_turns.specs.RowsWork.{RowsWork}
 
 -- the kinds of a job's turns, but for its beginning: those of an insert's job alone, and of any other
 abbrev pub IsOfJob : Kind → Type 0
@@ -56,4 +56,4 @@ pub record IsAtWork {D : Type 0} (d : Ghosts D) (p : StoreView D) (j : JobState)
   pub taken : p.job ≡ None
   pub not_stopped : p.stopped ≡ None
   pub running : IsRunning (state_of d (with_job p j))
-  pub own : AreOwn (state_of d (with_job p j))
+  pub work : RowsWork (state_of d (with_job p j))

@@ -1,5 +1,5 @@
 pub mod Answering
-pub mod OwnWrites
+pub mod RowsWork
 pub mod JobTurns
 pub mod Telling
 pub mod Infos

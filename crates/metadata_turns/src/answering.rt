@@ -1,6 +1,6 @@
 //! Commands that are answered in memory.
 
-ghost use Rattle.std.specs.Prelude.{◌≡◌, ◌<◌, Some, None, option_copied, IfOk, IfSome, IsSome};
+ghost use Rattle.std.specs.Prelude.{◌≡◌, ◌≢◌, ◌<◌, Some, None, option_copied, IfOk, IfSome, IsSome};
 ghost use Rattle.std.specs.FinMap as map;
 ghost use Rattle.std.specs.Option.{option_and_then};
 ghost use Rattle.blob_meta.specs.Asked.{HasValue, IsLiveOf, IsOnAttributes};
@@ -126,6 +126,7 @@ fn answer_on_attributes<D: PageDisk>(running: &mut Running<D>, channel: u8)
     requires order { InOrder D.PageDisk running.old }
     requires channel { channel < 16 }
     requires posted { IsPostedAt (view_of running.old) channel }
+    requires unfilled { running.old.filling ≢ Some channel }
     requires asked { Asks (view_of running.old) channel IsAsked }
     requires running { IsRunning (state_of D.PageDisk (view_of running.old)) }
     requires runs { running.old.stopped ≡ None }
@@ -159,6 +160,7 @@ fn answer_question<D: PageDisk>(running: &mut Running<D>, channel: u8)
     requires order { InOrder D.PageDisk running.old }
     requires channel { channel < 16 }
     requires posted { IsPostedAt (view_of running.old) channel }
+    requires unfilled { running.old.filling ≢ Some channel }
     requires asks { Asks (view_of running.old) channel IsQuestion }
     requires running { IsRunning (state_of D.PageDisk (view_of running.old)) }
     requires faultless { IsFaultless running.old.sup }
@@ -181,6 +183,7 @@ pub(crate) fn answer<D: PageDisk>(running: &mut Running<D>, channel: u8)
     requires order { InOrder D.PageDisk running.old }
     requires channel { channel < 16 }
     requires posted { IsPostedAt (view_of running.old) channel }
+    requires unfilled { running.old.filling ≢ Some channel }
     requires answerable { Asks (view_of running.old) channel IsAnswerable }
     requires running { IsRunning (state_of D.PageDisk (view_of running.old)) }
     requires faultless { IsFaultless running.old.sup }
@@ -202,6 +205,7 @@ pub fn answer_or_halt<D: PageDisk>(running: &mut Running<D>, channel: u8)
     requires order { InOrder D.PageDisk running.old }
     requires channel { channel < 16 }
     requires posted { IsPostedAt (view_of running.old) channel }
+    requires unfilled { running.old.filling ≢ Some channel }
     requires answerable { Asks (view_of running.old) channel IsAnswerable }
     requires running { IsRunning (state_of D.PageDisk (view_of running.old)) }
     requires faultless { IsFaultless running.old.sup }

@@ -2,7 +2,7 @@
 
 ghost use Rattle.std.specs.Prelude.{◌≡◌, ◌+◌, Some, None, IsSome};
 ghost use Rattle.metadata_turns.specs.JobTurns.{answer_of, TurnsJob};
-ghost use Rattle.metadata_turns.specs.OwnWrites.{AreOwn};
+ghost use Rattle.metadata_turns.specs.RowsWork.{RowsWork};
 ghost use Rattle.metadata_turns.specs.declared.job_turn.JobTurn.TheVariants.{Stopped};
 ghost use Rattle.running_store.specs.StoreInvariant.{IsRunning};
 ghost use Rattle.running_store.specs.Running.{view_of, InOrder};
@@ -11,7 +11,9 @@ ghost use Rattle.running_store.specs.StoreView.{state_of};
 use crate::head_turns::{remove_head, replace_head};
 use crate::page_turns::{erase, free, write_fresh, zero};
 use page_disk::PageDisk;
-use running_store::{LaidReplacement, Running, RunningJob, Serves, Work, give_up, waiting_for};
+use running_store::{
+    Decision, LaidReplacement, Running, RunningJob, Serves, Stage, Work, give_up, waiting_for,
+};
 use std::collections::VecDeque;
 use super_block::Super;
 use volume_model::{PlaceList, Reply};
@@ -79,7 +81,7 @@ pub(crate) fn job_turn<D: PageDisk>(running: &mut Running<D>) -> JobTurn
     requires runs { IsSome running.old.job }
     requires not_stopped { running.old.stopped ≡ None }
     requires running { IsRunning (state_of D.PageDisk (view_of running.old)) }
-    requires own { AreOwn (state_of D.PageDisk (view_of running.old)) }
+    requires work { RowsWork (state_of D.PageDisk (view_of running.old)) }
     ensures case { TurnsJob D.PageDisk (view_of running.old) (view_of running.new) }
     ensures answer { result ≡ answer_of (view_of running.new) }
     ensures order { InOrder D.PageDisk running.new }
@@ -129,7 +131,7 @@ pub fn job_turn_or_end<D: PageDisk>(running: &mut Running<D>) -> JobTurn
     requires order { InOrder D.PageDisk running.old }
     requires runs { IsSome running.old.job }
     requires running { IsRunning (state_of D.PageDisk (view_of running.old)) }
-    requires own { AreOwn (state_of D.PageDisk (view_of running.old)) }
+    requires work { RowsWork (state_of D.PageDisk (view_of running.old)) }
     ensures case { TurnsJob D.PageDisk (view_of running.old) (view_of running.new) }
     ensures answer { result ≡ answer_of (view_of running.new) }
     ensures order { InOrder D.PageDisk running.new }
@@ -141,13 +143,13 @@ pub fn job_turn_or_end<D: PageDisk>(running: &mut Running<D>) -> JobTurn
 }
 
 /// Ends the job of a stopped store. No device call is made, and what waits for it is logged as stopped: its command, if
-/// it has no entry yet, or the write for which it inserts, whose claim is given back.
+/// it has no entry yet, or that which the row of its insert works for, whose claim is given back.
 fn break_down<D: PageDisk>(running: &mut Running<D>, at: u32) -> JobTurn
     requires order { InOrder D.PageDisk running.old }
     requires runs { IsSome running.old.job }
     requires stopped { running.old.stopped ≡ Some at }
     requires running { IsRunning (state_of D.PageDisk (view_of running.old)) }
-    requires own { AreOwn (state_of D.PageDisk (view_of running.old)) }
+    requires work { RowsWork (state_of D.PageDisk (view_of running.old)) }
     ensures case { TurnsJob D.PageDisk (view_of running.old) (view_of running.new) }
     ensures answer { result ≡ Stopped at }
     ensures stopped { running.new.stopped ≡ Some at }
@@ -155,8 +157,13 @@ fn break_down<D: PageDisk>(running: &mut Running<D>, at: u32) -> JobTurn
 {
     let waiting = waiting_for(&running.job);
     running.job = None;
-    if let Some(channel) = waiting {
-        give_up(running, channel, Reply::Stopped(at));
+    if let Some(row) = waiting {
+        give_up(
+            running,
+            row,
+            Reply::Stopped(at),
+            Stage::Decided(Decision::Answered),
+        );
     }
     JobTurn::Stopped(at)
 }

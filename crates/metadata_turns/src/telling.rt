@@ -36,7 +36,7 @@ pub(crate) fn tell<D: PageDisk>(
                 log(running, channel, reply);
             }
         }
-        Serves::Insert(channel) => let_go(running, channel, next),
+        Serves::Insert(row) => let_go(running, row, next),
         Serves::Repair => {}
     }
 }
@@ -55,29 +55,29 @@ pub(crate) fn stage_behind(old: &PlaceList) -> Stage
 /// The old pages are clear: the row of an insert is decided as won.
 pub(crate) fn win<D: PageDisk>(running: &mut Running<D>, serves: Serves)
     requires order { InOrder D.PageDisk running.old }
-    requires row { HasInsertRow running.old.rows.items serves }
+    requires row { HasInsertRow serves }
     ensures won { IsWon serves (view_of running.old) (view_of running.new) }
     ensures order { InOrder D.PageDisk running.new }
 {
     match serves {
         Serves::Command { .. } | Serves::Repair => {}
-        Serves::Insert(channel) => let_go(running, channel, Stage::Decided(Decision::Won)),
+        Serves::Insert(row) => let_go(running, row, Stage::Decided(Decision::Won)),
     }
 }
 
 /// A row goes on at this stage, and its claim has ended.
-fn let_go<D: PageDisk>(running: &mut Running<D>, channel: u8, next: Stage)
+fn let_go<D: PageDisk>(running: &mut Running<D>, row: u8, next: Stage)
     requires order { InOrder D.PageDisk running.old }
-    requires channel { channel < 16 }
-    ensures row { view_of running.new ≡ let_go_at (view_of running.old) channel (stage_seen next) }
+    requires row { row < 17 }
+    ensures row { view_of running.new ≡ let_go_at (view_of running.old) row (stage_seen next) }
     ensures order { InOrder D.PageDisk running.new }
 {
-    running.rows[channel as usize].let_go(next);
+    running.rows[row as usize].let_go(next);
 }
 
-/// The store stops, the blob that the job froze is released, and what waits for it, in this channel, is logged as
-/// failed: its command, or the write for which it inserts, whose claim is given back if the cluster isn't in its slot
-/// yet. Nothing waits for a repair, nor for a job behind its commit.
+/// The store stops, the blob that the job froze is released, and what waits for it, in this row, is logged as failed:
+/// its command, or that which the row of its insert works for, whose claim is given back if the cluster isn't in its
+/// slot yet. Nothing waits for a repair, nor for a job behind its commit.
 pub(crate) fn fail_job<D: PageDisk>(
     running: &mut Running<D>,
     serves: Serves,
@@ -85,17 +85,22 @@ pub(crate) fn fail_job<D: PageDisk>(
 ) -> JobTurn
     requires order { InOrder D.PageDisk running.old }
     requires taken { running.old.job ≡ None }
-    requires row { HasWaitingRow running.old.rows.items waiting }
+    requires row { HasWaitingRow running.old.filling running.old.rows.items waiting }
     ensures failed { HasFailed (freeze_of serves) waiting (view_of running.old) (view_of running.new)
-        (D.clock running.old.disk) }
+        (D.clock running.new.disk) }
     ensures answer { result ≡ answer_of (view_of running.new) }
     ensures order { InOrder D.PageDisk running.new }
 {
     let turn = stop(running, serves.freeze());
-    let Some(channel) = waiting else {
+    let Some(row) = waiting else {
         return turn;
     };
-    give_up(running, channel, Reply::Fault);
+    give_up(
+        running,
+        row,
+        Reply::Fault,
+        Stage::Decided(Decision::Answered),
+    );
     turn
 }
 

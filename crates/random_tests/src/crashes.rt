@@ -2,10 +2,10 @@
 
 use crate::families::family_at;
 use page_disk::{FaultDisk, MemDisk, PageDisk};
-use random_worlds::{Play, State, expect_left, new_store, number_at, play_of, size_of};
+use random_plays::{Play, Ran, expect_left, new_store, number_at, play_of, run, size_of};
+use random_worlds::State;
 use std::alloc::Global;
 use std::test::Fail;
-use test_runs::{Ran, run};
 
 /// How many commands of a play are answered by what was printed, before the one that stopped the store.
 fn answered(lines: &[Vec<u8>], printed: &[u8]) -> usize {

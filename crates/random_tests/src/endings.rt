@@ -2,9 +2,9 @@
 
 use std::test::Fail;
 
-/// The ways in which a line may end that scripts are to meet: five that those of families may miss, and at last two
-/// that others may miss.
-const ENDINGS: [&[u8]; 13] = [
+/// The ways in which a line may end that scripts are to meet: five that those of families may miss, and at last
+/// three that others may miss.
+const ENDINGS: [&[u8]; 14] = [
     b" too large",
     b" too long",
     b" no value",
@@ -18,18 +18,19 @@ const ENDINGS: [&[u8]; 13] = [
     b" not read only",
     b" busy 2",
     b" short",
+    b" no parent",
 ];
 
 /// Which of the endings some line has had.
 #[derive(Drop)]
 pub struct Endings {
-    found: [bool; 13],
+    found: [bool; 14],
 }
 
 impl Endings {
     /// None yet.
     pub fn new() -> Endings {
-        Endings { found: [false; 13] }
+        Endings { found: [false; 14] }
     }
 
     /// Notes the endings of the lines of a log.

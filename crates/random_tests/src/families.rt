@@ -1,6 +1,6 @@
 //! Random scripts in which families of volumes grow, deep and wide.
 
-use random_worlds::{Play, number_in_family, play_of};
+use random_plays::{Play, number_in_family, play_of};
 use std::alloc::Global;
 use std::test::Fail;
 

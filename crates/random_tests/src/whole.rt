@@ -3,12 +3,10 @@
 use crate::endings::Endings;
 use crate::families::family_at;
 use page_disk::MemDisk;
-use random_worlds::{
-    Play, expect_volumes, new_stores, number_in_family, play_of, size_of, store_for,
-};
+use random_plays::{Play, new_stores, number_in_family, play, play_of, size_of, store_for};
+use random_worlds::expect_volumes;
 use std::alloc::Global;
 use std::test::Fail;
-use test_runs::play;
 
 /// The lines of a play, one behind the other.
 fn printed_of(alloc: Global, lines: &[Vec<u8>]) -> Result<Vec<u8>, Fail> {

@@ -4,7 +4,7 @@ use crate::attributes::{Attribute, key_text, value_of};
 use lvol_store::check_name;
 use std::alloc::Global;
 use std::test::Fail;
-use test_runs::push_long;
+use test_lines::push_long;
 use volume_model::{Blobtext, Command, Name, PageWord, VolumeRef};
 
 /// What one command asks for. A volume is told by the letter that is its name.
@@ -24,7 +24,11 @@ pub enum Ask {
     Clone { name: u8, new: u8 },
     Rename { name: u8, new: u8 },
     Delete { name: u8 },
+    Inflate { name: u8 },
+    Decouple { name: u8 },
     ReadOnly { name: u8 },
+    Info { name: u8 },
+    List,
     Df,
 }
 
@@ -45,8 +49,11 @@ impl Ask {
             | Ask::Clone { name, .. }
             | Ask::Rename { name, .. }
             | Ask::Delete { name }
-            | Ask::ReadOnly { name } => Some(name),
-            Ask::Flush | Ask::Df => None,
+            | Ask::Inflate { name }
+            | Ask::Decouple { name }
+            | Ask::ReadOnly { name }
+            | Ask::Info { name } => Some(name),
+            Ask::Flush | Ask::List | Ask::Df => None,
         }
     }
 
@@ -124,10 +131,14 @@ pub fn push_words(
         Ask::Get { key, .. } => format!(in alloc; "getx {volume} {}\n", key_text(*key))?,
         Ask::Sync { .. } => format!(in alloc; "sync {volume}\n")?,
         Ask::Delete { .. } => format!(in alloc; "delete {volume}\n")?,
+        Ask::Inflate { .. } => format!(in alloc; "inflate {volume}\n")?,
+        Ask::Decouple { .. } => format!(in alloc; "decouple {volume}\n")?,
         Ask::ReadOnly { .. } => format!(in alloc; "readonly {volume}\n")?,
         Ask::Snapshot { new, .. } => naming(alloc, "snapshot", volume, *new)?,
         Ask::Clone { new, .. } => naming(alloc, "clone", volume, *new)?,
         Ask::Rename { new, .. } => naming(alloc, "rename", volume, *new)?,
+        Ask::Info { .. } => format!(in alloc; "info {volume}\n")?,
+        Ask::List => format!(in alloc; "list\n")?,
         Ask::Df => format!(in alloc; "df\n")?,
     };
     script.extend_from_slice(line.as_bytes())?;
@@ -192,7 +203,7 @@ fn command_on_key(alloc: Global, ask: &Ask) -> Result<Command, Fail> {
     })
 }
 
-/// The command on a volume that gives a name, or that ends something of it; or a flush.
+/// The command on a volume that gives a name, or that changes what it stands on or ends something of it; or a flush.
 fn command_on_family(ask: &Ask) -> Command {
     match ask {
         Ask::Snapshot { name, new } => Command::Snapshot {
@@ -208,6 +219,12 @@ fn command_on_family(ask: &Ask) -> Command {
             name: name_of(*new),
         },
         Ask::Delete { name } => Command::Delete {
+            volume: volume_of(*name),
+        },
+        Ask::Inflate { name } => Command::Inflate {
+            volume: volume_of(*name),
+        },
+        Ask::Decouple { name } => Command::Decouple {
             volume: volume_of(*name),
         },
         Ask::ReadOnly { name } => Command::ReadOnly {
@@ -242,6 +259,10 @@ pub fn command_of(alloc: Global, ask: &Ask) -> Result<Command, Fail> {
         Ask::Sync { name } => Command::Sync {
             volume: volume_of(*name),
         },
+        Ask::Info { name } => Command::Info {
+            volume: volume_of(*name),
+        },
+        Ask::List => Command::List,
         Ask::Df => Command::Df,
         Ask::Flush => Command::Flush,
         Ask::Set { .. } | Ask::Put { .. } | Ask::Remove { .. } | Ask::Get { .. } => {

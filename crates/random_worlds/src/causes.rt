@@ -33,6 +33,18 @@ fn may_delete(state: &State, volume: &Volume) -> bool {
     state.clone_count(volume) <= 1 && !is_short
 }
 
+/// Whether a volume may be decoupled: it has a parent, which isn't shorter than the volume and its own parent.
+fn may_decouple(state: &State, volume: &Volume) -> bool {
+    let Some(parent) = state.parent_of(volume) else {
+        return false;
+    };
+    let is_short = match state.parent_of(parent) {
+        Some(above) => parent.slots() < above.slots() && parent.slots() < volume.slots(),
+        None => false,
+    };
+    !is_short
+}
+
 /// Whether what is asked for changes something of this volume, not read-only, as far as not too little is clear.
 fn is_done_of(state: &State, ask: &Ask, volume: &Volume) -> bool {
     match *ask {
@@ -41,7 +53,8 @@ fn is_done_of(state: &State, ask: &Ask, volume: &Volume) -> bool {
         Ask::Set { attribute, .. } | Ask::Put { attribute, .. } => may_set(attribute),
         Ask::Remove { key, .. } => has(&volume.live, key),
         Ask::Snapshot { new, .. } | Ask::Rename { new, .. } => state.find(new).is_none(),
-        Ask::Sync { .. } | Ask::ReadOnly { .. } => true,
+        Ask::Decouple { .. } => may_decouple(state, volume),
+        Ask::Sync { .. } | Ask::ReadOnly { .. } | Ask::Inflate { .. } => true,
         _ => false,
     }
 }

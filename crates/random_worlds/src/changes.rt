@@ -46,6 +46,8 @@ fn settles(ask: &Ask) -> bool {
             | Ask::Set { .. }
             | Ask::Remove { .. }
             | Ask::Get { .. }
+            | Ask::Info { .. }
+            | Ask::List
             | Ask::Df
     )
 }
@@ -68,6 +70,10 @@ impl Volume {
             Ask::Remove { key, .. } => self.live = without(alloc, &self.live, key)?,
             Ask::Rename { new, .. } => self.name = new,
             Ask::ReadOnly { .. } => self.read_only = true,
+            Ask::Inflate { .. } => {
+                self.thick = true;
+                self.parent = None;
+            }
             _ => {}
         }
         if matches!(
@@ -107,6 +113,17 @@ impl State {
         Ok(())
     }
 
+    /// Gives a volume its parent's parent, if that has one.
+    fn decouple(&mut self, name: u8) -> Result<(), Fail> {
+        let volume = self.find(name).ok_or("no volume")?;
+        let above = match self.parent_of(volume) {
+            Some(parent) => parent.parent,
+            None => None,
+        };
+        self.find_mut(name).ok_or("no volume")?.parent = above;
+        Ok(())
+    }
+
     /// Deletes a volume, whose clone has its parent from then on.
     fn delete(&mut self, alloc: Global, name: u8) -> Result<(), Fail> {
         let gone = self.find(name).ok_or("no volume")?;
@@ -138,6 +155,7 @@ impl State {
                 self.make_copy(alloc, ask, name, head)?;
             }
             Ask::Delete { name } => self.delete(alloc, name)?,
+            Ask::Decouple { name } => self.decouple(name)?,
             _ => {
                 if let Some(name) = ask.name() {
                     self.find_mut(name).ok_or("no volume")?.change(alloc, ask)?;

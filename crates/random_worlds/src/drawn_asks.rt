@@ -56,16 +56,18 @@ fn drawn_letter(draws: &mut Draws, names: u64) -> u8 {
     u8::try_from(draws.below(names).wrapping_add(97)).unwrap_or(b'z')
 }
 
-/// What is drawn of the verbs by which families grow and shrink: a snapshot of this volume, or what is done with any of
-/// so many.
+/// What is drawn of the verbs by which families grow and shrink: a snapshot or an inflate of this volume, or what is
+/// done with any of so many.
 fn drawn_relation(draws: &mut Draws, name: u8, names: u64) -> Ask {
     let any = drawn_letter(draws, names);
     let new = drawn_letter(draws, names);
-    match draws.below(20) {
+    match draws.below(25) {
         0..9 => Ask::Snapshot { name, new },
         9..14 => Ask::Clone { name: any, new },
         14..18 => Ask::Delete { name: any },
-        18 => Ask::Rename { name: any, new },
+        18..20 => Ask::Inflate { name },
+        20..23 => Ask::Decouple { name: any },
+        23 => Ask::Rename { name: any, new },
         _ => Ask::ReadOnly { name: any },
     }
 }
@@ -106,7 +108,7 @@ pub fn drawn_in_family(draws: &mut Draws, names: u64) -> Ask {
             page: draws.below(22),
             word: draws.below(1 << 20),
         },
-        16..18 => Ask::Resize {
+        16..19 => Ask::Resize {
             name,
             slots: drawn_slots(draws, 0),
         },
@@ -117,7 +119,7 @@ pub fn drawn_in_family(draws: &mut Draws, names: u64) -> Ask {
 /// What is drawn.
 pub fn drawn(draws: &mut Draws) -> Ask {
     let name = drawn_name(draws);
-    match draws.below(26) {
+    match draws.below(28) {
         0..6 => drawn_relation(draws, name, 12),
         6..13 => drawn_change(draws, name),
         13..20 => Ask::Write {
@@ -138,10 +140,12 @@ pub fn drawn(draws: &mut Draws) -> Ask {
             name,
             key: drawn_key(draws),
         },
-        _ => Ask::Get {
+        25 => Ask::Get {
             name,
             key: drawn_key(draws),
         },
+        26 => Ask::Info { name },
+        _ => Ask::List,
     }
 }
 

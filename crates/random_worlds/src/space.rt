@@ -4,6 +4,7 @@ use crate::asks::Ask;
 use crate::attributes::Attribute;
 use crate::causes::is_done;
 use crate::families::{clone, delete, snapshot};
+use crate::filling::{fill, insert};
 use crate::states::{CLUSTER_PAGES, State, Volume, clear_count, give_back, take_least};
 use std::alloc::Global;
 use std::test::Fail;
@@ -16,6 +17,8 @@ pub enum Outcome {
     Same,
     /// It stays, since too little is clear, as this reply says.
     Lacks(Reply),
+    /// It becomes this one, in which some slots are filled, and then too little is clear, as this reply says.
+    Fills(State, Reply),
     /// It becomes this one.
     Next(State),
 }
@@ -133,7 +136,7 @@ pub fn internal_of(volume: &Volume) -> &'static [usize] {
 
 /// Gives a volume the chain that its attributes and its map take: the pages behind the head are fresh, and the old ones
 /// are clear then. `false` where too few are clear.
-fn replace_chain(alloc: Global, next: &mut State, name: u8) -> Result<bool, Fail> {
+pub fn replace_chain(alloc: Global, next: &mut State, name: u8) -> Result<bool, Fail> {
     let volume = next.find(name).ok_or("no volume")?;
     let length = chain_length(&volume.synced, internal_of(volume), &volume.map);
     let head = volume.head().ok_or("no head")?;
@@ -188,14 +191,8 @@ fn write(alloc: Global, next: State, ask: &Ask, name: u8, page: usize) -> Result
     let slot = page / CLUSTER_PAGES;
     let volume = next.find(name).ok_or("no volume")?;
     if volume.map.get(slot) == Some(&None) {
-        if clear_count(&next.used_clusters) == 0 {
-            return Ok(Outcome::Lacks(Reply::Full));
-        }
-        let cluster = take_least(&mut next.used_clusters)?;
-        let volume = next.find_mut(name).ok_or("no volume")?;
-        *volume.map.get_mut(slot).ok_or("no slot")? = Some(cluster);
-        if !replace_chain(alloc, &mut next, name)? {
-            return Ok(Outcome::Lacks(Reply::NoPage));
+        if let Some(lack) = insert(alloc, &mut next, name, slot)? {
+            return Ok(Outcome::Lacks(lack));
         }
     }
     next.change(alloc, ask, 0)?;
@@ -223,6 +220,7 @@ pub fn outcome_of(alloc: Global, state: &State, ask: &Ask) -> Result<Outcome, Fa
         Ask::Snapshot { name, new } => snapshot(alloc, next, ask, name, new),
         Ask::Clone { name, new } => clone(alloc, next, ask, name, new),
         Ask::Delete { name } => delete(alloc, next, ask, name),
+        Ask::Inflate { name } | Ask::Decouple { name } => fill(alloc, next, ask, name),
         _ => {
             next.change(alloc, ask, 0)?;
             Ok(Outcome::Next(next))

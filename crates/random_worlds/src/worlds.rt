@@ -7,7 +7,7 @@ use crate::states::{State, Volume};
 use script_lang::number_below;
 use std::alloc::Global;
 use std::test::Fail;
-use volume_model::{Df, PageWord, Reply, Volumes, page_of};
+use volume_model::{Df, Info, InfoList, PageWord, Reply, Volumes, page_of};
 
 /// The plain machine, which refuses for every cause but want of room, and a state that counts what is clear.
 #[derive(Drop)]
@@ -28,9 +28,14 @@ impl World {
     /// Does what is asked for, and gives the reply. A new volume has the least clear metadata page as its head.
     pub fn step(&mut self, alloc: Global, ask: &Ask) -> Result<Reply, Fail> {
         let outcome = outcome_of(alloc, &self.state, ask)?;
-        if let Outcome::Lacks(reply) = outcome {
-            return Ok(reply);
-        }
+        let outcome = match outcome {
+            Outcome::Lacks(reply) => return Ok(reply),
+            Outcome::Fills(state, reply) => {
+                self.state = state;
+                return Ok(reply);
+            }
+            other => other,
+        };
         let reply = self.machine.apply(alloc, &command_of(alloc, ask)?);
         match (outcome, reply) {
             (Outcome::Next(state), Reply::Made(_)) => {
@@ -45,8 +50,53 @@ impl World {
             (Outcome::Same, Reply::Ok | Reply::Made(_)) | (Outcome::Next(_), _) => {
                 Err(Fail::new(format_args!("the machine does otherwise with {ask:?}")))
             }
-            (_, reply) => Ok(reply),
+            (_, reply) => self.told(alloc, ask, reply),
         }
+    }
+
+    /// The reply of the machine, whose heads are others than those of the store: what is told of volumes has these.
+    fn told(&mut self, alloc: Global, ask: &Ask, reply: Reply) -> Result<Reply, Fail> {
+        match reply {
+            Reply::Info(_) => {
+                let name = ask.name().ok_or("no volume")?;
+                Ok(Reply::Info(self.info_told(alloc, name)?))
+            }
+            Reply::List(list) => Ok(Reply::List(self.list_told(alloc, list.len())?)),
+            other => Ok(other),
+        }
+    }
+
+    /// What the machine tells of a volume, with the heads of it and of its parent.
+    fn info_told(&mut self, alloc: Global, name: u8) -> Result<Info, Fail> {
+        let volume = self.state.find(name).ok_or("no volume")?;
+        let (head, parent) = (volume.head().ok_or("no head")?, volume.parent);
+        let reply = self
+            .machine
+            .apply(alloc, &command_of(alloc, &Ask::Info { name })?);
+        let Reply::Info(mut info) = reply else {
+            return Err(Fail::new("the machine tells nothing of a volume"));
+        };
+        if info.parent.is_some() != parent.is_some() {
+            return Err(Fail::new("the machine has other parents"));
+        }
+        info.head = head;
+        info.parent = parent;
+        Ok(info)
+    }
+
+    /// What the machine tells of its volumes, so many, by the heads that they have in the store.
+    fn list_told(&mut self, alloc: Global, count: usize) -> Result<InfoList, Fail> {
+        if count != self.state.volumes.len() {
+            return Err(Fail::new(format_args!("the machine has {count} volumes")));
+        }
+        let mut list = InfoList::new(alloc);
+        for head in 0..self.state.df().pages {
+            if !self.state.is_free_head(head) {
+                let name = self.state.name_at(head);
+                list.push(self.info_told(alloc, name)?)?;
+            }
+        }
+        Ok(list)
     }
 
     /// The head of the volume that was made last.
@@ -74,7 +124,7 @@ impl World {
                 Ok(Reply::Made(head))
             }
             Reply::Df(_) => Ok(Reply::Df(self.df_told(told)?)),
-            reply => Ok(reply),
+            reply => self.told(alloc, ask, reply),
         }
     }
 
@@ -163,7 +213,11 @@ fn number_told(digits: &[u8]) -> Result<u32, Fail> {
 fn lack_told(ask: &Ask, told: &[u8]) -> Option<Reply> {
     let takes_clusters = matches!(
         ask,
-        Ask::Create { .. } | Ask::Resize { .. } | Ask::Write { .. }
+        Ask::Create { .. }
+            | Ask::Resize { .. }
+            | Ask::Write { .. }
+            | Ask::Inflate { .. }
+            | Ask::Decouple { .. }
     );
     let takes_pages = takes_clusters
         || ask.makes()

@@ -2,11 +2,10 @@
 
 use crate::families::{STATES, family};
 use crate::repairs::{LOOK, looked};
-use blob_tool::Status;
 use page_disk::{FaultDisk, MemDisk};
 use std::alloc::Global;
 use std::test::Fail;
-use test_runs::{Ran, expect_printed, play, run};
+use test_runs::{Ran, Status, expect_printed, play, run};
 use test_stores::are_same;
 
 /// What a run leaves of a device that stops after so many calls, and whether it ended well. It prints nothing where the

@@ -1,5 +1,5 @@
 -- The turns of the metadata thread that log the command of a message.
-use Rattle.std.proofs.Common.{◌≡◌, ℕ, List, ◌∷◌}
+use Rattle.std.proofs.Common.{◌≡◌, ◌≢◌, ℕ, List, ◌∷◌}
 use Rattle.std.proofs.Common.{Option, None, refl, ap, ◌∙◌}
 use Rattle.std.specs.Prelude.{map}
 use Rattle.page_disk.specs.Disk.{Image}
@@ -13,7 +13,7 @@ use Rattle.store_model.specs.Cases.LackForInsert.{LacksForInsert}
 use Rattle.store_model.specs.Cases.LackMemoryForInsert.{LacksMemoryForInsert}
 use Rattle.store_model.specs.Cases.Refuse.{Refuses}
 use Rattle.store_model.specs.Maps.{Map}
-use Rattle.store_model.specs.Rows.{Posted, Row, with_row}
+use Rattle.store_model.specs.Rows.{fill_row, Posted, Row, with_row}
 use Rattle.store_model.specs.Shown.{fixed_of}
 use Rattle.store_model.specs.StoreState.{live_of, shown, StoreState}
 use Rattle.run_work.specs.Steps.{served_step}
@@ -21,6 +21,7 @@ use Rattle.run_moves.specs.Projection.{command_in_run, heads_found}
 use Rattle.run_moves.specs.Projection.{run_by, run_state_of, RunMessages, stage_in_run}
 use Rattle.run_moves.specs.ServingTurns.{AnsweringTurns, IsAnswer, ServesRow, with_taken}
 use Rattle.run_moves.proofs.Moved.{decided_row, row_twice, rows_moved}
+use Rattle.run_moves.proofs.WorkLogged.{of_channel}
 
 module _ (p q : StoreState) (d : RunMessages) (held : Option Msg) (waiting : List Msg) where
   abbrev e : RunMessages
@@ -83,16 +84,20 @@ module _ (p q : StoreState) (d : RunMessages) (held : Option Msg) (waiting : Lis
       (ap (λ v. run_state_of v e) t.next)
 
   -- an insert lacks pages
-  pub lacks_so : (t : LacksForInsert p q) (serves : ServesRow p q d held waiting t.posted.row)
-      → AnswersSo t.posted.row serves
-  lacks_so t serves = insert_answer_moves t.posted.row _ t.logs.rest t.serial _ t.logs.left
-      (ap (λ (r : Row). r.stage) t.posted.is) serves (ap (λ v. run_state_of v e) t.logs.next)
+  pub lacks_so : (t : LacksForInsert p q) → t.posted.row ≢ fill_row
+      → (serves : ServesRow p q d held waiting t.posted.row) → AnswersSo t.posted.row serves
+  lacks_so t apart serves =
+      let logs = of_channel p q t.posted.row _ _ p.device t.logs apart in
+      insert_answer_moves t.posted.row _ logs.rest t.serial _ logs.left
+      (ap (λ (r : Row). r.stage) t.posted.is) serves (ap (λ v. run_state_of v e) logs.next)
 
   -- or memory
-  pub lacks_memory_so : (t : LacksMemoryForInsert p q) (serves : ServesRow p q d held waiting t.posted.row)
-      → AnswersSo t.posted.row serves
-  lacks_memory_so t serves = insert_answer_moves t.posted.row _ t.logs.rest t.serial _ t.logs.left
-      (ap (λ (r : Row). r.stage) t.posted.is) serves (ap (λ v. run_state_of v e) t.logs.next)
+  pub lacks_memory_so : (t : LacksMemoryForInsert p q) → t.posted.row ≢ fill_row
+      → (serves : ServesRow p q d held waiting t.posted.row) → AnswersSo t.posted.row serves
+  lacks_memory_so t apart serves =
+      let logs = of_channel p q t.posted.row _ _ p.device t.logs apart in
+      insert_answer_moves t.posted.row _ logs.rest t.serial _ logs.left
+      (ap (λ (r : Row). r.stage) t.posted.is) serves (ap (λ v. run_state_of v e) logs.next)
 
   -- the store has stopped
   pub halts_so : (serial : ℕ) (t : Halts p q) → t.stage ≡ Posted serial
@@ -112,7 +117,7 @@ module _ (p q : StoreState) (d : RunMessages) (held : Option Msg) (waiting : Lis
   answering_turns = record {
     answers = λ t serves. (answers_so t serves).0;
     refuses = λ t serves. (refuses_so t serves).0;
-    lacks_for_insert = λ t serves. (lacks_so t serves).0;
-    lacks_memory_for_insert = λ t serves. (lacks_memory_so t serves).0;
+    lacks_for_insert = λ t apart serves. (lacks_so t apart serves).0;
+    lacks_memory_for_insert = λ t apart serves. (lacks_memory_so t apart serves).0;
     halts = λ serial t posted serves. (halts_so serial t posted serves).0;
   }

@@ -1,5 +1,5 @@
 -- The turns of the metadata thread in which an insert is lost, or a job begins.
-use Rattle.std.proofs.Common.{◌≡◌, ℕ, ◌+◌, ◌*◌, ◌<◌, ◌≤◌, Bool, true, false, List, [], ◌∷◌, ◌++◌, length}
+use Rattle.std.proofs.Common.{◌≡◌, ℕ, ◌+◌, ◌*◌, ◌<◌, ◌≤◌, Bool, true, List, [], ◌∷◌, ◌++◌, length}
 use Rattle.std.proofs.Common.{Option, Some, None, refl, sym, ap, ◌∙◌, subst, arith}
 use Rattle.std.specs.Prelude.{map, if◌then◌else◌}
 use Rattle.std.specs.Option.{option_map}
@@ -7,32 +7,34 @@ use Rattle.std.proofs.lemmas.List.{length-append, length-map}
 use Rattle.super_block.specs.Numbers.{cluster_pages_of, clusters_of}
 use Rattle.volume_model.specs.declared.command.Command.{Command}
 use Rattle.volume_model.specs.declared.command.Command.TheVariants as c
+use Rattle.volume_model.specs.declared.command.VolumeRef.{VolumeRef}
 use Rattle.volume_model.specs.declared.reply.Msg.{Msg}
 use Rattle.blob_meta.specs.declared.job.Job.{Job as Changes}
 use Rattle.blob_meta.specs.declared.job.Replacement.{Replacement}
-use Rattle.blob_meta.specs.declared.meta.Meta.{Meta}
 use Rattle.inflate_delete.specs.DeletePlans.{IsJobBeside}
-use Rattle.store_model.specs.Asking.{clones, creates, deletes, IsJobFor, IsSyncing, resizes, snapshots, syncs}
+use Rattle.inflate_delete.specs.Fills.{command_of}
+use Rattle.inflate_delete.specs.declared.filling.FillKind.{FillKind}
+use Rattle.inflate_delete.specs.declared.filling.FillKind.TheVariants.{Inflate, Decouple}
+use Rattle.store_model.specs.Asking.{clones, creates, deletes, fills, IsJobFor, IsSyncing, resizes, snapshots, syncs}
 use Rattle.store_model.specs.Cases.Begin.{Begins}
 use Rattle.store_model.specs.Cases.BeginInsert.{BeginsInsert}
 use Rattle.store_model.specs.Cases.LoseInsert.{LosesInsert}
 use Rattle.store_model.specs.Guarding.{freezing}
-use Rattle.store_model.specs.Jobs.{AreLaid, IsJobPlanned, IsLaid, pages_in, with_zeroed, zeroing}
-use Rattle.store_model.specs.Phases.{Committing, erasing, has_commit, Phase, phases_of, Replaces}
-use Rattle.store_model.specs.Phases.{Replacing, taken_by, todo_of}
+use Rattle.store_model.specs.Jobs.{pages_in, with_zeroed, zeroing}
+use Rattle.store_model.specs.Phases.{Committing, has_commit, Phase, phases_of}
+use Rattle.store_model.specs.Phases.{Replacing, todo_of}
 use Rattle.store_model.specs.Rows.{Row}
 use Rattle.store_model.specs.StoreState.{ForCommand, ForInsert, JobState, StoreState}
 use Rattle.run_work.specs.Reading.{frozen_set, logged_at, row_at}
 use Rattle.run_work.specs.RunState.{AtInJob, MetadataCommand}
 use Rattle.run_work.specs.ChannelMoves.{moved_row}
-use Rattle.run_work.specs.ServingMoves.{BeginInsertMove, BeginJobMove, for_message, LoseInsertMove}
+use Rattle.run_work.specs.ServingMoves.{BeginInsertMove, BeginJobMove, BeginsFor, for_message, LoseInsertMove}
 use Rattle.run_work.specs.Steps.{begin_step, served_step}
 use Rattle.run_work.specs.Work.{replacements_in}
 use Rattle.run_moves.specs.Projection.{claim_in_run, command_in_run, job_in_run}
 use Rattle.run_moves.specs.Projection.{phase_in_run, phases_in_run, row_in_run, run_state_of, RunMessages, stage_in_run}
 use Rattle.run_moves.specs.ServingTurns.{BeginningTurns, IsMeasured, ServesRow, with_taken}
 use Rattle.run_moves.specs.Sizes.{most_replacements, replacement_turns, sizes_of}
-use Rattle.store_model.proofs.Phases.{commit_behind}
 use Rattle.run_moves.proofs.DoomedClaims.{doomed_claim}
 use Rattle.run_moves.proofs.JobPhases as phases
 use Rattle.run_moves.proofs.ListCounted as counts
@@ -55,6 +57,10 @@ module _ (p : StoreState) where
   syncing_asks (c.Rename volume name) is = refl
   syncing_asks _ is = absurd is
 
+  fill_asks : (kind : FillKind) (volume : VolumeRef) → command_in_run p.super (command_of kind volume) ≡ MetadataCommand
+  fill_asks Inflate volume = refl
+  fill_asks Decouple volume = refl
+
   -- a job's command is one for the metadata thread
   pub job_asks : (command : Command) (changes : Changes) (commit : Committing) → IsJobFor p command changes commit
       → command_in_run p.super command ≡ MetadataCommand
@@ -64,6 +70,7 @@ module _ (p : StoreState) where
   job_asks command changes commit (clones x) = ap (command_in_run p.super) x.command_is
   job_asks command changes commit (snapshots x) = ap (command_in_run p.super) x.command_is
   job_asks command changes commit (deletes x) = ap (command_in_run p.super) x.command_is
+  job_asks command changes commit (fills x) = ap (command_in_run p.super) x.command_is ∙ fill_asks x.kind x.volume
 
   -- it has few replacements, of which one is its commit
   pub record AreFew (changes : Changes) : Type 0 where
@@ -93,6 +100,8 @@ module _ (p : StoreState) where
       by (clone ∷ []) is =
           few_as changes _ is.2 (record { some = omega arith; within = omega arith; few = omega arith })
       by (clone ∷ other ∷ rest) is = absurd is
+  job_few command changes commit (fills x) = few_as changes _ x.is
+      (record { some = omega arith; within = omega arith; few = omega arith })
 
 frozen_same : (frozen : ℕ → Bool) (o : Option ℕ) → freezing frozen o ≡ frozen_set frozen o true
 frozen_same frozen None = refl
@@ -114,7 +123,12 @@ module _ (p q : StoreState) (d : RunMessages) (held : Option Msg) (waiting : Lis
   BeginsInsertSo ch serves = (move : BeginInsertMove (sizes_of p.super) (run_state_of p d) ch (run_state_of q e))
       × (served_step move.serves ≡ served_step serves)
 
-  -- or the job of a command does
+  -- or the job of a command does, behind which this is the fill
+  abbrev pub BeginsWith : (ch : ℕ) (fill : Option Msg) → BeginsFor (run_state_of p d) ch held waiting fill → Type 0
+  BeginsWith ch fill begins =
+      (move : BeginJobMove (sizes_of p.super) (run_state_of p d) ch (run_state_of q (record e { fill = fill })))
+      × (begin_step move.begins ≡ begin_step begins)
+
   abbrev pub BeginsSo : (ch : ℕ) → ServesRow p q d held waiting ch → Type 0
   BeginsSo ch serves = (move : BeginJobMove (sizes_of p.super) (run_state_of p d) ch (run_state_of q e))
       × (begin_step move.begins ≡ served_step serves)
@@ -240,10 +254,13 @@ module _ (p q : StoreState) (d : RunMessages) (held : Option Msg) (waiting : Lis
         let d = few.few in
         omega (arith, a, b, c, d)
 
-    pub begins_so : (serves : ServesRow p q d held waiting t.posted.channel) → BeginsSo t.posted.channel serves
-    begins_so serves =
+    -- for a message, or for the fill, behind which this is the fill
+    pub begins_for : (fill : Option Msg) → (begins : BeginsFor (run_state_of p d) t.posted.channel held waiting fill)
+        → BeginsWith t.posted.channel fill begins
+    begins_for fill begins =
         let todo = commit_phases t.list t.changes.commit in
-        let asks = job_asks p t.posted.command t.changes t.commit t.asked in (
+        let asks = job_asks p t.posted.command t.changes t.commit t.asked in
+        let f : RunMessages = record e { fill = fill } in (
           record {
             commands = map (command_in_run p.super) t.posted.rest;
             left = ap (λ (r : Row). map (command_in_run p.super) r.left) t.posted.row
@@ -253,29 +270,32 @@ module _ (p q : StoreState) (d : RunMessages) (held : Option Msg) (waiting : Lis
             idle = ap (option_map job_in_run) t.no_job;
             held = held;
             waiting = waiting;
-            fill = d.fill;
-            begins = for_message refl serves;
+            fill = fill;
+            begins = begins;
             job = job_in_run (seen_job todo);
             waits = ap (λ b. if b then Some t.posted.channel else None) committed;
             short = subst (λ n. n ≤ clusters_of p.super * cluster_pages_of p.super
                 + most_replacements * replacement_turns p.super)
                 (sym (length-map todo (phase_in_run (ForCommand t.posted.channel)))) short;
             few = replaces_few;
-            next = changes_row p q e t.posted.channel p.device.reads _ _ (Some (seen_job todo))
+            next = changes_row p q f t.posted.channel p.device.reads _ _ (Some (seen_job todo))
                 (freezing p.frozen t.changes.freeze)
                 (ap (λ x. record {
                   left = x ∷ map (command_in_run p.super) t.posted.rest;
                   stage = AtInJob;
                   claim = None;
-                }) asks) (ap (λ v. run_state_of v e) t.next)
-                ∙ ap (λ f. record (moved_row (run_state_of p e) t.posted.channel
+                }) asks) (ap (λ v. run_state_of v f) t.next)
+                ∙ ap (λ b. record (moved_row (run_state_of p f) t.posted.channel
                 (logged_at (MetadataCommand ∷ map (command_in_run p.super) t.posted.rest) AtInJob)) {
                   job = Some (job_in_run (seen_job todo));
-                  frozen = f;
+                  frozen = b;
                 }) (frozen_same p.frozen t.changes.freeze);
           },
           refl,
         )
+
+    pub begins_so : (serves : ServesRow p q d held waiting t.posted.channel) → BeginsSo t.posted.channel serves
+    begins_so serves = begins_for d.fill (for_message refl serves)
 
   -- all of them
   pub beginning_turns : BeginningTurns p q d held waiting

@@ -13,6 +13,7 @@ use Rattle.run_work.specs.ChannelMoves.{by_log, logs_itself}
 use Rattle.run_moves.specs.ChannelTurns.{IsChannelMove, LoggingTurns}
 use Rattle.run_moves.specs.Projection.{command_in_run, run_by, run_state_of, RunMessages, stage_in_run}
 use Rattle.run_moves.proofs.Moved.{moved, row_twice}
+use Rattle.run_moves.proofs.WorkLogged.{of_channel}
 
 -- a row behind its entry
 abbrev pub behind_entry : List Command → Row
@@ -99,10 +100,14 @@ module _ (p q : StoreState) (d : RunMessages) where
     refuses_claim = λ t. logs_move t.write.channel _ t.write.rest _ p.device.reads p.frozen
         (ap (λ (r : Row). r.left) t.write.row) (ap (λ (r : Row). r.stage) t.write.row) refl (λ h is. is)
         (ap (λ v. run_state_of v d) t.next);
-    copy_not_read = λ t. copying_moves t.copying.row _ t.logs.rest _ _ t.device.reads p.frozen t.logs.left
-        (ap (λ (r : Row). r.stage) t.copying.is) refl (λ h is. is) (ap (λ v. run_state_of v d) t.logs.next);
-    copy_fails = λ t. copying_moves t.copying.row _ t.logs.rest _ t.stage t.device.reads (λ h. false) t.logs.left
+    copy_not_read = λ t apart.
+        let logs = of_channel p q t.copying.row _ _ t.device t.logs apart in
+        copying_moves t.copying.row _ logs.rest _ _ t.device.reads p.frozen logs.left
+        (ap (λ (r : Row). r.stage) t.copying.is) refl (λ h is. is) (ap (λ v. run_state_of v d) logs.next);
+    copy_fails = λ t apart.
+        let logs = of_channel _ q t.copying.row _ _ t.device t.logs apart in
+        copying_moves t.copying.row _ logs.rest _ t.stage t.device.reads (λ h. false) logs.left
         (ap (λ (r : Row). r.stage) t.copying.is) (tried_itself t.copying.claim t.stage t.tried) none_frozen
-        (ap (λ v. run_state_of v d) t.logs.next);
+        (ap (λ v. run_state_of v d) logs.next);
     halts = halts_move;
   }

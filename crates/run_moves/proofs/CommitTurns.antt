@@ -1,8 +1,8 @@
 -- A commit is a move.
-use Rattle.std.proofs.Common.{◌≡◌, ℕ, ◌+◌, ◌^◌, ◌≤◌, Bool, true, false, List, [], ◌∷◌, length, Option}
-use Rattle.std.proofs.Common.{Some, None, refl, sym, ap, ◌∙◌, subst, arith}
-use Rattle.std.specs.Prelude.{if◌then◌else◌, is_some, map, nat_le}
-use Rattle.std.specs.Option.{option_and_then, option_map}
+use Rattle.std.proofs.Common.{◌≡◌, ℕ, ◌+◌, Bool, true, [], ◌∷◌, length}
+use Rattle.std.proofs.Common.{Some, None, sym, ap, ◌∙◌, subst}
+use Rattle.std.specs.Prelude.{if◌then◌else◌, map}
+use Rattle.std.specs.Option.{option_map}
 use Rattle.volume_model.specs.Steps.{change}
 use Rattle.volume_model.specs.Volumes.{Volumes}
 use Rattle.store_model.specs.Cases.Commit.{Commits}
@@ -22,7 +22,7 @@ use Rattle.run_work.specs.Reading.{job_left, logged_at}
 use Rattle.run_work.specs.RunState.{AtDecided, MetadataCommand}
 use Rattle.run_work.specs.ChannelMoves.{moved_row}
 use Rattle.run_moves.specs.JobTurns.{IsJobMoveOf}
-use Rattle.run_moves.specs.Projection.{blob_in_run, blobs_in_run, command_in_run, heads_found, job_in_run}
+use Rattle.run_moves.specs.Projection.{blobs_in_run, command_in_run, heads_found, job_in_run}
 use Rattle.run_moves.specs.Projection.{phases_in_run}
 use Rattle.run_moves.specs.Projection.{run_by, run_state_of, RunMessages, stage_in_run}
 use Rattle.run_moves.specs.Sizes.{sizes_of}

@@ -19,6 +19,7 @@ use Rattle.run_moves.specs.Projection.{command_in_run, job_in_run, phase_in_run,
 use Rattle.run_moves.specs.Projection.{RunMessages, stage_in_run}
 use Rattle.run_moves.proofs.JobPhases.{commit_seen}
 use Rattle.run_moves.proofs.Moved.{changes_job, changes_row, decided_row, row_twice}
+use Rattle.run_moves.proofs.WorkLogged.{of_channel}
 
 -- ---- a job that goes on
 
@@ -201,9 +202,11 @@ module _ (p q : StoreState) (d : RunMessages) where
   failing_turns = record {
     fails = λ t. command_fails t.running.job t.running.is t.device.reads (λ h. false) (λ h. refl) t.served.channel
         t.served.command t.served.rest t.served.serves t.waits t.served.row (ap (λ v. run_state_of v d) t.next);
-    insert_fails = λ t. insert_fails_by t.running.job t.running.is t.device.reads (λ h. false) (λ h. refl)
-        t.inserting.row _ t.logs.rest _ t.inserting.serves t.inserting.waits t.logs.left (λ bad. cc bad)
-        (ap (λ v. run_state_of v d) t.logs.next);
+    insert_fails = λ t apart.
+        let logs = of_channel _ q t.inserting.row _ _ t.device t.logs apart in
+        insert_fails_by t.running.job t.running.is t.device.reads (λ h. false) (λ h. refl)
+        t.inserting.row _ logs.rest _ t.inserting.serves t.inserting.waits logs.left (λ bad. cc bad)
+        (ap (λ v. run_state_of v d) logs.next);
     breaks_off = λ t. drop_moves t.running.job t.running.is t.device.reads (λ h. false) (λ h. refl) t.waits
         (ap (λ v. run_state_of v d) t.next);
     more_fails = λ t. command_fails t.running.job t.running.is t.device.reads (λ h. false) (λ h. refl) t.served.channel
@@ -211,7 +214,8 @@ module _ (p q : StoreState) (d : RunMessages) where
     more_breaks_off = λ t. drop_moves t.running.job t.running.is t.device.reads (λ h. false) (λ h. refl) t.waits
         (ap (λ v. run_state_of v d) t.next);
     breaks_down = breaks_down_moves;
-    insert_breaks_down = λ guarded t. insert_fails_by t.job t.is p.device.reads p.frozen
-        (guarded.stopped t.at t.stands) t.inserting.row _ t.logs.rest _ t.inserting.serves t.inserting.waits t.logs.left
-        (λ bad. cc bad) (ap (λ v. run_state_of v d) t.logs.next);
+    insert_breaks_down = λ guarded t apart.
+        let logs = of_channel _ q t.inserting.row _ _ p.device t.logs apart in
+        insert_fails_by t.job t.is p.device.reads p.frozen (guarded.stopped t.at t.stands) t.inserting.row _ logs.rest _
+        t.inserting.serves t.inserting.waits logs.left (λ bad. cc bad) (ap (λ v. run_state_of v d) logs.next);
   }

@@ -1,5 +1,6 @@
 pub mod Moved
 pub mod BlobsMeant
+pub mod WorkLogged
 pub mod ChannelLogs
 pub mod ChannelWrites
 pub mod JobPhases
@@ -13,8 +14,12 @@ pub mod CommitTurns
 pub mod ReplacingMore
 pub mod Replacing
 pub mod PlainRows
+pub mod PlainLogs
 pub mod PlainTurns
 pub mod CanMove
 pub mod ChannelSteps
 pub mod MetadataSteps
+pub mod FillMoves
+pub mod FillKept
+pub mod FillHeld
 pub mod DriverMoves

@@ -1,19 +1,19 @@
 -- How many turns and replacements the job of a command has, once it is laid on pages.
-use Rattle.std.proofs.Common.{◌≡◌, ℕ, zero, suc, ◌+◌, ◌*◌, ◌<◌, ◌≤◌, Bool, true, false, List, [], ◌∷◌, length, Option}
-use Rattle.std.proofs.Common.{None, Some, refl, sym, ap, ◌∙◌, subst, inl, inr, arith}
+use Rattle.std.proofs.Common.{◌≡◌, ℕ, suc, ◌+◌, ◌*◌, ◌<◌, ◌≤◌, Bool, true, false, List, [], ◌∷◌, length, Option}
+use Rattle.std.proofs.Common.{None, Some, refl, sym, ap, ◌∙◌, inl, inr, arith}
 use Rattle.std.specs.Prelude.{◌-◌, ◌==◌, if◌then◌else◌}
 use Rattle.std.specs.Option.{option_map}
 use Rattle.std.proofs.lemmas.Bool.{cases_Bool, cases_eq, eq-eqb, ne_eqb}
 use Rattle.super_block.specs.declared.page.Super.{Super}
 use Rattle.blob_meta.specs.declared.job.Replacement.{Replacement}
 use Rattle.blob_meta.specs.declared.meta.Meta.{Meta}
-use Rattle.store_model.specs.Jobs.{AreLaid, IsJobPlanned, IsLaid}
+use Rattle.store_model.specs.Jobs.{AreLaid, IsLaid}
 use Rattle.store_model.specs.Maps.{Chains, Metas}
-use Rattle.store_model.specs.Phases.{Committing, erasing, has_commit, phases_of, rechained, replaced, Replaces}
+use Rattle.store_model.specs.Phases.{Committing, erasing, has_commit, rechained, replaced, Replaces}
 use Rattle.store_model.specs.Phases.{Replacing}
 use Rattle.store_model.specs.Phases.{taken_by, todo_of}
 use Rattle.store_model.specs.Places.{all_set}
-use Rattle.store_model.specs.StoreState.{ForCommand, ForInsert, Service}
+use Rattle.store_model.specs.StoreState.{ForCommand}
 use Rattle.store_model.proofs.LeftToDo.{chain_there}
 use Rattle.store_model.proofs.ListLaid.{takes_least}
 use Rattle.store_model.proofs.Phases.{commit_behind, commit_old}

@@ -1,5 +1,5 @@
 -- A turn of the running job, and one that serves a message, is a move of the metadata thread that is due then.
-use Rattle.std.proofs.Common.{◌≡◌, ℕ, ◌<◌, Bool, false, List, [], ◌∷◌, ◌++◌, Option, None, refl, sym, ap, ◌∙◌}
+use Rattle.std.proofs.Common.{◌≡◌, ◌≢◌, ℕ, ◌<◌, Bool, false, List, [], ◌∷◌, ◌++◌, Option, None, refl, sym, ap, ◌∙◌}
 use Rattle.std.proofs.Common.{inl, inr, arith}
 use Rattle.std.specs.Prelude.{map}
 use Rattle.std.proofs.lemmas.Bool.{cases_lt}
@@ -10,6 +10,7 @@ use Rattle.volume_model.specs.declared.command.Command.TheVariants as c
 use Rattle.volume_model.specs.declared.reply.Msg.{Msg}
 use Rattle.store_model.specs.Claiming.{fill, own, Works}
 use Rattle.store_model.specs.RunInvariant.{RunInvariant}
+use Rattle.store_model.specs.Rows.{fill_row}
 use Rattle.store_model.specs.StoreState.{StoreState}
 use Rattle.run_work.specs.JobMoves.{FailMove}
 use Rattle.run_work.specs.Reading.{asks_metadata}
@@ -79,7 +80,7 @@ module _ (s : Super) (first : Volumes) (script : ℕ → List Command) (channels
       omega (arith, low)
   works_low row (fill channel is filling) = let e : row ≡ 16 = is in omega (arith, e)
 
-  measured : p.stopped ≡ None → IsMeasured p
+  pub measured : p.stopped ≡ None → IsMeasured p
   measured runs =
       let well = has.well runs in
       record { pages = well.pages.count; clusters = well.clusters.count; chains = well.chains }
@@ -152,14 +153,18 @@ module _ (s : Super) (first : Volumes) (script : ℕ → List Command) (channels
                 (write_first p.super t.inserting.row _ begins));
             due = refl;
           }
-      job_moves (turn.insert_fails t) = failed t.inserting.row ((failing_turns p q d).insert_fails t)
-      job_moves (turn.insert_breaks_down t) =
-          failed t.inserting.row ((failing_turns p q d).insert_breaks_down has.guarded t)
+      job_moves (turn.insert_fails t apart) = failed t.inserting.row ((failing_turns p q d).insert_fails t apart)
+      job_moves (turn.insert_breaks_down t apart) =
+          failed t.inserting.row ((failing_turns p q d).insert_breaks_down has.guarded t apart)
 
     -- ---- a message that is served
 
-    module _ (message : Msg) (held : Option Msg) (waiting : List Msg)
+    module _ (message : Msg) (low : message.channel < 16) (held : Option Msg) (waiting : List Msg)
         (takes : TakesOut (run_state_of p d) message held waiting) where
+      -- it isn't the fill's
+      apart : (row : ℕ) → row ≡ message.channel → row ≢ fill_row
+      apart row is fills = let same = sym is ∙ fills in omega (arith, low, same)
+
       abbrev ServingMoves : Type 0
       ServingMoves = MovesIn (sizes_of p.super) (run_state_of p d) (run_state_of q (with_taken d held waiting))
           (MessageStep message)
@@ -194,8 +199,8 @@ module _ (s : Super) (first : Volumes) (script : ℕ → List Command) (channels
           let x = begins_insert_so p q d held waiting (measured t.runs) t (serves t.posted.row is) in
           record { move = by_begin_insert t.posted.row (works_low t.posted.row t.posted.works) x.0; due = x.1 }
       serving_moves (turn.lacks_for_insert t is) = answered t.posted.row is
-          (lacks_so p q d held waiting t (serves t.posted.row is))
+          (lacks_so p q d held waiting t (apart t.posted.row is) (serves t.posted.row is))
       serving_moves (turn.lacks_memory_for_insert t is) = answered t.posted.row is
-          (lacks_memory_so p q d held waiting t (serves t.posted.row is))
+          (lacks_memory_so p q d held waiting t (apart t.posted.row is) (serves t.posted.row is))
       serving_moves (turn.halts serial t posted is) = answered t.channel is
           (halts_so p q d held waiting serial t posted (serves t.channel is))

@@ -1,7 +1,6 @@
 -- Each turn leaves rows with a claim, and those that an insert's job serves, a write first.
-use Rattle.std.proofs.Common.{◌≡◌, ℕ, Bool, List, [], ◌∷◌, Some, None, refl, sym, ap, ◌∙◌, subst, inl, inr}
+use Rattle.std.proofs.Common.{◌≡◌, ◌≢◌, ℕ, Bool, List, [], ◌∷◌, Some, None, refl, sym, ap, ◌∙◌, subst, inl, inr}
 use Rattle.volume_model.specs.declared.command.Command.{Command}
-use Rattle.volume_model.specs.declared.reply.Reply.{Reply}
 use Rattle.store_model.specs.Cases as k
 use Rattle.store_model.specs.Cases.{Kind, Run, Turn}
 use Rattle.store_model.specs.Cases.BeginInsert.{BeginsInsert}
@@ -10,15 +9,18 @@ use Rattle.store_model.specs.Cases.Claim.{Claims}
 use Rattle.store_model.specs.Cases.Commit.{Commits}
 use Rattle.store_model.specs.Cases.Copy.{Copies}
 use Rattle.store_model.specs.Cases.CopyFail.{copy, CopyFails, flush, TriedCopy}
+use Rattle.store_model.specs.Cases.ClaimFill.{ClaimsFill}
 use Rattle.store_model.specs.Cases.Halt.{Halts, MayLog, stage_after}
+use Rattle.store_model.specs.Cases.HaltFill.{HaltsFill}
 use Rattle.store_model.specs.Cases.Insert.{Inserts}
 use Rattle.store_model.specs.Cases.Send.{Sends}
-use Rattle.store_model.specs.Claiming.{LogsOwn, stage_behind}
-use Rattle.store_model.specs.Device.{Device}
-use Rattle.store_model.specs.Rows.{Answered, Decided, Idle, InJob, OpenClaim, Row, Stage, with_row}
+use Rattle.store_model.specs.Claiming.{stage_behind}
+use Rattle.store_model.specs.Rows.{Answered, Decided, fill_row, Idle, InJob, OpenClaim, Posted, Row, Stage}
+use Rattle.store_model.specs.Rows.{with_row}
+use Rattle.store_model.specs.Turning.{stopped_now}
 use Rattle.store_model.specs.StoreState.{ForCommand, ForInsert, ForRepair, JobState, Opens, StoreState}
 use Rattle.run_moves.specs.PlainRows.{BeginsWithWrite, HasPlainRows}
-use Rattle.run_moves.proofs.Moved.{row_twice}
+use Rattle.run_moves.proofs.PlainLogs.{posted_plain, work_plain}
 use Rattle.run_moves.proofs.PlainRows.{job_then, none_inserts, now_there, plain_dropped, plain_kept, plain_on}
 use Rattle.run_moves.proofs.PlainRows.{plain_outside, plain_served, plain_unclaimed, plain_with, rows_then, serves_on}
 use Rattle.run_moves.proofs.PlainRows.{waits_on}
@@ -28,11 +30,12 @@ free : (p : StoreState) (channel : ℕ) (row : Row) → p.rows channel ≡ row �
     → (p.rows channel).stage ≡ InJob → ⊥
 free p channel row is none at = none (sym (ap (λ (r : Row). r.stage) is) ∙ at)
 
--- where a write is logged and its claim given back
-logs_rows : (p q : StoreState) (row : ℕ) (stage : Stage) (reply : Reply) (device : Device)
-    (t : LogsOwn p row stage reply device q)
-    → q.rows ≡ with_row p.rows row (record { left = t.rest; stage = stage; claim = None })
-logs_rows p q row stage reply device t = rows_then t.next ∙ row_twice p.rows row _ _
+-- a state with the same rows, and with the same job or none
+stopping : (p : StoreState) → HasPlainRows p → HasPlainRows (stopped_now p)
+stopping p plain = record { claimed = plain.claimed; inserting = plain.inserting }
+
+without_job : (p : StoreState) → HasPlainRows p → HasPlainRows (record p { job = None })
+without_job p plain = record { claimed = plain.claimed; inserting = none_inserts (record p { job = None }) refl }
 
 module _ (p q : StoreState) (plain : HasPlainRows p) where
   -- ---- one row goes on without a claim
@@ -78,12 +81,27 @@ module _ (p q : StoreState) (plain : HasPlainRows p) where
   tried_free claim stage (flush at) bad = let both = sym at ∙ bad in cc both
 
   copy_fails_plain : CopyFails p q → HasPlainRows q
-  copy_fails_plain t = goes t.copying.row t.logs.rest Idle (logs_rows _ q t.copying.row Idle _ t.device t.logs) _
-      t.copying.is (tried_free t.copying.claim t.stage t.tried) (job_then t.logs.next)
+  copy_fails_plain t = work_plain (stopped_now p) (stopping p plain) t.copying.row Idle (λ bad. cc bad) q _ t.device
+      (inl (free p t.copying.row _ t.copying.is (tried_free t.copying.claim t.stage t.tried))) t.logs
 
   halts_plain : Halts p q → HasPlainRows q
   halts_plain t = goes t.channel t.rest (stage_after t.stage) (rows_then t.next) _ t.row
       (λ bad. subst MayLog bad t.may) (job_then t.next)
+
+  -- ---- fills
+
+  claims_fill_plain : ClaimsFill p q → HasPlainRows q
+  claims_fill_plain t = plain_outside p q plain fill_row _ (rows_then t.next) (λ claim is. refl)
+      (free p fill_row _ t.fill.unused (λ bad. cc bad)) (job_then t.next)
+
+  halts_fill_plain : HaltsFill p q → HasPlainRows q
+  halts_fill_plain t = posted_plain p plain fill_row (stage_after (p.rows fill_row).stage)
+      (behind (p.rows fill_row).stage) q (inl (λ bad. subst MayLog bad t.may)) t.posted (rows_then t.next)
+      (job_then t.next)
+    where
+      behind : (stage : Stage) → stage_after stage ≢ InJob
+      behind (Posted serial) bad = cc bad
+      behind _ bad = cc bad
 
   -- ---- inserts
 
@@ -199,23 +217,29 @@ turn_plain told k.refuses_claim p q t plain = goes p q plain t.write.channel _ _
 turn_plain told k.copies p q t plain = copies_plain p q plain told t
 turn_plain told k.loses_copy p q t plain = goes p q plain t.copying.row _ _ (rows_then t.next) _ t.copying.is
     (λ bad. cc bad) (job_then t.next)
-turn_plain told k.copy_not_read p q t plain = goes p q plain t.copying.row _ _ (logs_rows p q _ _ _ _ t.logs) _
-    t.copying.is (λ bad. cc bad) (job_then t.logs.next)
+turn_plain told k.copy_not_read p q t plain = work_plain p plain t.copying.row Idle (λ bad. cc bad) q _ t.device
+    (inl (free p t.copying.row _ t.copying.is (λ bad. cc bad))) t.logs
 turn_plain told k.copy_fails p q t plain = copy_fails_plain p q plain t
 turn_plain told k.sends p q t plain = sends_plain p q plain t
 turn_plain told k.loses_insert p q t plain = goes p q plain t.posted.row _ _ (rows_then t.next) _ t.posted.is
     (λ bad. cc bad) (job_then t.next)
-turn_plain told k.lacks_for_insert p q t plain = goes p q plain t.posted.row _ _ (logs_rows p q _ _ _ _ t.logs) _
-    t.posted.is (λ bad. cc bad) (job_then t.logs.next)
-turn_plain told k.lacks_memory_for_insert p q t plain = goes p q plain t.posted.row _ _
-    (logs_rows p q _ _ _ _ t.logs) _ t.posted.is (λ bad. cc bad) (job_then t.logs.next)
+turn_plain told k.lacks_for_insert p q t plain = work_plain p plain t.posted.row (Decided Answered) (λ bad. cc bad) q
+    _ p.device (inl (free p t.posted.row _ t.posted.is (λ bad. cc bad))) t.logs
+turn_plain told k.lacks_memory_for_insert p q t plain = work_plain p plain t.posted.row (Decided Answered)
+    (λ bad. cc bad) q _ p.device (inl (free p t.posted.row _ t.posted.is (λ bad. cc bad))) t.logs
 turn_plain told k.begins_insert p q t plain = begins_insert_plain p q plain t
 turn_plain told k.inserts p q t plain = inserts_plain p q plain told t
 turn_plain told k.insert_ends p q t plain = ends p q plain t.inserting.row _ _ (rows_then t.next) (job_then t.next)
-turn_plain told k.insert_fails p q t plain = ends p q plain t.inserting.row _ _ (logs_rows _ q _ _ _ _ t.logs)
-    (job_then t.logs.next)
-turn_plain told k.insert_breaks_down p q t plain = ends p q plain t.inserting.row _ _
-    (logs_rows _ q _ _ _ _ t.logs) (job_then t.logs.next)
+turn_plain told k.insert_fails p q t plain = work_plain (record (stopped_now p) { job = None })
+    (without_job (stopped_now p) (stopping p plain)) t.inserting.row (Decided Answered) (λ bad. cc bad) q _ t.device
+    (inr refl) t.logs
+turn_plain told k.insert_breaks_down p q t plain = work_plain (record p { job = None }) (without_job p plain)
+    t.inserting.row (Decided Answered) (λ bad. cc bad) q _ p.device (inr refl) t.logs
+turn_plain told k.claims_fill p q t plain = claims_fill_plain p q plain t
+turn_plain told k.lacks_for_fill p q t plain = goes p q plain t.fill.posted.channel _ _ (rows_then t.next) _
+    t.fill.posted.row (λ bad. cc bad) (job_then t.next)
+turn_plain told k.halts_fill p q t plain = halts_fill_plain p q plain t
+turn_plain told k.ends_fill p q t plain = ends p q plain fill_row _ _ (rows_then t.next) (job_then t.next ∙ t.no_job)
 
 -- and in a run of them
 pub run_plain : (told : Bool) (kinds : List Kind) (p q : StoreState) → Run told p kinds q → HasPlainRows p

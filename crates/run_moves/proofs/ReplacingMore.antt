@@ -1,9 +1,8 @@
 -- A replacement that is no commit, of a command's job or a repair's, is a move.
-use Rattle.std.proofs.Common.{◌≡◌, ◌≢◌, ◌+◌, ◌≤◌, ◌<◌, ◌^◌, ℕ, Bool, [], ◌∷◌, length, Option, Some, None, refl, sym, ap}
-use Rattle.std.proofs.Common.{◌∙◌, subst, arith}
+use Rattle.std.proofs.Common.{◌≡◌, ◌≢◌, ◌+◌, ℕ, Bool, [], ◌∷◌, length, None, refl, sym, ap}
+use Rattle.std.proofs.Common.{◌∙◌, subst}
 use Rattle.std.specs.Option.{option_map}
 use Rattle.volume_model.specs.Volumes.{Volumes}
-use Rattle.blob_meta.specs.declared.meta.Meta.{Meta}
 use Rattle.store_model.specs.Cases.ReplaceMore.{ReplacesMore}
 use Rattle.store_model.specs.WithReplaced.{generations_with, made_by}
 use Rattle.store_model.specs.Guarding.{AreGenerations, frozen_behind}
@@ -13,13 +12,9 @@ use Rattle.store_model.specs.Phases.{replaced, Replaces, Replacing}
 use Rattle.store_model.specs.RunInvariant.{RunsWell}
 use Rattle.store_model.specs.StoreState.{ForCommand, ForInsert, ForRepair, going_on, JobState, Service, StoreState}
 use Rattle.store_model.specs.StoreState.{waiting}
-use Rattle.store_model.proofs.LeftToDo.{chain_there}
-use Rattle.store_model.proofs.Sets.{among_first}
-use Rattle.store_model.proofs.WithEntry.{option_elsewhere, option_here}
 use Rattle.run_work.specs.JobMoves.{ReplaceMove, ReplacesBlob}
 use Rattle.run_work.specs.Reading.{job_left}
 use Rattle.run_work.specs.RunState.{ReplacementPhase}
-use Rattle.run_work.specs.Work.{empty_in}
 use Rattle.run_moves.specs.JobTurns.{IsJobMove}
 use Rattle.run_moves.specs.Projection.{blobs_in_run, heads_found, job_in_run, phases_in_run, replacement_for}
 use Rattle.run_moves.specs.Projection.{run_by, run_state_of, RunMessages}

@@ -1,6 +1,6 @@
 -- Each turn of a channel is a move of it. That a page is copied, that a claim is lost and that an insert is posted are
 -- also turns of the metadata thread's own row.
-use Rattle.std.specs.Prelude.{◌≡◌, ℕ, ◌<◌, ◌==◌, ◌&&◌, if◌then◌else◌, nat_lt, Some, None, Bool, true, length, ◌++◌}
+use Rattle.std.specs.Prelude.{◌≡◌, ◌≢◌, ℕ, ◌<◌, ◌==◌, ◌&&◌, if◌then◌else◌, nat_lt, Some, None, Bool, true, length, ◌++◌}
 use Rattle.std.specs.Prelude.{◌∷◌, []}
 use Rattle.super_block.specs.Numbers.{cluster_pages_of}
 use Rattle.store_model.specs.Cases.Flush.{Flushes}
@@ -23,6 +23,7 @@ use Rattle.store_model.specs.Cases.Settle.{Settles}
 use Rattle.store_model.specs.Cases.End.{Ends}
 use Rattle.store_model.specs.Cases.Halt.{Halts}
 use Rattle.store_model.specs.Guarding.{AreGenerations}
+use Rattle.store_model.specs.Rows.{fill_row}
 use Rattle.store_model.specs.StoreState.{StoreState}
 use Rattle.run_work.specs.ChannelMoves.{ChannelMove, logs_itself, RowMove}
 use Rattle.run_moves.specs.Projection.{run_state_of, RunMessages, stage_in_run}
@@ -57,8 +58,8 @@ pub record LoggingTurns (p q : StoreState) (d : RunMessages) : Type 0 where
   pub writes_page : (told : Bool) (t : WritesPage told p q) → IsChannelMove p d t.at.channel q d
   pub fails_to_write : (t : FailsToWrite p q) → IsChannelMove p d t.at.channel q d
   pub refuses_claim : (t : RefusesClaim p q) → IsChannelMove p d t.write.channel q d
-  pub copy_not_read : (t : CopyNotRead p q) → IsChannelMove p d t.copying.row q d
-  pub copy_fails : (t : CopyFails p q) → IsChannelMove p d t.copying.row q d
+  pub copy_not_read : (t : CopyNotRead p q) → t.copying.row ≢ fill_row → IsChannelMove p d t.copying.row q d
+  pub copy_fails : (t : CopyFails p q) → t.copying.row ≢ fill_row → IsChannelMove p d t.copying.row q d
   -- what is posted is logged by the metadata thread
   pub halts : (t : Halts p q) → logs_itself (stage_in_run t.stage) ≡ true → IsChannelMove p d t.channel q d
 

@@ -5,6 +5,7 @@ use Rattle.super_block.specs.declared.page.Super.{Super}
 use Rattle.volume_model.specs.Volumes.{Volumes}
 use Rattle.volume_model.specs.declared.command.Command.{Command}
 use Rattle.store_model.specs.Cases.{Kind, Run, Turn}
+use Rattle.store_model.specs.Filling.{FillStands}
 use Rattle.store_model.specs.RunInvariant.{RunInvariant}
 use Rattle.store_model.specs.StoreState.{Opens, StoreState}
 use Rattle.run_work.specs.Following.{ActorInRun}
@@ -12,6 +13,7 @@ use Rattle.run_work.specs.RunFacts.{RunFacts}
 use Rattle.run_work.specs.Steps.{can_channel, StepOf}
 use Rattle.run_moves.specs.DrivenStore.{driven_at_start, DrivenStore, run_of}
 use Rattle.run_moves.specs.DriverSteps.{ChannelTurn, DriverStep, PostingTurn}
+use Rattle.run_moves.specs.FillTurns.{HoldsFill}
 use Rattle.run_moves.specs.PlainRows.{HasPlainRows}
 use Rattle.run_moves.specs.Projection.{RunMessages, run_state_of}
 use Rattle.run_moves.specs.Sizes.{sizes_of}
@@ -39,7 +41,11 @@ module _ (s : Super) (first : Volumes) (script : ℕ → List Command) where
     -- a step of the driver's is one of the run
     pub step : (told : Bool) (actor : ActorInRun) (w v : DrivenStore) → 0 < cluster_pages_of s → IsOfChannels script
         → RunInvariant s first script w.store → RunInvariant s first script v.store → HasPlainRows w.store
-        → DriverStep told actor w v → StepOf (sizes_of s) actor (run_of w) (run_of v)
+        → FillStands w.store → HoldsFill w.store w.messages → RunFacts (run_of w) → DriverStep told actor w v
+        → StepOf (sizes_of s) actor (run_of w) (run_of v)
+    -- and leaves the driver with the fill of the command that the fill's row works for
+    pub fill : (told : Bool) (actor : ActorInRun) (w v : DrivenStore) → FillStands w.store
+        → HoldsFill w.store w.messages → DriverStep told actor w v → HoldsFill v.store v.messages
 
 abbrev pub DriverLaws : Type 0
 DriverLaws = (s : Super) (first : Volumes) (script : ℕ → List Command) → DriverLawsOf s first script

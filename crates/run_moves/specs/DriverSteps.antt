@@ -1,6 +1,6 @@
 -- The steps of the actors of a run, exactly: what a channel does by the stage of its row, and what the metadata thread
 -- does by what is due.
-use Rattle.std.specs.Prelude.{◌≡◌, ◌⊎◌, ℕ, ◌<◌, if◌then◌else◌, Option, Some, None, Bool, true, false, List, [], ◌∷◌}
+use Rattle.std.specs.Prelude.{◌≡◌, ◌≢◌, ◌⊎◌, ℕ, ◌<◌, if◌then◌else◌, Option, Some, None, Bool, true, false, List, [], ◌∷◌}
 use Rattle.std.specs.Prelude.{◌++◌, length}
 use Rattle.volume_model.specs.declared.reply.Msg.{Msg}
 use Rattle.store_model.specs.Cases.Answer.{Answers}
@@ -15,6 +15,7 @@ use Rattle.store_model.specs.Cases.Copy.{Copies}
 use Rattle.store_model.specs.Cases.CopyFail.{CopyFails}
 use Rattle.store_model.specs.Cases.CopyNotRead.{CopyNotRead}
 use Rattle.store_model.specs.Cases.End.{Ends}
+use Rattle.store_model.specs.Cases.EndFill.{EndsFill}
 use Rattle.store_model.specs.Cases.Erase.{Erases}
 use Rattle.store_model.specs.Cases.Fail.{Fails}
 use Rattle.store_model.specs.Cases.FailMore.{MoreFails}
@@ -44,15 +45,17 @@ use Rattle.store_model.specs.Cases.WriteFresh.{WritesFresh}
 use Rattle.store_model.specs.Cases.WritePage.{WritesPage}
 use Rattle.store_model.specs.Cases.WritePageFail.{FailsToWrite}
 use Rattle.store_model.specs.Cases.Zero.{Zeroes}
-use Rattle.store_model.specs.Rows.{Posted}
+use Rattle.store_model.specs.Rows.{fill_row, Posted}
 use Rattle.store_model.specs.StoreState.{StoreState}
 use Rattle.run_work.specs.ChannelMoves.{logs_itself}
 use Rattle.run_work.specs.Following.{ActorInRun, ChannelActs, MetadataActs}
 use Rattle.run_work.specs.Following as following
 use Rattle.run_work.specs.ServingMoves.{TakesOut}
-use Rattle.run_work.specs.Steps.{all_ended, can_move, due_in, has_to_wait, JobStep, MessageStep, TakeStep}
+use Rattle.run_work.specs.Steps.{all_ended, can_move, CloseStep, due_in, FillStep, has_to_wait, JobStep, MessageStep}
+use Rattle.run_work.specs.Steps.{TakeStep}
 use Rattle.run_moves.specs.ChannelTurns.{with_sent, with_unsent}
 use Rattle.run_moves.specs.DrivenStore.{DrivenStore, run_of}
+use Rattle.run_moves.specs.FillTurns.{FailedFill, FillEnd, FillTurn, with_fill, without_fill}
 use Rattle.run_moves.specs.Projection.{RunMessages, stage_in_run}
 use Rattle.run_moves.specs.ServingTurns.{with_taken}
 
@@ -63,6 +66,11 @@ behind_others d (Some message) = record d { held = None; waiting = d.waiting ++ 
 
 abbrev pub messages_at_turn : DrivenStore → RunMessages
 messages_at_turn w = if has_to_wait (run_of w) then behind_others w.messages w.messages.held else w.messages
+
+-- the store with its messages once a message is taken out for a fill
+abbrev pub taken_up : DrivenStore → Option Msg → List Msg → Msg → DrivenStore
+taken_up w held waiting message =
+    record w { messages = with_fill (with_taken w.messages held waiting) message }
 
 -- the store with its messages once a command that has to wait does
 abbrev pub driven_at_turn : DrivenStore → DrivenStore
@@ -114,7 +122,7 @@ module _ (told : Bool) where
       lacks_memory_for_insert : (t : LacksMemoryForInsert p q) → t.posted.row ≡ channel → ServingTurn channel
       halts : (serial : ℕ) (t : Halts p q) → t.stage ≡ Posted serial → t.channel ≡ channel → ServingTurn channel
 
-    -- the running job makes its next turn
+    -- the running job makes its next turn, with which no fill ends
     pub data JobTurn : Type 0 where
       zeroes : Zeroes told p q → JobTurn
       writes : WritesFresh told p q → JobTurn
@@ -129,8 +137,8 @@ module _ (told : Bool) where
       more_breaks_off : MoreBreaksOff p q → JobTurn
       inserts : Inserts told p q → JobTurn
       insert_ends : InsertEnds told p q → JobTurn
-      insert_fails : InsertFails p q → JobTurn
-      insert_breaks_down : InsertBreaksDown p q → JobTurn
+      insert_fails : (t : InsertFails p q) → t.inserting.row ≢ fill_row → JobTurn
+      insert_breaks_down : (t : InsertBreaksDown p q) → t.inserting.row ≢ fill_row → JobTurn
 
   -- ---- steps
 
@@ -142,10 +150,26 @@ module _ (told : Bool) where
     by_sending : (serial : ℕ) → w.messages.unsent channel ≡ Some serial → length w.messages.queue < 8
         → v ≡ record w { messages = with_sent w.messages channel serial } → ChannelActsOn w channel v
 
-  -- What the metadata thread does: a turn of the running job, the turn that serves a message, or it takes the front
-  -- message, whichever is due.
+  -- what the fill of a message's command does: it goes on, or there is none any more
+  pub data FillActsOn (w : DrivenStore) (message : Msg) (v : DrivenStore) : Type 0 where
+    fill_goes_on : FillTurn told w.store v.store message.channel → v.messages ≡ w.messages → FillActsOn w message v
+    fill_ends : FillEnd told w.store v.store message.channel → v.messages ≡ without_fill w.messages
+        → FillActsOn w message v
+
+  -- What the metadata thread does: a turn of the running job, the turn that serves a message, a turn of the fill, or it
+  -- takes the front message or ends the use of its row, whichever is due. A command that becomes the fill makes the
+  -- fill's first turn.
   pub data MetadataActsOn (w v : DrivenStore) : Type 0 where
     by_job : due_in (run_of w) ≡ JobStep → JobTurn w.store v.store → v.messages ≡ w.messages → MetadataActsOn w v
+    by_failed_fill : due_in (run_of w) ≡ JobStep → FailedFill w.store v.store → v.messages ≡ without_fill w.messages
+        → MetadataActsOn w v
+    by_closing : due_in (run_of w) ≡ CloseStep → EndsFill w.store v.store → v.messages ≡ w.messages
+        → MetadataActsOn w v
+    by_fill : (message : Msg) → due_in (run_of w) ≡ FillStep → w.messages.fill ≡ Some message
+        → FillActsOn w message v → MetadataActsOn w v
+    by_taking_up : (message : Msg) (held : Option Msg) (waiting : List Msg) → due_in (run_of w) ≡ MessageStep message
+        → w.messages.fill ≡ None → TakesOut (run_of w) message held waiting
+        → FillActsOn (taken_up w held waiting message) message v → MetadataActsOn w v
     by_message : (message : Msg) (held : Option Msg) (waiting : List Msg) → due_in (run_of w) ≡ MessageStep message
         → TakesOut (run_of w) message held waiting → ServingTurn w.store v.store message.channel
         → v.messages ≡ with_taken w.messages held waiting → MetadataActsOn w v

@@ -18,6 +18,7 @@ use Rattle.store_model.specs.Cases.WriteFresh.{WritesFresh}
 use Rattle.store_model.specs.Cases.Zero.{Zeroes}
 use Rattle.store_model.specs.Guarding.{IsGuarded}
 use Rattle.store_model.specs.RunInvariant.{RunsWell}
+use Rattle.store_model.specs.Rows.{fill_row}
 use Rattle.store_model.specs.StoreState.{JobState, StoreState}
 use Rattle.run_work.specs.JobMoves.{CommitMove, DropMove, FailMove, InsertMove, PageMove, ReplaceMove, WinMove}
 use Rattle.run_work.specs.Reading.{asks_metadata}
@@ -52,12 +53,13 @@ module _ (p q : StoreState) (d : RunMessages) where
   -- turns in which a write or a flush failed, and those of a stopped store
   pub record FailingTurns : Type 0 where
     pub fails : (t : Fails p q) → IsJobMoveOf FailMove t.served.channel
-    pub insert_fails : (t : InsertFails p q) → IsJobMoveOf FailMove t.inserting.row
+    pub insert_fails : (t : InsertFails p q) → t.inserting.row ≢ fill_row → IsJobMoveOf FailMove t.inserting.row
     pub breaks_off : BreaksOff p q → IsJobMove DropMove
     pub more_fails : (t : MoreFails p q) → IsJobMoveOf FailMove t.served.channel
     pub more_breaks_off : MoreBreaksOff p q → IsJobMove DropMove
     pub breaks_down : IsGuarded p → BreaksDown p q → ((row : ℕ) × IsJobMoveOf FailMove row) ⊎ IsJobMove DropMove
-    pub insert_breaks_down : IsGuarded p → (t : InsertBreaksDown p q) → IsJobMoveOf FailMove t.inserting.row
+    pub insert_breaks_down : IsGuarded p → (t : InsertBreaksDown p q) → t.inserting.row ≢ fill_row
+        → IsJobMoveOf FailMove t.inserting.row
 
   -- Turns that replace a head's page, and the last of an insert. An insert's row has no command for the metadata thread
   -- first.

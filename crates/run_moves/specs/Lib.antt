@@ -3,6 +3,7 @@ pub mod Sizes
 pub mod ChannelTurns
 pub mod ServingTurns
 pub mod JobTurns
+pub mod FillTurns
 pub mod DrivenStore
 pub mod DriverSteps
 pub mod PlainRows

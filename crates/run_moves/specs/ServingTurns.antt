@@ -1,5 +1,5 @@
 -- Each turn of the metadata thread that serves a message is a move.
-use Rattle.std.specs.Prelude.{◌≡◌, ℕ, Option, List, length}
+use Rattle.std.specs.Prelude.{◌≡◌, ◌≢◌, ℕ, Option, List, length}
 use Rattle.super_block.specs.Numbers.{clusters_of}
 use Rattle.volume_model.specs.declared.reply.Msg.{Msg}
 use Rattle.store_model.specs.Cases.Answer.{Answers}
@@ -10,7 +10,7 @@ use Rattle.store_model.specs.Cases.LackForInsert.{LacksForInsert}
 use Rattle.store_model.specs.Cases.LackMemoryForInsert.{LacksMemoryForInsert}
 use Rattle.store_model.specs.Cases.LoseInsert.{LosesInsert}
 use Rattle.store_model.specs.Cases.Refuse.{Refuses}
-use Rattle.store_model.specs.Rows.{Posted}
+use Rattle.store_model.specs.Rows.{fill_row, Posted}
 use Rattle.store_model.specs.RunInvariant.{HaveChains}
 use Rattle.store_model.specs.StoreState.{StoreState}
 use Rattle.run_work.specs.ServingMoves.{AnswerMove, BeginInsertMove, BeginJobMove, LoseInsertMove, Serves}
@@ -40,8 +40,10 @@ module _ (p q : StoreState) (d : RunMessages) (held : Option Msg) (waiting : Lis
   pub record AnsweringTurns : Type 0 where
     pub answers : (t : Answers p q) → ServesRow t.posted.channel → IsAnswer t.posted.channel
     pub refuses : (t : Refuses p q) → ServesRow t.posted.channel → IsAnswer t.posted.channel
-    pub lacks_for_insert : (t : LacksForInsert p q) → ServesRow t.posted.row → IsAnswer t.posted.row
-    pub lacks_memory_for_insert : (t : LacksMemoryForInsert p q) → ServesRow t.posted.row → IsAnswer t.posted.row
+    pub lacks_for_insert : (t : LacksForInsert p q) → t.posted.row ≢ fill_row → ServesRow t.posted.row
+        → IsAnswer t.posted.row
+    pub lacks_memory_for_insert : (t : LacksMemoryForInsert p q) → t.posted.row ≢ fill_row → ServesRow t.posted.row
+        → IsAnswer t.posted.row
     pub halts : (serial : ℕ) (t : Halts p q) → t.stage ≡ Posted serial → ServesRow t.channel → IsAnswer t.channel
 
   -- an insert is lost or begins, and the job of a command begins

@@ -8,7 +8,7 @@ ghost use Rattle.run_moves.specs.DriverLaws.{DriverLaws, PlainRowLaws};
 ghost use Rattle.run_moves.specs.JobTurns.{JobTurnLaws};
 ghost use Rattle.run_moves.specs.ServingTurns.{ServingTurnLaws};
 
-use run_work::moves_keep_facts;
+use run_work::{moves_keep_facts, what_is_due};
 
 /// Each turn of a channel is a move of it.
 pub fn channels_move()
@@ -37,4 +37,5 @@ pub fn steps_are_moves()
     ensures { DriverLaws }
 {
     moves_keep_facts();
+    what_is_due();
 }

@@ -1,11 +1,10 @@
 //! What the program says and prints where there is no command, no script or no store, and where the source or the sink
 //! fails.
 
-use blob_tool::Status;
 use page_disk::MemDisk;
 use std::alloc::Global;
 use std::test::Fail;
-use test_runs::{Call, expect_printed, perform, run};
+use test_runs::{Call, Status, expect_printed, perform, run};
 use test_stores::store;
 
 /// A call over a store, the status, and what is printed.

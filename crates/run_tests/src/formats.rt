@@ -1,11 +1,10 @@
 //! New stores, as an administrator makes them.
 
-use blob_tool::Status;
 use page_disk::{CallKind, Fail, FaultDisk, MemDisk, PageDisk};
 use std::alloc::Global;
 use std::test::Fail as TestFail;
 use streams::ListSink;
-use test_runs::{Call, Ran, expect_printed, perform, play};
+use test_runs::{Call, Ran, Status, expect_printed, perform, play};
 use test_stores::store;
 
 /// What comes of `format IMAGE` with these options, where the writes with these numbers to the output fail.

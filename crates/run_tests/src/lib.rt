@@ -1,19 +1,12 @@
 //! Tests of the program's calls over a device in memory: the verbs on attributes, new volumes, volumes that are thick
-//! or get another number of slots, clones, snapshots, deletes, volumes that are renamed or told, pages that are read
-//! and written, channels that take turns, new stores, listings, generated scripts, printed or
-//! run, and each status.
+//! or get another number of slots, volumes that are renamed or told, pages that are read and written, new stores,
+//! listings, generated scripts, printed or run, and each status.
 #![tactic(auto)]
 
-#[cfg(test)]
-mod clones;
-#[cfg(test)]
-mod deletes;
 #[cfg(test)]
 mod exercises;
 #[cfg(test)]
 mod failures;
-#[cfg(test)]
-mod family_faults;
 #[cfg(test)]
 mod formats;
 #[cfg(test)]
@@ -23,19 +16,15 @@ mod listings;
 #[cfg(test)]
 mod lvol_stores;
 #[cfg(test)]
-mod many_volumes;
-#[cfg(test)]
 mod names;
+#[cfg(test)]
+mod padded_stores;
 #[cfg(test)]
 mod page_faults;
 #[cfg(test)]
 mod pages;
 #[cfg(test)]
-mod schedules;
-#[cfg(test)]
 mod slots;
-#[cfg(test)]
-mod snapshot_runs;
 #[cfg(test)]
 mod verbs;
 #[cfg(test)]

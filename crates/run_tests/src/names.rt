@@ -1,9 +1,9 @@
 //! Volumes that get another name, and what is told of one volume and of all.
 
-use crate::volumes::{Case, On, expect_case};
 use std::test::Fail;
+use test_runs::{On, TwoRuns, expect_two_runs};
 
-const CASES: [Case; 6] = [
+const CASES: [TwoRuns; 6] = [
     // The name is another at once and in a later run. What is pending stays so, and is lost with the run.
     (
         On::Empty,
@@ -72,7 +72,7 @@ const CASES: [Case; 6] = [
 #[test]
 fn names_are_given_and_volumes_are_told(rt: HostRuntime) -> Result<(), Fail> {
     for case in &CASES {
-        expect_case(rt.alloc(), case)?;
+        expect_two_runs(rt.alloc(), case)?;
     }
     Ok(())
 }

@@ -1,10 +1,9 @@
 //! Calls of the device that fail where pages are written and read.
 
-use blob_tool::Status;
 use page_disk::{CallKind, Fail, FaultDisk, MemDisk};
 use std::alloc::Global;
 use std::test::Fail as TestFail;
-use test_runs::{Ran, expect_printed, play, run};
+use test_runs::{Ran, Status, expect_printed, play, run};
 use test_stores::image;
 
 /// A store whose volume `v` has two slots: thin ones, or thick ones.

@@ -1,14 +1,13 @@
 //! Thick volumes, volumes that get another number of slots, and how much is clear then.
 
 use crate::formats::format;
-use crate::volumes::{Case, On, expect_case};
 use page_disk::MemDisk;
 use std::alloc::Global;
 use std::test::Fail;
-use test_runs::play;
+use test_runs::{On, TwoRuns, expect_two_runs, play};
 use test_stores::{LAST, PageRow, THIN, fill, image, is_zeros};
 
-const CASES: [Case; 10] = [
+const CASES: [TwoRuns; 10] = [
     // A thick volume takes its clusters when it is made: all that are clear, but not one more.
     (
         On::Empty,
@@ -103,7 +102,7 @@ const CASES: [Case; 10] = [
 #[test]
 fn slots_are_given_and_outlast_the_run(rt: HostRuntime) -> Result<(), Fail> {
     for case in &CASES {
-        expect_case(rt.alloc(), case)?;
+        expect_two_runs(rt.alloc(), case)?;
     }
     Ok(())
 }

@@ -3,7 +3,8 @@
 use page_disk::PageDisk;
 use std::alloc::Global;
 use std::test::Fail;
-use test_runs::{play, push_long};
+use test_lines::push_long;
+use test_runs::play;
 use test_stores::{LAST, READ_ONLY, image, store, two_blobs};
 
 /// A script, what it prints, and what a later run prints of `0 getx @0 k`, where the blob has `k` with the value 1 on

@@ -1,55 +1,9 @@
 //! Thin volumes that are made, and how much is clear.
 
-use page_disk::MemDisk;
-use std::alloc::Global;
 use std::test::Fail;
-use test_runs::play;
-use test_stores::{LAST, NAMED, PageRow, READ_ONLY, THICK, THIN, image, image_with_super, volume};
+use test_runs::{On, TwoRuns, expect_two_runs};
 
-/// A store with clusters of 4 pages, of which 16 are on the device.
-#[derive(Clone, Copy)]
-pub enum On {
-    /// No blob.
-    Empty,
-    /// A blob without a name at place 1 of 16.
-    One,
-    /// A read-only blob without a name at place 0.
-    ReadOnly,
-    /// The volume `v` of three clusters at the places 0 to 2 of 5.
-    Volume,
-    /// A super blob at place 0, whose name is `v` and whose uuid is 11223344-5566-4788-99aa-bbccddeeff00.
-    Super,
-    /// A super block that names a super blob at place 0, which isn't there.
-    NoSuper,
-}
-
-/// The id of the blob at place 0.
-const FIRST: u64 = 1 << 32;
-
-fn disk(alloc: Global, on: On) -> Result<MemDisk, Fail> {
-    let one: [PageRow; 1] = [(1, 1, 0, LAST, &[THICK])];
-    let read_only: [PageRow; 1] = [(0, 0, 0, LAST, &[READ_ONLY])];
-    let named: [PageRow; 1] = [(0, 0, 0, LAST, &[THIN, NAMED])];
-    match on {
-        On::Empty => image(alloc, (64, 16), &[]),
-        On::One => image(alloc, (64, 16), &one),
-        On::ReadOnly => image(alloc, (64, 16), &read_only),
-        On::Volume => volume(alloc, 5),
-        On::Super => image_with_super(alloc, (64, 16), FIRST, &named),
-        On::NoSuper => image_with_super(alloc, (64, 16), FIRST, &[]),
-    }
-}
-
-/// A store, a script, what it prints, and a look and what it prints in a later run.
-pub type Case = (
-    On,
-    &'static [u8],
-    &'static [u8],
-    &'static [u8],
-    &'static [u8],
-);
-
-const CASES: [Case; 10] = [
+const CASES: [TwoRuns; 10] = [
     // A thin volume takes a page and no cluster.
     (
         On::Empty,
@@ -144,18 +98,10 @@ const CASES: [Case; 10] = [
     ),
 ];
 
-/// Runs the script of a case, and expects what it prints and what a later run finds.
-pub fn expect_case(alloc: Global, case: &Case) -> Result<(), Fail> {
-    let (on, script, printed, look, found) = case;
-    let disk = play(alloc, script, printed, disk(alloc, *on)?)?;
-    play(alloc, look, found, disk)?;
-    Ok(())
-}
-
 #[test]
 fn each_create_is_answered_and_outlasts_the_run(rt: HostRuntime) -> Result<(), Fail> {
     for case in &CASES {
-        expect_case(rt.alloc(), case)?;
+        expect_two_runs(rt.alloc(), case)?;
     }
     Ok(())
 }

@@ -1,13 +1,12 @@
 //! Pages of volumes that are written: in place, or into a cluster that an empty slot gets.
 
-use crate::volumes::{Case, On, expect_case};
 use page_disk::{MemDisk, Page, PageDisk, WriteKind};
 use std::alloc::Global;
 use std::test::Fail;
-use test_runs::play;
+use test_runs::{On, TwoRuns, expect_two_runs, play};
 use test_stores::{LAST, PageRow, READ_ONLY, image};
 
-const CASES: [Case; 7] = [
+const CASES: [TwoRuns; 7] = [
     // An empty slot gets a cluster with the first page that is written in it; its other pages read as zeros.
     (
         On::Empty,
@@ -101,13 +100,13 @@ const CASES: [Case; 7] = [
 #[test]
 fn pages_are_written_and_outlast_the_run(rt: HostRuntime) -> Result<(), Fail> {
     for case in &CASES {
-        expect_case(rt.alloc(), case)?;
+        expect_two_runs(rt.alloc(), case)?;
     }
     Ok(())
 }
 
 /// The chain of `v` has three pages, two of them behind its head. An insert takes two pages for it, and none for `w`.
-const ON_LONG_CHAIN: [Case; 3] = [
+const ON_LONG_CHAIN: [TwoRuns; 3] = [
     (
         On::Volume,
         b"0 df\n0 write v 1 1 7\n0 df\n0 read v 0 2\n",
@@ -141,7 +140,7 @@ const ON_LONG_CHAIN: [Case; 3] = [
 #[test]
 fn a_slot_is_filled_where_its_chain_has_pages(rt: HostRuntime) -> Result<(), Fail> {
     for case in &ON_LONG_CHAIN {
-        expect_case(rt.alloc(), case)?;
+        expect_two_runs(rt.alloc(), case)?;
     }
     Ok(())
 }

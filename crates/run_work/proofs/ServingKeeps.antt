@@ -197,7 +197,8 @@ module _ (z : RunSizes) where
       ] in
       let left : on_the_way mid 16 ≡ 0 = first.counted 16 ∙ at_own (mid.rows 16).stage in
       subst RunFacts (sym c.next)
-      (unposts_row mid (record (moved_row mid 16 over) { job = c.job; frozen = c.frozen }) 16 over refl first
+      (unposts_row mid (record (moved_row mid 16 over) { finds = c.finds; job = c.job; frozen = c.frozen }) 16 over refl
+      first
       (λ h is. elim c.ends [
         | in_fill idle none fewer ↦ absurd (idle_thaws w f idle h (fewer h is))
         | in_insert waits none thaws ↦ absurd (cc (sym is ∙ thaws h))

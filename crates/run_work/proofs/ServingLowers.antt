@@ -179,9 +179,9 @@ module _ (z : RunSizes) where
       let next : RowInRun = logged_at c.commands AtDecided in
       let over : RowInRun = logged_at [] c.own in
       let pays = posted_pays w ch c.serial c.command c.commands c.left c.stage in
-      let first = one_row z w.blobs w.finds w.rows ch next low in
-      let second = one_row z w.blobs w.finds (with_row_in_run w.rows ch next) 16 over enough in
-      let most = own_most w.blobs w.finds c.own c.own_is in
+      let first = any_row z w.blobs w.blobs w.finds c.finds w.rows ch next low in
+      let second = one_row z w.blobs c.finds (with_row_in_run w.rows ch next) 16 over enough in
+      let most = own_most w.blobs c.finds c.own c.own_is in
       let job = job_least w c.job c.frozen c.ends in
       subst (λ x. base_work z x + (try_work z + 1) < base_work z w) (sym c.next)
       (omega (arith, pays, first, second, most, job))

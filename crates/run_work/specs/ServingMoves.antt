@@ -127,7 +127,7 @@ module _ (z : RunSizes) where
     pub next : v ≡ record w { held = held; waiting = waiting; fill = Some message }
 
   -- A fill's command is logged before its own job begins, and its row decided. The metadata thread's own row gives its
-  -- claim back; it waits, or is decided too, where an insert of it failed.
+  -- claim back; it waits, or is decided too, where an insert of it failed. What references mean may change.
   pub record LogFillMove (w : RunState) (ch : ℕ) (v : RunState) : Type 0 where
     pub command : CommandInRun
     pub commands : List CommandInRun
@@ -143,7 +143,9 @@ module _ (z : RunSizes) where
     pub job : Option JobInRun
     pub frozen : ℕ → Bool
     pub ends : EndsFillIn w job frozen
+    pub finds : FoundHeads
     pub next : v ≡ record w {
+      finds = finds;
       rows = with_row_in_run (with_row_in_run w.rows ch (logged_at commands AtDecided)) 16 (logged_at [] own);
       fill = None;
       job = job;

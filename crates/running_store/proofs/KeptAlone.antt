@@ -1,7 +1,6 @@
 -- A replacement whose commit, if it is one, shows no other blob otherwise can be kept in memory.
 use Rattle.std.proofs.Common.{◌≡◌, ◌≢◌, ◌∙◌, ℕ, Bool, Option, None, IfSome, IsSome, sym, ap, subst}
 use Rattle.std.specs.Prelude.{if◌then◌else◌, is_some}
-use Rattle.std.specs.Ordering.{nat_cmp}
 use Rattle.std.specs.FinMap as map
 use Rattle.blob_meta.specs.declared.meta.Meta.{Meta}
 use Rattle.blob_meta.specs.Repairs.{HasNoMarks}

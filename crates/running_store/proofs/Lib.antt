@@ -11,6 +11,8 @@ pub mod Thawed
 pub mod Rowing
 pub mod Entered
 pub mod GivenBack
+pub mod WorkLogged
+pub mod FillEntered
 pub mod ClaimsCleared
 pub mod Cleared
 pub mod PagesTaken

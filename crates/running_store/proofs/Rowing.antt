@@ -1,6 +1,6 @@
 -- The rows of the channels with one row set, as a function.
-use Rattle.std.proofs.Common.{None, ◌≡◌, ◌==◌, ℕ, ◌<◌, Bool, true, false, List, [], ◌∷◌, ◌++◌, drop, length, slice_set}
-use Rattle.std.proofs.Common.{refl, sym, ◌∙◌, ap, arith, inl, inr}
+use Rattle.std.proofs.Common.{None, ◌≡◌, ◌≢◌, ◌==◌, ℕ, ◌<◌, Bool, true, false, List, [], ◌∷◌, ◌++◌, drop, length}
+use Rattle.std.proofs.Common.{slice_set, refl, sym, ◌∙◌, ap, arith, inl, inr}
 use Rattle.std.specs.Prelude.{if◌then◌else◌, slice_index_or}
 use Rattle.std.proofs.lemmas.Bool.{cases_eq, cases_lt, eq-eqb, ne_eqb}
 use Rattle.std.proofs.lemmas.List.{get_or_default, get_or-set_same, get_or-set_other}
@@ -9,7 +9,7 @@ use Rattle.std.proofs.Math.Path.{fun_ext}
 use Rattle.page_disk.specs.declared.disk.PageDisk.{Ghosts}
 use Rattle.volume_model.specs.declared.command.Command.{Command}
 use Rattle.volume_model.specs.declared.reply.Reply.{Reply}
-use Rattle.store_model.specs.Rows.{Row, Rows, Answered, Decided, Ended, Stage, with_row, entry_of}
+use Rattle.store_model.specs.Rows.{Row, Rows, Answered, Decided, Ended, fill_row, Stage, with_row, entry_of}
 use Rattle.store_model.specs.StoreState.{logged, logged_to}
 use Rattle.running_store.specs.StoreView.{StoreView, device_of, rows_of, state_of}
 use Rattle.running_store.specs.Steps.{left_at, logged_at, logged_then, OnlyRow, with_row_at}
@@ -96,11 +96,35 @@ pub taken_row : (old new : Row) (command : Command) (next : Stage) → old.left 
 taken_row old new command next left stage claim =
     λ i. record { left = ap (λ (l : List Command). drop 1 l) (sym left) i; stage = stage i; claim = claim i }
 
--- a row that hasn't ended is that of one of the channels
-pub low_of : (rows : List Row) (channel : ℕ) (stage : Stage) → length rows ≡ 16 → (rows_of rows channel).stage ≡ stage
-    → (Ended ≡ stage → ⊥) → channel < 16
-low_of rows channel stage sixteen is other = elim (cases_lt channel (length rows)) [
-  | inl lt ↦ omega (arith, lt, sixteen)
+-- a row with a command is one of those that there are
+pub low_left : (rows : List Row) (row : ℕ) (command : Command) (rest : List Command)
+    → (rows_of rows row).left ≡ command ∷ rest → row < length rows
+low_left rows row command rest left = elim (cases_lt row (length rows)) [
+  | inl lt ↦ lt
+  | inr ge ↦
+      let none = get_or-eq_default rows _ ge in
+      absurd (let bad = sym (ap (λ (x : Row). x.left) none) ∙ left in cc bad)
+]
+
+-- so is a row that hasn't ended
+pub low_stage : (rows : List Row) (row : ℕ) (stage : Stage) → (rows_of rows row).stage ≡ stage → (Ended ≡ stage → ⊥)
+    → row < length rows
+low_stage rows row stage is other = elim (cases_lt row (length rows)) [
+  | inl lt ↦ lt
   | inr ge ↦ absurd (other (sym
       (ap (λ (r : Row). r.stage) (get_or-eq_default rows (record { left = []; stage = Ended; claim = None }) ge)) ∙ is))
 ]
+
+pub low_of : (rows : List Row) (row : ℕ) (stage : Stage) → length rows ≡ 17 → (rows_of rows row).stage ≡ stage
+    → (Ended ≡ stage → ⊥) → row < 17
+low_of rows row stage seventeen is other =
+    let low = low_stage rows row stage is other in omega (arith, low, seventeen)
+
+-- a row with a command is a channel's, where the fill's row has none
+pub channel_low : (rows : List Row) (row : ℕ) (command : Command) (rest : List Command) → length rows ≡ 17
+    → (rows_of rows fill_row).left ≡ [] → (rows_of rows row).left ≡ command ∷ rest → row < 16
+channel_low rows row command rest seventeen none left =
+    let low = low_left rows row command rest left in
+    let other : row ≢ fill_row =
+    λ here. let bad = sym none ∙ ap (λ n. (rows_of rows n).left) (sym here) ∙ left in cc bad in
+    omega (arith, low, seventeen, other)

@@ -1,5 +1,5 @@
 -- What a store has in memory of its blobs, and what replacements make of that.
-use Rattle.std.specs.Prelude.{◌≡◌, ◌≢◌, ℕ, if◌then◌else◌, is_some, Bool, List, [], ◌∷◌, Option, None, Some, IfSome}
+use Rattle.std.specs.Prelude.{◌≢◌, ℕ, if◌then◌else◌, is_some, Bool, List, [], ◌∷◌, Option, None, Some, IfSome}
 use Rattle.std.specs.Prelude.{IsSome, false}
 use Rattle.std.specs.FinMap as map
 use Rattle.std.specs.Option.{option_and_then}
@@ -10,7 +10,7 @@ use Rattle.blob_meta.specs.Resolving.{mark_of}
 use Rattle.io_freeze.specs.Guards.{GuardsState, removed}
 use Rattle.running_store.specs.Effects.{numbered_by}
 use Rattle.running_store.specs.Jobs.{to_come}
-use Rattle.running_store.specs.Places.{with_change, with_changes, with_numbers, CanNumber, HasPlace, HasPlaceFor}
+use Rattle.running_store.specs.Places.{with_changes, with_numbers, CanNumber, HasPlace, HasPlaceFor}
 use Rattle.running_store.specs.StoreView.{AreResolved}
 use Rattle.running_store.specs.declared.effects.Effects.{Effects}
 use Rattle.running_store.specs.declared.entries.EntryChange.{EntryChange}
@@ -20,7 +20,6 @@ use Rattle.running_store.specs.declared.replacements.Change.TheVariants as chang
 use Rattle.running_store.specs.declared.replacements.Commit.{Commit}
 use Rattle.running_store.specs.declared.replacements.Erasure.{Erasure}
 use Rattle.running_store.specs.declared.replacements.LaidReplacement.{LaidReplacement}
-use Rattle.running_store.specs.declared.replacements.Planned.{Planned}
 use Rattle.running_store.specs.declared.replacements.Rooms.{Rooms}
 use Rattle.running_store.specs.declared.running.Running.{Running}
 

@@ -1,5 +1,5 @@
 -- What a replacement does besides giving a blob new metadata, and what a commit makes.
-use Rattle.std.specs.Prelude.{◌≡◌, ℕ, ◌||◌, nat_lt, if◌then◌else◌, is_some, not, Bool, false, List, [], ◌∷◌, drop}
+use Rattle.std.specs.Prelude.{◌≡◌, ℕ, ◌||◌, nat_lt, if◌then◌else◌, is_some, not, Bool, true, false, List, [], ◌∷◌, drop}
 use Rattle.std.specs.Prelude.{length, Option, None, Some}
 use Rattle.std.specs.FinMap as map
 use Rattle.std.specs.Option.{option_and_then, option_map, option_map_or}
@@ -34,9 +34,11 @@ commit_seen commit =
 -- ---- what follows from new metadata
 
 -- The attributes of a blob as they are read from the commit of a command on, if they are others than these: a resize
--- leaves them, a rename gives them the name, and else they are those that are written.
+-- and the end of a fill leave them, a rename gives them the name, and else they are those that are written.
 abbrev pub live_behind : Command → Option Xattrs → Meta → Option Xattrs
 live_behind (c.Resize volume slots) live new = None
+live_behind (c.Inflate volume) live new = None
+live_behind (c.Decouple volume) live new = None
 live_behind (c.Rename volume name) live new = option_map (λ xattrs. with_value xattrs name_key (with_nul name)) live
 live_behind _ live new = Some new.xattrs
 
@@ -44,6 +46,16 @@ live_behind _ live new = Some new.xattrs
 abbrev pub is_cut : Option Meta → Meta → Bool
 is_cut None new = false
 is_cut (Some old) new = nat_lt (length new.map) (length old.map)
+
+-- whether a command ends with another parent of its blob, as the fills do
+abbrev pub takes_parent : Command → Bool
+takes_parent (c.Inflate volume) = true
+takes_parent (c.Decouple volume) = true
+takes_parent _ = false
+
+-- whether a blob that is there gets another generation
+abbrev pub is_renewed : Command → Option Meta → Meta → Bool
+is_renewed command old new = takes_parent command || is_cut old new
 
 -- the clusters of the slots that are cut
 abbrev pub cut_clusters : Option Meta → Meta → List ℕ
@@ -58,12 +70,12 @@ numbered_by gets head = if gets then head ∷ [] else []
 abbrev pub live_at : ℕ → Option Xattrs → Option LiveChange
 live_at head = option_map (λ xattrs. record { head = head; xattrs = Some xattrs })
 
--- what the commit makes that gives new metadata to a blob that is there, of which slots are cut or not, or to a new one
+-- what the commit makes that gives new metadata to a blob that is there, which is renewed or not, or to a new one
 abbrev pub commit_by : Bool → ℕ → Bool → Option Xattrs → Committing
-commit_by there head cut live = record {
+commit_by there head renewed live = record {
   reply = if there then r.Ok else r.Made head;
   live = live_at head live;
-  renews = numbered_by (not there || cut) head;
+  renews = numbered_by (not there || renewed) head;
 }
 
 -- The change gives the head these attributes, for which the map has a place; or there are none.
@@ -72,11 +84,12 @@ IsGiven live head None o = o ≡ None
 IsGiven live head (Some xattrs) o = (room : Option ℕ)
     × (o ≡ Some (record { head = head; value = Some xattrs; room = room })) × HasPlace live head room
 
--- They are those of a commit that gives the blob at a head new metadata in place of old, behind which these attributes
--- are read, if they are others, with these clusters claimed for it. No other blob is shown otherwise.
-pub record AreEffects (there : Bool) (head : ℕ) (old : Option Meta) (live : Option Xattrs) (new : Meta)
-    (clusters : List ℕ) (e : Effects) : Type 0 where
-  pub commit : option_map commit_seen e.commit ≡ Some (commit_by there head (is_cut old new) live)
+-- They are those of a command's commit, which gives the blob at a head new metadata in place of old, where these
+-- attributes were read, with these clusters claimed for it. No other blob is shown otherwise.
+pub record AreEffects (there : Bool) (head : ℕ) (old : Option Meta) (command : Command) (live : Option Xattrs)
+    (new : Meta) (clusters : List ℕ) (e : Effects) : Type 0 where
+  pub commit : option_map commit_seen e.commit
+      ≡ Some (commit_by there head (is_renewed command old new) (live_behind command live new))
   pub shows : option_and_then (λ commit. commit.shows) e.commit ≡ None
   pub makes : is_some e.rooms.chain ≡ not there
   pub freed : e.freed ≡ cut_clusters old new

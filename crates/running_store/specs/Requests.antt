@@ -23,9 +23,10 @@ pub record IsInsertPosted (rows : List Row) (msg : Msg) : Type 0 where
   pub stage : (rows_of rows msg.channel).stage ≡ Posted msg.serial
   pub claimed : IsSome (rows_of rows msg.channel).claim
 
--- each row that is posted has a command
+-- each row that is posted without a claim has a command
 abbrev pub HavePosted : List Row → Type 0
-HavePosted rows = (channel serial : ℕ) → (rows_of rows channel).stage ≡ Posted serial → (rows_of rows channel).left ≢ []
+HavePosted rows = (channel serial : ℕ) → (rows_of rows channel).stage ≡ Posted serial
+    → (rows_of rows channel).claim ≡ None → (rows_of rows channel).left ≢ []
 
 -- what a posted row asks for: an insert, if it holds a claim, or else its first command
 abbrev pub IsAsked : Row → Request → Type 0

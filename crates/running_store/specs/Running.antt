@@ -1,8 +1,7 @@
 -- The fields of a running store as contracts see them, and how they are kept in order.
-use Rattle.std.specs.Prelude.{◌≡◌, ◌↔◌, ℕ, ◌+◌, ◌-◌, ◌^◌, ◌<◌, ◌≤◌, Bool, true, [], length, vec_capacity}
+use Rattle.std.specs.Prelude.{◌≡◌, ◌↔◌, ℕ, ◌+◌, ◌^◌, ◌<◌, ◌≤◌, Bool, true, [], length, vec_capacity}
 use Rattle.std.specs.Prelude.{slice_index_or}
-use Rattle.std.specs.Prelude.{IfSome, IsSome, List, ◌∷◌, if◌then◌else◌, is_some, slice_set, false, None, Option, Some}
-use Rattle.std.specs.FinMap as map
+use Rattle.std.specs.Prelude.{IfSome, IsSome, List, if◌then◌else◌, is_some, slice_set, false}
 use Rattle.bit_array.specs.Bits.{is_in}
 use Rattle.pools.specs.Pool.{freed as freed_page}
 use Rattle.store_model.specs.Maps.{Metas}
@@ -30,6 +29,7 @@ view_of running = record {
   pages = running.pages.bits;
   clusters = running.clusters.bits;
   rows = running.rows.items;
+  filling = running.filling;
   job = option_map job_seen running.job;
   guards = running.guards;
   serial = running.serial;
@@ -77,13 +77,13 @@ forgotten running e = record (with_blobs running (blobs_behind (blobs_of running
   heads = slice_set running.heads e.head false;
 }
 
--- There are sixteen rows; the log and the marks have room for all that is left; the entries of each channel are
+-- There are seventeen rows; the log and the marks have room for all that is left; the entries of each channel are
 -- counted; no place is claimed; the metadata region lies on the device, and so do all pages of the store; the heads
 -- are set; the metadata is resolved; and each replacement of the job can be kept in memory.
 pub record InOrder {D : Type 0} (d : Ghosts D) (running : Running D) : Type 0 where
   pub inside : running.sup.md_start + running.sup.md_len ≤ d.pages running.disk
   pub device : running.sup.device_pages ≤ d.pages running.disk
-  pub sixteen : length running.rows.items ≡ 16
+  pub seventeen : length running.rows.items ≡ 17
   pub entries : length running.entries.items + left_in running.rows.items ≤ vec_capacity running.entries
   pub marks : length running.marks.items + left_in running.rows.items ≤ vec_capacity running.marks
   pub few : length running.entries.items + left_in running.rows.items < 2 ^ 31

@@ -33,6 +33,7 @@ pub record StoreView (D : Type 0) : Type 0 where
   pub pages : List Bool
   pub clusters : List Bool
   pub rows : List Row
+  pub filling : Option ℕ
   pub job : Option JobState
   pub guards : GuardsState
   pub serial : ℕ
@@ -50,14 +51,15 @@ abbrev pub view_code : {D : Type 0} → Coded D → Coded (StoreView D)
 view_code {D} d =
     code_by
     (D × (Super × (map.FinMap nat_cmp Meta × (map.FinMap nat_cmp Meta × (map.FinMap nat_cmp (List ℕ)
-    × (map.FinMap nat_cmp Xattrs × (List Bool × (List Bool × (List Row × (Option JobState × (GuardsState
-    × (ℕ × (List Entry × (List ℕ × Option ℕ))))))))))))))
+    × (map.FinMap nat_cmp Xattrs × (List Bool × (List Bool × (List Row × (Option ℕ × (Option JobState × (GuardsState
+    × (ℕ × (List Entry × (List ℕ × Option ℕ)))))))))))))))
     (coded× d (coded× super_block.the_row.coded (coded× (map.code coded_ℕ meta.the_row.coded)
     (coded× (map.code coded_ℕ meta.the_row.coded)
     (coded× (map.code coded_ℕ (coded_list coded_ℕ)) (coded× (map.code coded_ℕ (coded_list xattr.the_row.coded))
     (coded× (coded_list coded_bool) (coded× (coded_list coded_bool)
-    (coded× (coded_list row_code) (coded× (coded_option job_code) (coded× guards_code (coded× coded_ℕ
-    (coded× (coded_list entry.the_row.coded) (coded× (coded_list coded_ℕ) (coded_option coded_ℕ)))))))))))))))
+    (coded× (coded_list row_code) (coded× (coded_option coded_ℕ) (coded× (coded_option job_code) (coded× guards_code
+    (coded× coded_ℕ
+    (coded× (coded_list entry.the_row.coded) (coded× (coded_list coded_ℕ) (coded_option coded_ℕ))))))))))))))))
     (λ a. (
       a.disk,
       (
@@ -77,10 +79,13 @@ view_code {D} d =
                     (
                       a.rows,
                       (
-                        a.job,
+                        a.filling,
                         (
-                          a.guards,
-                          (a.serial, (a.log, (a.marks, a.stopped))),
+                          a.job,
+                          (
+                            a.guards,
+                            (a.serial, (a.log, (a.marks, a.stopped))),
+                          ),
                         ),
                       ),
                     ),
@@ -102,12 +107,13 @@ view_code {D} d =
       pages = p.1.1.1.1.1.1.0;
       clusters = p.1.1.1.1.1.1.1.0;
       rows = p.1.1.1.1.1.1.1.1.0;
-      job = p.1.1.1.1.1.1.1.1.1.0;
-      guards = p.1.1.1.1.1.1.1.1.1.1.0;
-      serial = p.1.1.1.1.1.1.1.1.1.1.1.0;
-      log = p.1.1.1.1.1.1.1.1.1.1.1.1.0;
-      marks = p.1.1.1.1.1.1.1.1.1.1.1.1.1.0;
-      stopped = p.1.1.1.1.1.1.1.1.1.1.1.1.1.1;
+      filling = p.1.1.1.1.1.1.1.1.1.0;
+      job = p.1.1.1.1.1.1.1.1.1.1.0;
+      guards = p.1.1.1.1.1.1.1.1.1.1.1.0;
+      serial = p.1.1.1.1.1.1.1.1.1.1.1.1.0;
+      log = p.1.1.1.1.1.1.1.1.1.1.1.1.1.0;
+      marks = p.1.1.1.1.1.1.1.1.1.1.1.1.1.1.0;
+      stopped = p.1.1.1.1.1.1.1.1.1.1.1.1.1.1.1;
     })
     (λ _. refl)
 
@@ -116,7 +122,7 @@ with_opening_code {D} d =
     code_by (StoreView D × (StoreView D × ℕ)) (coded× (view_code d) (coded× (view_code d) coded_ℕ))
     (λ b. (b.at, (b.opening, b.right))) (λ p. record { at = p.0; opening = p.1.0; right = p.1.1 }) (λ _. refl)
 
--- the rows by channels: a number past the sixteenth has ended
+-- the rows by their numbers: one past the seventeenth has ended
 abbrev pub rows_of : List Row → Rows
 rows_of rows channel = slice_index_or rows channel (record { left = []; stage = Ended; claim = None })
 
@@ -138,7 +144,7 @@ state_of d at = record {
   pages = at.pages;
   clusters = at.clusters;
   rows = rows_of at.rows;
-  filling = None;
+  filling = at.filling;
   job = at.job;
   frozen = set.contains at.guards.frozen;
   generations = map.get at.guards.generations;

@@ -6,6 +6,7 @@ ghost use Rattle.blob_meta.specs.Faults.{clusters_of};
 ghost use Rattle.std.specs.Option.{option_map};
 ghost use Rattle.volume_model.specs.Xattrs.{name_key, with_nul as with_nul_said, with_value};
 ghost use Rattle.running_store.specs.Blobs.{blobs_of, HasPlaces, HaveRooms};
+ghost use Rattle.running_store.specs.Effects as ends;
 ghost use Rattle.running_store.specs.Effects.{cut_clusters, is_cut, live_behind, numbered_by, AreEffects, IsGiven};
 ghost use Rattle.running_store.specs.Places.{CanNumber};
 
@@ -40,13 +41,14 @@ pub fn effects_of<D>(
     new: &Meta,
 ) -> Result<Effects, Memory>
     ensures are { IfOk result (AreEffects (is_some (map.get running.now.chains head)) head
-        (map.get running.now.metas head) (live_behind command.now (map.get running.now.live head) new.now) new.now []) }
+        (map.get running.now.metas head) command.now (map.get running.now.live head) new.now []) }
     ensures places { IfOk result (HasPlaces (blobs_of running.now) head new.now) }
 {
     let alloc = running.alloc;
     let makes = running.chains.get(head).is_none();
     let (cut, freed) = cut_from(alloc, running.metas.get(head), new)?;
-    let renews = renews_if(alloc, &running.guards, head, makes || cut)?;
+    let renewed = takes_parent(command) || cut;
+    let renews = renews_if(alloc, &running.guards, head, makes || renewed)?;
     let live = change_of(running, head, live_from(running, command, head, new)?)?;
     let rooms = rooms_for(running, head, new)?;
     Ok(Effects {
@@ -60,6 +62,13 @@ pub fn effects_of<D>(
         claimed: PlaceList::new(alloc),
         rooms,
     })
+}
+
+/// Whether a command ends with another parent of its blob.
+fn takes_parent(command: &Command) -> bool
+    ensures { result ≡ ends.takes_parent command.now }
+{
+    matches!(command, Command::Inflate { .. } | Command::Decouple { .. })
 }
 
 /// The head, if it gets a generation. (Want of memory too if none is left for it.)
@@ -117,7 +126,7 @@ fn live_from<D>(
         (λ live. live ≡ live_behind command.now (map.get running.now.live head) new.now) }
 {
     match command {
-        Command::Resize { .. } => Ok(None),
+        Command::Resize { .. } | Command::Inflate { .. } | Command::Decouple { .. } => Ok(None),
         Command::Rename { name, .. } => renamed(running.alloc, running.live.get(head), name),
         _ => Ok(Some(new.xattrs.try_copy(running.alloc)?)),
     }

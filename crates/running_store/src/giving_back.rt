@@ -1,23 +1,24 @@
 //! Claims that are given back.
 
-ghost use Rattle.std.specs.Prelude.{◌≡◌, ◌<◌, ◌∷◌, [], false, List, length, slice_set};
+ghost use Rattle.std.specs.Prelude.{◌≡◌, ◌<◌, [], false, None, List, length, slice_set};
 ghost use Rattle.bit_array.specs.Bits.{is_in};
-ghost use Rattle.volume_model.specs.declared.command.Command.{Command as ACommand};
-ghost use Rattle.store_model.specs.Rows.{Idle};
 ghost use Rattle.running_store.specs.Running.{view_of, InOrder};
 ghost use Rattle.running_store.specs.Stages.{stage_seen};
-ghost use Rattle.running_store.specs.GivingBack.{claim_cleared, row_given_back, IsGivenUp};
-ghost use Rattle.running_store.specs.Steps.{decided, gone_on, logged_on, OnlyRow};
+ghost use Rattle.running_store.specs.GivingBack.{row_given_back, HasGivenUp, HasWork, IsGivenUp};
+ghost use Rattle.running_store.specs.GivingBack as fill;
 ghost use Rattle.running_store.specs.StoreView.{rows_of};
 ghost use Rattle.running_store.specs.LoadedWhole.{without_first};
 
-use crate::logging::{log, log_here};
+use crate::logging::{Answer, log, log_then};
 use crate::rows::Row;
 use crate::running::Running;
 use crate::stages::Stage;
 use page_disk::PageDisk;
 use pools::ClusterPool;
 use volume_model::Reply;
+
+/// The row on which the metadata thread fills slots.
+pub const FILL_ROW: u8 = 16;
 
 /// Whether a cluster is in use.
 fn is_in_use(clusters: &ClusterPool, cluster: u32) -> bool
@@ -51,61 +52,51 @@ pub(crate) fn clear_claimed(clusters: &mut ClusterPool, rows: &[Row])
     }
 }
 
-/// Makes the cluster clear that the row of a channel has claimed, if it has one.
-fn clear_own<D: PageDisk>(running: &mut Running<D>, channel: u8)
+/// A row goes on at this stage, and its claim, if it has one, is given back.
+pub fn give_back<D: PageDisk>(running: &mut Running<D>, row: u8, next: Stage)
     requires order { InOrder D.PageDisk running.old }
-    requires channel { channel < 16 }
-    ensures cleared { view_of running.new ≡ claim_cleared (view_of running.old) channel }
+    requires row { row < 17 }
+    ensures given_back { view_of running.new ≡ row_given_back (view_of running.old) row (stage_seen next) }
     ensures order { InOrder D.PageDisk running.new }
 {
-    if let Some(claim) = running.rows[channel as usize].claim() {
+    if let Some(claim) = running.rows[row as usize].let_go(next) {
         clear_cluster(&mut running.clusters, claim.cluster);
     }
 }
 
-/// Gives back the cluster that the row of a channel has claimed, if it has one. The row goes on at this stage.
-pub fn give_back<D: PageDisk>(running: &mut Running<D>, channel: u8, next: Stage)
-    requires order { InOrder D.PageDisk running.old }
-    requires channel { channel < 16 }
-    ensures given_back { view_of running.new ≡ row_given_back (view_of running.old) channel (stage_seen next) }
-    ensures order { InOrder D.PageDisk running.new }
+/// The channel whose command a row works for, where it is the fill's row.
+fn filled_on(filling: Option<u8>, row: u8) -> Option<u8>
+    ensures { result ≡ fill.filled_on filling row }
 {
-    if let Some(claim) = running.rows[channel as usize].let_go(next) {
-        clear_cluster(&mut running.clusters, claim.cluster);
+    if row == FILL_ROW { filling } else { None }
+}
+
+/// A row waits again: where it is the fill's, it works for no command any more.
+pub fn rest(filling: &mut Option<u8>, row: u8)
+    ensures { filling.new ≡ fill.filling_left filling.old row }
+{
+    if row == FILL_ROW {
+        *filling = None;
     }
 }
 
-/// Logs a reply to the first command of a channel, in a turn of the channel's own, and gives its claim back, if it has
-/// one.
-pub fn give_up_here<D: PageDisk>(running: &mut Running<D>, channel: u8, reply: Reply)
+/// Logs a reply to the command that a row works for, its own or that which the fill's row fills slots for, whose
+/// channel is to be told. The row goes on at this stage, and its claim, if it has one, is given back.
+pub fn give_up<D: PageDisk>(running: &mut Running<D>, row: u8, reply: Reply, next: Stage)
     requires order { InOrder D.PageDisk running.old }
-    requires channel { channel < 16 }
-    requires left { 0 < length (rows_of running.old.rows.items channel).left }
-    ensures logged { (command : ACommand) (rest : List ACommand)
-        → (rows_of running.old.rows.items channel).left ≡ command ∷ rest →
-        view_of running.new
-        ≡ logged_on (row_given_back (view_of running.old) channel Idle) channel command rest reply
+    requires works { HasWork running.old.filling running.old.rows.items row }
+    ensures logged { IsGivenUp (view_of running.old) (view_of running.new) row (stage_seen next) reply
         (D.clock running.new.disk) }
-    ensures row { OnlyRow running.old.rows.items running.new.rows.items channel
-        (gone_on (rows_of running.old.rows.items channel)) }
+    ensures rows { HasGivenUp running.old.filling running.old.rows.items running.new.rows.items row
+        (stage_seen next) }
     ensures order { InOrder D.PageDisk running.new }
 {
-    give_back(running, channel, Stage::Idle);
-    log_here(running, channel, reply);
-}
-
-/// Logs a reply to the first command of a channel, in a turn of the metadata thread, and gives its claim back, if it
-/// has one.
-pub fn give_up<D: PageDisk>(running: &mut Running<D>, channel: u8, reply: Reply)
-    requires order { InOrder D.PageDisk running.old }
-    requires channel { channel < 16 }
-    requires left { 0 < length (rows_of running.old.rows.items channel).left }
-    ensures logged { IsGivenUp (view_of running.old) (view_of running.new) channel reply
-        (D.clock running.new.disk) }
-    ensures row { OnlyRow running.old.rows.items running.new.rows.items channel
-        (decided (rows_of running.old.rows.items channel)) }
-    ensures order { InOrder D.PageDisk running.new }
-{
-    clear_own(running, channel);
-    log(running, channel, reply);
+    give_back(running, row, next);
+    match filled_on(running.filling, row) {
+        None => log_then(running, row, Answer::Reply(reply), next),
+        Some(channel) => {
+            running.filling = None;
+            log(running, channel, reply);
+        }
+    }
 }

@@ -93,7 +93,12 @@ fn reply_of(answer: Answer<'_>, reserved: Option<Box<Page>>) -> Reply
 
 /// Logs the answer to the first command of a channel, which leaves its row at this stage; the clock is the entry's
 /// mark.
-fn log_then<D: PageDisk>(running: &mut Running<D>, channel: u8, answer: Answer<'_>, next: Stage)
+pub(crate) fn log_then<D: PageDisk>(
+    running: &mut Running<D>,
+    channel: u8,
+    answer: Answer<'_>,
+    next: Stage,
+)
     requires order { InOrder D.PageDisk running.old }
     requires channel { channel < 16 }
     requires left { 0 < length (rows_of running.old.rows.items channel).left }

@@ -45,6 +45,7 @@ impl<D> Running<D> {
             heads: blobs,
             guards: _,
             rows,
+            filling: _,
             job: _,
             serial: _,
             entries,

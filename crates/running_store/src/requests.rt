@@ -1,6 +1,6 @@
 //! What a message asks for.
 
-ghost use Rattle.std.specs.Prelude.{◌≡◌, ◌≢◌, [], IfErr, IfOk};
+ghost use Rattle.std.specs.Prelude.{◌≡◌, ◌≢◌, [], None, IfErr, IfOk};
 ghost use Rattle.running_store.specs.Requests.{AsksNow, HavePosted, IsAsked, IsStale};
 
 use crate::rows::Row;
@@ -9,7 +9,7 @@ use volume_model::{Command, Msg};
 /// What a message asks for.
 #[derive(Clone, Copy)]
 pub enum Request<'a> {
-    /// The insert of the cluster that the channel has claimed for its page write.
+    /// The insert of the cluster that the row has claimed.
     Insert,
     /// A command of the metadata thread's.
     Meta(&'a Command),
@@ -47,7 +47,7 @@ pub fn asked_in(rows: &[Row], msg: Msg) -> Result<Request<'_>, Stale>
 
 /// What a posted row asks for: an insert, if it holds a claim, or else its first command.
 fn asked_of(row: &Row) -> Request<'_>
-    requires { row.now.left ≢ [] }
+    requires { row.now.claim ≡ None → row.now.left ≢ [] }
     ensures { IsAsked row.now result }
 {
     if row.claim().is_some() {

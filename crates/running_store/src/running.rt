@@ -27,8 +27,10 @@ pub struct Running<D> {
     pub heads: Bits,
     /// Which blobs are frozen, and the generation of each.
     pub guards: Guards,
-    /// Sixteen rows.
+    /// Seventeen rows: those of the channels, and the fill's.
     pub rows: Vec<Row>,
+    /// The channel whose command slots are filled for, on the fill's row.
+    pub filling: Option<u8>,
     pub job: Option<RunningJob>,
     /// The number under which the next command is posted.
     pub serial: u64,

@@ -39,8 +39,8 @@ plain_served _ s = tt
 volume_served : (verb : Verb) (volume : VolumeRef) → serves Served verb ≡ true
     → IfOk (alone (command_on_volume verb volume)) AreServed
 volume_served v.Sync volume s = one_served_alone _ tt
-volume_served v.Inflate volume s = absurd (false≢true s)
-volume_served v.Decouple volume s = absurd (false≢true s)
+volume_served v.Inflate volume s = one_served_alone _ tt
+volume_served v.Decouple volume s = one_served_alone _ tt
 volume_served v.Delete volume s = one_served_alone _ tt
 volume_served v.ReadOnly volume s = one_served_alone _ tt
 volume_served v.Info volume s = one_served_alone _ tt

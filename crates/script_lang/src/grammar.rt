@@ -35,6 +35,8 @@ impl Grammar {
                     | Verb::Snapshot
                     | Verb::Clone
                     | Verb::Rename
+                    | Verb::Inflate
+                    | Verb::Decouple
                     | Verb::Delete
                     | Verb::Info
                     | Verb::List

@@ -1,11 +1,12 @@
 -- What a channel's first command is, by what its row waits for.
-use Rattle.std.proofs.Common.{◌≡◌, ℕ, zero, suc, ◌<◌, List, [], ◌∷◌, length, Option, None, refl, sym, subst, arith}
+use Rattle.std.proofs.Common.{◌≡◌, ℕ, zero, suc, ◌<◌, List, [], ◌∷◌, length, Option, Some, None, refl, sym, subst}
+use Rattle.std.proofs.Common.{arith, IsSome}
 use Rattle.page_disk.specs.declared.disk.PageDisk.{Ghosts}
 use Rattle.volume_model.specs.declared.command.Command.{Command}
 use Rattle.volume_model.specs.declared.command.Command.TheVariants as c
 use Rattle.super_block.specs.Numbers.{cluster_pages_of}
-use Rattle.store_model.specs.Rows.{Claiming, Copying, Decided, Decision, Ended, Idle, InJob, OpenClaim, Posted, Ready}
-use Rattle.store_model.specs.Rows.{Row, Stage}
+use Rattle.store_model.specs.Rows.{Claiming, Copying, Decided, Decision, Ended, fill_row, Idle, InJob, OpenClaim}
+use Rattle.store_model.specs.Rows.{Posted, Ready, Row, Stage}
 use Rattle.store_model.specs.RunInvariant.{IsShaped, MayClaim}
 use Rattle.store_model.proofs.Shaped.{no_claim}
 use Rattle.running_store.specs.declared.rows.RowStage.{RowStage}
@@ -15,8 +16,10 @@ use Rattle.channel_turns.specs.ClaimTurns.{HoldsClaim, WaitsToCopy}
 use Rattle.running_store.specs.StoreInvariant.{StoreInvariant}
 use Rattle.running_store.specs.StoreView.{StoreView, WithOpening, rows_of, state_of}
 use Rattle.running_store.specs.Stages.{is_stage, waits_for}
-use Rattle.running_store.proofs.Rowing.{low_of}
-use Rattle.store_core.proofs.Staged.{HasClaimed, IsStagedAt, IsToCopy, staged}
+use Rattle.running_store.proofs.Rowing.{channel_low, low_of}
+use Rattle.store_core.proofs.FillKept.{fill_left}
+use Rattle.store_core.proofs.OwnKept.{rows_work}
+use Rattle.store_core.proofs.Staged.{IsStagedAt, IsToCopy, staged}
 
 -- what a row waits for whose first command is a channel's own
 abbrev IsOwn : RowStage → Type 0
@@ -85,8 +88,8 @@ module _ {D : Type 0} (d : Ghosts D) (p : StoreView D) (shaped : IsShaped (state
         let none : row.claim ≡ None = no_claim (state_of d p) shaped channel (λ may. subst MayClaim x.idle may) in
         λ i. record { left = x.first i; stage = x.idle i; claim = none i }
 
-    low : length p.rows ≡ 16 → channel < 16
-    low sixteen = low_of p.rows channel Idle sixteen x.idle (λ e. cc e)
+    low : length p.rows ≡ 17 → (rows_of p.rows fill_row).left ≡ [] → channel < 16
+    low seventeen none = channel_low p.rows channel x.command x.rest seventeen none x.first
 
   pub waits_flush : is_stage row channel ≡ waits.Flush → WaitsToFlush p channel
   waits_flush is =
@@ -100,8 +103,9 @@ module _ {D : Type 0} (d : Ghosts D) (p : StoreView D) (shaped : IsShaped (state
       by (c.Write volume page word) rest for r = cc for
       by _ rest for r = cc for
 
-  pub low_flush : length p.rows ≡ 16 → is_stage row channel ≡ waits.Flush → channel < 16
-  low_flush sixteen is = low waits.Flush tt is sixteen
+  pub low_flush : length p.rows ≡ 17 → (rows_of p.rows fill_row).left ≡ [] → is_stage row channel ≡ waits.Flush
+      → channel < 16
+  low_flush seventeen none is = low waits.Flush tt is seventeen none
 
   pub waits_write : is_stage row channel ≡ waits.Write → WaitsToWrite p channel Idle
   waits_write is =
@@ -116,8 +120,9 @@ module _ {D : Type 0} (d : Ghosts D) (p : StoreView D) (shaped : IsShaped (state
       by c.Flush rest for r = cc for
       by _ rest for r = cc for
 
-  pub low_write : length p.rows ≡ 16 → is_stage row channel ≡ waits.Write → channel < 16
-  low_write sixteen is = low waits.Write tt is sixteen
+  pub low_write : length p.rows ≡ 17 → (rows_of p.rows fill_row).left ≡ [] → is_stage row channel ≡ waits.Write
+      → channel < 16
+  low_write seventeen none is = low waits.Write tt is seventeen none
 
   pub waits_read : is_stage row channel ≡ waits.Read → WaitsToRead p channel
   waits_read is =
@@ -131,8 +136,9 @@ module _ {D : Type 0} (d : Ghosts D) (p : StoreView D) (shaped : IsShaped (state
       by c.Flush rest for r = cc for
       by _ rest for r = cc for
 
-  pub low_read : length p.rows ≡ 16 → is_stage row channel ≡ waits.Read → channel < 16
-  low_read sixteen is = low waits.Read tt is sixteen
+  pub low_read : length p.rows ≡ 17 → (rows_of p.rows fill_row).left ≡ [] → is_stage row channel ≡ waits.Read
+      → channel < 16
+  low_read seventeen none is = low waits.Read tt is seventeen none
 
 -- a store that turns led to
 module _ {D : Type 0} (d : Ghosts D) (p : WithOpening D) (kept : StoreInvariant d p) (channel : ℕ) where
@@ -142,8 +148,8 @@ module _ {D : Type 0} (d : Ghosts D) (p : WithOpening D) (kept : StoreInvariant 
   at_stage : (for : RowStage) → is_stage r channel ≡ for → IsAtStep for r.stage
   at_stage for is = subst (λ w. IsAtStep w r.stage) is (at_step r.left r.stage r.claim channel)
 
-  low_at : (stage : Stage) → r.stage ≡ stage → (Ended ≡ stage → ⊥) → length p.at.rows ≡ 16 → channel < 16
-  low_at stage is other sixteen = low_of p.at.rows channel stage sixteen is other
+  low_at : (stage : Stage) → r.stage ≡ stage → (Ended ≡ stage → ⊥) → length p.at.rows ≡ 17 → channel < 17
+  low_at stage is other seventeen = low_of p.at.rows channel stage seventeen is other
 
   has : (stage : Stage) → r.stage ≡ stage
       → IsStagedAt (cluster_pages_of p.at.super) r.left r.claim stage
@@ -164,40 +170,47 @@ module _ {D : Type 0} (d : Ghosts D) (p : WithOpening D) (kept : StoreInvariant 
         row = λ i. record { left = x.is i; stage = at i; claim = none i };
       }
 
-  pub low_claim : length p.at.rows ≡ 16 → is_stage r channel ≡ waits.Claim → channel < 16
-  low_claim sixteen is = low_at Claiming (at_stage waits.Claim is) (λ e. cc e) sixteen
+  pub low_claim : length p.at.rows ≡ 17 → is_stage r channel ≡ waits.Claim → channel < 16
+  low_claim seventeen is =
+      let x = has Claiming (at_stage waits.Claim is) in
+      channel_low p.at.rows channel (c.Write x.volume x.page x.word) x.rest seventeen (fill_left d p kept) x.is
 
-  holds : (stage : Stage) → r.stage ≡ stage → HasClaimed r.left r.claim → HoldsClaim p.at channel stage
-  holds stage at x = record {
-    volume = x.write.volume;
-    page = x.write.page;
-    word = x.write.word;
-    rest = x.write.rest;
-    claim = x.held;
-    row = λ i. record { left = x.write.is i; stage = at i; claim = x.is i };
-  }
+  some_of : (o : Option OpenClaim) → IsSome o → (claim : OpenClaim) × (o ≡ Some claim)
+  some_of None is = absurd (cc is)
+  some_of (Some claim) is = (claim, refl)
 
-  pub waits_copy : (left : ℕ) → is_stage r channel ≡ waits.Copy left → WaitsToCopy p.at channel
+  -- its claim, at this stage
+  pub holds : (stage : Stage) → r.stage ≡ stage → IsSome r.claim → HoldsClaim d p.at channel stage
+  holds stage at claimed =
+      let claim = some_of r.claim claimed in
+      record {
+        left = r.left;
+        claim = claim.0;
+        is = λ i. record { left = r.left; stage = at i; claim = claim.1 i };
+        works = (rows_work d p kept).claims channel claim.0 claim.1;
+      }
+
+  pub waits_copy : (left : ℕ) → is_stage r channel ≡ waits.Copy left → WaitsToCopy d p.at channel
   waits_copy left is = by left (at_stage (waits.Copy left) is) (has (Copying left) (at_stage (waits.Copy left) is))
     where
-      by : (n : ℕ) → r.stage ≡ Copying n → IsToCopy r.left r.claim n (cluster_pages_of p.at.super)
-          → WaitsToCopy p.at channel
+      by : (n : ℕ) → r.stage ≡ Copying n → IsToCopy r.claim n (cluster_pages_of p.at.super)
+          → WaitsToCopy d p.at channel
       by zero at x = absurd (let some = x.some in omega (arith, some))
       by (suc n) at x = record { left = n; holds = holds (Copying (suc n)) at x.claimed; few = x.few }
 
-  pub low_copy : (left : ℕ) → length p.at.rows ≡ 16 → is_stage r channel ≡ waits.Copy left → channel < 16
-  low_copy left sixteen is = low_at (Copying left) (at_stage (waits.Copy left) is) (λ e. cc e) sixteen
+  pub low_copy : (left : ℕ) → length p.at.rows ≡ 17 → is_stage r channel ≡ waits.Copy left → channel < 17
+  low_copy left seventeen is = low_at (Copying left) (at_stage (waits.Copy left) is) (λ e. cc e) seventeen
 
-  pub holds_ready : is_stage r channel ≡ waits.Ready → HoldsClaim p.at channel Ready
+  pub holds_ready : is_stage r channel ≡ waits.Ready → HoldsClaim d p.at channel Ready
   holds_ready is = let at = at_stage waits.Ready is in holds Ready at (has Ready at)
 
-  pub low_ready : length p.at.rows ≡ 16 → is_stage r channel ≡ waits.Ready → channel < 16
-  low_ready sixteen is = low_at Ready (at_stage waits.Ready is) (λ e. cc e) sixteen
+  pub low_ready : length p.at.rows ≡ 17 → is_stage r channel ≡ waits.Ready → channel < 17
+  low_ready seventeen is = low_at Ready (at_stage waits.Ready is) (λ e. cc e) seventeen
 
   -- what is decided of it
-  pub decided_so : (outcome : Decision) → r.stage ≡ Decided outcome → length p.at.rows ≡ 16
-      → (channel < 16) × (r.claim ≡ None)
-  decided_so outcome is sixteen = (
-    low_at (Decided outcome) is (λ e. cc e) sixteen,
+  pub decided_so : (outcome : Decision) → r.stage ≡ Decided outcome → length p.at.rows ≡ 17
+      → (channel < 17) × (r.claim ≡ None)
+  decided_so outcome is seventeen = (
+    low_at (Decided outcome) is (λ e. cc e) seventeen,
     no_claim (state_of d p.at) kept.facts.shaped channel (λ may. subst MayClaim is may),
   )

@@ -89,6 +89,7 @@ module _ {D : Type 0} (loaded : Loaded D) (from : IsLoadedFrom (base_of loaded.m
       log = refl;
       marks = refl;
       filling = refl;
+      fill = are.fill;
       job = refl;
       frozen = guarded.none_frozen;
       stopped = refl;

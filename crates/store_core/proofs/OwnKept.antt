@@ -1,5 +1,7 @@
--- In each state of a run a claim is held for the channel's own write.
-use Rattle.std.proofs.Common.{◌≡◌, ◌⊎◌, ℕ, Bool, List, [], ◌∷◌, Some, None, refl, sym, ◌∙◌, ap, subst, inl, inr}
+-- In each state of a run a claim is held for the command that its row works for.
+use Rattle.std.proofs.Common.{◌≡◌, ◌≢◌, ◌⊎◌, ℕ, Bool, List, [], ◌∷◌, Option, Some, None, refl, sym, ◌∙◌, ap, subst}
+use Rattle.std.proofs.Common.{inl, inr}
+use Rattle.std.proofs.lemmas.Bool.{cases_eq}
 use Rattle.page_disk.specs.declared.disk.PageDisk.{Ghosts}
 use Rattle.volume_model.specs.declared.command.Command.{Command}
 use Rattle.store_model.specs.Cases.{Kind, Run, Turn}
@@ -7,17 +9,24 @@ use Rattle.store_model.specs.Cases as kind
 use Rattle.store_model.specs.Cases.BreakDown.{IsUnlogged, WasLogged}
 use Rattle.store_model.specs.Cases.CopyFail as tried
 use Rattle.store_model.specs.Cases.CopyFail.{TriedCopy}
-use Rattle.store_model.specs.Cases.Halt.{MayLog}
-use Rattle.store_model.specs.Claiming.{stage_behind}
+use Rattle.store_model.specs.Cases.Halt.{MayLog, stage_after}
+use Rattle.store_model.specs.Claiming.{given_back, stage_behind, Works}
+use Rattle.store_model.specs.Claiming as of
+use Rattle.store_model.specs.Filling.{FillStands, StandsAt}
 use Rattle.store_model.specs.Phases.{Phase}
-use Rattle.store_model.specs.Rows.{InJob, OpenClaim, Row, Stage, with_row}
+use Rattle.store_model.specs.Rows.{Answered, Claiming, Copying, Decided, Ended, fill_row, Idle, InJob, OpenClaim}
+use Rattle.store_model.specs.Rows.{Posted, Ready, Row, Stage, with_row}
+use Rattle.store_model.specs.RunInvariant.{IsShaped, MayClaim}
 use Rattle.store_model.specs.StoreState.{ForCommand, ForInsert, ForRepair, going_on, JobState, Opens, StoreState}
+use Rattle.store_model.specs.Turning.{stopped_now}
 use Rattle.store_model.proofs.RowsKept.{row_here}
-use Rattle.metadata_turns.specs.OwnWrites.{AreOwn, BeginsWithWrite, WaitsToInsert}
+use Rattle.metadata_turns.specs.RowsWork.{RowsWork}
 use Rattle.running_store.specs.StoreInvariant.{StoreInvariant}
 use Rattle.running_store.specs.StoreView.{WithOpening, state_of}
-use Rattle.store_core.proofs.OwnSteps.{HaveOwn, logged_rows, no_insert, no_job, same_behind, same_one, step, step_idle}
-use Rattle.store_core.proofs.OwnSteps.{step_job, step_none, unclaimed, with_one}
+use Rattle.store_core.proofs.FillKept.{fill_kept}
+use Rattle.store_core.proofs.OwnSteps.{AreOwn, HaveOwn, log_filled, log_work, no_insert, no_job, same_behind, same_one}
+use Rattle.store_core.proofs.OwnSteps.{step, step_idle, step_job, step_none, unclaimed, WaitsHere, with_one}
+use Rattle.store_core.proofs.Staged.{HasWrite}
 
 -- ---- rows as turns find them
 
@@ -28,12 +37,34 @@ not_copying p claim stage (tried.flush at) is = let bad = sym at ∙ is in cc ba
 
 -- a row that goes on with its claim has its write still
 still_own : (p : StoreState) (own : AreOwn p) (row : ℕ) (left : List Command) (stage : Stage) (claim : OpenClaim)
-    → p.rows row ≡ record { left = left; stage = stage; claim = Some claim } → BeginsWithWrite left
-still_own p own row left stage claim is =
-    subst BeginsWithWrite (ap (λ (r : Row). r.left) is) (own.claims row claim (ap (λ (r : Row). r.claim) is))
+    → p.rows row ≡ record { left = left; stage = stage; claim = Some claim } → row ≢ fill_row → HasWrite left
+still_own p own row left stage claim is ne =
+    subst HasWrite (ap (λ (r : Row). r.left) is) (own.claims row ne claim (ap (λ (r : Row). r.claim) is))
 
 not_here : (row other : Row) → row ≡ other → (other.stage ≡ InJob → ⊥) → row.stage ≡ InJob → ⊥
 not_here row other is out at = out (sym (ap (λ (r : Row). r.stage) is) ∙ at)
+
+-- behind an entry no row waits for the job
+after_log : (stage : Stage) → stage_after stage ≡ InJob → ⊥
+after_log (Posted serial) is = cc is
+after_log Idle is = cc is
+after_log Claiming is = cc is
+after_log (Copying left) is = cc is
+after_log Ready is = cc is
+after_log InJob is = cc is
+after_log (Decided outcome) is = cc is
+after_log Ended is = cc is
+
+-- a claim is given back
+gives_back : (p : StoreState) → AreOwn p → (row : ℕ) (stage : Stage) (was : Row) → p.rows row ≡ was
+    → (was.stage ≡ InJob → ⊥) → AreOwn (given_back p row stage)
+gives_back p own row stage was is out =
+    step_none p own row was is out (p.rows row).left stage (given_back p row stage) refl refl
+
+-- the store may stop besides
+still_stopped : (p : StoreState) (row : ℕ) (stage : Stage) → AreOwn (given_back p row stage)
+    → AreOwn (given_back (stopped_now p) row stage)
+still_stopped p row stage own = record { claims = own.claims; inserts = own.inserts }
 
 -- ---- each kind of turn
 
@@ -125,7 +156,7 @@ own_after told p q kind.finds_filled own t = step_none p own t.write.channel _ t
     (ap (λ (s : StoreState). s.rows) t.next) (ap (λ (s : StoreState). s.job) t.next)
 own_after told p q kind.claims own t = step p own t.write.channel _
     (not_here _ _ t.write.row (λ e. cc e))
-    (λ claim is. record {
+    (λ ne claim is. record {
       volume = t.write.volume;
       page = t.write.page;
       word = t.write.word;
@@ -136,32 +167,32 @@ own_after told p q kind.refuses_claim own t = step_none p own t.write.channel _ 
     (ap (λ (s : StoreState). s.rows) t.next) (ap (λ (s : StoreState). s.job) t.next)
 own_after told p q kind.copies own t = step p own t.copying.row _
     (not_here _ _ t.copying.is (λ e. cc e))
-    (λ claim is. still_own p own t.copying.row t.copying.left _ t.copying.claim t.copying.is)
+    (λ ne claim is. still_own p own t.copying.row t.copying.left _ t.copying.claim t.copying.is ne)
     q (ap (λ (s : StoreState). s.rows) t.next) (ap (λ (s : StoreState). s.job) t.next)
 own_after told p q kind.loses_copy own t = step_none p own t.copying.row _ t.copying.is (λ e. cc e) _ _ q
     (ap (λ (s : StoreState). s.rows) t.next) (ap (λ (s : StoreState). s.job) t.next)
-own_after told p q kind.copy_not_read own t = step_none p own t.copying.row _ t.copying.is (λ e. cc e) _ _ q
-    (logged_rows p own t.copying.row _ _ _ p q refl t.logs) (ap (λ (s : StoreState). s.job) t.logs.next)
-own_after told p q kind.copy_fails own t = step_none p own t.copying.row _ t.copying.is
-    (not_copying p t.copying.claim t.stage t.tried) _ _ q
-    (logged_rows p own t.copying.row _ _ _ _ q refl t.logs) (ap (λ (s : StoreState). s.job) t.logs.next)
+own_after told p q kind.copy_not_read own t = log_work p q t.copying.row Idle (λ e. cc e)
+    (gives_back p own t.copying.row Idle _ t.copying.is (λ e. cc e)) _ _ t.logs
+own_after told p q kind.copy_fails own t = log_work (stopped_now p) q t.copying.row Idle (λ e. cc e)
+    (still_stopped p t.copying.row Idle (gives_back p own t.copying.row Idle _ t.copying.is
+    (not_copying p t.copying.claim t.stage t.tried))) _ _ t.logs
 own_after told p q kind.sends own t = step p own t.copying.row _
     (not_here _ _ t.copying.is (λ e. cc e))
-    (λ claim is. still_own p own t.copying.row t.copying.left _ t.copying.claim t.copying.is)
+    (λ ne claim is. still_own p own t.copying.row t.copying.left _ t.copying.claim t.copying.is ne)
     q (ap (λ (s : StoreState). s.rows) t.next) (ap (λ (s : StoreState). s.job) t.next)
 own_after told p q kind.loses_insert own t = step_none p own t.posted.row _ t.posted.is (λ e. cc e) _ _ q
     (ap (λ (s : StoreState). s.rows) t.next) (ap (λ (s : StoreState). s.job) t.next)
-own_after told p q kind.lacks_for_insert own t = step_none p own t.posted.row _ t.posted.is (λ e. cc e) _ _ q
-    (logged_rows p own t.posted.row _ _ _ p q refl t.logs) (ap (λ (s : StoreState). s.job) t.logs.next)
-own_after told p q kind.lacks_memory_for_insert own t = step_none p own t.posted.row _ t.posted.is (λ e. cc e) _ _ q
-    (logged_rows p own t.posted.row _ _ _ p q refl t.logs) (ap (λ (s : StoreState). s.job) t.logs.next)
+own_after told p q kind.lacks_for_insert own t = log_work p q t.posted.row (Decided Answered) (λ e. cc e)
+    (gives_back p own t.posted.row (Decided Answered) _ t.posted.is (λ e. cc e)) _ _ t.logs
+own_after told p q kind.lacks_memory_for_insert own t = log_work p q t.posted.row (Decided Answered) (λ e. cc e)
+    (gives_back p own t.posted.row (Decided Answered) _ t.posted.is (λ e. cc e)) _ _ t.logs
 own_after told p q kind.begins_insert own t = subst AreOwn (sym t.next) (record {
-  claims = with_one p.rows own.claims row given (λ claim is. writes);
+  claims = with_one p.rows own.claims row given (λ ne claim is. writes ne);
   inserts = λ j other is serves.
       let mine : ForInsert row ≡ j.serves = sym (same_one begun _ refl _ refl j is) in
       let e : row ≡ other = let both = mine ∙ serves in cc both in
-      subst (λ n. WaitsToInsert (with_row p.rows row given n)) e
-      (subst WaitsToInsert (sym (row_here p.rows row given row refl)) (record { stage = refl; writes = writes }));
+      subst (λ n. WaitsHere n (with_row p.rows row given n)) e
+      (subst (WaitsHere row) (sym (row_here p.rows row given row refl)) (record { stage = refl; writes = writes }));
 })
   where
     row : ℕ
@@ -170,14 +201,14 @@ own_after told p q kind.begins_insert own t = subst AreOwn (sym t.next) (record 
     given : Row
     given = record { left = t.posted.left; stage = InJob; claim = Some t.posted.claim }
 
-    writes : BeginsWithWrite t.posted.left
+    writes : row ≢ fill_row → HasWrite t.posted.left
     writes = still_own p own row t.posted.left _ t.posted.claim t.posted.is
 
     begun : JobState
     begun = record { serves = ForInsert row; freeze = None; claimed = []; written = []; todo = [] }
 own_after told p q kind.inserts own t = subst AreOwn (sym t.next) (record {
   claims = with_one p.rows own.claims row (given (stage_behind t.running.rest))
-      (unclaimed (p.rows row).left (stage_behind t.running.rest));
+      (unclaimed row (p.rows row).left (stage_behind t.running.rest));
   inserts = λ j other is serves. by t.running.rest j other is serves;
 })
   where
@@ -187,26 +218,43 @@ own_after told p q kind.inserts own t = subst AreOwn (sym t.next) (record {
     given : Stage → Row
     given stage = record { left = (p.rows row).left; stage = stage; claim = None }
 
-    waits : WaitsToInsert (p.rows row)
+    waits : WaitsHere row (p.rows row)
     waits = own.inserts t.running.job row t.running.is t.inserting.serves
 
     by : (rest : List Phase) (j : JobState) (other : ℕ) → going_on t.running.job [] rest ≡ Some j
-        → j.serves ≡ ForInsert other → WaitsToInsert (with_row p.rows row (given (stage_behind rest)) other)
+        → j.serves ≡ ForInsert other → WaitsHere other (with_row p.rows row (given (stage_behind rest)) other)
     by [] j other is serves = absurd (cc is)
     by (x ∷ xs) j other is serves =
         let e : row ≡ other =
         let both = sym t.inserting.serves ∙ sym (same_behind t.running.job (x ∷ xs) _ refl j is) ∙ serves in cc both in
-        subst (λ n. WaitsToInsert (with_row p.rows row (given InJob) n)) e
-        (subst WaitsToInsert (sym (row_here p.rows row (given InJob) row refl))
+        subst (λ n. WaitsHere n (with_row p.rows row (given InJob) n)) e
+        (subst (WaitsHere row) (sym (row_here p.rows row (given InJob) row refl))
         (record { stage = refl; writes = waits.writes }))
 own_after told p q kind.insert_ends own t = step_idle p own t.inserting.row _ _ q
     (ap (λ (s : StoreState). s.rows) t.next) (no_job q.job (ap (λ (s : StoreState). s.job) t.next))
-own_after told p q kind.insert_fails own t = step_idle p own t.inserting.row _ _ q
-    (logged_rows p own t.inserting.row _ _ _ _ q refl t.logs)
-    (no_job q.job (ap (λ (s : StoreState). s.job) t.logs.next))
-own_after told p q kind.insert_breaks_down own t = step_idle p own t.inserting.row _ _ q
-    (logged_rows p own t.inserting.row _ _ _ _ q refl t.logs)
-    (no_job q.job (ap (λ (s : StoreState). s.job) t.logs.next))
+own_after told p q kind.insert_fails own t =
+    let mid : StoreState = record (stopped_now p) { job = None } in
+    log_work mid q t.inserting.row (Decided Answered) (λ e. cc e)
+    (step_idle p own t.inserting.row _ _ (given_back mid t.inserting.row (Decided Answered)) refl
+    (λ j row bad insert. cc bad)) _ _ t.logs
+own_after told p q kind.insert_breaks_down own t =
+    let mid : StoreState = record p { job = None } in
+    log_work mid q t.inserting.row (Decided Answered) (λ e. cc e)
+    (step_idle p own t.inserting.row _ _ (given_back mid t.inserting.row (Decided Answered)) refl
+    (λ j row bad insert. cc bad)) _ _ t.logs
+own_after told p q kind.claims_fill own t = step p own fill_row _
+    (not_here _ _ t.fill.unused (λ e. cc e)) (λ ne claim is. absurd (ne refl)) q
+    (ap (λ (s : StoreState). s.rows) t.next) (ap (λ (s : StoreState). s.job) t.next)
+own_after told p q kind.lacks_for_fill own t =
+    step_none p own t.fill.posted.channel _ t.fill.posted.row (λ e. cc e) _ _ q
+    (ap (λ (s : StoreState). s.rows) t.next) (ap (λ (s : StoreState). s.job) t.next)
+own_after told p q kind.halts_fill own t =
+    let stage = stage_after (p.rows fill_row).stage in
+    log_filled p q fill_row stage (after_log (p.rows fill_row).stage)
+    (gives_back p own fill_row stage (p.rows fill_row) refl (λ e. subst MayLog e t.may)) t.posted
+    (ap (λ (s : StoreState). s.rows) t.next) (ap (λ (s : StoreState). s.job) t.next)
+own_after told p q kind.ends_fill own t = step_idle p own fill_row _ _ q (ap (λ (s : StoreState). s.rows) t.next)
+    (no_job q.job (ap (λ (s : StoreState). s.job) t.next ∙ t.no_job))
 
 -- ---- runs
 
@@ -217,11 +265,45 @@ own_over told (k ∷ kinds) p q own run = own_over told kinds run.0 q (own_after
 -- as a run opens no claim is held
 opened : (p : StoreState) → Opens p → AreOwn p
 opened p opens = record {
-  claims = λ row claim is. absurd (let bad = sym (opens.unclaimed row) ∙ is in cc bad);
+  claims = λ row ne claim is. absurd (let bad = sym (opens.unclaimed row) ∙ is in cc bad);
   inserts = λ j row is serves. absurd (let bad = sym opens.job ∙ is in cc bad);
 }
 
-pub own_kept : {D : Type 0} (d : Ghosts D) (p : WithOpening D) → StoreInvariant d p → AreOwn (state_of d p.at)
-own_kept d p kept =
-    own_over d.tells kept.run.0 (state_of d p.opening) (state_of d p.at) (opened (state_of d p.opening) kept.began)
-    kept.run.1
+-- ---- for whom rows work
+
+-- where the fill's row may hold a claim it works for a channel
+works_for : (filling : Option ℕ) (stage : Stage) → StandsAt filling stage → MayClaim stage
+    → (channel : ℕ) × (filling ≡ Some channel)
+works_for (Some channel) stage at may = (channel, refl)
+works_for None (Copying left) at may = absurd at
+works_for None Ready at may = absurd at
+works_for None (Posted serial) at may = absurd at
+works_for None InJob at may = absurd at
+works_for None _ at may = absurd may
+
+module _ (p : StoreState) (fill : FillStands p) (own : AreOwn p) where
+  works_at : (row : ℕ) → MayClaim (p.rows row).stage → (row ≢ fill_row → HasWrite (p.rows row).left) → Works p row
+  works_at row may writes = elim (cases_eq row fill_row) [
+    | inl e ↦
+        let x = works_for p.filling (p.rows fill_row).stage fill.stage
+        (subst (λ n. MayClaim (p.rows n).stage) e may) in
+        of.fill x.0 e x.1
+    | inr ne ↦ let w = writes ne in of.own w.volume w.page w.word w.rest w.is
+  ]
+
+  all_work : IsShaped p → RowsWork p
+  all_work shaped = record {
+    claims = λ row claim is. works_at row (shaped.claims row claim is) (λ ne. own.claims row ne claim is);
+    inserts = λ job row is serves.
+        let waits = own.inserts job row is serves in
+        record {
+          stage = waits.stage;
+          works = works_at row (subst MayClaim (sym waits.stage) tt) waits.writes;
+        };
+    fill = fill;
+  }
+
+pub rows_work : {D : Type 0} (d : Ghosts D) (p : WithOpening D) → StoreInvariant d p → RowsWork (state_of d p.at)
+rows_work d p kept = all_work (state_of d p.at) (fill_kept d p kept)
+    (own_over d.tells kept.run.0 (state_of d p.opening) (state_of d p.at) (opened (state_of d p.opening) kept.began)
+    kept.run.1) kept.facts.shaped

@@ -30,6 +30,7 @@ use Rattle.store_model.proofs.Synced.{edited_here}
 use Rattle.store_core.specs.Planning.{PlanLaws}
 use Rattle.running_store.specs.StoreView.{state_of}
 use Rattle.store_core.proofs.DeleteAsked.{asks_delete}
+use Rattle.store_core.proofs.FillAsked.{asks_fill, asks_last}
 use Rattle.store_core.proofs.NextHead.{asks_clone, asks_create, asks_snapshot, next_there}
 use Rattle.running_store.proofs.Showing.{shows_metas}
 use Rattle.running_store.proofs.Resolved.{unmarked_base}
@@ -240,4 +241,10 @@ plan_laws d = record {
       asks_delete running.store running.placed running.first running.script (state_of d p) running.facts p.metas
       (shows_metas (state_of d p) running runs p.metas are.resolves) (unmarked_base p.metas p.marked are clean) volume
       of job meant unrefused is;
+  fill = λ p kind volume head slot running runs are meant unrefused least.
+      asks_fill (state_of d p) p.metas (shows_metas (state_of d p) running runs p.metas are.resolves) kind volume head
+      meant unrefused are.resolves slot least;
+  last = λ p kind volume head job running runs are clean meant unrefused filled is.
+      asks_last (state_of d p) p.metas (shows_metas (state_of d p) running runs p.metas are.resolves) kind volume head
+      meant unrefused (unmarked_base p.metas p.marked are clean) job filled is;
 }

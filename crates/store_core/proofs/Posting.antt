@@ -6,7 +6,7 @@ use Rattle.page_disk.specs.declared.disk.PageDisk.{Ghosts}
 use Rattle.volume_model.specs.declared.command.Command.{Command}
 use Rattle.volume_model.specs.declared.command.Command.TheVariants as c
 use Rattle.volume_model.specs.declared.reply.Msg.{Msg}
-use Rattle.store_model.specs.Rows.{Claiming, Copying, Decided, Ended, Idle, InJob, IsForMetadata, OpenClaim}
+use Rattle.store_model.specs.Rows.{Claiming, Copying, Decided, Ended, fill_row, Idle, InJob, IsForMetadata, OpenClaim}
 use Rattle.store_model.specs.Rows.{Posted, Ready, Row, Stage}
 use Rattle.store_model.specs.Cases as kind
 use Rattle.running_store.specs.declared.rows.RowStage.TheVariants.{Meta, Over}
@@ -24,7 +24,8 @@ use Rattle.running_store.specs.Stages.{is_stage, waits_for}
 use Rattle.running_store.specs.Steps.{IsPostedAt, WaitsForMetadata}
 use Rattle.store_model.specs.RunInvariant.{IsShaped, MayClaim}
 use Rattle.store_model.proofs.Shaped.{no_claim}
-use Rattle.running_store.proofs.Rowing.{low_of}
+use Rattle.running_store.proofs.Rowing.{channel_low}
+use Rattle.store_core.proofs.FillKept.{fill_left}
 
 -- the first command of a row is for the metadata thread
 pub record HasMeta (left : List Command) (stage : Stage) : Type 0 where
@@ -101,18 +102,15 @@ module _ {D : Type 0} (d : Ghosts D) (p : StoreView D) (shaped : IsShaped (state
       let none = idle_unclaimed x.1 in
       λ i. record { left = x.0 i; stage = x.1 i; claim = none i }
 
-  pub low_meta : length p.rows ≡ 16 → is_stage (rows_of p.rows channel) channel ≡ Meta → channel < 16
-  low_meta sixteen is = low_of p.rows channel Idle sixteen (ap (λ (r : Row). r.stage) (waits_meta is).row) (λ e. cc e)
+  pub low_meta : length p.rows ≡ 17 → (rows_of p.rows fill_row).left ≡ []
+      → is_stage (rows_of p.rows channel) channel ≡ Meta → channel < 16
+  low_meta seventeen none is =
+      let x = waits_meta is in
+      channel_low p.rows channel x.command x.rest seventeen none (ap (λ (r : Row). r.left) x.row)
 
-  pub low_over : length p.rows ≡ 16 → is_stage (rows_of p.rows channel) channel ≡ Over → channel < 16
-  low_over sixteen is = low_of p.rows channel Idle sixteen (ap (λ (r : Row). r.stage) (over_row is)) (λ e. cc e)
-
--- each row that is posted has a command
-pub have_posted : {D : Type 0} (d : Ghosts D) (p : WithOpening D) → StoreInvariant d p → length p.at.rows ≡ 16
-    → HavePosted p.at.rows
-have_posted d p kept sixteen channel serial is =
-    kept.facts.shaped.posted channel serial is (inr (λ e.
-    let low = low_of p.at.rows channel (Posted serial) sixteen is (λ bad. cc bad) in omega (arith, low, e)))
+-- each row that is posted without a claim has a command
+pub have_posted : {D : Type 0} (d : Ghosts D) (p : WithOpening D) → StoreInvariant d p → HavePosted p.at.rows
+have_posted d p kept channel serial is none = kept.facts.shaped.posted channel serial is (inl none)
 
 -- a command that is posted, by what is kept
 pub posted_at : {D : Type 0} (d : Ghosts D) (p : WithOpening D) (msg : Msg) → StoreInvariant d p
@@ -129,6 +127,14 @@ posted_at d p msg kept is = by (rows_of p.at.rows msg.channel).left refl
         row = λ i. record { left = some i; stage = is.stage i; claim = is.unclaimed i };
       };
     }
+
+-- its channel is one of the sixteen
+pub posted_low : {D : Type 0} (d : Ghosts D) (p : WithOpening D) (msg : Msg) → StoreInvariant d p
+    → length p.at.rows ≡ 17 → IsPostedBy p.at.rows msg → msg.channel < 16
+posted_low d p msg kept seventeen is =
+    let x = posted_at d p msg kept is in
+    channel_low p.at.rows msg.channel x.waits.command x.waits.rest seventeen (fill_left d p kept)
+    (ap (λ (r : Row). r.left) x.waits.row)
 
 pub kept_running : {D : Type 0} (d : Ghosts D) (p : WithOpening D) → StoreInvariant d p → IsRunning (state_of d p.at)
 kept_running d p kept =

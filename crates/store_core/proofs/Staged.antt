@@ -1,6 +1,7 @@
--- What a row has at the stages of a write whose slot is empty, in each state that turns lead to.
+-- What a row has at the stages of a claim, in each state that turns lead to.
 use Rattle.std.proofs.Common.{None, Some, ◌≡◌, ℕ, zero, suc, ◌/◌, ◌<◌, ◌≤◌, Bool, List, [], ◌∷◌, Option, refl, sym}
 use Rattle.std.proofs.Common.{◌∙◌, ap, subst, arith, inl, inr}
+use Rattle.std.specs.Prelude.{IsSome}
 use Rattle.std.proofs.lemmas.Bool.{cases_eq}
 use Rattle.page_disk.specs.declared.disk.PageDisk.{Ghosts}
 use Rattle.super_block.specs.Numbers.{cluster_pages_of}
@@ -15,11 +16,11 @@ use Rattle.store_model.specs.Cases.{Kind, Run, Turn}
 use Rattle.store_model.specs.Cases.BreakDown.{BreaksDown}
 use Rattle.store_model.specs.Cases.Copy.{stage_left}
 use Rattle.store_model.specs.Cases.Halt.{stage_after}
-use Rattle.store_model.specs.Claiming.{given_back, LogsOwn, stage_behind}
+use Rattle.store_model.specs.Claiming.{given_back, logs_filled, logs_own, LogsWork, stage_behind}
 use Rattle.store_model.specs.Device.{Device}
 use Rattle.store_model.specs.Phases.{Phase}
-use Rattle.store_model.specs.Rows.{Answered, Claiming, Copying, Decided, Decision, Ended, Idle, InJob, Lost, OpenClaim}
-use Rattle.store_model.specs.Rows.{Posted, Ready, Row, Rows, Stage, with_row, Won}
+use Rattle.store_model.specs.Rows.{Answered, Claiming, Copying, Decided, Decision, Ended, fill_row, Idle, InJob, Lost}
+use Rattle.store_model.specs.Rows.{OpenClaim, Posted, Ready, Row, Rows, Stage, with_row, Won}
 use Rattle.store_model.specs.StoreState.{Opens, StoreState}
 use Rattle.store_model.specs.Turning.{stopped_now}
 use Rattle.store_model.proofs.RowsKept.{row_here, row_other}
@@ -34,23 +35,17 @@ pub record HasWrite (left : List Command) : Type 0 where
   pub rest : List Command
   pub is : left ≡ c.Write volume page word ∷ rest
 
--- and a cluster is claimed for it
-pub record HasClaimed (left : List Command) (claim : Option OpenClaim) : Type 0 where
-  pub write : HasWrite left
-  pub held : OpenClaim
-  pub is : claim ≡ Some held
-
--- of which so many pages are to be copied, of so many in all
-pub record IsToCopy (left : List Command) (claim : Option OpenClaim) (count pages : ℕ) : Type 0 where
-  pub claimed : HasClaimed left claim
+-- a cluster is claimed, of which so many pages are to be copied, of so many in all
+pub record IsToCopy (claim : Option OpenClaim) (count pages : ℕ) : Type 0 where
+  pub claimed : IsSome claim
   pub some : 0 < count
   pub few : count ≤ pages
 
 -- a row at this stage
 abbrev pub IsStagedAt : ℕ → List Command → Option OpenClaim → Stage → Type 0
 IsStagedAt pages left claim Claiming = HasWrite left
-IsStagedAt pages left claim (Copying count) = IsToCopy left claim count pages
-IsStagedAt pages left claim Ready = HasClaimed left claim
+IsStagedAt pages left claim (Copying count) = IsToCopy claim count pages
+IsStagedAt pages left claim Ready = IsSome claim
 IsStagedAt pages left claim _ = Unit {0}
 
 abbrev pub IsStaged : ℕ → Row → Type 0
@@ -107,23 +102,40 @@ behind : (rest : List Phase) → IsPlain (stage_behind rest)
 behind [] pages left claim = tt
 behind (x ∷ xs) pages left claim = tt
 
-copied : (pages : ℕ) (left : List Command) (claim : OpenClaim) (n : ℕ) → IsToCopy left (Some claim) (suc n) pages
+copied : (pages : ℕ) (left : List Command) (claim : OpenClaim) (n : ℕ) → IsToCopy (Some claim) (suc n) pages
     → IsStagedAt pages left (Some claim) (stage_left n)
 copied pages left claim zero is = is.claimed
 copied pages left claim (suc n) is =
     let few = is.few in record { claimed = is.claimed; some = omega arith; few = omega (arith, few) }
 
--- a claim is given back, and the write logged
-logged_own : (p mid q : StoreState) (row : ℕ) (stage : Stage) (reply : Reply) (device : Device) → mid.super ≡ p.super
-    → mid.rows ≡ p.rows → LogsOwn mid row stage reply device q → IsPlain stage → AreStaged p → AreStaged q
-logged_own p mid q row stage reply device super rows logs plain are =
-    let pages : ℕ = cluster_pages_of mid.super in
-    let back : AreStaged (given_back mid row stage) = moved mid (given_back mid row stage) row
-    (record { left = (mid.rows row).left; stage = stage; claim = None }) refl refl
-    (plain pages (mid.rows row).left None) (same p mid super rows are) in
-    moved (given_back mid row stage) q row (record { left = logs.rest; stage = stage; claim = None })
-    (ap (λ (s : StoreState). s.super) logs.next) (ap (λ (s : StoreState). s.rows) logs.next)
-    (plain pages logs.rest None) back
+module _ (p q : StoreState) (are : AreStaged p) where
+  -- the command of a channel is logged, with the store as it was or at a claim that was given back
+  logged_filled : (mid : StoreState) → mid.super ≡ p.super → mid.rows ≡ p.rows → (row : ℕ) (stage : Stage)
+      → IsPlain stage → (channel : ℕ) (rest : List Command) → q.super ≡ p.super
+      → q.rows ≡ with_row (given_back mid row stage).rows channel
+      (record { left = rest; stage = Decided Answered; claim = None }) → AreStaged q
+  logged_filled mid super rows row stage plain channel rest q_super q_rows =
+      let pages : ℕ = cluster_pages_of mid.super in
+      let back : AreStaged (given_back mid row stage) = moved mid (given_back mid row stage) row
+      (record { left = (mid.rows row).left; stage = stage; claim = None }) refl refl
+      (plain pages (mid.rows row).left None) (same p mid super rows are) in
+      moved (given_back mid row stage) q channel (record { left = rest; stage = Decided Answered; claim = None })
+      (q_super ∙ sym super) q_rows tt back
+
+  -- a claim is given back, and the command that the row worked for is logged
+  logged_work : (mid : StoreState) → mid.super ≡ p.super → mid.rows ≡ p.rows → (row : ℕ) (stage : Stage)
+      (reply : Reply) (device : Device) → LogsWork mid row stage reply device q → IsPlain stage → AreStaged q
+  logged_work mid super rows row stage reply device (logs_own x) plain =
+      let pages : ℕ = cluster_pages_of mid.super in
+      let back : AreStaged (given_back mid row stage) = moved mid (given_back mid row stage) row
+      (record { left = (mid.rows row).left; stage = stage; claim = None }) refl refl
+      (plain pages (mid.rows row).left None) (same p mid super rows are) in
+      moved (given_back mid row stage) q row (record { left = x.rest; stage = stage; claim = None })
+      (ap (λ (s : StoreState). s.super) x.next) (ap (λ (s : StoreState). s.rows) x.next)
+      (plain pages x.rest None) back
+  logged_work mid super rows row stage reply device (logs_filled x) plain =
+      logged_filled mid super rows row stage plain x.posted.channel x.posted.rest
+      (ap (λ (s : StoreState). s.super) x.next ∙ super) (ap (λ (s : StoreState). s.rows) x.next)
 
 -- ---- each kind of turn
 
@@ -200,11 +212,7 @@ module _ (tells : Bool) (p q : StoreState) (are : AreStaged p) where
       } in
       one_row _ t.next refl w.channel (c.Write w.volume w.page w.word ∷ w.rest) (Copying (cluster_pages_of p.super))
       (Some claim) refl (record {
-        claimed = record {
-          write = record { volume = w.volume; page = w.page; word = w.word; rest = w.rest; is = refl };
-          held = claim;
-          is = refl;
-        };
+        claimed = refl;
         some = are.some;
         few = omega arith;
       })
@@ -219,14 +227,14 @@ module _ (tells : Bool) (p q : StoreState) (are : AreStaged p) where
       (copied (cluster_pages_of p.super) x.left x.claim t.left was)
   stays_staged kind.loses_copy t =
       one_row _ t.next refl t.copying.row (p.rows t.copying.row).left Idle None refl tt
-  stays_staged kind.copy_not_read t = logged_own p p q _ _ _ _ refl refl t.logs idle are
-  stays_staged kind.copy_fails t = logged_own p (stopped_now p) q _ _ _ _ refl refl t.logs idle are
+  stays_staged kind.copy_not_read t = logged_work p q are p refl refl _ _ _ _ t.logs idle
+  stays_staged kind.copy_fails t = logged_work p q are (stopped_now p) refl refl _ _ _ _ t.logs idle
   stays_staged kind.sends t =
       one_row _ t.next refl t.copying.row t.copying.left (Posted p.serial) (Some t.copying.claim) refl tt
   stays_staged kind.loses_insert t =
       one_row _ t.next refl t.posted.row (p.rows t.posted.row).left (Decided Lost) None refl tt
-  stays_staged kind.lacks_for_insert t = logged_own p p q _ _ _ _ refl refl t.logs (told Answered) are
-  stays_staged kind.lacks_memory_for_insert t = logged_own p p q _ _ _ _ refl refl t.logs (told Answered) are
+  stays_staged kind.lacks_for_insert t = logged_work p q are p refl refl _ _ _ _ t.logs (told Answered)
+  stays_staged kind.lacks_memory_for_insert t = logged_work p q are p refl refl _ _ _ _ t.logs (told Answered)
   stays_staged kind.begins_insert t =
       one_row _ t.next refl t.posted.row t.posted.left InJob (Some t.posted.claim) refl tt
   stays_staged kind.inserts t =
@@ -235,9 +243,25 @@ module _ (tells : Bool) (p q : StoreState) (are : AreStaged p) where
   stays_staged kind.insert_ends t =
       one_row _ t.next refl t.inserting.row (p.rows t.inserting.row).left (Decided Won) None refl tt
   stays_staged kind.insert_fails t =
-      logged_own p (record (stopped_now p) { job = None }) q _ _ _ _ refl refl t.logs (told Answered) are
+      logged_work p q are (record (stopped_now p) { job = None }) refl refl _ _ _ _ t.logs (told Answered)
   stays_staged kind.insert_breaks_down t =
-      logged_own p (record p { job = None }) q _ _ _ _ refl refl t.logs (told Answered) are
+      logged_work p q are (record p { job = None }) refl refl _ _ _ _ t.logs (told Answered)
+  stays_staged kind.claims_fill t =
+      let claim : OpenClaim = record {
+        cluster = t.cluster;
+        head = t.fill.head;
+        slot = t.fill.slot;
+        generation = t.generation;
+      } in
+      one_row _ t.next refl fill_row [] (Copying (cluster_pages_of p.super)) (Some claim) refl
+      (record { claimed = refl; some = are.some; few = omega arith })
+  stays_staged kind.lacks_for_fill t =
+      one_row _ t.next refl t.fill.posted.channel t.fill.posted.rest (Decided Answered) None refl tt
+  stays_staged kind.halts_fill t =
+      logged_filled p q are p refl refl fill_row (stage_after (p.rows fill_row).stage) (after (p.rows fill_row).stage)
+      t.posted.channel t.posted.rest (ap (λ (s : StoreState). s.super) t.next)
+      (ap (λ (s : StoreState). s.rows) t.next)
+  stays_staged kind.ends_fill t = one_row _ t.next refl fill_row (p.rows fill_row).left Idle None refl tt
 
 -- ---- a run
 

@@ -18,7 +18,8 @@ use Rattle.blob_meta.specs.declared.meta.Meta.{Meta}
 use Rattle.io_freeze.specs.Guards.{GuardsState, no_guards, renewed}
 use Rattle.store_model.specs.Maps.{Map, Metas, with_entry}
 use Rattle.volume_model.specs.declared.reply.Entry.{Entry}
-use Rattle.store_model.specs.Rows.{entries_of, Row, Idle, Ended}
+use Rattle.store_model.specs.Filling.{unused_row}
+use Rattle.store_model.specs.Rows.{entries_of, fill_row, Row, Idle, Ended}
 use Rattle.store_model.proofs.WithEntry.{given_here, given_elsewhere}
 use Rattle.store_core.specs.Opening.{AreGuardsAtStart, AreRows, IsLiveAtStart, row_at_start}
 use Rattle.store_core.specs.Removing.{those_below}
@@ -201,36 +202,59 @@ row_past script channels channel past =
     sym (ap (λ (b : Bool). cond b (record { left = slice_index_or script channel []; stage = Idle; claim = None })
     (record { left = []; stage = Ended; claim = None })) past)
 
--- a row waits at the start, or has ended
+-- the fill's row behind those of all channels
+pub rows_all : (script left : List (List Command)) (channels : ℕ) (rows : List Row) (row : Row) → channels ≤ 16
+    → RowsBelow script left channels rows 16 → row ≡ unused_row
+    → ((channel : ℕ) → channels ≤ channel → slice_index_or script channel [] ≡ [])
+    → AreRows script (rows ++ row ∷ [])
+rows_all script left channels rows row few x is above = record {
+  channels = channels;
+  few = few;
+  seventeen = length-append rows (row ∷ []) ∙ omega (arith, x.count);
+  each = λ c low. get_or_append_left rows (row ∷ []) (record { left = []; stage = Ended; claim = None }) c
+      (subst (λ n. c < n) (sym x.count) low) ∙ x.each c low;
+  fill = get_or_push rows row (record { left = []; stage = Ended; claim = None }) fill_row x.count ∙ is;
+  above = λ c past. elim (cases_lt c channels) [
+    | inl lt ↦ absurd (let bad = sym (lt-ltb c channels lt) ∙ past in cc bad)
+    | inr ge ↦ above c ge
+  ];
+}
+
+-- a row waits at the start, or has ended, and holds no claim
+record IsAtRest (row : Row) : Type 0 where
+  waits : (row.stage ≡ Idle) ⊎ (row ≡ record { left = []; stage = Ended; claim = None })
+  unclaimed : row.claim ≡ None
+
 module _ (script : List (List Command)) (rows : List Row) (are : AreRows script rows) where
-  waits_by : (channel : ℕ) (inside : Bool)
+  by_channel : (channel : ℕ) (inside : Bool)
       → cond inside (record { left = slice_index_or script channel []; stage = Idle; claim = None })
-      (record { left = []; stage = Ended; claim = None }) ≡ rows_of rows channel → ((rows_of rows channel).stage ≡ Idle)
-      ⊎ (rows_of rows channel ≡ record { left = []; stage = Ended; claim = None })
-  waits_by channel true is = inl (sym (ap (λ (r : Row). r.stage) is))
-  waits_by channel false is = inr (sym is)
+      (record { left = []; stage = Ended; claim = None }) ≡ rows_of rows channel → IsAtRest (rows_of rows channel)
+  by_channel channel true is = record {
+    waits = inl (sym (ap (λ (r : Row). r.stage) is));
+    unclaimed = sym (ap (λ (r : Row). r.claim) is);
+  }
+  by_channel channel false is = record { waits = inr (sym is); unclaimed = sym (ap (λ (r : Row). r.claim) is) }
+
+  at_rest : (channel : ℕ) → IsAtRest (rows_of rows channel)
+  at_rest channel = elim (cases_lt channel 16) [
+    | inl low ↦ by_channel channel (nat_lt channel are.channels) (sym (are.each channel low))
+    | inr high ↦ elim (cases_eq channel fill_row) [
+      | inl e ↦ subst (λ n. IsAtRest (rows_of rows n)) (sym e)
+          (subst IsAtRest (sym are.fill) (record { waits = inl refl; unclaimed = refl }))
+      | inr ne ↦
+          let count = are.seventeen in
+          let past = get_or_past rows channel (record { left = []; stage = Ended; claim = None })
+          (omega (arith, count, high, ne)) in
+          subst IsAtRest (sym past) (record { waits = inr refl; unclaimed = refl })
+    ]
+  ]
 
   pub rows_wait : (channel : ℕ) → ((rows_of rows channel).stage ≡ Idle)
       ⊎ (rows_of rows channel ≡ record { left = []; stage = Ended; claim = None })
-  rows_wait channel = elim (cases_lt channel 16) [
-    | inl low ↦ waits_by channel (nat_lt channel are.channels) (sym (are.each channel low))
-    | inr high ↦ inr (get_or_past rows channel (record { left = []; stage = Ended; claim = None })
-        (subst (λ n. n ≤ channel) (sym are.sixteen) high))
-  ]
+  rows_wait channel = (at_rest channel).waits
 
-  claim_by : (channel : ℕ) (inside : Bool)
-      → cond inside (record { left = slice_index_or script channel []; stage = Idle; claim = None })
-      (record { left = []; stage = Ended; claim = None }) ≡ rows_of rows channel → (rows_of rows channel).claim ≡ None
-  claim_by channel true is = sym (ap (λ (r : Row). r.claim) is)
-  claim_by channel false is = sym (ap (λ (r : Row). r.claim) is)
-
-  -- no row holds a claim at the start
   pub rows_unclaimed : (channel : ℕ) → (rows_of rows channel).claim ≡ None
-  rows_unclaimed channel = elim (cases_lt channel 16) [
-    | inl low ↦ claim_by channel (nat_lt channel are.channels) (sym (are.each channel low))
-    | inr high ↦ ap (λ (r : Row). r.claim) (get_or_past rows channel (record { left = []; stage = Ended; claim = None })
-        (subst (λ n. n ≤ channel) (sym are.sixteen) high))
-  ]
+  rows_unclaimed channel = (at_rest channel).unclaimed
 
 zeros : (n i : ℕ) → ◌≡◌ {A = ℕ} (slice_index_or (replicate n 0) i 0) 0
 zeros zero i = refl

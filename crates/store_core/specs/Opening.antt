@@ -13,7 +13,8 @@ use Rattle.io_freeze.specs.Guards.{GuardsState}
 use Rattle.store_model.specs.Guarding.{AreGenerations}
 use Rattle.store_model.specs.Maps.{Metas}
 use Rattle.store_model.specs.Places.{Unclaimed, UsedClusters, UsedPages}
-use Rattle.store_model.specs.Rows.{Row, Idle, Ended}
+use Rattle.store_model.specs.Filling.{unused_row}
+use Rattle.store_model.specs.Rows.{fill_row, Row, Idle, Ended}
 use Rattle.running_store.specs.declared.loaded.Loaded.{Loaded}
 use Rattle.store_core.specs.declared.starting.AtStart.{AtStart}
 use Rattle.running_store.specs.Running.{left_in}
@@ -34,12 +35,13 @@ row_at_start script channels channel =
     if nat_lt channel channels then record { left = slice_index_or script channel []; stage = Idle; claim = None }
     else record { left = []; stage = Ended; claim = None }
 
--- Sixteen rows, each with the commands of its channel.
+-- Seventeen rows: those of the channels, each with its commands, and the fill's, which waits.
 pub record AreRows (script : List (List Command)) (rows : List Row) : Type 0 where
   pub channels : ℕ
   pub few : channels ≤ 16
-  pub sixteen : length rows ≡ 16
+  pub seventeen : length rows ≡ 17
   pub each : (channel : ℕ) → channel < 16 → rows_of rows channel ≡ row_at_start script channels channel
+  pub fill : rows_of rows fill_row ≡ unused_row
   pub above : (channel : ℕ) → nat_lt channel channels ≡ false → slice_index_or script channel [] ≡ []
 
 -- the state of a store that was loaded so, with these live attributes, guards and rows, and these pages and clusters in
@@ -56,6 +58,7 @@ opened_with d loaded live guards rows pages clusters = record {
   pages = pages;
   clusters = clusters;
   rows = rows;
+  filling = None;
   job = None;
   guards = guards;
   serial = 0;

@@ -15,12 +15,17 @@ use Rattle.blob_meta.specs.Asked.{IsFirstCause, IsLiveOf, ShowsLive}
 use Rattle.blob_meta.specs.Jobs.{create_job, job_of_one, resize_job}
 use Rattle.blob_meta.specs.Repairs.{HasNoMarks}
 use Rattle.blob_meta.specs.ShownBy.{IsFirstRefusal, IsHeadMeant, ShowsMetas}
+use Rattle.blob_meta.specs.Find.{IsLeast}
 use Rattle.inflate_delete.specs.DeletePlans.{IsDeleteJob}
+use Rattle.inflate_delete.specs.FillJobs.{IsFillJob}
+use Rattle.inflate_delete.specs.Fills.{command_of, is_to_fill, IsFilled}
+use Rattle.inflate_delete.specs.declared.filling.FillKind.{FillKind}
 use Rattle.snapshots.specs.SnapshotJobs.{clone_job, snapshot_job}
 use Rattle.store_model.specs.Shown.{fixed_of}
 use Rattle.store_model.specs.StoreState.{shown}
 use Rattle.store_model.specs.Asking.{AsksFor}
 use Rattle.metadata_turns.specs.Answering.{IsFound}
+use Rattle.channel_turns.specs.FillTurns.{IsNextToFill}
 use Rattle.job_begins.specs.Begins.{IsJobOf}
 use Rattle.running_store.specs.LoadedWhole.{IsNextHead}
 use Rattle.running_store.specs.StoreInvariant.{IsRunning}
@@ -116,3 +121,16 @@ pub record PlanLaws {D : Type 0} (d : Ghosts D) : Type 0 where
       → p.stopped ≡ None → AreResolved p.metas p.marked → HasNoMarks (base_of p.metas p.marked)
       → IsHeadMeant p.metas p.super volume (Some of) → IsFirstRefusal p.metas p.super (c.Delete volume) None
       → IsDeleteJob p.metas of job → IsJobOf (state_of d p) (c.Delete volume) job
+  -- An inflate or a decouple that nothing refuses asks for a cluster in the least slot that it has to fill of the blob
+  -- that is meant,
+  pub fill : (p : StoreView D) (kind : FillKind) (volume : VolumeRef) (head slot : ℕ) → IsRunning (state_of d p)
+      → p.stopped ≡ None → AreResolved p.metas p.marked → IsHeadMeant p.metas p.super volume (Some head)
+      → IsFirstRefusal p.metas p.super (command_of kind volume) None
+      → IsLeast (is_to_fill (map.get p.metas) head kind) slot
+      → IsNextToFill (state_of d p) (command_of kind volume) slot
+  -- and, where it has none, for the job by which that blob gets another parent or none.
+  pub last : (p : StoreView D) (kind : FillKind) (volume : VolumeRef) (head : ℕ) (job : Job) → IsRunning (state_of d p)
+      → p.stopped ≡ None → AreResolved p.metas p.marked → HasNoMarks (base_of p.metas p.marked)
+      → IsHeadMeant p.metas p.super volume (Some head)
+      → IsFirstRefusal p.metas p.super (command_of kind volume) None → IsFilled (map.get p.metas) head kind
+      → IsFillJob p.metas head kind job → IsJobOf (state_of d p) (command_of kind volume) job

@@ -115,6 +115,7 @@ pub(crate) fn running_at_start<D: PageDisk>(
         heads,
         guards,
         rows,
+        filling: None,
         job: None,
         serial: 0,
         entries,
@@ -170,13 +171,13 @@ pub(crate) fn guards_at_start(
     Ok(guards)
 }
 
-/// The rows of sixteen channels, with the commands of the script.
+/// The rows of sixteen channels, with the commands of the script, and the fill's.
 pub(crate) fn rows_at_start(alloc: Global, script: Script) -> Result<Vec<Row>, Memory>
     ensures { IfOk result (λ rows. AreRows script rows.items) }
 {
     let mut script = script;
     let channels = script.channels();
-    let mut rows = Vec::with_capacity(alloc, 16)?;
+    let mut rows = Vec::with_capacity(alloc, 17)?;
     for channel in 0..16 {
         let commands = script.take(alloc, channel);
         let row = if channel < channels {
@@ -186,6 +187,7 @@ pub(crate) fn rows_at_start(alloc: Global, script: Script) -> Result<Vec<Row>, M
         };
         rows.push(row)?;
     }
+    rows.push(Row::new(alloc, Vec::new(alloc))?)?;
     Ok(rows)
 }
 

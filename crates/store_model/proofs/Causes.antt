@@ -13,7 +13,11 @@ use Rattle.store_model.specs.StoreState.{StoreState, shown}
 use Rattle.blob_meta.specs.declared.job.Job.{Job as Changes}
 use Rattle.store_model.specs.Phases.{Committing}
 use Rattle.inflate_delete.specs.DeletePlans.{IsJobBeside}
-use Rattle.store_model.specs.Asking.{AsksFor, clones, creates, deletes, IsJobFor, IsSyncing, resizes, snapshots, syncs}
+use Rattle.inflate_delete.specs.Fills.{command_of}
+use Rattle.inflate_delete.specs.declared.filling.FillKind.{FillKind}
+use Rattle.inflate_delete.specs.declared.filling.FillKind.TheVariants.{Inflate, Decouple}
+use Rattle.store_model.specs.Asking.{AsksFor, clones, creates, deletes, fills, IsJobFor, IsSyncing, resizes, snapshots}
+use Rattle.store_model.specs.Asking.{syncs}
 use Rattle.store_model.specs.Cases.{IsCauseReply, IsRefusedAtBegin, IsRefusedBy}
 
 -- ---- refusals
@@ -71,6 +75,12 @@ may_lack p command changes commit (deletes x) =
     let lack : Allowed (fixed_of p.super) (shown p) (c.Delete x.volume) r.NoPage =
     (ap (refusal (fixed_of p.super) (shown p)) (sym x.command_is) ∙ x.asked, tt) in
     subst (λ (k : Command). Allowed (fixed_of p.super) (shown p) k r.NoPage) (sym x.command_is) lack
+may_lack p command changes commit (fills x) =
+    subst (λ (k : Command). Allowed (fixed_of p.super) (shown p) k r.NoPage) (sym x.command_is) (by x.kind)
+  where
+    by : (kind : FillKind) → Allowed (fixed_of p.super) (shown p) (command_of kind x.volume) r.NoPage
+    by Inflate = (tt, tt)
+    by Decouple = (tt, tt)
 
 -- and one that asks for slots of zeros may find too few clusters
 may_be_full : (p : StoreState) (command : Command) (changes : Changes) (commit : Committing)
@@ -97,6 +107,8 @@ may_be_full p command changes commit (deletes x) fewer =
     no_zeros [] is = ap (λ (y : Changes). length y.zero) is
     no_zeros (clone ∷ []) is = ap (λ (y : Changes). length y.zero) is.2
     no_zeros (clone ∷ other ∷ rest) is = absurd is
+may_be_full p command changes commit (fills x) fewer =
+    absurd (let none = ap (λ (y : Changes). length y.zero) x.is in omega (arith, fewer, none))
 
 pub is_allowed : (p : StoreState) (command : Command) (reply : Reply) → IsRefusedAtBegin p command reply
     → Allowed (fixed_of p.super) (shown p) command reply

@@ -31,6 +31,24 @@ deleted_commit head renewed =
 pub is_live : (v : Volumes) (h : ℕ) (x : Volume) → v h ≡ Some x → live_of v h ≡ Some x.live
 is_live v h x is = ap (λ o. option_map (λ (y : Volume). y.live) o) is
 
+-- each volume changed in anything but its attributes has the live ones that it had
+pub lives_mapped : (g : Volume → Volume) → ((x : Volume) → (g x).live ≡ x.live) → (o : Option Volume)
+    → option_map (λ (x : Volume). x.live) (option_map g o) ≡ option_map (λ (x : Volume). x.live) o
+lives_mapped g same None = refl
+lives_mapped g same (Some x) = ap (λ (xs : Xattrs). Some xs) (same x)
+
+-- attributes that are read as those of a volume that is shown can be written
+pub writable_as_shown : (p : StoreState) → HaveLive p → (h : ℕ) (xs : Xattrs) → live_of (shown p) h ≡ Some xs
+    → CanBeWritten xs
+writable_as_shown p have_live h xs = by (shown p h) refl
+  where
+    by : (o : Option Volume) → shown p h ≡ o → live_of (shown p) h ≡ Some xs → CanBeWritten xs
+    by None none bad = absurd (let both = sym (ap (λ o. option_map (λ (y : Volume). y.live) o) none) ∙ bad in cc both)
+    by (Some x) was lives =
+        let both : Some x.live ≡ Some xs = sym (is_live (shown p) h x was) ∙ lives in
+        let one : x.live ≡ xs = cc both in
+        subst CanBeWritten one (live_writable p have_live h x was)
+
 -- volumes whose attributes are read as those that are shown, but for those of one
 module _ (p : StoreState) (have_live : HaveLive p) (no_live : NoOtherLive p) (w : Volumes) (head : ℕ)
     (xattrs : Option Xattrs) (here : live_of w head ≡ xattrs)
@@ -45,12 +63,5 @@ module _ (p : StoreState) (have_live : HaveLive p) (no_live : NoOtherLive p) (w 
   pub writable_changed : ((xs : Xattrs) → xattrs ≡ Some xs → CanBeWritten xs) → AllWritable w
   writable_changed can h v is = elim (cases_eq h head) [
     | inl e ↦ can v.live (sym here ∙ ap (live_of w) (sym e) ∙ is_live w h v is)
-    | inr ne ↦ by (shown p h) refl (sym (others h ne) ∙ is_live w h v is)
+    | inr ne ↦ writable_as_shown p have_live h v.live (sym (others h ne) ∙ is_live w h v is)
   ]
-    where
-      by : (o : Option Volume) → shown p h ≡ o → live_of (shown p) h ≡ Some v.live → CanBeWritten v.live
-      by None none bad = absurd (let both = sym (ap (λ o. option_map (λ (y : Volume). y.live) o) none) ∙ bad in cc both)
-      by (Some x) was lives =
-          let both : Some x.live ≡ Some v.live = sym (is_live (shown p) h x was) ∙ lives in
-          let one : x.live ≡ v.live = cc both in
-          subst CanBeWritten one (live_writable p have_live h x was)

@@ -10,8 +10,7 @@ use Rattle.volume_model.specs.Names.{IsName}
 use Rattle.volume_model.specs.Volumes.{Fixed, head_of, two_xattrs, Volume, Volumes}
 use Rattle.volume_model.specs.Xattrs.{Text, Xattrs}
 use Rattle.volume_model.specs.Refusals.{refusal}
-use Rattle.volume_model.specs.Steps.{Allowed, change}
-use Rattle.volume_model.specs.declared.command.Command.{Command}
+use Rattle.volume_model.specs.Steps.{change}
 use Rattle.volume_model.specs.declared.command.Command.TheVariants as c
 use Rattle.volume_model.specs.declared.command.VolumeRef.{VolumeRef}
 use Rattle.volume_model.specs.declared.reply.Reply.TheVariants as r_
@@ -36,13 +35,13 @@ use Rattle.shown_volumes.proofs.Snapshots.{snapshot_shows}
 use Rattle.shown_volumes.proofs.SnapshotShows as snapshots
 use Rattle.shown_volumes.proofs.StoredJobs.{jobs_stored}
 use Rattle.shown_volumes.proofs.WithEntry.{given_here}
-use Rattle.store_model.specs.Maps.{Metas, with_option}
-use Rattle.store_model.specs.Phases.{Committing, LiveChange}
+use Rattle.store_model.specs.Maps.{with_option}
 use Rattle.store_model.specs.RunInvariant.{RunsWell}
 use Rattle.store_model.specs.Shown.{fixed_of}
 use Rattle.store_model.specs.Steady.{CanBeWritten}
-use Rattle.store_model.specs.StoreState.{live_of, shown, StoreState}
-use Rattle.store_model.proofs.ChangedLive.{deleted_commit, is_live, lives_changed, made_commit, writable_changed}
+use Rattle.store_model.specs.StoreState.{live_of, shown}
+use Rattle.store_model.proofs.ChangedLive.{deleted_commit, is_live, lives_changed, lives_mapped}
+use Rattle.store_model.proofs.ChangedLive.{made_commit, writable_changed}
 use Rattle.store_model.proofs.FamilyStep.{at_rest, few_heads, IsFamilyJob}
 use Rattle.store_model.proofs.Known.{Known}
 use Rattle.store_model.proofs.Meanwhile.{blank_reading, reading}
@@ -59,7 +58,7 @@ module _ (known : Known) (unmarked : HasNoMarks known.p.base) where
   abbrev f : Fixed
   f = fixed_of p.super
 
-  was_stored : (h : ℕ) (m : Meta) → p.base h ≡ Some m → IsStoredWell p.super h m
+  pub was_stored : (h : ℕ) (m : Meta) → p.base h ≡ Some m → IsStoredWell p.super h m
   was_stored h m is = let was = base_steady known unmarked h m is in record { stored = was.stored; named = was.named }
 
   -- a volume that is there, whatever an image holds
@@ -238,15 +237,10 @@ module _ (known : Known) (unmarked : HasNoMarks known.p.base) where
       live_gone : live_of w of ≡ None
       live_gone = ap (λ o. option_map (λ (x : Volume). x.live) o) gone_now
 
-      same_lives : (g : Volume → Volume) → ((x : Volume) → (g x).live ≡ x.live) → (o : Option Volume)
-          → option_map (λ (x : Volume). x.live) (option_map g o) ≡ option_map (λ (x : Volume). x.live) o
-      same_lives g same None = refl
-      same_lives g same (Some x) = ap (λ (xs : Xattrs). Some xs) (same x)
-
       live_else : (h : ℕ) → h ≢ of → live_of w h ≡ live_of v h
       live_else h ne = ap (λ o. option_map (λ (x : Volume). x.live) o)
           (deleted.deleted_else f v volume of (its image of old) found_now (is_its image of old there) h ne)
-          ∙ same_lives (λ (x : Volume). record x {
+          ∙ lives_mapped (λ (x : Volume). record x {
             parent = deleted.moved f v volume of (its image of old) found_now (is_its image of old there) x.parent;
           }) (λ x. refl) (v h)
 

@@ -2,11 +2,9 @@
 use Rattle.std.proofs.Common.{◌≡◌, ◌⊎◌, ◌∙◌, ◌^◌, ◌≤◌, ℕ, ◌<◌, Bool, true, false, List, [], ◌∷◌, length, None, Option}
 use Rattle.std.proofs.Common.{Some, refl, sym, ap, subst, inl, inr, arith}
 use Rattle.std.specs.Prelude.{if◌then◌else◌, is_some, ◌+◌, drop}
-use Rattle.std.specs.List.{AllByRecursion}
 use Rattle.std.specs.Option.{option_map}
 use Rattle.std.proofs.lemmas.Bool.{cases_Bool}
 use Rattle.bit_array.specs.Bits.{IsLeastClear}
-use Rattle.super_block.specs.declared.page.Super.{Super}
 use Rattle.volume_model.specs.Refusals.{refusal}
 use Rattle.volume_model.specs.Steps.{named_head}
 use Rattle.volume_model.specs.Volumes.{head_of, two_xattrs}
@@ -14,7 +12,6 @@ use Rattle.volume_model.specs.Xattrs.{Text, Xattrs}
 use Rattle.volume_model.specs.declared.command.Command.{Command}
 use Rattle.volume_model.specs.declared.command.Command.TheVariants as c
 use Rattle.volume_model.specs.declared.command.VolumeRef.{VolumeRef}
-use Rattle.volume_model.specs.declared.reply.Reply.TheVariants as r
 use Rattle.blob_meta.specs.declared.meta.Meta.{Meta}
 use Rattle.blob_meta.specs.declared.job.Job.{Job as Changes}
 use Rattle.blob_meta.specs.declared.job.Replacement.{Replacement}
@@ -28,15 +25,16 @@ use Rattle.snapshots.specs.SnapshotJobs.{snapshot_job}
 use Rattle.inflate_delete.specs.Clones.{clones_below}
 use Rattle.inflate_delete.specs.DeleteJobs.{delete_job, erase_job, heir_of}
 use Rattle.inflate_delete.specs.DeletePlans.{IsJobBeside}
-use Rattle.shown_volumes.specs.StoredLaws.{AreStoredWell, IsStoredWell}
+use Rattle.inflate_delete.specs.FillJobs.{fill_job, filled_blob}
+use Rattle.inflate_delete.specs.Fills.{parent_blob}
 use Rattle.store_model.specs.Shown.{fixed_of}
-use Rattle.store_model.specs.Phases.{Committing, replaced, Replacing, taken_by}
+use Rattle.store_model.specs.Phases.{Committing, replaced, Replacing}
 use Rattle.store_model.specs.Places.{AreLeastClear}
-use Rattle.store_model.specs.StoreState.{shown, StoreState}
-use Rattle.store_model.specs.Asking.{clones, creates, deletes, IsCopyJob, IsJobFor, resizes, snapshots, syncs}
+use Rattle.store_model.specs.StoreState.{shown}
+use Rattle.store_model.specs.Asking.{clones, creates, deletes, fills, IsCopyJob, IsJobFor, resizes, snapshots, syncs}
 use Rattle.store_model.specs.Maps.{Metas}
 use Rattle.store_model.specs.Jobs.{AreLaid, IsLaid, LacksPages, LacksPagesFor, ReadsZeros, with_clusters, with_zeroed}
-use Rattle.store_model.specs.Steady.{AreSteady, IsSteady, IsStored}
+use Rattle.store_model.specs.Steady.{AreSteady, IsStored}
 use Rattle.store_model.specs.RunInvariant.{RunsWell}
 use Rattle.store_model.proofs.ChangedLive.{deleted_commit, made_commit}
 use Rattle.store_model.proofs.CreateStep.{create_ready, new_zeros}
@@ -44,6 +42,7 @@ use Rattle.store_model.proofs.FamilyJobs.{clone_family, delete_family, erase_fam
 use Rattle.store_model.proofs.FamilyReady.{family_ready}
 use Rattle.store_model.proofs.FamilyStep.{IsFamilyJob}
 use Rattle.store_model.proofs.Known.{Known}
+use Rattle.store_model.proofs.LastJobs.{last_family}
 use Rattle.store_model.proofs.LeftToDo.{chain_new, chain_there}
 use Rattle.store_model.proofs.ListLaid.{lays_list, replaced_as, takes_least}
 use Rattle.store_model.proofs.OneReplacement.{IsReady}
@@ -291,3 +290,9 @@ module _ (known : Known) where
             (λ laid. served (delete_job y.of y.old clone is.0) (clone ∷ []) are
             (delete_family known unmarked runs y.volume y.of y.old y.there asked found clone is.0 one is.1)))
         by (clone ∷ other ∷ rest) many is are = absurd is
+    job_ready changes (fills y) =
+        let parent = parent_blob p.base y.old in
+        subst Ready (sym y.is) (family (fill_job y.kind y.head y.old parent) refl 0
+        (given y.head (filled_blob y.kind y.old parent)) [] refl refl
+        (inl (renewed_first y.head [] (ap (λ (m : Committing). m.renews) y.commit_is)))
+        (λ laid. last_family known unmarked runs command changes commit y))

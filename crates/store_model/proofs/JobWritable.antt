@@ -18,8 +18,10 @@ use Rattle.snapshots.specs.SnapshotJobs.{clone_job, snapshot_job}
 use Rattle.inflate_delete.specs.Clones.{clones_below}
 use Rattle.inflate_delete.specs.DeleteJobs.{delete_job, erase_job}
 use Rattle.inflate_delete.specs.DeletePlans.{IsJobBeside}
+use Rattle.inflate_delete.specs.FillJobs.{fill_job}
+use Rattle.inflate_delete.specs.Fills.{parent_blob}
 use Rattle.shown_volumes.specs.StoredLaws.{AreStoredWell, IsStoredWell}
-use Rattle.store_model.specs.Asking.{clones, creates, deletes, IsJobFor, resizes, snapshots, syncs}
+use Rattle.store_model.specs.Asking.{clones, creates, deletes, fills, IsJobFor, resizes, snapshots, syncs}
 use Rattle.store_model.specs.Jobs.{with_clusters, with_zeroed}
 use Rattle.store_model.specs.Phases.{Committing, Replacing}
 use Rattle.store_model.specs.Places.{AreLeastClear}
@@ -30,6 +32,7 @@ use Rattle.store_model.proofs.CreateStep.{create_ready, new_zeros}
 use Rattle.store_model.proofs.FamilyJobs.{clone_family, delete_family, erase_family, snapshot_family}
 use Rattle.store_model.proofs.JobReady.{plain_zeroed}
 use Rattle.store_model.proofs.Known.{Known}
+use Rattle.store_model.proofs.LastJobs.{last_family}
 use Rattle.store_model.proofs.ResizeAsked.{added_zeros}
 use Rattle.store_model.proofs.ResizeStep.{resize_ready}
 use Rattle.store_model.proofs.SyncStep.{sync_ready}
@@ -133,3 +136,6 @@ module _ (known : Known) (unmarked : HasNoMarks known.p.base) where
                 (λ low. (delete_family known unmarked runs y.volume y.of y.old y.there asked found clone is.0 one
                 is.1).stored))
             beside (clone ∷ other ∷ rest) many is = absurd is
+        by changes (fills y) = subst Stored (sym y.is) (plain
+            (fill_job y.kind y.head y.old (parent_blob p.base y.old)) refl
+            (λ low. (last_family known unmarked runs command changes commit y).stored))

@@ -21,6 +21,7 @@ use Rattle.store_model.specs.Repairing.{at_work, halted, IsRepaired, unmarked}
 use Rattle.store_model.specs.RunInvariant.{RunInvariant}
 use Rattle.store_model.specs.StoreState.{ForCommand, ForInsert, ForRepair, going_on, JobState, Service, StoreState}
 use Rattle.store_model.specs.Turning.{Runs}
+use Rattle.store_model.proofs.GivenBack.{logged_work}
 use Rattle.store_model.proofs.Heads.{replaced_is}
 use Rattle.store_model.proofs.WithEntry.{option_all}
 
@@ -171,15 +172,19 @@ module _ (told : Bool) (s : Super) (first : Volumes) (script : ℕ → List Comm
   repaired_stays k.refuses_claim facts t r = same t.next refl refl refl r
   repaired_stays k.copies facts t r = same t.next refl refl refl r
   repaired_stays k.loses_copy facts t r = same t.next refl refl refl r
-  repaired_stays k.copy_not_read facts t r = same t.logs.next refl refl refl r
-  repaired_stays k.copy_fails facts t r = stops (length p.log) t.logs.next refl
+  repaired_stays k.copy_not_read facts t r = same (logged_work t.logs).next refl refl refl r
+  repaired_stays k.copy_fails facts t r = stops (length p.log) (logged_work t.logs).next refl
   repaired_stays k.sends facts t r = same t.next refl refl refl r
   repaired_stays k.loses_insert facts t r = same t.next refl refl refl r
-  repaired_stays k.lacks_for_insert facts t r = same t.logs.next refl refl refl r
-  repaired_stays k.lacks_memory_for_insert facts t r = same t.logs.next refl refl refl r
+  repaired_stays k.lacks_for_insert facts t r = same (logged_work t.logs).next refl refl refl r
+  repaired_stays k.lacks_memory_for_insert facts t r = same (logged_work t.logs).next refl refl refl r
   repaired_stays k.begins_insert facts t r = begins _ t.next refl (λ e. cc e)
   repaired_stays k.inserts facts t r = inserts facts t r
   repaired_stays k.insert_ends facts t r = insert_ends facts t
-  repaired_stays k.insert_fails facts t r = stops (length p.log) t.logs.next refl
+  repaired_stays k.insert_fails facts t r = stops (length p.log) (logged_work t.logs).next refl
   repaired_stays k.insert_breaks_down facts t r =
-      halted t.at (ap (λ (v : StoreState). v.stopped) t.logs.next ∙ t.stands)
+      halted t.at (ap (λ (v : StoreState). v.stopped) (logged_work t.logs).next ∙ t.stands)
+  repaired_stays k.claims_fill facts t r = same t.next refl refl refl r
+  repaired_stays k.lacks_for_fill facts t r = same t.next refl refl refl r
+  repaired_stays k.halts_fill facts t r = same t.next refl refl refl r
+  repaired_stays k.ends_fill facts t r = same t.next refl refl refl r

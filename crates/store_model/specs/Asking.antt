@@ -17,6 +17,9 @@ use Rattle.blob_meta.specs.Parents.{read_only}
 use Rattle.snapshots.specs.SnapshotJobs.{clone_job, snapshot_job}
 use Rattle.inflate_delete.specs.Clones.{clones_below}
 use Rattle.inflate_delete.specs.DeletePlans.{IsJobBeside}
+use Rattle.inflate_delete.specs.FillJobs.{fill_job}
+use Rattle.inflate_delete.specs.Fills.{command_of, IsFilled, parent_blob}
+use Rattle.inflate_delete.specs.declared.filling.FillKind.{FillKind}
 use Rattle.store_model.specs.Shown.{fixed_of}
 use Rattle.store_model.specs.Phases.{Committing}
 use Rattle.store_model.specs.StoreState.{StoreState, shown}
@@ -155,6 +158,23 @@ pub record IsResizeJob (p : StoreState) (command : Command) (changes : Changes) 
     renews = if nat_lt slots (length old.map) then head ∷ [] else [];
   }
 
+-- ---- the end of a fill
+
+-- An inflate or a decouple that nothing refuses, and for which no slot of the blob that it means is left to fill, gives
+-- that blob another parent or none, and renews it. Its attributes are read as they were.
+pub record IsLastJob (p : StoreState) (command : Command) (changes : Changes) (commit : Committing) : Type 0 where
+  pub kind : FillKind
+  pub volume : VolumeRef
+  pub command_is : command ≡ command_of kind volume
+  pub asked : refusal (fixed_of p.super) (shown p) command ≡ None
+  pub head : ℕ
+  pub found : named_head (fixed_of p.super) (shown p) command ≡ Some head
+  pub old : Meta
+  pub there : p.base head ≡ Some old
+  pub filled : IsFilled p.base head kind
+  pub is : changes ≡ fill_job kind head old (parent_blob p.base old)
+  pub commit_is : commit ≡ record { reply = r.Ok; live = None; renews = head ∷ [] }
+
 -- The changes that a command asks for, and what their commit makes.
 pub data IsJobFor (p : StoreState) (command : Command) (changes : Changes) (commit : Committing) : Type 0 where
   syncs : IsSyncJob p command changes commit → IsJobFor p command changes commit
@@ -163,3 +183,4 @@ pub data IsJobFor (p : StoreState) (command : Command) (changes : Changes) (comm
   clones : IsCloneJob p command changes commit → IsJobFor p command changes commit
   snapshots : IsSnapshotJob p command changes commit → IsJobFor p command changes commit
   deletes : IsDeletionJob p command changes commit → IsJobFor p command changes commit
+  fills : IsLastJob p command changes commit → IsJobFor p command changes commit

@@ -16,8 +16,10 @@ use Rattle.store_model.specs.Phases.{Phase}
 use Rattle.store_model.specs.Rows.{Decided, fill_row, InJob, OpenClaim, Stage, with_row, Won}
 use Rattle.store_model.specs.Copying.{IsUpToDate}
 use Rattle.store_model.specs.Device.{Device}
+use Rattle.store_model.specs.Filling.{AsksForFill}
 use Rattle.store_model.specs.Places.{without_claim}
-use Rattle.store_model.specs.StoreState.{ForInsert, JobState, logged_to, shown, StoreState}
+use Rattle.store_model.specs.StoreState.{ForInsert, JobState, logged, logged_to, shown, StoreState}
+use Rattle.store_model.specs.Turning.{IsPosted}
 
 -- a channel's write of a page at this stage, with this claim
 pub record IsWriting (p : StoreState) (stage : Stage) (claim : Option OpenClaim) : Type 0 where
@@ -84,6 +86,23 @@ pub record LogsOwn (p : StoreState) (row : ℕ) (stage : Stage) (reply : Reply) 
   pub rest : List Command
   pub left : (p.rows row).left ≡ c.Write volume page word ∷ rest
   pub next : q ≡ logged_to stage (given_back p row stage) row (c.Write volume page word) rest reply device
+
+-- The fill's row goes on at this stage and gives its claim back, and works for no command any more: the one that it
+-- worked for is logged, and its channel is to be told.
+pub record LogsFilled (p : StoreState) (row : ℕ) (stage : Stage) (reply : Reply) (device : Device)
+    (q : StoreState) : Type 0 where
+  pub fills : row ≡ fill_row
+  pub posted : IsPosted p
+  pub works : p.filling ≡ Some posted.channel
+  pub asks : AsksForFill posted.command
+  pub next : q ≡ logged (record (given_back p row stage) { filling = None })
+      posted.channel posted.command posted.rest reply device
+
+-- A row goes on at this stage and gives its claim back, and the command that it worked for is logged.
+pub data LogsWork (p : StoreState) (row : ℕ) (stage : Stage) (reply : Reply) (device : Device)
+    (q : StoreState) : Type 0 where
+  logs_own : LogsOwn p row stage reply device q → LogsWork p row stage reply device q
+  logs_filled : LogsFilled p row stage reply device q → LogsWork p row stage reply device q
 
 -- ---- an insert
 

@@ -42,6 +42,7 @@ use Rattle.store_model.specs.Regions.{region_of, MdRegion}
 use Rattle.store_model.specs.Scans.{is_head, MetaAt, Says, Scanned}
 use Rattle.store_model.specs.Cases.{IsQuiet}
 use Rattle.store_model.specs.StoreState.{Opens, StoreState, shown}
+use Rattle.store_model.specs.Filling.{FillStands}
 use Rattle.store_model.specs.Guarding.{AreGenerations}
 use Rattle.store_model.specs.Jobs.{with_zeroed}
 use Rattle.store_model.specs.Places.{AreLeastClear, Unclaimed, UsedClusters, UsedPages}
@@ -79,6 +80,8 @@ pub record StateLaws : Type 0 where
       → IsPlaced s → RunInvariant s first script p → Turn told p kind q → RunInvariant s first script q
   pub go_on : (told : Bool) (p q r : StoreState) (kinds : List Kind) (kind : Kind) → Run told p kinds q
       → Turn told q kind r → Run told p (kinds ++ kind ∷ []) r
+  -- what is known of the fill's row is so along each run
+  pub fill_stands : (told : Bool) (p q : StoreState) (kinds : List Kind) → Opens p → Run told p kinds q → FillStands q
   -- a store with nothing left to repair stays so, and so does one that serves a command or has stopped
   pub repaired_stays : (told : Bool) (s : Super) (first : Volumes) (script : ℕ → List Command) (p q : StoreState)
       (kind : Kind) → RunInvariant s first script p → Turn told p kind q → IsRepaired p → IsRepaired q

@@ -14,7 +14,7 @@ use Rattle.store_model.specs.Maps.{Map, Metas, Chains}
 use Rattle.store_model.specs.Phases.{Phase, has_commit, planned_in}
 use Rattle.store_model.specs.Shown.{fixed_of, shown_by}
 use Rattle.store_model.specs.Device.{Device}
-use Rattle.store_model.specs.Rows.{Rows, Stage, with_row, entry_of, Idle, Answered, Decided, Ended}
+use Rattle.store_model.specs.Rows.{Rows, Stage, with_row, entry_of, fill_row, Idle, Answered, Decided, Ended}
 pub use Rattle.shown_volumes.specs.Shown.{live_of}
 
 -- For whom a job is done: the command of a channel, the insert of a cluster that a channel claimed, or a repair.
@@ -117,7 +117,9 @@ pub record Opens (p : StoreState) : Type 0 where
   pub unclaimed : (channel : ℕ) → (p.rows channel).claim ≡ None
   pub log : p.log ≡ []
   pub marks : p.marks ≡ p.device.clock ∷ []
+  -- no slot is being filled, and the fill's row waits
   pub filling : p.filling ≡ None
+  pub fill : p.rows fill_row ≡ record { left = []; stage = Idle; claim = None }
   pub job : p.job ≡ None
   pub frozen : (head : ℕ) → p.frozen head ≡ false
   pub stopped : p.stopped ≡ None

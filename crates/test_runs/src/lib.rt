@@ -1,8 +1,9 @@
 //! Calls of the whole program over a device in memory, for tests.
 #![tactic(auto)]
 
-mod lines;
+mod cases;
 mod runs;
 
-pub use lines::{Letters, push_long, push_told};
+pub use blob_tool::Status;
+pub use cases::{On, Scheduled, TwoRuns, expect_scheduled, expect_two_runs};
 pub use runs::{Call, Ran, expect_printed, perform, play, run};

@@ -20,6 +20,18 @@ pub struct Call<'a> {
     pub failing_writes: &'a [u64],
 }
 
+impl<'a> Call<'a> {
+    /// A call where no read and no write fails.
+    pub fn new(line: &'a str, script: &'a [u8]) -> Call<'a> {
+        Call {
+            line,
+            script,
+            failing_reads: &[],
+            failing_writes: &[],
+        }
+    }
+}
+
 /// What comes of a call: how it ended, where it printed, and the device.
 #[derive(Drop)]
 pub struct Ran<D> {
@@ -70,13 +82,7 @@ pub fn run<D: PageDisk + Drop + Send>(
     script: &[u8],
     disk: D,
 ) -> Result<Ran<D>, Fail> {
-    let call = Call {
-        line: "run store.img",
-        script,
-        failing_reads: &[],
-        failing_writes: &[],
-    };
-    perform(alloc, &call, disk)
+    perform(alloc, &Call::new("run store.img", script), disk)
 }
 
 /// The device after a run of a script that ends well and prints this; fails where it does not.

@@ -1,6 +1,6 @@
 //! A channel's write of a page.
 
-ghost use Rattle.std.specs.Prelude.{◌≡◌, ◌⊎◌};
+ghost use Rattle.std.specs.Prelude.{◌≡◌, ◌⊎◌, ◌<◌};
 ghost use Rattle.data_path.specs.declared.reading.Stage.TheVariants.{Again, Logged, Send, Waiting};
 ghost use Rattle.channel_turns.specs.ChannelTurns.{IsFrozenFor};
 ghost use Rattle.running_store.specs.Stages.{is_stage};
@@ -19,7 +19,8 @@ use store_core::{ClaimTurn, CopyTurn, Plant, RowStage, SendTurn, WriteTurn};
 /// blob is frozen where it would be written or a cluster claimed, nothing is done, and the same turn is made again.
 /// `Logged`: it is logged.
 pub fn write_turn<D: PageDisk>(plant: &mut Plant<D>, channel: u8) -> Stage
-    requires { IsAtWrite (is_stage (rows_of plant.old.at.rows channel) channel) }
+    requires channel { channel < 16 }
+    requires stage { IsAtWrite (is_stage (rows_of plant.old.at.rows channel) channel) }
     ensures frozen { result ≡ Waiting → Asks plant.old.at channel (IsFrozenFor (state_of D.PageDisk plant.old.at)) }
     ensures stage { result ≡ Waiting → (is_stage (rows_of plant.old.at.rows channel) channel ≡ Write)
         ⊎ (is_stage (rows_of plant.old.at.rows channel) channel ≡ Claim) }

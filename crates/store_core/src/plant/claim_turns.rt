@@ -1,4 +1,5 @@
-//! The turns of a write that has found its slot empty: what is kept of a running store over them.
+//! The turns of a claim, of a write that has found its slot empty or of a fill: what is kept of a running store over
+//! them.
 
 use crate::keeping::goes_on;
 use crate::plant::Plant;
@@ -16,7 +17,7 @@ impl<D: PageDisk> Plant<D> {
     ghost use Rattle.running_store.specs.declared.rows.RowStage.TheVariants.{Claim, Copy, Ready};
     ghost use Rattle.channel_turns.specs.ChannelTurns.{IsFrozenFor};
     ghost use Rattle.running_store.specs.TurnMade.{TurnsAs};
-    ghost use Rattle.channel_turns.specs.ClaimTurns.{row_claimed, row_copied, row_sent, IsOfClaim, IsOfCopy, IsOfSend};
+    ghost use Rattle.channel_turns.specs.ClaimTurns.{row_claimed, RowsCopied, RowsSent, IsOfClaim, IsOfCopy, IsOfSend};
     ghost use Rattle.running_store.specs.Stages.{is_stage};
     ghost use Rattle.running_store.specs.Steps.{Asks, OnlyRow};
     ghost use Rattle.running_store.specs.StoreView.{rows_of, state_of};
@@ -47,19 +48,19 @@ impl<D: PageDisk> Plant<D> {
         claim_or_halt(&mut self.running, channel)
     }
 
-    /// Copies the next page of the slot for which a channel holds a claim into the claimed cluster: the slot's page, or
-    /// its parent's, or zeros. `Lost` comes exactly where the blob is gone or its generation is another: the claim is
-    /// given back, and the write begins again. `Copied` says how many pages are left. Else the write is logged, and its
-    /// claim given back: with `ReadFault` where the read failed; with `Fault` where the write failed, and the store has
-    /// stopped then; before all others on a stopped store, with `Stopped`.
+    /// Copies the next page of the slot for which a row, a channel's or the fill's, holds a claim into the claimed
+    /// cluster: the slot's page, or its parent's, or zeros. `Lost` comes exactly where the blob is gone or its
+    /// generation is another: the claim is given back, and the write begins again, or the fill's row works for no
+    /// command any more. `Copied` says how many pages are left. Else the command that the row works for is logged, and
+    /// its claim given back: with `ReadFault` where the read failed; with `Fault` where the write failed, and the store
+    /// has stopped then; before all others on a stopped store, with `Stopped`.
     pub fn copy_page(&mut self, channel: u8) -> CopyTurn
         requires stage { (left : ℕ) × (is_stage (rows_of self.old.at.rows channel) channel ≡ Copy left) }
         ensures lost { result ≡ copy.Lost → TurnMade D.PageDisk self.old.at self.new.at kind.loses_copy }
         ensures copied { (left : ℕ) → result ≡ copy.Copied left
             → TurnMade D.PageDisk self.old.at self.new.at kind.copies }
         ensures logged { result ≡ copy.Logged → TurnsAs D.PageDisk IsOfCopy self.old.at self.new.at }
-        ensures row { OnlyRow self.old.at.rows self.new.at.rows channel
-            (row_copied result (rows_of self.old.at.rows channel)) }
+        ensures rows { RowsCopied result self.old.at.filling self.old.at.rows self.new.at.rows channel }
         ensures job { self.new.at.job ≡ self.old.at.job }
         ensures opening { self.new.opening ≡ self.old.opening }
         ensures right { self.new.right ≡ self.old.right }
@@ -68,9 +69,9 @@ impl<D: PageDisk> Plant<D> {
         copy_or_halt(&mut self.running, channel)
     }
 
-    /// Flushes the pages that a channel has copied, and posts its insert under the next number, by this message. It is
-    /// logged instead, and its claim given back: with `Fault` where the flush failed, and the store has stopped then;
-    /// on a stopped store with `Stopped`.
+    /// Flushes the pages that are copied for a row, a channel's or the fill's, and posts its insert under the next
+    /// number, by this message. The command that the row works for is logged instead, and its claim given back: with
+    /// `Fault` where the flush failed, and the store has stopped then; on a stopped store with `Stopped`.
     pub fn send_ready(&mut self, channel: u8) -> SendTurn
         requires stage { is_stage (rows_of self.old.at.rows channel) channel ≡ Ready }
         ensures sent { (msg : AMsg) → result ≡ send.Post msg
@@ -78,8 +79,7 @@ impl<D: PageDisk> Plant<D> {
         ensures message { (msg : AMsg) → result ≡ send.Post msg
             → msg ≡ record { channel = channel; serial = self.old.at.serial } }
         ensures logged { result ≡ send.Logged → TurnsAs D.PageDisk IsOfSend self.old.at self.new.at }
-        ensures row { OnlyRow self.old.at.rows self.new.at.rows channel
-            (row_sent result (rows_of self.old.at.rows channel)) }
+        ensures rows { RowsSent result self.old.at.filling self.old.at.rows self.new.at.rows channel }
         ensures job { self.new.at.job ≡ self.old.at.job }
         ensures opening { self.new.opening ≡ self.old.opening }
         ensures right { self.new.right ≡ self.old.right }

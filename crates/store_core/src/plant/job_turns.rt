@@ -11,7 +11,7 @@ use running_store::refuse_or_halt;
 use volume_model::{Msg, Reply};
 
 impl<D: PageDisk> Plant<D> {
-    ghost use Rattle.std.specs.Prelude.{◌≡◌, None, Some, IsSome};
+    ghost use Rattle.std.specs.Prelude.{◌≡◌, ◌≢◌, None, Some, IsSome};
     ghost use Rattle.std.specs.FinMap as map;
     ghost use Rattle.metadata_turns.specs.Answering.{IsAnswerable};
     ghost use Rattle.job_begins.specs.Begins.{row_begun, BeginsOrNot, IsJobOf};
@@ -33,6 +33,7 @@ impl<D: PageDisk> Plant<D> {
     pub fn answer(&mut self, right: &mut MdRight, msg: Msg)
         requires right { right.old ≡ self.old.right }
         requires posted { IsPostedBy self.old.at.rows msg }
+        requires unfilled { self.old.at.filling ≢ Some msg.channel }
         requires answerable { Asks self.old.at msg.channel IsAnswerable }
         requires no_job { self.old.at.job ≡ None }
         ensures answered { self.old.at.stopped ≡ None → TurnMade D.PageDisk self.old.at self.new.at kind.answers }
@@ -51,6 +52,7 @@ impl<D: PageDisk> Plant<D> {
     pub fn refuse(&mut self, right: &mut MdRight, msg: Msg, reply: Reply)
         requires right { right.old ≡ self.old.right }
         requires posted { IsPostedBy self.old.at.rows msg }
+        requires unfilled { self.old.at.filling ≢ Some msg.channel }
         requires why { self.old.at.stopped ≡ None
             → Asks self.old.at msg.channel (λ command. IsRefusedBy (state_of D.PageDisk self.old.at) command reply) }
         ensures refused { self.old.at.stopped ≡ None → TurnMade D.PageDisk self.old.at self.new.at kind.refuses }
@@ -70,6 +72,7 @@ impl<D: PageDisk> Plant<D> {
     pub fn begin_job(&mut self, right: &mut MdRight, msg: Msg, job: Job) -> BeginTurn
         requires right { right.old ≡ self.old.right }
         requires posted { IsPostedBy self.old.at.rows msg }
+        requires unfilled { self.old.at.filling ≢ Some msg.channel }
         requires no_job { self.old.at.job ≡ None }
         requires repaired { IsRepaired (state_of D.PageDisk self.old.at) }
         requires asks { self.old.at.stopped ≡ None
@@ -89,7 +92,8 @@ impl<D: PageDisk> Plant<D> {
     /// One phase of the running job: its next device calls. `More` where it runs on, `Done` with its last, `Stopped`
     /// where one failed, and on a stopped store, where no call is made, the job's command is logged as that if it has
     /// no entry yet, and no job runs any more. With the last turn of an insert its row is decided as won; where one
-    /// fails its write is logged, and its claim given back if the cluster isn't in its slot yet.
+    /// fails the command that its row works for is logged, and its claim given back if the cluster isn't in its slot
+    /// yet.
     pub fn job_turn(&mut self, right: &mut MdRight) -> JobTurn
         requires right { right.old ≡ self.old.right }
         requires runs { IsSome self.old.at.job }

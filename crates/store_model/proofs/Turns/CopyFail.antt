@@ -1,7 +1,6 @@
 -- The turn copy_fails.
 use Rattle.std.proofs.Common.{◌≡◌, length, Some, ap, arith, refl, subst, sym, ◌∙◌}
 use Rattle.page_disk.specs.declared.disk.PageDisk.{Ghosts}
-use Rattle.volume_model.specs.declared.command.Command.TheVariants as c
 use Rattle.volume_model.specs.declared.reply.Reply.TheVariants as r
 use Rattle.store_model.specs.Rows.{entry_of, Idle, InJob, Row, Stage}
 use Rattle.store_model.specs.StoreState.{StoreState}
@@ -11,8 +10,9 @@ use Rattle.store_model.specs.Cases.CopyFail as case
 use Rattle.store_model.specs.Cases.CopyFail.{CopyFails, copy, flush, tried_copy, TriedCopy}
 use Rattle.store_model.specs.RunInvariant.{RunInvariant}
 use Rattle.store_model.proofs.CopyTurning.{claimed_fails}
-use Rattle.store_model.proofs.GivenBack.{logs_own_facts, stopped_facts}
+use Rattle.store_model.proofs.GivenBack.{logged_from, logged_work, logged_work_facts, stopped_facts}
 use Rattle.store_model.proofs.Known.{Known}
+use Rattle.store_model.proofs.Refusals.{RefusalsChangeNothing}
 use Rattle.store_model.proofs.Over.{breaks, Effect, fault, ImageLaw, Over, TurnLaw}
 use Rattle.store_model.proofs.Shapes.{unwritten_fails}
 use Rattle.store_model.proofs.Shaped.{idle_may}
@@ -24,7 +24,7 @@ copies_alone p claim stage (flush at) in_job = let bad = sym at ∙ in_job in cc
 
 -- ---- it keeps what every state has
 
-module _ (known : Known) where
+module _ (quiet : RefusalsChangeNothing) (known : Known) where
   open known use {s, placed, first, script, p, facts}
 
   keeps : (q : StoreState) → CopyFails p q → RunInvariant s first script q
@@ -33,17 +33,10 @@ module _ (known : Known) where
         p = record (stopped_now p) { device = t.device };
         facts = stopped_facts known t.device t.fails.clock;
       } in
-      logs_own_facts there t.copying.row Idle r.Fault q
-      (record {
-        volume = t.logs.volume;
-        page = t.logs.page;
-        word = t.logs.word;
-        rest = t.logs.rest;
-        left = t.logs.left;
-        next = t.logs.next;
-      }) idle_may (λ bad. cc bad)
+      logged_work_facts quiet there t.copying.row Idle idle_may (λ bad. cc bad)
       (λ in_job. copies_alone p t.copying.claim t.stage t.tried
-      (sym (ap (λ (r : Row). r.stage) t.copying.is) ∙ in_job)) tt
+      (sym (ap (λ (r : Row). r.stage) t.copying.is) ∙ in_job)) r.Fault q
+      (logged_from t.device (logged_work t.logs)) tt
 
 -- ---- its images
 
@@ -51,7 +44,7 @@ module _ {D : Type 0} (d : Ghosts D) (x : Over d) (t : CopyFails x.p x.q) where
   open x use {p, q, from, to}
 
   stops : q.stopped ≡ Some (length p.log)
-  stops = ap (λ (v : StoreState). v.stopped) t.logs.next
+  stops = ap (λ (v : StoreState). v.stopped) (logged_work t.logs).next
 
   by : (tried : TriedCopy p t.copying.claim t.stage)
       → ImageLaw d x (left_by (tried_copy p t.copying.claim tried) (d.images from) (d.now from))
@@ -62,12 +55,12 @@ module _ {D : Type 0} (d : Ghosts D) (x : Over d) (t : CopyFails x.p x.q) where
 
 pub law : TurnLaw case.kind
 law = record {
-  keeps = λ _ told known q t. keeps known q t;
-  effect = λ told p q t. subst (Effect p) (sym t.logs.next)
-      (record {
+  keeps = λ below told known q t. keeps below.refusals known q t;
+  effect = λ told p q t.
+      let x = logged_work t.logs in
+      subst (Effect p) (sym x.next) (record {
         goes = breaks t.runs refl t.fails.write_faults;
-        logs = fault (entry_of p.log t.copying.row (c.Write t.logs.volume t.logs.page t.logs.word) r.Fault) refl refl
-            refl refl;
+        logs = fault (entry_of p.log x.channel x.command r.Fault) refl refl refl refl;
       });
   images = λ d x t does. by d x t t.tried;
   job = λ of. absurd of;

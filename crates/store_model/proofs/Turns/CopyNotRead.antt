@@ -1,7 +1,5 @@
 -- The turn copy_not_read.
 use Rattle.std.proofs.Common.{false, ap, arith, refl, subst, sym, ◌∙◌}
-use Rattle.volume_model.specs.declared.command.Command.{Command}
-use Rattle.volume_model.specs.declared.command.Command.TheVariants as c
 use Rattle.volume_model.specs.declared.reply.Reply.TheVariants as r
 use Rattle.store_model.specs.Rows.{entry_of, Idle}
 use Rattle.store_model.specs.StoreState.{StoreState}
@@ -9,9 +7,11 @@ use Rattle.store_model.specs.Touches.{no_new}
 use Rattle.store_model.specs.Cases.CopyNotRead as case
 use Rattle.store_model.specs.Cases.CopyNotRead.{CopyNotRead}
 use Rattle.store_model.specs.RunInvariant.{RunInvariant}
-use Rattle.store_model.proofs.GivenBack.{logs_own_facts}
+use Rattle.volume_model.proofs.RefusalsSettleNothing.{not_flushing}
+use Rattle.store_model.proofs.GivenBack.{logged_from, logged_work, logged_work_facts}
 use Rattle.store_model.proofs.Going.{left_of}
 use Rattle.store_model.proofs.Known.{Known}
+use Rattle.store_model.proofs.Refusals.{RefusalsChangeNothing}
 use Rattle.store_model.proofs.Over.{answer, Effect, moves, TurnLaw}
 use Rattle.store_model.proofs.Shapes.{idles, Idles, notes, now_same, unwritten_images}
 use Rattle.store_model.proofs.Shaped.{idle_may}
@@ -20,7 +20,7 @@ use Rattle.store_model.proofs.StateKept.{not_in_job}
 
 -- ---- it keeps what every state has
 
-module _ (known : Known) where
+module _ (quiet : RefusalsChangeNothing) (known : Known) where
   open known use {s, placed, first, script, p, facts}
 
   keeps : (q : StoreState) → CopyNotRead p q → RunInvariant s first script q
@@ -30,31 +30,24 @@ module _ (known : Known) where
         p = record p { device = t.device };
         facts = device_facts known t.device t.failed.reads (omega (arith, clock));
       } in
-      logs_own_facts there t.copying.row Idle r.ReadFault q
-      (record {
-        volume = t.logs.volume;
-        page = t.logs.page;
-        word = t.logs.word;
-        rest = t.logs.rest;
-        left = t.logs.left;
-        next = t.logs.next;
-      }) idle_may (λ bad. cc bad) (not_in_job known _ _ t.copying.is (λ bad. cc bad)) tt
-
-abbrev command : (p q : StoreState) → CopyNotRead p q → Command
-command p q t = c.Write t.logs.volume t.logs.page t.logs.word
+      logged_work_facts quiet there t.copying.row Idle idle_may (λ bad. cc bad)
+      (not_in_job known _ _ t.copying.is (λ bad. cc bad)) r.ReadFault q
+      (logged_from t.device (logged_work t.logs)) tt
 
 pub law : TurnLaw case.kind
 law = record {
-  keeps = λ _ told known q t. keeps known q t;
-  effect = λ told p q t. subst (Effect p) (sym t.logs.next)
-      (record {
+  keeps = λ below told known q t. keeps below.refusals known q t;
+  effect = λ told p q t.
+      let x = logged_work t.logs in
+      subst (Effect p) (sym x.next) (record {
         goes = moves t.runs refl t.failed.write_faults;
-        logs = answer (entry_of p.log t.copying.row (command p q t) r.ReadFault) refl refl tt t.runs;
+        logs = answer (entry_of p.log x.channel x.command r.ReadFault) refl refl tt t.runs;
       });
   images = λ d x t does.
-      unwritten_images d x (now_same d x (ap (λ (v : StoreState). v.device.reads) t.logs.next ∙ t.failed.reads))
+      let y = logged_work t.logs in
+      unwritten_images d x (now_same d x (ap (λ (v : StoreState). v.device.reads) y.next ∙ t.failed.reads))
       (left_of d x (no_new false) does)
-      (subst (Idles x.p) (sym t.logs.next) (idles x.p _ refl refl refl refl
-      (λ _. notes (entry_of x.p.log t.copying.row (command x.p x.q t) r.ReadFault) refl refl)));
+      (subst (Idles x.p) (sym y.next) (idles x.p _ refl refl refl refl
+      (λ _. notes (entry_of x.p.log y.channel y.command r.ReadFault) refl (not_flushing y.command r.ReadFault tt))));
   job = λ of. absurd of;
 }

@@ -2,7 +2,6 @@
 use Rattle.std.proofs.Common.{◌∷◌, ◌≡◌, length, Some, None, false, refl, subst, sym, ap, ◌∙◌, arith}
 use Rattle.page_disk.specs.declared.disk.PageDisk.{Ghosts}
 use Rattle.md_chain.specs.Chain.{is_among}
-use Rattle.volume_model.specs.declared.command.Command.TheVariants as c
 use Rattle.volume_model.specs.declared.reply.Reply.TheVariants as r
 use Rattle.store_model.specs.Claiming.{IsInserting}
 use Rattle.store_model.specs.Jobs.{gained_by}
@@ -15,29 +14,24 @@ use Rattle.store_model.specs.Turning.{Runs}
 use Rattle.store_model.specs.Cases.InsertFail as case
 use Rattle.store_model.specs.Cases.InsertFail.{head, InsertFails, page, tried_insert, TriedInsert}
 use Rattle.store_model.specs.RunInvariant.{RunInvariant}
+use Rattle.store_model.proofs.GivenBack.{logged_work}
 use Rattle.store_model.proofs.InsertStops.{insert_stops}
 use Rattle.store_model.proofs.InsertTried.{insert_way}
 use Rattle.store_model.proofs.Known.{Known}
 use Rattle.store_model.proofs.LeftToDo.{put_quiet}
+use Rattle.store_model.proofs.Refusals.{RefusalsChangeNothing}
 use Rattle.store_model.proofs.Over.{breaks, Effect, fault, ImageLaw, Over, TurnLaw}
 use Rattle.store_model.proofs.Shapes.{place_fails}
 
 -- ---- it keeps what every state has
 
-module _ (known : Known) where
+module _ (quiet : RefusalsChangeNothing) (known : Known) where
   open known use {s, placed, first, script, p, facts}
 
   keeps : (q : StoreState) → InsertFails p q → RunInvariant s first script q
   keeps q t =
       insert_stops known t.running.job t.running.is t.inserting (length p.log) (omega arith) (λ h. false) (λ h. refl)
-      r.Fault t.device q t.fails.clock tt (record {
-        volume = t.logs.volume;
-        page = t.logs.page;
-        word = t.logs.word;
-        rest = t.logs.rest;
-        left = t.logs.left;
-        next = t.logs.next;
-      })
+      quiet r.Fault t.device q t.fails.clock tt (logged_work t.logs)
 
 -- ---- its images
 
@@ -45,7 +39,7 @@ module _ {D : Type 0} (d : Ghosts D) (x : Over d) (t : InsertFails x.p x.q) wher
   open x use {p, q, from, facts}
 
   stops : q.stopped ≡ Some (length p.log)
-  stops = ap (λ (v : StoreState). v.stopped) t.logs.next
+  stops = ap (λ (v : StoreState). v.stopped) (logged_work t.logs).next
 
   at_head : (phase : Phase) (running : Runs p phase) (inserting : IsInserting p running.job)
       (tried : TriedInsert running.job phase)
@@ -73,12 +67,12 @@ module _ {D : Type 0} (d : Ghosts D) (x : Over d) (t : InsertFails x.p x.q) wher
 
 pub law : TurnLaw case.kind
 law = record {
-  keeps = λ _ told known q t. keeps known q t;
-  effect = λ told p q t. subst (Effect p) (sym t.logs.next)
-      (record {
+  keeps = λ below told known q t. keeps below.refusals known q t;
+  effect = λ told p q t.
+      let x = logged_work t.logs in
+      subst (Effect p) (sym x.next) (record {
         goes = breaks t.running.runs refl t.fails.write_faults;
-        logs = fault (entry_of p.log t.inserting.row (c.Write t.logs.volume t.logs.page t.logs.word) r.Fault) refl refl
-            refl refl;
+        logs = fault (entry_of p.log x.channel x.command r.Fault) refl refl refl refl;
       });
   images = λ d x t does. at_head d x t t.phase t.running t.inserting t.tried;
   job = λ of. absurd of;

@@ -3,7 +3,7 @@ use Rattle.std.specs.Prelude.{◌≡◌, ◌⊎◌, ℕ, suc, ◌+◌, ◌≤◌
 use Rattle.page_disk.specs.Disk.{Rose, RoseByOne}
 use Rattle.super_block.specs.Numbers.{cluster_pages_of}
 use Rattle.volume_model.specs.declared.reply.Reply.TheVariants as r
-use Rattle.store_model.specs.Claiming.{IsCopying, LogsOwn}
+use Rattle.store_model.specs.Claiming.{IsCopying, LogsWork}
 use Rattle.store_model.specs.Copying.{IsUpToDate, page_of_claim}
 use Rattle.store_model.specs.Device.{Device}
 use Rattle.store_model.specs.Rows.{Copying, Idle, OpenClaim, Ready, Stage}
@@ -24,7 +24,7 @@ pub record FailsToCopy (old new : Device) : Type 0 where
   pub write_faults : Rose old.write_faults new.write_faults
   pub read_calls : (new.read_calls ≡ old.read_calls) ⊎ RoseByOne old.read_calls new.read_calls
 
--- It failed: the store stops, the write is logged as failed, and the claim given back.
+-- It failed: the store stops, the command that the row works for is logged as failed, and the claim given back.
 pub record CopyFails (p q : StoreState) : Type 0 where
   pub stage : Stage
   pub copying : IsCopying p stage
@@ -32,7 +32,7 @@ pub record CopyFails (p q : StoreState) : Type 0 where
   pub runs : p.stopped ≡ None
   pub device : Device
   pub fails : FailsToCopy p.device device
-  pub logs : LogsOwn (stopped_now p) copying.row Idle r.Fault device q
+  pub logs : LogsWork (stopped_now p) copying.row Idle r.Fault device q
 
 abbrev pub tried_copy : StoreState → (claim : OpenClaim) → {p : StoreState} → {stage : Stage} → TriedCopy p claim stage
     → Touch

@@ -2,7 +2,7 @@
 use Rattle.std.specs.Prelude.{◌≡◌, ℕ, suc, None, false}
 use Rattle.page_disk.specs.Disk.{Rose}
 use Rattle.volume_model.specs.declared.reply.Reply.TheVariants as r
-use Rattle.store_model.specs.Claiming.{IsCopying, LogsOwn}
+use Rattle.store_model.specs.Claiming.{IsCopying, LogsWork}
 use Rattle.store_model.specs.Copying.{IsUpToDate}
 use Rattle.store_model.specs.Device.{Device}
 use Rattle.store_model.specs.Rows.{Copying, Idle}
@@ -16,7 +16,8 @@ pub record IsNotRead (old new : Device) : Type 0 where
   pub read_faults : Rose old.read_faults new.read_faults
   pub write_faults : new.write_faults ≡ old.write_faults
 
--- The page that is to be copied can't be read: the write is logged as that, and the claim given back.
+-- The page that is to be copied can't be read: the command that the row works for is logged as that, and the claim
+-- given back.
 pub record CopyNotRead (p q : StoreState) : Type 0 where
   pub left : ℕ
   pub copying : IsCopying p (Copying (suc left))
@@ -24,7 +25,7 @@ pub record CopyNotRead (p q : StoreState) : Type 0 where
   pub current : IsUpToDate p copying.claim
   pub device : Device
   pub failed : IsNotRead p.device device
-  pub logs : LogsOwn p copying.row Idle r.ReadFault device q
+  pub logs : LogsWork p copying.row Idle r.ReadFault device q
 
 abbrev pub kind : TurnKind
 kind = record { Case = λ told p q. CopyNotRead p q; touch = λ told p q t. no_new false; OfJob = ⊥ }

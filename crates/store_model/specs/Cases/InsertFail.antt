@@ -3,7 +3,7 @@ use Rattle.std.specs.Prelude.{◌≡◌, Some, None, false}
 use Rattle.volume_model.specs.declared.reply.Reply.TheVariants as r
 use Rattle.blob_meta.specs.declared.meta.Meta.{Meta}
 use Rattle.md_chain.specs.declared.plan.PlannedPage.{PlannedPage}
-use Rattle.store_model.specs.Claiming.{IsInserting, LogsOwn}
+use Rattle.store_model.specs.Claiming.{IsInserting, LogsWork}
 use Rattle.store_model.specs.Device.{Device}
 use Rattle.store_model.specs.Phases.{page_in, Phase, Replaces, Replacing}
 use Rattle.store_model.specs.Rows.{Answered, Decided}
@@ -17,7 +17,7 @@ pub data TriedInsert (j : JobState) (phase : Phase) : Type 0 where
   head : (replacing : Replacing) (new : Meta) → phase ≡ Replaces replacing None → replacing.new ≡ Some new
       → TriedInsert j phase
 
--- A write or a flush of the job failed: the store stops, the write that waits for the insert is logged as failed, its
+-- A write or a flush of the job failed: the store stops, the command that the row works for is logged as failed, the
 -- claim is given back, if the cluster isn't in its slot yet, no job runs any more, and no blob is frozen.
 pub record InsertFails (p q : StoreState) : Type 0 where
   pub phase : Phase
@@ -26,7 +26,7 @@ pub record InsertFails (p q : StoreState) : Type 0 where
   pub tried : TriedInsert running.job phase
   pub device : Device
   pub fails : FailsToReplace p.device device
-  pub logs : LogsOwn (record (stopped_now p) { job = None }) inserting.row (Decided Answered) r.Fault device q
+  pub logs : LogsWork (record (stopped_now p) { job = None }) inserting.row (Decided Answered) r.Fault device q
 
 abbrev pub tried_insert : StoreState → {j : JobState} → {phase : Phase} → TriedInsert j phase → Touch
 tried_insert p (page put is) = puts (page_of_place p put.place) put.page false

@@ -6,7 +6,7 @@ use Rattle.volume_model.specs.declared.reply.Reply.TheVariants as r
 use Rattle.store_model.specs.Device.{Device}
 use Rattle.store_model.specs.Phases.{has_commit, Marks}
 use Rattle.store_model.specs.StoreState.{going_on, logged, StoreState, waiting}
-use Rattle.store_model.specs.Turning.{FailsToReplace, IsServedNow, page_of_place, Runs, stopped_now, WritesOnePage}
+use Rattle.store_model.specs.Turning.{FailsToReplace, IsServedNow, Runs, stopped_now, WritesOnePage}
 
 -- the super block of a store that is in use
 abbrev pub dirty : Super → Super

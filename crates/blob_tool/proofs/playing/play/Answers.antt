@@ -12,6 +12,10 @@ run_repaired-requires-clause-served g c =
     served_behind g.D.PageDisk first c.repair-end.new.plant.at c.repair-end.ensures.ended.made
     (served_at_start c.args.script first.rows c.in-Ok.ensures.opened.rows c.requires.all_served)
 
+pub run_repaired-requires-clause-unused : goal.run_repaired-requires-clause-unused
+run_repaired-requires-clause-unused g c =
+    c.repair-end.ensures.ended.made.rows 16 ∙ c.in-Ok.ensures.opened.rows.fill
+
 pub returns-in-Some : goal.returns-in-Some
 returns-in-Some g c =
     let d = g.D.PageDisk in

@@ -41,7 +41,7 @@ returns g c script rows made unmarked =
       last = store.at;
       run = is_run d script store kept rows_here c.run_stepwise-plant.ensures.ended c.args.plant.at made_here unmarked
           c.args.schedule.now c.run_stepwise-plant.ensures.follows c.state_stops.ensures
-          c.run_stepwise-plant.ensures.no_job;
+          c.run_stepwise-plant.ensures.no_job c.run_stepwise-plant.ensures.unused;
       device = adds;
       survives = survives d c.stores_are_accepted.ensures law store kept back adds;
       printed =

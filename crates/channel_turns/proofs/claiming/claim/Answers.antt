@@ -19,7 +19,7 @@ returns-in-Some-clause-filled g c said =
     c.in-Write.word
     (λ k rest left. c.first_of.ensures k rest
     (ap (λ (l : List Row). (rows_of l c.args.channel).left) c.deref.ensures.value ∙ left)) c.in-Write.is in
-    let low : c.args.channel < length p.rows = omega (arith, c.requires.channel, c.requires.order.sixteen) in
+    let low : c.args.channel < length p.rows = omega (arith, c.requires.channel, c.requires.order.seventeen) in
     found_filled d p c.args.channel c.requires.running c.requires.runs c.requires.order.resolves w c.find-head.result
     c.find-head.ensures.meant (sym c.is_frozen.ensures ∙ c.if-is_frozen.false)
     c.in-Some.field-0 (sym c.place_in.ensures ∙ c.in-Some.is) low c.go_to.new.self
@@ -36,7 +36,7 @@ returns-in-Some-refusal_of_write-clause-logged g c said =
     (λ k rest left. c.first_of.ensures k rest
     (ap (λ (l : List Row). (rows_of l c.args.channel).left) c.deref.ensures.value ∙ left)) c.in-Write.is in
     let none = sym c.place_in.ensures ∙ c.in_default-place_in.is in
-    let low : c.args.channel < length p.rows = omega (arith, c.requires.channel, c.requires.order.sixteen) in
+    let low : c.args.channel < length p.rows = omega (arith, c.requires.channel, c.requires.order.seventeen) in
     claim_refused d p c.args.channel c.requires.running c.requires.runs c.requires.order.resolves w c.find-head.result
     c.find-head.ensures.meant (sym c.is_frozen.ensures ∙ c.if-is_frozen.false)
     none c.in-Some-refusal_of_write.reply c.in-Some-refusal_of_write.ensures.caused

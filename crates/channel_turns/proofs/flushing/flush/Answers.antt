@@ -1,8 +1,8 @@
-use Rattle.std.proofs.Common.{◌<◌, length, ◌∙◌, ap, sym, refl, arith}
+use Rattle.std.proofs.Common.{◌<◌, length, ◌∙◌, ap, sym, arith}
 use Rattle.volume_model.specs.declared.reply.Reply.TheVariants as r
 use Rattle.running_store.specs.Running.{view_of}
 use Rattle.running_store.specs.Steps.{logged_on}
-use Rattle.running_store.specs.StoreView.{StoreView, rows_of, state_of}
+use Rattle.running_store.specs.StoreView.{StoreView, rows_of}
 use Rattle.channel_turns.proofs.Flushed.{flush_failed, flush_made}
 use Rattle.running_store.proofs.PlainFacts.{on_err, on_ok}
 use Rattle.channel_turns.proofs.Thawed.{thawed}
@@ -15,7 +15,7 @@ returns-then-is_err-clause-case g c =
     let q = view_of c.log_here.new.running in
     let channel = c.args.channel in
     let low : channel < length c.args.running.now.rows.items =
-    omega (arith, c.requires.channel, c.requires.order.sixteen) in
+    omega (arith, c.requires.channel, c.requires.order.seventeen) in
     let stopped = c.stop_here.ensures.stopped in
     flush_failed d old channel low c.requires.runs c.requires.waits c.flush_once.new.disk
     c.flush_once.ensures.any_moment q
@@ -32,7 +32,7 @@ returns-else-is_err-clause-case g c =
     let old = view_of c.args.running.now in
     let q = view_of c.log_here-else-is_err.new.running in
     let low : c.args.channel < length c.args.running.now.rows.items =
-    omega (arith, c.requires.channel, c.requires.order.sixteen) in
+    omega (arith, c.requires.channel, c.requires.order.seventeen) in
     let done = sym c.is_err.ensures.value ∙ c.if-is_err.false in
     flush_made d old c.args.channel low c.requires.runs c.requires.waits c.flush_once.new.disk
     c.flush_once.ensures.any_moment q (on_ok c.flush_once.result _ done c.flush_once.ensures.flushed)

@@ -14,7 +14,7 @@ returns-then-is_err-clause-case g c =
     let old = view_of c.args.running.now in
     let disk = c.read_at.new.disk in
     let low : c.args.channel < length c.args.running.now.rows.items =
-    omega (arith, c.requires.channel, c.requires.order.sixteen) in
+    omega (arith, c.requires.channel, c.requires.order.seventeen) in
     read_failed d old c.args.channel c.args.place c.requires.reads low disk c.read_at.ensures.any_moment
     (view_of c.log_here.new.running)
     (failed_so (device_of d old.disk) (device_of d disk) c.read_at.result
@@ -27,7 +27,7 @@ returns-else-is_err-clause-case g c =
     let old = view_of c.args.running.now in
     let disk = c.read_at.new.disk in
     let low : c.args.channel < length c.args.running.now.rows.items =
-    omega (arith, c.requires.channel, c.requires.order.sixteen) in
+    omega (arith, c.requires.channel, c.requires.order.seventeen) in
     let done = sym c.is_err.ensures.value ∙ c.if-is_err.false in
     let x = c.log_content.ensures.logged in
     read_made d old c.args.channel c.args.place c.requires.reads low disk c.read_at.ensures.any_moment

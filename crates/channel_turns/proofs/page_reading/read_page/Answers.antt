@@ -21,7 +21,7 @@ returns-in-Some-clause-logged g c said =
     read_refused d p c.args.channel c.requires.running c.requires.runs c.requires.order.resolves w c.find-head.result
     c.find-head.ensures.meant (sym c.is_frozen.ensures ∙ c.if-is_frozen.false) c.in-Some.reply c.in-Some.ensures.caused
     (c.in-Some.ensures.first c.in-Read.volume c.find-head.ensures.meant)
-    (omega (arith, c.requires.channel, c.requires.order.sixteen)) (view_of c.log_here.new.running)
+    (omega (arith, c.requires.channel, c.requires.order.seventeen)) (view_of c.log_here.new.running)
     c.log_here.ensures.logged
     (λ tells. started d p.disk (d.images p.disk) ((g.met.D.PageDisk.telling tells).since_now p.disk))
 

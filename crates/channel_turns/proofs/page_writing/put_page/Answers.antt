@@ -1,8 +1,8 @@
-use Rattle.std.proofs.Common.{◌<◌, length, ◌∙◌, ap, sym, refl, arith}
+use Rattle.std.proofs.Common.{◌<◌, length, ◌∙◌, ap, sym, arith}
 use Rattle.volume_model.specs.declared.reply.Reply.TheVariants as r
 use Rattle.running_store.specs.Running.{view_of}
 use Rattle.running_store.specs.Steps.{logged_on}
-use Rattle.running_store.specs.StoreView.{StoreView, rows_of, state_of}
+use Rattle.running_store.specs.StoreView.{StoreView, rows_of}
 use Rattle.channel_turns.proofs.Written.{write_failed, written_made}
 use Rattle.running_store.proofs.PlainFacts.{on_err, on_ok}
 use Rattle.channel_turns.proofs.Thawed.{thawed}
@@ -15,7 +15,7 @@ returns-then-is_err-clause-case g c =
     let q = view_of c.log_here.new.running in
     let channel = c.args.channel in
     let low : channel < length c.args.running.now.rows.items =
-    omega (arith, c.requires.channel, c.requires.order.sixteen) in
+    omega (arith, c.requires.channel, c.requires.order.seventeen) in
     let stopped = c.stop_here.ensures.stopped in
     write_failed d old channel c.args.place c.args.content.now c.requires.writes low c.write_one.new.disk
     c.write_one.ensures.any_moment q
@@ -32,7 +32,7 @@ returns-else-is_err-clause-case g c =
     let old = view_of c.args.running.now in
     let q = view_of c.log_here-else-is_err.new.running in
     let low : c.args.channel < length c.args.running.now.rows.items =
-    omega (arith, c.requires.channel, c.requires.order.sixteen) in
+    omega (arith, c.requires.channel, c.requires.order.seventeen) in
     let done = sym c.is_err.ensures.value ∙ c.if-is_err.false in
     written_made d old c.args.channel c.args.place c.args.content.now c.requires.writes low c.write_one.new.disk
     c.write_one.ensures.any_moment q (on_ok c.write_one.result _ done c.write_one.ensures.moves)

@@ -26,13 +26,13 @@ returns-in-Some-clause-logged g c said =
     c.find-head.result
     c.find-head.ensures.meant (sym c.is_frozen.ensures ∙ c.if-is_frozen.false) c.in-Some.reply c.in-Some.ensures.caused
     (c.in-Some.ensures.first c.in-Write.volume c.in-Write.word c.find-head.ensures.meant)
-    (omega (arith, c.requires.channel, c.requires.order.sixteen)) (view_of c.log_here.new.running)
+    (omega (arith, c.requires.channel, c.requires.order.seventeen)) (view_of c.log_here.new.running)
     c.log_here.ensures.logged
 
 pub returns-in_default-place_in-clause-empty : goal.returns-in_default-place_in-clause-empty
 returns-in_default-place_in-clause-empty g c said =
     let p = view_of c.args.running.now in
-    let low : c.args.channel < length p.rows = omega (arith, c.requires.channel, c.requires.order.sixteen) in
+    let low : c.args.channel < length p.rows = omega (arith, c.requires.channel, c.requires.order.seventeen) in
     let w = seen_write p c.args.channel Idle c.requires.waits c.first_of.result.now c.in-Write.volume c.in-Write.page
     c.in-Write.word
     (λ k rest left. c.first_of.ensures k rest

@@ -1,11 +1,11 @@
-use Rattle.std.proofs.Common.{◌<◌, length, ◌∙◌, ap, sym, refl, arith}
+use Rattle.std.proofs.Common.{◌∙◌, sym, subst}
 use Rattle.volume_model.specs.declared.reply.Reply.TheVariants as r
 use Rattle.store_model.specs.Rows.{Idle}
+use Rattle.running_store.specs.GivingBack.{HasWork, IsGivenUp}
 use Rattle.running_store.specs.Running.{view_of}
-use Rattle.running_store.specs.GivingBack.{row_given_back}
-use Rattle.running_store.specs.Steps.{logged_on}
-use Rattle.running_store.specs.StoreView.{StoreView, rows_of, state_of}
+use Rattle.running_store.specs.StoreView.{StoreView}
 use Rattle.running_store.proofs.PlainFacts.{on_err, on_ok}
+use Rattle.running_store.proofs.WorkLogged.{has_work}
 use Rattle.channel_turns.proofs.Sent.{send_failed, sent}
 use Rattle.channel_turns.proofs.Thawed.{thawed}
 use Rattle.channel_turns.proofs.sending.send.Goals as goal
@@ -14,29 +14,26 @@ pub returns-then-is_err-clause-logged : goal.returns-then-is_err-clause-logged
 returns-then-is_err-clause-logged g c said =
     let d = g.D.PageDisk in
     let old = view_of c.args.running.now in
-    let q = view_of c.give_up_here.new.running in
-    let channel = c.args.channel in
-    let low : channel < length c.args.running.now.rows.items =
-    omega (arith, c.requires.channel, c.requires.order.sixteen) in
-    let stopped = c.stop_here.ensures.stopped in
-    send_failed d old channel low c.requires.runs c.requires.holds c.flush_once.new.disk
-    c.flush_once.ensures.any_moment q
+    let q = view_of c.give_up.new.running in
+    send_failed d old c.args.row c.requires.order.seventeen c.requires.fill c.requires.runs c.requires.holds
+    c.flush_once.new.disk c.flush_once.ensures.any_moment q
     (thawed d old c.requires.running.facts.guarded)
     (on_err c.flush_once.result _ (sym c.is_err.ensures.value ∙ c.if-is_err.true) c.flush_once.ensures.fails)
-    (λ command rest left.
-    c.give_up_here.ensures.logged command rest
-    (ap (λ (v : StoreView g.row.D.Denot). (rows_of v.rows channel).left) stopped ∙ left)
-    ∙ ap (λ (v : StoreView g.row.D.Denot).
-    logged_on (row_given_back v channel Idle) channel command rest r.Fault (d.clock q.disk)) stopped)
+    (subst (λ (v : StoreView g.row.D.Denot). IsGivenUp v q c.args.row Idle r.Fault (d.clock q.disk))
+    c.stop_here.ensures.stopped c.give_up.ensures.logged)
 
 pub returns-clause-sent : goal.returns-clause-sent
 returns-clause-sent g c msg said =
     let d = g.D.PageDisk in
     let old = view_of c.args.running.now in
-    let low : c.args.channel < length c.args.running.now.rows.items =
-    omega (arith, c.requires.channel, c.requires.order.sixteen) in
     let done = sym c.is_err.ensures.value ∙ c.if-is_err.false in
-    sent d old c.args.channel low c.requires.runs c.requires.holds c.flush_once.new.disk
-    c.flush_once.ensures.any_moment (view_of c.post_row.new.running)
+    sent d old c.args.row c.requires.order.seventeen c.requires.fill c.requires.runs c.requires.holds
+    c.flush_once.new.disk c.flush_once.ensures.any_moment (view_of c.post_row.new.running)
     (on_ok c.flush_once.result _ done c.flush_once.ensures.flushed)
     (λ tells. on_ok c.flush_once.result _ done (c.flush_once.ensures.durable tells)) c.post_row.ensures.posted
+
+pub give_up-requires-clause-works : goal.give_up-requires-clause-works
+give_up-requires-clause-works g c =
+    subst (λ (v : StoreView g.row.D.Denot). HasWork v.filling v.rows c.args.row) (sym c.stop_here.ensures.stopped)
+    (has_work g.D.PageDisk (view_of c.args.running.now) c.requires.order.seventeen c.requires.fill c.args.row
+    c.requires.holds.works)

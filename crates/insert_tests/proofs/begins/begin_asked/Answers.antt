@@ -8,6 +8,7 @@ use Rattle.job_begins.specs.Begins.{IsJobOf}
 use Rattle.running_store.specs.Requests.{IsAsked}
 use Rattle.running_store.specs.StoreView.{rows_of, state_of}
 use Rattle.md_thread.specs.Tasks.{IsPlanOf}
+use Rattle.md_thread.proofs.StandsNow.{unfilled}
 use Rattle.insert_tests.proofs.begins.begin_asked.Goals as goal
 
 -- a list begins with one command
@@ -35,3 +36,13 @@ refuse-requires-clause-why g c =
     subst (λ (r : Result Job Reply). IsPlanOf d p c.in-Ok-Meta.command.now (Some r)) c.in-Err.is c.in-Some.ensures in
     λ _ command rest left. subst (λ (k : Command). IsRefusedBy (state_of d p) k c.in-Err.reply)
     (same_first c.in-Ok-Meta.command.now command asked.1 rest (sym asked.2 ∙ left)) plan
+
+pub begin_job-requires-clause-unfilled : goal.begin_job-requires-clause-unfilled
+begin_job-requires-clause-unfilled g c =
+    unfilled g.D.PageDisk c.state_turns.ensures c.args.plant.now c.keeps.ensures
+    (c.fill_row_is_over.ensures.0 c.if-not-fill_row_is_over.false) c.args.msg.channel
+
+pub refuse-requires-clause-unfilled : goal.refuse-requires-clause-unfilled
+refuse-requires-clause-unfilled g c =
+    unfilled g.D.PageDisk c.state_turns.ensures c.args.plant.now c.keeps.ensures
+    (c.fill_row_is_over.ensures.0 c.if-not-fill_row_is_over.false) c.args.msg.channel

@@ -14,7 +14,7 @@ pub returns-in-Ok-clause-began : goal.returns-in-Ok-clause-began
 returns-in-Ok-clause-began g c = λ _.
     let d = g.D.PageDisk in
     let q = view_of c.job_asked.new.running in
-    let low : c.args.channel < length q.rows = omega (arith, c.requires.channel, c.job_asked.ensures.order.sixteen) in
+    let low : c.args.channel < length q.rows = omega (arith, c.requires.channel, c.job_asked.ensures.order.seventeen) in
     let row = c.serve.ensures ∙ ap (λ (r : Row). record r { stage = InJob })
     (indexed_row q.rows c.args.channel low c.index_mut.result.now c.index_mut.ensures.value) in (
       subst (λ (r : Row). Begins (state_of d (view_of c.args.running.now)) (state_of d (record q {
@@ -28,7 +28,7 @@ pub returns-in-Ok-clause-order : goal.returns-in-Ok-clause-order
 returns-in-Ok-clause-order g c =
     let q = c.job_asked.new.running in
     let order = c.job_asked.ensures.order in
-    let low : c.args.channel < length q.rows.items = omega (arith, c.requires.channel, order.sixteen) in
+    let low : c.args.channel < length q.rows.items = omega (arith, c.requires.channel, order.seventeen) in
     let same : left_in (slice_set q.rows.items c.args.channel c.serve.new.self) ≡ left_in q.rows.items =
     left_same q.rows.items c.args.channel c.serve.new.self c.index_mut.result.now low
     (ap (λ (r : Row). length r.left) (sym c.index_mut.ensures.value)
@@ -36,7 +36,7 @@ returns-in-Ok-clause-order g c =
     record {
       inside = order.inside;
       device = order.device;
-      sixteen = search (rules);
+      seventeen = search (rules);
       entries = subst (λ n. length q.entries.items + n ≤ vec_capacity q.entries) (sym same) order.entries;
       marks = subst (λ n. length q.marks.items + n ≤ vec_capacity q.marks) (sym same) order.marks;
       few = subst (λ n. length q.entries.items + n < 2 ^ 31) (sym same) order.few;
@@ -55,8 +55,8 @@ returns-in-Err-clause-logged g c = λ _.
     let p = view_of c.args.running.now in
     let posted = c.requires.posted in
     let waits = posted.waits in
-    let low : c.args.channel < length p.rows = omega (arith, c.requires.channel, c.requires.order.sixteen) in
-    refused g.D.PageDisk p c.args.channel low posted c.requires.runs c.in-Err.reply
+    let low : c.args.channel < length p.rows = omega (arith, c.requires.channel, c.requires.order.seventeen) in
+    refused g.D.PageDisk p c.args.channel low posted c.requires.runs c.requires.unfilled c.in-Err.reply
     (c.in-Err.ensures.lack waits.command waits.rest (ap (λ (r : Row). r.left) waits.row))
     (view_of c.job_asked.new.running) (view_of c.log.new.running)
     (ap (λ (r : Running g.row.D.Denot). view_of r) c.in-Err.ensures.same) c.log.ensures.logged

@@ -15,7 +15,7 @@ use Rattle.store_model.proofs.Sets.{are_distinct}
 use Rattle.job_begins.specs.Begins.{IsPrepared}
 use Rattle.std.specs.FinMap as map
 use Rattle.volume_model.specs.declared.command.Command.{Command}
-use Rattle.running_store.specs.Effects.{commit_seen, cut_clusters, live_behind, AreEffects}
+use Rattle.running_store.specs.Effects.{commit_seen, cut_clusters, AreEffects}
 use Rattle.running_store.specs.Jobs.{job_seen}
 use Rattle.running_store.specs.Blobs.{blobs_of, CanAllBeKept}
 use Rattle.running_store.specs.Running.{view_of}
@@ -144,7 +144,7 @@ clear_places-requires-clause-in_use g c =
 pub returns-in-Ok-clause-begins : goal.returns-in-Ok-clause-begins
 returns-in-Ok-clause-begins g c =
     let p = view_of c.args.running.now in
-    let low : c.args.channel < length p.rows = omega (arith, c.requires.channel, c.requires.order.sixteen) in
+    let low : c.args.channel < length p.rows = omega (arith, c.requires.channel, c.requires.order.seventeen) in
     let claimed = c.len.ensures in
     let wanted = c.len-2.ensures in
     let as_many = c.if-len.false in
@@ -157,18 +157,18 @@ returns-in-Ok-clause-begins g c =
     let prepared = subst (λ (b : Bool). IsPrepared c.args.running.now.chains c.args.head c.fill_slots.new.new b
     c.args.running.now.pages.bits c.prepare.new.pages.bits c.in-Ok.prepared) c.is_some-makes.ensures
     c.in-Ok.ensures.prepared in
-    let live = λ (k : Command). live_behind k (map.get p.live c.args.head) c.args.new in
+    let live = map.get p.live c.args.head in
     let chained = is_some (map.get p.chains c.args.head) in
-    let are = subst (λ (m : Metas). AreEffects chained c.args.head (m c.args.head) (live waits.command) c.args.new []
+    let are = subst (λ (m : Metas). AreEffects chained c.args.head (m c.args.head) waits.command live c.args.new []
     c.in_ok-effects.effects)
     (sym (unmarked_base p.metas p.marked c.requires.order.resolves c.requires.unmarked))
-    (subst (λ (k : Command). AreEffects chained c.args.head (map.get p.metas c.args.head) (live k) c.args.new []
+    (subst (λ (k : Command). AreEffects chained c.args.head (map.get p.metas c.args.head) k live c.args.new []
     c.in_ok-effects.effects) asked c.in_ok-effects.ensures.are) in
     job_begins g.D.PageDisk (view_of c.args.running.now) c.args.channel c.requires.posted c.requires.running
     c.requires.unmarked c.requires.runs c.args.head c.args.new c.args.zeros.now c.requires.asks
     c.in_ok-effects-2.field-0 c.in_ok-effects-2.ensures.claimed
     c.fill_slots.new.new c.in_ok-effects-2.ensures.filled
-    (ap (λ o. option_map job_seen o) c.requires.no_job) low all c.in_ok-effects.effects
+    (ap (λ o. option_map job_seen o) c.requires.no_job) c.requires.unfilled low all c.in_ok-effects.effects
     are c.prepare.new.pages.bits c.fill_slots.new.clusters.bits
     c.in_ok-effects-2.ensures.bits c.in-Ok.prepared prepared c.cluster_pages-cluster_pages.result
     c.cluster_pages-cluster_pages.ensures.value c.job.result c.job.ensures.seen

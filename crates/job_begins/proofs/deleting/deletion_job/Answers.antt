@@ -142,7 +142,7 @@ returns-in-Ok-clause-begins g c =
     let d = g.D.PageDisk in
     let p = view_of c.args.running.now in
     let it = asked_at d p c.args.channel c.requires.posted c.args.ask c.requires.asks in
-    let low : c.args.channel < length p.rows = omega (arith, c.requires.channel, c.requires.order.sixteen) in
+    let low : c.args.channel < length p.rows = omega (arith, c.requires.channel, c.requires.order.seventeen) in
     let k = c.requires.posted.waits.command in
     let chain = chain_of (state_of d p) c.requires.running c.requires.unmarked c.requires.runs k c.args.ask it in
     let chain_too = chain_of_clone (state_of d p) c.requires.running c.requires.unmarked c.requires.runs k c.args.ask it
@@ -154,7 +154,7 @@ returns-in-Ok-clause-begins g c =
     (c.in_ok-old_of_clone.ensures.there (ap is_some chain_too.1)) c.in-Ok.job
     (subst (λ (l : List ℕ). IsDeletionLaid c.in_ok-drafts.drafts c.in_ok-besides.besides c.args.channel l
     c.in_ok-old.old c.in_ok-old_of_clone.old_of_clone c.in-Ok.job) c.as_slice.ensures c.in-Ok.ensures.laid)
-    c.requires.posted refl low c.take_places.new.pool.bits c.in_ok-taken.ensures.bits
+    c.requires.posted refl c.requires.unfilled low c.take_places.new.pool.bits c.in_ok-taken.ensures.bits
 
 pub returns-in-Ok-clause-kept : goal.returns-in-Ok-clause-kept
 returns-in-Ok-clause-kept g c =

@@ -23,13 +23,13 @@ returns-clause-are g c =
     let ask = c.args.ask.now in
     let freed = c.in_ok-freed.freed in
     record {
-      mark_room = c.in_ok-place.field-0;
-      mark = c.in_ok-place.ensures.place;
+      mark_room = c.in_ok-room.room;
+      mark = c.in_ok-room.ensures.place;
       begin = λ i. record {
         commit = None;
         freed = c.new.ensures i;
         claimed = c.new-2.ensures i;
-        rooms = record { chain = None; meta = c.in_ok-place.field-0 };
+        rooms = record { chain = None; meta = c.in_ok-room.room };
       };
       commit = λ i. record {
         commit = Some (record {

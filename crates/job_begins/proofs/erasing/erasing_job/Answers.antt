@@ -50,7 +50,7 @@ returns-clause-begins g c =
     let waits = c.requires.posted.waits in
     let x = c.requires.asks waits.command waits.rest (ap (λ (r : Row). r.left) waits.row) in
     let no_job = ap (λ o. option_map job_seen o) c.requires.no_job in
-    let low : c.args.channel < length p.rows = omega (arith, c.requires.channel, c.requires.order.sixteen) in
+    let low : c.args.channel < length p.rows = omega (arith, c.requires.channel, c.requires.order.seventeen) in
     let at : base_of p.metas p.marked c.args.head ≡ Some c.in-Some.meta.now =
     sym c.base_at.ensures ∙ ap option_copied c.in-Some.is in
     let chain = chain_there d p c.args.channel c.requires.posted c.requires.running c.requires.unmarked
@@ -74,8 +74,9 @@ returns-clause-begins g c =
           c.in_ok-old.old (phases_in l));
     }))) (sym c.new-2.ensures.items)
     (begins_erasing d p c.args.channel c.requires.posted c.requires.running c.requires.unmarked c.requires.runs no_job
-    c.args.head x.commit x.asked low c.in-Some.meta.now at c.in_ok-beside.beside c.in_ok-beside.ensures.are
-    c.in_ok-freed.freed c.in_ok-freed.ensures.are c.in_ok-old.old (c.in_ok-old.ensures.there (ap is_some chain.1))))
+    c.args.head x.commit x.asked c.requires.unfilled low c.in-Some.meta.now at c.in_ok-beside.beside
+    c.in_ok-beside.ensures.are c.in_ok-freed.freed c.in_ok-freed.ensures.are
+    c.in_ok-old.old (c.in_ok-old.ensures.there (ap is_some chain.1))))
 
 pub returns-clause-kept : goal.returns-clause-kept
 returns-clause-kept g c =

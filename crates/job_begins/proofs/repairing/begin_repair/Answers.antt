@@ -12,7 +12,7 @@ returns-in-Ok-clause-order g c =
     record {
       inside = order.inside;
       device = order.device;
-      sixteen = order.sixteen;
+      seventeen = order.seventeen;
       entries = order.entries;
       marks = order.marks;
       few = order.few;

@@ -150,7 +150,7 @@ returns-in-Ok-clause-begins g c =
     let behind = c.in_ok-old.ensures.there (ap is_some k.chain.1) in
     let laid = subst (λ (l : List ℕ). IsSnapshotLaid x c.in_ok-besides.besides c.args.channel l c.in_ok-old.old
     c.in-Ok.job) c.as_slice.ensures c.in-Ok.ensures in
-    let low : c.args.channel < length q.rows = omega (arith, c.requires.channel, c.requires.order.sixteen) in
+    let low : c.args.channel < length q.rows = omega (arith, c.requires.channel, c.requires.order.seventeen) in
     subst (λ (y : GuardsState). Begins (state_of d q) (state_of d (record q {
       rows = slice_set q.rows c.args.channel (record (rows_of q.rows c.args.channel) { stage = InJob });
       job = Some (job_seen c.in-Ok.job);
@@ -159,7 +159,8 @@ returns-in-Ok-clause-begins g c =
     }))) (sym c.freeze.ensures)
     (snapshot_begins_so d q c.args.channel c.requires.posted c.requires.running c.requires.unmarked c.requires.runs
     no_job c.args.ask c.requires.asks taken c.in_ok-taken.ensures.least some x c.in_ok-drafts.ensures
-    c.in_ok-besides.besides c.in_ok-besides.ensures.are c.in_ok-old.old behind c.in-Ok.job laid low
+    c.in_ok-besides.besides c.in_ok-besides.ensures.are c.in_ok-old.old behind c.in-Ok.job laid
+    c.requires.unfilled low
     c.take_places.new.pool.bits c.in_ok-taken.ensures.bits)
 
 pub returns-in-Ok-clause-headed : goal.returns-in-Ok-clause-headed

@@ -63,11 +63,12 @@ returns-in-Err-clause-case g c =
     let old = c.args.running.now in
     let waits = c.requires.posted.waits in
     let left = ap (λ (r : Row). r.left) waits.row in
-    let low : c.args.channel < length old.rows.items = omega (arith, c.requires.channel, c.requires.order.sixteen) in
+    let low : c.args.channel < length old.rows.items = omega (arith, c.requires.channel, c.requires.order.seventeen) in
     let on = c.requires.asked waits.command waits.rest left in
     let well = c.requires.running.facts.well c.requires.runs in
     let x = answered_memory c.requires.running.first (state_of d (view_of old)) waits.command well on.1 in
-    answer_made d (view_of old) (view_of c.log-in-Err.new.running) c.args.channel low c.requires.posted c.requires.runs
+    answer_made d (view_of old) (view_of c.log-in-Err.new.running) c.args.channel low c.requires.posted
+    c.requires.unfilled c.requires.runs
     (ap (λ o. option_map job_seen o) c.requires.no_job) Memory _ old.live on.1 x (λ df is. absurd (cc is)) refl
     (c.log-in-Err.ensures.logged waits.command waits.rest left)
 
@@ -79,7 +80,7 @@ returns-in-Ok-clause-case g c =
     let old = c.args.running.now in
     let p = state_of d (view_of old) in
     let reply = c.in-Ok.field-0.reply in
-    let low : c.args.channel < length old.rows.items = omega (arith, c.requires.channel, c.requires.order.sixteen) in
+    let low : c.args.channel < length old.rows.items = omega (arith, c.requires.channel, c.requires.order.seventeen) in
     let on = c.requires.asked waits.command waits.rest left in
     let well = c.requires.running.facts.well c.requires.runs in
     let seen = ap (λ (l : List Row). (rows_of l c.args.channel).left) c.deref.ensures.value ∙ left in
@@ -106,7 +107,8 @@ returns-in-Ok-clause-case g c =
     found.live_is shows comes in
     let kept = live_kept old.live c.keep_live.new.live c.in-Ok.field-0.live c.keep_live.ensures.none
     c.keep_live.ensures.some in
-    answer_made d (view_of old) (view_of c.log.new.running) c.args.channel low c.requires.posted c.requires.runs
+    answer_made d (view_of old) (view_of c.log.new.running) c.args.channel low c.requires.posted
+    c.requires.unfilled c.requires.runs
     (ap (λ o. option_map job_seen o) c.requires.no_job) reply c.in-Ok.field-0.live c.keep_live.new.live on.1 x
     (λ df is. absurd (not_df (fixed_of p.super) (shown p) waits.command reply on x.allowed df is)) kept
     (c.log.ensures.logged waits.command waits.rest left)

@@ -33,11 +33,12 @@ returns-in-Err-clause-case g c =
     let old = c.args.running.now in
     let waits = c.requires.posted.waits in
     let left = ap (λ (r : Row). r.left) waits.row in
-    let low : c.args.channel < length old.rows.items = omega (arith, c.requires.channel, c.requires.order.sixteen) in
+    let low : c.args.channel < length old.rows.items = omega (arith, c.requires.channel, c.requires.order.seventeen) in
     let in_memory = asks_in_memory waits.command (c.requires.asks waits.command waits.rest left) in
     let well = c.requires.running.facts.well c.requires.runs in
     let x = answered_memory c.requires.running.first (state_of d (view_of old)) waits.command well in_memory in
-    answer_made d (view_of old) (view_of c.log-in-Err.new.running) c.args.channel low c.requires.posted c.requires.runs
+    answer_made d (view_of old) (view_of c.log-in-Err.new.running) c.args.channel low c.requires.posted
+    c.requires.unfilled c.requires.runs
     (ap (λ o. option_map job_seen o) c.requires.no_job) Memory _ old.live in_memory x (λ df is. absurd (cc is)) refl
     (c.log-in-Err.ensures.logged waits.command waits.rest left)
 
@@ -48,7 +49,7 @@ returns-in-Ok-clause-case g c =
     let p = state_of d (view_of old) in
     let waits = c.requires.posted.waits in
     let left = ap (λ (r : Row). r.left) waits.row in
-    let low : c.args.channel < length old.rows.items = omega (arith, c.requires.channel, c.requires.order.sixteen) in
+    let low : c.args.channel < length old.rows.items = omega (arith, c.requires.channel, c.requires.order.seventeen) in
     let question = c.requires.asks waits.command waits.rest left in
     let seen = ap (λ (l : List Row). (rows_of l c.args.channel).left) c.deref.ensures.value ∙ left in
     let reply = c.in-Ok.reply in
@@ -56,7 +57,8 @@ returns-in-Ok-clause-case g c =
     subst (λ (k : Command). Tells old.metas old.live old.sup (df_of p) k reply)
     (c.first_of-command.ensures waits.command waits.rest seen) c.in-Ok.ensures in
     let resolves = c.requires.order.resolves.resolves in
-    answer_made d (view_of old) (view_of c.log.new.running) c.args.channel low c.requires.posted c.requires.runs
+    answer_made d (view_of old) (view_of c.log.new.running) c.args.channel low c.requires.posted
+    c.requires.unfilled c.requires.runs
     (ap (λ o. option_map job_seen o) c.requires.no_job) reply _ old.live (asks_in_memory waits.command question)
     (answered_question p c.requires.running c.requires.runs old.metas resolves old.live refl waits.command reply
     question tells)

@@ -5,10 +5,9 @@ use Rattle.page_disk.specs.declared.disk.PageDisk.{Ghosts}
 use Rattle.volume_model.specs.Volumes.{zero_page}
 use Rattle.store_model.specs.Cases.{WritesOnePage}
 use Rattle.store_model.specs.Maps.{Metas}
-use Rattle.store_model.specs.Phases.{page_in}
 use Rattle.store_model.specs.Rows.{Row}
 use Rattle.running_store.specs.Blobs.{blobs_behind, blobs_of}
-use Rattle.running_store.specs.Jobs.{erasure_of, phases_in, removing_for}
+use Rattle.running_store.specs.Jobs.{phases_in, removing_for}
 use Rattle.running_store.specs.Running.{view_of, AreHeads, InOrder}
 use Rattle.running_store.specs.Stages.{stage_seen}
 use Rattle.running_store.specs.StoreView.{base_of, device_of}
@@ -36,9 +35,9 @@ replace-requires g c =
 
 pub fail_job-requires-clause-row : goal.fail_job-requires-clause-row
 fail_job-requires-clause-row g c =
-    subst (HasWaitingRow c.args.running.now.rows.items) (sym c.requires.waits)
+    subst (HasWaitingRow c.args.running.now.filling c.args.running.now.rows.items) (sym c.requires.waits)
     (waiting_row g.D.PageDisk (view_of c.args.running.now) (removing_for c.args.beside.serves c.args.erasure
-    c.args.beside.old (phases_in c.args.beside.later.items)) c.requires.at_work c.requires.order.sixteen)
+    c.args.beside.old (phases_in c.args.beside.later.items)) c.requires.at_work c.requires.order.seventeen)
 
 -- what is known of its device calls
 abbrev replaced : {D : Type 0} (d : Ghosts D) (old new : D) (at : ℕ) (page : List ℕ)
@@ -60,10 +59,11 @@ returns-then-is_err-clause-case g c =
     (touched d p serves c.args.erasure old more c.requires.at_work disk c.page_at-page.result c.page_at-page.ensures
     (replaced d c.args.running.now.disk disk c.page_at-page.result _ zeros c.replace.ensures.any_moment))
     serves (at_head d p serves c.args.erasure old more c.requires.at_work c.requires.removed)
+    c.requires.order.seventeen
     (on_err c.replace.result _ (sym c.is_err.ensures.value ∙ c.if-is_err.true) c.replace.ensures.fails)
     (view_of c.fail_job.new.running)
     (subst (λ o. HasFailed job.freeze o (view_of (record c.args.running.now { disk = disk }))
-    (view_of c.fail_job.new.running) (d.clock disk)) c.requires.waits c.fail_job.ensures.failed)
+    (view_of c.fail_job.new.running) (d.clock c.fail_job.new.running.disk)) c.requires.waits c.fail_job.ensures.failed)
 
 pub forget-requires-clause-places : goal.forget-requires-clause-places
 forget-requires-clause-places g c = c.requires.kept.0.places
@@ -100,7 +100,7 @@ tell-requires-clause-row g c =
     ∙ ap (λ (r : Running g.row.D.Denot). (view_of r).rows) c.forget.ensures))
     (subst (HasRow p.rows serves) (sym c.reply-reply.ensures)
     (told_row d p (change.Erases c.args.erasure) old more (removing_for serves c.args.erasure old more) serves
-    (at_head d p serves c.args.erasure old more c.requires.at_work c.requires.removed) c.requires.order.sixteen))
+    (at_head d p serves c.args.erasure old more c.requires.at_work c.requires.removed) c.requires.order.seventeen))
 
 pub tell-requires-clause-order : goal.tell-requires-clause-order
 tell-requires-clause-order g c =
@@ -118,7 +118,7 @@ tell-requires-clause-order g c =
     (sym c.forget.ensures) (record {
       inside = subst (λ (n : ℕ). old.sup.md_start + old.sup.md_len ≤ n) pages order.inside;
       device = subst (λ (n : ℕ). old.sup.device_pages ≤ n) pages order.device;
-      sixteen = order.sixteen;
+      seventeen = order.seventeen;
       entries = order.entries;
       marks = order.marks;
       few = order.few;

@@ -8,8 +8,8 @@ use Rattle.store_model.specs.Maps.{Metas}
 use Rattle.store_model.specs.Phases.{page_in, Phase}
 use Rattle.store_model.specs.Rows.{Row}
 use Rattle.running_store.specs.Blobs.{blobs_behind, blobs_of}
-use Rattle.running_store.specs.Jobs.{freeze_of, phases_in, replacing_of}
-use Rattle.running_store.specs.Running.{adopted, view_of, AreHeads, InOrder}
+use Rattle.running_store.specs.Jobs.{phases_in, replacing_of}
+use Rattle.running_store.specs.Running.{view_of, AreHeads, InOrder}
 use Rattle.running_store.specs.Stages.{stage_seen}
 use Rattle.running_store.specs.StoreView.{base_of, device_of, StoreView}
 use Rattle.running_store.specs.declared.job.Serves.{Serves}
@@ -51,9 +51,9 @@ replace-requires g c =
 
 pub fail_job-requires-clause-row : goal.fail_job-requires-clause-row
 fail_job-requires-clause-row g c =
-    subst (HasWaitingRow c.args.running.now.rows.items) (sym c.requires.waits)
+    subst (HasWaitingRow c.args.running.now.filling c.args.running.now.rows.items) (sym c.requires.waits)
     (waiting_row g.D.PageDisk (view_of c.args.running.now) (now c.args.beside.serves c.args.planned
-    c.args.beside.old (phases_in c.args.beside.later.items)) c.requires.at_work c.requires.order.sixteen)
+    c.args.beside.old (phases_in c.args.beside.later.items)) c.requires.at_work c.requires.order.seventeen)
 
 -- the head's page is replaced on this device
 touches_head : {D : Type 0} (d : Ghosts D) (p : StoreView D) (serves : Serves) (planned : Planned) (old : List ℕ)
@@ -94,10 +94,11 @@ returns-then-is_err-clause-case g c =
     c.page_at-page.ensures _ c.as_slice.ensures c.replace.ensures.any_moment)
     c.args.beside.serves
     (at_head d p c.args.beside.serves c.args.planned old more c.requires.at_work c.requires.matched)
+    c.requires.order.seventeen
     (on_err c.replace.result _ (sym c.is_err.ensures.value ∙ c.if-is_err.true) c.replace.ensures.fails)
     (view_of c.fail_job.new.running)
     (subst (λ o. HasFailed job.freeze o (view_of (record c.args.running.now { disk = disk }))
-    (view_of c.fail_job.new.running) (d.clock disk)) c.requires.waits c.fail_job.ensures.failed)
+    (view_of c.fail_job.new.running) (d.clock c.fail_job.new.running.disk)) c.requires.waits c.fail_job.ensures.failed)
 
 pub adopt-requires-clause-places : goal.adopt-requires-clause-places
 adopt-requires-clause-places g c = c.requires.kept.0.places
@@ -134,7 +135,7 @@ tell-requires-clause-order g c =
     (sym c.adopt.ensures) (record {
       inside = subst (λ (n : ℕ). old.sup.md_start + old.sup.md_len ≤ n) (sym c.replace.ensures.pages) order.inside;
       device = subst (λ (n : ℕ). old.sup.device_pages ≤ n) (sym c.replace.ensures.pages) order.device;
-      sixteen = order.sixteen;
+      seventeen = order.seventeen;
       entries = order.entries;
       marks = order.marks;
       few = order.few;
@@ -164,7 +165,7 @@ tell-requires-clause-row g c =
     ∙ ap (λ (r : Running g.row.D.Denot). (view_of r).rows) c.adopt.ensures))
     (subst (HasRow p.rows serves) (sym c.reply-reply.ensures)
     (told_row d p (change.Writes c.args.planned) old more (now serves c.args.planned old more) serves
-    (at_head d p serves c.args.planned old more c.requires.at_work c.requires.matched) c.requires.order.sixteen))
+    (at_head d p serves c.args.planned old more c.requires.at_work c.requires.matched) c.requires.order.seventeen))
 
 pub returns-clause-case : goal.returns-clause-case
 returns-clause-case g c =

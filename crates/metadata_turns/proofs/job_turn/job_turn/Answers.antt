@@ -14,7 +14,7 @@ use Rattle.running_store.specs.declared.job.Serves.{Serves}
 use Rattle.running_store.specs.declared.job.Work.{Work}
 use Rattle.running_store.specs.declared.replacements.Planned.{Planned}
 use Rattle.metadata_turns.specs.JobTurns.{TurnsJob}
-use Rattle.metadata_turns.specs.OwnWrites.{AreOwn}
+use Rattle.metadata_turns.specs.RowsWork.{RowsWork}
 use Rattle.metadata_turns.proofs.AtWork.{pages_planned}
 use Rattle.metadata_turns.proofs.job_turn.job_turn.Goals as goal
 
@@ -225,8 +225,8 @@ replace_head-requires-clause-at_work g c =
       not_stopped = c.requires.not_stopped;
       running = subst (λ k. IsRunning (record (state_of g.D.PageDisk (view_of c.args.running.now)) { job = k })) whole
           c.requires.running;
-      own = subst (λ k. AreOwn (record (state_of g.D.PageDisk (view_of c.args.running.now)) { job = k })) whole
-          c.requires.own;
+      work = subst (λ k. RowsWork (record (state_of g.D.PageDisk (view_of c.args.running.now)) { job = k })) whole
+          c.requires.work;
     }
 
 pub overflow_sub-last : goal.overflow_sub-last

@@ -31,10 +31,10 @@ write_one-requires g c =
 
 pub fail_job-requires-clause-row : goal.fail_job-requires-clause-row
 fail_job-requires-clause-row g c =
-    subst (HasWaitingRow c.args.running.now.rows.items) (sym c.requires.waits)
+    subst (HasWaitingRow c.args.running.now.filling c.args.running.now.rows.items) (sym c.requires.waits)
     (waiting_row g.D.PageDisk (view_of c.args.running.now)
     (erasing_for c.args.beside.serves c.args.beside.old c.args.erased (phases_in c.args.beside.later.items))
-    c.requires.at_work c.requires.order.sixteen)
+    c.requires.at_work c.requires.order.seventeen)
 
 pub returns-then-is_err-clause-case : goal.returns-then-is_err-clause-case
 returns-then-is_err-clause-case g c =
@@ -48,12 +48,12 @@ returns-then-is_err-clause-case g c =
     let next = got old c.args.erased 0 some in
     let same = ap (λ (l : List ℕ). get_or l c.args.erased 0) c.as_slice.ensures in
     let now = erasing_for c.args.beside.serves old c.args.erased more in
-    failed_putting d p now c.requires.at_work disk
+    failed_putting d p now c.requires.at_work c.requires.order.seventeen disk
     (on_err c.write_one.result _ (sym c.is_err.ensures.value ∙ c.if-is_err.true) c.write_one.ensures.fails)
     (view_of c.fail_job.new.running)
     (subst (λ o. HasFailed now.freeze o (view_of (record c.args.running.now { disk = disk }))
     (view_of c.fail_job.new.running)
-    (d.clock disk)) c.requires.waits c.fail_job.ensures.failed)
+    (d.clock c.fail_job.new.running.disk)) c.requires.waits c.fail_job.ensures.failed)
     (Erases place) _
     (more_left d p c.args.beside.serves old c.args.erased more c.requires.at_work some place next c.requires.left)
     (record { place = place; page = zero_page }) refl

@@ -1,4 +1,4 @@
-use Rattle.std.proofs.Common.{◌≡◌, ◌<◌, ◌+◌, ◌≤◌, ℕ, [], List, length, get_or, sym, ◌∙◌, ap, refl, subst, arith}
+use Rattle.std.proofs.Common.{◌<◌, ◌+◌, ◌≤◌, ℕ, List, length, get_or, sym, ◌∙◌, ap, refl, subst, arith}
 use Rattle.page_disk.specs.Disk.{Written}
 use Rattle.page_disk.specs.Moments.{CallsLeaveOnly}
 use Rattle.page_disk.specs.declared.disk.WriteKind.TheVariants.{Plain}
@@ -8,13 +8,11 @@ use Rattle.io_freeze.specs.Guards.{GuardsState}
 use Rattle.running_store.specs.Blobs.{blobs_of}
 use Rattle.running_store.specs.Jobs.{erasing_for, job_seen, phases_in}
 use Rattle.running_store.specs.Running.{view_of, InOrder}
-use Rattle.store_model.specs.Rows.{Row}
 use Rattle.running_store.specs.StoreView.{device_of, StoreView}
-use Rattle.running_store.specs.declared.running.Running.{Running}
 use Rattle.running_store.proofs.PlainFacts.{got, on_err, on_ok, zeros}
 use Rattle.volume_model.specs.Volumes.{zero_page}
 use Rattle.store_model.specs.Phases.{Frees}
-use Rattle.metadata_turns.specs.Telling.{HasFailed, HasInsertRow, HasWaitingRow, IsWon}
+use Rattle.metadata_turns.specs.Telling.{HasFailed, HasWaitingRow, IsWon}
 use Rattle.metadata_turns.proofs.Behind.{guards_seen}
 use Rattle.metadata_turns.proofs.HeadReplaced.{comes_alone, kept_left}
 use Rattle.metadata_turns.proofs.JobErased.{cleared, freed_all, insert_row, last_left, old_below, old_differ, old_used}
@@ -35,10 +33,10 @@ write_last-requires g c =
 
 pub fail_job-requires-clause-row : goal.fail_job-requires-clause-row
 fail_job-requires-clause-row g c =
-    subst (HasWaitingRow c.args.running.now.rows.items) (sym c.requires.waits)
+    subst (HasWaitingRow c.args.running.now.filling c.args.running.now.rows.items) (sym c.requires.waits)
     (waiting_row g.D.PageDisk (view_of c.args.running.now)
     (erasing_for c.args.beside.serves c.args.beside.old c.args.erased (phases_in c.args.beside.later.items))
-    c.requires.at_work c.requires.order.sixteen)
+    c.requires.at_work c.requires.order.seventeen)
 
 pub returns-then-is_err-clause-case : goal.returns-then-is_err-clause-case
 returns-then-is_err-clause-case g c =
@@ -52,12 +50,12 @@ returns-then-is_err-clause-case g c =
     let next = got old c.args.erased 0 some in
     let same = ap (λ (l : List ℕ). get_or l c.args.erased 0) c.as_slice.ensures in
     let now = erasing_for c.args.beside.serves old c.args.erased more in
-    failed_putting d p now c.requires.at_work disk
+    failed_putting d p now c.requires.at_work c.requires.order.seventeen disk
     (on_err c.write_last.result _ (sym c.is_err.ensures.value ∙ c.if-is_err.true) c.write_last.ensures.fails)
     (view_of c.fail_job.new.running)
     (subst (λ o. HasFailed now.freeze o (view_of (record c.args.running.now { disk = disk }))
     (view_of c.fail_job.new.running)
-    (d.clock disk)) c.requires.waits c.fail_job.ensures.failed)
+    (d.clock c.fail_job.new.running.disk)) c.requires.waits c.fail_job.ensures.failed)
     (Frees place old) more
     (last_left d p c.args.beside.serves old c.args.erased more c.requires.at_work some place next c.requires.last)
     (record { place = place; page = zero_page }) refl
@@ -79,10 +77,8 @@ clear_places-requires-clause-in_use g c =
 
 pub win-requires-clause-row : goal.win-requires-clause-row
 win-requires-clause-row g c =
-    subst (λ (rows : List Row). HasInsertRow rows c.args.beside.serves)
-    (sym (ap (λ (r : Running g.row.D.Denot). r.rows.items) c.go_on.ensures))
-    (insert_row g.D.PageDisk (view_of c.args.running.now) c.args.beside.serves c.args.beside.old c.args.erased
-    (phases_in c.args.beside.later.items) c.requires.at_work c.requires.order.sixteen)
+    insert_row g.D.PageDisk (view_of c.args.running.now) c.args.beside.serves c.args.beside.old c.args.erased
+    (phases_in c.args.beside.later.items) c.requires.at_work c.requires.order.seventeen
 
 pub returns-clause-case : goal.returns-clause-case
 returns-clause-case g c =
@@ -121,7 +117,7 @@ win-requires-clause-order g c =
     subst (InOrder g.D.PageDisk) (sym c.go_on.ensures) (record {
       inside = subst (λ (n : ℕ). old.sup.md_start + old.sup.md_len ≤ n) pages order.inside;
       device = subst (λ (n : ℕ). old.sup.device_pages ≤ n) pages order.device;
-      sixteen = order.sixteen;
+      seventeen = order.seventeen;
       entries = order.entries;
       marks = order.marks;
       few = order.few;

@@ -36,10 +36,10 @@ write_one-requires g c =
 
 pub fail_job-requires-clause-row : goal.fail_job-requires-clause-row
 fail_job-requires-clause-row g c =
-    subst (HasWaitingRow c.args.running.now.rows.items) (sym c.requires.waits)
+    subst (HasWaitingRow c.args.running.now.filling c.args.running.now.rows.items) (sym c.requires.waits)
     (waiting_row g.D.PageDisk (view_of c.args.running.now) (writing_for c.args.beside.serves c.args.planned
     c.args.beside.old c.args.written (phases_in c.args.beside.later.items)) c.requires.at_work
-    c.requires.order.sixteen)
+    c.requires.order.seventeen)
 
 pub returns-then-is_err-clause-case : goal.returns-then-is_err-clause-case
 returns-then-is_err-clause-case g c =
@@ -57,12 +57,12 @@ returns-then-is_err-clause-case g c =
     let touches = subst (λ (x : PlannedPage). CallsLeaveOnly d c.args.running.now.disk disk
     (Written (d.images c.args.running.now.disk) c.page_at-page.result Plain x.page)) same
     c.write_one.ensures.any_moment in
-    failed_putting d p now c.requires.at_work disk
+    failed_putting d p now c.requires.at_work c.requires.order.seventeen disk
     (on_err c.write_one.result _ (sym c.is_err.ensures.value ∙ c.if-is_err.true) c.write_one.ensures.fails)
     (view_of c.fail_job.new.running)
     (subst (λ o. HasFailed now.freeze o (view_of (record c.args.running.now { disk = disk }))
     (view_of c.fail_job.new.running)
-    (d.clock disk)) c.requires.waits c.fail_job.ensures.failed)
+    (d.clock c.fail_job.new.running.disk)) c.requires.waits c.fail_job.ensures.failed)
     (Writes x.place)
     (others d p c.args.beside.serves c.args.planned c.args.beside.old c.args.written more c.requires.at_work disk x
     c.page_at-page.result at_is is touches)

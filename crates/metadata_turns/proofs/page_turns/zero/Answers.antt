@@ -23,10 +23,10 @@ write_one-requires g c =
 
 pub fail_job-requires-clause-row : goal.fail_job-requires-clause-row
 fail_job-requires-clause-row g c =
-    subst (HasWaitingRow c.args.running.now.rows.items) (sym c.requires.waits)
+    subst (HasWaitingRow c.args.running.now.filling c.args.running.now.rows.items) (sym c.requires.waits)
     (waiting_row g.D.PageDisk (view_of c.args.running.now) (zeroing_for c.args.beside.serves c.args.planned
     c.args.beside.old c.args.zeroed (phases_in c.args.beside.later.items)) c.requires.at_work
-    c.requires.order.sixteen)
+    c.requires.order.seventeen)
 
 pub returns-then-is_err-clause-case : goal.returns-then-is_err-clause-case
 returns-then-is_err-clause-case g c =
@@ -41,7 +41,7 @@ returns-then-is_err-clause-case g c =
     (view_of c.fail_job.new.running)
     (subst (λ o. HasFailed (freeze_of c.args.beside.serves) o
     (view_of (record c.args.running.now { disk = c.write_one.new.disk })) (view_of c.fail_job.new.running)
-    (g.D.PageDisk.clock c.write_one.new.disk)) c.requires.waits c.fail_job.ensures.failed)
+    (g.D.PageDisk.clock c.fail_job.new.running.disk)) c.requires.waits c.fail_job.ensures.failed)
 
 pub returns-clause-case : goal.returns-clause-case
 returns-clause-case g c =
@@ -66,7 +66,7 @@ returns-clause-order g c =
     record {
       inside = subst (λ n. now.sup.md_start + now.sup.md_len ≤ n) same order.inside;
       device = subst (λ n. now.sup.device_pages ≤ n) same order.device;
-      sixteen = order.sixteen;
+      seventeen = order.seventeen;
       entries = order.entries;
       marks = order.marks;
       few = order.few;

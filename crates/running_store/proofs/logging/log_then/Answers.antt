@@ -23,7 +23,7 @@ pub returns-clause-order : goal.returns-clause-order
 returns-clause-order g c =
     let order = c.requires.order in
     let old = c.args.running.now in
-    let low : c.args.channel < length old.rows.items = omega (arith, c.requires.channel, order.sixteen) in
+    let low : c.args.channel < length old.rows.items = omega (arith, c.requires.channel, order.seventeen) in
     let took = c.in-Some.ensures.some in
     let row = c.index_mut.result.now in
     let value = c.index_mut.ensures.value in
@@ -38,7 +38,7 @@ returns-clause-order g c =
     record {
       inside = order.inside;
       device = order.device;
-      sixteen = length-set old.rows.items c.args.channel c.take.new.self ∙ order.sixteen;
+      seventeen = length-set old.rows.items c.args.channel c.take.new.self ∙ order.seventeen;
       entries = omega (arith, order.entries, less, longer, room);
       marks = omega (arith, order.marks, less, marked, mark_room);
       few = omega (arith, order.few, less, longer);
@@ -63,7 +63,7 @@ pub returns-clause-row : goal.returns-clause-row
 returns-clause-row g c =
     let old = c.args.running.now.rows.items in
     let channel = c.args.channel in
-    let low : channel < length old = omega (arith, c.requires.channel, c.requires.order.sixteen) in
+    let low : channel < length old = omega (arith, c.requires.channel, c.requires.order.seventeen) in
     subst (λ (row : Row). OnlyRow old (slice_set old channel c.take.new.self) channel row)
     (taken_row (rows_of old channel) c.take.new.self c.in-Some.field-0.command (stage_seen c.args.next)
     (ap (λ (r : Row). r.left) (get_or_default old channel (record {

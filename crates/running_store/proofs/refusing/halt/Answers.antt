@@ -12,7 +12,7 @@ returns-clause-case g c =
     let waits = c.requires.posted.waits in
     let left = ap (λ (r : Row). r.left) waits.row in
     let low : c.args.channel < length c.args.running.now.rows.items =
-    omega (arith, c.requires.channel, c.requires.order.sixteen) in
+    omega (arith, c.requires.channel, c.requires.order.seventeen) in
     let is = c.log.ensures.logged waits.command waits.rest left in (
       record {
         channel = c.args.channel;
@@ -22,6 +22,7 @@ returns-clause-case g c =
         claim = None;
         row = waits.row;
         may = tt;
+        unfilled = λ serial posted. c.requires.unfilled;
         at = c.in-Some.at;
         stands = c.in-Some.is;
         next = entered d old (view_of c.log.new.running) c.args.channel waits.command waits.rest

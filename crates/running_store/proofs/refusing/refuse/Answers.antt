@@ -13,7 +13,7 @@ returns-clause-case g c =
     let waits = c.requires.posted.waits in
     let left = ap (λ (r : Row). r.left) waits.row in
     let low : c.args.channel < length c.args.running.now.rows.items =
-    omega (arith, c.requires.channel, c.requires.order.sixteen) in
+    omega (arith, c.requires.channel, c.requires.order.seventeen) in
     let is = c.log.ensures.logged waits.command waits.rest left in (
       record {
         posted = record {
@@ -24,6 +24,7 @@ returns-clause-case g c =
           row = waits.row;
         };
         runs = c.requires.runs;
+        unfilled = c.requires.unfilled;
         reply = c.args.reply;
         why = at_begin_too (state_of d old) waits.command c.args.reply (c.requires.why waits.command waits.rest left);
         next = entered d old (view_of c.log.new.running) c.args.channel waits.command waits.rest c.args.reply low is;

@@ -12,7 +12,9 @@ none_seen None none = refl
 none_seen (Some claim) none = absurd (cc none)
 
 pub unreachable-requires : goal.unreachable-requires
-unreachable-requires c = c.requires (none_got c.args.row.now.left (sym c.in-None.ensures))
+unreachable-requires c = c.requires
+    (sym c.claim.ensures ∙ none_seen c.claim.result (sym c.is_some.ensures ∙ c.if-is_some.false))
+    (none_got c.args.row.now.left (sym c.in-None.ensures))
 
 pub returns : goal.returns
 returns c =

@@ -13,7 +13,7 @@ returns-clause-order g c =
     (sym c.release.ensures) (record {
       inside = order.inside;
       device = order.device;
-      sixteen = order.sixteen;
+      seventeen = order.seventeen;
       entries = order.entries;
       marks = order.marks;
       few = order.few;

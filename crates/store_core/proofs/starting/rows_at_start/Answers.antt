@@ -1,7 +1,10 @@
-use Rattle.std.proofs.Common.{◌≡◌, subst, sym, ◌∙◌, arith}
+use Rattle.std.proofs.Common.{◌≡◌, List, None, ap, subst, sym, ◌∙◌, arith}
+use Rattle.volume_model.specs.declared.command.Command.{Command}
+use Rattle.store_model.specs.Filling.{unused_row}
+use Rattle.store_model.specs.Rows.{Idle, Row}
 use Rattle.std.proofs.lemmas.Bool.{lt-ltb, le-ltb}
-use Rattle.store_core.proofs.Starts.{RowsBelow, rows_nothing, rows_more, row_with, row_past}
-use Rattle.store_core.specs.Opening.{row_at_start}
+use Rattle.store_core.proofs.Starts.{RowsBelow, rows_all, rows_nothing, rows_more, row_with, row_past}
+use Rattle.store_core.specs.Opening.{AreRows, row_at_start}
 use Rattle.store_core.proofs.starting.rows_at_start.Goals as goal
 use Rattle.store_core.proofs.starting.rows_at_start.Goals.{then-channel-channels+in_ok-row, else-channel-channels}
 
@@ -25,3 +28,17 @@ loop-channel-preserved c =
     rw c.take-commands.ensures.left (rw c.in_ok-push.ensures.items
     (rows_more c.args.script c.loop-channel.script c.channels-channels.result c.loop-channel.rows.items
     c.loop-channel.channel c.if-channel-channels.row c.loop-channel.invariant (row_is c)))
+
+pub returns : goal.returns
+returns c =
+    let end : c.loop-channel.channel ≡ 16 = omega (arith, c.loop-channel.auto.channel-end, c.loop-channel-test.false) in
+    let row = c.in_ok-new.field-0 in
+    let is : row ≡ unused_row =
+    c.in_ok-new.ensures
+    ∙ ap (λ (l : List Command). record { left = l; stage = Idle; claim = None }) c.new-2.ensures.items in
+    let below : RowsBelow c.args.script c.loop-channel.script c.channels-channels.result c.loop-channel.rows.items 16 =
+    subst (RowsBelow c.args.script c.loop-channel.script c.channels-channels.result c.loop-channel.rows.items) end
+    c.loop-channel.invariant in
+    subst (λ (rows : List Row). AreRows c.args.script rows) (sym c.in_ok-push-2.ensures.items)
+    (rows_all c.args.script c.loop-channel.script c.channels-channels.result c.loop-channel.rows.items row
+    c.channels-channels.ensures.few below is c.channels-channels.ensures.above)

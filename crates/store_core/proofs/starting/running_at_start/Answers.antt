@@ -43,7 +43,7 @@ returns-clause-order g c =
     record {
       inside = c.requires.inside;
       device = c.requires.device;
-      sixteen = parts.rows.sixteen;
+      seventeen = parts.rows.seventeen;
       entries = omega (arith, no_entry, log_room);
       marks = omega (arith, one_mark, marks_room);
       few = omega (arith, no_entry, few);

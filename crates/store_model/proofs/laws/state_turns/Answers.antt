@@ -1,4 +1,5 @@
 use Rattle.store_model.proofs.Repairing.{repaired_stays, repaired_unmarked}
+use Rattle.store_model.proofs.FillRuns.{fill_stands}
 use Rattle.store_model.proofs.JobWritable.{job_writable}
 use Rattle.store_model.proofs.StateBegins.{begins_well, run_more, turn_keeps}
 use Rattle.store_model.proofs.StateAgrees.{behind_recovers}
@@ -17,6 +18,7 @@ returns c = record {
     };
   });
   go_on = run_more;
+  fill_stands = fill_stands;
   repaired_stays = λ told s first script p q kind facts t r. repaired_stays told s first script p q kind facts t r;
   repaired_unmarked = repaired_unmarked;
   writable = λ s first script p command changes commit placed facts runs unmarked asked claimed least one_each low.

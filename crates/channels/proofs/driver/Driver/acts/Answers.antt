@@ -3,7 +3,7 @@ use Rattle.run_work.specs.Following.{MetadataActs}
 use Rattle.run_moves.specs.DriverSteps.{DriverStep}
 use Rattle.channels.specs.Actors.{actor_in_run}
 use Rattle.channels.specs.Driving.{AreChannelsOf, driven}
-use Rattle.channels.proofs.Keeping.{rows_step, still_channels}
+use Rattle.channels.proofs.Keeping.{rows_step, stands, still_channels}
 use Rattle.channels.proofs.driver.Driver.acts.Goals as goal
 
 pub returns-then-channel-lt16-clause-step : goal.returns-then-channel-lt16-clause-step
@@ -25,5 +25,6 @@ returns-in-Metadata-clause-channels g c =
     let v = c.metadata_acts.new.self in
     subst (AreChannelsOf v.plant.at.rows) (sym c.metadata_acts.ensures.channels)
     (still_channels w.plant.at.rows v.plant.at.rows
-    (rows_step d.tells (driven d w) (driven d v) MetadataActs c.metadata_acts.ensures.step) w.channels
+    (rows_step d.tells (driven d w) (driven d v) (stands d c.state_turns.ensures w.plant c.keeps.ensures) MetadataActs
+    c.metadata_acts.ensures.step) w.channels
     c.requires.driven.channels)

@@ -1,5 +1,3 @@
-use Rattle.std.proofs.Common.{ap}
-use Rattle.md_thread.specs.Holding.{MetadataState}
 use Rattle.channels.specs.declared.driver.Driver.{Driver}
 use Rattle.channels.proofs.Starting.{starts_as, starts_driven}
 use Rattle.channels.proofs.driver.Driver.new.Goals as goal
@@ -14,7 +12,7 @@ returns-clause-starts g c =
       queue = c.new-2.result;
     } in
     starts_as g.D.PageDisk c.steps_are_moves.ensures w c.keeps.ensures c.channels_of-channels.ensures c.new-2.ensures
-    (ap (λ (s : MetadataState). s.held) c.new.ensures)
+    c.new.ensures
 
 pub returns-clause-driven : goal.returns-clause-driven
 returns-clause-driven g c =
@@ -26,5 +24,5 @@ returns-clause-driven g c =
       queue = c.new-2.result;
     } in
     starts_driven g.D.PageDisk c.steps_are_moves.ensures w c.keeps.ensures c.channels_of-channels.ensures
-    c.new-2.ensures (ap (λ (s : MetadataState). s.held) c.new.ensures) c.requires.right c.requires.sixteen
-    c.requires.served c.requires.repaired
+    c.new-2.ensures c.new.ensures c.state_turns.ensures c.requires.right c.requires.seventeen c.requires.served
+    c.requires.unused c.requires.repaired

@@ -1,35 +1,29 @@
-use Rattle.std.proofs.Common.{◌≡◌, Some, refl, sym, ap, subst, ◌∙◌}
-use Rattle.volume_model.specs.declared.reply.Msg.{Msg}
-use Rattle.store_model.specs.Rows.{Posted}
-use Rattle.run_moves.specs.DriverSteps.{ServingTurn}
-use Rattle.running_store.specs.StoreView.{rows_of, state_of}
-use Rattle.md_thread.specs.Holding.{MetadataState}
-use Rattle.md_thread.proofs.TurnsRepaired.{served, turned}
+use Rattle.std.proofs.Common.{sym, ap, ◌∙◌, false, subst}
+use Rattle.running_store.specs.StoreView.{state_of}
+use Rattle.md_thread.specs.contracts.state.MdState.{the_view}
+use Rattle.md_thread.specs.Holding.{LooksForMessage, MakesStep, MetadataState}
 use Rattle.md_thread.proofs.state.MdState.md_turn.Goals as goal
 
--- what is served is the message that was held
-pub returns-in-Some-clause-message : goal.returns-in-Some-clause-message
-returns-in-Some-clause-message g c = λ none msg held posted.
+pub returns-clause-step : goal.returns-clause-step
+returns-clause-step g c = λ moved kept.
     let d = g.D.PageDisk in
-    let p = c.args.plant.now.at in
-    let both : Some c.in-Some.msg ≡ Some msg =
-    sym c.in-Some.is ∙ c.take.ensures.value ∙ ap (λ (s : MetadataState). s.held) c.self.view_is ∙ held in
-    let same : c.in-Some.msg ≡ msg = cc both in (
-      refl,
-      subst
-          (λ (m : Msg). (rows_of p.rows m.channel).stage ≡ Posted m.serial
-          → ServingTurn d.tells (state_of d p) (state_of d c.serve.new.plant.at) m.channel) same c.serve.ensures.turn
-          posted,
-      c.take.ensures.after,
+    subst
+    (λ (x : MetadataState). MakesStep d.tells (state_of d c.args.plant.now.at) c.args.self.now
+    (state_of d c.turn_due-turn.new.plant.at) x) (sym c.self.view_is) (c.turn_due-turn.ensures.step moved kept)
+
+pub returns-clause-looks : goal.returns-clause-looks
+returns-clause-looks g c = λ idle kept.
+    let p = state_of g.D.PageDisk c.args.plant.now.at in
+    let looks : LooksForMessage p c.args.self.now (the_view c.self.inside) =
+    subst (λ (x : MetadataState). LooksForMessage p c.args.self.now x) (sym c.self.view_is)
+    (c.turn_due-turn.ensures.looks idle kept) in
+    record { joined = looks.joined; takes = looks.takes; ends = looks.ends }
+
+pub returns-clause-stale : goal.returns-clause-stale
+returns-clause-stale g c = λ none over fill msg comes stale.
+    let left = c.turn_due-turn.ensures.stale none over fill msg comes stale in (
+      left.0,
+      left.1,
+      ap (λ (s : MetadataState). record s { found_none = false; next = c.next_after-self-inside.result })
+          (c.self.view_is ∙ left.2),
     )
-
-pub returns-then-job_runs-clause-repaired : goal.returns-then-job_runs-clause-repaired
-returns-then-job_runs-clause-repaired g c =
-    let turn = c.job_turn.ensures.case in
-    turned g.D.PageDisk c.state_turns.ensures c.args.plant.now c.job_turn.new.self c.keeps.ensures
-    (turn.kind, turn.made.0) c.requires.repaired
-
-pub returns-in-Some-clause-repaired : goal.returns-in-Some-clause-repaired
-returns-in-Some-clause-repaired g c =
-    served g.D.PageDisk c.state_turns.ensures c.args.plant.now c.serve.new.plant c.in-Some.msg.channel
-    c.in-Some.msg.serial _ c.keeps.ensures c.serve.ensures.turn c.serve.ensures.stale c.requires.repaired

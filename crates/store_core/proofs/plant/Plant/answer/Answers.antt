@@ -4,7 +4,7 @@ use Rattle.running_store.specs.Running.{view_of, with_opening}
 use Rattle.running_store.specs.StoreView.{WithOpening}
 use Rattle.running_store.specs.TurnMade.{TurnMade}
 use Rattle.running_store.specs.Requests.{IsPostedBy}
-use Rattle.store_core.proofs.Posting.{either, posted_at}
+use Rattle.store_core.proofs.Posting.{either, posted_at, posted_low}
 use Rattle.store_core.proofs.plant.Plant.answer.Goals as goal
 
 pub answer_or_halt-requires-clause-posted : goal.answer_or_halt-requires-clause-posted
@@ -26,3 +26,9 @@ pub returns-clause-answered : goal.returns-clause-answered
 returns-clause-answered g c = subst (λ (b : WithOpening g.row.D.Denot). b.at.stopped ≡ None
     → TurnMade g.D.PageDisk b.at (view_of c.answer_or_halt.new.running) kind.answers) c.self.view_is
     c.answer_or_halt.ensures.answered
+
+pub answer_or_halt-requires-clause-channel : goal.answer_or_halt-requires-clause-channel
+answer_or_halt-requires-clause-channel g c = posted_low g.D.PageDisk
+    (with_opening c.self.inside.running c.self.inside.opening.value c.self.inside.right.value.name) c.args.msg
+    c.self.invariant.0 c.self.invariant.1.seventeen
+    (subst (λ (b : WithOpening g.row.D.Denot). IsPostedBy b.at.rows c.args.msg) (sym c.self.view_is) c.requires.posted)

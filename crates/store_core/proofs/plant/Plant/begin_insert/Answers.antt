@@ -1,16 +1,19 @@
-use Rattle.std.proofs.Common.{subst, sym}
+use Rattle.std.proofs.Common.{◌≡◌, IsSome, subst, sym}
+use Rattle.job_begins.specs.declared.inserting.InsertTurn.TheVariants.{Logged}
+use Rattle.running_store.specs.GivingBack.{halting}
+use Rattle.running_store.specs.TurnMade.{TurnMade}
 use Rattle.running_store.specs.Running.{view_of, with_opening}
 use Rattle.running_store.specs.Requests.{IsInsertPosted}
 use Rattle.store_model.specs.Repairing.{IsRepaired}
 use Rattle.running_store.specs.StoreView.{WithOpening, state_of}
-use Rattle.store_core.proofs.InsertKept.{holds_posted, inserting_or_not, posted_low}
-use Rattle.store_core.proofs.OwnKept.{own_kept}
+use Rattle.store_core.proofs.InsertKept.{holds_posted, insert_low, inserting_or_not}
+use Rattle.store_core.proofs.FillKept.{fill_kept}
 use Rattle.store_core.proofs.Posting.{kept_running}
 use Rattle.store_core.proofs.plant.Plant.begin_insert.Goals as goal
 
-pub begin_insert_or_halt-requires-clause-channel : goal.begin_insert_or_halt-requires-clause-channel
-begin_insert_or_halt-requires-clause-channel g c = posted_low (view_of c.self.inside.running) c.args.msg
-    c.self.invariant.1.sixteen
+pub begin_insert_or_halt-requires-clause-row : goal.begin_insert_or_halt-requires-clause-row
+begin_insert_or_halt-requires-clause-row g c = insert_low (view_of c.self.inside.running) c.args.msg
+    c.self.invariant.1.seventeen
     (subst (λ (b : WithOpening g.row.D.Denot). IsInsertPosted b.at.rows c.args.msg) (sym c.self.view_is)
     c.requires.posted)
 
@@ -20,7 +23,9 @@ begin_insert_or_halt-requires-clause-repaired g c =
     c.requires.repaired
 
 pub begin_insert_or_halt-requires-clause-posted : goal.begin_insert_or_halt-requires-clause-posted
-begin_insert_or_halt-requires-clause-posted g c = holds_posted (view_of c.self.inside.running) c.args.msg
+begin_insert_or_halt-requires-clause-posted g c = holds_posted g.D.PageDisk
+    (with_opening c.self.inside.running c.self.inside.opening.value c.self.inside.right.value.name)
+    c.self.invariant.0 c.args.msg
     (subst (λ (b : WithOpening g.row.D.Denot). IsInsertPosted b.at.rows c.args.msg) (sym c.self.view_is)
     c.requires.posted)
 
@@ -29,8 +34,8 @@ begin_insert_or_halt-requires-clause-running g c = kept_running g.D.PageDisk
     (with_opening c.self.inside.running c.self.inside.opening.value c.self.inside.right.value.name)
     c.self.invariant.0
 
-pub begin_insert_or_halt-requires-clause-own : goal.begin_insert_or_halt-requires-clause-own
-begin_insert_or_halt-requires-clause-own g c = own_kept g.D.PageDisk
+pub begin_insert_or_halt-requires-clause-fill : goal.begin_insert_or_halt-requires-clause-fill
+begin_insert_or_halt-requires-clause-fill g c = fill_kept g.D.PageDisk
     (with_opening c.self.inside.running c.self.inside.opening.value c.self.inside.right.value.name)
     c.self.invariant.0
 
@@ -38,8 +43,14 @@ pub invariant_of-self : goal.invariant_of-self
 invariant_of-self g c =
     let p = (with_opening c.self.inside.running c.self.inside.opening.value c.self.inside.right.value.name) in
     let q = view_of c.begin_insert_or_halt.new.running in (
-      inserting_or_not g.D.PageDisk p q c.begin_insert_or_halt.result
+      inserting_or_not g.D.PageDisk p q c.args.msg.channel c.begin_insert_or_halt.result
           (λ k made. c.goes_on.ensures p q k c.self.invariant.0 made)
           c.begin_insert_or_halt.ensures.begins c.begin_insert_or_halt.ensures.halted,
       c.begin_insert_or_halt.ensures.order,
     )
+
+pub returns-clause-halted : goal.returns-clause-halted
+returns-clause-halted g c = subst (λ (b : WithOpening g.row.D.Denot). IsSome b.at.stopped
+    → (c.begin_insert_or_halt.result ≡ Logged)
+    × TurnMade g.D.PageDisk b.at (view_of c.begin_insert_or_halt.new.running) (halting c.args.msg.channel))
+    c.self.view_is c.begin_insert_or_halt.ensures.halted

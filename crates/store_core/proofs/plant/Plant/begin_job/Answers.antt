@@ -5,7 +5,7 @@ use Rattle.store_model.specs.Repairing.{IsRepaired}
 use Rattle.running_store.specs.StoreView.{WithOpening, state_of}
 use Rattle.running_store.specs.Steps.{Asks}
 use Rattle.running_store.specs.Requests.{IsPostedBy}
-use Rattle.store_core.proofs.Posting.{begun_or_not, posted_at}
+use Rattle.store_core.proofs.Posting.{begun_or_not, posted_at, posted_low}
 use Rattle.store_core.proofs.plant.Plant.begin_job.Goals as goal
 
 pub begin_or_halt-requires-clause-repaired : goal.begin_or_halt-requires-clause-repaired
@@ -33,3 +33,9 @@ begin_or_halt-requires-clause-asks g c =
     subst (λ (b : WithOpening g.row.D.Denot). b.at.stopped ≡ None
     → Asks b.at c.args.msg.channel (λ command. IsJobOf (state_of g.D.PageDisk b.at) command c.args.job))
     (sym c.self.view_is) c.requires.asks
+
+pub begin_or_halt-requires-clause-channel : goal.begin_or_halt-requires-clause-channel
+begin_or_halt-requires-clause-channel g c = posted_low g.D.PageDisk
+    (with_opening c.self.inside.running c.self.inside.opening.value c.self.inside.right.value.name) c.args.msg
+    c.self.invariant.0 c.self.invariant.1.seventeen
+    (subst (λ (b : WithOpening g.row.D.Denot). IsPostedBy b.at.rows c.args.msg) (sym c.self.view_is) c.requires.posted)

@@ -9,14 +9,14 @@ use Rattle.running_store.specs.TurnMade.{TurnMade}
 use Rattle.channel_turns.specs.declared.claiming.ClaimTurn.TheVariants as claim
 use Rattle.running_store.specs.declared.rows.RowStage.TheVariants.{Claim}
 use Rattle.store_core.proofs.FirstCommand.{low_claim, waits_claim}
-use Rattle.store_core.proofs.JobStays.{by_claim, IsOfChannel, over_channel}
+use Rattle.store_core.proofs.JobStays.{by_claim, LeavesJob, over_channel}
 use Rattle.store_core.proofs.Posting.{turned_or_not}
 use Rattle.store_core.proofs.plant.Plant.claim.Goals as goal
 
 pub claim_or_halt-requires-clause-channel : goal.claim_or_halt-requires-clause-channel
 claim_or_halt-requires-clause-channel g c =
     let p = with_opening c.self.inside.running c.self.inside.opening.value c.self.inside.right.value.name in
-    low_claim g.D.PageDisk p c.self.invariant.0 c.args.channel c.self.invariant.1.sixteen
+    low_claim g.D.PageDisk p c.self.invariant.0 c.args.channel c.self.invariant.1.seventeen
     (subst (λ (b : WithOpening g.row.D.Denot). is_stage (rows_of b.at.rows c.args.channel) c.args.channel ≡ Claim)
     (sym c.self.view_is) c.requires.stage)
 
@@ -32,7 +32,7 @@ invariant_of-self g c =
     let p = with_opening c.self.inside.running c.self.inside.opening.value c.self.inside.right.value.name in
     let q = view_of c.claim_or_halt.new.running in
     let e = c.claim_or_halt.ensures in (
-      turned_or_not g.D.PageDisk p q IsOfChannel c.self.invariant.0
+      turned_or_not g.D.PageDisk p q LeavesJob c.self.invariant.0
           (λ k made. c.goes_on.ensures p q k c.self.invariant.0 made)
           (by_claim g.D.PageDisk p.at q c.claim_or_halt.result e.kept e.filled e.claimed e.logged),
       e.order,

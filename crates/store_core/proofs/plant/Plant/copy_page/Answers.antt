@@ -6,16 +6,17 @@ use Rattle.running_store.specs.Running.{view_of, with_opening}
 use Rattle.running_store.specs.StoreView.{WithOpening, rows_of}
 use Rattle.running_store.specs.Stages.{is_stage}
 use Rattle.running_store.specs.declared.rows.RowStage.TheVariants.{Copy}
+use Rattle.store_core.proofs.FillKept.{fill_kept}
 use Rattle.store_core.proofs.FirstCommand.{low_copy, waits_copy}
-use Rattle.store_core.proofs.JobStays.{by_copy, IsOfChannel, over_channel}
+use Rattle.store_core.proofs.JobStays.{by_copy, LeavesJob, over_channel}
 use Rattle.store_core.proofs.Posting.{turned_or_not}
 use Rattle.store_core.proofs.plant.Plant.copy_page.Goals as goal
 
-pub copy_or_halt-requires-clause-channel : goal.copy_or_halt-requires-clause-channel
-copy_or_halt-requires-clause-channel g c =
+pub copy_or_halt-requires-clause-row : goal.copy_or_halt-requires-clause-row
+copy_or_halt-requires-clause-row g c =
     let p = with_opening c.self.inside.running c.self.inside.opening.value c.self.inside.right.value.name in
     let left = c.requires.stage.0 in
-    low_copy g.D.PageDisk p c.self.invariant.0 c.args.channel left c.self.invariant.1.sixteen
+    low_copy g.D.PageDisk p c.self.invariant.0 c.args.channel left c.self.invariant.1.seventeen
     (subst (λ (b : WithOpening g.row.D.Denot). is_stage (rows_of b.at.rows c.args.channel) c.args.channel ≡ Copy left)
     (sym c.self.view_is) c.requires.stage.1)
 
@@ -32,7 +33,7 @@ invariant_of-self g c =
     let p = with_opening c.self.inside.running c.self.inside.opening.value c.self.inside.right.value.name in
     let q = view_of c.copy_or_halt.new.running in
     let e = c.copy_or_halt.ensures in (
-      turned_or_not g.D.PageDisk p q IsOfChannel c.self.invariant.0
+      turned_or_not g.D.PageDisk p q LeavesJob c.self.invariant.0
           (λ k made. c.goes_on.ensures p q k c.self.invariant.0 made)
           (by_copy g.D.PageDisk p.at q c.copy_or_halt.result e.lost e.copied e.logged),
       e.order,
@@ -51,3 +52,8 @@ returns-clause-job g c =
     let e = c.copy_or_halt.ensures in
     over_channel g.D.PageDisk p q (by_copy g.D.PageDisk p q c.copy_or_halt.result e.lost e.copied e.logged)
     ∙ ap (λ (b : WithOpening g.row.D.Denot). b.at.job) c.self.view_is
+
+pub copy_or_halt-requires-clause-fill : goal.copy_or_halt-requires-clause-fill
+copy_or_halt-requires-clause-fill g c = fill_kept g.D.PageDisk
+    (with_opening c.self.inside.running c.self.inside.opening.value c.self.inside.right.value.name)
+    c.self.invariant.0

@@ -4,20 +4,14 @@ use Rattle.running_store.specs.Running.{view_of, with_opening}
 use Rattle.running_store.specs.StoreView.{WithOpening, rows_of}
 use Rattle.running_store.specs.Stages.{is_stage}
 use Rattle.running_store.specs.declared.rows.RowStage.TheVariants.{Over}
-use Rattle.store_core.proofs.Posting.{low_over, over_row}
+use Rattle.store_core.proofs.Posting.{over_row}
 use Rattle.store_core.proofs.plant.Plant.end.Goals as goal
-
-pub end-requires-clause-channel : goal.end-requires-clause-channel
-end-requires-clause-channel g c = low_over g.D.PageDisk
-    (view_of c.self.inside.running) c.self.invariant.0.facts.shaped c.args.channel c.self.invariant.1.sixteen
-    (subst (λ (b : WithOpening g.row.D.Denot). is_stage (rows_of b.at.rows c.args.channel) c.args.channel ≡ Over)
-    (sym c.self.view_is) c.requires)
 
 pub end-requires-clause-over : goal.end-requires-clause-over
 end-requires-clause-over g c =
     over_row g.D.PageDisk (view_of c.self.inside.running) c.self.invariant.0.facts.shaped c.args.channel
     (subst (λ (b : WithOpening g.row.D.Denot). is_stage (rows_of b.at.rows c.args.channel) c.args.channel ≡ Over)
-    (sym c.self.view_is) c.requires)
+    (sym c.self.view_is) c.requires.over)
 
 pub invariant_of-self : goal.invariant_of-self
 invariant_of-self g c = (

@@ -4,13 +4,17 @@ use Rattle.running_store.specs.StoreView.{WithOpening, rows_of}
 use Rattle.running_store.specs.Stages.{is_stage}
 use Rattle.running_store.specs.declared.rows.RowStage.TheVariants.{Flush}
 use Rattle.store_core.proofs.JobStays.{over_flush}
+use Rattle.store_core.proofs.FillKept.{fill_left}
 use Rattle.store_core.proofs.FirstCommand.{low_flush, waits_flush}
 use Rattle.store_core.proofs.plant.Plant.flush.Goals as goal
 
 pub flush_or_halt-requires-clause-channel : goal.flush_or_halt-requires-clause-channel
 flush_or_halt-requires-clause-channel g c =
     low_flush g.D.PageDisk (view_of c.self.inside.running) c.self.invariant.0.facts.shaped c.args.channel
-    c.self.invariant.1.sixteen
+    c.self.invariant.1.seventeen
+    (fill_left g.D.PageDisk
+    (with_opening c.self.inside.running c.self.inside.opening.value c.self.inside.right.value.name)
+    c.self.invariant.0)
     (subst (λ (b : WithOpening g.row.D.Denot). is_stage (rows_of b.at.rows c.args.channel) c.args.channel ≡ Flush)
     (sym c.self.view_is) c.requires.stage)
 

@@ -6,6 +6,7 @@ use Rattle.running_store.specs.Stages.{is_stage}
 use Rattle.running_store.specs.Steps.{Asks}
 use Rattle.channel_turns.specs.declared.page_reading.ReadTurn.TheVariants as read
 use Rattle.running_store.specs.declared.rows.RowStage.TheVariants.{Read}
+use Rattle.store_core.proofs.FillKept.{fill_left}
 use Rattle.store_core.proofs.FirstCommand.{low_read, waits_read}
 use Rattle.store_core.proofs.JobStays.{over_read}
 use Rattle.store_core.proofs.Posting.{by_read, turned_or_not}
@@ -14,7 +15,10 @@ use Rattle.store_core.proofs.plant.Plant.read_page.Goals as goal
 pub read_or_halt-requires-clause-channel : goal.read_or_halt-requires-clause-channel
 read_or_halt-requires-clause-channel g c =
     low_read g.D.PageDisk (view_of c.self.inside.running) c.self.invariant.0.facts.shaped c.args.channel
-    c.self.invariant.1.sixteen
+    c.self.invariant.1.seventeen
+    (fill_left g.D.PageDisk
+    (with_opening c.self.inside.running c.self.inside.opening.value c.self.inside.right.value.name)
+    c.self.invariant.0)
     (subst (λ (b : WithOpening g.row.D.Denot). is_stage (rows_of b.at.rows c.args.channel) c.args.channel ≡ Read)
     (sym c.self.view_is) c.requires.stage)
 

@@ -9,4 +9,4 @@ asked_in-requires g c =
     subst HavePosted (sym c.as_slice.ensures.value)
     (have_posted g.D.PageDisk
     (with_opening c.self.inside.running c.self.inside.opening.value c.self.inside.right.value.name)
-    c.self.invariant.0 c.self.invariant.1.sixteen)
+    c.self.invariant.0)

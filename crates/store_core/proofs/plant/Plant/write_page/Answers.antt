@@ -8,15 +8,19 @@ use Rattle.running_store.specs.Steps.{Asks}
 use Rattle.running_store.specs.TurnMade.{TurnMade}
 use Rattle.channel_turns.specs.declared.page_writing.WriteTurn.TheVariants as write
 use Rattle.running_store.specs.declared.rows.RowStage.TheVariants.{Write}
+use Rattle.store_core.proofs.FillKept.{fill_left}
 use Rattle.store_core.proofs.FirstCommand.{low_write, waits_write}
-use Rattle.store_core.proofs.JobStays.{by_write, IsOfChannel, over_channel}
+use Rattle.store_core.proofs.JobStays.{by_write, LeavesJob, over_channel}
 use Rattle.store_core.proofs.Posting.{turned_or_not}
 use Rattle.store_core.proofs.plant.Plant.write_page.Goals as goal
 
 pub write_or_halt-requires-clause-channel : goal.write_or_halt-requires-clause-channel
 write_or_halt-requires-clause-channel g c =
     low_write g.D.PageDisk (view_of c.self.inside.running) c.self.invariant.0.facts.shaped c.args.channel
-    c.self.invariant.1.sixteen
+    c.self.invariant.1.seventeen
+    (fill_left g.D.PageDisk
+    (with_opening c.self.inside.running c.self.inside.opening.value c.self.inside.right.value.name)
+    c.self.invariant.0)
     (subst (λ (b : WithOpening g.row.D.Denot). is_stage (rows_of b.at.rows c.args.channel) c.args.channel ≡ Write)
     (sym c.self.view_is) c.requires.stage)
 
@@ -30,7 +34,7 @@ pub invariant_of-self : goal.invariant_of-self
 invariant_of-self g c =
     let p = with_opening c.self.inside.running c.self.inside.opening.value c.self.inside.right.value.name in
     let q = view_of c.write_or_halt.new.running in (
-      turned_or_not g.D.PageDisk p q IsOfChannel c.self.invariant.0
+      turned_or_not g.D.PageDisk p q LeavesJob c.self.invariant.0
           (λ k made. c.goes_on.ensures p q k c.self.invariant.0 made)
           (by_write g.D.PageDisk p.at q c.write_or_halt.result c.write_or_halt.ensures.kept
           c.write_or_halt.ensures.empty c.write_or_halt.ensures.logged),

@@ -1,0 +1,134 @@
+-- The step of the metadata thread where there was nothing to do before it looked into the queue.
+use Rattle.std.proofs.Common.{◌≡◌, ◌⊎◌, inl, inr, ℕ, Bool, true, false, List, [], Option, Some, None, refl, sym, ap, ◌∙◌, subst}
+use Rattle.std.specs.Prelude.{if◌then◌else◌, IfSome, is_none as is_empty, IsSome}
+use Rattle.page_disk.specs.declared.disk.PageDisk.{Ghosts}
+use Rattle.volume_model.specs.declared.reply.Msg.{Msg}
+use Rattle.md_queue.specs.Queue.{GivesOldest, IsEmpty}
+use Rattle.store_model.specs.Filling.{IsFilledFor}
+use Rattle.store_model.specs.StoreState.{StoreState}
+use Rattle.running_store.specs.StoreView.{rows_of, state_of}
+use Rattle.run_work.specs.Following.{MetadataActs}
+use Rattle.run_work.specs.RunFacts.{RunFacts}
+use Rattle.run_work.specs.RunLaws.{DueLaws, FactLaws}
+use Rattle.run_work.specs.Steps.{has_to_wait}
+use Rattle.run_moves.specs.DrivenStore.{DrivenStore, run_of}
+use Rattle.run_moves.specs.DriverSteps.{behind_others, DriverStep}
+use Rattle.run_moves.specs.FillTurns.{HoldsFill}
+use Rattle.run_moves.specs.Projection.{RunMessages}
+use Rattle.run_moves.proofs.DriverMoves.{turn_is}
+use Rattle.md_thread.specs.Holding.{driven_by, IsKept, LooksForMessage, MakesStep, messages_by, MetadataState}
+use Rattle.md_thread.specs.declared.state.Next.TheVariants as on
+use Rattle.md_thread.specs.declared.state.Turn.{Turn}
+use Rattle.md_thread.specs.declared.state.Turn.TheVariants.{Idle, Moved}
+use Rattle.channels.specs.Driving.{driven, driven_of, IsDriven, unsent_of}
+use Rattle.channels.specs.declared.driver.Driver.{Driver}
+use Rattle.channels.proofs.MetadataActing.{fills_then, is_kept, rests_then, takes_front}
+
+-- a message that is there
+front_of : {P : Msg → Type 0} (o : Option Msg) → IfSome o P → IsSome o → (front : Msg) × (o ≡ Some front) × P front
+front_of (Some front) gives some = (front, refl, gives)
+front_of None gives some = absurd (cc some)
+
+something : (o : Option Msg) → IsSome o → is_empty o ≡ false
+something (Some front) some = refl
+something None some = absurd (cc some)
+
+pub no_message : (o : Option Msg) → (IsSome o → ⊥) → o ≡ None
+no_message None none = refl
+no_message (Some front) none = absurd (none refl)
+
+-- a turn was made, or none was
+pub moved_or_idle : (t : Turn) → (t ≡ Moved) ⊎ (t ≡ Idle)
+moved_or_idle Moved = inl refl
+moved_or_idle Idle = inr refl
+
+pub none_moved : (t : Turn) → (t ≡ Moved → ⊥) → t ≡ Idle
+none_moved Moved none = absurd (none refl)
+none_moved Idle none = refl
+
+-- what comes to wait leaves the fill
+fill_stays : (m : RunMessages) (waits : Bool) (o : Option Msg)
+    → (if waits then behind_others m o else m).fill ≡ m.fill
+fill_stays m true None = refl
+fill_stays m true (Some x) = refl
+fill_stays m false o = refl
+
+module _ {D : Type 0} (d : Ghosts D) (w : Driver D) (is : IsDriven d w) (fact : FactLaws) (due : DueLaws)
+    (t : MetadataState) (looks : LooksForMessage (state_of d w.plant.at) w.metadata t) (none : t.held ≡ None)
+    (asked : (msg : Msg) → t.fill ≡ Some msg → IsFilledFor (rows_of w.plant.at.rows msg.channel))
+    (u : MetadataState) (rest : List Msg)
+    (state : u ≡ record t { held = u.held; found_none = is_empty u.held; next = on.Plant }) where
+  abbrev s : StoreState
+  s = state_of d w.plant.at
+
+  abbrev unsent : ℕ → Option ℕ
+  unsent = unsent_of w.channels
+
+  waiting_same : u.waiting ≡ t.waiting
+  waiting_same = ap (λ (x : MetadataState). x.waiting) state
+
+  fill_same : u.fill ≡ t.fill
+  fill_same = ap (λ (x : MetadataState). x.fill) state
+
+  pub asked_then : (msg : Msg) → u.fill ≡ Some msg → IsFilledFor (rows_of w.plant.at.rows msg.channel)
+  asked_then msg fills = asked msg (sym fill_same ∙ fills)
+
+  -- the front message was taken,
+  pub looked : IsSome u.held → u.found_none ≡ false
+  looked some = ap (λ (x : MetadataState). x.found_none) state ∙ something u.held some
+
+  pub front_taken : IfSome u.held (λ msg. GivesOldest w.queue msg rest) → IsSome u.held
+      → DriverStep d.tells MetadataActs (driven d w) (driven_of s w.channels rest u)
+  front_taken taken some =
+      let x = front_of u.held taken some in
+      subst (λ l. DriverStep d.tells MetadataActs (driven_of s w.channels l w.metadata)
+      (driven_of s w.channels rest u)) (sym x.2)
+      (takes_front due d.tells s w.metadata t unsent looks none u x.0 rest x.1 waiting_same fill_same)
+
+  -- or there was none: then a turn of the fill is made, or nothing can be done
+  module _ (nothing : u.held ≡ None) (empty : IsEmpty w.queue) (unchanged : rest ≡ w.queue) where
+    found : u.found_none ≡ true
+    found = ap (λ (x : MetadataState). x.found_none) state ∙ ap (λ (o : Option Msg). is_empty o) nothing
+
+    same_messages : messages_by t unsent w.queue ≡ messages_by u unsent w.queue
+    same_messages = λ i. record {
+      unsent = unsent;
+      queue = w.queue;
+      held = (none ∙ sym nothing) i;
+      waiting = sym waiting_same i;
+      fill = sym fill_same i;
+    }
+
+    facts_then : RunFacts (run_of (driven_by s u unsent w.queue))
+    facts_then = subst (λ (m : RunMessages). RunFacts (run_of (record { store = s; messages = m }))) same_messages
+        (subst (λ (x : DrivenStore). RunFacts (run_of x)) (sym (looks.joined unsent w.queue))
+        (subst RunFacts (sym (turn_is (driven d w))) (fact.turn (run_of (driven d w)) is.run)))
+
+    holds : HoldsFill s (messages_by u unsent w.queue)
+    holds channel works =
+        let x = is.works channel works in
+        let joined = ap (λ (v : DrivenStore). v.messages.fill) (looks.joined unsent w.queue)
+        ∙ fill_stays (driven d w).messages (has_to_wait (run_of (driven d w))) w.metadata.held in
+        (x.0, fill_same ∙ joined ∙ x.1, x.2)
+
+    pub kept_then : IsKept d w.plant.at u
+    kept_then = is_kept d w.plant.at u unsent w.queue fact facts_then asked_then holds
+
+    behind : (v : StoreState) (after : MetadataState)
+        → DriverStep d.tells MetadataActs (driven_by s w.metadata unsent []) (driven_by v after unsent [])
+        → DriverStep d.tells MetadataActs (driven d w) (driven_of v w.channels rest after)
+    behind v after step =
+        subst (λ l. DriverStep d.tells MetadataActs (driven_by s w.metadata unsent l) (driven_by v after unsent rest))
+        (sym empty)
+        (subst (λ l. DriverStep d.tells MetadataActs (driven_by s w.metadata unsent []) (driven_by v after unsent l))
+        (sym (unchanged ∙ empty)) step)
+
+    pub fills_on : (q : StoreState) (after : MetadataState) → MakesStep d.tells s u q after
+        → DriverStep d.tells MetadataActs (driven d w) (driven_of q w.channels rest after)
+    fills_on q after makes = behind q after
+        (fills_then due d.tells s w.metadata t unsent looks none u nothing waiting_same fill_same q after makes)
+
+    pub rests_on : (after : MetadataState) → LooksForMessage s u after
+        → DriverStep d.tells MetadataActs (driven d w) (driven_of s w.channels rest after)
+    rests_on after again = behind s after
+        (rests_then due d.tells s w.metadata t unsent looks none u nothing waiting_same fill_same after found again)

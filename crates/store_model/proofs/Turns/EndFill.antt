@@ -1,0 +1,35 @@
+-- The turn ends_fill.
+use Rattle.std.proofs.Common.{None, refl, subst, sym}
+use Rattle.store_model.specs.Claiming.{given_back}
+use Rattle.store_model.specs.Rows.{fill_row, Idle}
+use Rattle.store_model.specs.StoreState.{StoreState}
+use Rattle.store_model.specs.Cases.EndFill as case
+use Rattle.store_model.specs.Cases.EndFill.{EndsFill}
+use Rattle.store_model.specs.RunInvariant.{RunInvariant}
+use Rattle.store_model.proofs.GivenBack.{filling_facts, given_back_facts}
+use Rattle.store_model.proofs.Known.{Known}
+use Rattle.store_model.proofs.Over.{Effect, nothing, stays, TurnLaw}
+use Rattle.store_model.proofs.Shapes.{idles, Idles, silent, untouched_images}
+use Rattle.store_model.proofs.Shaped.{idle_may, none_without}
+
+-- ---- it keeps what every state has
+
+module _ (known : Known) where
+  open known use {s, placed, first, script, p, facts}
+
+  keeps : (q : StoreState) → EndsFill p q → RunInvariant s first script q
+  keeps q t =
+      let there : Known = record known {
+        p = given_back p fill_row Idle;
+        facts = given_back_facts known fill_row Idle idle_may (none_without p facts.shaped t.no_job fill_row);
+      } in
+      subst (RunInvariant s first script) (sym t.next) (filling_facts there None)
+
+pub law : TurnLaw case.kind
+law = record {
+  keeps = λ _ told known q t. keeps known q t;
+  effect = λ told p q t. subst (Effect p) (sym t.next) (record { goes = stays refl refl; logs = nothing refl refl });
+  images = λ d x t does. untouched_images d x does
+      (subst (Idles x.p) (sym t.next) (idles x.p _ refl refl refl refl (λ _. silent refl)));
+  job = λ of. absurd of;
+}
