@@ -4,8 +4,8 @@ ghost use Rattle.std.specs.Prelude.{◌≡◌, None, length};
 ghost use Rattle.blob_meta.specs.declared.job.Job.{Job as AJob};
 ghost use Rattle.job_begins.specs.Asks.{IsAskOf};
 
-use crate::deleting::DeletionAsk;
-use crate::snapshotting::SnapshotAsk;
+use crate::deletion_parts::DeletionAsk;
+use crate::snapshot_parts::SnapshotAsk;
 use blob_meta::{Job, Meta, Replacement, ReplacementList};
 use volume_model::SlotList;
 

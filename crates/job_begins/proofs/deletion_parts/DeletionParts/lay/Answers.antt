@@ -1,14 +1,14 @@
-use Rattle.std.proofs.Common.{◌-◌, List, [], ◌∷◌, drop, length, take, None, refl, ap, ◌∙◌, arith}
+use Rattle.std.proofs.Common.{◌-◌, List, ◌∷◌, drop, length, take, refl, ap, arith}
 use Rattle.std.proofs.lemmas.List.{length-take-le}
 use Rattle.md_chain.proofs.Fitting.{some_parts}
-use Rattle.running_store.specs.Jobs.{erases_laid, writes_laid}
+use Rattle.running_store.specs.Jobs.{writes_laid}
 use Rattle.running_store.specs.declared.replacements.LaidReplacement.{LaidReplacement}
 use Rattle.job_begins.proofs.PlacesInParts.{in_two, part_length}
-use Rattle.job_begins.proofs.deleting.DeletionDrafts.job.Goals as goal
+use Rattle.job_begins.proofs.deletion_parts.DeletionParts.lay.Goals as goal
 
 pub lay-requires-2-clause-places : goal.lay-requires-2-clause-places
 lay-requires-2-clause-places c =
-    let some = some_parts 4072 c.args.self.taking.items in
+    let some = some_parts 4072 c.args.self.drafts.taking.items in
     let a = c.needs-first.ensures in
     let count = c.requires.count in
     let long = part_length c.args.taken.now c.needs-first.result (length c.args.taken.now)
@@ -17,7 +17,7 @@ lay-requires-2-clause-places c =
 
 pub returns-clause-laid : goal.returns-clause-laid
 returns-clause-laid c =
-    let x = c.args.self in
+    let x = c.args.self.drafts in
     let taken = c.args.taken.now in
     let first = c.needs-first.result in
     let a = c.needs-first.ensures in
@@ -26,6 +26,7 @@ returns-clause-laid c =
     let some_taking = some_parts 4072 x.taking.items in
     let going_long = length-take-le first taken (omega (arith, a, count)) in
     let taking_long = part_length taken first (length taken) (omega (arith, a, count)) (omega (arith)) in
+    let later = c.in_ok-later.ensures in
     record {
       going = take first taken;
       taking = take (length taken - first) (drop first taken);
@@ -33,14 +34,10 @@ returns-clause-laid c =
       going_count = omega (arith, going_long, a, some_going);
       taking_count = omega (arith, taking_long, a, count, some_taking);
       first = c.in_ok-planned.planned;
-      second = c.in_ok-commits.commits;
+      second = later.planned;
       first_laid = c.in_ok-planned.ensures;
-      second_laid = c.in_ok-commits.ensures;
-      coming = ap (λ (l : List LaidReplacement). writes_laid c.in_ok-planned.planned c.args.old ∷ l)
-          (c.from_vec.ensures.items ∙ c.in_ok-later.ensures.items)
-          ∙ (λ i. writes_laid c.in_ok-planned.planned c.args.old
-          ∷ writes_laid c.in_ok-commits.commits c.args.old_of_clone
-          ∷ erases_laid (record { head = x.going.head; commit = None; freed = c.args.besides.freed })
-          (c.in_ok-places_from.ensures i) ∷ []);
+      second_laid = later.on;
+      coming = ap (λ (l : List LaidReplacement). writes_laid c.in_ok-planned.planned c.args.self.old ∷ l)
+          later.later_is;
       seen = refl;
     }
