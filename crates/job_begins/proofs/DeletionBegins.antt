@@ -25,7 +25,7 @@ use Rattle.store_model.specs.Places.{all_set, AreLeastClear}
 use Rattle.store_model.specs.RunInvariant.{RunsWell}
 use Rattle.store_model.specs.Rows.{InJob, Row}
 use Rattle.store_model.specs.Shown.{fixed_of}
-use Rattle.store_model.specs.StoreState.{shown, ForCommand, JobState, StoreState}
+use Rattle.store_model.specs.StoreState.{ForCommand, JobState, marked, shown, StoreState}
 use Rattle.store_model.proofs.ChangedLive.{deleted_commit}
 use Rattle.store_model.proofs.JobReady.{plain_zeroed}
 use Rattle.store_model.proofs.WithEntry.{option_elsewhere}
@@ -198,7 +198,7 @@ module _ {D : Type 0} (d : Ghosts D) (p : StoreView D) (running : IsRunning (sta
     begins_deletion posted same unfilled low =
         subst (λ (j : JobState). Begins s (state_of d (record p {
           rows = slice_set p.rows channel (record (rows_of p.rows channel) { stage = InJob });
-          job = Some j;
+          job = Some (marked p.clean j);
           pages = after;
         }))) seen_is
         (begins_list d p channel posted clean runs no_job (delete_job x.of it.old x.clone it.heir) commit

@@ -94,6 +94,7 @@ pub record IsDeletionLaid (x : DeletionDrafts) (effects : DeletionEffects) (chan
   pub second : Planned
   pub first_laid : IsPlannedOn x.going going effects.begin first
   pub second_laid : IsPlannedOn x.taking taking effects.commit second
+  pub marks : job.marks ≡ false
   pub coming : to_come job
       ≡ writes_laid first old
       ∷ writes_laid second old_of_clone

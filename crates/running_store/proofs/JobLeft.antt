@@ -1,7 +1,7 @@
 -- The job that is left between two replacements.
-use Rattle.std.proofs.Common.{◌≡◌, ℕ, ◌<◌, false, List, [], ◌∷◌, length, Some, refl, sym, ◌∙◌, ap, subst, arith, drop}
+use Rattle.std.proofs.Common.{◌≡◌, ℕ, ◌<◌, Bool, false, List, [], ◌∷◌, length, Some, refl, sym, ◌∙◌, ap, subst, arith, drop}
 use Rattle.store_model.specs.Phases.{Phase, Replaces, erasing, writing}
-use Rattle.store_model.specs.StoreState.{going_on, JobState}
+use Rattle.store_model.specs.StoreState.{going_on, JobState, marked}
 use Rattle.running_store.specs.Jobs.{commit_in, erasing_for, freeze_of, job_left, phases_in, replacing_of, service_of}
 use Rattle.running_store.specs.Jobs.{erases_laid, job_seen, writes_laid, writing_for, IsFollowing, MayFollow}
 use Rattle.running_store.specs.declared.job.RunningJob.{RunningJob}
@@ -78,3 +78,10 @@ next_erases j x e is old at marks =
   where
     same : erases_laid e j.old ≡ x
     same i = record { change = sym is i; old = sym old i }
+
+-- ---- the mark before a job
+
+-- a job that marks nothing, with a mark before it or without one
+pub seen_with_mark : (j : RunningJob) → j.marks ≡ false → (marks : Bool)
+    → job_seen (record j { marks = marks }) ≡ marked marks (job_seen j)
+seen_with_mark j none marks = ap (λ (b : Bool). marked marks (job_seen (record j { marks = b }))) (sym none)

@@ -85,7 +85,7 @@ returns-clause-begins g c =
     let low : c.args.channel < length q.rows = omega (arith, c.requires.channel, c.requires.order.seventeen) in
     subst (λ (y : GuardsState). Begins (state_of d q) (state_of d (record q {
       rows = slice_set q.rows c.args.channel (record (rows_of q.rows c.args.channel) { stage = InJob });
-      job = Some (job_seen c.in_ok-job.job);
+      job = Some (marked q.clean (job_seen c.in_ok-job.job));
       guards = y;
       pages = c.job.new.pages.bits;
     }))) (sym c.freeze.ensures)
