@@ -69,13 +69,16 @@ impl Model for MdState {
 }
 
 impl MdState {
-    ghost use Rattle.std.specs.Prelude.{◌≡◌, ◌≢◌, ◌⊎◌, ◌<◌, [], None, Some, IfSome, true, is_none, length};
+    ghost use Rattle.std.specs.Prelude.{◌≡◌, ◌≢◌, ◌⊎◌, ◌<◌, [], None, Some, IfSome, IsSome, true, is_none, length};
     ghost use Rattle.running_store.specs.Stages.{is_stage};
     ghost use Rattle.running_store.specs.declared.rows.RowStage.TheVariants.{Over};
     ghost use Rattle.store_model.specs.Rows.{fill_row};
     ghost use Rattle.md_thread.specs.declared.state.Next.TheVariants as on;
     ghost use Rattle.md_thread.specs.declared.state.Turn.TheVariants.{Moved};
-    ghost use Rattle.md_thread.specs.Holding.{ComesNext, IsKept, LooksForMessage, looks_first, MakesStep, without_next};
+    ghost use Rattle.md_thread.specs.Holding.{ComesNext, IsKept, LooksForMessage, looks_first, MakesStep};
+    ghost use Rattle.md_thread.specs.Holding.{MetadataState, without_next};
+    ghost use Rattle.md_thread.specs.Turns.{ServiceMade};
+    ghost use Rattle.metadata_turns.specs.JobTurns.{TurnsJob};
     ghost use Rattle.md_thread.specs.Served.{IsServedByMetadata};
     ghost use Rattle.running_store.specs.Requests.{IsPostedBy};
     ghost use Rattle.running_store.specs.Steps.{Asks};
@@ -158,6 +161,21 @@ impl MdState {
         ensures first { looks_first plant.old.at.job self.old ≡ true → self.old.found_none ≡ false → result ≡ Idle }
         ensures looked { self.new.found_none ≡ false }
         ensures next { IsNextAfter result plant.new.at.rows (looks_first plant.new.at.job self.new) self.new.next }
+        // A running job makes its next turn, and no message is looked at.
+        ensures job { IsSome plant.old.at.job → (result ≡ Moved) × TurnsJob D.PageDisk plant.old.at plant.new.at
+            × (self.new.held ≡ self.old.held) × (self.new.waiting ≡ self.old.waiting) }
+        // Where no job runs and no fill goes on, the message that comes next is served,
+        ensures message { plant.old.at.job ≡ None → is_stage (rows_of plant.old.at.rows fill_row) fill_row ≡ Over
+            → self.old.fill ≡ None → (msg : AMsg) → ComesNext self.old msg → msg.channel < 16
+            → (rows_of plant.old.at.rows msg.channel).stage ≡ Posted msg.serial
+            → (result ≡ Moved) × ((t : MetadataState) × ServiceMade D.tells (state_of D.PageDisk plant.old.at)
+            (state_of D.PageDisk plant.new.at) msg (without_next self.old) t
+            × (self.new ≡ record t { found_none = false; next = self.new.next })) }
+        // and where there is none, nothing is done.
+        ensures nothing { plant.old.at.job ≡ None → is_stage (rows_of plant.old.at.rows fill_row) fill_row ≡ Over
+            → self.old.held ≡ None → self.old.fill ≡ None → self.old.waiting ≡ []
+            → (result ≡ Idle) × (plant.new ≡ plant.old)
+            × (self.new ≡ record self.old { found_none = false; next = self.new.next }) }
         // A message that is served when its row isn't posted under its number any more is dropped.
         ensures stale { plant.old.at.job ≡ None → is_stage (rows_of plant.old.at.rows fill_row) fill_row ≡ Over
             → self.old.fill ≡ None → (msg : AMsg) → ComesNext self.old msg

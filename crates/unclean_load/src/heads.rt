@@ -1,9 +1,11 @@
 //! The blob at a place of the metadata region.
 
-ghost use Rattle.std.specs.Prelude.{◌≡◌, ◌<◌, ◌≤◌, ◌+◌, None, IsTrue, OnOk, IfOk, IfErr};
+ghost use Rattle.std.specs.Prelude.{◌≡◌, ◌==◌, ◌&&◌, ◌<◌, ◌≤◌, ◌+◌, None, IsTrue, OnOk, IfOk, IfErr};
 ghost use Rattle.blob_meta.specs.Faults.{meta_fault};
 ghost use Rattle.blob_meta.specs.Says.{meta_of};
+ghost use Rattle.md_chain.specs.Chain.{blob_id};
 ghost use Rattle.md_chain.specs.Reading.{GaveChain, OnlyRead, region_look};
+ghost use Rattle.md_page.specs.Page.{id_of, sequence_of};
 ghost use Rattle.store_model.specs.Regions.{region_of};
 ghost use Rattle.store_model.specs.Scans.{is_head as is_head_said};
 ghost use Rattle.super_block.specs.Faults.{IsFaultless};
@@ -16,6 +18,7 @@ use blob_meta::{Meta, MetaFault, from_items};
 use descriptors::ItemList;
 use md_chain::{Chain, ChainFault, read_chain};
 use page_disk::{Page, PageDisk};
+use page_fields::{Field, u32_of, u64_of};
 use std::alloc::Global;
 use super_block::Super;
 use volume_model::PlaceList;
@@ -27,14 +30,22 @@ pub struct Blob {
     pub pages: PlaceList,
 }
 
-/// Whether a page is a head at its place: sound, of sequence 0, with the id of the place.
+/// Whether a page, sound or not, has sequence 0 and the id of its place.
+#[tactic(auto, unfolding(md_page::specs::Page::id_of, md_page::specs::Page::sequence_of))]
+fn says_head(place: u32, page: &Page) -> bool
+    ensures { result ≡ (sequence_of page.now == 0 && id_of page.now == blob_id place) }
+{
+    let id = u64_of(Field::<0, 8>::get(page));
+    let sequence = u32_of(Field::<8, 4>::get(page));
+    sequence == 0 && id == (1 << 32) + u64::from(place)
+}
+
+/// Whether a page is a head at its place: sound, of sequence 0, with the id of the place. Most pages of a region say
+/// that they are none, and only the others are summed.
 fn is_head(place: u32, page: &Page) -> bool
     ensures { result ≡ is_head_said place page.now }
 {
-    match md_page::read(page) {
-        Ok(md) => md.sequence == 0 && md.id == (1 << 32) + u64::from(place),
-        Err(_) => false,
-    }
+    says_head(place, page) && md_page::read(page).is_ok()
 }
 
 /// Whether the page at a place of the metadata region is a head.

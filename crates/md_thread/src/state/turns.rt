@@ -18,6 +18,7 @@ impl MdState {
     ghost use Rattle.md_thread.specs.Served.{IsServedByMetadata};
     ghost use Rattle.md_thread.specs.Turns.{ActsNow, HasJoined, JobMade, ServiceMade};
     ghost use Rattle.md_thread.specs.declared.state.Turn.TheVariants.{Idle, Moved};
+    ghost use Rattle.metadata_turns.specs.JobTurns.{TurnsJob};
     ghost use Rattle.running_store.specs.Requests.{IsPostedBy};
     ghost use Rattle.running_store.specs.Stages.{is_stage};
     ghost use Rattle.running_store.specs.Steps.{Asks};
@@ -49,6 +50,16 @@ impl MdState {
             × (length self.new.waiting < 16) }
         ensures first { looks_first plant.old.at.job self.old ≡ true → self.old.found_none ≡ false
             → result ≡ Idle }
+        ensures job { IsSome plant.old.at.job → (result ≡ Moved) × TurnsJob D.PageDisk plant.old.at plant.new.at
+            × (self.new.held ≡ self.old.held) × (self.new.waiting ≡ self.old.waiting) }
+        ensures message { plant.old.at.job ≡ None → is_stage (rows_of plant.old.at.rows fill_row) fill_row ≡ Over
+            → self.old.fill ≡ None → (msg : AMsg) → ComesNext self.old msg → msg.channel < 16
+            → (rows_of plant.old.at.rows msg.channel).stage ≡ Posted msg.serial
+            → (result ≡ Moved) × ServiceMade D.tells (state_of D.PageDisk plant.old.at)
+            (state_of D.PageDisk plant.new.at) msg (without_next self.old) self.new }
+        ensures nothing { plant.old.at.job ≡ None → is_stage (rows_of plant.old.at.rows fill_row) fill_row ≡ Over
+            → self.old.held ≡ None → self.old.fill ≡ None → self.old.waiting ≡ []
+            → (result ≡ Idle) × (plant.new ≡ plant.old) × (self.new ≡ self.old) }
         ensures stale { plant.old.at.job ≡ None → is_stage (rows_of plant.old.at.rows fill_row) fill_row ≡ Over
             → self.old.fill ≡ None → (msg : AMsg) → ComesNext self.old msg
             → (rows_of plant.old.at.rows msg.channel).stage ≢ Posted msg.serial
@@ -94,6 +105,12 @@ impl MdState {
             × (length self.new.waiting < 16) }
         ensures first { looks_first plant.old.at.job self.old ≡ true → self.old.found_none ≡ false
             → result ≡ Idle }
+        ensures message { self.old.fill ≡ None → (msg : AMsg) → ComesNext self.old msg → msg.channel < 16
+            → (rows_of plant.old.at.rows msg.channel).stage ≡ Posted msg.serial
+            → (result ≡ Moved) × ServiceMade D.tells (state_of D.PageDisk plant.old.at)
+            (state_of D.PageDisk plant.new.at) msg (without_next self.old) self.new }
+        ensures nothing { self.old.held ≡ None → self.old.fill ≡ None → self.old.waiting ≡ []
+            → (result ≡ Idle) × (plant.new ≡ plant.old) × (self.new ≡ self.old) }
         ensures stale { self.old.fill ≡ None → (msg : AMsg) → ComesNext self.old msg
             → (rows_of plant.old.at.rows msg.channel).stage ≢ Posted msg.serial
             → (result ≡ Moved) × (plant.new ≡ plant.old) × (self.new ≡ without_next self.old) }
@@ -117,6 +134,8 @@ impl MdState {
         requires right { right.old ≡ plant.old.right }
         requires runs { IsSome plant.old.at.job }
         requires repaired { IsRepaired (state_of D.PageDisk plant.old.at) }
+        ensures turn { TurnsJob D.PageDisk plant.old.at plant.new.at × (self.new.held ≡ self.old.held)
+            × (self.new.waiting ≡ self.old.waiting) }
         ensures made { IsKept D.PageDisk plant.old.at self.old
             → JobMade D.tells (state_of D.PageDisk plant.old.at) (state_of D.PageDisk plant.new.at) self.old self.new }
         ensures asked { IsKept D.PageDisk plant.old.at self.old → (msg : AMsg) → self.new.fill ≡ Some msg
@@ -235,6 +254,11 @@ impl MdState {
             ⊎ (self.old.found_none ≡ false) × (self.old.fill ≢ None) × (length self.old.waiting < 16) }
         ensures first { looks_first plant.old.at.job self.old ≡ true → self.old.found_none ≡ false
             → result ≡ Idle }
+        ensures message { self.old.fill ≡ None → (msg : AMsg) → (rest : List AMsg) → self.old.waiting ≡ msg ∷ rest
+            → msg.channel < 16 → (rows_of plant.old.at.rows msg.channel).stage ≡ Posted msg.serial
+            → (result ≡ Moved) × ServiceMade D.tells (state_of D.PageDisk plant.old.at)
+            (state_of D.PageDisk plant.new.at) msg (record self.old { waiting = rest }) self.new }
+        ensures nothing { self.old.fill ≡ None → self.old.waiting ≡ [] → result ≡ Idle }
         ensures stale { self.old.fill ≡ None → (msg : AMsg) → (rest : List AMsg) → self.old.waiting ≡ msg ∷ rest
             → (rows_of plant.old.at.rows msg.channel).stage ≢ Posted msg.serial
             → (result ≡ Moved) × (plant.new ≡ plant.old) × (self.new ≡ record self.old { waiting = rest }) }

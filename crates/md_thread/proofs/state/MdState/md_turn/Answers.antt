@@ -27,3 +27,33 @@ returns-clause-stale g c = λ none over fill msg comes stale.
       ap (λ (s : MetadataState). record s { found_none = false; next = c.next_after-self-inside.result })
           (c.self.view_is ∙ left.2),
     )
+
+pub returns-clause-job : goal.returns-clause-job
+returns-clause-job g c = λ runs.
+    let made = c.turn_due-turn.ensures.job runs in (
+      made.0,
+      made.1,
+      ap (λ (s : MetadataState). s.held) c.self.view_is ∙ made.2,
+      ap (λ (s : MetadataState). s.waiting) c.self.view_is ∙ made.3,
+    )
+
+pub returns-clause-message : goal.returns-clause-message
+returns-clause-message g c = λ none over fill msg comes low posted.
+    let made = c.turn_due-turn.ensures.message none over fill msg comes low posted in (
+      made.0,
+      (
+        c.turn_due-turn.new.self,
+        made.1,
+        ap (λ (s : MetadataState). record s { found_none = false; next = c.next_after-self-inside.result })
+            c.self.view_is,
+      ),
+    )
+
+pub returns-clause-nothing : goal.returns-clause-nothing
+returns-clause-nothing g c = λ none over held fill waits.
+    let left = c.turn_due-turn.ensures.nothing none over held fill waits in (
+      left.0,
+      left.1,
+      ap (λ (s : MetadataState). record s { found_none = false; next = c.next_after-self-inside.result })
+          (c.self.view_is ∙ left.2),
+    )

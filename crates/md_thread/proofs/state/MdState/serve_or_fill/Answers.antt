@@ -168,3 +168,74 @@ returns-in-None-clause-stale g c = λ none msg comes stale.
           c.turn_without_held.ensures.stale none msg rest waits stale in
           (made.0, made.1, made.2 ∙ first_away now msg empty rest waits)
     ]
+
+pub returns-in-Some-clause-message : goal.returns-in-Some-clause-message
+returns-in-Some-clause-message g c = λ none msg comes low posted.
+    let d = g.D.PageDisk in
+    let p = c.args.plant.now.at in
+    let q = c.serve.new.plant.at in
+    let now = c.args.self.now in
+    let own = ap (λ (x : MetadataState). x.held) (sym c.self.view_is) ∙ sym c.take.ensures.value ∙ c.in-Some.is in
+    elim comes [
+      | the_held held alone ↦
+          let same = c.let_wait.ensures.alone none alone in
+          let both : Some c.in-Some.msg ≡ Some msg =
+          sym own ∙ ap (λ (x : MetadataState). x.held) same ∙ held in
+          let is : c.in-Some.msg ≡ msg = cc both in
+          let without = ap (λ o. record (the_view c.self.inside) { held = o }) c.take.ensures.after
+          ∙ ap (λ (x : MetadataState). record x { held = None }) (c.self.view_is ∙ same) ∙ held_away now msg held in
+          let made = c.serve.ensures.made (subst (λ (m : Msg). m.channel < 16) (sym is) low)
+          (subst (λ (m : Msg). (rows_of p.rows m.channel).stage ≡ Posted m.serial) (sym is) posted) in (
+            refl,
+            subst (λ (m : Msg). ServiceMade d.tells (state_of d p) (state_of d q) m (without_next now) c.serve.new.self)
+                is
+                (subst (λ (x : MetadataState). ServiceMade d.tells (state_of d p) (state_of d q) c.in-Some.msg x
+                c.serve.new.self) without made),
+          )
+      | the_first empty rest waits ↦
+          let same = c.let_wait.ensures.first empty in
+          absurd (let bad = sym own ∙ ap (λ (x : MetadataState). x.held) same ∙ empty in cc bad)
+    ]
+
+pub returns-in-None-clause-message : goal.returns-in-None-clause-message
+returns-in-None-clause-message g c = λ none msg comes low posted.
+    let d = g.D.PageDisk in
+    let now = c.args.self.now in
+    let p = c.args.plant.now in
+    let q = c.turn_without_held.new.plant.at in
+    let same : record (the_view c.self.inside) { held = c.take.new.self } ≡ c.let_wait.new.self =
+    ap (λ o. record (the_view c.self.inside) { held = o }) (c.take.ensures.after ∙ sym c.in-None.is
+    ∙ c.take.ensures.value) ∙ c.self.view_is in
+    let own = ap (λ (x : MetadataState). x.held) (sym c.self.view_is) ∙ sym c.take.ensures.value ∙ c.in-None.is in
+    elim comes [
+      | the_held held alone ↦
+          let is = c.let_wait.ensures.alone none alone in
+          absurd (let bad = sym own ∙ ap (λ (x : MetadataState). x.held) is ∙ held in cc bad)
+      | the_first empty rest waits ↦
+          let made = subst
+          (λ (x : MetadataState). x.fill ≡ None → (m : Msg) → (l : List Msg) → x.waiting ≡ m ∷ l → m.channel < 16
+          → (rows_of p.at.rows m.channel).stage ≡ Posted m.serial
+          → (c.turn_without_held.result ≡ Moved) × ServiceMade d.tells (state_of d p.at) (state_of d q) m
+          (record x { waiting = l }) c.turn_without_held.new.self) (same ∙ c.let_wait.ensures.first empty)
+          c.turn_without_held.ensures.message none msg rest waits low posted in (
+            made.0,
+            subst (λ (x : MetadataState). ServiceMade d.tells (state_of d p.at) (state_of d q) msg x
+                c.turn_without_held.new.self) (first_away now msg empty rest waits) made.1,
+          )
+    ]
+
+pub returns-in-Some-clause-nothing : goal.returns-in-Some-clause-nothing
+returns-in-Some-clause-nothing g c = λ empty none alone.
+    let own = ap (λ (x : MetadataState). x.held) (sym c.self.view_is) ∙ sym c.take.ensures.value ∙ c.in-Some.is in
+    let same = c.let_wait.ensures.first empty in
+    absurd (let bad = sym own ∙ ap (λ (x : MetadataState). x.held) same ∙ empty in cc bad)
+
+pub returns-in-None-clause-nothing : goal.returns-in-None-clause-nothing
+returns-in-None-clause-nothing g c = λ empty none alone.
+    let same : record (the_view c.self.inside) { held = c.take.new.self } ≡ c.args.self.now =
+    ap (λ o. record (the_view c.self.inside) { held = o }) (c.take.ensures.after ∙ sym c.in-None.is
+    ∙ c.take.ensures.value) ∙ c.self.view_is ∙ c.let_wait.ensures.first empty in
+    let idle = c.turn_without_held.ensures.nothing (ap (λ (x : MetadataState). x.fill) same ∙ none)
+    (ap (λ (x : MetadataState). x.waiting) same ∙ alone) in
+    let left = c.turn_without_held.ensures.idle idle in
+    (idle, left.0, left.1 ∙ same)

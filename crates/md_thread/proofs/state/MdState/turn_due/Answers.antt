@@ -43,3 +43,27 @@ returns-then-job_runs-clause-stale g c = λ none over fill msg comes stale.
 pub returns-then-not-fill_row_is_over-clause-stale : goal.returns-then-not-fill_row_is_over-clause-stale
 returns-then-not-fill_row_is_over-clause-stale g c = λ none over fill msg comes stale.
     absurd (let bad = sym c.if-not-fill_row_is_over.true ∙ c.fill_row_is_over.ensures.1 over in cc bad)
+
+pub returns-then-not-fill_row_is_over-clause-job : goal.returns-then-not-fill_row_is_over-clause-job
+returns-then-not-fill_row_is_over-clause-job g c = λ runs.
+    let bad = subst (λ (j : Option JobState). IsSome j)
+    (none_of c.args.plant.now.at.job (sym c.job_runs.ensures ∙ c.if-job_runs.false)) runs in
+    absurd (cc bad)
+
+pub returns-then-job_runs-clause-message : goal.returns-then-job_runs-clause-message
+returns-then-job_runs-clause-message g c = λ none over fill msg comes low posted.
+    absurd (let bad = sym (ap (λ (j : Option JobState). is_some j) none) ∙ sym c.job_runs.ensures ∙ c.if-job_runs.true in
+    cc bad)
+
+pub returns-then-not-fill_row_is_over-clause-message : goal.returns-then-not-fill_row_is_over-clause-message
+returns-then-not-fill_row_is_over-clause-message g c = λ none over fill msg comes low posted.
+    absurd (let bad = sym c.if-not-fill_row_is_over.true ∙ c.fill_row_is_over.ensures.1 over in cc bad)
+
+pub returns-then-job_runs-clause-nothing : goal.returns-then-job_runs-clause-nothing
+returns-then-job_runs-clause-nothing g c = λ none over held fill waits.
+    absurd (let bad = sym (ap (λ (j : Option JobState). is_some j) none) ∙ sym c.job_runs.ensures ∙ c.if-job_runs.true in
+    cc bad)
+
+pub returns-then-not-fill_row_is_over-clause-nothing : goal.returns-then-not-fill_row_is_over-clause-nothing
+returns-then-not-fill_row_is_over-clause-nothing g c = λ none over held fill waits.
+    absurd (let bad = sym c.if-not-fill_row_is_over.true ∙ c.fill_row_is_over.ensures.1 over in cc bad)

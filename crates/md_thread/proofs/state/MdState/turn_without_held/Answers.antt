@@ -1,4 +1,4 @@
-use Rattle.std.proofs.Common.{◌≡◌, ◌≢◌, List, ◌∷◌, None, Some, sym, ◌∙◌, ap, refl, subst, inl}
+use Rattle.std.proofs.Common.{◌≡◌, ◌≢◌, ◌<◌, List, ◌∷◌, None, Some, sym, ◌∙◌, ap, refl, subst, inl}
 use Rattle.volume_model.specs.declared.reply.Msg.{Msg}
 use Rattle.store_model.specs.Filling.{IsFilledFor}
 use Rattle.store_model.specs.Rows.{Posted}
@@ -108,5 +108,62 @@ returns-in-Some-take_oldest-clause-stale g c = λ none msg rest waits stale.
 
 pub returns-in-None-clause-stale : goal.returns-in-None-clause-stale
 returns-in-None-clause-stale g c = λ none msg rest waits stale.
+    let own = ap (λ (x : MetadataState). x.waiting) (sym c.self.view_is) ∙ c.in-None.ensures.none in
+    absurd (let bad = sym own ∙ waits in cc bad)
+
+pub returns-in-Ended-clause-message : goal.returns-in-Ended-clause-message
+returns-in-Ended-clause-message g c = λ none msg rest waits low posted.
+    let fills = ap (λ (x : MetadataState). x.fill) (sym c.self.view_is) ∙ c.in-Some.is in
+    absurd (let bad = sym none ∙ fills in cc bad)
+
+pub returns-in-GoesOn-clause-message : goal.returns-in-GoesOn-clause-message
+returns-in-GoesOn-clause-message g c = λ none msg rest waits low posted.
+    let fills = ap (λ (x : MetadataState). x.fill) (sym c.self.view_is) ∙ c.in-Some.is in
+    absurd (let bad = sym none ∙ fills in cc bad)
+
+pub returns-then-not-is_fill_due-clause-message : goal.returns-then-not-is_fill_due-clause-message
+returns-then-not-is_fill_due-clause-message g c = λ none msg rest waits low posted.
+    let fills = ap (λ (x : MetadataState). x.fill) (sym c.self.view_is) ∙ c.in-Some.is in
+    absurd (let bad = sym none ∙ fills in cc bad)
+
+pub returns-in-Ended-clause-nothing : goal.returns-in-Ended-clause-nothing
+returns-in-Ended-clause-nothing g c = λ none empty.
+    let fills = ap (λ (x : MetadataState). x.fill) (sym c.self.view_is) ∙ c.in-Some.is in
+    absurd (let bad = sym none ∙ fills in cc bad)
+
+pub returns-in-GoesOn-clause-nothing : goal.returns-in-GoesOn-clause-nothing
+returns-in-GoesOn-clause-nothing g c = λ none empty.
+    let fills = ap (λ (x : MetadataState). x.fill) (sym c.self.view_is) ∙ c.in-Some.is in
+    absurd (let bad = sym none ∙ fills in cc bad)
+
+pub returns-in-Some-take_oldest-clause-message : goal.returns-in-Some-take_oldest-clause-message
+returns-in-Some-take_oldest-clause-message g c = λ none msg rest waits low posted.
+    let d = g.D.PageDisk in
+    let p = c.args.plant.now.at in
+    let first = c.in-Some-take_oldest.msg in
+    let own = ap (λ (x : MetadataState). x.waiting) (sym c.self.view_is) ∙ c.in-Some-take_oldest.ensures.oldest in
+    let both : first ∷ c.take_oldest.new.self ≡ msg ∷ rest = sym own ∙ waits in
+    let same : first ≡ msg = cc both in
+    let left : c.take_oldest.new.self ≡ rest = cc both in
+    let without : record (the_view c.self.inside) { waiting = c.take_oldest.new.self }
+    ≡ record c.args.self.now { waiting = rest }
+    = ap (λ (l : List Msg). record (the_view c.self.inside) { waiting = l }) left
+    ∙ ap (λ (x : MetadataState). record x { waiting = rest }) c.self.view_is in
+    let made = c.serve.ensures.made (subst (λ (m : Msg). m.channel < 16) (sym same) low)
+    (subst (λ (m : Msg). (rows_of p.rows m.channel).stage ≡ Posted m.serial) (sym same) posted) in (
+      refl,
+      subst (λ (m : Msg). ServiceMade d.tells (state_of d p) (state_of d c.serve.new.plant.at) m
+          (record c.args.self.now { waiting = rest }) c.serve.new.self) same
+          (subst (λ (x : MetadataState). ServiceMade d.tells (state_of d p) (state_of d c.serve.new.plant.at) first x
+          c.serve.new.self) without made),
+    )
+
+pub returns-in-Some-take_oldest-clause-nothing : goal.returns-in-Some-take_oldest-clause-nothing
+returns-in-Some-take_oldest-clause-nothing g c = λ none empty.
+    let own = ap (λ (x : MetadataState). x.waiting) (sym c.self.view_is) ∙ c.in-Some-take_oldest.ensures.oldest in
+    absurd (let bad = sym own ∙ empty in cc bad)
+
+pub returns-in-None-clause-message : goal.returns-in-None-clause-message
+returns-in-None-clause-message g c = λ none msg rest waits low posted.
     let own = ap (λ (x : MetadataState). x.waiting) (sym c.self.view_is) ∙ c.in-None.ensures.none in
     absurd (let bad = sym own ∙ waits in cc bad)
