@@ -43,7 +43,7 @@ use Rattle.job_begins.specs.Deletions.{deletion_needs, AreDeletionDrafts, AreDel
 use Rattle.job_begins.specs.Deletions.{IsDeletionJob}
 use Rattle.job_begins.specs.JobPages.{IsShort}
 use Rattle.job_begins.specs.ListPlaces.{HasDeletePlaces}
-use Rattle.job_begins.specs.declared.deletion_parts.DeletionAsk.{DeletionAsk}
+use Rattle.job_begins.specs.declared.asking.DeletionAsk.{DeletionAsk}
 use Rattle.job_begins.specs.declared.deletion_parts.DeletionDrafts.{DeletionDrafts}
 use Rattle.job_begins.specs.declared.deletion_parts.DeletionParts.{DeletionParts}
 use Rattle.job_begins.proofs.DeletePlaces.{delete_all_kept}

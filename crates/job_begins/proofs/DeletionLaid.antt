@@ -33,7 +33,7 @@ use Rattle.job_begins.specs.Begins.{no_effects}
 use Rattle.job_begins.specs.Deletions.{AreDeletionEffects, AreDeletionParts, IsDeletionJob, IsDeletionLaid}
 use Rattle.job_begins.specs.Drafts.{IsDraftOf, IsPlannedOn}
 use Rattle.job_begins.specs.ListJobs.{delete_begins, delete_commit, delete_commits, delete_finishes, effects_in}
-use Rattle.job_begins.specs.declared.deletion_parts.DeletionAsk.{DeletionAsk}
+use Rattle.job_begins.specs.declared.asking.DeletionAsk.{DeletionAsk}
 use Rattle.job_begins.specs.declared.deletion_parts.DeletionDrafts.{DeletionDrafts}
 use Rattle.job_begins.specs.declared.deletion_parts.DeletionEffects.{DeletionEffects}
 use Rattle.job_begins.specs.declared.deletion_parts.DeletionParts.{DeletionParts}

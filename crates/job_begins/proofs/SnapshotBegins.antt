@@ -46,7 +46,7 @@ use Rattle.job_begins.specs.ListJobs.{effects_in, snapshot_commit}
 use Rattle.job_begins.specs.ListPlaces.{HasSnapshotPlaces}
 use Rattle.job_begins.specs.Snapshots.{AreSnapshotEffects, AreSnapshotParts, AsksToSnapshot, IsSnapshotJob}
 use Rattle.job_begins.specs.Snapshots.{IsSnapshotLaid}
-use Rattle.job_begins.specs.declared.snapshot_parts.SnapshotAsk.{SnapshotAsk}
+use Rattle.job_begins.specs.declared.asking.SnapshotAsk.{SnapshotAsk}
 use Rattle.job_begins.specs.declared.snapshot_parts.SnapshotDrafts.{SnapshotDrafts}
 use Rattle.job_begins.specs.declared.snapshot_parts.SnapshotEffects.{SnapshotEffects}
 use Rattle.job_begins.specs.declared.snapshot_parts.SnapshotParts.{SnapshotParts}

@@ -27,7 +27,7 @@ use Rattle.job_begins.specs.Drafts.{IsDraftOf}
 use Rattle.job_begins.specs.JobPages.{IsShort}
 use Rattle.job_begins.specs.Snapshots.{snapshot_changes, snapshot_needs, AreSnapshotDrafts, AsksToSnapshot}
 use Rattle.job_begins.specs.declared.drafts.Draft.{Draft}
-use Rattle.job_begins.specs.declared.snapshot_parts.SnapshotAsk.{SnapshotAsk}
+use Rattle.job_begins.specs.declared.asking.SnapshotAsk.{SnapshotAsk}
 use Rattle.job_begins.specs.declared.snapshot_parts.SnapshotDrafts.{SnapshotDrafts}
 use Rattle.job_begins.proofs.Lacking.{may_lack}
 use Rattle.job_begins.proofs.SnapshotAsked.{snapshot_asked, IsSnapshotAsked}

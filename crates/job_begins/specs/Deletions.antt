@@ -25,7 +25,7 @@ use Rattle.job_begins.specs.Begins.{needed, no_effects}
 use Rattle.job_begins.specs.Drafts.{IsDraftOf, IsPlannedOn}
 use Rattle.job_begins.specs.ListJobs.{effects_in}
 use Rattle.job_begins.specs.JobPages.{ArePagesTaken}
-use Rattle.job_begins.specs.declared.deletion_parts.DeletionAsk.{DeletionAsk}
+use Rattle.job_begins.specs.declared.asking.DeletionAsk.{DeletionAsk}
 use Rattle.job_begins.specs.declared.deletion_parts.DeletionDrafts.{DeletionDrafts}
 use Rattle.job_begins.specs.declared.deletion_parts.DeletionEffects.{DeletionEffects}
 use Rattle.job_begins.specs.declared.deletion_parts.DeletionParts.{DeletionParts}

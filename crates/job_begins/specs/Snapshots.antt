@@ -20,7 +20,7 @@ use Rattle.job_begins.specs.Begins.{needed, no_effects, IsFreshHead}
 use Rattle.job_begins.specs.Drafts.{IsDraftOf, IsPlannedOn}
 use Rattle.job_begins.specs.ListJobs.{effects_in}
 use Rattle.job_begins.specs.JobPages.{ArePagesTaken}
-use Rattle.job_begins.specs.declared.snapshot_parts.SnapshotAsk.{SnapshotAsk}
+use Rattle.job_begins.specs.declared.asking.SnapshotAsk.{SnapshotAsk}
 use Rattle.job_begins.specs.declared.snapshot_parts.SnapshotDrafts.{SnapshotDrafts}
 use Rattle.job_begins.specs.declared.snapshot_parts.SnapshotEffects.{SnapshotEffects}
 use Rattle.job_begins.specs.declared.snapshot_parts.SnapshotParts.{SnapshotParts}

@@ -20,7 +20,8 @@ ghost use Rattle.running_store.specs.StoreView.{base_of, state_of};
 ghost use Rattle.store_model.specs.Cases.{Begins, IsRefusedAtBegin};
 
 use crate::alone::{add_clusters, clusters_beside, missing};
-use crate::deletion_parts::{DeletionAsk, DeletionEffects, DeletionParts};
+use crate::asking::DeletionAsk;
+use crate::deletion_parts::{DeletionEffects, DeletionParts};
 use crate::preparing::places_behind;
 use out_of_memory::Memory;
 use page_disk::PageDisk;

@@ -3,55 +3,12 @@
 use crate::drafts::Draft;
 use crate::preparing::places_from;
 use crate::taking::take_pages;
-use blob_meta::Meta;
 use out_of_memory::Memory;
 use pools::PagePool;
 use running_store::{Change, Effects, Erasure, LaidReplacement, RunningJob, Serves, clear_places};
 use std::alloc::Global;
 use std::collections::VecDeque;
 use volume_model::{PlaceList, Reply};
-
-/// What the delete of the blob at `of` asks for, whose one clone is at `clone`: the blob with its mark, and the clone
-/// with the blob's clusters and parent.
-pub(crate) struct DeletionAsk {
-    pub(crate) of: u32,
-    pub(crate) clone: u32,
-    pub(crate) going: Meta,
-    pub(crate) taking: Meta,
-}
-
-impl Drop for DeletionAsk {
-    fn drop(self) {
-        let DeletionAsk {
-            of: _,
-            clone: _,
-            going: _,
-            taking: _,
-        } = self;
-    }
-}
-
-impl DeletionAsk {
-    ghost use Rattle.std.specs.Prelude.{All, IfOk};
-    ghost use Rattle.md_chain.specs.Packing.{FitsPage};
-    ghost use Rattle.job_begins.specs.Deletions.{AreDeletionDrafts};
-
-    /// The drafts of what is asked for.
-    pub(crate) fn drafts(self, alloc: Global) -> Result<DeletionDrafts, Memory>
-        requires going { All FitsPage self.going.xattrs × All FitsPage self.going.internal }
-        requires taking { All FitsPage self.taking.xattrs × All FitsPage self.taking.internal }
-        ensures { IfOk result (AreDeletionDrafts self) }
-    {
-        let DeletionAsk {
-            of,
-            clone,
-            going,
-            taking,
-        } = self;
-        let (going, taking) = Draft::two(alloc, (of, going), (clone, taking))?;
-        Ok(DeletionDrafts { going, taking })
-    }
-}
 
 /// What the three replacements do besides: of the last one, the clusters that no blob has any more.
 pub(crate) struct DeletionEffects {

@@ -21,6 +21,8 @@ pub(crate) struct Draft {
     pub(crate) items: ItemList,
 }
 
+// By hand, as for the other values that a job is made of: to let one go is one call then, at each place where control
+// leaves, and not a call for each of its fields, which would have to be proved there.
 impl Drop for Draft {
     fn drop(self) {
         let Draft {

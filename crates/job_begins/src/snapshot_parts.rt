@@ -2,69 +2,12 @@
 
 use crate::drafts::{Draft, LaidDraft};
 use crate::taking::take_pages;
-use blob_meta::Meta;
 use out_of_memory::Memory;
 use pools::PagePool;
 use running_store::{Effects, RunningJob, Serves, clear_places};
 use std::alloc::Global;
 use std::collections::VecDeque;
 use volume_model::{PlaceList, Reply};
-
-/// What a snapshot of the blob at `of` asks for: the metadata of the new blob at `head`, as it begins, with the map of
-/// the other one, and without its mark, and the new metadata of the volume.
-pub(crate) struct SnapshotAsk {
-    pub(crate) head: u32,
-    pub(crate) of: u32,
-    pub(crate) begun: Meta,
-    pub(crate) filled: Meta,
-    pub(crate) emptied: Meta,
-    pub(crate) made: Meta,
-}
-
-impl Drop for SnapshotAsk {
-    fn drop(self) {
-        let SnapshotAsk {
-            head: _,
-            of: _,
-            begun: _,
-            filled: _,
-            emptied: _,
-            made: _,
-        } = self;
-    }
-}
-
-impl SnapshotAsk {
-    ghost use Rattle.std.specs.Prelude.{All, IfOk};
-    ghost use Rattle.md_chain.specs.Packing.{FitsPage};
-    ghost use Rattle.job_begins.specs.Snapshots.{AreSnapshotDrafts};
-
-    /// The drafts of what is asked for.
-    pub(crate) fn drafts(self, alloc: Global) -> Result<SnapshotDrafts, Memory>
-        requires begun { All FitsPage self.begun.xattrs × All FitsPage self.begun.internal }
-        requires filled { All FitsPage self.filled.xattrs × All FitsPage self.filled.internal }
-        requires emptied { All FitsPage self.emptied.xattrs × All FitsPage self.emptied.internal }
-        requires made { All FitsPage self.made.xattrs × All FitsPage self.made.internal }
-        ensures { IfOk result (AreSnapshotDrafts self) }
-    {
-        let SnapshotAsk {
-            head,
-            of,
-            begun,
-            filled,
-            emptied,
-            made,
-        } = self;
-        let (begun, filled) = Draft::two(alloc, (head, begun), (head, filled))?;
-        let (emptied, made) = Draft::two(alloc, (of, emptied), (head, made))?;
-        Ok(SnapshotDrafts {
-            begun,
-            filled,
-            emptied,
-            made,
-        })
-    }
-}
 
 /// What the first replacement and the commit do besides.
 pub(crate) struct SnapshotEffects {

@@ -15,8 +15,9 @@ ghost use Rattle.running_store.specs.StoreInvariant.{IsRunning};
 ghost use Rattle.running_store.specs.StoreView.{base_of, state_of};
 ghost use Rattle.store_model.specs.Cases.{Begins, IsRefusedAtBegin};
 
+use crate::asking::SnapshotAsk;
 use crate::preparing::places_behind;
-use crate::snapshot_parts::{SnapshotAsk, SnapshotEffects, SnapshotParts};
+use crate::snapshot_parts::{SnapshotEffects, SnapshotParts};
 use out_of_memory::Memory;
 use page_disk::PageDisk;
 use running_store::{Commit, Effects, EntryChange, Rooms, Running, RunningJob, place};

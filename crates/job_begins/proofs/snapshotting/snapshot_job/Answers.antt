@@ -6,6 +6,7 @@ use Rattle.std.proofs.lemmas.Result.{err_from_is_err_and}
 use Rattle.volume_model.specs.declared.reply.Reply.{Reply}
 use Rattle.io_freeze.specs.Guards.{GuardsState}
 use Rattle.pools.specs.Pool.{PoolState}
+use Rattle.store_model.specs.StoreState.{marked}
 use Rattle.store_model.specs.Cases.{Begins, IsRefusedAtBegin}
 use Rattle.store_model.specs.Rows.{InJob}
 use Rattle.running_store.specs.Blobs.{blobs_of, CanAllBeKept}
@@ -110,4 +111,13 @@ returns-clause-kept g c =
     c.in_ok-job.ensures.job c.requires.order.resolves)
 
 pub returns-in_err-job-clause-lack : goal.returns-in_err-job-clause-lack
-returns-in_err-job-clause-lack g c = ?
+returns-in_err-job-clause-lack g c =
+    let s = state_of g.D.PageDisk (view_of c.args.running.now) in
+    let refused = λ (reply : Reply). Asks (view_of c.args.running.now) c.args.channel
+    (λ command. IsRefusedAtBegin s command reply) in
+    let e = err_from_is_err_and c.from_residual-in_err-job.result c.from_residual-in_err-job.ensures.1 in
+    subst (λ (r : Result RunningJob Reply). IfErr r refused) (sym e.1)
+    (subst refused (sym e.2)
+    (λ command rest left. snapshot_short s c.requires.running c.requires.unmarked c.requires.runs
+    (ap (λ o. option_map job_seen o) c.requires.no_job) command c.args.ask (c.requires.asks command rest left)
+    c.in_ok-parts.parts.drafts c.in_ok-parts.ensures.drafts c.in_err-job.field-0.0 c.in_err-job.ensures.lack))
