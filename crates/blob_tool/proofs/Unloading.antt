@@ -1,12 +1,12 @@
 -- What an image says that an unload may leave: what one did from before.
 use Rattle.std.proofs.Common.{◌≡◌, ℕ, ◌+◌, ◌<◌, ◌≤◌, ◌*◌, Bool, refl, sym, ap, ◌∙◌, subst, inl, inr, arith}
 use Rattle.std.proofs.Math.Nat.{mul-le-mul_right}
-use Rattle.clean_stop.specs.Masks.{IsMaskPage, StandsApart}
+use Rattle.clean_stop.specs.Masks.{IsMaskPage, MasksFit, StandsApart}
 use Rattle.clean_stop.specs.Stopping.{IsUnloaded, IsUnloading}
 use Rattle.page_disk.specs.Disk.{Image, Images}
 use Rattle.page_runs.specs.Writing.{SameBut}
 use Rattle.super_block.specs.Faults.{super_fault}
-use Rattle.super_block.specs.Numbers.{cluster_pages_of, fixed_clusters_of}
+use Rattle.super_block.specs.Numbers.{cluster_pages_of, clusters_of, fixed_clusters_of}
 use Rattle.super_block.specs.Page.{super_of}
 use Rattle.super_block.specs.Placed.{IsPlaced}
 use Rattle.super_block.specs.declared.masks.Masks.{Masks}
@@ -14,7 +14,16 @@ use Rattle.super_block.specs.declared.page.Super.{Super}
 use Rattle.store_model.specs.Recovers.{HasStore, IsSameStore}
 use Rattle.store_model.specs.StateLaws.{IsSameBehind}
 use Rattle.store_model.proofs.StandsKept.{super_outside}
+use Rattle.store_model.specs.Maps.{Chains, Metas}
+use Rattle.running_store.specs.LoadedWhole.{AreMasks}
 use Rattle.running_store.specs.Running.{super_left}
+
+-- the masks of a store have the lengths that an unload asks of them
+pub masks_fit : (clean : Bool) (s : Super) (metas : Metas) (chains : Chains) (masks : Masks)
+    → AreMasks s metas chains masks → MasksFit (super_left clean s) masks
+unfolding clusters_of
+masks_fit clean s metas chains masks are =
+    record { pages = are.pages.count; clusters = are.clusters.count; blobs = are.count }
 
 -- One image has this store where another has it, and the metadata region and all behind the fixed clusters are the same.
 pub record HasSameStore (s : Super) (image other : Image) : Type 0 where
@@ -48,6 +57,7 @@ module _ (s : Super) (placed : IsPlaced s) (apart : (page : ℕ) → IsMaskPage 
   -- the store was unloaded
   pub unloaded_same : (clean : Bool) (masks : Masks) (image other : Image)
       → IsUnloaded (super_left clean s) masks image other → HasSameStore s image other
+  unfolding clusters_of
   unloaded_same clean masks image other x =
       let no_super : (page : ℕ) → 0 < page → (IsMaskPage s page → ⊥) → other page ≡ image page =
       λ page lt mask. x.others page (λ at. elim at [ inl zero ↦ omega (arith, lt, zero) | inr in_mask ↦ mask in_mask ])
@@ -72,6 +82,7 @@ module _ (s : Super) (placed : IsPlaced s) (apart : (page : ℕ) → IsMaskPage 
   -- whatever an unload leaves
   pub unloading_same : (clean : Bool) (masks : Masks) (images : Images) (now : Image) → images now → (other : Image)
       → IsUnloading (super_left clean s) masks images now other → ComesFrom images other
+  unfolding clusters_of
   unloading_same clean masks images now held other (inl x) = record {
     image = x.0;
     was = x.1;

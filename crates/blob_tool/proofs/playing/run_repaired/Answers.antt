@@ -11,6 +11,7 @@ use Rattle.blob_tool.specs.RunScripts.{printed_text}
 use Rattle.blob_tool.specs.Runs.{Ended, Played}
 use Rattle.blob_tool.proofs.Closed.{closing_unloads}
 use Rattle.blob_tool.proofs.Ending.{ends}
+use Rattle.blob_tool.proofs.Unloading.{masks_fit}
 use Rattle.blob_tool.proofs.WholeRun.{is_run, lasting, survives}
 use Rattle.running_store.specs.StoreView.{StoreView}
 use Rattle.store_core.specs.Opening.{AreRows}
@@ -35,9 +36,9 @@ close-ended-requires-clause-device g c =
 pub close-ended-requires-clause-masks : goal.close-ended-requires-clause-masks
 close-ended-requires-clause-masks g c = λ none.
     let store = c.run_stepwise-plant.result.0 in
-    let are = c.into_parts-disk.ensures.masks (c.stopped-stopped.ensures ∙ none) in
     subst (λ (s : Super). MasksFit s c.into_parts-disk.result.masks) (sym c.into_parts-disk.ensures.sup)
-    (record { pages = are.pages.count; clusters = are.clusters.count; blobs = are.count })
+    (masks_fit store.at.clean store.at.super _ _ c.into_parts-disk.result.masks
+    (c.into_parts-disk.ensures.masks (sym c.stopped-stopped.ensures ∙ none)))
 
 pub returns : goal.returns
 returns g c script rows made unmarked =
