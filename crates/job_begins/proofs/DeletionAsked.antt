@@ -44,7 +44,7 @@ use Rattle.store_model.proofs.Used.{within}
 use Rattle.store_model.proofs.WithEntry.{given_here}
 use Rattle.running_store.specs.StoreInvariant.{IsRunning}
 use Rattle.job_begins.specs.Deletions.{deletion_changes, AsksToDelete}
-use Rattle.job_begins.specs.declared.deleting.DeletionAsk.{DeletionAsk}
+use Rattle.job_begins.specs.declared.asking.DeletionAsk.{DeletionAsk}
 use Rattle.job_begins.proofs.CutClusters.{in_slot}
 use Rattle.job_begins.proofs.JobPlanned.{given}
 use Rattle.job_begins.proofs.ListMoves.{marks_moves, takes_moves}

@@ -7,6 +7,7 @@ use Rattle.page_disk.specs.declared.disk.PageDisk.{Ghosts}
 use Rattle.pools.specs.Pool.{clear_in}
 use Rattle.descriptors.specs.declared.item.Item.{Item}
 use Rattle.volume_model.specs.declared.command.Command.{Command}
+use Rattle.volume_model.specs.declared.reply.Reply.{Reply}
 use Rattle.volume_model.specs.declared.reply.Reply.TheVariants.{Memory, NoPage}
 use Rattle.blob_meta.specs.Items.{IsItemsOf}
 use Rattle.blob_meta.specs.Repairs.{HasNoMarks}
@@ -38,12 +39,13 @@ use Rattle.running_store.specs.declared.replacements.LaidReplacement.{LaidReplac
 use Rattle.running_store.specs.declared.replacements.Planned.{Planned}
 use Rattle.job_views.specs.Replacing.{blobs_in}
 use Rattle.job_begins.specs.Begins.{with_begun}
-use Rattle.job_begins.specs.Deletions.{deletion_needs, AreDeletionDrafts, AreDeletionEffects, AsksToDelete}
-use Rattle.job_begins.specs.Deletions.{IsDeletionLaid}
+use Rattle.job_begins.specs.Deletions.{deletion_needs, AreDeletionDrafts, AreDeletionParts, AsksToDelete}
+use Rattle.job_begins.specs.Deletions.{IsDeletionJob}
+use Rattle.job_begins.specs.JobPages.{IsShort}
 use Rattle.job_begins.specs.ListPlaces.{HasDeletePlaces}
-use Rattle.job_begins.specs.declared.deleting.DeletionAsk.{DeletionAsk}
-use Rattle.job_begins.specs.declared.deleting.DeletionDrafts.{DeletionDrafts}
-use Rattle.job_begins.specs.declared.deleting.DeletionEffects.{DeletionEffects}
+use Rattle.job_begins.specs.declared.asking.DeletionAsk.{DeletionAsk}
+use Rattle.job_begins.specs.declared.deletion_parts.DeletionDrafts.{DeletionDrafts}
+use Rattle.job_begins.specs.declared.deletion_parts.DeletionParts.{DeletionParts}
 use Rattle.job_begins.proofs.DeletePlaces.{delete_all_kept}
 use Rattle.job_begins.proofs.DeletionAsked.{apart, is_deletion, rest, unlocked, IsDeletion}
 use Rattle.job_begins.proofs.DeletionLaid.{are_laid, begins, commits, finishes, first_as, list_is}
@@ -134,8 +136,8 @@ module _ {D : Type 0} (d : Ghosts D) (p : StoreView D) (running : IsRunning (sta
           lacking = few;
         }
 
-    -- and so may pages
-    pub lacks_pages : clear_in p.pages < deletion_needs drafts → IsRefusedAtBegin s command NoPage
+    -- and so may pages:
+    lacks_pages : clear_in p.pages < deletion_needs drafts → IsRefusedAtBegin s command NoPage
     lacks_pages few = record {
       no_job = no_job;
       changes = delete_job x.of it.old x.clone it.heir;
@@ -147,86 +149,80 @@ module _ {D : Type 0} (d : Ghosts D) (p : StoreView D) (running : IsRunning (sta
           (lacks_for few);
     }
 
-    -- ---- once its pages are taken
+    -- that its pages aren't taken is why
+    pub deletion_short : (reply : Reply) → IsShort (deletion_needs drafts) p.pages reply → IsRefusedAtBegin s command reply
+    deletion_short NoPage few = lacks_pages few
+    deletion_short Memory memory = lacks_memory
+    deletion_short _ other = absurd other
 
-    module _ (effects : DeletionEffects)
-        (does : AreDeletionEffects p.super.md_len (blobs_in p) (length p.clusters) x effects) (channel : ℕ)
-        (taken : List ℕ) (least : AreLeastClear p.pages taken) (old old_of_clone : List ℕ)
-        (chain : map.get p.chains x.of ≡ Some (x.of ∷ old)) (chain_too : map.get p.chains x.clone
-        ≡ Some (x.clone ∷ old_of_clone)) (job : RunningJob)
-        (laid : IsDeletionLaid drafts effects channel taken old old_of_clone job) where
-      abbrev begin_laid : LaidReplacement
-      begin_laid = begins d p running clean runs no_job command x it drafts are effects does channel taken least old
-          old_of_clone chain chain_too job laid
+  -- ---- once its pages are taken
 
-      abbrev commit_laid : LaidReplacement
-      commit_laid = commits d p running clean runs no_job command x it drafts are effects does channel taken least old
-          old_of_clone chain chain_too job laid
+  module _ (parts : DeletionParts) (are : AreDeletionParts p.super.md_len (blobs_in p) (length p.clusters) x parts)
+      (channel : ℕ) (after : List Bool) (job : RunningJob) (on : IsDeletionJob parts channel p.pages after job) where
+    abbrev begin_laid : LaidReplacement
+    begin_laid = begins d p running clean runs no_job command x it parts are channel after job on
 
-      abbrev finish_laid : LaidReplacement
-      finish_laid = finishes d p running clean runs no_job command x it drafts are effects does channel taken least old
-          old_of_clone chain chain_too job laid
+    abbrev commit_laid : LaidReplacement
+    commit_laid = commits d p running clean runs no_job command x it parts are channel after job on
 
-      abbrev list : List LaidReplacement
-      list = begin_laid ∷ commit_laid ∷ finish_laid ∷ []
+    abbrev finish_laid : LaidReplacement
+    finish_laid = finishes d p running clean runs no_job command x it parts are channel after job on
 
-      list_as : to_come job ≡ list
-      list_as = list_is d p running clean runs no_job command x it drafts are effects does channel taken least old
-          old_of_clone chain chain_too job laid
+    abbrev list : List LaidReplacement
+    list = begin_laid ∷ commit_laid ∷ finish_laid ∷ []
 
-      none_claimed : laid.first.effects.claimed ≡ []
-      none_claimed = ap (λ (q : Planned). q.effects.claimed) (first_as d p running clean runs no_job command x it drafts
-          are effects does channel taken least old old_of_clone chain chain_too job laid)
+    list_as : to_come job ≡ list
+    list_as = list_is d p running clean runs no_job command x it parts are channel after job on
 
-      -- the job, as the model has it
-      abbrev as_seen : JobState
-      as_seen =
-          record { serves = ForCommand channel; freeze = None; claimed = []; written = []; todo = phases_in list }
+    none_claimed : on.laid.first.effects.claimed ≡ []
+    none_claimed = ap (λ (q : Planned). q.effects.claimed) (first_as d p running clean runs no_job command x it parts are channel after job on)
 
-      seen_is : as_seen ≡ job_seen job
-      seen_is = sym (laid.seen ∙ (λ i. record {
-        serves = ForCommand channel;
-        freeze = None;
-        claimed = none_claimed i;
-        written = [];
-        todo = phases_in (list_as i);
-      }))
+    -- the job, as the model has it
+    abbrev as_seen : JobState
+    as_seen =
+        record { serves = ForCommand channel; freeze = None; claimed = []; written = []; todo = phases_in list }
 
-      -- it begins,
-      pub begins_deletion : (posted : IsPostedAt p channel) → posted.waits.command ≡ command
-          → p.filling ≢ Some channel → channel < length p.rows → (after : List Bool)
-          → after ≡ all_set p.pages taken true
-          → Begins s (state_of d (with_begun (record p { pages = after }) channel job))
-      begins_deletion posted same unfilled low after set =
-          subst (λ (j : JobState). Begins s (state_of d (record p {
-            rows = slice_set p.rows channel (record (rows_of p.rows channel) { stage = InJob });
-            job = Some j;
-            pages = after;
-          }))) seen_is
-          (begins_list d p channel posted clean runs no_job (delete_job x.of it.old x.clone it.heir) commit
-          (subst (λ (k : Command). IsJobFor s k (delete_job x.of it.old x.clone it.heir) commit) (sym same) it.asked)
-          refl list (refl, (refl, (refl, tt)))
-          (are_laid d p running clean runs no_job command x it drafts are effects does channel taken least old
-          old_of_clone chain chain_too job laid) after
-          (set ∙ ap (λ (l : List ℕ). all_set p.pages l true) (laid.taken_are
-          ∙ ap (λ (l : List ℕ). laid.going ++ l) (sym (append-nil laid.taking)))) unfilled low)
+    seen_is : as_seen ≡ job_seen job
+    seen_is = sym (on.laid.seen ∙ (λ i. record {
+      serves = ForCommand channel;
+      freeze = None;
+      claimed = none_claimed i;
+      written = [];
+      todo = phases_in (list_as i);
+    }))
 
-      -- and all can be kept in memory
-      pub keeps_deletion : AreResolved p.metas p.marked → p.guards.drawn < 2 ^ 64 - 1
-          → CanAllBeKept (blobs_in p) (to_come job)
-      keeps_deletion resolves left =
-          let has : HasDeletePlaces (blobs_in p) x.of x.clone does.mark_room = record {
-            mark = does.mark;
-            chained = ap is_some chain;
-            chained_too = ap is_some chain_too;
-            numbered = well.generations.each x.clone ∙ ap is_some it.there_too;
-            left = left;
-          } in
-          subst (CanAllBeKept (blobs_in p)) (sym list_as)
-          (delete_all_kept (fixed_of s.super) (blobs_in p) x.of x.clone it.old it.heir resolves
-          (rest s running clean runs command x it) it.there it.there_too it.one
-          (unlocked s running clean runs command x it) does.mark_room has (x.of ∷ laid.going) (x.clone ∷ laid.taking)
-          _ _ effects.freed old old_of_clone laid.going)
+    -- it begins,
+    pub begins_deletion : (posted : IsPostedAt p channel) → posted.waits.command ≡ command
+        → p.filling ≢ Some channel → channel < length p.rows
+        → Begins s (state_of d (with_begun (record p { pages = after }) channel job))
+    begins_deletion posted same unfilled low =
+        subst (λ (j : JobState). Begins s (state_of d (record p {
+          rows = slice_set p.rows channel (record (rows_of p.rows channel) { stage = InJob });
+          job = Some j;
+          pages = after;
+        }))) seen_is
+        (begins_list d p channel posted clean runs no_job (delete_job x.of it.old x.clone it.heir) commit
+        (subst (λ (k : Command). IsJobFor s k (delete_job x.of it.old x.clone it.heir) commit) (sym same) it.asked)
+        refl list (refl, (refl, (refl, tt)))
+        (are_laid d p running clean runs no_job command x it parts are channel after job on) after
+        (on.pages.set ∙ ap (λ (l : List ℕ). all_set p.pages l true) (on.laid.taken_are
+        ∙ ap (λ (l : List ℕ). on.laid.going ++ l) (sym (append-nil on.laid.taking)))) unfilled low)
+
+    -- and all can be kept in memory
+    pub keeps_deletion : AreResolved p.metas p.marked → CanAllBeKept (blobs_in p) (to_come job)
+    keeps_deletion resolves =
+        let has : HasDeletePlaces (blobs_in p) x.of x.clone are.effects.mark_room = record {
+          mark = are.effects.mark;
+          chained = ap is_some are.behind;
+          chained_too = ap is_some are.behind_clone;
+          numbered = well.generations.each x.clone ∙ ap is_some it.there_too;
+          left = are.left;
+        } in
+        subst (CanAllBeKept (blobs_in p)) (sym list_as)
+        (delete_all_kept (fixed_of s.super) (blobs_in p) x.of x.clone it.old it.heir resolves
+        (rest s running clean runs command x it) it.there it.there_too it.one
+        (unlocked s running clean runs command x it) are.effects.mark_room has (x.of ∷ on.laid.going) (x.clone ∷ on.laid.taking)
+        _ _ parts.besides.freed parts.old parts.old_of_clone on.laid.going)
 
 -- ---- the command is logged instead
 
@@ -240,7 +236,8 @@ module _ {D : Type 0} (d : Ghosts D) (p : StoreView D) (channel : ℕ) (running 
   pub for_memory : Asks p channel (λ k. IsRefusedAtBegin (state_of d p) k Memory)
   for_memory k ks left = lacks_memory d p running clean runs no_job k x (its k ks left)
 
-  -- or of pages
-  pub for_pages : (drafts : DeletionDrafts) → AreDeletionDrafts x drafts → clear_in p.pages < deletion_needs drafts
-      → Asks p channel (λ k. IsRefusedAtBegin (state_of d p) k NoPage)
-  for_pages drafts are few k ks left = lacks_pages d p running clean runs no_job k x (its k ks left) drafts are few
+  -- or since its pages aren't taken
+  pub for_short : (drafts : DeletionDrafts) → AreDeletionDrafts x drafts → (reply : Reply)
+      → IsShort (deletion_needs drafts) p.pages reply → Asks p channel (λ k. IsRefusedAtBegin (state_of d p) k reply)
+  for_short drafts are reply short k ks left =
+      deletion_short d p running clean runs no_job k x (its k ks left) drafts are reply short

@@ -30,12 +30,13 @@ use Rattle.running_store.specs.declared.replacements.Planned.{Planned}
 use Rattle.job_views.specs.Replacing.{blobs_in}
 use Rattle.job_begins.specs.Alone.{IsMissing}
 use Rattle.job_begins.specs.Begins.{no_effects}
-use Rattle.job_begins.specs.Deletions.{AreDeletionDrafts, AreDeletionEffects, IsDeletionLaid}
+use Rattle.job_begins.specs.Deletions.{AreDeletionEffects, AreDeletionParts, IsDeletionJob, IsDeletionLaid}
 use Rattle.job_begins.specs.Drafts.{IsDraftOf, IsPlannedOn}
 use Rattle.job_begins.specs.ListJobs.{delete_begins, delete_commit, delete_commits, delete_finishes, effects_in}
-use Rattle.job_begins.specs.declared.deleting.DeletionAsk.{DeletionAsk}
-use Rattle.job_begins.specs.declared.deleting.DeletionDrafts.{DeletionDrafts}
-use Rattle.job_begins.specs.declared.deleting.DeletionEffects.{DeletionEffects}
+use Rattle.job_begins.specs.declared.asking.DeletionAsk.{DeletionAsk}
+use Rattle.job_begins.specs.declared.deletion_parts.DeletionDrafts.{DeletionDrafts}
+use Rattle.job_begins.specs.declared.deletion_parts.DeletionEffects.{DeletionEffects}
+use Rattle.job_begins.specs.declared.deletion_parts.DeletionParts.{DeletionParts}
 use Rattle.job_begins.proofs.ClustersAlone.{set_with}
 use Rattle.job_begins.proofs.DeletionAsked.{apart, going_stored, taken_stored, taking_low, taking_stored, IsDeletion}
 use Rattle.job_begins.proofs.ListBegins.{least_first, least_others, replacings}
@@ -44,15 +45,35 @@ use Rattle.job_begins.proofs.ListParts.{part_planned, planned_as, planned_of}
 
 module _ {D : Type 0} (d : Ghosts D) (p : StoreView D) (running : IsRunning (state_of d p))
     (clean : HasNoMarks (base_of p.metas p.marked)) (runs : p.stopped ≡ None) (no_job : p.job ≡ None)
-    (command : Command) (x : DeletionAsk) (it : IsDeletion (state_of d p) command x) (drafts : DeletionDrafts)
-    (are : AreDeletionDrafts x drafts) (effects : DeletionEffects)
-    (does : AreDeletionEffects p.super.md_len (blobs_in p) (length p.clusters) x effects) (channel : ℕ)
-    (taken : List ℕ) (least : AreLeastClear p.pages taken) (old old_of_clone : List ℕ)
-    (chain : map.get p.chains x.of ≡ Some (x.of ∷ old)) (chain_too : map.get p.chains x.clone
-    ≡ Some (x.clone ∷ old_of_clone)) (job : RunningJob)
-    (laid : IsDeletionLaid drafts effects channel taken old old_of_clone job) where
+    (command : Command) (x : DeletionAsk) (it : IsDeletion (state_of d p) command x) (parts : DeletionParts)
+    (are : AreDeletionParts p.super.md_len (blobs_in p) (length p.clusters) x parts) (channel : ℕ)
+    (after : List Bool) (job : RunningJob) (on : IsDeletionJob parts channel p.pages after job) where
   abbrev s : StoreState
   s = state_of d p
+
+  abbrev drafts : DeletionDrafts
+  drafts = parts.drafts
+
+  abbrev effects : DeletionEffects
+  effects = parts.besides
+
+  abbrev does : AreDeletionEffects p.super.md_len (blobs_in p) (length p.clusters) x effects
+  does = are.effects
+
+  abbrev old : List ℕ
+  old = parts.old
+
+  abbrev old_of_clone : List ℕ
+  old_of_clone = parts.old_of_clone
+
+  abbrev chain : s.chains x.of ≡ Some (x.of ∷ old)
+  chain = are.behind
+
+  abbrev chain_too : s.chains x.clone ≡ Some (x.clone ∷ old_of_clone)
+  chain_too = are.behind_clone
+
+  abbrev laid : IsDeletionLaid drafts effects channel on.taken old old_of_clone job
+  laid = on.laid
 
   abbrev going : Meta
   going = going_blob it.old x.clone
@@ -79,10 +100,10 @@ module _ {D : Type 0} (d : Ghosts D) (p : StoreView D) (running : IsRunning (sta
 
   -- the drafts, and what they are laid on, for these
   pub going_of : IsDraftOf x.of going drafts.going
-  going_of = subst (λ (m : Meta). IsDraftOf x.of m drafts.going) it.going_is are.going
+  going_of = subst (λ (m : Meta). IsDraftOf x.of m drafts.going) it.going_is are.drafts.going
 
   pub taking_of : IsDraftOf x.clone taking drafts.taking
-  taking_of = subst (λ (m : Meta). IsDraftOf x.clone m drafts.taking) it.taking_is are.taking
+  taking_of = subst (λ (m : Meta). IsDraftOf x.clone m drafts.taking) it.taking_is are.drafts.taking
 
   pub first_on : IsPlannedOn drafts.going laid.going begin_effects laid.first
   first_on = subst (λ (e : Effects). IsPlannedOn drafts.going laid.going e laid.first) does.begin laid.first_laid
@@ -115,13 +136,13 @@ module _ {D : Type 0} (d : Ghosts D) (p : StoreView D) (running : IsRunning (sta
   list_is = laid.coming ∙ (λ i.
       writes_laid (first_as i) old
       ∷ writes_laid (second_as i) old_of_clone
-      ∷ erases_laid (record { head = are.going.head_is i; commit = None; freed = effects.freed }) laid.going
+      ∷ erases_laid (record { head = are.drafts.going.head_is i; commit = None; freed = effects.freed }) laid.going
       ∷ [])
 
   -- ---- the pages
 
   both_least : AreLeastClear p.pages (laid.going ++ laid.taking)
-  both_least = subst (AreLeastClear p.pages) laid.taken_are least
+  both_least = subst (AreLeastClear p.pages) laid.taken_are on.pages.least
 
   going_least : AreLeastClear p.pages laid.going
   going_least = least_first p.pages laid.going laid.taking both_least

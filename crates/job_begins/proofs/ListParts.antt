@@ -1,6 +1,6 @@
 -- The parts of a job of several replacements: new metadata, laid on its head and on fresh places, is one of them.
 use Rattle.std.proofs.Common.{◌≡◌, ◌+◌, ℕ, Bool, true, false, List, ◌∷◌, length, refl, sym, ap, ◌∙◌, subst, inl, inr}
-use Rattle.std.proofs.Common.{Some}
+use Rattle.std.proofs.Common.{drop, Some}
 use Rattle.std.specs.Prelude.{is_some}
 use Rattle.std.proofs.lemmas.Bool.{both_ways, cases_Bool}
 use Rattle.bit_array.specs.Bits.{is_in}
@@ -13,10 +13,10 @@ use Rattle.md_chain.specs.Chain.{is_among}
 use Rattle.md_chain.specs.Packing.{parts_of, ArePlannable}
 use Rattle.md_chain.specs.declared.plan.PlannedPage.{PlannedPage}
 use Rattle.store_model.specs.Jobs.{IsPlannedFor}
-use Rattle.store_model.specs.Places.{all_set, AreLeastClear}
+use Rattle.store_model.specs.Places.{all_set, AreDistinct, AreLeastClear}
 use Rattle.store_model.specs.Steady.{IsStored}
 use Rattle.store_model.proofs.Sets.{all_set_out, were_clear}
-use Rattle.running_store.specs.Jobs.{replacing_of}
+use Rattle.running_store.specs.Jobs.{replacing_of, IsMatched}
 use Rattle.running_store.specs.declared.effects.Effects.{Effects}
 use Rattle.running_store.specs.declared.replacements.Planned.{Planned}
 use Rattle.job_begins.specs.Begins.{taken_for, IsLaid, IsTaken}
@@ -33,6 +33,14 @@ pub record IsWritten (head : ℕ) (new : Meta) (fresh : List ℕ) (pages : List 
   pub plannable : ArePlannable items
   pub count : length fresh + 1 ≡ length (parts_of items)
   pub laid : IsLaid items head fresh (record { chain = head ∷ fresh; pages = pages })
+
+-- What a draft is planned as has its head first, and frees each cluster once.
+pub planned_matched : (x : Draft) (fresh : List ℕ) (effects : Effects) (planned : Planned)
+    → IsPlannedOn x fresh effects planned → AreDistinct effects.freed → IsMatched planned
+planned_matched x fresh effects planned on once =
+    let chain = on.laid_on.chain in
+    subst IsMatched (sym on.planned_is)
+    (record { headed = chain ∙ ap (λ (l : List ℕ). x.head ∷ drop 1 l) (sym chain); once = once })
 
 -- Where these pages are in use, and its places are the least clear ones, it is planned for them.
 pub planned_for : (s : Super) → IsPlaced s → (head : ℕ) (new : Meta) → IsStored s head new → (fresh : List ℕ)

@@ -34,7 +34,7 @@ use Rattle.store_model.proofs.OneReplacement.{base_steady}
 use Rattle.store_model.proofs.Sets.{among_first}
 use Rattle.running_store.specs.StoreInvariant.{IsRunning}
 use Rattle.job_begins.specs.Snapshots.{AsksToSnapshot}
-use Rattle.job_begins.specs.declared.snapshotting.SnapshotAsk.{SnapshotAsk}
+use Rattle.job_begins.specs.declared.asking.SnapshotAsk.{SnapshotAsk}
 use Rattle.job_begins.proofs.JobPlanned.{given}
 
 -- ---- a job of four replacements

@@ -4,6 +4,7 @@ use Rattle.std.proofs.Common.{refl, sym, ap, subst, arith, inl}
 use Rattle.std.specs.Prelude.{if◌then◌else◌, is_some, not}
 use Rattle.pools.specs.Pool.{clear_in}
 use Rattle.volume_model.specs.declared.command.Command.{Command}
+use Rattle.volume_model.specs.declared.reply.Reply.{Reply}
 use Rattle.volume_model.specs.declared.reply.Reply.TheVariants as r
 use Rattle.blob_meta.specs.declared.job.Job.{Job}
 use Rattle.blob_meta.specs.declared.job.Replacement.{Replacement}
@@ -23,10 +24,11 @@ use Rattle.store_model.proofs.WithEntry.{option_elsewhere, option_here}
 use Rattle.running_store.specs.StoreInvariant.{IsRunning}
 use Rattle.job_begins.specs.Begins.{needed}
 use Rattle.job_begins.specs.Drafts.{IsDraftOf}
+use Rattle.job_begins.specs.JobPages.{IsShort}
 use Rattle.job_begins.specs.Snapshots.{snapshot_changes, snapshot_needs, AreSnapshotDrafts, AsksToSnapshot}
 use Rattle.job_begins.specs.declared.drafts.Draft.{Draft}
-use Rattle.job_begins.specs.declared.snapshotting.SnapshotAsk.{SnapshotAsk}
-use Rattle.job_begins.specs.declared.snapshotting.SnapshotDrafts.{SnapshotDrafts}
+use Rattle.job_begins.specs.declared.asking.SnapshotAsk.{SnapshotAsk}
+use Rattle.job_begins.specs.declared.snapshot_parts.SnapshotDrafts.{SnapshotDrafts}
 use Rattle.job_begins.proofs.Lacking.{may_lack}
 use Rattle.job_begins.proofs.SnapshotAsked.{snapshot_asked, IsSnapshotAsked}
 
@@ -50,6 +52,14 @@ draft_takes head new x is there makes apart =
         ≡ (if not makes then length (parts_of x.items) - 1 else length (parts_of x.items) - 1 + 1)
     counted true = let some = some_parts 4072 x.items in omega (arith, some)
     counted false = refl
+
+-- ---- want of memory
+
+-- memory may run out
+pub snapshot_memory : (p : StoreState) (command : Command) (x : SnapshotAsk) → AsksToSnapshot p command x
+    → IsRefusedAtBegin p command r.Memory
+snapshot_memory p command x asks =
+    may_lack (fixed_of p.super) (shown p) p command asks.job asks.commit asks.asked
 
 -- ---- too few pages
 
@@ -108,7 +118,7 @@ module _ (p : StoreState) (running : IsRunning p) (clean : HasNoMarks p.base) (r
     )
 
     -- where fewer pages are clear than they take, that is why
-    pub snapshot_lacks : clear_in p.pages < snapshot_needs d → IsRefusedAtBegin p command r.NoPage
+    snapshot_lacks : clear_in p.pages < snapshot_needs d → IsRefusedAtBegin p command r.NoPage
     snapshot_lacks low = record {
       no_job = no_job;
       changes = asks.job;
@@ -130,10 +140,8 @@ module _ (p : StoreState) (running : IsRunning p) (clean : HasNoMarks p.base) (r
         list_is = ap (λ (l : List ℕ). with_zeroed asks.job.list l []) no_zeros ∙ plain_zeroed [] asks.job.list
             ∙ asks.changes
 
--- ---- want of memory
-
--- memory may run out
-pub snapshot_memory : (p : StoreState) (command : Command) (x : SnapshotAsk) → AsksToSnapshot p command x
-    → IsRefusedAtBegin p command r.Memory
-snapshot_memory p command x asks =
-    may_lack (fixed_of p.super) (shown p) p command asks.job asks.commit asks.asked
+    -- that its pages aren't taken is why
+    pub snapshot_short : (reply : Reply) → IsShort (snapshot_needs d) p.pages reply → IsRefusedAtBegin p command reply
+    snapshot_short r.NoPage low = snapshot_lacks low
+    snapshot_short r.Memory memory = snapshot_memory p command x asks
+    snapshot_short _ other = absurd other

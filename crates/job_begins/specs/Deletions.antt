@@ -1,5 +1,7 @@
 -- What the delete of a blob with one clone asks a job to do, and its job.
-use Rattle.std.specs.Prelude.{◌≡◌, ◌↔◌, ◌+◌, ℕ, Bool, true, false, Option, Some, None, List, [], ◌∷◌, ◌++◌, length}
+use Rattle.std.specs.Prelude.{◌≡◌, ◌↔◌, ◌+◌, ◌-◌, ◌<◌, ◌^◌, ℕ, Bool, true, false, Option, Some, None, List, [], ◌∷◌, ◌++◌}
+use Rattle.std.specs.Prelude.{length}
+use Rattle.std.specs.FinMap as map
 use Rattle.bit_array.specs.Bits.{is_in}
 use Rattle.volume_model.specs.declared.command.Command.{Command}
 use Rattle.blob_meta.specs.Faults.{clusters_of}
@@ -16,14 +18,18 @@ use Rattle.running_store.specs.Jobs.{erases_laid, job_seen, phases_in, to_come, 
 use Rattle.running_store.specs.Places.{HasPlace}
 use Rattle.running_store.specs.StoreView.{base_of}
 use Rattle.running_store.specs.declared.job.RunningJob.{RunningJob}
+use Rattle.running_store.specs.declared.replacements.LaidReplacement.{LaidReplacement}
 use Rattle.running_store.specs.declared.replacements.Planned.{Planned}
 use Rattle.job_begins.specs.Alone.{IsMappedBeside, IsMissing}
 use Rattle.job_begins.specs.Begins.{needed, no_effects}
 use Rattle.job_begins.specs.Drafts.{IsDraftOf, IsPlannedOn}
 use Rattle.job_begins.specs.ListJobs.{effects_in}
-use Rattle.job_begins.specs.declared.deleting.DeletionAsk.{DeletionAsk}
-use Rattle.job_begins.specs.declared.deleting.DeletionDrafts.{DeletionDrafts}
-use Rattle.job_begins.specs.declared.deleting.DeletionEffects.{DeletionEffects}
+use Rattle.job_begins.specs.JobPages.{ArePagesTaken}
+use Rattle.job_begins.specs.declared.asking.DeletionAsk.{DeletionAsk}
+use Rattle.job_begins.specs.declared.deletion_parts.DeletionDrafts.{DeletionDrafts}
+use Rattle.job_begins.specs.declared.deletion_parts.DeletionEffects.{DeletionEffects}
+use Rattle.job_begins.specs.declared.deletion_parts.DeletionParts.{DeletionParts}
+use Rattle.job_begins.specs.declared.deletion_parts.DeletionEnd.{DeletionEnd}
 
 -- the changes of metadata, in their order
 abbrev pub deletion_changes : DeletionAsk → List Replacement
@@ -100,3 +106,29 @@ pub record IsDeletionLaid (x : DeletionDrafts) (effects : DeletionEffects) (chan
     written = [];
     todo = phases_in (to_come job);
   }
+
+-- What comes behind the blob's mark: the clone's new metadata is laid on its places, and the blob is erased, with the
+-- places that its mark was laid on.
+pub record IsDeletionEnd (x : DeletionEnd) (going taking : List ℕ) (later : List LaidReplacement) : Type 0 where
+  pub planned : Planned
+  pub on : IsPlannedOn x.taking taking x.commit planned
+  pub later_is : later
+      ≡ writes_laid planned x.old_of_clone
+      ∷ erases_laid (record { head = x.of; commit = None; freed = x.freed }) going
+      ∷ []
+
+-- What a delete asks for, with what is done besides, and the places behind the heads of the blob and of its clone. A
+-- number is left.
+pub record AreDeletionParts (md_len : ℕ) (b : Blobs) (clusters : ℕ) (ask : DeletionAsk) (x : DeletionParts)
+    : Type 0 where
+  pub effects : AreDeletionEffects md_len b clusters ask x.besides
+  pub left : b.guards.drawn < 2 ^ 64 - 1
+  pub behind : map.get b.chains ask.of ≡ Some (ask.of ∷ x.old)
+  pub behind_clone : map.get b.chains ask.clone ≡ Some (ask.clone ∷ x.old_of_clone)
+  pub drafts : AreDeletionDrafts ask x.drafts
+
+-- the job, with the pages that it needs taken for it
+pub record IsDeletionJob (x : DeletionParts) (channel : ℕ) (old new : List Bool) (job : RunningJob) : Type 0 where
+  pub taken : List ℕ
+  pub pages : ArePagesTaken (deletion_needs x.drafts) old new taken
+  pub laid : IsDeletionLaid x.drafts x.besides channel taken x.old x.old_of_clone job

@@ -7,6 +7,7 @@ use Rattle.running_store.specs.declared.effects.Effects.{Effects}
 use Rattle.running_store.specs.declared.replacements.Planned.{Planned}
 use Rattle.job_begins.specs.Begins.{IsLaid}
 use Rattle.job_begins.specs.declared.drafts.Draft.{Draft}
+use Rattle.job_begins.specs.declared.drafts.LaidDraft.{LaidDraft}
 use Rattle.job_begins.specs.declared.preparing.Laid.{Laid}
 
 -- The items are those of the metadata, few enough for a chain, and each is short enough for a page.
@@ -32,3 +33,9 @@ pub record IsPlannedOn (x : Draft) (fresh : List ℕ) (effects : Effects) (plann
     chain = laid.chain;
     pages = laid.pages;
   }
+
+-- it is laid so, in place of these behind its head
+pub record IsReplacedOn (x : Draft) (fresh : List ℕ) (effects : Effects) (old : List ℕ) (laid : LaidDraft)
+    : Type 0 where
+  pub on : IsPlannedOn x fresh effects laid.planned
+  pub old_is : laid.old ≡ old

@@ -5,6 +5,7 @@ pub mod Inserts
 pub mod ListJobs
 pub mod ListPlaces
 pub mod Drafts
+pub mod JobPages
 pub mod Snapshots
 pub mod Deletions
 pub mod Asks

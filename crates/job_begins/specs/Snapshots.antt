@@ -1,5 +1,6 @@
 -- What a snapshot asks a job to do, and its job.
-use Rattle.std.specs.Prelude.{◌≡◌, ◌+◌, ℕ, Option, Some, None, List, [], ◌∷◌, ◌++◌, true, false, length, IsSome}
+use Rattle.std.specs.Prelude.{◌≡◌, ◌+◌, ◌<◌, ◌^◌, ℕ, Bool, Option, Some, None, List, [], ◌∷◌, ◌++◌, true, false, length}
+use Rattle.std.specs.Prelude.{IsSome}
 use Rattle.std.specs.FinMap as map
 use Rattle.volume_model.specs.declared.command.Command.{Command}
 use Rattle.blob_meta.specs.declared.job.Job.{Job}
@@ -18,9 +19,11 @@ use Rattle.running_store.specs.declared.replacements.Planned.{Planned}
 use Rattle.job_begins.specs.Begins.{needed, no_effects, IsFreshHead}
 use Rattle.job_begins.specs.Drafts.{IsDraftOf, IsPlannedOn}
 use Rattle.job_begins.specs.ListJobs.{effects_in}
-use Rattle.job_begins.specs.declared.snapshotting.SnapshotAsk.{SnapshotAsk}
-use Rattle.job_begins.specs.declared.snapshotting.SnapshotDrafts.{SnapshotDrafts}
-use Rattle.job_begins.specs.declared.snapshotting.SnapshotEffects.{SnapshotEffects}
+use Rattle.job_begins.specs.JobPages.{ArePagesTaken}
+use Rattle.job_begins.specs.declared.asking.SnapshotAsk.{SnapshotAsk}
+use Rattle.job_begins.specs.declared.snapshot_parts.SnapshotDrafts.{SnapshotDrafts}
+use Rattle.job_begins.specs.declared.snapshot_parts.SnapshotEffects.{SnapshotEffects}
+use Rattle.job_begins.specs.declared.snapshot_parts.SnapshotParts.{SnapshotParts}
 
 -- the changes of metadata, in their order
 abbrev pub snapshot_changes : SnapshotAsk → List Replacement
@@ -100,3 +103,27 @@ pub record IsSnapshotLaid (x : SnapshotDrafts) (effects : SnapshotEffects) (chan
   pub none_behind : job.old ≡ []
   pub later : job.later.items
       ≡ writes_laid second begun ∷ writes_laid third old ∷ writes_laid fourth filled ∷ []
+
+-- Of the places that are taken these stand behind the head of each replacement, as many as it needs: the first is the
+-- new blob's head.
+pub record ArePlacesOf (x : SnapshotDrafts) (taken begun filled emptied made : List ℕ) : Type 0 where
+  pub taken_are : taken ≡ (x.begun.head ∷ begun) ++ (filled ++ (emptied ++ made))
+  pub begun_count : length begun + 1 ≡ length (parts_of x.begun.items)
+  pub filled_count : length filled + 1 ≡ length (parts_of x.filled.items)
+  pub emptied_count : length emptied + 1 ≡ length (parts_of x.emptied.items)
+  pub made_count : length made + 1 ≡ length (parts_of x.made.items)
+
+-- What a snapshot asks for, with what is done besides, and the places behind the volume's head. The blobs have room for
+-- the generation of one more, and three numbers are left.
+pub record AreSnapshotParts (b : Blobs) (ask : SnapshotAsk) (x : SnapshotParts) : Type 0 where
+  pub effects : AreSnapshotEffects b ask x.besides
+  pub few : map.len b.guards.generations < b.guards.room
+  pub left : b.guards.drawn + 3 < 2 ^ 64
+  pub behind : map.get b.chains ask.of ≡ Some (ask.of ∷ x.old)
+  pub drafts : AreSnapshotDrafts ask x.drafts
+
+-- the job, with the pages that it needs taken for it
+pub record IsSnapshotJob (x : SnapshotParts) (channel : ℕ) (old new : List Bool) (job : RunningJob) : Type 0 where
+  pub taken : List ℕ
+  pub pages : ArePagesTaken (snapshot_needs x.drafts) old new taken
+  pub laid : IsSnapshotLaid x.drafts x.besides channel taken x.old job

@@ -4,10 +4,111 @@ ghost use Rattle.std.specs.Prelude.{◌≡◌, None, length};
 ghost use Rattle.blob_meta.specs.declared.job.Job.{Job as AJob};
 ghost use Rattle.job_begins.specs.Asks.{IsAskOf};
 
-use crate::deleting::DeletionAsk;
-use crate::snapshotting::SnapshotAsk;
+use crate::deletion_parts::DeletionDrafts;
+use crate::drafts::Draft;
+use crate::snapshot_parts::SnapshotDrafts;
 use blob_meta::{Job, Meta, Replacement, ReplacementList};
+use out_of_memory::Memory;
+use std::alloc::Global;
 use volume_model::SlotList;
+
+/// What the delete of the blob at `of` asks for, whose one clone is at `clone`: the blob with its mark, and the clone
+/// with the blob's clusters and parent.
+pub(crate) struct DeletionAsk {
+    pub(crate) of: u32,
+    pub(crate) clone: u32,
+    pub(crate) going: Meta,
+    pub(crate) taking: Meta,
+}
+
+impl Drop for DeletionAsk {
+    fn drop(self) {
+        let DeletionAsk {
+            of: _,
+            clone: _,
+            going: _,
+            taking: _,
+        } = self;
+    }
+}
+
+impl DeletionAsk {
+    ghost use Rattle.std.specs.Prelude.{All, IfOk};
+    ghost use Rattle.md_chain.specs.Packing.{FitsPage};
+    ghost use Rattle.job_begins.specs.Deletions.{AreDeletionDrafts};
+
+    /// The drafts of what is asked for.
+    pub(crate) fn drafts(self, alloc: Global) -> Result<DeletionDrafts, Memory>
+        requires going { All FitsPage self.going.xattrs × All FitsPage self.going.internal }
+        requires taking { All FitsPage self.taking.xattrs × All FitsPage self.taking.internal }
+        ensures { IfOk result (AreDeletionDrafts self) }
+    {
+        let DeletionAsk {
+            of,
+            clone,
+            going,
+            taking,
+        } = self;
+        let (going, taking) = Draft::two(alloc, (of, going), (clone, taking))?;
+        Ok(DeletionDrafts { going, taking })
+    }
+}
+
+/// What a snapshot of the blob at `of` asks for: the metadata of the new blob at `head`, as it begins, with the map of
+/// the other one, and without its mark, and the new metadata of the volume.
+pub(crate) struct SnapshotAsk {
+    pub(crate) head: u32,
+    pub(crate) of: u32,
+    pub(crate) begun: Meta,
+    pub(crate) filled: Meta,
+    pub(crate) emptied: Meta,
+    pub(crate) made: Meta,
+}
+
+impl Drop for SnapshotAsk {
+    fn drop(self) {
+        let SnapshotAsk {
+            head: _,
+            of: _,
+            begun: _,
+            filled: _,
+            emptied: _,
+            made: _,
+        } = self;
+    }
+}
+
+impl SnapshotAsk {
+    ghost use Rattle.std.specs.Prelude.{All, IfOk};
+    ghost use Rattle.md_chain.specs.Packing.{FitsPage};
+    ghost use Rattle.job_begins.specs.Snapshots.{AreSnapshotDrafts};
+
+    /// The drafts of what is asked for.
+    pub(crate) fn drafts(self, alloc: Global) -> Result<SnapshotDrafts, Memory>
+        requires begun { All FitsPage self.begun.xattrs × All FitsPage self.begun.internal }
+        requires filled { All FitsPage self.filled.xattrs × All FitsPage self.filled.internal }
+        requires emptied { All FitsPage self.emptied.xattrs × All FitsPage self.emptied.internal }
+        requires made { All FitsPage self.made.xattrs × All FitsPage self.made.internal }
+        ensures { IfOk result (AreSnapshotDrafts self) }
+    {
+        let SnapshotAsk {
+            head,
+            of,
+            begun,
+            filled,
+            emptied,
+            made,
+        } = self;
+        let (begun, filled) = Draft::two(alloc, (head, begun), (head, filled))?;
+        let (emptied, made) = Draft::two(alloc, (of, emptied), (head, made))?;
+        Ok(SnapshotDrafts {
+            begun,
+            filled,
+            emptied,
+            made,
+        })
+    }
+}
 
 /// What a job asks for.
 #[derive(Drop)]

@@ -1,14 +1,15 @@
 //! The begin of a delete's job, of a blob with one clone, of three replacements: the blob is marked, its clone takes
 //! over from it, and it is erased.
 
-ghost use Rattle.std.specs.Prelude.{◌≡◌, ◌≢◌, ◌<◌, ◌-◌, ◌^◌, ℕ, [], true, length, None, Some, IfErr, IfOk, OnErr};
+ghost use Rattle.std.specs.Prelude.{◌≡◌, ◌≢◌, ◌<◌, ◌-◌, ◌^◌, ℕ, [], true, All, length, None, Some, IfErr, IfOk, OnErr};
 ghost use Rattle.super_block.specs.Faults.{IsFaultless};
 ghost use Rattle.blob_meta.specs.Faults.{clusters_of};
 ghost use Rattle.blob_meta.specs.Repairs.{HasNoMarks};
 ghost use Rattle.job_begins.specs.Alone.{HaveRoom};
-ghost use Rattle.job_begins.specs.Begins.{with_begun};
-ghost use Rattle.job_begins.specs.Deletions.{AreDeletionEffects, AsksToDelete};
+ghost use Rattle.job_begins.specs.Begins.{with_begun, HasChain};
+ghost use Rattle.job_begins.specs.Deletions.{AreDeletionEffects, AreDeletionParts, AsksToDelete};
 ghost use Rattle.md_chain.specs.Chain.{is_among};
+ghost use Rattle.md_chain.specs.Packing.{FitsPage};
 ghost use Rattle.running_store.specs.Blobs.{blobs_of, WillBeKept};
 ghost use Rattle.running_store.specs.Jobs.{IsHeaded};
 ghost use Rattle.running_store.specs.Running.{view_of, InOrder};
@@ -18,138 +19,13 @@ ghost use Rattle.running_store.specs.StoreView.{base_of, state_of};
 ghost use Rattle.store_model.specs.Cases.{Begins, IsRefusedAtBegin};
 
 use crate::alone::{add_clusters, clusters_beside, missing};
-use crate::drafts::Draft;
-use crate::preparing::{places_behind, places_from};
-use blob_meta::Meta;
+use crate::asking::DeletionAsk;
+use crate::deletion_parts::{DeletionEffects, DeletionParts};
+use crate::preparing::places_behind;
 use out_of_memory::Memory;
 use page_disk::PageDisk;
-use running_store::{
-    Change, Commit, Effects, EntryChange, Erasure, LaidReplacement, Rooms, Running, RunningJob,
-    Serves, Work, clear_places, place, take_places,
-};
-use std::alloc::Global;
-use std::collections::VecDeque;
+use running_store::{Commit, Effects, EntryChange, Rooms, Running, RunningJob, place};
 use volume_model::{PlaceList, Reply};
-
-/// What the delete of the blob at `of` asks for, whose one clone is at `clone`: the blob with its mark, and the clone
-/// with the blob's clusters and parent.
-#[derive(Drop)]
-pub(crate) struct DeletionAsk {
-    pub(crate) of: u32,
-    pub(crate) clone: u32,
-    pub(crate) going: Meta,
-    pub(crate) taking: Meta,
-}
-
-/// What the three replacements do besides: of the last one, the clusters that no blob has any more.
-#[derive(Drop)]
-struct DeletionEffects {
-    begin: Effects,
-    commit: Effects,
-    freed: PlaceList,
-}
-
-/// The metadata of the two replacements that write some, with their items.
-#[derive(Drop)]
-struct DeletionDrafts {
-    going: Draft,
-    taking: Draft,
-}
-
-impl DeletionDrafts {
-    ghost use Rattle.std.specs.Prelude.{◌≡◌, [], All, IfOk, length};
-    ghost use Rattle.md_chain.specs.Packing.{FitsPage};
-    ghost use Rattle.job_begins.specs.Deletions.{deletion_needs, AreDeletionDrafts, IsDeletionLaid};
-    ghost use Rattle.job_begins.specs.Drafts.{IsDraft};
-    ghost use Rattle.running_store.specs.Jobs.{IsHeaded};
-    ghost use Rattle.store_model.specs.Places.{AreDistinct};
-
-    /// The drafts of what a delete asks for.
-    fn new(alloc: Global, ask: DeletionAsk) -> Result<DeletionDrafts, Memory>
-        requires going { All FitsPage ask.going.xattrs × All FitsPage ask.going.internal }
-        requires taking { All FitsPage ask.taking.xattrs × All FitsPage ask.taking.internal }
-        ensures { IfOk result (AreDeletionDrafts ask) }
-    {
-        let DeletionAsk {
-            of,
-            clone,
-            going,
-            taking,
-        } = ask;
-        let (going, taking) = Draft::two(alloc, (of, going), (clone, taking))?;
-        Ok(DeletionDrafts { going, taking })
-    }
-
-    /// How many pages the job takes.
-    fn needs(&self) -> u64
-        requires going { IsDraft self.now.going }
-        requires taking { IsDraft self.now.taking }
-        ensures { result ≡ deletion_needs self.now }
-    {
-        u64::from(self.going.needs(false)) + u64::from(self.taking.needs(false))
-    }
-
-    /// The job on these places, which are taken for it: these stood behind the heads of the blob and of its clone.
-    fn job(
-        self,
-        alloc: Global,
-        channel: u8,
-        taken: &[u32],
-        besides: DeletionEffects,
-        old: PlaceList,
-        old_of_clone: PlaceList,
-    ) -> Result<RunningJob, Memory>
-        requires going { IsDraft self.going }
-        requires taking { IsDraft self.taking }
-        requires count { length taken.now ≡ deletion_needs self }
-        requires begin { besides.begin.freed ≡ [] }
-        requires commit { besides.commit.freed ≡ [] }
-        requires claims { besides.commit.claimed ≡ [] }
-        requires once { AreDistinct besides.freed }
-        ensures laid { IfOk result (IsDeletionLaid self besides channel taken.now old old_of_clone) }
-        ensures headed { IfOk result IsHeaded }
-    {
-        let DeletionDrafts { going, taking } = self;
-        let DeletionEffects {
-            begin,
-            commit,
-            freed,
-        } = besides;
-        let of = going.head;
-        let first = going.needs(false) as usize;
-        let behind_going = &taken[..first];
-        let behind_taking = &taken[first..];
-        let planned = going.lay(alloc, behind_going, begin)?;
-        let commits = taking.lay(alloc, behind_taking, commit)?;
-        let erasure = Erasure {
-            head: of,
-            commit: None,
-            freed,
-        };
-        let later = vec![in alloc;
-            LaidReplacement {
-                change: Change::Writes(commits),
-                old: old_of_clone,
-            },
-            LaidReplacement {
-                change: Change::Erases(erasure),
-                old: places_from(alloc, behind_going)?,
-            },
-        ]?;
-        Ok(RunningJob {
-            serves: Serves::Command {
-                channel,
-                freeze: None,
-            },
-            work: Work::Writing {
-                planned,
-                written: 0,
-            },
-            old,
-            later: VecDeque::from_vec(later),
-        })
-    }
-}
 
 /// What a delete's replacements do besides: the blob has room among the marked ones, with the commit it is gone and
 /// its clone gets a new generation, and its clusters that neither its clone nor another blob has are freed at last.
@@ -211,6 +87,32 @@ fn effects_of<D>(running: &Running<D>, ask: &DeletionAsk) -> Result<DeletionEffe
     })
 }
 
+/// The parts of the job of a delete.
+fn parts_of<D>(running: &Running<D>, ask: DeletionAsk) -> Result<DeletionParts, Memory>
+    requires chain { HasChain running.now.chains ask.of }
+    requires chain_of_clone { HasChain running.now.chains ask.clone }
+    requires room { HaveRoom (base_of running.now.metas running.now.marked) (length running.now.clusters.bits) }
+    requires taking_low { (c : ℕ) → is_among c (clusters_of ask.taking.map) ≡ true
+        → c < length running.now.clusters.bits }
+    requires going_low { (c : ℕ) → is_among c (clusters_of ask.going.map) ≡ true
+        → c < length running.now.clusters.bits }
+    requires going { All FitsPage ask.going.xattrs × All FitsPage ask.going.internal }
+    requires taking { All FitsPage ask.taking.xattrs × All FitsPage ask.taking.internal }
+    ensures { IfOk result (AreDeletionParts running.now.sup.md_len (blobs_of running.now)
+        (length running.now.clusters.bits) ask) }
+{
+    let besides = effects_of(running, &ask)?;
+    let old = places_behind(running.alloc, &running.chains, ask.of)?;
+    let old_of_clone = places_behind(running.alloc, &running.chains, ask.clone)?;
+    let drafts = ask.drafts(running.alloc)?;
+    Ok(DeletionParts {
+        besides,
+        old,
+        old_of_clone,
+        drafts,
+    })
+}
+
 /// The job of a delete of a blob with one clone, for the posted command of a channel, once its pages are taken. `Err`
 /// says what it lacks, and nothing is taken then.
 pub(crate) fn deletion_job<D: PageDisk>(
@@ -240,21 +142,6 @@ pub(crate) fn deletion_job<D: PageDisk>(
     ensures rows { running.new.rows ≡ running.old.rows }
     ensures order { InOrder D.PageDisk running.new }
 {
-    let alloc = running.alloc;
-    let besides = effects_of(running, &ask)?;
-    let old = places_behind(alloc, &running.chains, ask.of)?;
-    let old_of_clone = places_behind(alloc, &running.chains, ask.clone)?;
-    let drafts = DeletionDrafts::new(alloc, ask)?;
-    let needs = drafts.needs();
-    if u64::from(running.pages.clear_count()) < needs {
-        return Err(Reply::NoPage);
-    }
-    let taken = take_places(alloc, &mut running.pages, needs as u32)?;
-    match drafts.job(alloc, channel, taken.as_slice(), besides, old, old_of_clone) {
-        Ok(job) => Ok(job),
-        Err(Memory) => {
-            clear_places(&mut running.pages, &taken);
-            Err(Reply::Memory)
-        }
-    }
+    let parts = parts_of(running, ask)?;
+    parts.job(running.alloc, &mut running.pages, channel)
 }

@@ -2,22 +2,35 @@
 
 ghost use Rattle.std.specs.Prelude.{◌≡◌, ◌+◌, All, length, IfOk};
 ghost use Rattle.md_chain.specs.Packing.{parts_of, FitsPage};
-ghost use Rattle.job_begins.specs.Begins.{needed};
-ghost use Rattle.job_begins.specs.Drafts.{IsDraft, IsDraftOf, IsPlannedOn};
+ghost use Rattle.job_begins.specs.Begins.{needed, no_effects};
+ghost use Rattle.job_begins.specs.Drafts.{IsDraft, IsDraftOf, IsPlannedOn, IsReplacedOn};
 
-use crate::preparing::{Laid, items_of, lay, pages_needed};
+use crate::preparing::{Laid, items_of, lay, nothing_besides, pages_needed, places_from};
 use blob_meta::Meta;
 use descriptors::ItemList;
 use out_of_memory::Memory;
-use running_store::{Effects, Planned};
+use running_store::{Change, Effects, LaidReplacement, Planned, RunningJob, Serves, Work};
 use std::alloc::Global;
+use std::collections::VecDeque;
+use volume_model::PlaceList;
 
 /// New metadata of the blob at a head, and the items by which it is written.
-#[derive(Drop)]
 pub(crate) struct Draft {
     pub(crate) head: u32,
     pub(crate) new: Meta,
     pub(crate) items: ItemList,
+}
+
+// By hand, as for the other values that a job is made of: to let one go is one call then, at each place where control
+// leaves, and not a call for each of its fields, which would have to be proved there.
+impl Drop for Draft {
+    fn drop(self) {
+        let Draft {
+            head: _,
+            new: _,
+            items: _,
+        } = self;
+    }
 }
 
 impl Draft {
@@ -76,5 +89,86 @@ impl Draft {
             chain,
             pages,
         })
+    }
+
+    /// It is laid on its head and on these fresh places, in place of those that stand behind the head.
+    pub(crate) fn replace(
+        self,
+        alloc: Global,
+        fresh: &[u32],
+        effects: Effects,
+        old: PlaceList,
+    ) -> Result<LaidDraft, Memory>
+        requires draft { IsDraft self }
+        requires places { length fresh.now + 1 ≡ length (parts_of self.items) }
+        ensures { IfOk result (IsReplacedOn self fresh.now effects old) }
+    {
+        let planned = self.lay(alloc, fresh, effects)?;
+        Ok(LaidDraft { planned, old })
+    }
+
+    /// It is laid in place of places that another replacement of its job takes, and nothing is done besides.
+    pub(crate) fn rewrite(
+        self,
+        alloc: Global,
+        fresh: &[u32],
+        behind: &[u32],
+    ) -> Result<LaidDraft, Memory>
+        requires draft { IsDraft self }
+        requires places { length fresh.now + 1 ≡ length (parts_of self.items) }
+        ensures { IfOk result (IsReplacedOn self fresh.now no_effects behind.now) }
+    {
+        let old = places_from(alloc, behind)?;
+        self.replace(alloc, fresh, nothing_besides(alloc), old)
+    }
+}
+
+/// A draft on its pages, and the places that stand behind its head before.
+pub(crate) struct LaidDraft {
+    planned: Planned,
+    old: PlaceList,
+}
+
+impl Drop for LaidDraft {
+    fn drop(self) {
+        let LaidDraft { planned: _, old: _ } = self;
+    }
+}
+
+impl LaidDraft {
+    ghost use Rattle.std.specs.Prelude.{◌≡◌};
+    ghost use Rattle.running_store.specs.Jobs.{writes_laid};
+    ghost use Rattle.running_store.specs.declared.job.Work.TheVariants as work;
+
+    /// The replacement that writes it.
+    pub(crate) fn replacement(self) -> LaidReplacement
+        ensures { result ≡ writes_laid self.planned self.old }
+    {
+        let LaidDraft { planned, old } = self;
+        LaidReplacement {
+            change: Change::Writes(planned),
+            old,
+        }
+    }
+
+    /// The job that writes it, and then makes these replacements.
+    pub(crate) fn job(self, serves: Serves, later: VecDeque<LaidReplacement>) -> RunningJob
+        ensures { result ≡ record {
+          serves = serves;
+          work = work.Writing self.planned 0;
+          old = self.old;
+          later = later;
+        } }
+    {
+        let LaidDraft { planned, old } = self;
+        RunningJob {
+            serves,
+            work: Work::Writing {
+                planned,
+                written: 0,
+            },
+            old,
+            later,
+        }
     }
 }

@@ -5,13 +5,16 @@ mod alone;
 mod asking;
 mod begin;
 mod deleting;
+mod deletion_parts;
 mod drafts;
 mod erasing;
 mod filling;
 mod inserting;
 mod preparing;
 mod repairing;
+mod snapshot_parts;
 mod snapshotting;
+mod taking;
 
 pub use alone::add_clusters;
 pub use begin::{BeginTurn, begin_or_halt};

@@ -1,0 +1,64 @@
+use Rattle.std.proofs.Common.{IfErr, Result, ◌≡◌, ◌<◌, ◌∙◌, ℕ, All, Bool, true, false, List, ◌∷◌, length, sym, ap, subst, arith}
+use Rattle.std.proofs.Common.{drop}
+use Rattle.std.proofs.lemmas.Result.{err_from_is_err_and}
+use Rattle.bit_array.specs.Bits.{is_in}
+use Rattle.md_chain.proofs.Fitting.{some_parts}
+use Rattle.volume_model.specs.declared.reply.Reply.{Reply}
+use Rattle.store_model.specs.Places.{all_set}
+use Rattle.store_model.proofs.Sets.{are_distinct}
+use Rattle.running_store.specs.declared.job.RunningJob.{RunningJob}
+use Rattle.job_begins.specs.JobPages.{ArePagesTaken, IsShort}
+use Rattle.job_begins.specs.Snapshots.{snapshot_needs, IsSnapshotLaid}
+use Rattle.job_begins.proofs.JobBegin.{same_pool}
+use Rattle.job_begins.proofs.JobPlaces.{clear_again, taken_in_use, taken_is}
+use Rattle.job_begins.proofs.snapshot_parts.SnapshotParts.job.Goals as goal
+
+pub lay-requires-clause-heads : goal.lay-requires-clause-heads
+lay-requires-clause-heads c =
+    let taken = c.in_ok-taken.taken in
+    let parts = some_parts 4072 c.args.self.drafts.begun.items in
+    let long = c.in_ok-taken.ensures.taken.long in
+    let needs = c.needs.ensures in
+    let some : 0 < length taken = omega (arith, parts, long, needs) in (
+      drop 1 taken,
+      c.as_slice.ensures
+          ∙ taken_is c.args.pages.now.bits true c.args.self.drafts.begun.head taken
+          c.in_ok-taken.ensures.taken.least (λ _. c.requires.next) (λ _. some),
+    )
+
+pub clear_places-requires-clause-distinct : goal.clear_places-requires-clause-distinct
+clear_places-requires-clause-distinct c =
+    are_distinct c.args.pages.now.bits c.in_ok-taken.taken c.in_ok-taken.ensures.taken.least
+
+pub clear_places-requires-clause-in_use : goal.clear_places-requires-clause-in_use
+clear_places-requires-clause-in_use c =
+    subst (λ (bits : List Bool). All (λ x. is_in bits x ≡ true) c.in_ok-taken.taken)
+    (sym c.in_ok-taken.ensures.taken.set)
+    (taken_in_use c.args.pages.now.bits c.in_ok-taken.taken c.in_ok-taken.ensures.taken.least)
+
+pub returns-clause-same : goal.returns-clause-same
+returns-clause-same c =
+    let taken = c.in_ok-taken.taken in
+    same_pool c.clear_places.new.pool c.args.pages.now
+    (c.clear_places.ensures.bits
+    ∙ ap (λ (bits : List Bool). all_set bits taken false) c.in_ok-taken.ensures.taken.set
+    ∙ clear_again c.args.pages.now.bits taken c.in_ok-taken.ensures.taken.least)
+    (c.clear_places.ensures.unclaimed ∙ sym c.requires.unclaimed)
+
+pub returns-in-Ok-clause-job : goal.returns-in-Ok-clause-job
+returns-in-Ok-clause-job c =
+    record {
+      taken = c.in_ok-taken.taken;
+      pages = subst (λ n. ArePagesTaken n c.args.pages.now.bits c.take_pages.new.pages.bits c.in_ok-taken.taken)
+          c.needs.ensures c.in_ok-taken.ensures.taken;
+      laid = subst (λ (l : List ℕ). IsSnapshotLaid c.args.self.drafts c.args.self.besides c.args.channel l
+          c.args.self.old c.in-Ok.job) c.as_slice.ensures c.in-Ok.ensures;
+    }
+
+pub returns-in_err-taken-clause-lack : goal.returns-in_err-taken-clause-lack
+returns-in_err-taken-clause-lack c =
+    let needs = snapshot_needs c.args.self.drafts in
+    let e = err_from_is_err_and c.from_residual.result c.from_residual.ensures.1 in
+    subst (λ (r : Result RunningJob Reply). IfErr r (IsShort needs c.args.pages.now.bits)) (sym e.1)
+    (subst (IsShort needs c.args.pages.now.bits) (sym e.2)
+    (subst (λ n. IsShort n c.args.pages.now.bits c.in_err-taken.field-0.0) c.needs.ensures c.in_err-taken.ensures.lack))
