@@ -1,11 +1,10 @@
-use Rattle.std.proofs.Common.{◌≡◌, ◌<◌, length, sym, ap, subst, arith}
+use Rattle.std.proofs.Common.{◌<◌, length, sym, ap, subst, arith}
 use Rattle.std.proofs.Common.{IfErr, Result, Some}
 use Rattle.std.specs.Prelude.{slice_set}
 use Rattle.std.specs.Option.{option_map}
 use Rattle.std.proofs.lemmas.Result.{err_from_is_err_and}
 use Rattle.volume_model.specs.declared.reply.Reply.{Reply}
 use Rattle.io_freeze.specs.Guards.{GuardsState}
-use Rattle.pools.specs.Pool.{PoolState}
 use Rattle.store_model.specs.Cases.{Begins, IsRefusedAtBegin}
 use Rattle.store_model.specs.Rows.{InJob}
 use Rattle.running_store.specs.Blobs.{blobs_of, CanAllBeKept}
