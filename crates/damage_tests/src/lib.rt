@@ -1,13 +1,17 @@
-//! Tests of damaged images: each fault with its numbers, which of two faults is told, and what looks wrong and is no
-//! fault.
+//! Tests of damaged images and failing calls: each fault with its numbers, which of two faults is told, what looks wrong
+//! and is no fault, and how whole runs end.
 #![tactic(auto)]
 
+#[cfg(test)]
+mod calls;
 #[cfg(test)]
 mod chains;
 #[cfg(test)]
 mod clusters;
 #[cfg(test)]
 mod faults;
+#[cfg(test)]
+mod harmless;
 #[cfg(test)]
 mod images;
 #[cfg(test)]
@@ -22,6 +26,8 @@ mod parents;
 mod parts;
 #[cfg(test)]
 mod regions;
+#[cfg(test)]
+mod runs;
 #[cfg(test)]
 mod sizes;
 #[cfg(test)]
