@@ -1,7 +1,5 @@
-//! Tests of `unclean_load`: each fault of an image, and stores that are loaded whole.
+//! Tests of `unclean_load`: stores that are loaded whole.
 #![tactic(auto)]
 
-#[cfg(test)]
-mod faults;
 #[cfg(test)]
 mod whole_stores;

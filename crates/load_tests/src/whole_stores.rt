@@ -1,6 +1,5 @@
 //! Stores that are loaded whole, and what recovery makes of blobs with marks.
 
-use crate::faults::{SNAP_0, SNAPRM_1, SNAPTMP_1};
 use bit_array::Bits;
 use blob_meta::{Chains, Metas};
 use running_store::Loaded;
@@ -8,13 +7,13 @@ use std::alloc::Global;
 use std::test::Fail;
 use super_block::Masks;
 use test_stores::{LAST, PageRow, THIN, image};
-use unclean_load::{clean_stores_are_quick, load};
+use unclean_load::{clean_stores_are_quick, load, stores_are_accepted};
 
 /// An attribute `name` of value `a`.
 const NAME: &[u8] = b"\x02\x0a\0\0\0\x04\0\x02\0namea\0";
 
 /// What was loaded, without the device.
-pub(crate) fn parts_of<D: Drop>(loaded: Loaded<D>) -> (Metas, Chains, Masks, bool) {
+fn parts_of<D: Drop>(loaded: Loaded<D>) -> (Metas, Chains, Masks, bool) {
     let Loaded {
         disk: _disk,
         sup: _sup,
@@ -77,6 +76,7 @@ fn members(alloc: Global, bits: &Bits) -> Result<String, Fail> {
 
 #[test]
 fn a_blob_with_a_chain_of_three_pages_is_loaded_whole(rt: HostRuntime) -> Result<(), Fail> {
+    stores_are_accepted();
     let (metas, chains, _, _) = whole(rt.alloc())?;
     assert_eq!(rt;
         blob_line(rt.alloc(), &metas, &chains)?.as_str(),
@@ -137,6 +137,13 @@ fn recovered_line<D: Drop>(alloc: Global, loaded: Loaded<D>) -> Result<String, F
         members(alloc, &masks.pages)?
     )?)
 }
+
+/// Attributes that name heads: SNAP head 0, SNAPTMP and SNAPRM head 1.
+const SNAP_0: &[u8] = b"\x04\x10\0\0\0\x04\0\x08\0SNAP\0\0\0\0\x01\0\0\0";
+
+const SNAPTMP_1: &[u8] = b"\x04\x13\0\0\0\x07\0\x08\0SNAPTMP\x01\0\0\0\x01\0\0\0";
+
+const SNAPRM_1: &[u8] = b"\x04\x12\0\0\0\x06\0\x08\0SNAPRM\x01\0\0\0\x01\0\0\0";
 
 /// Blobs at places 0 and 2 that are marked, of which that at 0 has the clone 1; each has a cluster.
 const MARKED: [PageRow; 3] = [
