@@ -2,9 +2,7 @@
 
 use crate::families::family_at;
 use page_disk::{FaultDisk, MemDisk, PageDisk};
-use random_plays::{
-    Play, Ran, Status, expect_left, new_store, number_at, play_of, run, size_of,
-};
+use random_plays::{Play, Ran, Status, expect_left, new_store, number_at, play_of, run, size_of};
 use random_worlds::State;
 use std::alloc::Global;
 use std::test::Fail;
