@@ -1,23 +1,33 @@
 -- How a run ends with its repairs.
-use Rattle.std.proofs.Common.{◌≡◌, ◌∙◌, List, [], length, Option, Some, None, IsTrue, refl, ap, subst}
+use Rattle.std.proofs.Common.{◌≡◌, ◌∙◌, ℕ, List, [], length, Option, Some, None, IsTrue, refl, ap, subst}
 use Rattle.page_disk.specs.Disk.{Rose, Telling}
 use Rattle.page_disk.specs.declared.disk.PageDisk.{Ghosts}
+use Rattle.clean_stop.specs.Masks.{IsMaskPage, StandsApart}
+use Rattle.super_block.specs.Faults.{IsFaultless}
+use Rattle.super_block.specs.declared.masks.Masks.{Masks}
+use Rattle.super_block.specs.declared.page.Super.{Super}
 use Rattle.volume_model.specs.declared.reply.Entry.{Entry}
+use Rattle.running_store.specs.Running.{super_left}
 use Rattle.running_store.specs.StoreInvariant.{StoreInvariant}
 use Rattle.blob_meta.specs.Repairs.{HasNoMarks}
 use Rattle.running_store.specs.StoreView.{base_of, state_of, StoreView, WithOpening}
 use Rattle.store_model.specs.StateLaws.{StopLaws}
 use Rattle.streams.specs.declared.sink.Sink as sink
 use Rattle.unclean_load.specs.Accepted.{StoresAreAccepted}
-use Rattle.blob_tool.specs.Closing.{AddsNoImage}
+use Rattle.blob_tool.specs.Closing.{Unloads}
 use Rattle.blob_tool.specs.Repairing.{status_of_repairs, EndedInRepair, EndsRepairs, IsEndOfRepairs, Repaired}
 use Rattle.blob_tool.specs.declared.repairing.RepairsEnd.{RepairsEnd}
 use Rattle.blob_tool.specs.declared.repairing.RepairsEnd.TheVariants as end
 use Rattle.blob_tool.specs.declared.status.Status.{Status}
-use Rattle.blob_tool.proofs.Closed.{closing_adds}
+use Rattle.blob_tool.proofs.Closed.{left_alone}
 use Rattle.blob_tool.proofs.WholeRun.{survives}
 
+-- masks of nothing
+abbrev none : Masks
+none = record { pages = []; clusters = []; blobs = [] }
+
 module _ {D : Type 0} (d : Ghosts D) (accepts : StoresAreAccepted)
+    (apart : (s : Super) → IsFaultless s → (page : ℕ) → IsMaskPage s page → StandsApart s page)
     (law : IsTrue d.tells → Telling d.now d.images d.since d.clock) (stops : StopLaws) (b : WithOpening D)
     (kept : StoreInvariant d b) {K : Type 0} (k : sink.Ghosts K) (out : K) where
   abbrev first : StoreView D
@@ -26,8 +36,9 @@ module _ {D : Type 0} (d : Ghosts D) (accepts : StoresAreAccepted)
   unlogged : (how : RepairsEnd) → EndsRepairs d first b.at how → b.at.log ≡ []
   unlogged how ends = ends.made.unlogged ∙ kept.began.log
 
-  adds : AddsNoImage d b.at.disk b.at.disk
-  adds = closing_adds d b.at.disk b.at.disk law 0 (Some 0) (Some 0) (refl, refl)
+  -- the store is not unloaded then
+  alone : Unloads d (super_left b.at.clean b.at.super) none b.at.disk b.at.disk
+  alone = left_alone d (super_left b.at.clean b.at.super) none b.at.disk law
 
   repaired : (how : RepairsEnd) → EndsRepairs d first b.at how → Repaired d k out out b.at.disk first
   repaired how ends = record {
@@ -36,7 +47,7 @@ module _ {D : Type 0} (d : Ghosts D) (accepts : StoresAreAccepted)
     device = refl;
     quiet = refl;
     unlogged = unlogged how ends;
-    survives = survives d accepts law b kept b.at.disk adds;
+    survives = survives d accepts apart law b kept none b.at.disk alone;
   }
 
   abbrev IsEnded : Option Status → Type 0

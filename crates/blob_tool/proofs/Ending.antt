@@ -18,7 +18,7 @@ use Rattle.std.proofs.Common.{
   subst,
 }
 use Rattle.std.proofs.Common.{◌∙◌, inl, inr}
-use Rattle.page_disk.specs.Disk.{Only, Rose}
+use Rattle.page_disk.specs.Disk.{Rose}
 use Rattle.page_disk.specs.declared.disk.PageDisk as disk
 use Rattle.streams.specs.declared.source.Source as source
 use Rattle.streams.specs.declared.sink.Sink as sink
@@ -38,7 +38,8 @@ use Rattle.streams.specs.declared.printing.PrintFault.{PrintFault}
 use Rattle.streams.specs.declared.printing.PrintFault.TheVariants as printing
 use Rattle.blob_tool.specs.Statuses.{of_loading, of_run}
 use Rattle.blob_tool.specs.Runs.{Ended, EndedFrom, IsLoaded, Played}
-use Rattle.blob_tool.specs.Closing.{Closes}
+use Rattle.blob_tool.specs.Closing.{Closes, IsClosed}
+use Rattle.running_store.specs.Running.{super_left}
 use Rattle.blob_tool.specs.Surviving.{IsLasting}
 use Rattle.store_model.specs.StoreState.{shown}
 use Rattle.script_lang.specs.declared.schedule.Actor.{Actor}
@@ -53,15 +54,15 @@ module _ {D : Type 0} (d : disk.Ghosts D) (script : List (List Command)) (schedu
   -- how a run ended, by where it stopped or was closed and how much was printed
   pub ends : (p : Played d script schedule from k out out_now back first) (stopped ended : Option ℕ)
       (printed : Result (Unit {0}) PrintFault) → p.last.stopped ≡ stopped
-      → Closes d p.last.disk back (length p.last.log) stopped ended
-      → ((IsTrue d.tells → Only (d.now back) (d.images back)) → p.last.stopped ≡ None → HasOneImage d first.disk
-      → IsLasting d first.super (shown (state_of d first)) p.last back)
+      → Closes d (super_left p.last.clean p.last.super) p.masks p.last.disk back (length p.last.log) stopped ended
+      → (IsClosed d (super_left p.last.clean p.last.super) p.masks p.last.disk back → p.last.stopped ≡ None
+      → HasOneImage d first.disk → IsLasting d first.super (shown (state_of d first)) p.last back)
       → (IsTrue k.tells → OnOk printed (k.written out_now ≡ k.written out ++ printed_text from p.last.log))
       → (printed ≡ Err printing.Sink → Rose (k.faults out) (k.faults out_now))
       → Ended d script schedule from k out out_now back first (of_run ended printed)
   ends p stopped ended (Err printing.Memory) is closes lasts whole rose = p
-  ends p None None (Err printing.Sink) is closes lasts whole rose = (p, (is, lasts closes.lasting is), rose refl)
-  ends p None None (Ok done) is closes lasts whole rose = (p, (is, lasts closes.lasting is), whole)
+  ends p None None (Err printing.Sink) is closes lasts whole rose = (p, (is, lasts closes is), rose refl)
+  ends p None None (Ok done) is closes lasts whole rose = (p, (is, lasts closes is), whole)
   ends p None (Some at) (Err printing.Sink) is closes lasts whole rose =
       (p, inr (is, closes.0, closes.2), inr (rose refl))
   ends p None (Some at) (Ok done) is closes lasts whole rose = (p, inr (is, closes.0, closes.2), inl whole)

@@ -5,6 +5,7 @@ use Rattle.std.specs.FinMap as map
 use Rattle.page_disk.specs.Disk.{Rose}
 use Rattle.page_disk.specs.declared.disk.PageDisk as disk
 use Rattle.super_block.specs.Page.{super_of}
+use Rattle.super_block.specs.declared.masks.Masks.{Masks}
 use Rattle.volume_model.specs.Logs.{replay, IsLegal, Interleaves}
 use Rattle.volume_model.specs.declared.command.Command.{Command}
 use Rattle.volume_model.specs.declared.reply.Reply.TheVariants as r
@@ -21,6 +22,8 @@ use Rattle.store_model.specs.StoreState.{Opens, shown}
 use Rattle.store_model.specs.Cases.{Kind, Run}
 use Rattle.running_store.specs.declared.loaded.Loaded.{Loaded}
 use Rattle.store_core.specs.Opening.{IsOpened}
+use Rattle.running_store.specs.LoadedWhole.{AreMasks}
+use Rattle.running_store.specs.Running.{super_left}
 use Rattle.running_store.specs.StoreView.{StoreView, base_of, rows_of, state_of}
 use Rattle.running_store.specs.Surviving.{HasOneImage}
 use Rattle.running_store.specs.Recovered.{IsLoadedFrom}
@@ -35,7 +38,7 @@ use Rattle.run_moves.specs.DriverSteps.{StoreFollows}
 use Rattle.channels.specs.Actors.{actors_in_run}
 use Rattle.channels.specs.RunEnds.{ended_row}
 use Rattle.streams.specs.Printing.{IsPartOf}
-use Rattle.blob_tool.specs.Closing.{AddsNoImage}
+use Rattle.blob_tool.specs.Closing.{Unloads}
 use Rattle.blob_tool.specs.Repairing.{AreMade, EndedInRepair}
 use Rattle.blob_tool.specs.Surviving.{IsLasting, RunSurvives}
 use Rattle.blob_tool.specs.Found.{IsFound}
@@ -85,12 +88,15 @@ module _ {D : Type 0} (d : disk.Ghosts D) (script : List (List Command)) where
 
     -- what is printed of the log depends on which script it is
     module _ (from : RunScript) {K : Type 0} (k : sink.Ghosts K) (out out_now : K) (back : D) where
-      -- a run from this state, whose device was flushed at most behind it and is handed back, and of the text of its
-      -- log as much as was printed
+      -- a run from this state, behind which the store was unloaded at most, with the masks that its metadata claims, and
+      -- the device is handed back; and of the text of its log as much as was printed
       pub record Played (first : StoreView D) : Type 0 where
         pub last : StoreView D
         pub run : IsRun first last
-        pub device : AddsNoImage d last.disk back
+        pub masks : Masks
+        pub claims : last.stopped ≡ None
+            → AreMasks last.super (base_of last.metas last.marked) (map.get last.chains) masks
+        pub device : Unloads d (super_left last.clean last.super) masks last.disk back
         -- power may fail at any moment, of a device that had one image
         pub survives : HasOneImage d first.disk → RunSurvives d first.super (shown (state_of d first)) last back
         pub printed : IsTrue k.tells → IsPartOf (k.written out) (k.written out_now) (printed_text from last.log)
@@ -104,8 +110,7 @@ module _ {D : Type 0} (d : disk.Ghosts D) (script : List (List Command)) where
       IsWhole {first} p = (p.last.stopped ≡ None)
           × (HasOneImage d first.disk → IsLasting d first.super (shown (state_of d first)) p.last back)
 
-      -- The store stopped there, and the device was left alone from then on; or, behind all entries, the flush that
-      -- closes the run failed.
+      -- The store stopped there, and the device was left alone from then on; or, behind all entries, the unload failed.
       abbrev pub EndsAt : {first : StoreView D} → Played first → ℕ → Type 0
       EndsAt p at = ((p.last.stopped ≡ Some at) × (back ≡ p.last.disk))
           ⊎ ((p.last.stopped ≡ None) × (at ≡ length p.last.log)

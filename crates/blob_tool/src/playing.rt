@@ -25,6 +25,7 @@ use crate::reporting::report;
 use crate::run_script::RunScript;
 use crate::status::Status;
 use channels::run_stepwise;
+use clean_stop::unloaded_masks_are_read;
 use page_disk::PageDisk;
 use script_lang::Schedule;
 use std::alloc::Global;
@@ -52,8 +53,8 @@ pub(crate) fn disk_of<D>(loaded: Loaded<D>) -> D
     disk
 }
 
-/// Runs the script on a store with nothing left to repair, by a schedule, makes lasting what was written, and prints
-/// what is printed of its log.
+/// Runs the script on a store with nothing left to repair, by a schedule, unloads the store, and prints what is printed
+/// of its log.
 fn run_repaired<K: Sink, D: PageDisk>(
     alloc: Global,
     from: RunScript,
@@ -73,15 +74,16 @@ fn run_repaired<K: Sink, D: PageDisk>(
 {
     state_stops();
     stores_are_accepted();
+    unloaded_masks_are_read();
     let (plant, right, _end) = run_stepwise(alloc, plant, right, schedule);
     let stopped = plant.stopped();
     let Parts {
         mut disk,
-        sup: _,
-        masks: _,
+        mut sup,
+        masks,
         entries,
     } = plant.into_parts(right);
-    let ended = close(&mut disk, stopped, entries.len() as u32);
+    let ended = close(&mut disk, &mut sup, &masks, stopped, entries.len() as u32);
     let printed = report(alloc, from, entries.as_slice(), out);
     (Status::of_run(ended, printed), disk)
 }
@@ -102,8 +104,8 @@ fn device_left<D: PageDisk>(plant: Plant<D>, right: MdRight) -> D
     disk
 }
 
-/// Opens a loaded store, makes its repairs, and then runs the script on it by a schedule, makes lasting what was
-/// written, and prints what is printed of its log.
+/// Opens a loaded store, makes its repairs, and then runs the script on it by a schedule, unloads the store, and prints
+/// what is printed of its log.
 pub(crate) fn play<K: Sink, D: PageDisk>(
     alloc: Global,
     from: RunScript,
@@ -123,6 +125,7 @@ pub(crate) fn play<K: Sink, D: PageDisk>(
 {
     state_stops();
     stores_are_accepted();
+    unloaded_masks_are_read();
     let (mut plant, mut right) = match Plant::start(alloc, loaded, script) {
         Ok(made) => made,
         Err(loaded) => return (Status::Memory, disk_of(loaded)),

@@ -132,7 +132,7 @@ fn a_put_without_page_leaves_the_device_alone(rt: HostRuntime) -> Result<(), Fai
         let disk = volume(alloc, md_pages)?;
         let written = disk.clock();
         let disk = play(alloc, &script, b"0 0 no page\n", disk)?;
-        // The flush at the end of a run is the one call.
+        // No job was made: the flush at the end of the run is the one call.
         assert_eq!(rt; Some(disk.clock()), written.checked_add(1));
     }
     Ok(())

@@ -104,6 +104,7 @@ module _ (tells : Bool) (p q : StoreState) where
       (λ serial other was is. cc was))
   row_steps stands kind.begins t = let x = t.posted in one_row p q _ t.next x.channel _ refl
       (on x.channel (x.command ∷ x.rest) (Posted x.serial) None InJob None x.row tt tt (λ serial other was is. cc is))
+  row_steps stands kind.marks_dirty t = no_row p q _ t.next refl
   row_steps stands kind.zeroes t = no_row p q _ t.next refl
   row_steps stands kind.writes t = no_row p q _ t.next refl
   row_steps stands kind.commits t = let x = t.served in one_row p q _ t.next x.channel _ refl

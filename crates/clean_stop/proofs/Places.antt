@@ -3,11 +3,12 @@ use Rattle.std.proofs.Common.{ℕ, ◌+◌, ◌*◌, ◌<◌, ◌≤◌, true, [
 use Rattle.std.proofs.Math.Nat.{mul-le-mul_right}
 use Rattle.std.proofs.lemmas.Bool.{cases_lt, leb-true}
 use Rattle.bit_array.specs.Mask.{mask_pages}
-use Rattle.clean_stop.specs.Masks.{IsMaskPage}
+use Rattle.clean_stop.specs.Masks.{IsMaskPage, StandsApart}
 use Rattle.page_runs.specs.Writing.{IsBetween}
 use Rattle.super_block.specs.Faults.{short, mask_fault, IsFaultless}
 use Rattle.super_block.specs.Numbers.{cluster_pages_of, clusters_of, fixed_clusters_of, super_page, page_mask}
-use Rattle.super_block.specs.Numbers.{cluster_mask, blob_mask}
+use Rattle.super_block.specs.Numbers.{cluster_mask, blob_mask, md_region}
+use Rattle.super_block.specs.Span.{end_of}
 use Rattle.super_block.specs.Placed.{Covers, IsPlaced}
 use Rattle.super_block.specs.declared.page.Super.{Super}
 use Rattle.super_block.specs.declared.span.Span.{Span}
@@ -38,7 +39,7 @@ pub record MasksPlaced (s : Super) : Type 0 where
   pub pages_end : s.used_page_mask_start + mask_pages s.md_len ≤ s.device_pages
   pub clusters_end : s.used_cluster_mask_start + mask_pages (clusters_of s) ≤ s.device_pages
   pub blobs_end : s.used_blobid_mask_start + mask_pages s.md_len ≤ s.device_pages
-  -- no page is in two of them
+  -- no page is in two of them, or in another region
   pub pages_clusters : (page : ℕ)
       → IsBetween s.used_page_mask_start (s.used_page_mask_start + mask_pages s.md_len) page
       → IsBetween s.used_cluster_mask_start (s.used_cluster_mask_start + mask_pages (clusters_of s)) page → ⊥
@@ -49,7 +50,7 @@ pub record MasksPlaced (s : Super) : Type 0 where
       → IsBetween s.used_cluster_mask_start (s.used_cluster_mask_start + mask_pages (clusters_of s)) page
       → IsBetween s.used_blobid_mask_start (s.used_blobid_mask_start + mask_pages s.md_len) page → ⊥
   -- the super block is in none
-  pub no_super : (page : ℕ) → IsMaskPage s page → 0 < page
+  pub apart : (page : ℕ) → IsMaskPage s page → StandsApart s page
   pub some_page : 0 < s.device_pages
 
 -- a page of a region that lies apart from the super block
@@ -59,6 +60,16 @@ behind_super region page apart at = elim (cases_lt 0 page) [
   | inl lt ↦ lt
   | inr le ↦ absurd (apart (omega arith, omega (arith, le)) at)
 ]
+
+-- a page of a region that lies apart from the super block and the metadata region, in the fixed clusters
+stands_apart : (s : Super) (region : Span) (page : ℕ) → (Covers super_page page → Covers region page → ⊥)
+    → (Covers region page → Covers (md_region s) page → ⊥)
+    → end_of region ≤ fixed_clusters_of s * cluster_pages_of s → Covers region page → StandsApart s page
+stands_apart s region page no_super no_metadata end at = record {
+  behind_super = behind_super region page no_super at;
+  no_metadata = λ q low is. no_metadata at (omega (arith, is), omega (arith, is, low));
+  fixed = let below = at.1 in omega (arith, end, below);
+}
 
 pub masks_placed : (s : Super) → IsFaultless s → IsPlaced s → MasksPlaced s
 masks_placed s none placed =
@@ -78,14 +89,17 @@ masks_placed s none placed =
       clusters_blobs =
           λ page a b. placed.apart 2 3 super_page (omega arith) (omega arith) page
           (a.0, omega (arith, a, long.clusters)) (b.0, omega (arith, b, long.blobs));
-      no_super =
+      apart =
           λ page at. ⊎_elim
-          (λ a. behind_super (page_mask s) page (placed.apart 0 1 super_page (omega arith) (omega arith) page)
+          (λ a. stands_apart s (page_mask s) page (placed.apart 0 1 super_page (omega arith) (omega arith) page)
+          (placed.apart 1 4 super_page (omega arith) (omega arith) page) placed.page_mask_end
           (a.0, omega (arith, a, long.pages)))
           (⊎_elim
-          (λ a. behind_super (cluster_mask s) page (placed.apart 0 2 super_page (omega arith) (omega arith) page)
+          (λ a. stands_apart s (cluster_mask s) page (placed.apart 0 2 super_page (omega arith) (omega arith) page)
+          (placed.apart 2 4 super_page (omega arith) (omega arith) page) placed.cluster_mask_end
           (a.0, omega (arith, a, long.clusters)))
-          (λ a. behind_super (blob_mask s) page (placed.apart 0 3 super_page (omega arith) (omega arith) page)
+          (λ a. stands_apart s (blob_mask s) page (placed.apart 0 3 super_page (omega arith) (omega arith) page)
+          (placed.apart 3 4 super_page (omega arith) (omega arith) page) placed.blob_mask_end
           (a.0, omega (arith, a, long.blobs))))
           at;
       some_page = omega (arith, fixed, long.pages, placed.page_mask_end, placed.on_device);

@@ -1,11 +1,11 @@
 -- The three masks of a store on its device.
-use Rattle.std.specs.Prelude.{◌≡◌, ◌⊎◌, ℕ, ◌+◌, ◌<◌, Bool, List, None, length, map}
+use Rattle.std.specs.Prelude.{◌≡◌, ◌≢◌, ◌⊎◌, ℕ, ◌+◌, ◌*◌, ◌<◌, Bool, List, None, length, map}
 use Rattle.std.specs.List.{concat, range_with_len}
 use Rattle.bit_array.specs.Fault.{head_fault}
 use Rattle.bit_array.specs.Mask.{bits_in, mask_pages, mask_text, text_page}
 use Rattle.page_disk.specs.Disk.{Image}
 use Rattle.page_runs.specs.Writing.{IsBetween}
-use Rattle.super_block.specs.Numbers.{clusters_of}
+use Rattle.super_block.specs.Numbers.{cluster_pages_of, clusters_of, fixed_clusters_of}
 use Rattle.super_block.specs.declared.masks.Masks.{Masks}
 use Rattle.super_block.specs.declared.page.Super.{Super}
 
@@ -49,3 +49,9 @@ IsMaskPage s page =
     IsBetween s.used_page_mask_start (s.used_page_mask_start + mask_pages s.md_len) page
     ⊎ (IsBetween s.used_cluster_mask_start (s.used_cluster_mask_start + mask_pages (clusters_of s)) page
     ⊎ IsBetween s.used_blobid_mask_start (s.used_blobid_mask_start + mask_pages s.md_len) page)
+
+-- The page lies behind the super block and in the fixed clusters, and is none of the metadata region.
+pub record StandsApart (s : Super) (page : ℕ) : Type 0 where
+  pub behind_super : 0 < page
+  pub no_metadata : (q : ℕ) → q < s.md_len → s.md_start + q ≢ page
+  pub fixed : page < fixed_clusters_of s * cluster_pages_of s

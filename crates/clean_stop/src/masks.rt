@@ -36,7 +36,7 @@ fn write_mask<D: PageDisk>(disk: &mut D, start: u32, kind: u8, bits: &Bits) -> R
 /// Writes the masks where the super block places them. Pages of their regions behind them stay.
 pub fn write_masks<D: PageDisk>(disk: &mut D, sup: &Super, masks: &Masks) -> Result<(), DiskFault>
     requires faultless { IsFaultless sup.now }
-    requires device { sup.now.device_pages ≡ D.pages disk.old }
+    requires device { sup.now.device_pages ≤ D.pages disk.old }
     requires masks { MasksFit sup.now masks.now }
     ensures masks { IsTrue D.tells → OnOk result (HasMasks sup.now masks.now (D.now disk.new)) }
     ensures only { WritesOnly D.PageDisk (IsMaskPage sup.now) disk.old disk.new }

@@ -18,7 +18,7 @@ use super_block::{Masks, Super, regions_are_placed};
 /// is the answer; `sup` is then as it was.
 pub fn mark_dirty<D: PageDisk>(disk: &mut D, sup: &mut Super) -> Result<(), DiskFault>
     requires faultless { IsFaultless sup.old }
-    requires device { sup.old.device_pages ≡ D.pages disk.old }
+    requires device { sup.old.device_pages ≤ D.pages disk.old }
 
     ensures dirty { OnOk result (sup.new ≡ with_clean 0 sup.old) }
     ensures kept { OnErr result (sup.new ≡ sup.old) }
@@ -48,7 +48,7 @@ pub fn mark_dirty<D: PageDisk>(disk: &mut D, sup: &mut Super) -> Result<(), Disk
 /// and one flush makes lasting what was written. The first call that fails is the answer; `sup` is then as it was.
 pub fn unload<D: PageDisk>(disk: &mut D, sup: &mut Super, masks: &Masks) -> Result<(), DiskFault>
     requires faultless { IsFaultless sup.old }
-    requires device { sup.old.device_pages ≡ D.pages disk.old }
+    requires device { sup.old.device_pages ≤ D.pages disk.old }
     requires masks { MasksFit sup.old masks.now }
 
     ensures clean { OnOk result (sup.new ≡ with_clean 1 sup.old) }

@@ -18,7 +18,7 @@ pub fn replace_super<D: PageDisk>(
     clean: u32,
 ) -> Result<(), DiskFault>
     requires faultless { IsFaultless sup.old }
-    requires device { sup.old.device_pages ≡ D.pages disk.old }
+    requires device { sup.old.device_pages ≤ D.pages disk.old }
     ensures set { OnOk result (sup.new ≡ with_clean clean sup.old) }
     ensures kept { OnErr result (sup.new ≡ sup.old) }
     ensures read { IsPageOf (with_clean clean sup.old) (super_bytes (with_clean clean sup.old)) }

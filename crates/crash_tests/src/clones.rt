@@ -12,14 +12,15 @@ const CLONES: Cut = Cut {
     script: b"0 clone a b\n0 put b k t:x\n0 clone a c\n",
     look: b"0 getx b name\n0 getx b k\n0 read b 0 1\n0 getx c name\n0 df\n",
     points: POINTS,
-    calls: 14,
+    calls: 23,
 };
 
 /// The metadata pages of the store, just enough. With them clusters 0 and 1 are fixed.
 const MD_PAGES: u32 = 3;
 
 /// Before the commands, and after each. Loading reads the super block, three metadata pages, and a chain of one page.
-/// No command has a fresh page behind its head: it flushes, writes the head, and flushes.
+/// No command has a fresh page behind its head: it flushes, writes the head, and flushes. The first clone marks the
+/// store as in use before, in three calls; the unload at the end makes six: 17 + 6.
 const POINTS: &[Point] = &[
     Point {
         calls: 0,
@@ -28,22 +29,25 @@ const POINTS: &[Point] = &[
             0 4 df clusters 13 of 16 pages 2 of 3\n",
         chains: &[(0, &[0])],
     },
+    // 5 + 3 + 3.
     Point {
-        calls: 8,
+        calls: 11,
         printed: b"0 0 ok @1\n",
         found: b"0 0 value 6200\n0 1 no value\n0 2 page fill 0000000000000007\n0 3 no volume\n\
             0 4 df clusters 13 of 16 pages 1 of 3\n",
         chains: &[(0, &[0]), (1, &[1])],
     },
+    // 11 + 3.
     Point {
-        calls: 11,
+        calls: 14,
         printed: b"0 0 ok @1\n0 1 ok\n",
         found: b"0 0 value 6200\n0 1 value 78\n0 2 page fill 0000000000000007\n0 3 no volume\n\
             0 4 df clusters 13 of 16 pages 1 of 3\n",
         chains: &[(0, &[0]), (1, &[1])],
     },
+    // 14 + 3.
     Point {
-        calls: 14,
+        calls: 17,
         printed: b"0 0 ok @1\n0 1 ok\n0 2 ok @2\n",
         found: b"0 0 value 6200\n0 1 value 78\n0 2 page fill 0000000000000007\n0 3 value 6300\n\
             0 4 df clusters 13 of 16 pages 0 of 3\n",

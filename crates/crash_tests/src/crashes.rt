@@ -6,17 +6,18 @@ use std::test::Fail as TestFail;
 use test_runs::{Ran, Status, expect_printed, play, run};
 use test_stores::{first_value, store};
 
-/// The device on which the third of three puts failed with its second flush, that of the head.
+/// The device on which the third of three puts failed with its second flush, that of the head. The first put marks the
+/// store as in use, with two flushes besides its own: 2 + 6.
 fn failed(alloc: Global) -> Result<Ran<FaultDisk<MemDisk>>, TestFail> {
     let puts = b"0 put @0 owner t:1\n0 put @0 owner t:2\n0 put @0 owner t:3\n";
-    let sixth = Fail {
+    let eighth = Fail {
         kind: CallKind::Flush,
-        nth: 6,
+        nth: 8,
     };
     run(
         alloc,
         puts,
-        FaultDisk::new(store(alloc)?, vec![in alloc; sixth]?),
+        FaultDisk::new(store(alloc)?, vec![in alloc; eighth]?),
     )
 }
 

@@ -54,7 +54,8 @@ const DECOUPLED: &[u8] =
 const CHAINS: &[(u32, &[u32])] = &[(0, &[0]), (1, &[1]), (2, &[2])];
 
 /// Loading reads the super block, three metadata pages, and three chains of one page. A slot makes four reads and four
-/// writes of copies, a flush, and for the head a flush, a write and a flush; so does the end for the head.
+/// writes of copies, a flush, and for the head a flush, a write and a flush; so does the end for the head. The insert
+/// of the first slot begins, behind its copies, with the mark of a store in use, three calls; the unload makes six.
 const INFLATE: Cut = Cut {
     script: b"0 inflate v\n",
     look: LOOK,
@@ -65,29 +66,29 @@ const INFLATE: Cut = Cut {
             found: NONE_FILLED,
             chains: CHAINS,
         },
-        // 7 + 8 + 1 + 3.
+        // 7 + 8 + 1 + 3 + 3.
         Point {
-            calls: 19,
+            calls: 22,
             printed: b"",
             found: ONE_FILLED,
             chains: CHAINS,
         },
-        // 19 + 8 + 1 + 3.
+        // 22 + 8 + 1 + 3.
         Point {
-            calls: 31,
+            calls: 34,
             printed: b"",
             found: BOTH_FILLED,
             chains: CHAINS,
         },
-        // 31 + 3.
+        // 34 + 3. Then the unload: 37 + 6.
         Point {
-            calls: 34,
+            calls: 37,
             printed: b"0 0 ok\n",
             found: INFLATED,
             chains: CHAINS,
         },
     ],
-    calls: 34,
+    calls: 43,
 };
 
 /// A decouple fills the slot that the direct parent's own map holds.
@@ -101,22 +102,22 @@ const DECOUPLE: Cut = Cut {
             found: NONE_FILLED,
             chains: CHAINS,
         },
-        // 7 + 8 + 1 + 3.
+        // 7 + 8 + 1 + 3 + 3.
         Point {
-            calls: 19,
+            calls: 22,
             printed: b"",
             found: ONE_FILLED,
             chains: CHAINS,
         },
-        // 19 + 3.
+        // 22 + 3. Then the unload: 25 + 6.
         Point {
-            calls: 22,
+            calls: 25,
             printed: b"0 0 ok\n",
             found: DECOUPLED,
             chains: CHAINS,
         },
     ],
-    calls: 22,
+    calls: 31,
 };
 
 /// At every moment each page is what it was, and the volume has its parent still or the inflate is done.
@@ -137,7 +138,7 @@ const LONG: Cut = Cut {
     script: b"0 inflate v\n",
     look: b"0 info v\n0 read v 0 2\n0 read v 12 1\n0 read v 16 1\n0 df\n",
     points: LONG_POINTS,
-    calls: 70,
+    calls: 79,
 };
 
 /// The chain as it was, and after each second replacement.
@@ -148,7 +149,8 @@ const ODD: &[(u32, &[u32])] = &[(0, &[0, 3, 4])];
 
 /// With six metadata pages clusters 0 to 2 are fixed. Loading reads the super block, six metadata pages, and a chain of
 /// three pages. A slot that reads as zeros makes four writes and a flush, then two fresh pages, and a flush, a write
-/// and a flush of the head; then two old pages are overwritten with zeros, and flushed.
+/// and a flush of the head; then two old pages are overwritten with zeros, and flushed. The first slot's insert marks
+/// the store before it writes a fresh page.
 const LONG_POINTS: &[Point] = &[
     Point {
         calls: 0,
@@ -158,18 +160,18 @@ const LONG_POINTS: &[Point] = &[
             0 5 df clusters 10 of 16 pages 3 of 6\n",
         chains: EVEN,
     },
-    // 10 + 4 + 1 + 2 + 3.
+    // 10 + 4 + 1 + 3 + 2 + 3.
     Point {
-        calls: 20,
+        calls: 23,
         printed: b"",
         found: b"0 0 volume @0 v slots 7 parent - thin rw xattrs 3\n0 1 page fill 0000000000000000\n\
             0 2 page fill 0000000000000000\n0 3 page fill 0000000000000000\n0 4 page fill 0000000000000000\n\
             0 5 df clusters 9 of 16 pages 3 of 6\n",
         chains: ODD,
     },
-    // 20 + 3 + 4 + 1 + 2 + 3.
+    // 23 + 3 + 4 + 1 + 2 + 3.
     Point {
-        calls: 33,
+        calls: 36,
         printed: b"",
         found: b"0 0 volume @0 v slots 7 parent - thin rw xattrs 3\n0 1 page fill 0000000000000000\n\
             0 2 page fill 0000000000000000\n0 3 page fill 0000000000000000\n0 4 page fill 0000000000000000\n\
@@ -177,7 +179,7 @@ const LONG_POINTS: &[Point] = &[
         chains: EVEN,
     },
     Point {
-        calls: 46,
+        calls: 49,
         printed: b"",
         found: b"0 0 volume @0 v slots 7 parent - thin rw xattrs 3\n0 1 page fill 0000000000000000\n\
             0 2 page fill 0000000000000000\n0 3 page fill 0000000000000000\n0 4 page fill 0000000000000000\n\
@@ -185,16 +187,16 @@ const LONG_POINTS: &[Point] = &[
         chains: ODD,
     },
     Point {
-        calls: 59,
+        calls: 62,
         printed: b"",
         found: b"0 0 volume @0 v slots 7 parent - thin rw xattrs 3\n0 1 page fill 0000000000000000\n\
             0 2 page fill 0000000000000000\n0 3 page fill 0000000000000000\n0 4 page fill 0000000000000000\n\
             0 5 df clusters 6 of 16 pages 3 of 6\n",
         chains: EVEN,
     },
-    // 59 + 3 + 2 + 3. Then two old pages: 67 + 3.
+    // 62 + 3 + 2 + 3. Then two old pages, and the unload: 70 + 3 + 6.
     Point {
-        calls: 67,
+        calls: 70,
         printed: b"0 0 ok\n",
         found: b"0 0 volume @0 v slots 7 parent - thick rw xattrs 3\n0 1 page fill 0000000000000000\n\
             0 2 page fill 0000000000000000\n0 3 page fill 0000000000000000\n0 4 page fill 0000000000000000\n\

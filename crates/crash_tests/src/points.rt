@@ -3,7 +3,7 @@
 use page_disk::{FaultDisk, MemDisk};
 use std::alloc::Global;
 use std::test::Fail;
-use test_runs::{Ran, play, run};
+use test_runs::{Ran, Status, play, run};
 use test_stores::{ChainRow, expect_chains};
 
 /// What stands once some of the commands are done: how many calls of the device were made until the head of the last
@@ -16,8 +16,11 @@ pub struct Point {
     pub chains: &'static [ChainRow<'static>],
 }
 
-/// A script, a look at what it leaves, its points, before the commands and after each, and the calls of the whole run
-/// but for the flush that closes it.
+/// A script, a look at what it leaves, its points, before the commands and after each, and the calls of the whole run.
+///
+/// The first job of a run begins with the mark of a store in use, three calls: a flush, the super block's write and a
+/// flush. The run ends with the unload of the store, six calls: the pages of its three masks, a flush, the super
+/// block's write, and a flush.
 #[derive(Clone, Copy)]
 pub struct Cut {
     pub script: &'static [u8],
@@ -42,13 +45,13 @@ fn count_of_ok(printed: &[u8]) -> usize {
     printed.iter().filter(|b| **b == b'k').count()
 }
 
-/// The disk after so many calls of the device, with as many commands done as are answered so.
+/// The disk after so many calls of the device, with as many commands done as are answered so. The run ends well with
+/// all its calls alone.
 fn stopped(alloc: Global, cut: &Cut, calls: u64, disk: MemDisk) -> Result<MemDisk, Fail> {
-    let Ran {
-        status: _,
-        out,
-        disk,
-    } = run(alloc, cut.script, FaultDisk::stopping(disk, calls))?;
+    let Ran { status, out, disk } = run(alloc, cut.script, FaultDisk::stopping(disk, calls))?;
+    if matches!(status, Status::Good) != (calls >= cut.calls) {
+        return Err(Fail::new(format_args!("{calls} calls ended with {status:?}")));
+    }
     let printed = point_at(cut.points, calls)?.printed;
     if !out.bytes().starts_with(printed) || count_of_ok(out.bytes()) != count_of_ok(printed) {
         return Err(Fail::new(format_args!("others are answered in {calls} calls")));

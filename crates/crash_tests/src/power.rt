@@ -4,7 +4,7 @@ use page_disk::{FaultDisk, MemDisk};
 use std::alloc::Global;
 use std::test::Fail;
 use test_lines::{Letters, push_long, push_told};
-use test_runs::{Ran, play, run};
+use test_runs::{Ran, Status, play, run};
 use test_stores::{LAST, THICK, expect_chains, expect_written, image};
 
 /// What stands once some of the puts are done: how many calls of the device were made until the head of the last one
@@ -30,7 +30,8 @@ const PUTS: [(&[u8], Letters); 5] = [
 ];
 
 /// Before the puts, and after each. Loading reads six pages. A put writes each fresh page, flushes, writes the head,
-/// and flushes. Then it overwrites each old page behind the head, and flushes, if there was one.
+/// and flushes. Then it overwrites each old page behind the head, and flushes, if there was one. The first put begins
+/// with the mark of a store in use, three calls.
 const POINTS: [Point; 6] = [
     Point {
         calls: 0,
@@ -38,45 +39,46 @@ const POINTS: [Point; 6] = [
         k: None,
         j: None,
     },
-    // Nothing fresh: 6 + 3.
+    // Nothing fresh: 6 + 3 + 3.
     Point {
-        calls: 9,
+        calls: 12,
         chain: &[0],
         k: Some((b'1', 1)),
         j: None,
     },
-    // One fresh page: 9 + 1 + 3.
+    // One fresh page: 12 + 1 + 3.
     Point {
-        calls: 13,
+        calls: 16,
         chain: &[0, 1],
         k: Some((b'x', 4062)),
         j: None,
     },
-    // Two fresh pages: 13 + 2 + 3. Then one old page: 18 + 2.
+    // Two fresh pages: 16 + 2 + 3. Then one old page: 21 + 2.
     Point {
-        calls: 18,
+        calls: 21,
         chain: &[0, 2, 3],
         k: Some((b'x', 4062)),
         j: Some((b'y', 4062)),
     },
-    // One fresh page: 20 + 1 + 3. Then two old pages: 24 + 3.
+    // One fresh page: 23 + 1 + 3. Then two old pages: 27 + 3.
     Point {
-        calls: 24,
+        calls: 27,
         chain: &[0, 1],
         k: Some((b'2', 1)),
         j: Some((b'y', 4062)),
     },
-    // Nothing fresh: 27 + 3. Then one old page: 30 + 2.
+    // Nothing fresh: 30 + 3. Then one old page: 33 + 2.
     Point {
-        calls: 30,
+        calls: 33,
         chain: &[0],
         k: Some((b'2', 1)),
         j: Some((b'3', 1)),
     },
 ];
 
-/// The calls of the whole run.
-const ALL_CALLS: u64 = 32;
+/// The calls of the whole run. Behind the puts the unload writes the three masks, flushes, writes the super block, and
+/// flushes: 35 + 6.
+const ALL_CALLS: u64 = 41;
 
 /// A store of just enough metadata pages, with a blob at place 0.
 fn one_blob(alloc: Global) -> Result<MemDisk, Fail> {
@@ -119,14 +121,14 @@ fn count_of_ok(printed: &[u8]) -> usize {
     printed.iter().filter(|b| **b == b'k').count()
 }
 
-/// The disk after so many calls of the device, with as many puts done as are answered so.
+/// The disk after so many calls of the device, with as many puts done as are answered so. The run ends well with all
+/// its calls alone.
 fn stopped(alloc: Global, calls: u64) -> Result<MemDisk, Fail> {
     let disk = FaultDisk::stopping(one_blob(alloc)?, calls);
-    let Ran {
-        status: _,
-        out,
-        disk,
-    } = run(alloc, &script(alloc)?, disk)?;
+    let Ran { status, out, disk } = run(alloc, &script(alloc)?, disk)?;
+    if matches!(status, Status::Good) != (calls >= ALL_CALLS) {
+        return Err(Fail::new(format_args!("{calls} calls ended with {status:?}")));
+    }
     let done = answered(alloc, calls)?;
     if !out.bytes().starts_with(&done) || count_of_ok(out.bytes()) != count_of_ok(&done) {
         return Err(Fail::new(format_args!("other puts are answered in {calls} calls")));

@@ -3,7 +3,7 @@
 use page_disk::{FaultDisk, MemDisk};
 use std::alloc::Global;
 use std::test::Fail;
-use test_runs::{Ran, expect_printed, run};
+use test_runs::{Ran, Status, expect_printed, run};
 use test_stores::{ChainRow, expect_chains};
 
 /// A command that is done: how many calls of the device were made until then, and the page that it writes with a word.
@@ -19,7 +19,7 @@ pub struct Stand {
 }
 
 /// A script, its steps, a look that reads so many pages of a volume from the first on and asks what is free, what
-/// stands at which calls, the calls of loading, and those of the whole run.
+/// stands at which calls, the calls of loading, and those of the whole run with its unload.
 #[derive(Clone, Copy)]
 pub struct Story {
     pub script: &'static [u8],
@@ -60,13 +60,13 @@ fn printed(alloc: Global, steps: &[Step], calls: u64) -> Result<Vec<u8>, Fail> {
     Ok(lines)
 }
 
-/// The disk after so many calls of the device, with just the steps answered as done that are done by then.
+/// The disk after so many calls of the device, with just the steps answered as done that are done by then. The run ends
+/// well with all its calls alone.
 fn stopped(alloc: Global, story: &Story, calls: u64, disk: MemDisk) -> Result<MemDisk, Fail> {
-    let Ran {
-        status: _,
-        out,
-        disk,
-    } = run(alloc, story.script, FaultDisk::stopping(disk, calls))?;
+    let Ran { status, out, disk } = run(alloc, story.script, FaultDisk::stopping(disk, calls))?;
+    if matches!(status, Status::Good) != (calls >= story.calls) {
+        return Err(Fail::new(format_args!("{calls} calls ended with {status:?}")));
+    }
     expect_printed(&out, &printed(alloc, story.steps, calls)?)?;
     Ok(disk.into_inner())
 }

@@ -12,13 +12,14 @@ const FAMILY: Cut = Cut {
     script: b"0 snapshot v s\n0 clone s c\n0 read c 0 1\n0 delete s\n0 delete c\n0 delete s\n0 read v 0 1\n",
     look: b"0 list\n0 read v 0 1\n0 read s 0 1\n0 write s 0 1 1\n0 read c 0 1\n0 df\n",
     points: FAMILY_POINTS,
-    calls: 34,
+    calls: 43,
 };
 
 /// Before the commands, and after each that changes metadata. With three metadata pages clusters 0 and 1 are fixed.
 /// Loading reads the super block, three metadata pages, and a chain of one page. No head has a fresh page behind it: a
 /// replacement flushes, writes the head, and flushes. A snapshot makes four and is done with the third, a delete with a
-/// clone makes three and is done with the second.
+/// clone makes three and is done with the second. The first snapshot begins with the mark of a store in use, three
+/// calls.
 const FAMILY_POINTS: &[Point] = &[
     Point {
         calls: 0,
@@ -27,16 +28,16 @@ const FAMILY_POINTS: &[Point] = &[
             0 2 no volume\n0 3 no volume\n0 4 no volume\n0 5 df clusters 13 of 16 pages 2 of 3\n",
         chains: &[(0, &[0])],
     },
-    // 5 + 9. Then the last replacement: 14 + 3.
+    // 5 + 3 + 9. Then the last replacement: 17 + 3.
     Point {
-        calls: 14,
+        calls: 17,
         printed: b"0 0 ok @1\n",
         found: SNAPSHOT_FOUND,
         chains: &[(0, &[0]), (1, &[1])],
     },
-    // 17 + 3. Then a read.
+    // 20 + 3. Then a read.
     Point {
-        calls: 20,
+        calls: 23,
         printed: b"0 0 ok @1\n0 1 ok @2\n",
         found: b"0 0 list 3\nvolume @0 v slots 1 parent @1 thin rw xattrs 2\n\
             volume @1 s slots 1 parent - thin ro xattrs 2\nvolume @2 c slots 1 parent @1 thin rw xattrs 2\n\
@@ -44,16 +45,16 @@ const FAMILY_POINTS: &[Point] = &[
             0 4 page fill 0000000000000005\n0 5 df clusters 13 of 16 pages 0 of 3\n",
         chains: &[(0, &[0]), (1, &[1]), (2, &[2])],
     },
-    // 21 + 3.
+    // 24 + 3.
     Point {
-        calls: 24,
+        calls: 27,
         printed: b"0 0 ok @1\n0 1 ok @2\n0 2 page fill 0000000000000005\n0 3 busy 2\n0 4 ok\n",
         found: SNAPSHOT_FOUND,
         chains: &[(0, &[0]), (1, &[1])],
     },
-    // 24 + 6. Then the last replacement, and a read: 30 + 4.
+    // 27 + 6. Then the last replacement, and a read: 33 + 4. The unload makes six calls: 37 + 6.
     Point {
-        calls: 30,
+        calls: 33,
         printed: b"0 0 ok @1\n0 1 ok @2\n0 2 page fill 0000000000000005\n0 3 busy 2\n0 4 ok\n0 5 ok\n",
         found: b"0 0 list 1\nvolume @0 v slots 1 parent - thin rw xattrs 2\n0 1 page fill 0000000000000005\n\
             0 2 no volume\n0 3 no volume\n0 4 no volume\n0 5 df clusters 13 of 16 pages 2 of 3\n",
@@ -90,7 +91,7 @@ const LONG: Cut = Cut {
     script: b"0 snapshot v s\n0 delete s\n0 delete v\n",
     look: b"0 list\n0 read v 16 1\n0 df\n",
     points: LONG_POINTS,
-    calls: 47,
+    calls: 56,
 };
 
 /// With six metadata pages clusters 0 to 2 are fixed. Loading reads the super block, six metadata pages, and a chain of
@@ -104,26 +105,26 @@ const LONG_POINTS: &[Point] = &[
             0 2 df clusters 10 of 16 pages 3 of 6\n",
         chains: &[(0, &[0, 1, 2])],
     },
-    // 10 + 3 + 3 + 5. Then two old pages, and the last replacement: 21 + 3 + 3.
+    // The mark, and then 13 + 3 + 3 + 5. Then two old pages, and the last replacement: 24 + 3 + 3.
     Point {
-        calls: 21,
+        calls: 24,
         printed: b"0 0 ok @3\n",
         found: b"0 0 list 2\nvolume @0 v slots 7 parent @3 thin rw xattrs 3\n\
             volume @3 s slots 7 parent - thin ro xattrs 2\n0 1 page fill 0000000000000000\n\
             0 2 df clusters 10 of 16 pages 2 of 6\n",
         chains: &[(0, &[0, 4, 5]), (3, &[3])],
     },
-    // 27 + 3 + 5. Then two old pages, and the snapshot's head: 35 + 3 + 3.
+    // 30 + 3 + 5. Then two old pages, and the snapshot's head: 38 + 3 + 3.
     Point {
-        calls: 35,
+        calls: 38,
         printed: b"0 0 ok @3\n0 1 ok\n",
         found: b"0 0 list 1\nvolume @0 v slots 7 parent - thin rw xattrs 3\n0 1 page fill 0000000000000000\n\
             0 2 df clusters 10 of 16 pages 3 of 6\n",
         chains: &[(0, &[0, 1, 2])],
     },
-    // 41 + 3. Then two old pages: 44 + 3.
+    // 44 + 3. Then two old pages, and the unload: 47 + 3 + 6.
     Point {
-        calls: 44,
+        calls: 47,
         printed: b"0 0 ok @3\n0 1 ok\n0 2 ok\n",
         found: b"0 0 list 0\n0 1 no volume\n0 2 df clusters 13 of 16 pages 6 of 6\n",
         chains: &[],
@@ -141,13 +142,15 @@ const WRITTEN: Cut = Cut {
     script: b"0 write v 0 1 6\n0 snapshot v s\n0 delete s\n",
     look: b"0 read v 0 2\n0 read s 0 2\n",
     points: WRITTEN_POINTS,
-    calls: 27,
+    calls: 36,
 };
 
-/// How many calls are made until the snapshot's first flush is: loading takes five, and the write one.
+/// How many calls are made until the first flush of the snapshot's job is, that of the mark: loading takes five, and
+/// the write one.
 const FLUSHED: u64 = 7;
 
-/// Behind the write, and then as above: 6 + 9, and 18 + 6.
+/// Behind the write, and then as above: 6 + 3 + 9, and 21 + 6. The last replacement and the unload end the run:
+/// 27 + 3 + 6.
 const WRITTEN_POINTS: &[Point] = &[
     Point {
         calls: 0,
@@ -156,21 +159,21 @@ const WRITTEN_POINTS: &[Point] = &[
         chains: &[(0, &[0])],
     },
     Point {
-        calls: 15,
+        calls: 18,
         printed: b"0 0 ok\n0 1 ok @1\n",
         found: b"0 0 page fill 0000000000000006\n0 1 page fill 0000000000000000\n\
             0 2 page fill 0000000000000006\n0 3 page fill 0000000000000000\n",
         chains: &[(0, &[0]), (1, &[1])],
     },
     Point {
-        calls: 24,
+        calls: 27,
         printed: b"0 0 ok\n0 1 ok @1\n0 2 ok\n",
         found: b"0 0 page fill 0000000000000006\n0 1 page fill 0000000000000000\n0 2 no volume\n0 3 no volume\n",
         chains: &[(0, &[0])],
     },
 ];
 
-/// What was written before a snapshot lasts with it: each replacement begins with a flush.
+/// What was written before a snapshot lasts with it: its mark and each replacement begin with a flush.
 #[test]
 fn a_snapshot_settles_what_was_written_before_it(rt: HostRuntime) -> Result<(), Fail> {
     let alloc = rt.alloc();

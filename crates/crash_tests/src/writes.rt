@@ -11,7 +11,8 @@ use test_stores::{fill, image};
 /// Writes over pages that are settled and over others, between a flush, a put and a sync.
 ///
 /// Loading reads the super block, two metadata pages, and a chain of one page. A write is one call, as a flush is; a
-/// put and a sync flush, write the head, and flush. The last call is the flush that closes the run.
+/// put and a sync flush, write the head, and flush. The put is the first job of the run: it begins with the mark of a
+/// store in use, three calls. The unload that ends the run makes six: 24 + 6.
 const IN_PLACE: Story = Story {
     script: b"0 write a 0 2 1\n0 flush\n0 write a 0 1 3\n0 write a 0 1 4\n0 write a 2 1 5\n0 put a k t:x\n\
         0 write a 2 1 6\n0 write a 3 1 7\n0 write a 3 1 8\n0 sync a\n0 write a 1 1 9\n0 write a 0 1 10\n",
@@ -22,13 +23,14 @@ const IN_PLACE: Story = Story {
         (8, Some((0, 3))),
         (9, Some((0, 4))),
         (10, Some((2, 5))),
-        (13, None),
-        (14, Some((2, 6))),
-        (15, Some((3, 7))),
-        (16, Some((3, 8))),
-        (19, None),
-        (20, Some((1, 9))),
-        (21, Some((0, 10))),
+        // 10 + 3 + 3.
+        (16, None),
+        (17, Some((2, 6))),
+        (18, Some((3, 7))),
+        (19, Some((3, 8))),
+        (22, None),
+        (23, Some((1, 9))),
+        (24, Some((0, 10))),
     ],
     look: b"0 read a 0 4\n0 df\n",
     pages: 4,
@@ -38,7 +40,7 @@ const IN_PLACE: Story = Story {
         chains: &[(0, &[0])],
     }],
     loading: 4,
-    calls: 22,
+    calls: 30,
 };
 
 /// A store of so many metadata pages, where the clusters that are claimed first have other bytes than zeros, with a
@@ -59,14 +61,17 @@ fn each_crash_leaves_the_settled_pages(rt: HostRuntime) -> Result<(), Fail> {
 /// Writes to two empty slots, the first of them flushed.
 ///
 /// A write to an empty slot makes four writes of copies, a flush, and a flush, a write and a flush of the head; then it
-/// writes its page.
+/// writes its page. Between the first slot's copies and its head is the mark of the store, three calls.
 const INTO_EMPTY: Story = Story {
     script: b"0 write a 1 1 7\n0 flush\n0 write a 4 1 8\n0 put a k t:x\n",
     steps: &[
-        (13, Some((1, 7))),
-        (14, None),
-        (23, Some((4, 8))),
-        (26, None),
+        // 4 + 5 + 3 + 3 + 1.
+        (16, Some((1, 7))),
+        (17, None),
+        // 17 + 5 + 3 + 1.
+        (26, Some((4, 8))),
+        // 26 + 3. Then the unload: 29 + 6.
+        (29, None),
     ],
     look: b"0 read a 0 8\n0 df\n",
     pages: 8,
@@ -77,18 +82,18 @@ const INTO_EMPTY: Story = Story {
             chains: &[(0, &[0])],
         },
         Stand {
-            calls: 12,
+            calls: 15,
             free: "0 8 df clusters 13 of 16 pages 1 of 2",
             chains: &[(0, &[0])],
         },
         Stand {
-            calls: 22,
+            calls: 25,
             free: "0 8 df clusters 12 of 16 pages 1 of 2",
             chains: &[(0, &[0])],
         },
     ],
     loading: 4,
-    calls: 27,
+    calls: 35,
 };
 
 #[test]
@@ -101,11 +106,11 @@ fn each_crash_leaves_a_slot_empty_or_filled(rt: HostRuntime) -> Result<(), Fail>
 /// A write to an empty slot of a volume with a chain of three pages, and one beside it.
 ///
 /// Loading reads the super block, five metadata pages, and a chain of three pages. Behind the four copies and their
-/// flush an insert writes two fresh pages, flushes, writes the head, and flushes; then it overwrites two old pages, and
-/// flushes.
+/// flush the insert marks the store, writes two fresh pages, flushes, writes the head, and flushes: 9 + 5 + 3 + 2 + 3.
+/// Then it overwrites two old pages, and flushes: 22 + 3. Two writes, a flush and the unload end the run: 25 + 3 + 6.
 const ON_LONG_CHAIN: Story = Story {
     script: b"0 write a 1 1 7\n0 write a 2 1 8\n0 flush\n",
-    steps: &[(23, Some((1, 7))), (24, Some((2, 8))), (25, None)],
+    steps: &[(26, Some((1, 7))), (27, Some((2, 8))), (28, None)],
     look: b"0 read a 0 4\n0 df\n",
     pages: 4,
     stands: &[
@@ -115,13 +120,13 @@ const ON_LONG_CHAIN: Story = Story {
             chains: &[(0, &[0, 1, 2])],
         },
         Stand {
-            calls: 19,
+            calls: 22,
             free: "0 4 df clusters 12 of 16 pages 2 of 5",
             chains: &[(0, &[0, 3, 4])],
         },
     ],
     loading: 9,
-    calls: 26,
+    calls: 34,
 };
 
 /// A store whose thin volume `a` of one slot has a chain of three pages.

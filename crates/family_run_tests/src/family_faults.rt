@@ -32,27 +32,36 @@ const BOTH: &[u8] = b"0 0 list 2\nvolume @0 v slots 1 parent @1 thin rw xattrs 2
 /// later run finds.
 type FailedCall = (CallKind, u64, u32, bool, &'static [u8]);
 
-/// Each replacement is a flush, the head's write, and a flush. The snapshot makes four, the third of which is its
-/// commit; the delete makes three, the second of which is its commit. A commit that is written and not flushed is found
-/// done. Whatever fails behind a commit, its command is answered.
-const FAILED_CALLS: [FailedCall; 17] = [
+/// The snapshot begins with the mark of a store in use: a flush, a write and a flush. Each replacement is a flush, the
+/// head's write, and a flush. The snapshot makes four, the third of which is its commit; the delete makes three, the
+/// second of which is its commit. A commit that is written and not flushed is found done. Whatever fails behind a
+/// commit, its command is answered. Behind all answers the unload makes the writes 9 to 11 of the masks, a flush, a
+/// write and a flush.
+const FAILED_CALLS: [FailedCall; 24] = [
     (CallKind::Flush, 1, 0, true, ALONE),
     (CallKind::Write, 1, 0, true, ALONE),
     (CallKind::Flush, 2, 0, true, ALONE),
+    (CallKind::Flush, 3, 0, true, ALONE),
     (CallKind::Write, 2, 0, true, ALONE),
     (CallKind::Flush, 4, 0, true, ALONE),
-    (CallKind::Flush, 5, 0, true, ALONE),
     (CallKind::Write, 3, 0, true, ALONE),
-    (CallKind::Flush, 6, 0, true, BOTH),
-    (CallKind::Flush, 7, 1, false, BOTH),
-    (CallKind::Write, 4, 1, false, BOTH),
-    (CallKind::Flush, 9, 2, true, BOTH),
-    (CallKind::Write, 5, 2, true, BOTH),
+    (CallKind::Flush, 6, 0, true, ALONE),
+    (CallKind::Flush, 7, 0, true, ALONE),
+    (CallKind::Write, 4, 0, true, ALONE),
+    (CallKind::Flush, 8, 0, true, BOTH),
+    (CallKind::Flush, 9, 1, false, BOTH),
+    (CallKind::Write, 5, 1, false, BOTH),
+    (CallKind::Flush, 11, 2, true, BOTH),
     (CallKind::Write, 6, 2, true, BOTH),
-    (CallKind::Flush, 12, 2, true, ALONE),
-    (CallKind::Flush, 13, 3, false, ALONE),
-    (CallKind::Write, 7, 3, false, ALONE),
-    (CallKind::Flush, 14, 3, false, ALONE),
+    (CallKind::Write, 7, 2, true, BOTH),
+    (CallKind::Flush, 14, 2, true, ALONE),
+    (CallKind::Flush, 15, 3, false, ALONE),
+    (CallKind::Write, 8, 3, false, ALONE),
+    (CallKind::Flush, 16, 3, false, ALONE),
+    (CallKind::Write, 9, 4, false, ALONE),
+    (CallKind::Flush, 17, 4, false, ALONE),
+    (CallKind::Write, 12, 4, false, ALONE),
+    (CallKind::Flush, 18, 4, false, ALONE),
 ];
 
 /// What is printed where so many commands are answered before the store stops, and the next one meets what failed, or

@@ -94,28 +94,33 @@ fn a_failed_read_ends_a_fill_and_keeps_what_is_filled(rt: HostRuntime) -> Result
 type FailedCall = (&'static str, CallKind, u64, u32, &'static str);
 
 /// The first slot is that of the snapshot, which a decouple fills; the second one is empty in both. A slot makes four
-/// writes of copies and a flush, and then a flush, a write and a flush of the head; so does the end for the head.
-const FAILED_CALLS: [FailedCall; 20] = [
+/// writes of copies and a flush, and then a flush, a write and a flush of the head; so does the end for the head. The
+/// insert of the first slot is the first job of the run: between its copies and its head the store is marked as in use,
+/// by the flushes 2 and 3 and the write 5.
+const FAILED_CALLS: [FailedCall; 23] = [
     ("inflate", CallKind::Write, 1, 10, "@1 thin"),
     ("inflate", CallKind::Write, 4, 10, "@1 thin"),
     ("inflate", CallKind::Flush, 1, 10, "@1 thin"),
     ("inflate", CallKind::Flush, 2, 10, "@1 thin"),
     ("inflate", CallKind::Write, 5, 10, "@1 thin"),
-    ("inflate", CallKind::Flush, 3, 9, "@1 thin"),
-    ("inflate", CallKind::Write, 6, 9, "@1 thin"),
-    ("inflate", CallKind::Write, 9, 9, "@1 thin"),
-    ("inflate", CallKind::Flush, 4, 9, "@1 thin"),
+    ("inflate", CallKind::Flush, 3, 10, "@1 thin"),
+    ("inflate", CallKind::Flush, 4, 10, "@1 thin"),
+    ("inflate", CallKind::Write, 6, 10, "@1 thin"),
     ("inflate", CallKind::Flush, 5, 9, "@1 thin"),
+    ("inflate", CallKind::Write, 7, 9, "@1 thin"),
     ("inflate", CallKind::Write, 10, 9, "@1 thin"),
-    ("inflate", CallKind::Flush, 6, 8, "@1 thin"),
-    ("inflate", CallKind::Flush, 7, 8, "@1 thin"),
-    ("inflate", CallKind::Write, 11, 8, "@1 thin"),
-    ("inflate", CallKind::Flush, 8, 8, "- thick"),
-    ("decouple", CallKind::Write, 5, 10, "@1 thin"),
-    ("decouple", CallKind::Flush, 3, 9, "@1 thin"),
-    ("decouple", CallKind::Flush, 4, 9, "@1 thin"),
-    ("decouple", CallKind::Write, 6, 9, "@1 thin"),
-    ("decouple", CallKind::Flush, 5, 9, "- thin"),
+    ("inflate", CallKind::Flush, 6, 9, "@1 thin"),
+    ("inflate", CallKind::Flush, 7, 9, "@1 thin"),
+    ("inflate", CallKind::Write, 11, 9, "@1 thin"),
+    ("inflate", CallKind::Flush, 8, 8, "@1 thin"),
+    ("inflate", CallKind::Flush, 9, 8, "@1 thin"),
+    ("inflate", CallKind::Write, 12, 8, "@1 thin"),
+    ("inflate", CallKind::Flush, 10, 8, "- thick"),
+    ("decouple", CallKind::Write, 6, 10, "@1 thin"),
+    ("decouple", CallKind::Flush, 5, 9, "@1 thin"),
+    ("decouple", CallKind::Flush, 6, 9, "@1 thin"),
+    ("decouple", CallKind::Write, 7, 9, "@1 thin"),
+    ("decouple", CallKind::Flush, 7, 9, "- thin"),
 ];
 
 /// A thin volume of two slots, of which its snapshot holds the first.
@@ -165,9 +170,10 @@ fn a_failed_write_or_flush_of_a_fill_stops_the_store(rt: HostRuntime) -> Result<
 }
 
 /// How many steps the metadata thread has made, which write is then the other channel's and fails, and how many
-/// clusters are clear for a later run. It takes the inflate, claims, copies four pages, posts, begins its insert, makes
-/// its one turn, settles, and claims for the second slot; the last job begins with step 20.
-const STOPPED: [(u32, u64, u32); 14] = [
+/// clusters are clear for a later run. It takes the inflate, claims, copies four pages, posts, begins its insert, marks
+/// the store as in use, with a write of its own, makes the insert's one turn, settles, and claims for the second slot;
+/// the last job begins with step 21.
+const STOPPED: [(u32, u64, u32); 15] = [
     (1, 1, 9),
     (2, 1, 9),
     (3, 2, 9),
@@ -175,13 +181,14 @@ const STOPPED: [(u32, u64, u32); 14] = [
     (6, 5, 9),
     (7, 5, 9),
     (8, 5, 9),
-    (9, 6, 8),
-    (10, 6, 8),
-    (11, 6, 8),
-    (16, 10, 8),
-    (17, 10, 8),
-    (18, 11, 7),
-    (20, 11, 7),
+    (9, 6, 9),
+    (10, 7, 8),
+    (11, 7, 8),
+    (12, 7, 8),
+    (17, 11, 8),
+    (18, 11, 8),
+    (19, 12, 7),
+    (21, 12, 7),
 ];
 
 /// What comes of an inflate and a command behind it where another channel's write fails behind so many steps of the

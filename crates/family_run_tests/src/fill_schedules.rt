@@ -103,7 +103,8 @@ const BESIDE_LOOK: (&[u8], &[u8]) = (
 /// A message that is queued is taken before the fill's next turn, and an insert is served at once. Of a channel eight
 /// steps claim and copy a slot and send its insert, and two more settle it and write the page. The metadata thread
 /// takes the inflate, claims, copies four pages, posts, begins its insert, makes its one turn, settles, and claims for
-/// the next slot: eleven steps. Taking an insert, beginning it, and its job's turn are three.
+/// the next slot: eleven steps. Taking an insert, beginning it, and its job's turn are three. The first job of the run,
+/// whosever it is, has a turn more, which marks the store as in use.
 const INSERTS_GO_FIRST: [Scheduled; 6] = [
     (
         TWO_VOLUMES,
@@ -119,7 +120,7 @@ const INSERTS_GO_FIRST: [Scheduled; 6] = [
     (
         TWO_VOLUMES,
         (
-            "run store.img --schedule 0*2,m*3,1*8,m*3,1*2,2*4,m*200",
+            "run store.img --schedule 0*2,m*3,1*8,m*4,1*2,2*4,m*200",
             BESIDE,
             b"1 0 ok\n2 0 page fill 0000000000000007\n2 1 page fill 000000000000000f\n0 0 ok\n2 2 ok\n1 1 ok\n1 2 ok\n\
                 1 3 ok\n1 4 ok\n1 5 ok\n",
@@ -130,7 +131,7 @@ const INSERTS_GO_FIRST: [Scheduled; 6] = [
     (
         TWO_VOLUMES,
         (
-            "run store.img --schedule 0*2,m*12,1*8,m*3,1*2,m*200",
+            "run store.img --schedule 0*2,m*13,1*8,m*3,1*2,m*200",
             BESIDE,
             b"1 0 ok\n0 0 ok\n2 0 page fill 0000000000000007\n2 1 page fill 000000000000000f\n2 2 ok\n1 1 ok\n1 2 ok\n\
                 1 3 ok\n1 4 ok\n1 5 ok\n",
@@ -141,7 +142,7 @@ const INSERTS_GO_FIRST: [Scheduled; 6] = [
     (
         TWO_VOLUMES,
         (
-            "run store.img --schedule 0*2,1*7,m*17,1,m*2,1*3,m*200",
+            "run store.img --schedule 0*2,1*7,m*18,1,m*2,1*3,m*200",
             BESIDE,
             b"0 0 ok\n2 0 page fill 0000000000000007\n1 0 ok\n2 1 page fill 000000000000000f\n2 2 ok\n1 1 ok\n1 2 ok\n\
                 1 3 ok\n1 4 ok\n1 5 ok\n",
@@ -152,7 +153,7 @@ const INSERTS_GO_FIRST: [Scheduled; 6] = [
     (
         TWO_VOLUMES,
         (
-            "run store.img --schedule 0*2,1*8,m*5,1*2,m*200",
+            "run store.img --schedule 0*2,1*8,m*6,1*2,m*200",
             BESIDE,
             b"1 0 ok\n0 0 ok\n2 0 page fill 0000000000000007\n2 1 page fill 000000000000000f\n2 2 ok\n1 1 ok\n1 2 ok\n\
                 1 3 ok\n1 4 ok\n1 5 ok\n",
@@ -163,7 +164,7 @@ const INSERTS_GO_FIRST: [Scheduled; 6] = [
     (
         TWO_VOLUMES,
         (
-            "run store.img --schedule 0*2,m*12,2*4,1*8,m*4,1*10,m*3,1*2,m*200",
+            "run store.img --schedule 0*2,m*13,2*4,1*8,m*4,1*10,m*3,1*2,m*200",
             BESIDE,
             b"2 0 page fill 0000000000000007\n2 1 page fill 0000000000000000\n1 0 ok\n1 1 ok\n0 0 ok\n2 2 ok\n1 2 ok\n\
                 1 3 ok\n1 4 ok\n1 5 ok\n",

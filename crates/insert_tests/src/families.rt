@@ -100,7 +100,8 @@ const ORDERS: [Order; 5] = [
         chains: &[(0, &[0]), (1, &[1]), (2, &[2])],
     },
     // From the begin of a snapshot to its last turn, its commit's and the next too, the volume isn't read, written or
-    // claimed for. Its snapshot is read meanwhile.
+    // claimed for. Its snapshot is read meanwhile. The first turn of the store's first job marks it as in use, in three
+    // calls of the device; then each replacement of the snapshot has one.
     Order {
         script: b"0 write v 0 1 10\n1 snapshot v t\n2 read v 0 1\n3 write v 4 1 11\n4 read @1 0 2\n",
         nexts: &[
@@ -111,6 +112,8 @@ const ORDERS: [Order; 5] = [
             (Turn(2), "frozen"),
             (Turn(3), "frozen"),
             (Turn(4), "logged"),
+            (Job, "more"),
+            (Turn(2), "frozen"),
             (Job, "more"),
             (Turn(0), "frozen"),
             (Job, "more"),
@@ -142,6 +145,7 @@ const ORDERS: [Order; 5] = [
         chains: &[(0, &[0]), (1, &[1]), (2, &[2])],
     },
     // The parent is deleted, and the slot has its cluster: the volume isn't frozen meanwhile, and the claim is lost.
+    // The delete has the turn of the mark, and one for each of its three replacements.
     Order {
         script: b"0 write v 1 1 10\n1 delete @1\n2 read v 0 3\n3 write v 4 1 11\n",
         nexts: &[
@@ -151,6 +155,8 @@ const ORDERS: [Order; 5] = [
             (Turn(1), "posted"),
             (Begin(1), "began"),
             (Turn(2), "logged"),
+            (Job, "more"),
+            (Turn(1), "waiting"),
             (Job, "more"),
             (Turn(1), "waiting"),
             (Job, "more"),

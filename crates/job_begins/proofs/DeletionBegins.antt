@@ -1,7 +1,8 @@
 -- The begin of a delete's job, of a blob with one clone, and why it doesn't begin.
-use Rattle.std.proofs.Common.{◌≡◌, ◌≢◌, ◌∙◌, ℕ, ◌+◌, ◌-◌, ◌<◌, Bool, true, List, [], ◌∷◌, ◌++◌, length, Some, None}
+use Rattle.std.proofs.Common.{◌≡◌, ◌≢◌, ◌∙◌, ℕ, ◌+◌, ◌-◌, ◌<◌, ◌^◌, Bool, true, List, [], ◌∷◌, ◌++◌, length, Some, None}
 use Rattle.std.proofs.Common.{refl, sym, ap, append-nil, arith, inl, subst}
 use Rattle.std.specs.Prelude.{if◌then◌else◌, is_some, slice_set}
+use Rattle.std.specs.FinMap as map
 use Rattle.page_disk.specs.declared.disk.PageDisk.{Ghosts}
 use Rattle.pools.specs.Pool.{clear_in}
 use Rattle.descriptors.specs.declared.item.Item.{Item}
@@ -20,11 +21,11 @@ use Rattle.store_model.specs.Cases.{Begins, IsRefusedAtBegin}
 use Rattle.store_model.specs.Jobs.{LacksPagesFor, Needs}
 use Rattle.store_model.specs.Maps.{with_option}
 use Rattle.store_model.specs.Phases.{Committing}
-use Rattle.store_model.specs.Places.{all_set}
+use Rattle.store_model.specs.Places.{all_set, AreLeastClear}
 use Rattle.store_model.specs.RunInvariant.{RunsWell}
 use Rattle.store_model.specs.Rows.{InJob, Row}
 use Rattle.store_model.specs.Shown.{fixed_of}
-use Rattle.store_model.specs.StoreState.{shown, ForCommand, JobState, StoreState}
+use Rattle.store_model.specs.StoreState.{ForCommand, JobState, marked, shown, StoreState}
 use Rattle.store_model.proofs.ChangedLive.{deleted_commit}
 use Rattle.store_model.proofs.JobReady.{plain_zeroed}
 use Rattle.store_model.proofs.WithEntry.{option_elsewhere}
@@ -149,8 +150,7 @@ module _ {D : Type 0} (d : Ghosts D) (p : StoreView D) (running : IsRunning (sta
     }
 
     -- that its pages aren't taken is why
-    pub deletion_short : (reply : Reply) → IsShort (deletion_needs drafts) p.pages reply
-        → IsRefusedAtBegin s command reply
+    pub deletion_short : (reply : Reply) → IsShort (deletion_needs drafts) p.pages reply → IsRefusedAtBegin s command reply
     deletion_short NoPage few = lacks_pages few
     deletion_short Memory memory = lacks_memory
     deletion_short _ other = absurd other
@@ -175,8 +175,7 @@ module _ {D : Type 0} (d : Ghosts D) (p : StoreView D) (running : IsRunning (sta
     list_as = list_is d p running clean runs no_job command x it parts are channel after job on
 
     none_claimed : on.laid.first.effects.claimed ≡ []
-    none_claimed = ap (λ (q : Planned). q.effects.claimed)
-        (first_as d p running clean runs no_job command x it parts are channel after job on)
+    none_claimed = ap (λ (q : Planned). q.effects.claimed) (first_as d p running clean runs no_job command x it parts are channel after job on)
 
     -- the job, as the model has it
     abbrev as_seen : JobState
@@ -199,7 +198,7 @@ module _ {D : Type 0} (d : Ghosts D) (p : StoreView D) (running : IsRunning (sta
     begins_deletion posted same unfilled low =
         subst (λ (j : JobState). Begins s (state_of d (record p {
           rows = slice_set p.rows channel (record (rows_of p.rows channel) { stage = InJob });
-          job = Some j;
+          job = Some (marked p.clean j);
           pages = after;
         }))) seen_is
         (begins_list d p channel posted clean runs no_job (delete_job x.of it.old x.clone it.heir) commit
@@ -222,8 +221,7 @@ module _ {D : Type 0} (d : Ghosts D) (p : StoreView D) (running : IsRunning (sta
         subst (CanAllBeKept (blobs_in p)) (sym list_as)
         (delete_all_kept (fixed_of s.super) (blobs_in p) x.of x.clone it.old it.heir resolves
         (rest s running clean runs command x it) it.there it.there_too it.one
-        (unlocked s running clean runs command x it) are.effects.mark_room has (x.of ∷ on.laid.going)
-        (x.clone ∷ on.laid.taking)
+        (unlocked s running clean runs command x it) are.effects.mark_room has (x.of ∷ on.laid.going) (x.clone ∷ on.laid.taking)
         _ _ parts.besides.freed parts.old parts.old_of_clone on.laid.going)
 
 -- ---- the command is logged instead

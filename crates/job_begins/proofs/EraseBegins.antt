@@ -26,7 +26,7 @@ use Rattle.store_model.specs.Phases.{Committing}
 use Rattle.store_model.specs.Rows.{InJob, Row, Rows}
 use Rattle.store_model.specs.RunInvariant.{AreStored, RunsWell}
 use Rattle.store_model.specs.Shown.{fixed_of}
-use Rattle.store_model.specs.StoreState.{shown, StoreState}
+use Rattle.store_model.specs.StoreState.{marked, shown, StoreState}
 use Rattle.store_model.proofs.Resolved.{unmarked_resolved}
 use Rattle.store_model.proofs.WithEntry.{option_elsewhere, option_here}
 use Rattle.running_store.specs.Blobs.{CanBeKept}
@@ -160,7 +160,7 @@ module _ {D : Type 0} (d : Ghosts D) (p : StoreView D) (channel : ℕ) (posted :
       → s.chains head ≡ Some (head ∷ behind)
       → Begins s (state_of d (record p {
         rows = slice_set p.rows channel (record (rows_of p.rows channel) { stage = InJob });
-        job = Some (removing_for (whom.Command channel None) (erasing head freed) behind []);
+        job = Some (marked p.clean (removing_for (whom.Command channel None) (erasing head freed) behind []));
       }))
   begins_erasing unfilled low old there bits bits_are freed freed_are behind chain = record {
     posted = is_posted;
@@ -189,11 +189,11 @@ module _ {D : Type 0} (d : Ghosts D) (p : StoreView D) (channel : ℕ) (posted :
     next =
         ap (λ (g : Row). state_of d (record p {
           rows = slice_set p.rows channel g;
-          job = Some (removing_for (whom.Command channel None) (erasing head freed) behind []);
+          job = Some (marked p.clean (removing_for (whom.Command channel None) (erasing head freed) behind []));
         })) (ap (λ (g : Row). record g { stage = InJob }) posted.waits.row)
         ∙ ap (λ (rows : Rows). record s {
           rows = rows;
-          job = Some (removing_for (whom.Command channel None) (erasing head freed) behind []);
+          job = Some (marked p.clean (removing_for (whom.Command channel None) (erasing head freed) behind []));
         }) (rows_set p.rows channel in_job low);
   }
 

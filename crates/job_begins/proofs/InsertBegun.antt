@@ -15,7 +15,7 @@ use Rattle.store_model.specs.Filling.{FillStands}
 use Rattle.store_model.specs.Inserting.{with_slot}
 use Rattle.store_model.specs.Jobs.{LacksPages}
 use Rattle.store_model.specs.Rows.{Answered, Decided, InJob, Lost, OpenClaim, Posted, Row, Rows, with_row}
-use Rattle.store_model.specs.StoreState.{StoreState}
+use Rattle.store_model.specs.StoreState.{marked, StoreState}
 use Rattle.job_begins.specs.Begins.{no_effects, planned_with}
 use Rattle.job_begins.specs.Inserts.{HoldsPosted, IsLack}
 use Rattle.running_store.specs.Jobs.{replacing_of, writing_for}
@@ -156,7 +156,7 @@ module _ {D : Type 0} (d : Ghosts D) (p : StoreView D) (row : ℕ) (x : HoldsPos
         → BeginsInsert s (state_of d (record p {
           rows = slice_set p.rows row given;
           pages = after;
-          job = Some (writing_for (whom.Insert row) (planned y) y.old 0 []);
+          job = Some (marked p.clean (writing_for (whom.Insert row) (planned y) y.old 0 []));
         }))
     begun y after is given given_is =
         let known = ready s running runs row claim held meta can clean no_job p.chains after y is in
@@ -188,16 +188,16 @@ module _ {D : Type 0} (d : Ghosts D) (p : StoreView D) (row : ℕ) (x : HoldsPos
               ap (λ (g : Row). state_of d (record p {
                 rows = slice_set p.rows row g;
                 pages = after;
-                job = Some (writing_for (whom.Insert row) (planned y) y.old 0 []);
+                job = Some (marked p.clean (writing_for (whom.Insert row) (planned y) y.old 0 []));
               })) given_is
               ∙ ap (λ (rows : Rows). record s {
                 rows = rows;
                 pages = after;
-                job = Some (writing_for (whom.Insert row) (planned y) y.old 0 []);
+                job = Some (marked p.clean (writing_for (whom.Insert row) (planned y) y.old 0 []));
               }) (rows_set p.rows row in_job low)
               ∙ ap (λ (bits : List Bool). record s {
                 rows = with_row s.rows row in_job;
                 pages = bits;
-                job = Some (writing_for (whom.Insert row) (planned y) y.old 0 []);
+                job = Some (marked p.clean (writing_for (whom.Insert row) (planned y) y.old 0 []));
               }) known.taken;
         }

@@ -17,7 +17,7 @@ use Rattle.blob_meta.specs.Repairs.{HasNoMarks}
 use Rattle.blob_meta.specs.declared.meta.Meta.{Meta}
 use Rattle.store_model.specs.Rows.{with_row, Ended, InJob, Row, Rows}
 use Rattle.store_model.specs.Shown.{fixed_of}
-use Rattle.store_model.specs.StoreState.{JobState, shown, StoreState}
+use Rattle.store_model.specs.StoreState.{JobState, marked, shown, StoreState}
 use Rattle.store_model.specs.Phases.{Committing, erasing, Replaces, writing, Zeros}
 use Rattle.store_model.specs.Places.{all_set, AreLeastClear}
 use Rattle.store_model.specs.Asking.{IsJobFor}
@@ -147,7 +147,7 @@ module _ {D : Type 0} (d : Ghosts D) (p : StoreView D) (channel : ℕ) (low : ch
     -- the store with the job
     abbrev with_job : Rows → JobState → List Bool → List Bool → StoreState
     with_job rows job pages clusters =
-        record s { rows = rows; job = Some job; pages = pages; clusters = clusters }
+        record s { rows = rows; job = Some (marked p.clean job); pages = pages; clusters = clusters }
 
     abbrev todo_with : List ℕ → Option Committing → JobState
     todo_with pages commit = record (writing_for serves planned old 0 []) {
@@ -174,7 +174,7 @@ module _ {D : Type 0} (d : Ghosts D) (p : StoreView D) (channel : ℕ) (low : ch
           rows = slice_set p.rows channel (record (rows_of p.rows channel) { stage = InJob });
           pages = pages;
           clusters = clusters;
-          job = Some (begun_job serves planned old cluster_pages []);
+          job = Some (marked p.clean (begun_job serves planned old cluster_pages []));
         }))
     begun unfilled effects least one_each new_is cluster_pages each was chain unerased pages clusters set is =
         let commit : Committing = commit_if (is_some (s.chains planned.head)) in
@@ -220,7 +220,7 @@ module _ {D : Type 0} (d : Ghosts D) (p : StoreView D) (channel : ℕ) (low : ch
                 rows = slice_set p.rows channel r;
                 pages = pages;
                 clusters = clusters;
-                job = Some (begun_job serves planned old cluster_pages []);
+                job = Some (marked p.clean (begun_job serves planned old cluster_pages []));
               })) (ap (λ (r : Row). record r { stage = InJob }) posted.waits.row)
               ∙ ap (λ (rows : Rows). with_job rows (begun_job serves planned old cluster_pages []) pages clusters)
               (rows_set p.rows channel in_job low)

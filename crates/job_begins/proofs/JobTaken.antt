@@ -18,7 +18,7 @@ use Rattle.store_model.specs.Jobs.{with_clusters, AreForZeros}
 use Rattle.store_model.specs.Steady.{CanBeWritten}
 use Rattle.store_model.specs.Places.{all_set, AreDistinct}
 use Rattle.store_model.specs.Rows.{InJob, Row}
-use Rattle.store_model.specs.StoreState.{JobState, shown, StoreState}
+use Rattle.store_model.specs.StoreState.{JobState, marked, shown, StoreState}
 use Rattle.store_model.proofs.ZeroSlots.{zeroed_rest}
 use Rattle.running_store.specs.Jobs.{begun_job, job_seen}
 use Rattle.job_begins.specs.Begins.{planned_with, with_begun, AsksToWrite, HasChain, IsFreshHead, IsPrepared}
@@ -213,5 +213,5 @@ module _ {D : Type 0} (d : Ghosts D) (p : StoreView D) (channel : ℕ) (posted :
             rows = slice_set p.rows channel (record (rows_of p.rows channel) { stage = InJob });
             pages = pages;
             clusters = clusters;
-            job = Some j;
+            job = Some (marked p.clean j);
           }))) (sym seen) begins

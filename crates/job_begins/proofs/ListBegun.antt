@@ -19,7 +19,7 @@ use Rattle.store_model.specs.Jobs.{with_zeroed, AreLaid}
 use Rattle.store_model.specs.Phases.{taken_by, Committing, Phase}
 use Rattle.store_model.specs.Places.{all_set}
 use Rattle.store_model.specs.Rows.{with_row, InJob, Row}
-use Rattle.store_model.specs.StoreState.{ForCommand, JobState, StoreState}
+use Rattle.store_model.specs.StoreState.{ForCommand, JobState, marked, StoreState}
 use Rattle.store_model.proofs.JobReady.{plain_zeroed}
 use Rattle.running_store.specs.Jobs.{phases_in}
 use Rattle.running_store.specs.Steps.{IsPostedAt}
@@ -71,7 +71,7 @@ module _ {D : Type 0} (d : Ghosts D) (p : StoreView D) (channel : ℕ) (posted :
   abbrev pub begun : StoreView D
   begun = record p {
     rows = slice_set p.rows channel (record (rows_of p.rows channel) { stage = InJob });
-    job = Some (begun_with (phases_in list));
+    job = Some (marked p.clean (begun_with (phases_in list)));
     guards = record p.guards { frozen = frozen_with p.guards.frozen job.freeze };
     pages = after;
   }
@@ -106,7 +106,7 @@ module _ {D : Type 0} (d : Ghosts D) (p : StoreView D) (channel : ℕ) (posted :
         (sym (ap (λ z. with_zeroed job.list z []) no_zeros ∙ plain_zeroed [] job.list)) laid;
     next = λ i. record s {
       rows = rows_are low i;
-      job = Some (begun_with (phases_are list job.commit commit at i));
+      job = Some (marked p.clean (begun_with (phases_are list job.commit commit at i)));
       frozen = frozen_is p.guards.frozen job.freeze i;
       pages = taken i;
     };

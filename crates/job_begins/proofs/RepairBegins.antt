@@ -20,7 +20,7 @@ use Rattle.store_model.specs.Jobs.{IsJobPlanned}
 use Rattle.store_model.specs.Maps.{with_option, without_entry, Metas}
 use Rattle.store_model.specs.RunInvariant.{AreStored, RunsWell}
 use Rattle.store_model.specs.Steady.{IsStored}
-use Rattle.store_model.specs.StoreState.{StoreState}
+use Rattle.store_model.specs.StoreState.{marked, StoreState}
 use Rattle.store_model.proofs.Resolved.{map_of, resolved_of, resolved_stored, IsOf}
 use Rattle.store_model.proofs.Used.{within}
 use Rattle.store_model.proofs.WithEntry.{given_elsewhere, given_here}
@@ -123,7 +123,7 @@ module _ {D : Type 0} (d : Ghosts D) (p : StoreView D) (running : IsRunning (sta
 
         pub mends : BeginsRepair s (state_of d (record p {
           pages = after;
-          job = Some (writing_for whom.Repair planned x.old 0 []);
+          job = Some (marked p.clean (writing_for whom.Repair planned x.old 0 []));
         }))
         mends =
             let known = laid s running runs no_job head new stored_new has_chain p.chains after x is in
@@ -151,7 +151,7 @@ module _ {D : Type 0} (d : Ghosts D) (p : StoreView D) (running : IsRunning (sta
               };
               next = ap (λ (bits : List Bool). record s {
                 pages = bits;
-                job = Some (writing_for whom.Repair planned x.old 0 []);
+                job = Some (marked p.clean (writing_for whom.Repair planned x.old 0 []));
               }) known.taken;
             }
 
@@ -197,7 +197,7 @@ module _ {D : Type 0} (d : Ghosts D) (p : StoreView D) (running : IsRunning (sta
           → ((c : ℕ) → (is_in bits c ≡ true) ↔ IsMappedBeside s.super.md_len s.base head c) → (freed : List ℕ)
           → ((c : ℕ) → (is_among c freed ≡ true) ↔ IsMissing bits old.map c) → (behind : List ℕ)
           → s.chains head ≡ Some (head ∷ behind)
-          → BeginsRepair s (state_of d (record p { job = Some (removing_for whom.Repair (erasure freed) behind []) }))
+          → BeginsRepair s (state_of d (record p { job = Some (marked p.clean (removing_for whom.Repair (erasure freed) behind [])) }))
       removes bits bits_are freed freed_are behind chain = record {
         runs = runs;
         no_job = no_job;

@@ -1,5 +1,5 @@
 -- The job of a snapshot begins, as the model has it, and can be kept in memory, once its pages are taken.
-use Rattle.std.proofs.Common.{◌≡◌, ◌≢◌, ◌∙◌, ℕ, ◌<◌, Bool, true, List, [], ◌∷◌, ◌++◌, drop, length, Option}
+use Rattle.std.proofs.Common.{◌≡◌, ◌≢◌, ◌∙◌, ℕ, ◌+◌, ◌<◌, ◌^◌, Bool, true, false, List, [], ◌∷◌, ◌++◌, drop, length, Option}
 use Rattle.std.proofs.Common.{None, Some}
 use Rattle.std.proofs.Common.{refl, sym, ap, subst, IsSome, arith}
 use Rattle.std.specs.Prelude.{is_some, slice_set}
@@ -25,7 +25,7 @@ use Rattle.store_model.specs.Places.{all_set, held_by, AreLeastClear, UsedPages}
 use Rattle.store_model.specs.Rows.{InJob}
 use Rattle.store_model.specs.RunInvariant.{RunsWell}
 use Rattle.store_model.specs.Shown.{fixed_of}
-use Rattle.store_model.specs.StoreState.{ForCommand, JobState, StoreState}
+use Rattle.store_model.specs.StoreState.{ForCommand, JobState, marked, StoreState}
 use Rattle.store_model.specs.Steady.{IsStored}
 use Rattle.running_store.specs.Blobs.{Blobs, CanAllBeKept}
 use Rattle.running_store.specs.Jobs.{job_seen, phases_in, to_come, writes_laid, IsFollowing, IsHeaded, IsMatched}
@@ -274,12 +274,14 @@ module _ {D : Type 0} (d : Ghosts D) (p : StoreView D) (channel : ℕ) (posted :
 
     job_as : job ≡ record {
       serves = whom.Command channel (Some drafts.emptied.head);
+      marks = false;
       work = work.Writing laid.first 0;
       old = [];
       later = job.later;
     }
     job_as = λ i. record {
       serves = laid.serves i;
+      marks = laid.marks i;
       work = laid.work i;
       old = laid.none_behind i;
       later = job.later;
@@ -313,7 +315,7 @@ module _ {D : Type 0} (d : Ghosts D) (p : StoreView D) (channel : ℕ) (posted :
     pub snapshot_begins_so : p.filling ≢ Some channel → channel < length p.rows
         → Begins s (state_of d (record p {
           rows = slice_set p.rows channel (record (rows_of p.rows channel) { stage = InJob });
-          job = Some (job_seen job);
+          job = Some (marked p.clean (job_seen job));
           guards = frozen_at p.guards x.of;
           pages = after;
         }))
@@ -325,7 +327,7 @@ module _ {D : Type 0} (d : Ghosts D) (p : StoreView D) (channel : ℕ) (posted :
         room.0 e.mark_room e.live_room e.shown_room in
         subst (λ (j : JobState). Begins s (state_of d (record p {
           rows = slice_set p.rows channel (record (rows_of p.rows channel) { stage = InJob });
-          job = Some j;
+          job = Some (marked p.clean j);
           guards = frozen_at p.guards x.of;
           pages = after;
         }))) (sym job_is)

@@ -20,7 +20,7 @@ use Rattle.volume_model.specs.declared.reply.Reply.TheVariants as r
 use Rattle.blob_meta.specs.declared.job.Job.{Job}
 use Rattle.blob_meta.specs.declared.job.Replacement.{Replacement}
 use Rattle.blob_meta.specs.Jobs.{job_of_one}
-use Rattle.store_model.specs.StoreState.{StoreState}
+use Rattle.store_model.specs.StoreState.{marked, StoreState}
 use Rattle.store_model.specs.Cases as kind
 use Rattle.store_model.specs.Asking.{IsJobFor}
 pub use Rattle.store_model.specs.Jobs.{LacksPages}
@@ -134,7 +134,7 @@ BeginsOrNot d p q begin.Logged = TurnMade d p q kind.refuses
 abbrev pub with_begun : {D : Type 0} → StoreView D → ℕ → RunningJob → StoreView D
 with_begun p channel job = record p {
   rows = slice_set p.rows channel (record (rows_of p.rows channel) { stage = InJob });
-  job = Some (job_seen job);
+  job = Some (marked p.clean (job_seen job));
 }
 
 -- the row of the channel then: the job serves it, or its first command is logged

@@ -1,6 +1,6 @@
 -- What the delete of a blob with one clone asks a job to do, and its job.
-use Rattle.std.specs.Prelude.{◌≡◌, ◌↔◌, ◌+◌, ◌-◌, ◌<◌, ◌^◌, ℕ, Bool, true, false, Option, Some, None, List, [], ◌∷◌}
-use Rattle.std.specs.Prelude.{◌++◌, length}
+use Rattle.std.specs.Prelude.{◌≡◌, ◌↔◌, ◌+◌, ◌-◌, ◌<◌, ◌^◌, ℕ, Bool, true, false, Option, Some, None, List, [], ◌∷◌, ◌++◌}
+use Rattle.std.specs.Prelude.{length}
 use Rattle.std.specs.FinMap as map
 use Rattle.bit_array.specs.Bits.{is_in}
 use Rattle.volume_model.specs.declared.command.Command.{Command}
@@ -94,6 +94,7 @@ pub record IsDeletionLaid (x : DeletionDrafts) (effects : DeletionEffects) (chan
   pub second : Planned
   pub first_laid : IsPlannedOn x.going going effects.begin first
   pub second_laid : IsPlannedOn x.taking taking effects.commit second
+  pub marks : job.marks ≡ false
   pub coming : to_come job
       ≡ writes_laid first old
       ∷ writes_laid second old_of_clone

@@ -9,7 +9,7 @@ use Rattle.blob_meta.specs.Resolving.{resolved}
 use Rattle.store_model.specs.Cases as kind
 use Rattle.store_model.specs.Jobs.{Needs}
 use Rattle.store_model.specs.Maps.{Metas}
-use Rattle.store_model.specs.StoreState.{StoreState}
+use Rattle.store_model.specs.StoreState.{marked, StoreState}
 use Rattle.running_store.specs.Jobs.{job_seen}
 use Rattle.running_store.specs.StoreView.{StoreView, state_of}
 use Rattle.running_store.specs.declared.job.RunningJob.{RunningJob}
@@ -45,4 +45,4 @@ IsLackForRepair p head _ = ⊥
 
 -- the store with the job of a repair that has begun
 abbrev pub with_repair : {D : Type 0} → StoreView D → RunningJob → StoreView D
-with_repair p job = record p { job = Some (job_seen job) }
+with_repair p job = record p { job = Some (marked p.clean (job_seen job)) }

@@ -99,6 +99,7 @@ pub record IsSnapshotLaid (x : SnapshotDrafts) (effects : SnapshotEffects) (chan
   pub third_laid : IsPlannedOn x.emptied emptied effects.commit third
   pub fourth_laid : IsPlannedOn x.made made no_effects fourth
   pub serves : job.serves ≡ whom.Command channel (Some x.emptied.head)
+  pub marks : job.marks ≡ false
   pub work : job.work ≡ work.Writing first 0
   pub none_behind : job.old ≡ []
   pub later : job.later.items

@@ -1,6 +1,6 @@
 //! The begin of a job.
 
-ghost use Rattle.std.specs.Prelude.{◌≡◌, ◌≢◌, ◌<◌, None, Some, IfErr, IfOk, IsSome, OnErr};
+ghost use Rattle.std.specs.Prelude.{◌≡◌, ◌≢◌, ◌<◌, false, None, Some, IfErr, IfOk, IsSome, OnErr};
 ghost use Rattle.super_block.specs.Faults.{IsFaultless};
 ghost use Rattle.store_model.specs.Cases.{Begins, IsRefusedAtBegin};
 ghost use Rattle.store_model.specs.Cases as kind;
@@ -60,7 +60,7 @@ fn begin<D: PageDisk>(running: &mut Running<D>, channel: u8, ask: Ask) -> BeginT
 {
     match job_asked(running, channel, ask) {
         Ok(job) => {
-            running.job = Some(job);
+            running.job = Some(job.with_mark(running.is_clean));
             running.rows[channel as usize].serve();
             BeginTurn::Began
         }
@@ -91,6 +91,7 @@ fn job_asked<D: PageDisk>(
     requires unmarked { HasNoMarks (base_of running.old.metas running.old.marked) }
     ensures begins { IfOk result (λ job. Begins (state_of D.PageDisk (view_of running.old))
         (state_of D.PageDisk (with_begun (view_of running.new) channel job))) }
+    ensures unmarked { IfOk result (λ job. job.marks ≡ false) }
     ensures headed { IfOk result IsHeaded }
     ensures kept { IfOk result (WillBeKept (blobs_of running.new)) }
     ensures lack { IfErr result (λ reply. Asks (view_of running.old) channel
@@ -132,6 +133,7 @@ fn job_for<D: PageDisk>(
     requires unmarked { HasNoMarks (base_of running.old.metas running.old.marked) }
     ensures begins { IfOk result (λ job. Begins (state_of D.PageDisk (view_of running.old))
         (state_of D.PageDisk (with_begun (view_of running.new) channel job))) }
+    ensures unmarked { IfOk result (λ job. job.marks ≡ false) }
     ensures headed { IfOk result IsHeaded }
     ensures kept { IfOk result (WillBeKept (blobs_of running.new)) }
     ensures lack { IfErr result (λ reply. Asks (view_of running.old) channel

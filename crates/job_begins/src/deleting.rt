@@ -1,7 +1,8 @@
 //! The begin of a delete's job, of a blob with one clone, of three replacements: the blob is marked, its clone takes
 //! over from it, and it is erased.
 
-ghost use Rattle.std.specs.Prelude.{◌≡◌, ◌≢◌, ◌<◌, ◌-◌, ◌^◌, ℕ, [], true, All, length, None, Some, IfErr, IfOk, OnErr};
+ghost use Rattle.std.specs.Prelude.{◌≡◌, ◌≢◌, ◌<◌, ◌-◌, ◌^◌, ℕ, [], true, false, All, length, None, Some, IfErr, IfOk};
+ghost use Rattle.std.specs.Prelude.{OnErr};
 ghost use Rattle.super_block.specs.Faults.{IsFaultless};
 ghost use Rattle.blob_meta.specs.Faults.{clusters_of};
 ghost use Rattle.blob_meta.specs.Repairs.{HasNoMarks};
@@ -133,6 +134,7 @@ pub(crate) fn deletion_job<D: PageDisk>(
     requires unmarked { HasNoMarks (base_of running.old.metas running.old.marked) }
     ensures begins { IfOk result (λ job. Begins (state_of D.PageDisk (view_of running.old))
         (state_of D.PageDisk (with_begun (view_of running.new) channel job))) }
+    ensures unmarked { IfOk result (λ job. job.marks ≡ false) }
     ensures headed { IfOk result IsHeaded }
     ensures kept { IfOk result (WillBeKept (blobs_of running.new)) }
     ensures lack { IfErr result (λ reply. Asks (view_of running.old) channel

@@ -136,7 +136,7 @@ impl Drop for LaidDraft {
 }
 
 impl LaidDraft {
-    ghost use Rattle.std.specs.Prelude.{◌≡◌};
+    ghost use Rattle.std.specs.Prelude.{◌≡◌, false};
     ghost use Rattle.running_store.specs.Jobs.{writes_laid};
     ghost use Rattle.running_store.specs.declared.job.Work.TheVariants as work;
 
@@ -155,6 +155,7 @@ impl LaidDraft {
     pub(crate) fn job(self, serves: Serves, later: VecDeque<LaidReplacement>) -> RunningJob
         ensures { result ≡ record {
           serves = serves;
+          marks = false;
           work = work.Writing self.planned 0;
           old = self.old;
           later = later;
@@ -163,6 +164,7 @@ impl LaidDraft {
         let LaidDraft { planned, old } = self;
         RunningJob {
             serves,
+            marks: false,
             work: Work::Writing {
                 planned,
                 written: 0,

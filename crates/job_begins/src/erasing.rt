@@ -1,6 +1,6 @@
 //! The begin of a job that erases a blob and replaces no other: the delete of a volume without clones.
 
-ghost use Rattle.std.specs.Prelude.{◌≡◌, ◌≢◌, ◌<◌, None, Some, IfOk};
+ghost use Rattle.std.specs.Prelude.{◌≡◌, ◌≢◌, ◌<◌, false, None, Some, IfOk};
 ghost use Rattle.blob_meta.specs.Repairs.{HasNoMarks};
 ghost use Rattle.inflate_delete.specs.DeleteJobs.{erase_job};
 ghost use Rattle.job_begins.specs.Asks.{IsAskedFor};
@@ -39,6 +39,7 @@ pub(crate) fn erasing_job<D: PageDisk>(
     requires unmarked { HasNoMarks (base_of running.now.metas running.now.marked) }
     ensures begins { IfOk result (λ job. Begins (state_of D.PageDisk (view_of running.now))
         (state_of D.PageDisk (with_begun (view_of running.now) channel job))) }
+    ensures unmarked { IfOk result (λ job. job.marks ≡ false) }
     ensures headed { IfOk result IsHeaded }
     ensures kept { IfOk result (WillBeKept (blobs_of running.now)) }
 {
@@ -64,6 +65,7 @@ pub(crate) fn erasing_job<D: PageDisk>(
             channel,
             freeze: None,
         },
+        marks: false,
         work: Work::Removing(Erasure {
             head,
             commit: Some(commit),

@@ -155,7 +155,7 @@ fn start<D: PageDisk>(running: &mut Running<D>, row: u8, claim: OpenClaim, new: 
     ) {
         Ok(prepared) => {
             let job = prepared.alone(running.alloc, Serves::Insert(row), head, new);
-            running.job = Some(job);
+            running.job = Some(job.with_mark(running.is_clean));
             running.rows[row as usize].serve();
             InsertTurn::Began
         }

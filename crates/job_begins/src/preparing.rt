@@ -41,7 +41,7 @@ pub(crate) struct Prepared {
 }
 
 impl Prepared {
-    ghost use Rattle.std.specs.Prelude.{◌≡◌, ◌<◌, ◌∷◌, [], drop, IsSome, None};
+    ghost use Rattle.std.specs.Prelude.{◌≡◌, ◌<◌, ◌∷◌, [], drop, false, IsSome, None};
     ghost use Rattle.store_model.specs.Places.{AreDistinct};
     ghost use Rattle.running_store.specs.Jobs.{begun_job, job_seen, to_come, writes_laid, writing_for, IsHeaded};
     ghost use Rattle.running_store.specs.declared.job.Serves.TheVariants.{Command};
@@ -64,6 +64,7 @@ impl Prepared {
         requires some_pages { 0 < cluster_pages }
         ensures seen { job_seen result
             ≡ begun_job (Command channel None) (planned_with self head new effects) self.old cluster_pages [] }
+        ensures unmarked { result.marks ≡ false }
         ensures headed { IsHeaded result }
         ensures coming { to_come result ≡ writes_laid (planned_with self head new effects) self.old ∷ [] }
     {
@@ -97,6 +98,7 @@ impl Prepared {
         };
         RunningJob {
             serves,
+            marks: false,
             work,
             old,
             later,
@@ -109,6 +111,7 @@ impl Prepared {
         requires headed { self.laid.chain ≡ head ∷ drop 1 self.laid.chain }
         ensures seen { job_seen result
             ≡ writing_for serves (planned_with self head new no_effects) self.old 0 [] }
+        ensures unmarked { result.marks ≡ false }
         ensures headed { IsHeaded result }
         ensures coming { to_come result
             ≡ writes_laid (planned_with self head new no_effects) self.old ∷ [] }
@@ -125,6 +128,7 @@ impl Prepared {
         };
         RunningJob {
             serves,
+            marks: false,
             work: Work::Writing {
                 planned,
                 written: 0,

@@ -1,7 +1,7 @@
 //! The begin of a repair: what recovery found is made good, one blob at a time.
 
 ghost use Rattle.std.specs.Prelude.{◌≡◌, ◌↔◌, ◌<◌, [], None, Some, IfErr, IfNone, IfOk, IfSome, IsSome, IsTrue};
-ghost use Rattle.std.specs.Prelude.{OnErr};
+ghost use Rattle.std.specs.Prelude.{false, OnErr};
 ghost use Rattle.std.specs.FinMap as map;
 ghost use Rattle.blob_meta.specs.Repairs.{repairs};
 ghost use Rattle.job_begins.specs.Repairs.{with_repair, IsDue, IsLackForRepair, RepairsOrNot};
@@ -62,7 +62,7 @@ pub fn begin_repair<D: PageDisk>(running: &mut Running<D>) -> RepairTurn
     };
     match repair_of(running, head) {
         Ok(job) => {
-            running.job = Some(job);
+            running.job = Some(job.with_mark(running.is_clean));
             RepairTurn::Began
         }
         Err(turn) => turn,
@@ -107,6 +107,7 @@ fn repair_of<D: PageDisk>(running: &mut Running<D>, head: u32) -> Result<Running
     requires there { IsSome (base_of running.old.metas running.old.marked head) }
     ensures begins { IfOk result (λ job. BeginsRepair (state_of D.PageDisk (view_of running.old))
         (state_of D.PageDisk (with_repair (view_of running.new) job))) }
+    ensures unmarked { IfOk result (λ job. job.marks ≡ false) }
     ensures headed { IfOk result IsHeaded }
     ensures kept { IfOk result (WillBeKept (blobs_of running.new)) }
     ensures lack { IfErr result (IsLackForRepair (state_of D.PageDisk (view_of running.old)) head) }
@@ -138,6 +139,7 @@ fn mend<D: PageDisk>(
     requires kept { map.get running.old.metas head ≡ Some new }
     ensures begins { IfOk result (λ job. BeginsRepair (state_of D.PageDisk (view_of running.old))
         (state_of D.PageDisk (with_repair (view_of running.new) job))) }
+    ensures unmarked { IfOk result (λ job. job.marks ≡ false) }
     ensures headed { IfOk result IsHeaded }
     ensures kept { IfOk result (WillBeKept (blobs_of running.new)) }
     ensures lack { IfErr result (IsLackForRepair (state_of D.PageDisk (view_of running.old)) head) }
@@ -177,6 +179,7 @@ fn erase<D: PageDisk>(running: &Running<D>, head: u32) -> Result<RunningJob, Rep
     requires removed { map.get running.now.metas head ≡ None }
     ensures begins { IfOk result (λ job. BeginsRepair (state_of D.PageDisk (view_of running.now))
         (state_of D.PageDisk (with_repair (view_of running.now) job))) }
+    ensures unmarked { IfOk result (λ job. job.marks ≡ false) }
     ensures headed { IfOk result IsHeaded }
     ensures kept { IfOk result (WillBeKept (blobs_of running.now)) }
     ensures lack { IfErr result (IsLackForRepair (state_of D.PageDisk (view_of running.now)) head) }
@@ -189,6 +192,7 @@ fn erase<D: PageDisk>(running: &Running<D>, head: u32) -> Result<RunningJob, Rep
     let freed = missing(running.alloc, &mut beside, &meta.map)?;
     Ok(RunningJob {
         serves: Serves::Repair,
+        marks: false,
         work: Work::Removing(Erasure {
             head,
             commit: None,

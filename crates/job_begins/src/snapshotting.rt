@@ -1,6 +1,6 @@
 //! The begin of a snapshot's job, of four replacements: the blob that is made, three times, and the volume.
 
-ghost use Rattle.std.specs.Prelude.{◌≡◌, ◌≢◌, ◌<◌, ◌+◌, ◌^◌, [], All, None, Some, IfErr, IfOk, OnErr};
+ghost use Rattle.std.specs.Prelude.{◌≡◌, ◌≢◌, ◌<◌, ◌+◌, ◌^◌, [], All, false, None, Some, IfErr, IfOk, OnErr};
 ghost use Rattle.std.specs.FinMap as map;
 ghost use Rattle.super_block.specs.Faults.{IsFaultless};
 ghost use Rattle.blob_meta.specs.Repairs.{HasNoMarks};
@@ -115,6 +115,7 @@ pub(crate) fn snapshot_job<D: PageDisk>(
     requires unmarked { HasNoMarks (base_of running.old.metas running.old.marked) }
     ensures begins { IfOk result (λ job. Begins (state_of D.PageDisk (view_of running.old))
         (state_of D.PageDisk (with_begun (view_of running.new) channel job))) }
+    ensures unmarked { IfOk result (λ job. job.marks ≡ false) }
     ensures headed { IfOk result IsHeaded }
     ensures kept { IfOk result (WillBeKept (blobs_of running.new)) }
     ensures lack { IfErr result (λ reply. Asks (view_of running.old) channel

@@ -45,6 +45,7 @@ module _ {D : Type 0} (d : Ghosts D) (p q : StoreView D) (stands : FillStands (s
   turn_of x = by x.kind x.of_job x.made
     where
       by : (k : Kind) → IsOfJob k → TurnMade d p q k → JobTurn d.tells s t ⊎ FailedFill s t
+      by kind.marks_dirty is m = inl (turn.marks_dirty m.0)
       by kind.zeroes is m = inl (turn.zeroes m.0)
       by kind.writes is m = inl (turn.writes m.0)
       by kind.commits is m = inl (turn.commits m.0)

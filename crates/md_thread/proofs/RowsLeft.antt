@@ -51,6 +51,7 @@ module _ (p q : StoreState) where
 
     -- a turn of a job leaves the rows that are posted
     pub job_leaves : (told : Bool) → JobTurn told p q → q.rows n ≡ p.rows n
+    job_leaves told (turn.marks_dirty t) = none _ t.next refl n
     job_leaves told (turn.zeroes t) = none _ t.next refl n
     job_leaves told (turn.writes t) = none _ t.next refl n
     job_leaves told (turn.commits t) = one _ t.next t.served.channel _ refl n (serves t.served)

@@ -29,6 +29,7 @@ serving_kind told p q channel (turns.lacks_memory_for_insert t is) = (kind.lacks
 serving_kind told p q channel (turns.halts serial t at is) = (kind.halts, t)
 
 pub job_kind : (told : Bool) (p q : StoreState) → JobTurn told p q → SomeTurn told p q
+job_kind told p q (turns.marks_dirty t) = (kind.marks_dirty, t)
 job_kind told p q (turns.zeroes t) = (kind.zeroes, t)
 job_kind told p q (turns.writes t) = (kind.writes, t)
 job_kind told p q (turns.commits t) = (kind.commits, t)

@@ -12,10 +12,12 @@ use Rattle.md_chain.specs.declared.plan.PlannedPage.{PlannedPage}
 use Rattle.store_model.specs.Cases.{FailsToReplace, put_by}
 use Rattle.store_model.specs.Cases as kind
 use Rattle.store_model.specs.Cases.Fail.{Tried}
+use Rattle.store_model.specs.Cases.BreakOff as alone
 use Rattle.store_model.specs.Cases.Fail as fail
 use Rattle.store_model.specs.Cases.InsertFail as insert
 use Rattle.store_model.specs.Jobs.{IsServed, JobStands}
-use Rattle.store_model.specs.Phases.{has_commit, page_in, Committing, Phase, Replaces, Replacing}
+use Rattle.store_model.specs.Phases.{has_commit, Marks, page_in, Committing, Phase, Replaces, Replacing}
+use Rattle.store_model.specs.Recovers.{SaysInUse}
 use Rattle.store_model.specs.Rows.{InJob, Row}
 use Rattle.store_model.specs.StoreState.{ForCommand, ForInsert, ForRepair, JobState, logged, Service, StoreState}
 use Rattle.store_model.specs.StoreState.{waiting}
@@ -90,7 +92,7 @@ module _ {D : Type 0} (d : Ghosts D) (p : StoreView D) (j : JobState) (w : IsAtW
           ∙ ap (λ (a : StoreState). logged a channel command rest r.Fault (device_of d disk))
           (stopped_state d p j w disk)
 
-      abbrev pub fails_case : (phase : Phase) (others : List Phase) → j.todo ≡ phase ∷ others → Tried j phase
+      abbrev pub fails_case : (phase : Phase) (others : List Phase) → j.todo ≡ phase ∷ others → Tried s.super j phase
           → FailsToReplace (device_of d p.disk) (device_of d disk) → kind.Fails s (state_of d fault)
       fails_case phase others todo tried fails = record {
         phase = phase;
@@ -165,8 +167,7 @@ module _ {D : Type 0} (d : Ghosts D) (p : StoreView D) (j : JobState) (w : IsAtW
             phase = phase;
             running = record { job = j; is = refl; rest = others; next = todo; runs = w.not_stopped };
             waits = none;
-            put = put;
-            is_put = is_put;
+            tried = alone.page put is_put;
             device = device_of d disk;
             fails = fails;
             next = stopped;
@@ -204,6 +205,58 @@ module _ {D : Type 0} (d : Ghosts D) (p : StoreView D) (j : JobState) (w : IsAtW
                 );
               }
           by ForRepair serves b commit = none_waits (ap (λ (x : Service). waiting x j.todo) serves)
+
+    -- ---- the super block that was being replaced
+
+    module _ (others : List Phase) (todo : j.todo ≡ Marks ∷ others) (page : List ℕ) (says : SaysInUse p.super page)
+        (touches : CallsLeaveOnly d p.disk disk (IsReplaced (d.images p.disk) (d.now p.disk) 0 page)) where
+      mark_alone : waits_for_job j ≡ None → TurnsJob d (with_job p j) q
+      mark_alone none = subst (TurnsJob d (with_job p j)) (sym (by_waiting None none)) (record {
+        kind = kind.breaks_off;
+        of_job = tt;
+        made = (
+          record {
+            phase = Marks;
+            running = record { job = j; is = refl; rest = others; next = todo; runs = w.not_stopped };
+            waits = none;
+            tried = alone.mark page refl says;
+            device = device_of d disk;
+            fails = fails;
+            next = stopped;
+          },
+          record { moments = touches; durable = λ never. absurd (cc never) },
+        );
+      })
+
+      pub failed_marking : TurnsJob d (with_job p j) q
+      failed_marking = by j.serves refl (has_commit j.todo) refl
+        where
+          by : (x : Service) → j.serves ≡ x → (b : Bool) → has_commit j.todo ≡ b → TurnsJob d (with_job p j) q
+          by (ForCommand channel) serves true commit = subst (TurnsJob d (with_job p j))
+              (sym (entry channel serves commit disk q
+              (by_waiting (Some channel) (waits_for_commit j channel serves commit)))) (record {
+                kind = kind.fails;
+                of_job = tt;
+                made = (
+                  fails_case channel serves commit disk Marks others todo (fail.mark page refl says) fails,
+                  record { moments = touches; durable = λ never. absurd (cc never) },
+                );
+              })
+          by (ForCommand channel) serves false commit = mark_alone (waits_no_more j channel serves commit)
+          by (ForInsert channel) serves b commit =
+              let given = by_waiting (Some channel) (ap (λ (x : Service). waiting x j.todo) serves) in
+              record {
+                kind = kind.insert_fails;
+                of_job = tt;
+                made = (
+                  fails_insert d p j w channel serves seventeen disk q given Marks others todo
+                      (insert.mark page refl says) fails,
+                  subst (λ (x : D). Touched d p.disk x (replaces 0 page false))
+                      (sym (insert_disk d p j w channel serves seventeen disk q given))
+                      (record { moments = touches; durable = λ never. absurd (cc never) }),
+                );
+              }
+          by ForRepair serves b commit = mark_alone (ap (λ (x : Service). waiting x j.todo) serves)
 
     -- ---- a head that was being replaced
 

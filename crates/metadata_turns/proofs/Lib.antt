@@ -5,6 +5,7 @@ pub mod AtWork
 pub mod InsertFailed
 pub mod JobTurned
 pub mod JobFailed
+pub mod Marked
 pub mod JobErased
 pub mod HeadReplaced
 pub mod Behind

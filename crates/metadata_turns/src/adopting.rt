@@ -31,13 +31,7 @@ pub(crate) fn adopt<D>(running: &mut Running<D>, planned: Planned)
     requires in_use { All (λ cluster. is_in running.old.clusters.bits cluster ≡ true) planned.effects.freed }
     ensures { running.new ≡ adopted running.old planned }
 {
-    let Planned {
-        head,
-        new,
-        effects,
-        chain,
-        pages: _,
-    } = planned;
+    let (head, new, effects, chain) = planned.apart();
     let Effects {
         commit,
         freed,
@@ -98,11 +92,7 @@ pub(crate) fn forget<D>(running: &mut Running<D>, erasure: Erasure)
     requires in_use { All (λ cluster. is_in running.old.clusters.bits cluster ≡ true) erasure.freed }
     ensures { running.new ≡ forgotten running.old erasure }
 {
-    let Erasure {
-        head,
-        commit,
-        freed,
-    } = erasure;
+    let (head, commit, freed) = erasure.apart();
     clear_places(&mut running.clusters, &freed);
     running.metas.remove(head);
     running.marked.remove(head);

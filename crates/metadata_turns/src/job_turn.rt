@@ -1,7 +1,10 @@
 //! The turns of the running job.
 
-ghost use Rattle.std.specs.Prelude.{◌≡◌, ◌+◌, Some, None, IsSome};
-ghost use Rattle.metadata_turns.specs.JobTurns.{answer_of, TurnsJob};
+ghost use Rattle.std.specs.Prelude.{◌≡◌, ◌+◌, Some, None, IsSome, false};
+ghost use Rattle.metadata_turns.specs.JobTurns.{answer_of, with_job, IsAtWork, TurnsJob};
+ghost use Rattle.running_store.specs.Blobs.{blobs_of, WillBeKept};
+ghost use Rattle.running_store.specs.Jobs.{job_seen, waits_for_job, IsHeaded};
+ghost use Rattle.super_block.specs.Faults.{IsFaultless};
 ghost use Rattle.metadata_turns.specs.RowsWork.{RowsWork};
 ghost use Rattle.metadata_turns.specs.declared.job_turn.JobTurn.TheVariants.{Stopped};
 ghost use Rattle.running_store.specs.StoreInvariant.{IsRunning};
@@ -9,6 +12,7 @@ ghost use Rattle.running_store.specs.Running.{view_of, InOrder};
 ghost use Rattle.running_store.specs.StoreView.{state_of};
 
 use crate::head_turns::{remove_head, replace_head};
+use crate::marking::mark;
 use crate::page_turns::{erase, free, write_fresh, zero};
 use page_disk::PageDisk;
 use running_store::{
@@ -47,7 +51,7 @@ impl Beside {
 
     /// The job with this work.
     pub(crate) fn at(self, work: Work) -> RunningJob
-        ensures { result ≡ record { serves = self.serves; work = work; old = self.old; later = self.later } }
+        ensures { result ≡ record { serves = self.serves; marks = false; work = work; old = self.old; later = self.later } }
     {
         let Beside {
             serves,
@@ -57,6 +61,7 @@ impl Beside {
         } = self;
         RunningJob {
             serves,
+            marks: false,
             work,
             old,
             later,
@@ -78,6 +83,7 @@ impl Beside {
 /// A turn of the running job: its next device calls, and what follows from them.
 pub(crate) fn job_turn<D: PageDisk>(running: &mut Running<D>) -> JobTurn
     requires order { InOrder D.PageDisk running.old }
+    requires faultless { IsFaultless running.old.sup }
     requires runs { IsSome running.old.job }
     requires not_stopped { running.old.stopped ≡ None }
     requires running { IsRunning (state_of D.PageDisk (view_of running.old)) }
@@ -87,17 +93,34 @@ pub(crate) fn job_turn<D: PageDisk>(running: &mut Running<D>) -> JobTurn
     ensures order { InOrder D.PageDisk running.new }
 {
     let waiting = waiting_for(&running.job);
-    let Some(
-        RunningJob {
-            serves,
-            work,
-            old,
-            later,
-        },
-    ) = running.job.take()
-    else {
+    let Some(job) = running.job.take() else {
         return JobTurn::Done;
     };
+    if job.marks {
+        return mark(running, job, waiting);
+    }
+    work_on(running, job, waiting)
+}
+
+/// The next phase of a job, where the store is marked as in use.
+fn work_on<D: PageDisk>(running: &mut Running<D>, job: RunningJob, waiting: Option<u8>) -> JobTurn
+    requires order { InOrder D.PageDisk running.old }
+    requires unmarked { job.marks ≡ false }
+    requires headed { IsHeaded job }
+    requires waits { waiting ≡ waits_for_job (job_seen job) }
+    requires kept { WillBeKept (blobs_of running.old) job }
+    requires at_work { IsAtWork D.PageDisk (view_of running.old) (job_seen job) }
+    ensures case { TurnsJob D.PageDisk (with_job (view_of running.old) (job_seen job)) (view_of running.new) }
+    ensures answer { result ≡ answer_of (view_of running.new) }
+    ensures order { InOrder D.PageDisk running.new }
+{
+    let RunningJob {
+        serves,
+        marks: _,
+        work,
+        old,
+        later,
+    } = job;
     let beside = Beside {
         serves,
         waiting,
@@ -129,6 +152,7 @@ pub(crate) fn job_turn<D: PageDisk>(running: &mut Running<D>) -> JobTurn
 /// A turn of the running job, or, on a stopped store, its end.
 pub fn job_turn_or_end<D: PageDisk>(running: &mut Running<D>) -> JobTurn
     requires order { InOrder D.PageDisk running.old }
+    requires faultless { IsFaultless running.old.sup }
     requires runs { IsSome running.old.job }
     requires running { IsRunning (state_of D.PageDisk (view_of running.old)) }
     requires work { RowsWork (state_of D.PageDisk (view_of running.old)) }

@@ -6,6 +6,7 @@ mod answering;
 mod head_turns;
 mod infos;
 mod job_turn;
+mod marking;
 mod page_turns;
 mod telling;
 

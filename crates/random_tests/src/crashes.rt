@@ -2,7 +2,7 @@
 
 use crate::families::family_at;
 use page_disk::{FaultDisk, MemDisk, PageDisk};
-use random_plays::{Play, Ran, expect_left, new_store, number_at, play_of, run, size_of};
+use random_plays::{Play, Ran, Status, expect_left, new_store, number_at, play_of, run, size_of};
 use random_worlds::State;
 use std::alloc::Global;
 use std::test::Fail;
@@ -33,26 +33,30 @@ fn begins_with_fault(alloc: Global, printed: &[u8], count: usize) -> Result<bool
     })
 }
 
-/// The device after so many calls, and how many commands were answered by then; behind them only one may have met the
-/// fault.
-fn stopped(
-    alloc: Global,
-    done: &Play,
-    calls: u64,
+/// What is left of a run that stops: how many commands were answered by then, whether the run ended well, and the
+/// device.
+#[derive(Drop)]
+struct Left {
+    count: usize,
+    is_good: bool,
     disk: MemDisk,
-) -> Result<(usize, MemDisk), Fail> {
-    let Ran {
-        status: _,
-        out,
-        disk,
-    } = run(alloc, &done.script, FaultDisk::stopping(disk, calls))?;
+}
+
+/// What is left after so many calls of the device; behind the commands that were answered only one may have met the
+/// fault.
+fn stopped(alloc: Global, done: &Play, calls: u64, disk: MemDisk) -> Result<Left, Fail> {
+    let Ran { status, out, disk } = run(alloc, &done.script, FaultDisk::stopping(disk, calls))?;
     let count = answered(&done.lines, out.bytes());
     let mut length = 0usize;
     for line in done.lines.iter().take(count) {
         length = length.saturating_add(line.len());
     }
     match out.bytes().get(length..) {
-        Some(rest) if begins_with_fault(alloc, rest, count)? => Ok((count, disk.into_inner())),
+        Some(rest) if begins_with_fault(alloc, rest, count)? => Ok(Left {
+            count,
+            is_good: matches!(status, Status::Good),
+            disk: disk.into_inner(),
+        }),
         _ => Err(Fail::new(format_args!("another answer than {count} is wanted in {calls} calls"))),
     }
 }
@@ -63,19 +67,24 @@ fn states_at(done: &Play, count: usize) -> Result<&[State], Fail> {
     Ok(rest.get(..2).unwrap_or(rest))
 }
 
-/// Expects that whenever power fails in a run of a play on a new store for its number, each command that was answered
-/// is done. Where a call leaves nothing else than the one before it, the crashes are the same.
+/// Expects that whenever power fails in a run of a play on a new store for its number, also in the mark of a store in
+/// use with which its first job begins, in three calls, and in the unload at its end, each command that was answered is
+/// done. Where a call leaves nothing else than the one before it, the crashes are the same.
 fn expect_crashes(alloc: Global, number: u64, done: &Play) -> Result<(), Fail> {
     let (md_pages, fixed) = size_of(number);
     let store = new_store(alloc, md_pages)?;
     let mut before = None;
     for calls in 0..1000 {
-        let (count, disk) = stopped(alloc, done, calls, store.crash(0)?)?;
+        let Left {
+            count,
+            is_good,
+            disk,
+        } = stopped(alloc, done, calls, store.crash(0)?)?;
         if before != Some((count, disk.clock())) {
             expect_left(alloc, states_at(done, count)?, fixed, &disk)?;
         }
         before = Some((count, disk.clock()));
-        if count == done.lines.len() {
+        if is_good {
             return Ok(());
         }
     }

@@ -44,7 +44,8 @@ fn add(images: &mut Vec<MemDisk>, image: MemDisk) -> Result<(), Fail> {
     Ok(())
 }
 
-/// The images that power leaves which fails in a run on a store, at any call behind the first ones of its load.
+/// The images that power leaves which fails in a run on a store, at any call behind the first ones of its load: in the
+/// mark of a store in use with which the first repair begins, three calls, in a repair, or in the unload.
 fn images_left(alloc: Global, store: &MemDisk, counted: &[u8]) -> Result<Vec<MemDisk>, Fail> {
     let mut images = Vec::new(alloc);
     for calls in LOAD..200 {

@@ -1,5 +1,5 @@
 -- How a repair's job goes on, turn by turn.
-use Rattle.std.proofs.Common.{◌≡◌, ◌≢◌, ℕ, ◌<◌, ◌≤◌, Bool, true, Option, Some, None, List, [], ◌∷◌, length, refl}
+use Rattle.std.proofs.Common.{◌≡◌, ◌≢◌, ℕ, ◌<◌, ◌≤◌, Bool, true, false, Option, Some, None, List, [], ◌∷◌, length, refl}
 use Rattle.std.proofs.Common.{sym, ap, ◌∙◌, subst, inl, inr, arith}
 use Rattle.std.specs.Prelude.{◌⊎◌, is_some, IsSome}
 use Rattle.std.specs.Option.{option_and_then}
@@ -13,7 +13,8 @@ use Rattle.blob_meta.specs.Resolving.{mark_of}
 use Rattle.store_model.specs.Cases.{BeginsRepair, Kind, the, Turn}
 use Rattle.store_model.specs.Cases as k
 use Rattle.store_model.specs.Maps.{Metas}
-use Rattle.store_model.specs.Phases.{OnlyMend, Phase, replaced, Replaces, Replacing}
+use Rattle.store_model.specs.Phases.{marking, OnlyMend, Phase, phases_of, replaced, Replaces}
+use Rattle.store_model.specs.Phases.{Replacing}
 use Rattle.store_model.specs.RunInvariant.{AreStored, RunInvariant}
 use Rattle.store_model.specs.StoreState.{ForCommand, ForInsert, ForRepair, going_on, JobState, StoreState}
 use Rattle.store_model.specs.StoreState.{turns_left as turns_of}
@@ -224,6 +225,8 @@ module _ (told : Bool) (s : Super) (first : Volumes) (script : ℕ → List Comm
 
     -- a turn of a job that serves a command or a repair
     job_turn : (kind : Kind) → (the kind).OfJob → Turn told p kind q → GoesOnMending marks p kind q
+    job_turn k.marks_dirty of_job t = writes k.marks_dirty tt t.running t.next refl (stays t.running.job _ refl) refl
+        refl refl refl refl
     job_turn k.zeroes of_job t = writes k.zeroes tt t.running t.next refl (stays t.running.job _ refl) refl refl refl
         refl refl
     job_turn k.writes of_job t = writes k.writes tt t.running t.next refl (stays t.running.job _ refl) refl refl refl
@@ -264,6 +267,12 @@ module _ (told : Bool) (s : Super) (first : Volumes) (script : ℕ → List Comm
 
 -- ---- the begin and the end
 
+-- a mark is no replacement
+replacements_marking : (clean : Bool) (todo : List Phase)
+    → replacements_in (marking clean todo) ≡ replacements_in todo
+replacements_marking true todo = refl
+replacements_marking false todo = refl
+
 pub begins : (p q : StoreState) → BeginsRepair p q → HasBegunToMend p q
 begins p q t = subst (HasBegunToMend p) (sym t.next) (record {
   mending = to_mend (record {
@@ -271,7 +280,7 @@ begins p q t = subst (HasBegunToMend p) (sym t.next) (record {
     is = refl;
     serves = refl;
     replacing = t.replacing;
-    one = one_replacement t.replacing None;
+    one = replacements_marking p.clean (phases_of t.replacing None []) ∙ one_replacement t.replacing None;
     marked = ap (has_mark p.base) t.laid.head ∙ first_marked p.super.md_len p.base t.repair t.others t.due;
   }) refl;
   log = refl;

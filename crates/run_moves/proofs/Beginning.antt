@@ -21,7 +21,7 @@ use Rattle.store_model.specs.Cases.BeginInsert.{BeginsInsert}
 use Rattle.store_model.specs.Cases.LoseInsert.{LosesInsert}
 use Rattle.store_model.specs.Guarding.{freezing}
 use Rattle.store_model.specs.Jobs.{pages_in, with_zeroed, zeroing}
-use Rattle.store_model.specs.Phases.{Committing, has_commit, Phase, phases_of}
+use Rattle.store_model.specs.Phases.{Committing, has_commit, marking, Phase, phases_of}
 use Rattle.store_model.specs.Phases.{Replacing, todo_of}
 use Rattle.store_model.specs.Rows.{Row}
 use Rattle.store_model.specs.StoreState.{ForCommand, ForInsert, JobState, StoreState}
@@ -36,6 +36,7 @@ use Rattle.run_moves.specs.Projection.{phase_in_run, phases_in_run, row_in_run, 
 use Rattle.run_moves.specs.ServingTurns.{BeginningTurns, IsMeasured, ServesRow, with_taken}
 use Rattle.run_moves.specs.Sizes.{most_replacements, replacement_turns, sizes_of}
 use Rattle.run_moves.proofs.DoomedClaims.{doomed_claim}
+use Rattle.store_model.proofs.Marking.{commit_marking}
 use Rattle.run_moves.proofs.JobPhases as phases
 use Rattle.run_moves.proofs.ListCounted as counts
 use Rattle.run_moves.proofs.Moved.{changes_row}
@@ -154,7 +155,8 @@ module _ (p q : StoreState) (d : RunMessages) (held : Option Msg) (waiting : Lis
   pub begins_insert_so : IsMeasured p → (t : BeginsInsert p q)
       → (serves : ServesRow p q d held waiting t.posted.row) → BeginsInsertSo t.posted.row serves
   begins_insert_so measured t serves =
-      let todo = phases_of t.replacing None [] in
+      let bare = phases_of t.replacing None [] in
+      let todo = marking p.clean bare in
       let job : JobState = record {
         serves = ForInsert t.posted.row;
         freeze = None;
@@ -165,7 +167,8 @@ module _ (p q : StoreState) (d : RunMessages) (held : Option Msg) (waiting : Lis
       let turns = counts.replacement_short p.super p.base p.chains p.pages _ _ t.replacing t.laid measured.pages
       (chains_short p measured) in
       let all = phases.length_phases t.replacing None [] in
-      let short : length todo ≤ replacement_turns p.super = omega (arith, turns, all) in
+      let mark = phases.length_marking p.clean bare in
+      let short : length todo ≤ replacement_turns p.super + 1 = omega (arith, turns, all, mark) in
       let long = length-map todo (phase_in_run (ForInsert t.posted.row)) in (
         record {
           won = claim_in_run t.posted.claim;
@@ -179,10 +182,12 @@ module _ (p q : StoreState) (d : RunMessages) (held : Option Msg) (waiting : Lis
           job = job_in_run job;
           waits = refl;
           thaws = refl;
-          short = subst (λ n. n ≤ replacement_turns p.super) (sym long) short;
-          plain = phases.replacements_writing (ForInsert t.posted.row) t.replacing.fresh _
+          short = subst (λ n. n ≤ replacement_turns p.super + 1) (sym long) short;
+          plain = phases.replacements_marking (ForInsert t.posted.row) p.clean bare
+              ∙ phases.replacements_writing (ForInsert t.posted.row) t.replacing.fresh _
               ∙ phases.replacements_erasing (ForInsert t.posted.row) t.replacing.old t.replacing.old [];
-          inserts = phases.decision_writing (ForInsert t.posted.row) t.replacing.fresh _;
+          inserts = phases.decision_marking (ForInsert t.posted.row) p.clean bare
+              ∙ phases.decision_writing (ForInsert t.posted.row) t.replacing.fresh _;
           next = changes_row p q e t.posted.row p.device.reads _ _ (Some job) p.frozen
               (ap (λ (r : Row). row_at (row_in_run p.super r) AtInJob) (sym t.posted.is))
               (ap (λ v. run_state_of v e) t.next);
@@ -192,7 +197,7 @@ module _ (p q : StoreState) (d : RunMessages) (held : Option Msg) (waiting : Lis
 
   module _ (measured : IsMeasured p) (t : Begins p q) where
     abbrev commit_phases : List Replacing → ℕ → List Phase
-    commit_phases list n = zeroing p.super t.claimed ++ todo_of list n t.commit
+    commit_phases list n = marking p.clean (zeroing p.super t.claimed ++ todo_of list n t.commit)
 
     abbrev seen_job : List Phase → JobState
     seen_job todo = record {
@@ -227,13 +232,15 @@ module _ (p q : StoreState) (d : RunMessages) (held : Option Msg) (waiting : Lis
         ∙ as_long t.changes.list
 
     committed : has_commit (commit_phases t.list t.changes.commit) ≡ true
-    committed = phases.commit_zeroing (pages_in p.super t.claimed) behind
+    committed = commit_marking p.clean (zeroing p.super t.claimed ++ behind)
+        ∙ phases.commit_zeroing (pages_in p.super t.claimed) behind
         ∙ counts.list_commits p.super t.commit t.list t.changes.commit few.some
         (let a = few.within in let b = long in omega (arith, a, b))
 
     short : length (commit_phases t.list t.changes.commit)
-        ≤ clusters_of p.super * cluster_pages_of p.super + most_replacements * replacement_turns p.super
+        ≤ clusters_of p.super * cluster_pages_of p.super + most_replacements * replacement_turns p.super + 1
     short =
+        let m = phases.length_marking p.clean (zeroing p.super t.claimed ++ behind) in
         let a = length-append (zeroing p.super t.claimed) behind in
         let b = phases.length_zeroing p.super t.claimed in
         let c = counts.list_short p.super t.commit p.base p.chains p.pages t.claimed made t.list t.changes.commit t.laid
@@ -243,16 +250,18 @@ module _ (p q : StoreState) (d : RunMessages) (held : Option Msg) (waiting : Lis
         let f : length made * replacement_turns p.super ≤ most_replacements * replacement_turns p.super =
         grind (arith, d, e) in
         let g = claimed_few in
-        omega (arith, a, b, c, f, g)
+        omega (arith, m, a, b, c, f, g)
 
     replaces_few : replacements_in (phases_in_run (ForCommand t.posted.channel)
         (commit_phases t.list t.changes.commit)) ≤ most_replacements
     replaces_few =
+        let m = phases.replacements_marking (ForCommand t.posted.channel) p.clean
+        (zeroing p.super t.claimed ++ behind) in
         let a = phases.replacements_zeroing (ForCommand t.posted.channel) (pages_in p.super t.claimed) behind in
         let b = counts.list_replaces p.super t.commit t.posted.channel t.list t.changes.commit in
         let c = long in
         let d = few.few in
-        omega (arith, a, b, c, d)
+        omega (arith, m, a, b, c, d)
 
     -- for a message, or for the fill, behind which this is the fill
     pub begins_for : (fill : Option Msg) → (begins : BeginsFor (run_state_of p d) t.posted.channel held waiting fill)
@@ -275,7 +284,7 @@ module _ (p q : StoreState) (d : RunMessages) (held : Option Msg) (waiting : Lis
             job = job_in_run (seen_job todo);
             waits = ap (λ b. if b then Some t.posted.channel else None) committed;
             short = subst (λ n. n ≤ clusters_of p.super * cluster_pages_of p.super
-                + most_replacements * replacement_turns p.super)
+                + most_replacements * replacement_turns p.super + 1)
                 (sym (length-map todo (phase_in_run (ForCommand t.posted.channel)))) short;
             few = replaces_few;
             next = changes_row p q f t.posted.channel p.device.reads _ _ (Some (seen_job todo))

@@ -87,6 +87,7 @@ module _ (told : Bool) (p q : StoreState) where
   ]
 
   pub job_works : JobTurn told p q → WorksOn p q
+  job_works (turn.marks_dirty t) = still p q (filling_then t.next)
   job_works (turn.zeroes t) = still p q (filling_then t.next)
   job_works (turn.writes t) = still p q (filling_then t.next)
   job_works (turn.commits t) = still p q (filling_then t.next)

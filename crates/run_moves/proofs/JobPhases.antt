@@ -11,8 +11,8 @@ use Rattle.super_block.specs.declared.page.Super.{Super}
 use Rattle.super_block.specs.Numbers.{cluster_pages_of}
 use Rattle.md_chain.specs.Chain.{is_among}
 use Rattle.store_model.specs.Jobs.{pages_in, zeroing}
-use Rattle.store_model.specs.Phases.{Committing, erasing, Erases, Frees, has_commit, Marks, Phase, phases_of, Replaces}
-use Rattle.store_model.specs.Phases.{Replacing, Writes, writing, Zeros}
+use Rattle.store_model.specs.Phases.{Committing, erasing, Erases, Frees, has_commit, marking, Marks, Phase, phases_of}
+use Rattle.store_model.specs.Phases.{Replaces, Replacing, Writes, writing, Zeros}
 use Rattle.store_model.specs.Places.{AreDistinct, AreLeastClear}
 use Rattle.store_model.specs.StoreState.{ForCommand, ForInsert, ForRepair, Service}
 use Rattle.store_model.proofs.Sets.{among_either, among_later, are_distinct}
@@ -84,6 +84,11 @@ length_phases r commit others =
     let b = length_erasing r.old r.old others in
     omega (arith, a, b)
 
+-- the mark takes one turn, if it is made
+pub length_marking : (clean : Bool) (others : List Phase) → length (marking clean others) ≤ length others + 1
+length_marking true others = omega arith
+length_marking false others = omega arith
+
 -- pages of claimed clusters, a turn each
 pub length_zeroing : (s : Super) (clusters : List ℕ)
     → length (zeroing s clusters) ≡ length clusters * cluster_pages_of s
@@ -103,6 +108,17 @@ length_zeroing s clusters = length-map (pages_in s clusters) Zeros ∙ go cluste
 
 module _ (serves : Service) where
   -- fresh pages are no replacements
+  -- the mark is no replacement, and decides nothing
+  pub replacements_marking : (clean : Bool) (others : List Phase)
+      → replacements_in (phases_in_run serves (marking clean others)) ≡ replacements_in (phases_in_run serves others)
+  replacements_marking true others = refl
+  replacements_marking false others = refl
+
+  pub decision_marking : (clean : Bool) (others : List Phase)
+      → decision_is_left (phases_in_run serves (marking clean others)) ≡ decision_is_left (phases_in_run serves others)
+  decision_marking true others = refl
+  decision_marking false others = refl
+
   pub replacements_writing : (fresh : List ℕ) (others : List Phase)
       → replacements_in (phases_in_run serves (writing fresh others)) ≡ replacements_in (phases_in_run serves others)
   replacements_writing [] others = refl

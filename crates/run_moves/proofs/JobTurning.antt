@@ -7,7 +7,7 @@ use Rattle.page_disk.specs.Disk.{Image}
 use Rattle.volume_model.specs.declared.command.Command.{Command}
 use Rattle.store_model.specs.Cases.BreakDown.{BreaksDown}
 use Rattle.store_model.specs.Guarding.{frozen_behind, IsGuarded, releasing}
-use Rattle.store_model.specs.Phases.{Erases as Erasing, Frees as Freeing, has_commit, Phase, Writes, Zeros}
+use Rattle.store_model.specs.Phases.{Erases as Erasing, Frees as Freeing, has_commit, Marks, Phase, Writes, Zeros}
 use Rattle.store_model.specs.Rows.{InJob, Row, with_row}
 use Rattle.store_model.specs.StoreState.{ForCommand, ForInsert, ForRepair, going_on, JobState, Service, StoreState}
 use Rattle.store_model.specs.StoreState.{waiting}
@@ -112,6 +112,9 @@ module _ (p q : StoreState) (d : RunMessages) where
   -- those that write a page
   pub page_turns : PageTurns p q d
   page_turns = record {
+    marks_dirty = λ left told t. page_goes_on t.running.job Marks t.running.rest t.running.is t.running.next refl refl
+        t.device.reads t.running.job.written left (ap (λ (v : StoreState). v.job) t.next)
+        (ap (λ v. run_state_of v d) t.next);
     zeroes = λ left told t. page_goes_on t.running.job (Zeros t.page) t.running.rest t.running.is t.running.next refl
         refl t.device.reads t.running.job.written left (ap (λ (v : StoreState). v.job) t.next)
         (ap (λ v. run_state_of v d) t.next);

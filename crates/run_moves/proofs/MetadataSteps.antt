@@ -100,6 +100,10 @@ module _ (s : Super) (first : Volumes) (script : ℕ → List Command) (channels
     module _ (later : RunInvariant s first script q) (plain : HasPlainRows p) where
       -- whichever it is
       pub job_moves : JobTurn told p q → JobMoves
+      job_moves (turn.marks_dirty t) = record {
+        move = by_page ((page_turns p q d).marks_dirty later.unfinished told t);
+        due = refl;
+      }
       job_moves (turn.zeroes t) = record {
         move = by_page ((page_turns p q d).zeroes later.unfinished told t);
         due = refl;

@@ -174,6 +174,8 @@ turn_plain told k.begins p q t plain = serves p q plain t.posted.channel _ _ (ro
     let both = sym (job_then t.next) ∙ is in
     let serves : ForCommand t.posted.channel ≡ job.serves = cc both in
     (t.posted.channel, sym serves))
+turn_plain told k.marks_dirty p q t plain = goes_on p q plain t.running.job t.running.is _ refl (rows_then t.next)
+    (job_then t.next)
 turn_plain told k.zeroes p q t plain = goes_on p q plain t.running.job t.running.is _ refl (rows_then t.next)
     (job_then t.next)
 turn_plain told k.writes p q t plain = goes_on p q plain t.running.job t.running.is _ refl (rows_then t.next)

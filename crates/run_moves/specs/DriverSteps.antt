@@ -44,6 +44,7 @@ use Rattle.store_model.specs.Cases.Settle.{Settles}
 use Rattle.store_model.specs.Cases.WriteFresh.{WritesFresh}
 use Rattle.store_model.specs.Cases.WritePage.{WritesPage}
 use Rattle.store_model.specs.Cases.WritePageFail.{FailsToWrite}
+use Rattle.store_model.specs.Cases.MarkDirty.{MarksDirty}
 use Rattle.store_model.specs.Cases.Zero.{Zeroes}
 use Rattle.store_model.specs.Rows.{fill_row, Posted}
 use Rattle.store_model.specs.StoreState.{StoreState}
@@ -124,6 +125,7 @@ module _ (told : Bool) where
 
     -- the running job makes its next turn, with which no fill ends
     pub data JobTurn : Type 0 where
+      marks_dirty : MarksDirty told p q → JobTurn
       zeroes : Zeroes told p q → JobTurn
       writes : WritesFresh told p q → JobTurn
       commits : Commits told p q → JobTurn

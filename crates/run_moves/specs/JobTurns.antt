@@ -15,6 +15,7 @@ use Rattle.store_model.specs.Cases.InsertEnd.{InsertEnds}
 use Rattle.store_model.specs.Cases.InsertFail.{InsertFails}
 use Rattle.store_model.specs.Cases.ReplaceMore.{ReplacesMore}
 use Rattle.store_model.specs.Cases.WriteFresh.{WritesFresh}
+use Rattle.store_model.specs.Cases.MarkDirty.{MarksDirty}
 use Rattle.store_model.specs.Cases.Zero.{Zeroes}
 use Rattle.store_model.specs.Guarding.{IsGuarded}
 use Rattle.store_model.specs.RunInvariant.{RunsWell}
@@ -43,8 +44,10 @@ module _ (p q : StoreState) (d : RunMessages) where
   abbrev pub IsJobMoveOf : (RunSizes → RunState → ℕ → RunState → Type 0) → ℕ → Type 0
   IsJobMoveOf Move row = Move (sizes_of p.super) (run_state_of p d) row (run_state_of q d)
 
-  -- turns that write one page of a cluster, of a chain or of an old one
+  -- turns that write one page: the super block, to say that the store is in use, or one of a cluster, of a chain or of an
+  -- old one
   pub record PageTurns : Type 0 where
+    pub marks_dirty : HasTurnsLeft q → (told : Bool) → MarksDirty told p q → IsJobMove PageMove
     pub zeroes : HasTurnsLeft q → (told : Bool) → Zeroes told p q → IsJobMove PageMove
     pub writes : HasTurnsLeft q → (told : Bool) → WritesFresh told p q → IsJobMove PageMove
     pub erases : HasTurnsLeft q → (told : Bool) → Erases told p q → IsJobMove PageMove

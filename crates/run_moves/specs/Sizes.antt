@@ -12,12 +12,13 @@ replacement_turns s = 2 * s.md_len + 1
 abbrev pub most_replacements : ℕ
 most_replacements = 4
 
--- a job of a command has so many replacements at most, before which each page of each claimed cluster is zeroed
+-- A job of a command has so many replacements at most, before which each page of each claimed cluster is zeroed; and
+-- before all else a job may mark the store as in use.
 abbrev pub sizes_of : Super → RunSizes
 sizes_of s = record {
   pages = cluster_pages_of s;
-  insert_turns = replacement_turns s;
-  job_turns = clusters_of s * cluster_pages_of s + most_replacements * replacement_turns s;
+  insert_turns = replacement_turns s + 1;
+  job_turns = clusters_of s * cluster_pages_of s + most_replacements * replacement_turns s + 1;
   replacements = most_replacements;
   slots = 2 ^ 20;
   rows = 17;

@@ -33,25 +33,30 @@ const ENTRIES: u32 = 6;
 /// clear for a later run.
 ///
 /// A write to an empty slot makes four writes of copies, a flush, and a flush, a write and a flush of the head; then it
-/// writes its page, as a write to a slot that has a cluster does. So the first has the writes 1 to 6 and the flushes 1
-/// to 3, the second the write 7, the third the writes 8 to 13 and the flushes 4 to 6, and then comes the flush 7.
-const FAILED_CALLS: [(CallKind, u64, u32, u32); 16] = [
+/// writes its page, as a write to a slot that has a cluster does. The first job of the run makes a flush, a write and a
+/// flush before, of the super block that says that the store is in use. So the first has the writes 1 to 7 and the
+/// flushes 1 to 5, the second the write 8, the third the writes 9 to 14 and the flushes 6 to 8, and then comes the
+/// flush 9.
+const FAILED_CALLS: [(CallKind, u64, u32, u32); 19] = [
     (CallKind::Write, 1, 0, 11),
     (CallKind::Write, 4, 0, 11),
     (CallKind::Flush, 1, 0, 11),
     (CallKind::Flush, 2, 0, 11),
     (CallKind::Write, 5, 0, 11),
-    (CallKind::Flush, 3, 0, 10),
-    (CallKind::Write, 6, 0, 10),
-    (CallKind::Write, 7, 1, 10),
-    (CallKind::Write, 8, 2, 10),
-    (CallKind::Write, 11, 2, 10),
-    (CallKind::Flush, 4, 2, 10),
-    (CallKind::Flush, 5, 2, 10),
+    (CallKind::Flush, 3, 0, 11),
+    (CallKind::Flush, 4, 0, 11),
+    (CallKind::Write, 6, 0, 11),
+    (CallKind::Flush, 5, 0, 10),
+    (CallKind::Write, 7, 0, 10),
+    (CallKind::Write, 8, 1, 10),
+    (CallKind::Write, 9, 2, 10),
     (CallKind::Write, 12, 2, 10),
-    (CallKind::Flush, 6, 2, 9),
-    (CallKind::Write, 13, 2, 9),
-    (CallKind::Flush, 7, 3, 9),
+    (CallKind::Flush, 6, 2, 10),
+    (CallKind::Flush, 7, 2, 10),
+    (CallKind::Write, 13, 2, 10),
+    (CallKind::Flush, 8, 2, 9),
+    (CallKind::Write, 14, 2, 9),
+    (CallKind::Flush, 9, 3, 9),
 ];
 
 /// What is printed where so many commands are done, and the next one meets a call that fails: it is told that, and all

@@ -1,9 +1,10 @@
 -- Whether the commit of a job's command is still to come.
-use Rattle.std.proofs.Common.{◌≡◌, ℕ, Bool, true, List, [], ◌∷◌, Option, Some, None, refl, sym, ◌∙◌, ap, drop}
+use Rattle.std.proofs.Common.{◌≡◌, ℕ, Bool, true, false, List, [], ◌∷◌, Option, Some, None, refl, sym, ◌∙◌, ap, drop}
 use Rattle.std.specs.Prelude.{is_some, ◌||◌}
 use Rattle.std.specs.List.{list_any}
 use Rattle.std.specs.Option.{option_map, option_map_or}
 use Rattle.store_model.specs.Phases.{Phase, Replaces, erasing, has_commit, writing}
+use Rattle.store_model.proofs.Marking.{commit_marking}
 use Rattle.store_model.proofs.Phases.{commit_behind}
 use Rattle.store_model.proofs.Zeroing.{commit_zeros}
 use Rattle.running_store.specs.Effects.{commit_seen}
@@ -65,13 +66,13 @@ commit_coming (x ∷ xs) = commit_one x (phases_in xs) ∙ ap (λ b. is_commit x
 -- the replacement at work is the commit, or one behind it
 pub commit_now : (j : RunningJob)
     → (commits_now j.work || list_any is_commit j.later.items) ≡ has_commit (job_seen j).todo
-commit_now j = by j.work refl
+commit_now j = by j.work refl ∙ sym (commit_marking j.marks (job_seen (record j { marks = false })).todo)
   where
     later : list_any is_commit j.later.items ≡ has_commit (phases_in j.later.items)
     later = sym (commit_coming j.later.items)
 
-    by : (w : Work) → j.work ≡ w
-        → (commits_now j.work || list_any is_commit j.later.items) ≡ has_commit (job_seen j).todo
+    by : (w : Work) → j.work ≡ w → (commits_now j.work || list_any is_commit j.later.items)
+        ≡ has_commit (job_seen (record j { marks = false })).todo
     by (work.Zeroing p z) e = rw e (ap (λ b. is_some p.effects.commit || b) later
         ∙ sym (commit_zeros (pages_from z.cluster_pages (drop z.clusters p.effects.claimed) z.pages)
         (writing_for j.serves p j.old 0 (phases_in j.later.items)).todo

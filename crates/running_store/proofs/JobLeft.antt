@@ -1,7 +1,7 @@
 -- The job that is left between two replacements.
-use Rattle.std.proofs.Common.{◌≡◌, ℕ, ◌<◌, List, [], ◌∷◌, length, Some, refl, sym, ◌∙◌, ap, subst, arith, drop}
+use Rattle.std.proofs.Common.{◌≡◌, ℕ, ◌<◌, Bool, false, List, [], ◌∷◌, length, Some, refl, sym, ◌∙◌, ap, subst, arith, drop}
 use Rattle.store_model.specs.Phases.{Phase, Replaces, erasing, writing}
-use Rattle.store_model.specs.StoreState.{going_on, JobState}
+use Rattle.store_model.specs.StoreState.{going_on, JobState, marked}
 use Rattle.running_store.specs.Jobs.{commit_in, erasing_for, freeze_of, job_left, phases_in, replacing_of, service_of}
 use Rattle.running_store.specs.Jobs.{erases_laid, job_seen, writes_laid, writing_for, IsFollowing, MayFollow}
 use Rattle.running_store.specs.declared.job.RunningJob.{RunningJob}
@@ -61,10 +61,10 @@ claims_none serves x p is follows = (subst (λ (c : Change). IsFollowing serves 
 
 -- a job that begins with the first of these
 pub next_writes : (j : RunningJob) (x : LaidReplacement) (p : Planned) → x.change ≡ change.Writes p → x.old ≡ j.old
-    → j.work ≡ work.Writing p 0 → MayFollow j.serves (x ∷ j.later.items)
+    → j.work ≡ work.Writing p 0 → j.marks ≡ false → MayFollow j.serves (x ∷ j.later.items)
     → Some (job_seen j) ≡ job_left j.serves (phases_in (x ∷ j.later.items))
-next_writes j x p is old at may =
-    rw at (left_writing j.serves p j.old (phases_in j.later.items)
+next_writes j x p is old at marks may =
+    rw (at, marks) (left_writing j.serves p j.old (phases_in j.later.items)
     (claims_none j.serves x p is (first_follows j.serves x j.later.items may).0))
     ∙ ap (λ (y : LaidReplacement). job_left j.serves (phases_in (y ∷ j.later.items))) same
   where
@@ -72,9 +72,16 @@ next_writes j x p is old at may =
     same i = record { change = sym is i; old = sym old i }
 
 pub next_erases : (j : RunningJob) (x : LaidReplacement) (e : Erasure) → x.change ≡ change.Erases e → x.old ≡ j.old
-    → j.work ≡ work.Removing e → Some (job_seen j) ≡ job_left j.serves (phases_in (x ∷ j.later.items))
-next_erases j x e is old at =
-    rw at refl ∙ ap (λ (y : LaidReplacement). job_left j.serves (phases_in (y ∷ j.later.items))) same
+    → j.work ≡ work.Removing e → j.marks ≡ false → Some (job_seen j) ≡ job_left j.serves (phases_in (x ∷ j.later.items))
+next_erases j x e is old at marks =
+    rw (at, marks) refl ∙ ap (λ (y : LaidReplacement). job_left j.serves (phases_in (y ∷ j.later.items))) same
   where
     same : erases_laid e j.old ≡ x
     same i = record { change = sym is i; old = sym old i }
+
+-- ---- the mark before a job
+
+-- a job that marks nothing, with a mark before it or without one
+pub seen_with_mark : (j : RunningJob) → j.marks ≡ false → (marks : Bool)
+    → job_seen (record j { marks = marks }) ≡ marked marks (job_seen j)
+seen_with_mark j none marks = ap (λ (b : Bool). marked marks (job_seen (record j { marks = b }))) (sym none)

@@ -5,7 +5,7 @@ use Rattle.std.specs.List.{AllByRecursion}
 use Rattle.std.specs.Option.{option_map}
 use Rattle.volume_model.specs.Volumes.{zero_page}
 use Rattle.store_model.specs.Phases.{Committing, Phase, Replaces, Replacing, erasing, phases_of, writing}
-use Rattle.store_model.specs.StoreState.{JobState, Service, waiting, ForCommand, ForInsert, ForRepair}
+use Rattle.store_model.specs.StoreState.{JobState, marked, Service, waiting, ForCommand, ForInsert, ForRepair}
 use Rattle.store_model.specs.Places.{AreDistinct}
 use Rattle.running_store.specs.Effects.{commit_seen}
 use Rattle.running_store.specs.declared.effects.Effects.{Effects}
@@ -173,7 +173,7 @@ abbrev pub waits_for_job : JobState → Option ℕ
 waits_for_job j = waiting j.serves j.todo
 
 abbrev pub job_seen : RunningJob → JobState
-job_seen j = seen j.work
+job_seen j = marked j.marks (seen j.work)
   where
     seen : Work → JobState
     seen (work.Zeroing planned zeroed) = zeroing_for j.serves planned j.old zeroed (phases_in j.later.items)

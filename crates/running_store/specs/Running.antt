@@ -4,6 +4,7 @@ use Rattle.std.specs.Prelude.{slice_index_or}
 use Rattle.std.specs.Prelude.{IfSome, IsSome, List, if◌then◌else◌, is_some, slice_set, false}
 use Rattle.bit_array.specs.Bits.{is_in}
 use Rattle.pools.specs.Pool.{freed as freed_page}
+use Rattle.super_block.specs.declared.page.Super.{Super}
 use Rattle.store_model.specs.Maps.{Metas}
 use Rattle.std.specs.List.{sum_by}
 use Rattle.std.specs.Option.{option_map}
@@ -22,6 +23,7 @@ abbrev pub view_of : {D : Type 0} → Running D → StoreView D
 view_of running = record {
   disk = running.disk;
   super = running.sup;
+  clean = running.is_clean;
   metas = running.metas;
   marked = running.marked;
   chains = running.chains;
@@ -37,6 +39,10 @@ view_of running = record {
   marks = running.marks.items;
   stopped = running.stopped;
 }
+
+-- the super block that a run leaves: that with which the store was opened, but for whether it is clean
+abbrev pub super_left : Bool → Super → Super
+super_left clean s = record s { clean = if clean then 1 else 0 }
 
 abbrev pub with_opening : {D : Type 0} → Running D → Running D → ℕ → WithOpening D
 with_opening running opening right = record { at = view_of running; opening = view_of opening; right = right }

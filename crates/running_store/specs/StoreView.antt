@@ -26,6 +26,7 @@ use Rattle.running_store.specs.JobCodes.{job_code}
 pub record StoreView (D : Type 0) : Type 0 where
   pub disk : D
   pub super : Super
+  pub clean : Bool
   pub metas : map.FinMap nat_cmp Meta
   pub marked : map.FinMap nat_cmp Meta
   pub chains : map.FinMap nat_cmp (List ℕ)
@@ -50,70 +51,27 @@ pub record WithOpening (D : Type 0) : Type 0 where
 abbrev pub view_code : {D : Type 0} → Coded D → Coded (StoreView D)
 view_code {D} d =
     code_by
-    (D × (Super × (map.FinMap nat_cmp Meta × (map.FinMap nat_cmp Meta × (map.FinMap nat_cmp (List ℕ)
-    × (map.FinMap nat_cmp Xattrs × (List Bool × (List Bool × (List Row × (Option ℕ × (Option JobState × (GuardsState
-    × (ℕ × (List Entry × (List ℕ × Option ℕ)))))))))))))))
-    (coded× d (coded× super_block.the_row.coded (coded× (map.code coded_ℕ meta.the_row.coded)
-    (coded× (map.code coded_ℕ meta.the_row.coded)
-    (coded× (map.code coded_ℕ (coded_list coded_ℕ)) (coded× (map.code coded_ℕ (coded_list xattr.the_row.coded))
-    (coded× (coded_list coded_bool) (coded× (coded_list coded_bool)
-    (coded× (coded_list row_code) (coded× (coded_option coded_ℕ) (coded× (coded_option job_code) (coded× guards_code
-    (coded× coded_ℕ
-    (coded× (coded_list entry.the_row.coded) (coded× (coded_list coded_ℕ) (coded_option coded_ℕ))))))))))))))))
-    (λ a. (
-      a.disk,
-      (
-        a.super,
-        (
-          a.metas,
-          (
-            a.marked,
-            (
-              a.chains,
-              (
-                a.live,
-                (
-                  a.pages,
-                  (
-                    a.clusters,
-                    (
-                      a.rows,
-                      (
-                        a.filling,
-                        (
-                          a.job,
-                          (
-                            a.guards,
-                            (a.serial, (a.log, (a.marks, a.stopped))),
-                          ),
-                        ),
-                      ),
-                    ),
-                  ),
-                ),
-              ),
-            ),
-          ),
-        ),
-      ),
-    ))
+    (D × (Super × (Bool × (map.FinMap nat_cmp Meta × (map.FinMap nat_cmp Meta × (map.FinMap nat_cmp (List ℕ) × (map.FinMap nat_cmp Xattrs × (List Bool × (List Bool × (List Row × (Option ℕ × (Option JobState × (GuardsState × (ℕ × (List Entry × (List ℕ × Option ℕ))))))))))))))))
+    (coded× d (coded× super_block.the_row.coded (coded× coded_bool (coded× (map.code coded_ℕ meta.the_row.coded) (coded× (map.code coded_ℕ meta.the_row.coded) (coded× (map.code coded_ℕ (coded_list coded_ℕ)) (coded× (map.code coded_ℕ (coded_list xattr.the_row.coded)) (coded× (coded_list coded_bool) (coded× (coded_list coded_bool) (coded× (coded_list row_code) (coded× (coded_option coded_ℕ) (coded× (coded_option job_code) (coded× guards_code (coded× coded_ℕ (coded× (coded_list entry.the_row.coded) (coded× (coded_list coded_ℕ) (coded_option coded_ℕ)))))))))))))))))
+    (λ a. (a.disk, (a.super, (a.clean, (a.metas, (a.marked, (a.chains, (a.live, (a.pages, (a.clusters, (a.rows, (a.filling, (a.job, (a.guards, (a.serial, (a.log, (a.marks, a.stopped)))))))))))))))))
     (λ p. record {
       disk = p.0;
       super = p.1.0;
-      metas = p.1.1.0;
-      marked = p.1.1.1.0;
-      chains = p.1.1.1.1.0;
-      live = p.1.1.1.1.1.0;
-      pages = p.1.1.1.1.1.1.0;
-      clusters = p.1.1.1.1.1.1.1.0;
-      rows = p.1.1.1.1.1.1.1.1.0;
-      filling = p.1.1.1.1.1.1.1.1.1.0;
-      job = p.1.1.1.1.1.1.1.1.1.1.0;
-      guards = p.1.1.1.1.1.1.1.1.1.1.1.0;
-      serial = p.1.1.1.1.1.1.1.1.1.1.1.1.0;
-      log = p.1.1.1.1.1.1.1.1.1.1.1.1.1.0;
-      marks = p.1.1.1.1.1.1.1.1.1.1.1.1.1.1.0;
-      stopped = p.1.1.1.1.1.1.1.1.1.1.1.1.1.1.1;
+      clean = p.1.1.0;
+      metas = p.1.1.1.0;
+      marked = p.1.1.1.1.0;
+      chains = p.1.1.1.1.1.0;
+      live = p.1.1.1.1.1.1.0;
+      pages = p.1.1.1.1.1.1.1.0;
+      clusters = p.1.1.1.1.1.1.1.1.0;
+      rows = p.1.1.1.1.1.1.1.1.1.0;
+      filling = p.1.1.1.1.1.1.1.1.1.1.0;
+      job = p.1.1.1.1.1.1.1.1.1.1.1.0;
+      guards = p.1.1.1.1.1.1.1.1.1.1.1.1.0;
+      serial = p.1.1.1.1.1.1.1.1.1.1.1.1.1.0;
+      log = p.1.1.1.1.1.1.1.1.1.1.1.1.1.1.0;
+      marks = p.1.1.1.1.1.1.1.1.1.1.1.1.1.1.1.0;
+      stopped = p.1.1.1.1.1.1.1.1.1.1.1.1.1.1.1.1;
     })
     (λ _. refl)
 
@@ -138,6 +96,7 @@ pub record AreResolved (metas marked : map.FinMap nat_cmp Meta) : Type 0 where
 abbrev pub state_of : {D : Type 0} → Ghosts D → StoreView D → StoreState
 state_of d at = record {
   super = at.super;
+  clean = at.clean;
   base = base_of at.metas at.marked;
   chains = map.get at.chains;
   live = map.get at.live;

@@ -10,11 +10,21 @@ use std::alloc::Global;
 
 /// What a map of blobs has at a head from a commit on: a value, with room for it where the map doesn't have the head
 /// before; or nothing, where the blob is gone.
-#[derive(Drop)]
 pub struct EntryChange<V> {
     pub head: u32,
     pub value: Option<V>,
     pub room: Option<Room<V>>,
+}
+
+// By hand, so that to let one go is one call where control leaves, and not four cases.
+impl<V: Drop> Drop for EntryChange<V> {
+    fn drop(self) {
+        let EntryChange {
+            head: _,
+            value: _,
+            room: _,
+        } = self;
+    }
 }
 
 impl<V: Drop> EntryChange<V> {

@@ -89,11 +89,12 @@ impl Serves {
     }
 }
 
-/// The running job: for whom it is done, the replacement that it works on, with the places that stood behind its head
-/// before it, and those that come behind that, in their order.
+/// The running job: for whom it is done, whether the store is first to be marked as in use, the replacement that it
+/// works on, with the places that stood behind its head before it, and those that come behind that, in their order.
 #[derive(Drop)]
 pub struct RunningJob {
     pub serves: Serves,
+    pub marks: bool,
     pub work: Work,
     pub old: PlaceList,
     pub later: VecDeque<LaidReplacement>,
@@ -123,6 +124,7 @@ impl RunningJob {
         };
         Some(RunningJob {
             serves,
+            marks: false,
             work,
             old,
             later,
@@ -147,6 +149,7 @@ impl RunningJob {
         }
         Some(RunningJob {
             serves,
+            marks: false,
             work: Work::Erasing { erased: 0 },
             old,
             later,
@@ -186,6 +189,7 @@ impl RunningJob {
             };
             return RunningJob {
                 serves,
+                marks: false,
                 work,
                 old,
                 later,
@@ -205,6 +209,7 @@ impl RunningJob {
             };
             return RunningJob {
                 serves,
+                marks: false,
                 work,
                 old,
                 later,
@@ -216,6 +221,27 @@ impl RunningJob {
         };
         RunningJob {
             serves,
+            marks: false,
+            work,
+            old,
+            later,
+        }
+    }
+
+    /// The job, before which the store is to be marked as in use, or not.
+    pub fn with_mark(self, marks: bool) -> RunningJob
+        ensures { result ≡ record self { marks = marks } }
+    {
+        let RunningJob {
+            serves,
+            marks: _,
+            work,
+            old,
+            later,
+        } = self;
+        RunningJob {
+            serves,
+            marks,
             work,
             old,
             later,

@@ -24,7 +24,7 @@ mod stopping;
 mod taking;
 
 pub use clearing::clear_places;
-pub use device::{flush_once, read_at, replace, write_last, write_one};
+pub use device::{flush_once, mark_in_use, read_at, replace, write_last, write_one};
 pub use effects::{Effects, effects_of};
 pub use entries::{EntryChange, place, put};
 pub use freezing::release;

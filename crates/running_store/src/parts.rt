@@ -1,12 +1,14 @@
 //! What a run leaves of a store.
 
+ghost use Rattle.std.specs.Prelude.{◌≡◌, if◌then◌else◌};
+
 use crate::giving_back::clear_claimed;
 use crate::running::Running;
 use pools::{ClusterPool, PagePool};
 use super_block::{Masks, Super};
 use volume_model::EntryList;
 
-/// What a run leaves of a store: its device and super block; which metadata pages, clusters and heads are in use; and
+/// What a run leaves of a store: its device and super block, which says whether the store is clean; which metadata pages, clusters and heads are in use; and
 /// the log.
 pub struct Parts<D> {
     pub disk: D,
@@ -15,8 +17,19 @@ pub struct Parts<D> {
     pub entries: EntryList,
 }
 
+/// The number by which a super block says whether the store is clean.
+fn clean_number(is_clean: bool) -> u32
+    ensures { result ≡ (if is_clean then 1 else 0) }
+{
+    if is_clean {
+        return 1;
+    }
+    0
+}
+
 impl<D> Running<D> {
     ghost use Rattle.std.specs.Prelude.{◌≡◌, [], length};
+    ghost use Rattle.running_store.specs.Running.{super_left};
     ghost use Rattle.running_store.specs.LoadedWhole.{without_first};
     ghost use Rattle.running_store.specs.StoreView.{rows_of};
 
@@ -25,7 +38,7 @@ impl<D> Running<D> {
         requires no_page { self.pages.claims ≡ [] }
         requires no_cluster { self.clusters.claims ≡ [] }
         ensures disk { result.disk ≡ self.disk }
-        ensures sup { result.sup ≡ self.sup }
+        ensures sup { result.sup ≡ super_left self.is_clean self.sup }
         ensures pages { result.masks.pages ≡ self.pages.bits }
         ensures clusters { result.masks.clusters
             ≡ without_first self.clusters.bits (rows_of self.rows.items) (length self.rows.items) }
@@ -35,7 +48,8 @@ impl<D> Running<D> {
         let Running {
             alloc: _,
             disk,
-            sup,
+            mut sup,
+            is_clean,
             metas: _,
             marked: _,
             chains: _,
@@ -54,6 +68,7 @@ impl<D> Running<D> {
             stopped: _,
         } = self;
         clear_claimed(&mut clusters, rows.as_slice());
+        sup.clean = clean_number(is_clean);
         Parts {
             disk,
             sup,

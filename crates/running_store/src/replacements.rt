@@ -44,7 +44,6 @@ impl Commit {
 }
 
 /// New metadata of the blob at a head, as a chain of pages.
-#[derive(Drop)]
 pub struct Planned {
     pub head: u32,
     pub new: Meta,
@@ -55,10 +54,38 @@ pub struct Planned {
     pub pages: Plan,
 }
 
+// By hand, as for an erasure: to let one go is one call then, at each place where control leaves, and not one for each
+// of its fields, of which each `Option` would double the cases that have to be proved there.
+impl Drop for Planned {
+    fn drop(self) {
+        let Planned {
+            head: _,
+            new: _,
+            effects: _,
+            chain: _,
+            pages: _,
+        } = self;
+    }
+}
+
 impl Planned {
     ghost use Rattle.std.specs.Prelude.{◌≡◌};
     ghost use Rattle.std.specs.Option.{option_map};
     ghost use Rattle.running_store.specs.Effects.{reply_of};
+
+    /// What the store in memory keeps of it: the head, the new metadata, what is done besides, and the chain.
+    pub fn apart(self) -> (u32, Meta, Effects, PlaceList)
+        ensures { result ≡ (self.head, self.new, self.effects, self.chain) }
+    {
+        let Planned {
+            head,
+            new,
+            effects,
+            chain,
+            pages: _,
+        } = self;
+        (head, new, effects, chain)
+    }
 
     /// What the job's command is answered with once this is written, where it is the commit.
     pub fn reply(&self) -> Option<Reply>
@@ -72,7 +99,6 @@ impl Planned {
 }
 
 /// The blob at a head is to be erased.
-#[derive(Drop)]
 pub struct Erasure {
     pub head: u32,
     /// What it makes as the job's commit, where it is that.
@@ -81,10 +107,32 @@ pub struct Erasure {
     pub freed: PlaceList,
 }
 
+impl Drop for Erasure {
+    fn drop(self) {
+        let Erasure {
+            head: _,
+            commit: _,
+            freed: _,
+        } = self;
+    }
+}
+
 impl Erasure {
     ghost use Rattle.std.specs.Prelude.{◌≡◌};
     ghost use Rattle.std.specs.Option.{option_map};
     ghost use Rattle.running_store.specs.Effects.{reply_of};
+
+    /// Its head, its commit, and the clusters that are clear then.
+    pub fn apart(self) -> (u32, Option<Commit>, PlaceList)
+        ensures { result ≡ (self.head, self.commit, self.freed) }
+    {
+        let Erasure {
+            head,
+            commit,
+            freed,
+        } = self;
+        (head, commit, freed)
+    }
 
     /// What the job's command is answered with once the blob is erased, where that is the commit.
     pub fn reply(&self) -> Option<Reply>

@@ -13,7 +13,10 @@ use volume_model::{Entry, XattrList};
 pub struct Running<D> {
     pub alloc: Global,
     pub disk: D,
+    /// The super block as the store was opened.
     pub sup: Super,
+    /// Whether the device's super block says that the store was unloaded.
+    pub is_clean: bool,
     /// The metadata once it is resolved; the marked blobs, as the device says them; and the places of each blob's
     /// chain.
     pub metas: Metas,

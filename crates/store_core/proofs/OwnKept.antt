@@ -91,6 +91,9 @@ own_after told p q kind.begins own t = step_idle p own t.posted.channel _ _ q (a
       written = [];
       todo = [];
     }) _ refl q.job (ap (λ (s : StoreState). s.job) t.next) j is) insert)
+own_after told p q kind.marks_dirty own t = step_job p own t.running.job t.running.is q
+    (ap (λ (s : StoreState). s.rows) t.next)
+    (same_one t.running.job _ refl q.job (ap (λ (s : StoreState). s.job) t.next))
 own_after told p q kind.zeroes own t = step_job p own t.running.job t.running.is q
     (ap (λ (s : StoreState). s.rows) t.next)
     (same_one t.running.job _ refl q.job (ap (λ (s : StoreState). s.job) t.next))

@@ -174,6 +174,7 @@ module _ (tells : Bool) (p q : StoreState) (are : AreStaged p) where
   stays_staged kind.ends t = one_row _ t.next refl t.channel [] Ended None refl tt
   stays_staged kind.begins t =
       one_row _ t.next refl t.posted.channel (t.posted.command ∷ t.posted.rest) InJob None refl tt
+  stays_staged kind.marks_dirty t = no_row _ t.next refl refl
   stays_staged kind.zeroes t = no_row _ t.next refl refl
   stays_staged kind.writes t = no_row _ t.next refl refl
   stays_staged kind.commits t =

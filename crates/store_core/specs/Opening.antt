@@ -1,6 +1,6 @@
 -- How a running store begins.
 use Rattle.std.specs.Prelude.{◌≡◌, ℕ, ◌+◌, ◌<◌, ◌≤◌, ◌^◌, nat_lt, vec_capacity, Bool, false, if◌then◌else◌, List, []}
-use Rattle.std.specs.Prelude.{◌∷◌, length, None, slice_index_or}
+use Rattle.std.specs.Prelude.{◌∷◌, length, nat_eq, None, slice_index_or}
 use Rattle.std.specs.Option.{option_map}
 use Rattle.std.specs.Ordering.{nat_cmp}
 use Rattle.std.specs.FinMap as map
@@ -51,6 +51,7 @@ abbrev pub opened_with : {D : Type 0} → Ghosts D → Loaded D → map.FinMap n
 opened_with d loaded live guards rows pages clusters = record {
   disk = loaded.disk;
   super = loaded.sup;
+  clean = nat_eq loaded.sup.clean 1;
   metas = loaded.metas;
   marked = loaded.marked;
   chains = loaded.chains;

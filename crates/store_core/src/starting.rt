@@ -102,10 +102,12 @@ pub(crate) fn running_at_start<D: PageDisk>(
         entries,
         marks,
     } = parts;
+    let is_clean = sup.clean == 1;
     Running {
         alloc,
         disk,
         sup,
+        is_clean,
         metas,
         marked,
         chains,

@@ -127,6 +127,7 @@ turn_stands told k.ends p q t f =
     ))
 turn_stands told k.begins p q t f = changes p q f _ t.next t.posted.channel t.posted.command t.posted.rest
     (Posted t.posted.serial) None t.posted.row t.unfilled _ refl refl
+turn_stands told k.marks_dirty p q t f = same p q f _ t.next refl refl
 turn_stands told k.zeroes p q t f = same p q f _ t.next refl refl
 turn_stands told k.writes p q t f = same p q f _ t.next refl refl
 turn_stands told k.commits p q t f = serves p q f _ t.next t.served _ refl refl

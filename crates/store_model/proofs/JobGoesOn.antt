@@ -38,7 +38,8 @@ use Rattle.store_model.proofs.LeftToDo.{same_wait}
 use Rattle.store_model.proofs.Progress.{JobLaw, turns_here, turns_in, waits}
 use Rattle.store_model.proofs.Shaped.{serves}
 
-module _ (known : Known) (phase : Phase) (running : Runs known.p phase) (written : List ℕ) (device : Device) where
+module _ (known : Known) (phase : Phase) (running : Runs known.p phase) (written : List ℕ) (clean : Bool)
+    (device : Device) where
   open known use {s, placed, first, script, p, facts}
 
   abbrev j : JobState
@@ -48,7 +49,7 @@ module _ (known : Known) (phase : Phase) (running : Runs known.p phase) (written
   later = record j { written = written; todo = running.rest }
 
   abbrev now : StoreState
-  now = record p { job = Some later; device = device }
+  now = record p { clean = clean; job = Some later; device = device }
 
   module _ (passed : IsPassed p running.job.claimed phase running.rest) where
     waits_on : waiting j.serves j.todo ≡ waiting j.serves running.rest

@@ -119,7 +119,7 @@ module _ (s : Super) (base : Metas) (chains : Chains) (claimed : List ℕ) where
       → Lays s base chains claimed written todo
       → HasNext written (next_replacing todo) (planned_in todo) (held_in todo)
   next_of [] written place among lays = absurd (no_place written place among lays.0)
-  next_of (Marks ∷ rest) written place among lays = next_of rest written place among lays
+  next_of (Marks ∷ rest) written place among lays = next_of rest written place among lays.1
   next_of (Zeros page ∷ rest) written place among lays = next_of rest written place among lays.1
   next_of (Writes more ∷ rest) written place among lays =
       let later = next_of rest (written ++ more ∷ []) place (among_left place written (more ∷ []) among) lays in

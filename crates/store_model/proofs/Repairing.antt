@@ -148,6 +148,7 @@ module _ (told : Bool) (s : Super) (first : Volumes) (script : ℕ → List Comm
   repaired_stays k.settles facts t r = same t.next refl refl refl r
   repaired_stays k.ends facts t r = same t.next refl refl refl r
   repaired_stays k.begins facts t r = begins _ t.next refl (λ e. cc e)
+  repaired_stays k.marks_dirty facts t r = stays t.running _ t.next refl refl refl refl r
   repaired_stays k.zeroes facts t r = stays t.running _ t.next refl refl refl refl r
   repaired_stays k.writes facts t r = stays t.running _ t.next refl refl refl refl r
   repaired_stays k.commits facts t r = commits facts t r

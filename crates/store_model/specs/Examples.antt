@@ -101,6 +101,7 @@ module _ (super : Super) where
   abbrev pub state : StoreState
   state = record {
     super = super;
+    clean = false;
     base = base;
     chains = λ head. if head == 0 then Some (0 ∷ []) else (if head == 3 then Some (3 ∷ 6 ∷ 7 ∷ []) else None);
     live = λ head. if head == 0 then Some [] else (if head == 3 then Some [] else None);

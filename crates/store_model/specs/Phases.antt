@@ -48,6 +48,11 @@ pub data Phase : Type 0 where
   Erases : (place : ℕ) → Phase
   Frees : (place : ℕ) (old : List ℕ) → Phase
 
+-- the store is marked as in use, where it is clean, and then come these
+abbrev pub marking : Bool → List Phase → List Phase
+marking true others = Marks ∷ others
+marking false others = others
+
 -- pages go to these fresh places, and then come the others
 abbrev pub writing : List ℕ → List Phase → List Phase
 writing [] others = others

@@ -25,6 +25,12 @@ pub record HasStore (s : Super) (image : Image) : Type 0 where
   pub faultless : super_fault (image 0) s.device_pages ≡ None
   pub same : IsSameStore s (super_of (image 0) s.device_pages)
 
+-- the page is the super block of this store without fault, and says that the store is in use
+pub record SaysInUse (s : Super) (page : List ℕ) : Type 0 where
+  pub faultless : super_fault page s.device_pages ≡ None
+  pub same : IsSameStore s (super_of page s.device_pages)
+  pub dirty : (super_of page s.device_pages).clean ≡ 0
+
 -- the same volume, but for the content of pages that aren't settled
 pub record IsSameBut (settled : ℕ → Type 0) (v w : Volume) : Type 0 where
   pub count : length v.pages ≡ length w.pages

@@ -11,7 +11,7 @@ use Rattle.volume_model.specs.declared.reply.Entry.{Entry}
 use Rattle.blob_meta.specs.Resolving.{resolved}
 use Rattle.md_chain.specs.Chain.{Look}
 use Rattle.store_model.specs.Maps.{Map, Metas, Chains}
-use Rattle.store_model.specs.Phases.{Phase, has_commit, planned_in}
+use Rattle.store_model.specs.Phases.{Phase, has_commit, marking, planned_in}
 use Rattle.store_model.specs.Shown.{fixed_of, shown_by}
 use Rattle.store_model.specs.Device.{Device}
 use Rattle.store_model.specs.Rows.{Rows, Stage, with_row, entry_of, fill_row, Idle, Answered, Decided, Ended}
@@ -54,8 +54,14 @@ abbrev pub going_on : JobState → List ℕ → List Phase → Option JobState
 going_on j written [] = None
 going_on j written (x ∷ xs) = Some (record j { written = written; todo = x ∷ xs })
 
+-- a job at its begin: where the store is clean it marks it as in use before all else
+abbrev pub marked : Bool → JobState → JobState
+marked clean j = record j { todo = marking clean j.todo }
+
 pub record StoreState : Type 0 where
+  -- the super block as the store was opened, and whether the device's says that the store was unloaded
   pub super : Super
+  pub clean : Bool
   -- the metadata as the device says it, marked blobs among it, and the places of each blob's chain
   pub base : Metas
   pub chains : Chains

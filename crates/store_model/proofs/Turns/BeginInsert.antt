@@ -31,6 +31,7 @@ use Rattle.store_model.proofs.InsertedBlob.{inserted_steady, lawful_inserted, sl
 use Rattle.store_model.proofs.Known.{Known}
 use Rattle.store_model.proofs.LeftToDo.{no_place, chain_new}
 use Rattle.store_model.proofs.OneReplacement.{all_steady, base_lawful, base_steady, base_resolved}
+use Rattle.store_model.proofs.Marking.{marked_keeps}
 use Rattle.store_model.proofs.Over.{Effect, nothing, stays, TurnLaw}
 use Rattle.store_model.proofs.Phases.{old_pages, puts_behind}
 use Rattle.store_model.proofs.PhasesOfOne.{held_one, lays_one, leads_one, some_phase}
@@ -256,7 +257,9 @@ module _ (known : Known) where
               let same : job ≡ j = cc is in
               subst (λ (i : JobState). i.todo ≢ []) same (some_phase r None []);
         } in
-        subst (RunInvariant s first script) (sym t.next) done
+        subst (RunInvariant s first script) (sym t.next)
+        (marked_keeps (record { s = s; placed = placed; first = first; script = script; p = now; facts = done }) job refl
+        t.runs (some_phase r None []) p.clean)
 
 pub law : TurnLaw case.kind
 law = record {

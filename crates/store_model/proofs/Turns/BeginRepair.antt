@@ -15,6 +15,7 @@ use Rattle.store_model.proofs.Guarding.{guarded_begun}
 use Rattle.store_model.proofs.Known.{Known}
 use Rattle.store_model.proofs.LawsBelow.{RepairLaws}
 use Rattle.store_model.proofs.LeftToDo.{no_place}
+use Rattle.store_model.proofs.Marking.{marked_keeps}
 use Rattle.store_model.proofs.Over.{Effect, nothing, stays, TurnLaw}
 use Rattle.store_model.proofs.Phases.{keeps_behind, keeps_clearing, mends_behind, mends_clearing}
 use Rattle.store_model.proofs.PhasesOfOne.{held_one, lays_one, some_phase}
@@ -26,7 +27,7 @@ use Rattle.store_model.proofs.Shapes.{Idles, silent, untouched_images}
 use Rattle.store_model.proofs.Used.{used_begun}
 
 module _ (laws : RepairLaws) (known : Known) where
-  open known use {s, first, script, p, facts}
+  open known use {s, placed, first, script, p, facts}
 
   module _ (q : StoreState) (t : BeginsRepair p q) where
     well : RunsWell first p
@@ -105,7 +106,9 @@ module _ (laws : RepairLaws) (known : Known) where
               let same : job ≡ j = cc is in
               subst (λ (i : JobState). i.todo ≢ []) same (some_phase r None []);
         } in
-        subst (RunInvariant s first script) (sym t.next) done
+        subst (RunInvariant s first script) (sym t.next)
+        (marked_keeps (record { s = s; placed = placed; first = first; script = script; p = now; facts = done }) job refl
+        t.runs (some_phase r None []) p.clean)
 
 pub law : TurnLaw case.kind
 law = record {

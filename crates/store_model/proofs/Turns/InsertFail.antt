@@ -12,7 +12,7 @@ use Rattle.store_model.specs.StoreState.{StoreState}
 use Rattle.store_model.specs.Touches.{left_by}
 use Rattle.store_model.specs.Turning.{Runs}
 use Rattle.store_model.specs.Cases.InsertFail as case
-use Rattle.store_model.specs.Cases.InsertFail.{head, InsertFails, page, tried_insert, TriedInsert}
+use Rattle.store_model.specs.Cases.InsertFail.{head, InsertFails, mark, page, tried_insert, TriedInsert}
 use Rattle.store_model.specs.RunInvariant.{RunInvariant}
 use Rattle.store_model.proofs.GivenBack.{logged_work}
 use Rattle.store_model.proofs.InsertStops.{insert_stops}
@@ -22,6 +22,7 @@ use Rattle.store_model.proofs.LeftToDo.{put_quiet}
 use Rattle.store_model.proofs.Refusals.{RefusalsChangeNothing}
 use Rattle.store_model.proofs.Over.{breaks, Effect, fault, ImageLaw, Over, TurnLaw}
 use Rattle.store_model.proofs.Shapes.{place_fails}
+use Rattle.store_model.proofs.SuperMarked.{mark_fails}
 
 -- ---- it keeps what every state has
 
@@ -42,8 +43,10 @@ module _ {D : Type 0} (d : Ghosts D) (x : Over d) (t : InsertFails x.p x.q) wher
   stops = ap (λ (v : StoreState). v.stopped) (logged_work t.logs).next
 
   at_head : (phase : Phase) (running : Runs p phase) (inserting : IsInserting p running.job)
-      (tried : TriedInsert running.job phase)
+      (tried : TriedInsert p.super running.job phase)
       → ImageLaw d x (left_by (tried_insert p tried) (d.images from) (d.now from))
+  at_head phase running inserting (mark content is in_use) =
+      mark_fails d x running.runs content in_use (length p.log) stops
   at_head phase running inserting (page put is) =
       let j = running.job in
       let quiet = put_quiet p.super p.base p.chains (gained_by p.rows j) j phase running.rest running.next

@@ -157,7 +157,7 @@ module _ (known : Known) (told : Bool) (q : StoreState) (t : Zeroes told known.p
 
   keeps : RunInvariant s first script q
   keeps = subst (RunInvariant s first script) (sym t.next)
-      (job_moves_on known (Zeros t.page) t.running j.written t.device passed
+      (job_moves_on known (Zeros t.page) t.running j.written p.clean t.device passed
       (let c = t.moves.clock in omega (arith, c))
       (shown_still known t.running.runs t.page among t.device (reads_elsewhere told p q t)) copied refl some stands)
 
@@ -214,6 +214,6 @@ law = record {
   effect = λ told p q t. subst (Effect p) (sym t.next)
       (record { goes = moves t.running.runs refl t.moves.write_faults; logs = nothing refl refl });
   images = λ d x t does. images d x t does;
-  job = λ _ told known q t. job_law known (Zeros t.page) t.running t.running.job.written t.device
+  job = λ _ told known q t. job_law known (Zeros t.page) t.running t.running.job.written known.p.clean t.device
       (passed known told q t) q t.next;
 }

@@ -8,7 +8,7 @@ use Rattle.store_model.specs.Jobs.{IsLaid}
 use Rattle.store_model.specs.Phases.{phases_of, Replacing, taken_by}
 use Rattle.store_model.specs.Places.{all_set}
 use Rattle.store_model.specs.Rows.{InJob, Posted, with_row}
-use Rattle.store_model.specs.StoreState.{ForInsert, StoreState}
+use Rattle.store_model.specs.StoreState.{ForInsert, marked, StoreState}
 use Rattle.store_model.specs.Touches.{TurnKind, untouched}
 
 -- The job of one replacement begins that puts the cluster into the slot, where no repair is left.
@@ -26,13 +26,13 @@ pub record BeginsInsert (p q : StoreState) : Type 0 where
       replacing
   pub next : q ≡ record p {
     rows = with_row p.rows posted.row (record { left = posted.left; stage = InJob; claim = Some posted.claim });
-    job = Some (record {
+    job = Some (marked p.clean (record {
       serves = ForInsert posted.row;
       freeze = None;
       claimed = [];
       written = [];
       todo = phases_of replacing None [];
-    });
+    }));
     pages = all_set p.pages (taken_by replacing) true;
   }
 

@@ -5,7 +5,7 @@ use Rattle.blob_meta.specs.declared.job.Replacement.{Replacement}
 use Rattle.store_model.specs.Jobs.{IsLaid}
 use Rattle.store_model.specs.Phases.{phases_of, Replacing, taken_by}
 use Rattle.store_model.specs.Places.{all_set}
-use Rattle.store_model.specs.StoreState.{ForRepair, StoreState}
+use Rattle.store_model.specs.StoreState.{ForRepair, marked, StoreState}
 use Rattle.store_model.specs.Touches.{TurnKind, untouched}
 
 -- The first repair that is due begins: a blob that is kept loses its marks, or, where no such is left, one is erased.
@@ -18,8 +18,8 @@ pub record BeginsRepair (p q : StoreState) : Type 0 where
   pub replacing : Replacing
   pub laid : IsLaid p.super p.base p.chains p.pages [] repair replacing
   pub next : q ≡ record p {
-    job = Some
-        (record { serves = ForRepair; freeze = None; claimed = []; written = []; todo = phases_of replacing None [] });
+    job = Some (marked p.clean
+        (record { serves = ForRepair; freeze = None; claimed = []; written = []; todo = phases_of replacing None [] }));
     pages = all_set p.pages (taken_by replacing) true;
   }
 

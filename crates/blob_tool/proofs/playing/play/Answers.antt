@@ -32,7 +32,7 @@ returns-in-Some g c =
       inr (
           subst (λ (x : g.row.D.Denot). EndedInRepair d k out out x b.opening c.in-Some.status)
           (sym c.device_left.ensures.disk)
-          (ended_in_repair d c.stores_are_accepted.ensures g.met.D.PageDisk.telling c.state_stops.ensures b
+          (ended_in_repair d c.stores_are_accepted.ensures c.unloaded_masks_are_read.ensures.apart g.met.D.PageDisk.telling c.state_stops.ensures b
           c.device_left.ensures.kept k out c.repair-end.result c.in-Some.status (sym c.status.ensures ∙ c.in-Some.is)
           ends)
           ),

@@ -5,30 +5,31 @@ use Rattle.clean_stop.proofs.Written.{page_mask_written, cluster_mask_written, b
 use Rattle.clean_stop.proofs.masks.write_masks.Goals as goal
 
 -- a mask ends on the device
-inside : (start bits len pages device : ℕ) → len ≡ bits → pages ≡ device → start + mask_pages bits ≤ device
+inside : (start bits len pages device : ℕ) → len ≡ bits → device ≤ pages → start + mask_pages bits ≤ device
     → start + mask_pages len ≤ pages
-inside start bits len pages device few same le =
-    subst (λ (n : ℕ). start + mask_pages n ≤ pages) (sym few) (omega (arith, le, same))
+inside start bits len pages device few least le =
+    subst (λ (n : ℕ). start + mask_pages n ≤ pages) (sym few) (omega (arith, le, least))
 
 pub write_mask-requires : goal.write_mask-requires
 write_mask-requires g c =
     let s = c.args.sup.now in
     let placed = masks_placed s c.requires.faultless (c.regions_are_placed.ensures s c.requires.faultless) in
-    inside _ _ _ _ _ c.requires.masks.pages (sym c.requires.device) placed.pages_end
+    inside _ _ _ _ _ c.requires.masks.pages c.requires.device placed.pages_end
 
 pub write_mask-requires-2 : goal.write_mask-requires-2
 write_mask-requires-2 g c =
     let s = c.args.sup.now in
     let placed = masks_placed s c.requires.faultless (c.regions_are_placed.ensures s c.requires.faultless) in
-    inside _ _ _ _ _ c.requires.masks.clusters (c.write_mask.ensures.only.pages ∙ sym c.requires.device)
-    placed.clusters_end
+    inside _ _ _ _ _ c.requires.masks.clusters
+    (subst (λ n. s.device_pages ≤ n) (sym c.write_mask.ensures.only.pages) c.requires.device) placed.clusters_end
 
 pub write_mask-requires-3 : goal.write_mask-requires-3
 write_mask-requires-3 g c =
     let s = c.args.sup.now in
     let placed = masks_placed s c.requires.faultless (c.regions_are_placed.ensures s c.requires.faultless) in
     inside _ _ _ _ _ c.requires.masks.blobs
-    (c.write_mask-2.ensures.only.pages ∙ c.write_mask.ensures.only.pages ∙ sym c.requires.device) placed.blobs_end
+    (subst (λ n. s.device_pages ≤ n) (sym (c.write_mask-2.ensures.only.pages ∙ c.write_mask.ensures.only.pages))
+    c.requires.device) placed.blobs_end
 
 pub returns-in_err-write_mask-clause-only : goal.returns-in_err-write_mask-clause-only
 returns-in_err-write_mask-clause-only g c =

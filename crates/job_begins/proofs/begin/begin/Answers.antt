@@ -2,9 +2,13 @@ use Rattle.std.proofs.Common.{◌≡◌, ◌<◌, ◌+◌, ◌^◌, ◌≤◌, l
 use Rattle.std.specs.Prelude.{slice_set, vec_capacity}
 use Rattle.store_model.specs.Cases.{Begins}
 use Rattle.store_model.specs.Rows.{InJob, Row}
-use Rattle.running_store.specs.Jobs.{job_seen}
+use Rattle.store_model.specs.StoreState.{JobState}
+use Rattle.running_store.specs.Blobs.{blobs_of, WillBeKept}
+use Rattle.running_store.specs.Jobs.{job_seen, IsHeaded}
 use Rattle.running_store.specs.Running.{left_in, view_of}
-use Rattle.running_store.specs.StoreView.{state_of}
+use Rattle.running_store.specs.StoreView.{rows_of, state_of}
+use Rattle.running_store.specs.declared.job.RunningJob.{RunningJob}
+use Rattle.running_store.proofs.JobLeft.{seen_with_mark}
 use Rattle.running_store.specs.declared.running.Running.{Running}
 use Rattle.running_store.proofs.Counting.{left_same}
 use Rattle.job_begins.proofs.JobBegin.{indexed_row, refused}
@@ -19,8 +23,16 @@ returns-in-Ok-clause-began g c = λ _.
     (indexed_row q.rows c.args.channel low c.index_mut.result.now c.index_mut.ensures.value) in (
       subst (λ (r : Row). Begins (state_of d (view_of c.args.running.now)) (state_of d (record q {
         rows = slice_set q.rows c.args.channel r;
-        job = Some (job_seen c.in-Ok.job);
-      }))) (sym row) c.in-Ok.ensures.begins,
+        job = Some (job_seen c.with_mark.result);
+      }))) (sym row)
+          (subst (λ (j : RunningJob). Begins (state_of d (view_of c.args.running.now)) (state_of d (record q {
+            rows = slice_set q.rows c.args.channel (record (rows_of q.rows c.args.channel) { stage = InJob });
+            job = Some (job_seen j);
+          }))) (sym c.with_mark.ensures)
+          (subst (λ (j : JobState). Begins (state_of d (view_of c.args.running.now)) (state_of d (record q {
+            rows = slice_set q.rows c.args.channel (record (rows_of q.rows c.args.channel) { stage = InJob });
+            job = Some j;
+          }))) (sym (seen_with_mark c.in-Ok.job c.in-Ok.ensures.unmarked q.clean)) c.in-Ok.ensures.begins)),
       c.job_asked.ensures.disk,
     )
 
@@ -44,10 +56,10 @@ returns-in-Ok-clause-order g c =
       counted = order.counted;
       no_page = order.no_page;
       no_cluster = order.no_cluster;
-      headed = c.in-Ok.ensures.headed;
+      headed = subst IsHeaded (sym c.with_mark.ensures) c.in-Ok.ensures.headed;
       heads = order.heads;
       resolves = order.resolves;
-      kept = c.in-Ok.ensures.kept;
+      kept = subst (WillBeKept (blobs_of q)) (sym c.with_mark.ensures) c.in-Ok.ensures.kept;
     }
 
 pub returns-in-Err-clause-logged : goal.returns-in-Err-clause-logged

@@ -1,7 +1,8 @@
-use Rattle.std.proofs.Common.{◌<◌, length, refl, sym, ap, subst, arith}
+use Rattle.std.proofs.Common.{◌≡◌, ◌<◌, length, refl, sym, ap, subst, arith}
 use Rattle.std.proofs.Common.{IfErr, Result}
 use Rattle.std.specs.Option.{option_map}
 use Rattle.std.proofs.lemmas.Result.{err_from_is_err_and, IfErr-weaker, IfOk-weaker}
+use Rattle.pools.specs.Pool.{PoolState}
 use Rattle.volume_model.specs.declared.reply.Reply.{Reply}
 use Rattle.store_model.specs.Cases.{IsRefusedAtBegin}
 use Rattle.running_store.specs.Jobs.{job_seen}

@@ -1,6 +1,7 @@
 use Rattle.std.proofs.Common.{◌≡◌, ◌<◌, ℕ, List, ◌∷◌, None, Some, length, sym, ap, ◌∙◌, subst, arith}
 use Rattle.std.specs.Prelude.{is_some, option_copied, slice_set}
 use Rattle.std.specs.Option.{option_map}
+use Rattle.store_model.specs.StoreState.{marked}
 use Rattle.store_model.specs.Cases.{Begins}
 use Rattle.store_model.specs.Rows.{InJob, Row}
 use Rattle.running_store.specs.Blobs.{blobs_of, CanAllBeKept}
@@ -57,7 +58,7 @@ returns-clause-begins g c =
     c.requires.runs no_job c.args.head x.commit x.asked in
     subst (λ (l : List ℕ). Begins (state_of d p) (state_of d (record p {
       rows = slice_set p.rows c.args.channel (record (rows_of p.rows c.args.channel) { stage = InJob });
-      job = Some (removing_for (whom.Command c.args.channel None) (record {
+      job = Some (marked p.clean (removing_for (whom.Command c.args.channel None) (record {
         head = c.args.head;
         commit = Some (record {
           made = None;
@@ -66,12 +67,12 @@ returns-clause-begins g c =
           shows = None;
         });
         freed = c.in_ok-freed.freed;
-      }) c.in_ok-old.old (phases_in c.new-2.result.items));
+      }) c.in_ok-old.old (phases_in c.new-2.result.items)));
     }))) (sym c.new.ensures)
     (subst (λ (l : List LaidReplacement). Begins (state_of d p) (state_of d (record p {
       rows = slice_set p.rows c.args.channel (record (rows_of p.rows c.args.channel) { stage = InJob });
-      job = Some (removing_for (whom.Command c.args.channel None) (erasing c.args.head c.in_ok-freed.freed)
-          c.in_ok-old.old (phases_in l));
+      job = Some (marked p.clean (removing_for (whom.Command c.args.channel None) (erasing c.args.head c.in_ok-freed.freed)
+          c.in_ok-old.old (phases_in l)));
     }))) (sym c.new-2.ensures.items)
     (begins_erasing d p c.args.channel c.requires.posted c.requires.running c.requires.unmarked c.requires.runs no_job
     c.args.head x.commit x.asked c.requires.unfilled low c.in-Some.meta.now at c.in_ok-beside.beside

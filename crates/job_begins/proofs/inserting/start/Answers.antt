@@ -11,15 +11,16 @@ use Rattle.store_model.specs.Maps.{Metas}
 use Rattle.store_model.specs.RunInvariant.{CanBeWritten}
 use Rattle.store_model.specs.Rows.{Answered, Decided, InJob, Row}
 use Rattle.job_begins.specs.Begins.{no_effects, planned_with, IsPrepared, IsUnprepared}
-use Rattle.running_store.specs.Jobs.{job_seen, writing_for}
-use Rattle.running_store.specs.Blobs.{blobs_of, CanAllBeKept}
+use Rattle.running_store.specs.Jobs.{job_seen, writing_for, IsHeaded}
+use Rattle.running_store.specs.Blobs.{blobs_of, CanAllBeKept, WillBeKept}
 use Rattle.running_store.specs.Running.{left_in, view_of}
-use Rattle.store_model.specs.StoreState.{JobState}
+use Rattle.store_model.specs.StoreState.{JobState, marked}
 use Rattle.running_store.specs.declared.job.Serves.TheVariants as whom
 use Rattle.running_store.specs.Stages.{claim_seen}
 use Rattle.running_store.specs.StoreView.{state_of}
 use Rattle.running_store.specs.GivingBack.{IsGivenUp}
 use Rattle.running_store.proofs.Counting.{left_same}
+use Rattle.running_store.proofs.JobLeft.{seen_with_mark}
 use Rattle.running_store.proofs.KeptAlone.{kept_unmarked}
 use Rattle.running_store.proofs.Resolved.{unmarked_base}
 use Rattle.running_store.proofs.WorkLogged.{has_work}
@@ -72,9 +73,11 @@ returns-in-Ok-clause-case g c =
         rows = slice_set p.rows c.args.row c.serve.new.self;
         pages = c.prepare.new.pages.bits;
         job = Some j;
-      }))) (ap (λ (m : Meta). writing_for (whom.Insert c.args.row)
-          (planned_with x claim.head m no_effects) x.old 0 []) (sym c.requires.fills.2)
-          ∙ sym c.alone-job.ensures.seen) begins,
+      }))) (ap (λ (m : Meta). marked p.clean (writing_for (whom.Insert c.args.row)
+          (planned_with x claim.head m no_effects) x.old 0 [])) (sym c.requires.fills.2)
+          ∙ ap (marked p.clean) (sym c.alone-job.ensures.seen)
+          ∙ sym (seen_with_mark c.alone-job.result c.alone-job.ensures.unmarked p.clean)
+          ∙ ap job_seen (sym c.with_mark.ensures)) begins,
       refl,
     )
 
@@ -97,12 +100,13 @@ returns-in-Ok-clause-order g c =
     let chain : IsSome (map.get now.chains claim.head) = ap is_some (has_chain (state_of g.D.PageDisk p)
     c.requires.running c.requires.runs c.args.row claim c.requires.claimed c.requires.fills.0 c.requires.fills.1
     c.requires.unmarked).1 in
-    let kept = subst (CanAllBeKept (blobs_of now)) (sym c.alone-job.ensures.coming) (
+    let kept = subst (WillBeKept (blobs_of now)) (sym c.with_mark.ensures)
+    (subst (CanAllBeKept (blobs_of now)) (sym c.alone-job.ensures.coming) (
       kept_unmarked (blobs_of now) (planned_with c.in-Ok.prepared claim.head c.args.new no_effects)
           c.requires.order.resolves c.requires.unmarked unmarked refl
           (places_there (blobs_of now) claim.head c.args.new unmarked chain there),
       tt,
-    ) in
+    )) in
     let low : c.args.row < length p.rows = omega (arith, c.requires.row, c.requires.order.seventeen) in
     let same : left_in (slice_set p.rows c.args.row c.serve.new.self) ≡ left_in p.rows =
     left_same p.rows c.args.row c.serve.new.self c.index_mut.result.now low
@@ -121,7 +125,7 @@ returns-in-Ok-clause-order g c =
       counted = c.requires.order.counted;
       no_page = c.prepare.ensures.unclaimed;
       no_cluster = c.requires.order.no_cluster;
-      headed = c.alone-job.ensures.headed;
+      headed = subst IsHeaded (sym c.with_mark.ensures) c.alone-job.ensures.headed;
       heads = c.requires.order.heads;
       resolves = c.requires.order.resolves;
       kept = kept;

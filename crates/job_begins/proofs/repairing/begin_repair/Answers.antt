@@ -1,10 +1,26 @@
-use Rattle.std.proofs.Common.{ap}
+use Rattle.std.proofs.Common.{ap, Some, sym, subst}
+use Rattle.store_model.specs.Cases.BeginRepair.{BeginsRepair}
+use Rattle.store_model.specs.StoreState.{JobState}
+use Rattle.running_store.specs.Blobs.{blobs_of, WillBeKept}
+use Rattle.running_store.specs.Jobs.{job_seen, IsHeaded}
 use Rattle.running_store.specs.Running.{view_of}
+use Rattle.running_store.specs.StoreView.{state_of}
+use Rattle.running_store.specs.declared.job.RunningJob.{RunningJob}
+use Rattle.running_store.proofs.JobLeft.{seen_with_mark}
 use Rattle.job_begins.proofs.RepairBegins.{lack_or_not}
 use Rattle.job_begins.proofs.repairing.begin_repair.Goals as goal
 
 pub returns-in-Ok-clause-case : goal.returns-in-Ok-clause-case
-returns-in-Ok-clause-case g c = (c.in-Ok.ensures.begins, c.repair_of.ensures.disk)
+returns-in-Ok-clause-case g c =
+    let d = g.D.PageDisk in
+    let q = view_of c.repair_of.new.running in (
+      subst (λ (j : RunningJob). BeginsRepair (state_of d (view_of c.args.running.now))
+          (state_of d (record q { job = Some (job_seen j) }))) (sym c.with_mark.ensures)
+          (subst (λ (j : JobState). BeginsRepair (state_of d (view_of c.args.running.now))
+          (state_of d (record q { job = Some j })))
+          (sym (seen_with_mark c.in-Ok.job c.in-Ok.ensures.unmarked q.clean)) c.in-Ok.ensures.begins),
+      c.repair_of.ensures.disk,
+    )
 
 pub returns-in-Ok-clause-order : goal.returns-in-Ok-clause-order
 returns-in-Ok-clause-order g c =
@@ -20,10 +36,10 @@ returns-in-Ok-clause-order g c =
       counted = order.counted;
       no_page = order.no_page;
       no_cluster = order.no_cluster;
-      headed = c.in-Ok.ensures.headed;
+      headed = subst IsHeaded (sym c.with_mark.ensures) c.in-Ok.ensures.headed;
       heads = order.heads;
       resolves = order.resolves;
-      kept = c.in-Ok.ensures.kept;
+      kept = subst (WillBeKept (blobs_of c.repair_of.new.running)) (sym c.with_mark.ensures) c.in-Ok.ensures.kept;
     }
 
 pub returns-in-Err-clause-case : goal.returns-in-Err-clause-case

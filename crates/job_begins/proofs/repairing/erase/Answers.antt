@@ -1,6 +1,7 @@
 use Rattle.std.proofs.Common.{◌≡◌, ◌<◌, ℕ, List, ◌∷◌, None, Some, sym, ap, ◌∙◌, subst}
 use Rattle.std.specs.Prelude.{is_some, option_copied}
 use Rattle.std.specs.Option.{option_map}
+use Rattle.store_model.specs.StoreState.{marked}
 use Rattle.store_model.specs.Cases.BeginRepair.{BeginsRepair}
 use Rattle.running_store.specs.Jobs.{erases_laid, job_seen, phases_in, removing_for}
 use Rattle.running_store.specs.Blobs.{blobs_of, CanAllBeKept}
@@ -39,8 +40,8 @@ returns-clause-begins g c =
     let chain = chain_there g.D.PageDisk p c.requires.running c.requires.runs no_job c.args.head c.requires.due
     c.requires.order.resolves c.requires.removed c.in-Some.meta.now at in
     subst (λ (l : List LaidReplacement). BeginsRepair (state_of g.D.PageDisk p) (state_of g.D.PageDisk (record p {
-      job = Some (removing_for whom.Repair (record { head = c.args.head; commit = None; freed = c.in_ok-freed.freed })
-          c.in_ok-old.old (phases_in l));
+      job = Some (marked p.clean (removing_for whom.Repair (record { head = c.args.head; commit = None; freed = c.in_ok-freed.freed })
+          c.in_ok-old.old (phases_in l)));
     }))) (sym c.new.ensures.items)
     (removes g.D.PageDisk p c.requires.running c.requires.runs no_job c.args.head c.requires.due
     c.requires.order.resolves c.requires.removed c.in-Some.meta.now at c.in_ok-beside.beside

@@ -5,7 +5,7 @@ use Rattle.store_model.specs.Cases.BeginRepair.{BeginsRepair}
 use Rattle.running_store.specs.Jobs.{job_seen}
 use Rattle.running_store.specs.Blobs.{blobs_of, CanAllBeKept}
 use Rattle.running_store.specs.Running.{view_of}
-use Rattle.store_model.specs.StoreState.{JobState}
+use Rattle.store_model.specs.StoreState.{JobState, marked}
 use Rattle.running_store.specs.StoreView.{state_of}
 use Rattle.job_begins.proofs.JobPlanned.{all_fit}
 use Rattle.job_begins.proofs.RepairBegins.{given, has_chain, mends, mends_to, stored_new}
@@ -64,7 +64,7 @@ returns-in-Ok-clause-begins g c =
     let d = g.D.PageDisk in
     let p = view_of c.args.running.now in
     subst (λ (j : JobState). BeginsRepair (state_of d p)
-    (state_of d (record p { pages = c.prepare.new.pages.bits; job = Some j }))) (sym c.alone.ensures.seen)
+    (state_of d (record p { pages = c.prepare.new.pages.bits; job = Some (marked p.clean j) }))) (sym c.alone.ensures.seen)
     (mends d p c.requires.running c.requires.runs (ap (λ o. option_map job_seen o) c.requires.no_job) c.args.head
     c.requires.due c.requires.order.resolves c.args.new c.requires.kept c.prepare.new.pages.bits c.in-Ok.prepared
     c.in-Ok.ensures.prepared)

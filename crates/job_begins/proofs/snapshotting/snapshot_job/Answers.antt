@@ -1,10 +1,12 @@
-use Rattle.std.proofs.Common.{◌<◌, length, sym, ap, subst, arith}
+use Rattle.std.proofs.Common.{◌≡◌, ◌<◌, length, sym, ap, subst, arith}
 use Rattle.std.proofs.Common.{IfErr, Result, Some}
 use Rattle.std.specs.Prelude.{slice_set}
 use Rattle.std.specs.Option.{option_map}
 use Rattle.std.proofs.lemmas.Result.{err_from_is_err_and}
 use Rattle.volume_model.specs.declared.reply.Reply.{Reply}
 use Rattle.io_freeze.specs.Guards.{GuardsState}
+use Rattle.pools.specs.Pool.{PoolState}
+use Rattle.store_model.specs.StoreState.{marked}
 use Rattle.store_model.specs.Cases.{Begins, IsRefusedAtBegin}
 use Rattle.store_model.specs.Rows.{InJob}
 use Rattle.running_store.specs.Blobs.{blobs_of, CanAllBeKept}
@@ -84,7 +86,7 @@ returns-clause-begins g c =
     let low : c.args.channel < length q.rows = omega (arith, c.requires.channel, c.requires.order.seventeen) in
     subst (λ (y : GuardsState). Begins (state_of d q) (state_of d (record q {
       rows = slice_set q.rows c.args.channel (record (rows_of q.rows c.args.channel) { stage = InJob });
-      job = Some (job_seen c.in_ok-job.job);
+      job = Some (marked q.clean (job_seen c.in_ok-job.job));
       guards = y;
       pages = c.job.new.pages.bits;
     }))) (sym c.freeze.ensures)

@@ -1,4 +1,4 @@
-use Rattle.std.proofs.Common.{◌<◌, ◌+◌, ℕ, List, length, get_or, sym, ◌∙◌, ap, refl, subst, arith, Some}
+use Rattle.std.proofs.Common.{◌<◌, ◌+◌, false, ℕ, List, length, get_or, sym, ◌∙◌, ap, refl, subst, arith, Some}
 use Rattle.page_disk.specs.Disk.{Written}
 use Rattle.page_disk.specs.Moments.{CallsLeaveOnly}
 use Rattle.page_disk.specs.declared.disk.WriteKind.TheVariants.{Plain}
@@ -76,6 +76,7 @@ returns-clause-case g c =
     (view_of (record c.args.running.now { disk = disk; job = Some j })))
     {x = record {
       serves = c.args.beside.serves;
+      marks = false;
       work = Erasing (c.args.erased + 1);
       old = old;
       later = c.args.beside.later;

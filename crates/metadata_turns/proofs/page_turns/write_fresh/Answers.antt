@@ -1,4 +1,4 @@
-use Rattle.std.proofs.Common.{◌+◌, [], ℕ, List, get_or, sym, ◌∙◌, ap, refl, subst, arith, Some}
+use Rattle.std.proofs.Common.{◌+◌, false, [], ℕ, List, get_or, sym, ◌∙◌, ap, refl, subst, arith, Some}
 use Rattle.page_disk.specs.Disk.{Written}
 use Rattle.page_disk.specs.Moments.{CallsLeaveOnly}
 use Rattle.page_disk.specs.declared.disk.WriteKind.TheVariants.{Plain}
@@ -85,6 +85,7 @@ returns-clause-case g c =
     (view_of (record c.args.running.now { disk = disk; job = Some j })))
     {x = record {
       serves = c.args.beside.serves;
+      marks = false;
       work = Writing c.args.planned (c.args.written + 1);
       old = c.args.beside.old;
       later = c.args.beside.later;

@@ -9,6 +9,7 @@ use Rattle.running_store.specs.Jobs.{erases_laid, job_seen, phases_in, to_come, 
 use Rattle.running_store.specs.declared.effects.Effects.{Effects}
 use Rattle.running_store.specs.declared.job.Serves.TheVariants as whom
 use Rattle.running_store.specs.declared.replacements.Planned.{Planned}
+use Rattle.running_store.specs.declared.job.RunningJob.{RunningJob}
 use Rattle.job_begins.specs.Drafts.{IsPlannedOn}
 use Rattle.job_begins.proofs.ListParts.{planned_matched}
 use Rattle.job_begins.proofs.PlacesInParts.{in_two, part_length}
@@ -52,6 +53,7 @@ returns-clause-laid c =
           (ap (λ (p : Effects × Effects × List ℕ). p.0) c.apart-begin.ensures) marks_on.on;
       second_laid = subst (λ (e : Effects). IsPlannedOn x.drafts.taking taking e later.planned)
           (ap (λ (p : Effects × Effects × List ℕ). p.1) c.apart-begin.ensures) later.on;
+      marks = ap (λ (j : RunningJob). j.marks) c.job.ensures;
       coming = ap to_come c.job.ensures
           ∙ (λ i. writes_laid marks.planned (marks_on.old_is i) ∷ later.later_is i)
           ∙ (λ i. writes_laid marks.planned x.old ∷ writes_laid later.planned x.old_of_clone

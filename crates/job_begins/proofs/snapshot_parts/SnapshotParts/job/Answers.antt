@@ -1,5 +1,5 @@
-use Rattle.std.proofs.Common.{IfErr, Result, ◌≡◌, ◌<◌, ◌∙◌, ℕ, All, Bool, true, false, List, length, sym, ap, subst}
-use Rattle.std.proofs.Common.{arith, drop}
+use Rattle.std.proofs.Common.{IfErr, Result, ◌≡◌, ◌<◌, ◌∙◌, ℕ, All, Bool, true, false, List, ◌∷◌, length, sym, ap, subst, arith}
+use Rattle.std.proofs.Common.{drop}
 use Rattle.std.proofs.lemmas.Result.{err_from_is_err_and}
 use Rattle.bit_array.specs.Bits.{is_in}
 use Rattle.md_chain.proofs.Fitting.{some_parts}

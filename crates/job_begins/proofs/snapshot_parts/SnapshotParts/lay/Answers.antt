@@ -39,6 +39,7 @@ returns c =
           (ap (λ (p : Effects × Effects). p.1) c.apart-begin.ensures) commits_on.on;
       fourth_laid = finishes_on.on;
       serves = ap (λ (j : RunningJob). j.serves) c.job.ensures;
+      marks = ap (λ (j : RunningJob). j.marks) c.job.ensures;
       work = ap (λ (j : RunningJob). j.work) c.job.ensures;
       none_behind = ap (λ (j : RunningJob). j.old) c.job.ensures ∙ begins_on.old_is ∙ c.new.ensures;
       later = ap (λ (j : RunningJob). j.later.items) c.job.ensures ∙ c.from_vec.ensures.items

@@ -1,4 +1,4 @@
-use Rattle.std.proofs.Common.{◌≡◌, List, ◌∷◌, refl, sym, ◌∙◌, ap, subst}
+use Rattle.std.proofs.Common.{◌≡◌, false, List, ◌∷◌, refl, sym, ◌∙◌, ap, subst}
 use Rattle.running_store.specs.Jobs.{job_left, phases_in, MayFollow}
 use Rattle.running_store.specs.declared.job.RunningJob.{RunningJob}
 use Rattle.running_store.specs.declared.replacements.LaidReplacement.{LaidReplacement}
@@ -10,6 +10,7 @@ pub returns-clause-seen : goal.returns-clause-seen
 returns-clause-seen c =
     let j : RunningJob = record {
       serves = c.args.serves;
+      marks = false;
       work = c.match-change.work;
       old = c.in_ok-change.field-0.old;
       later = c.pop_front.new.self;
@@ -18,6 +19,6 @@ returns-clause-seen c =
     let items : c.args.later.items ≡ x ∷ j.later.items = c.in_ok-change.ensures.items in
     let may : MayFollow j.serves (x ∷ j.later.items) = subst (MayFollow j.serves) items c.requires in
     elim c.match-change.branch [
-      | in-Writes w ↦ next_writes j x w.in-Writes.planned w.in-Writes.is refl w.work-is may
-      | in-Erases w ↦ next_erases j x w.in-Erases.erasure w.in-Erases.is refl w.work-is
+      | in-Writes w ↦ next_writes j x w.in-Writes.planned w.in-Writes.is refl w.work-is refl may
+      | in-Erases w ↦ next_erases j x w.in-Erases.erasure w.in-Erases.is refl w.work-is refl
     ] ∙ ap (λ (l : List LaidReplacement). job_left j.serves (phases_in l)) (sym items)
