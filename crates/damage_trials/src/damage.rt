@@ -72,8 +72,7 @@ impl Damage {
             Damage::Summed { page, at, byte } => {
                 let mut content = read(disk, page)?;
                 set(&mut content, at, byte)?;
-                let sum = crc32c::sum(&content[..4092]);
-                content[4092..].copy_from_slice(&sum.to_le_bytes());
+                sum_up(&mut content);
                 write(disk, page, &content)
             }
             Damage::Copied { from, to } => {
@@ -88,6 +87,12 @@ fn set(page: &mut Page, at: usize, byte: u8) -> Result<()> {
     let place = page.get_mut(at).context("a page has no such byte")?;
     *place = byte;
     Ok(())
+}
+
+/// Makes the checksum of a page right.
+fn sum_up(page: &mut Page) {
+    let sum = crc32c::sum(&page[..4092]);
+    page[4092..].copy_from_slice(&sum.to_le_bytes());
 }
 
 fn read(disk: &mut MemDisk, page: u64) -> Result<Page> {

@@ -8,7 +8,7 @@ use std::alloc::Global;
 
 /// A family: a volume with a long chain, its two snapshots, and a clone.
 const FAMILY: &[u8] = b"0 create a 2 thin\n0 write a 0 1 1\n0 snapshot a s\n0 write a 4 1 2\n\
-    0 snapshot a t\n0 clone s c\n0 write c 0 1 3\n0 put a k 6b\n0 create b 1 thick\n";
+    0 snapshot a t\n0 clone s c\n0 write c 0 1 3\n0 put a k t:b\n0 create b 1 thick\n";
 
 /// What is done with it: what is cut off in the middle has blobs with a mark.
 const CHANGES: &[u8] = b"0 snapshot c u\n0 delete t\n0 inflate a\n0 delete s\n";
