@@ -12,7 +12,7 @@ use Rattle.blob_tool.specs.Runs.{Ended, Played}
 use Rattle.blob_tool.proofs.Closed.{closing_unloads}
 use Rattle.blob_tool.proofs.Ending.{ends}
 use Rattle.blob_tool.proofs.Unloading.{masks_fit}
-use Rattle.blob_tool.proofs.WholeRun.{is_run, lasting, survives}
+use Rattle.blob_tool.proofs.WholeRun.{follows_here, is_run, lasting, survives}
 use Rattle.running_store.specs.StoreView.{StoreView}
 use Rattle.store_core.specs.Opening.{AreRows}
 use Rattle.blob_tool.proofs.playing.run_repaired.Goals as goal
@@ -71,7 +71,9 @@ returns g c script rows made unmarked =
     store.opening = record {
       last = store.at;
       run = is_run d script store kept rows_here c.run_stepwise-plant.ensures.ended c.args.plant.at made_here unmarked
-          c.args.schedule.now c.run_stepwise-plant.ensures.follows c.state_stops.ensures
+          c.args.schedule.now
+          (follows_here d c.args.schedule.now c.args.plant.at store.at (made.rows 16 ∙ rows.fill)
+          c.run_stepwise-plant.ensures.follows) c.state_stops.ensures
           c.run_stepwise-plant.ensures.no_job c.run_stepwise-plant.ensures.unused;
       masks = masks;
       claims = c.into_parts-disk.ensures.masks;
