@@ -12,7 +12,7 @@ use Rattle.volume_model.specs.declared.reply.Msg.{Msg}
 use Rattle.store_model.specs.Cases as kind
 use Rattle.store_model.specs.Rows.{Ended, fill_row, Posted, Row}
 use Rattle.store_model.specs.StoreState.{StoreState}
-use Rattle.running_store.specs.StoreInvariant.{opening_script, StoreInvariant}
+use Rattle.store_core.specs.StoreInvariant.{opening_script, StoreInvariant}
 use Rattle.running_store.specs.StoreView.{rows_of, state_of, WithOpening}
 use Rattle.run_work.specs.Following.{ActorInRun, ChannelActs, MetadataActs}
 use Rattle.run_moves.specs.DrivenStore.{DrivenStore}

@@ -5,7 +5,7 @@ use Rattle.volume_model.specs.declared.command.Command.{Command}
 use Rattle.volume_model.specs.declared.reply.Msg.{Msg}
 use Rattle.store_model.specs.Rows.{IsForMetadata, Posted, Row}
 use Rattle.running_store.specs.Requests.{IsPostedBy}
-use Rattle.running_store.specs.StoreInvariant.{StoreInvariant}
+use Rattle.store_core.specs.StoreInvariant.{StoreInvariant}
 use Rattle.running_store.specs.StoreView.{rows_of, state_of, WithOpening}
 use Rattle.md_thread.proofs.OneRow.{AsksUnclaimed, HasMetadata, IsAsked, IsAskedAt}
 use Rattle.md_thread.proofs.RowSteps.{asked_along}

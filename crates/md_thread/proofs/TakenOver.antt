@@ -9,7 +9,7 @@ use Rattle.volume_model.specs.declared.command.Command.{Command}
 use Rattle.metadata_turns.specs.JobTurns.{IsOfJob, TurnsJob}
 use Rattle.running_store.specs.Stages.{is_stage}
 use Rattle.running_store.specs.Steps.{OnlyRow}
-use Rattle.running_store.specs.StoreInvariant.{StoreInvariant}
+use Rattle.store_core.specs.StoreInvariant.{StoreInvariant}
 use Rattle.running_store.specs.StoreView.{rows_of, state_of, StoreView, WithOpening}
 use Rattle.running_store.specs.declared.rows.RowStage.TheVariants.{Over}
 use Rattle.store_model.specs.Cases.{Kind, Run}
