@@ -49,7 +49,7 @@ pub fn run_stepwise<D: PageDisk>(
     ensures right { (result.1 ≡ right) × (result.0.right ≡ plant.right) }
 {
     state_turns();
-    take_over(&mut right, &mut plant);
+    take_over(&mut plant, &mut right);
     let mut driver = Driver::new(plant, right);
     driver.run(alloc, schedule);
     let (plant, right) = driver.into_parts();

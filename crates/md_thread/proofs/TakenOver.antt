@@ -1,7 +1,7 @@
 -- How a metadata thread takes over: a job is made to its end, and the fill's row isn't in use then.
-use Rattle.std.proofs.Common.{◌≡◌, ◌≢◌, ℕ, ◌<◌, Bool, false, true, Option, Some, None, List, [], ◌∷◌, ◌++◌, refl, sym}
+use Rattle.std.proofs.Common.{◌≡◌, ◌≢◌, ℕ, ◌<◌, Bool, false, Option, Some, None, List, [], ◌∷◌, ◌++◌, refl, sym}
 use Rattle.std.proofs.Common.{◌∙◌, ap}
-use Rattle.std.specs.Prelude.{is_some, IsSome}
+use Rattle.std.specs.Prelude.{is_some}
 use Rattle.std.specs.List.{All}
 use Rattle.std.proofs.lemmas.List.Elements.{All-nil, All-push}
 use Rattle.page_disk.specs.declared.disk.PageDisk.{Ghosts}
@@ -82,10 +82,6 @@ module _ {D : Type 0} (d : Ghosts D) (laws : StateLaws) (first now : WithOpening
 pub job_over : (o : Option JobState) → is_some o ≡ false → o ≡ None
 job_over None is = refl
 job_over (Some job) is = absurd (cc is)
-
-pub job_there : (o : Option JobState) → is_some o ≡ true → IsSome o
-job_there None is = absurd (cc is)
-job_there (Some job) is = tt
 
 pub ends_job : {D : Type 0} (d : Ghosts D) (first now : WithOpening D) (right : ℕ) → IsEndingJob d first now right
     → now.at.job ≡ None → EndsJob d.tells (state_of d first.at) (state_of d now.at)

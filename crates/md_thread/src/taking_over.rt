@@ -13,7 +13,7 @@ use store_core::{MdRight, Plant};
 use store_model::state_turns;
 
 /// The running job makes its turns until none runs.
-fn end_job<D: PageDisk>(right: &mut MdRight, plant: &mut Plant<D>)
+fn end_job<D: PageDisk>(plant: &mut Plant<D>, right: &mut MdRight)
     requires right { right.old ≡ plant.old.right }
     requires repaired { IsRepaired (state_of D.PageDisk plant.old.at) }
     ensures ends { EndsJob D.tells (state_of D.PageDisk plant.old.at) (state_of D.PageDisk plant.new.at) }
@@ -33,7 +33,7 @@ fn end_job<D: PageDisk>(right: &mut MdRight, plant: &mut Plant<D>)
 /// Takes over a store, of which nothing is left to repair, from a metadata thread that is no more: a new one begins on
 /// it then, with the messages of the rows that are posted. The command for which the fill's row worked is one of them,
 /// unless that row's insert failed meanwhile. So no message is stale.
-pub fn take_over<D: PageDisk>(right: &mut MdRight, plant: &mut Plant<D>)
+pub fn take_over<D: PageDisk>(plant: &mut Plant<D>, right: &mut MdRight)
     requires right { right.old ≡ plant.old.right }
     requires repaired { IsRepaired (state_of D.PageDisk plant.old.at) }
     ensures takes_over { TakesOver D.tells (state_of D.PageDisk plant.old.at) (state_of D.PageDisk plant.new.at) }
@@ -47,7 +47,7 @@ pub fn take_over<D: PageDisk>(right: &mut MdRight, plant: &mut Plant<D>)
     if fill_row_is_over(plant) {
         return;
     }
-    end_job(right, plant);
+    end_job(plant, right);
     plant.keeps();
     plant.end_fill(right);
 }
