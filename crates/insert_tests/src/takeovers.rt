@@ -99,7 +99,10 @@ fn run_goes_on_where_another_one_left_off(rt: HostRuntime) -> Result<(), Fail> {
     for count in 0..64 {
         let log = log_behind(&rt, rt.alloc(), count)?;
         if log.as_slice() != LOG {
-            return Err(Fail::new(format_args!("behind {count} turns the log is {:?}", log.as_slice())));
+            return Err(Fail::new(format_args!(
+                "behind {count} turns the log is {:?}",
+                log.as_slice()
+            )));
         }
     }
     Ok(())
