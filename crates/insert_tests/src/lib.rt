@@ -14,5 +14,3 @@ mod lacks;
 mod orders;
 #[cfg(test)]
 mod sessions;
-#[cfg(test)]
-mod takeovers;

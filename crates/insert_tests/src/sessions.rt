@@ -24,7 +24,7 @@ pub struct Session {
 }
 
 /// Lets go of what was loaded.
-pub fn let_go(loaded: Loaded<MemDisk>) {
+fn let_go(loaded: Loaded<MemDisk>) {
     let Loaded {
         disk: _,
         sup: _,
