@@ -13,9 +13,10 @@ use Rattle.store_model.specs.RunInvariant.{RunInvariant}
 use Rattle.store_model.proofs.Going.{survives_start}
 use Rattle.store_model.proofs.Over.{CrashLaws, Over}
 use Rattle.store_model.proofs.Turns as turns
+use Rattle.clean_images.specs.CleanImages.{CleanImages}
 use Rattle.running_store.proofs.Showing.{loaded_alike}
 use Rattle.metadata_turns.specs.JobTurns.{TurnsJob}
-use Rattle.store_core.specs.StoreInvariant.{StoreInvariant, opening_script}
+use Rattle.store_core.specs.StoreInvariant.{OpensAsRead, StoreInvariant, opening_script}
 use Rattle.running_store.specs.TurnMade.{TurnMade}
 use Rattle.running_store.specs.StoreView.{StoreView, WithOpening, base_of, state_of}
 use Rattle.running_store.specs.Surviving.{HasOneImage, HoldsMetadata, OldOrNew}
@@ -25,8 +26,9 @@ module _ {D : Type 0} (d : Ghosts D) (laws : CrashLaws)
   pub kept_begins : (p : StoreView D) → IsLoadedWith p.super (state_of d p) → Opens (state_of d p) → IsFaultless p.super
       → IsPlaced p.super
       → (IsTrue d.tells → HoldsMetadata p.super (base_of p.metas p.marked) (map.get p.chains) (d.now p.disk))
+      → (OpensAsRead d p → CleanImages d p.super (d.now p.disk) (state_of d p) p.disk)
       → (right : ℕ) → StoreInvariant d (record { at = p; opening = p; right = right })
-  kept_begins p loaded opens faultless placed holds right =
+  kept_begins p loaded opens faultless placed holds images right =
       let facts : RunInvariant p.super (shown (state_of d p)) (opening_script p) (state_of d p) =
       laws.plants.begin p.super (state_of d p) loaded opens in
       record {
@@ -38,6 +40,7 @@ module _ {D : Type 0} (d : Ghosts D) (laws : CrashLaws)
         named = loaded_alike p.super (state_of d p) loaded;
         survives = λ one. survives_start d laws one.0 law p.super placed (shown (state_of d p)) (opening_script p)
             (state_of d p) p.disk refl refl opens.log opens.marks opens.stopped opens.job facts one.1 (holds one.0);
+        images = images;
       }
 
   module _ (p : WithOpening D) (q : StoreView D) (kind : Kind) (kept : StoreInvariant d p)
@@ -68,9 +71,11 @@ module _ {D : Type 0} (d : Ghosts D) (laws : CrashLaws)
       after = facts_after;
     }
 
-    pub kept_goes_on : StoreInvariant d (record { at = q; opening = p.opening; right = p.right })
+    pub kept_goes_on : (OpensAsRead d p.opening
+        → CleanImages d p.opening.super (d.now p.opening.disk) (state_of d q) q.disk)
+        → StoreInvariant d (record { at = q; opening = p.opening; right = p.right })
     unfolding over
-    kept_goes_on = record {
+    kept_goes_on images = record {
       began = kept.began;
       faultless = kept.faultless;
       run = (
@@ -82,6 +87,7 @@ module _ {D : Type 0} (d : Ghosts D) (laws : CrashLaws)
       placed = kept.placed;
       named = kept.named;
       survives = λ one. turns.survives d (over one) kind made.0 made.1;
+      images = images;
     }
 
     pub leaves_here : HasOneImage d p.opening.disk

@@ -1,5 +1,5 @@
 -- What the type of a running store keeps.
-use Rattle.std.specs.Prelude.{ℕ, List}
+use Rattle.std.specs.Prelude.{◌≡◌, ℕ, List, false}
 use Rattle.page_disk.specs.declared.disk.PageDisk.{Ghosts}
 use Rattle.super_block.specs.Faults.{IsFaultless}
 use Rattle.super_block.specs.Placed.{IsPlaced}
@@ -8,6 +8,7 @@ use Rattle.volume_model.specs.declared.command.Command.{Command}
 use Rattle.store_model.specs.StoreState.{Opens, shown}
 use Rattle.store_model.specs.Cases.{Kind, Run}
 use Rattle.store_model.specs.RunInvariant.{RunInvariant}
+use Rattle.clean_images.specs.CleanImages.{CleanImages, IsInUse}
 use Rattle.running_store.specs.StoreView.{StoreView, WithOpening, rows_of, state_of}
 use Rattle.running_store.specs.Surviving.{HasOneImage, StoreSurvives}
 
@@ -15,9 +16,15 @@ use Rattle.running_store.specs.Surviving.{HasOneImage, StoreSurvives}
 abbrev pub opening_script : {D : Type 0} → StoreView D → ℕ → List Command
 opening_script p channel = (rows_of p.rows channel).left
 
+-- A store as it opens: its device tells what it holds and has one image, by which the store is clean where it is so in
+-- memory.
+pub record OpensAsRead {D : Type 0} (d : Ghosts D) (p : StoreView D) : Type 0 where
+  pub one : HasOneImage d p.disk
+  pub clean : p.clean ≡ false → IsInUse p.super (d.now p.disk)
+
 -- It began with nothing logged, on a super block without fault, and with each volume's name and uuid on the disk as
 -- they are read; turns led from there to here, and the state has what every state of a run has; and power may fail at
--- any moment.
+-- any moment. As long as the store is clean that leaves the fixed clusters as they were.
 pub record StoreInvariant {D : Type 0} (d : Ghosts D) (p : WithOpening D) : Type 0 where
   pub began : Opens (state_of d p.opening)
   pub faultless : IsFaultless p.opening.super
@@ -26,3 +33,5 @@ pub record StoreInvariant {D : Type 0} (d : Ghosts D) (p : WithOpening D) : Type
   pub placed : IsPlaced p.opening.super
   pub named : AreNamedAlike (shown (state_of d p.opening))
   pub survives : HasOneImage d p.opening.disk → StoreSurvives d p.opening.super (shown (state_of d p.opening)) p.at
+  pub images : OpensAsRead d p.opening
+      → CleanImages d p.opening.super (d.now p.opening.disk) (state_of d p.at) p.at.disk
