@@ -21,13 +21,14 @@ use Rattle.store_model.specs.StoreState.{JobState, Opens, StoreState}
 use Rattle.store_model.specs.Touches.{device_of, DoesTouch, is_lasting, left_by, no_new, puts, replaces, Touch, untouched}
 use Rattle.store_model.proofs.Going.{told_reads}
 use Rattle.store_model.proofs.Known.{Known}
+use Rattle.store_model.proofs.Over as over
 use Rattle.store_model.proofs.Over.{answer, Effect, fault, halt, Logs, nothing}
 use Rattle.store_model.proofs.StandsKept.{far_super}
 use Rattle.store_model.proofs.Turns.{law_of}
 use Rattle.clean_images.specs.CleanImages.{CleanImages, HasFixedPagesOf, IsInUse, IsMarkedOrOpened, MarksFirst}
 use Rattle.clean_images.proofs.TouchedPages.{Differs, leaves, left_then, none_new, one_page}
 use Rattle.clean_images.proofs.TurnsMade.{begins, behind, ends, Goes, goes_on, is_marked, Made, made, marks, none, other}
-use Rattle.clean_images.proofs.TurnsMade.{Pages, stays}
+use Rattle.clean_images.proofs.TurnsMade.{Pages, RunsClean, stays}
 
 -- ---- images
 
@@ -62,6 +63,7 @@ module _ {D : Type 0} (d : Ghosts D) (law : IsTrue d.tells → Telling d.now d.i
       → CleanImages d s (d.now disk) p disk
   clean_begins s p disk told one device opens tied = record {
     marks_first = λ clean job is. absurd (let bad : None ≡ Some job = sym opens.job ∙ is in cc bad);
+    as_opened = λ _ _ image held page low. ap (λ (i : Image). i page) ((one image).0 held);
     in_use = λ dirty image held. subst (IsInUse s) (sym ((one image).0 held)) (tied dirty);
     any_moment = subst (λ m. MarksKept d disk m (λ i. IsMarkedOrOpened s (d.now disk)))
         (sym (opens.marks ∙ ap (λ (v : Device). v.clock ∷ []) device))
@@ -111,7 +113,7 @@ module _ {D : Type 0} (d : Ghosts D) (law : IsTrue d.tells → Telling d.now d.i
             (ap (λ (i : Image). i 0) put ∙ with_page-here (d.now from) 0 content))
 
     -- at any moment of it
-    on_the_way : Pages s p touch → (c : Image) → Left c → Kept c
+    on_the_way : Pages s p q touch → (c : Image) → Left c → Kept c
     on_the_way (none nothing_new) c left = was c (none_new touch nothing_new (d.images from) (d.now from) c left)
     on_the_way (behind page at far) c left =
         let x = one_page touch page at (d.images from) (d.now from) held_now c left in
@@ -119,13 +121,13 @@ module _ {D : Type 0} (d : Ghosts D) (law : IsTrue d.tells → Telling d.now d.i
     on_the_way (other dirty page at ne) c left =
         let x = one_page touch page at (d.images from) (d.now from) held_now c left in
         inl (in_use_still s page ne x.before c x.but (old.in_use dirty x.before x.was))
-    on_the_way (marks content lasting says is) c left = elim (marked_or_old content lasting says is c left) [
+    on_the_way (marks content lasting says is never) c left = elim (marked_or_old content lasting says is c left) [
       | inl held ↦ was c held
       | inr marked ↦ inl marked
     ]
 
     -- where the store was marked
-    still_marked : p.clean ≡ false → Pages s p touch → (c : Image) → Left c → IsInUse s c
+    still_marked : p.clean ≡ false → Pages s p q touch → (c : Image) → Left c → IsInUse s c
     still_marked dirty (none nothing_new) c left =
         old.in_use dirty c (none_new touch nothing_new (d.images from) (d.now from) c left)
     still_marked dirty (behind page at far) c left =
@@ -134,7 +136,7 @@ module _ {D : Type 0} (d : Ghosts D) (law : IsTrue d.tells → Telling d.now d.i
     still_marked dirty (other _ page at ne) c left =
         let x = one_page touch page at (d.images from) (d.now from) held_now c left in
         in_use_still s page ne x.before c x.but (old.in_use dirty x.before x.was)
-    still_marked dirty (marks content lasting says is) c left = elim (marked_or_old content lasting says is c left) [
+    still_marked dirty (marks content lasting says is never) c left = elim (marked_or_old content lasting says is c left) [
       | inl held ↦ old.in_use dirty c held
       | inr marked ↦ marked
     ]
@@ -161,6 +163,37 @@ module _ {D : Type 0} (d : Ghosts D) (law : IsTrue d.tells → Telling d.now d.i
         (left_then d (law told) told from to touch does c held)
     in_use (is_marked content says lasts reads now) dirty c held = says_in_use s content says c
         (ap (λ (i : Image). i 0) ((one_left touch does lasts c).0 held ∙ sym reads_then) ∙ reads told)
+
+    -- where the store is clean behind the turn, it was before it
+    was_clean : Goes s d.tells p q touch → q.clean ≡ true → p.clean ≡ true
+    was_clean (stays clean job) is = sym clean ∙ is
+    was_clean (ends clean job) is = sym clean ∙ is
+    was_clean (begins job others clean begun todo) is = sym clean ∙ is
+    was_clean (goes_on clean marked) is = sym clean ∙ is
+    was_clean (is_marked content says lasts reads now) is = absurd (false≢true (sym now ∙ is))
+
+    -- and where it runs on, it ran
+    was_running : over.Goes p q → q.stopped ≡ None → p.stopped ≡ None
+    was_running (over.stays same device) runs = sym same ∙ runs
+    was_running (over.moves ran same counted) runs = ran
+    was_running (over.breaks ran stopped counted) runs = ran
+
+    as_opened : RunsClean q → Pages s p q touch → (c : Image) → Left c → HasFixedPagesOf s opened c
+    as_opened runs pages = by pages
+      where
+        clean : p.clean ≡ true
+        clean = was_clean so.goes runs.0
+
+        old_image : (c : Image) → d.images from c → HasFixedPagesOf s opened c
+        old_image = old.as_opened clean (was_running ((law_of kind).effect d.tells p q turn).goes runs.1)
+
+        by : Pages s p q touch → (c : Image) → Left c → HasFixedPagesOf s opened c
+        by (none nothing_new) c left = old_image c (none_new touch nothing_new (d.images from) (d.now from) c left)
+        by (behind page at far) c left =
+            let x = one_page touch page at (d.images from) (d.now from) held_now c left in
+            λ n low. x.but n (λ e. omega (arith, e, far, low)) ∙ old_image x.before x.was n low
+        by (other dirty page at ne) c left = absurd (false≢true (sym dirty ∙ clean))
+        by (marks content lasting says is never) c left = absurd (never runs)
 
     marks_first : Goes s d.tells p q touch → MarksFirst q
     marks_first (stays clean same) is job there = old.marks_first (sym clean ∙ is) job (sym same ∙ there)
@@ -202,6 +235,8 @@ module _ {D : Type 0} (d : Ghosts D) (law : IsTrue d.tells → Telling d.now d.i
     pub clean_stays : CleanImages d s opened q to
     clean_stays = record {
       marks_first = marks_first so.goes;
+      as_opened = λ clean runs c held. as_opened (clean, runs) so.pages c
+          (left_then d (law told) told from to touch does c held);
       in_use = in_use so.goes;
       any_moment = moments ((law_of kind).effect d.tells p q turn).logs;
     }

@@ -33,14 +33,18 @@ use Rattle.clean_images.specs.CleanImages.{MarksFirst}
 use Rattle.clean_images.proofs.PagesWritten.{head_outside, put_outside, volume_behind, zeroed_behind}
 use Rattle.clean_images.proofs.TouchedPages.{WritesNone, WritesTo}
 
+-- a store that is clean runs on behind the turn
+abbrev pub RunsClean : StoreState → Type 0
+RunsClean q = (q.clean ≡ true) × (q.stopped ≡ None)
+
 -- The device is left alone or read; a page behind the fixed clusters is written; on a store that is marked, any but the
--- super block; or the super block is replaced by one that says that the store is in use.
-pub data Pages (s : Super) (p : StoreState) (touch : Touch) : Type 0 where
-  none : WritesNone touch → Pages s p touch
-  behind : (page : ℕ) → WritesTo touch page → fixed_clusters_of s * cluster_pages_of s ≤ page → Pages s p touch
-  other : p.clean ≡ false → (page : ℕ) → WritesTo touch page → 0 ≢ page → Pages s p touch
+-- super block; or the super block is replaced by one that says that the store is in use, which is marked then, or stops.
+pub data Pages (s : Super) (p q : StoreState) (touch : Touch) : Type 0 where
+  none : WritesNone touch → Pages s p q touch
+  behind : (page : ℕ) → WritesTo touch page → fixed_clusters_of s * cluster_pages_of s ≤ page → Pages s p q touch
+  other : p.clean ≡ false → (page : ℕ) → WritesTo touch page → 0 ≢ page → Pages s p q touch
   marks : (content : List ℕ) (lasting : Bool) → SaysInUse s content → touch ≡ replaces 0 content lasting
-      → Pages s p touch
+      → (RunsClean q → ⊥) → Pages s p q touch
 
 -- The store is clean just where it was: the job stays or ends, or one begins, or goes on where the store was marked. Or
 -- the store is marked now.
@@ -54,7 +58,7 @@ pub data Goes (s : Super) (told : Bool) (p q : StoreState) (touch : Touch) : Typ
       → (told ≡ true → q.device.reads 0 ≡ content) → q.clean ≡ false → Goes s told p q touch
 
 pub record Made (s : Super) (told : Bool) (p q : StoreState) (touch : Touch) : Type 0 where
-  pub pages : Pages s p touch
+  pub pages : Pages s p q touch
   pub goes : Goes s told p q touch
 
 -- the command that a row works for is logged
@@ -62,6 +66,15 @@ work_logged : {base : StoreState} {row : ℕ} {stage : Stage} {reply : Reply} {d
     → LogsWork base row stage reply device q → (q.clean ≡ base.clean) × (q.job ≡ base.job)
 work_logged (logs_own x) = (ap (λ (v : StoreState). v.clean) x.next, ap (λ (v : StoreState). v.job) x.next)
 work_logged (logs_filled x) = (ap (λ (v : StoreState). v.clean) x.next, ap (λ (v : StoreState). v.job) x.next)
+
+work_stopped : {base : StoreState} {row : ℕ} {stage : Stage} {reply : Reply} {device : Device} {q : StoreState}
+    → LogsWork base row stage reply device q → q.stopped ≡ base.stopped
+work_stopped (logs_own x) = ap (λ (v : StoreState). v.stopped) x.next
+work_stopped (logs_filled x) = ap (λ (v : StoreState). v.stopped) x.next
+
+-- a turn by which the store stops doesn't leave it running
+stops : (q : StoreState) (at : ℕ) → q.stopped ≡ Some at → RunsClean q → ⊥
+stops q at is runs = let bad : None ≡ Some at = sym runs.1 ∙ is in cc bad
 
 module _ (known : Known) (told : Bool) (first : MarksFirst known.p) where
   open known use {s, p, facts}
@@ -80,50 +93,50 @@ module _ (known : Known) (told : Bool) (first : MarksFirst known.p) where
   says_here : (content : List ℕ) → SaysInUse p.super content → SaysInUse s content
   says_here content = subst (λ (x : Super). SaysInUse x content) facts.super
 
-  -- ---- pages
-
-  put_pages : {phase : Phase} (running : Runs p phase) (put : PlannedPage) → put_by running.job phase ≡ Some put
-      → (lasting : Bool) → Pages s p (puts (page_of_place p put.place) put.page lasting)
-  put_pages {phase} running put is lasting = other
-      (in_use running (λ bad. let e = sym (ap (put_by running.job) bad) ∙ is in cc e))
-      (page_of_place p put.place) refl (put_outside known running put is)
-
-  head_pages : (r : Replacing) (commit : Option Committing) → Runs p (Replaces r commit) → (content : List ℕ)
-      (lasting : Bool) → Pages s p (replaces (page_of_place p r.head) content lasting)
-  head_pages r commit running content lasting =
-      other (in_use running (λ bad. cc bad)) (page_of_place p r.head) refl (head_outside known r commit running)
-
-  claim_pages : (row : ℕ) (left : List _) (stage : Stage) (claim : OpenClaim)
-      → p.rows row ≡ record { left = left; stage = stage; claim = Some claim } → p.stopped ≡ None → (page n : ℕ)
-      → page + suc n ≡ cluster_pages_of p.super → (content : List ℕ)
-      → Pages s p (puts (page_of_claim p claim page) content false)
-  claim_pages row left stage claim is runs page n next content = behind (page_of_claim p claim page) refl
-      (claimed_behind known runs row claim (ap (λ (r : Row). r.claim) is) page (omega (arith, next)))
-
-  tried_pages : {phase : Phase} (running : Runs p phase) (tried : fail.Tried p.super running.job phase)
-      → Pages s p (fail.tried_at p tried)
-  tried_pages running (fail.mark content is says) = marks content false (says_here content says) refl
-  tried_pages running (fail.zeros at is) = behind at refl (zeroed_behind known at (subst (Runs p) is running))
-  tried_pages running (fail.page put is) = put_pages running put is false
-  tried_pages running (fail.head r commit is) = head_pages r (Some commit) (subst (Runs p) is running) _ false
-
-  alone_pages : {phase : Phase} (running : Runs p phase) (tried : break_off.TriedAlone p.super running.job phase)
-      → Pages s p (break_off.tried_alone p tried)
-  alone_pages running (break_off.mark content is says) = marks content false (says_here content says) refl
-  alone_pages running (break_off.page put is) = put_pages running put is false
-
-  insert_pages : {phase : Phase} (running : Runs p phase) (tried : insert_fail.TriedInsert p.super running.job phase)
-      → Pages s p (insert_fail.tried_insert p tried)
-  insert_pages running (insert_fail.mark content is says) = marks content false (says_here content says) refl
-  insert_pages running (insert_fail.page put is) = put_pages running put is false
-  insert_pages running (insert_fail.head r new is new_is) = head_pages r None (subst (Runs p) is running) _ false
-
   module _ (q : StoreState) where
-    copy_pages : (t : copy_fail.CopyFails p q) → Pages s p ((the k.copy_fails).touch told p q t)
+    -- ---- pages
+
+    put_pages : {phase : Phase} (running : Runs p phase) (put : PlannedPage) → put_by running.job phase ≡ Some put
+        → (lasting : Bool) → Pages s p q (puts (page_of_place p put.place) put.page lasting)
+    put_pages {phase} running put is lasting = other
+        (in_use running (λ bad. let e = sym (ap (put_by running.job) bad) ∙ is in cc e))
+        (page_of_place p put.place) refl (put_outside known running put is)
+
+    head_pages : (r : Replacing) (commit : Option Committing) → Runs p (Replaces r commit) → (content : List ℕ)
+        (lasting : Bool) → Pages s p q (replaces (page_of_place p r.head) content lasting)
+    head_pages r commit running content lasting =
+        other (in_use running (λ bad. cc bad)) (page_of_place p r.head) refl (head_outside known r commit running)
+
+    claim_pages : (row : ℕ) (left : List _) (stage : Stage) (claim : OpenClaim)
+        → p.rows row ≡ record { left = left; stage = stage; claim = Some claim } → p.stopped ≡ None → (page n : ℕ)
+        → page + suc n ≡ cluster_pages_of p.super → (content : List ℕ)
+        → Pages s p q (puts (page_of_claim p claim page) content false)
+    claim_pages row left stage claim is runs page n next content = behind (page_of_claim p claim page) refl
+        (claimed_behind known runs row claim (ap (λ (r : Row). r.claim) is) page (omega (arith, next)))
+
+    tried_pages : (RunsClean q → ⊥) → {phase : Phase} (running : Runs p phase) (tried : fail.Tried p.super running.job phase)
+        → Pages s p q (fail.tried_at p tried)
+    tried_pages never running (fail.mark content is says) = marks content false (says_here content says) refl never
+    tried_pages never running (fail.zeros at is) = behind at refl (zeroed_behind known at (subst (Runs p) is running))
+    tried_pages never running (fail.page put is) = put_pages running put is false
+    tried_pages never running (fail.head r commit is) = head_pages r (Some commit) (subst (Runs p) is running) _ false
+
+    alone_pages : (RunsClean q → ⊥) → {phase : Phase} (running : Runs p phase) (tried : break_off.TriedAlone p.super running.job phase)
+        → Pages s p q (break_off.tried_alone p tried)
+    alone_pages never running (break_off.mark content is says) = marks content false (says_here content says) refl never
+    alone_pages never running (break_off.page put is) = put_pages running put is false
+
+    insert_pages : (RunsClean q → ⊥) → {phase : Phase} (running : Runs p phase) (tried : insert_fail.TriedInsert p.super running.job phase)
+        → Pages s p q (insert_fail.tried_insert p tried)
+    insert_pages never running (insert_fail.mark content is says) = marks content false (says_here content says) refl never
+    insert_pages never running (insert_fail.page put is) = put_pages running put is false
+    insert_pages never running (insert_fail.head r new is new_is) = head_pages r None (subst (Runs p) is running) _ false
+
+    copy_pages : (t : copy_fail.CopyFails p q) → Pages s p q ((the k.copy_fails).touch told p q t)
     copy_pages t = by t.tried
       where
         by : (tried : copy_fail.TriedCopy p t.copying.claim t.stage)
-            → Pages s p (copy_fail.tried_copy p t.copying.claim tried)
+            → Pages s p q (copy_fail.tried_copy p t.copying.claim tried)
         by (copy_fail.copy left page content at current next) = claim_pages t.copying.row t.copying.left t.stage
             t.copying.claim t.copying.is t.runs page left next content
         by (copy_fail.flush at) = none tt
@@ -132,6 +145,9 @@ module _ (known : Known) (told : Bool) (first : MarksFirst known.p) where
 
     clean_is : {n : StoreState} → q ≡ n → q.clean ≡ n.clean
     clean_is = ap (λ (v : StoreState). v.clean)
+
+    stopped_is : {n : StoreState} → q ≡ n → q.stopped ≡ n.stopped
+    stopped_is = ap (λ (v : StoreState). v.stopped)
 
     job_is : {n : StoreState} → q ≡ n → q.job ≡ n.job
     job_is = ap (λ (v : StoreState). v.job)
@@ -148,13 +164,14 @@ module _ (known : Known) (told : Bool) (first : MarksFirst known.p) where
         let kept = work_logged x in record { pages = none written; goes = stays kept.0 kept.1 }
 
     -- a job goes on, or ends, behind a page that it wrote
-    wrote : (touch : Touch) → Pages s p touch → {phase : Phase} → Runs p phase → phase ≢ Marks → q.clean ≡ p.clean
+    wrote : (touch : Touch) → Pages s p q touch → {phase : Phase} → Runs p phase → phase ≢ Marks → q.clean ≡ p.clean
         → Made s told p q touch
     wrote touch pages running ne clean = record { pages = pages; goes = goes_on clean (in_use running ne) }
 
     marks_it : (t : MarksDirty told p q) → Made s told p q (replaces 0 t.page true)
     marks_it t = record {
-      pages = marks t.page true (says_here t.page t.says) refl;
+      pages = marks t.page true (says_here t.page t.says) refl
+          (λ runs. false≢true (sym (clean_is t.next) ∙ runs.0));
       goes = is_marked t.page (says_here t.page t.says) refl
           (λ is. ap (λ (v : StoreState). v.device.reads 0) t.next ∙ ap (λ (i : Image). i 0) t.moves.reads
           ∙ ap (λ (b : Bool). read_after b p.device.reads 0 t.page 0) is ∙ with_page-here p.device.reads 0 t.page)
@@ -196,11 +213,11 @@ module _ (known : Known) (told : Bool) (first : MarksFirst known.p) where
     made k.frees t = wrote _ (put_pages t.running (record { place = t.place; page = zero_page }) refl true) t.running
         (λ bad. cc bad) (clean_is t.next)
     made k.fails t = record {
-      pages = tried_pages t.running t.tried;
+      pages = tried_pages (stops q _ (stopped_is t.next)) t.running t.tried;
       goes = ends (clean_is t.next) (job_is t.next);
     }
     made k.breaks_off t = record {
-      pages = alone_pages t.running t.tried;
+      pages = alone_pages (stops q _ (stopped_is t.next)) t.running t.tried;
       goes = ends (clean_is t.next) (job_is t.next);
     }
     made k.breaks_down t = breaks_down t
@@ -258,7 +275,7 @@ module _ (known : Known) (told : Bool) (first : MarksFirst known.p) where
     made k.insert_ends t = wrote _ (put_pages t.running (record { place = t.place; page = zero_page }) refl true)
         t.running (λ bad. cc bad) (clean_is t.next)
     made k.insert_fails t = record {
-      pages = insert_pages t.running t.tried;
+      pages = insert_pages (stops q _ (work_stopped t.logs)) t.running t.tried;
       goes = let kept = work_logged t.logs in ends kept.0 kept.1;
     }
     made k.insert_breaks_down t = record {

@@ -1,5 +1,5 @@
 -- Which images a crash may leave of a store that was found clean: none of them is trusted by mistake.
-use Rattle.std.specs.Prelude.{◌≡◌, ◌≢◌, ◌⊎◌, ℕ, ◌*◌, ◌<◌, List, ◌∷◌, Some, true, false}
+use Rattle.std.specs.Prelude.{◌≡◌, ◌≢◌, ◌⊎◌, ℕ, ◌*◌, ◌<◌, List, ◌∷◌, None, Some, true, false}
 use Rattle.page_disk.specs.Disk.{Image}
 use Rattle.page_disk.specs.Marks.{MarksKept}
 use Rattle.page_disk.specs.declared.disk.PageDisk.{Ghosts}
@@ -30,6 +30,9 @@ MarksFirst p = p.clean ≡ true → (job : JobState) → p.job ≡ Some job → 
 -- What a crash may leave of a device on which a store runs, by whether the device says that the store is clean.
 pub record CleanImages {D : Type 0} (d : Ghosts D) (s : Super) (opened : Image) (p : StoreState) (disk : D) : Type 0 where
   pub marks_first : MarksFirst p
+  -- As long as it is clean and runs, the fixed clusters of every image are as they were;
+  pub as_opened : p.clean ≡ true → p.stopped ≡ None → (image : Image) → d.images disk image
+      → HasFixedPagesOf s opened image
   -- once the store is marked, every image is,
   pub in_use : p.clean ≡ false → (image : Image) → d.images disk image → IsInUse s image
   -- and at any moment since it was loaded every image was, or was as it was opened.
