@@ -12,11 +12,7 @@ use page_disk::{DiskFault, PageDisk};
 use super_block::{Masks, Super};
 
 /// Marks a store as in use, and unloads it, so that its masks are written anew.
-fn unload_anew<D: PageDisk>(
-    disk: &mut D,
-    sup: &mut Super,
-    masks: &Masks,
-) -> Result<(), DiskFault>
+fn unload_anew<D: PageDisk>(disk: &mut D, sup: &mut Super, masks: &Masks) -> Result<(), DiskFault>
     requires faultless { IsFaultless sup.old }
     requires device { sup.old.device_pages ≤ D.pages disk.old }
     requires masks { MasksFit sup.old masks.now }

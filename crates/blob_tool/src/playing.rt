@@ -88,7 +88,14 @@ fn run_repaired<K: Sink, D: PageDisk>(
         masks,
         entries,
     } = plant.into_parts(right);
-    let ended = close(&mut disk, &mut sup, &masks, quick, stopped, entries.len() as u32);
+    let ended = close(
+        &mut disk,
+        &mut sup,
+        &masks,
+        quick,
+        stopped,
+        entries.len() as u32,
+    );
     let printed = report(alloc, from, entries.as_slice(), out);
     (Status::of_run(ended, printed), disk)
 }
