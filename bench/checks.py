@@ -18,8 +18,10 @@ def put_flushes(bench, first):
     images.make_sparse(base, 1 << 20)
     bench.run(["format", base, "--cluster", "16384"])
     bench.run(["run", base], "0 create v 4 thin\n" + first)
+    # Both runs have a put, so that both mark the store as in use, and unload it.
+    once = "0 put v key t:first\n"
     puts = "".join(f"0 put v key t:{number}\n" for number in range(PUTS))
-    return flushes(bench, base, puts) - flushes(bench, base, "")
+    return flushes(bench, base, once + puts) - flushes(bench, base, once)
 
 
 def puts(bench):

@@ -8,7 +8,7 @@ use Rattle.super_block.specs.declared.masks.Masks.{Masks}
 use Rattle.super_block.specs.declared.page.Super.{Super}
 use Rattle.volume_model.specs.declared.reply.Entry.{Entry}
 use Rattle.running_store.specs.Running.{super_left}
-use Rattle.running_store.specs.StoreInvariant.{StoreInvariant}
+use Rattle.store_core.specs.StoreInvariant.{StoreInvariant}
 use Rattle.blob_meta.specs.Repairs.{HasNoMarks}
 use Rattle.running_store.specs.StoreView.{base_of, state_of, StoreView, WithOpening}
 use Rattle.store_model.specs.StateLaws.{StopLaws}

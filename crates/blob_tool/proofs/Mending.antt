@@ -10,7 +10,7 @@ use Rattle.volume_model.specs.declared.reply.Entry.{Entry}
 use Rattle.metadata_turns.specs.JobTurns.{IsOfJob, TurnsJob}
 use Rattle.repair_runs.specs.RepairLaws.{GoesOnMending, RepairLaws}
 use Rattle.repair_runs.specs.RepairRuns.{marks_left, turns_left, IsMending, IsOfInsert, IsOfRepair, RepairRun}
-use Rattle.running_store.specs.StoreInvariant.{opening_script, StoreInvariant}
+use Rattle.store_core.specs.StoreInvariant.{opening_script, StoreInvariant}
 use Rattle.running_store.specs.StoreView.{rows_of, state_of, StoreView, WithOpening}
 use Rattle.store_model.specs.Cases.{Kind, Run, the}
 use Rattle.store_model.specs.Cases as kind

@@ -8,7 +8,7 @@ ghost use Rattle.blob_tool.specs.Repairing.{AreMade};
 ghost use Rattle.blob_tool.specs.Runs.{Ended, EndedFrom};
 ghost use Rattle.channels.specs.Served.{AreServed};
 ghost use Rattle.running_store.specs.Recovered.{base_of, IsLoadedFrom};
-ghost use Rattle.running_store.specs.StoreInvariant.{StoreInvariant};
+ghost use Rattle.store_core.specs.StoreInvariant.{StoreInvariant};
 ghost use Rattle.running_store.specs.StoreView.{rows_of, state_of};
 ghost use Rattle.running_store.specs.Surviving.{HoldsMetadata};
 ghost use Rattle.script_lang.specs.Served.{IsServed};

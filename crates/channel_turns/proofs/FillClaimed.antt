@@ -29,7 +29,7 @@ use Rattle.store_model.specs.Turning.{IsPosted}
 use Rattle.store_model.proofs.Resolved.{resolved_of}
 use Rattle.running_store.specs.GivingBack.{fill_given_back}
 use Rattle.running_store.specs.Steps.{IsPostedAt, logged_at, OnlyRow}
-use Rattle.running_store.specs.StoreInvariant.{IsRunning}
+use Rattle.running_store.specs.RunningState.{IsRunning}
 use Rattle.running_store.specs.StoreView.{AreResolved, device_of, rows_of, state_of, StoreView}
 use Rattle.running_store.specs.TurnMade.{TurnMade}
 use Rattle.running_store.proofs.Entered.{disk_same, entered}

@@ -39,7 +39,7 @@ use Rattle.store_model.proofs.SlotSums.{slots_shown}
 use Rattle.store_model.proofs.Inside.{none_second}
 use Rattle.store_model.specs.Regions.{region_of}
 use Rattle.store_model.proofs.Used.{within}
-use Rattle.running_store.specs.StoreInvariant.{IsRunning}
+use Rattle.running_store.specs.RunningState.{IsRunning}
 use Rattle.running_store.proofs.PlainFacts.{got}
 use Rattle.store_model.proofs.Resolved.{resolved_mapped, resolved_stored}
 use Rattle.running_store.proofs.Showing.{shows_metas}

@@ -21,7 +21,7 @@ use Rattle.store_model.specs.StoreState.{StoreState}
 use Rattle.store_model.proofs.Used.{within}
 use Rattle.channel_turns.specs.ClaimTurns.{CopiesNow, WaitsToCopy}
 use Rattle.running_store.specs.Stages.{to_copy_in}
-use Rattle.running_store.specs.StoreInvariant.{IsRunning}
+use Rattle.running_store.specs.RunningState.{IsRunning}
 use Rattle.running_store.specs.StoreView.{AreResolved, read_now, rows_of, state_of, StoreView}
 use Rattle.channel_turns.proofs.PagesShown.{read_content, read_low}
 

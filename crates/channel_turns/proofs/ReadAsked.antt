@@ -37,7 +37,7 @@ use Rattle.channel_turns.proofs.WriteMeant.{found_frozen}
 use Rattle.running_store.specs.DeviceCalls.{IsReadSo}
 use Rattle.running_store.specs.TurnMade.{TurnsAs}
 use Rattle.running_store.specs.Reserved.{is_read, IsContent}
-use Rattle.running_store.specs.StoreInvariant.{IsRunning}
+use Rattle.running_store.specs.RunningState.{IsRunning}
 use Rattle.running_store.specs.StoreView.{AreResolved, device_of, read_now, rows_of, state_of, StoreView}
 use Rattle.running_store.specs.Steps.{logged_on}
 use Rattle.running_store.proofs.Entered.{disk_same_then, entered_then}

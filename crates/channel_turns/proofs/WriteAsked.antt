@@ -23,7 +23,7 @@ use Rattle.store_model.specs.StoreState.{shown, StoreState}
 use Rattle.channel_turns.specs.ChannelTurns.{IsOfWrite, WaitsToWrite, WritesNow}
 use Rattle.running_store.specs.TurnMade.{TurnMade, TurnsAs}
 use Rattle.channel_turns.specs.ClaimTurns.{writing}
-use Rattle.running_store.specs.StoreInvariant.{IsRunning}
+use Rattle.running_store.specs.RunningState.{IsRunning}
 use Rattle.running_store.specs.StoreView.{AreResolved, rows_of, state_of, StoreView}
 use Rattle.running_store.specs.Steps.{logged_on, with_row_at}
 use Rattle.running_store.proofs.Entered.{disk_same_then, entered_then}

@@ -37,7 +37,7 @@ use Rattle.store_model.specs.Turning.{IsNotFrozen}
 use Rattle.store_model.proofs.Inside.{none_of_map}
 use Rattle.channel_turns.specs.ChannelTurns.{IsFrozenFor, WaitsToWrite}
 use Rattle.channel_turns.specs.ClaimTurns.{writing}
-use Rattle.running_store.specs.StoreInvariant.{IsRunning}
+use Rattle.running_store.specs.RunningState.{IsRunning}
 use Rattle.running_store.specs.StoreView.{AreResolved, rows_of, state_of, StoreView}
 use Rattle.channel_turns.proofs.PagesShown.{few_slots, page_within, shows_pages}
 

@@ -11,7 +11,7 @@ ghost use Rattle.channel_turns.specs.declared.claiming.ClaimTurn.TheVariants.{Cl
 ghost use Rattle.channel_turns.specs.ChannelTurns.{IsFrozenFor, WaitsToWrite};
 ghost use Rattle.running_store.specs.TurnMade.{TurnMade, TurnsAs};
 ghost use Rattle.channel_turns.specs.ClaimTurns.{row_claimed, ClaimsNow, HoldsLeast, IsOfClaim};
-ghost use Rattle.running_store.specs.StoreInvariant.{IsRunning};
+ghost use Rattle.running_store.specs.RunningState.{IsRunning};
 ghost use Rattle.running_store.specs.Running.{view_of, InOrder};
 ghost use Rattle.running_store.specs.StoreView.{rows_of, state_of};
 ghost use Rattle.running_store.specs.Steps.{Asks, OnlyRow};

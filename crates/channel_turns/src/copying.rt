@@ -8,7 +8,7 @@ ghost use Rattle.store_model.specs.Cases.Copy.{stage_left};
 ghost use Rattle.channel_turns.specs.declared.copying.CopyTurn.TheVariants.{Copied, Logged, Lost};
 ghost use Rattle.running_store.specs.TurnMade.{TurnMade, TurnsAs};
 ghost use Rattle.channel_turns.specs.ClaimTurns.{CopiesNow, IsOfCopy, RowsCopied, WaitsToCopy};
-ghost use Rattle.running_store.specs.StoreInvariant.{IsRunning};
+ghost use Rattle.running_store.specs.RunningState.{IsRunning};
 ghost use Rattle.running_store.specs.Running.{view_of, InOrder};
 ghost use Rattle.running_store.specs.Stages.{stage_seen};
 ghost use Rattle.running_store.specs.StoreView.{state_of};

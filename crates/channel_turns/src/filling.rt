@@ -9,7 +9,7 @@ ghost use Rattle.store_model.specs.Rows.{fill_row, Idle};
 ghost use Rattle.channel_turns.specs.declared.claiming.ClaimTurn.TheVariants.{Claimed, Logged};
 ghost use Rattle.channel_turns.specs.FillTurns.{ClaimsFillOrNot, FillsOf, IsNextToFill, RowsFilling};
 ghost use Rattle.running_store.specs.TurnMade.{TurnMade};
-ghost use Rattle.running_store.specs.StoreInvariant.{IsRunning};
+ghost use Rattle.running_store.specs.RunningState.{IsRunning};
 ghost use Rattle.running_store.specs.Running.{view_of, InOrder};
 ghost use Rattle.running_store.specs.StoreView.{rows_of, state_of};
 ghost use Rattle.running_store.specs.Steps.{decided, Asks, IsPostedAt, OnlyRow};

@@ -3,7 +3,7 @@
 ghost use Rattle.std.specs.Prelude.{◌≡◌, ◌<◌, None};
 ghost use Rattle.channel_turns.specs.ChannelTurns.{IsOfFlush, WaitsToFlush};
 ghost use Rattle.running_store.specs.TurnMade.{TurnsAs};
-ghost use Rattle.running_store.specs.StoreInvariant.{IsRunning};
+ghost use Rattle.running_store.specs.RunningState.{IsRunning};
 ghost use Rattle.running_store.specs.Running.{view_of, InOrder};
 ghost use Rattle.running_store.specs.StoreView.{rows_of, state_of};
 ghost use Rattle.running_store.specs.Steps.{gone_on, OnlyRow};

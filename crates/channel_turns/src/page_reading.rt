@@ -10,7 +10,7 @@ ghost use Rattle.blob_meta.specs.SlotCounts.{HeadsFit};
 ghost use Rattle.channel_turns.specs.declared.page_reading.ReadTurn.TheVariants.{Frozen, Logged};
 ghost use Rattle.channel_turns.specs.ChannelTurns.{IsFrozenFor, IsOfRead, ReadsNow, WaitsToRead};
 ghost use Rattle.running_store.specs.TurnMade.{TurnsAs};
-ghost use Rattle.running_store.specs.StoreInvariant.{IsRunning};
+ghost use Rattle.running_store.specs.RunningState.{IsRunning};
 ghost use Rattle.running_store.specs.Running.{view_of, InOrder};
 ghost use Rattle.running_store.specs.StoreView.{rows_of, state_of};
 ghost use Rattle.running_store.specs.Steps.{gone_on, Asks, OnlyRow};

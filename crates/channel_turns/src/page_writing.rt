@@ -11,7 +11,7 @@ ghost use Rattle.channel_turns.specs.declared.page_writing.WriteTurn.TheVariants
 ghost use Rattle.store_model.specs.Cases as kind;
 ghost use Rattle.channel_turns.specs.ChannelTurns.{row_written, IsFrozenFor, IsOfWrite, WaitsToWrite, WritesNow};
 ghost use Rattle.running_store.specs.TurnMade.{TurnMade, TurnsAs};
-ghost use Rattle.running_store.specs.StoreInvariant.{IsRunning};
+ghost use Rattle.running_store.specs.RunningState.{IsRunning};
 ghost use Rattle.running_store.specs.Running.{view_of, InOrder};
 ghost use Rattle.running_store.specs.StoreView.{rows_of, state_of};
 ghost use Rattle.running_store.specs.Steps.{gone_on, Asks, OnlyRow};

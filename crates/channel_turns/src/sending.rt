@@ -7,7 +7,7 @@ ghost use Rattle.store_model.specs.Rows.{Ready};
 ghost use Rattle.channel_turns.specs.declared.sending.SendTurn.TheVariants.{Logged, Post};
 ghost use Rattle.running_store.specs.TurnMade.{TurnMade, TurnsAs};
 ghost use Rattle.channel_turns.specs.ClaimTurns.{HoldsClaim, IsOfSend, RowsSent};
-ghost use Rattle.running_store.specs.StoreInvariant.{IsRunning};
+ghost use Rattle.running_store.specs.RunningState.{IsRunning};
 ghost use Rattle.running_store.specs.Running.{view_of, InOrder};
 ghost use Rattle.running_store.specs.StoreView.{state_of};
 ghost use Rattle.store_model.specs.Filling.{FillStands};

@@ -19,7 +19,7 @@ use Rattle.store_model.specs.StateLaws.{StateLaws}
 use Rattle.store_model.specs.StoreState.{JobState}
 use Rattle.store_model.specs.RunInvariant.{MayClaim}
 use Rattle.store_model.proofs.Shaped.{no_claim}
-use Rattle.running_store.specs.StoreInvariant.{StoreInvariant}
+use Rattle.store_core.specs.StoreInvariant.{StoreInvariant}
 use Rattle.running_store.specs.StoreView.{rows_of, state_of, WithOpening}
 use Rattle.run_work.specs.Reading.{has_any, is_in_use, is_there}
 use Rattle.run_work.specs.RunFacts.{in_queue, is_filled_for, is_held, is_waiting, IsOneOf, IsOnTheWay, RunFacts}

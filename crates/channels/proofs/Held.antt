@@ -11,7 +11,7 @@ use Rattle.data_path.specs.declared.reading.Stage.{Stage}
 use Rattle.data_path.specs.declared.reading.Stage.TheVariants.{Send}
 use Rattle.running_store.specs.Stages.{is_stage}
 use Rattle.running_store.specs.Steps.{Asks}
-use Rattle.running_store.specs.StoreInvariant.{StoreInvariant}
+use Rattle.store_core.specs.StoreInvariant.{StoreInvariant}
 use Rattle.running_store.specs.StoreView.{rows_of, state_of, StoreView, WithOpening}
 use Rattle.running_store.specs.declared.rows.RowStage.{RowStage}
 use Rattle.running_store.specs.declared.rows.RowStage.TheVariants as waits

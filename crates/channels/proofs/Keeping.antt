@@ -15,7 +15,7 @@ use Rattle.store_model.specs.Cases as kind
 use Rattle.store_model.specs.Rows.{Ended, fill_row, Posted, Row}
 use Rattle.store_model.specs.StoreState.{StoreState}
 use Rattle.running_store.specs.Requests.{IsPostedBy}
-use Rattle.running_store.specs.StoreInvariant.{opening_script, StoreInvariant}
+use Rattle.store_core.specs.StoreInvariant.{opening_script, StoreInvariant}
 use Rattle.running_store.specs.StoreView.{rows_of, state_of, WithOpening}
 use Rattle.run_work.specs.Following.{ActorInRun, ChannelActs, MetadataActs}
 use Rattle.run_work.specs.Reading.{is_in_use}

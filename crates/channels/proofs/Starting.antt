@@ -22,7 +22,7 @@ use Rattle.md_thread.specs.Holding.{driven_by, MetadataState}
 use Rattle.md_thread.specs.declared.state.Next.TheVariants as on
 use Rattle.channels.proofs.Keeping.{stands}
 use Rattle.running_store.specs.Stages.{is_stage, waits_for}
-use Rattle.running_store.specs.StoreInvariant.{StoreInvariant}
+use Rattle.store_core.specs.StoreInvariant.{StoreInvariant}
 use Rattle.running_store.specs.StoreView.{rows_of, state_of}
 use Rattle.run_work.specs.RunFacts.{RunFacts}
 use Rattle.run_moves.specs.DrivenStore.{driven_at_start, DrivenStore, run_of, serial_in}

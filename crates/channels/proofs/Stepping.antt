@@ -14,7 +14,7 @@ use Rattle.store_model.specs.StateLaws.{StateLaws}
 use Rattle.store_model.specs.StoreState.{shown}
 use Rattle.store_model.proofs.Inserted.{get_set_here}
 use Rattle.store_model.proofs.Ranges.{get_set_other}
-use Rattle.running_store.specs.StoreInvariant.{opening_script, StoreInvariant}
+use Rattle.store_core.specs.StoreInvariant.{opening_script, StoreInvariant}
 use Rattle.running_store.specs.StoreView.{rows_of, state_of, StoreView, WithOpening}
 use Rattle.run_work.specs.Following.{ActorInRun, ChannelActs}
 use Rattle.run_work.specs.RunFacts.{is_filled_for, RunFacts}

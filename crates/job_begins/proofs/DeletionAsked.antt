@@ -42,7 +42,7 @@ use Rattle.store_model.proofs.OneReplacement.{base_resolved, base_steady}
 use Rattle.store_model.proofs.Sets.{AllBelow}
 use Rattle.store_model.proofs.Used.{within}
 use Rattle.store_model.proofs.WithEntry.{given_here}
-use Rattle.running_store.specs.StoreInvariant.{IsRunning}
+use Rattle.running_store.specs.RunningState.{IsRunning}
 use Rattle.job_begins.specs.Deletions.{deletion_changes, AsksToDelete}
 use Rattle.job_begins.specs.declared.asking.DeletionAsk.{DeletionAsk}
 use Rattle.job_begins.proofs.CutClusters.{in_slot}

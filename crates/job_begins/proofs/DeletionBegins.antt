@@ -32,7 +32,7 @@ use Rattle.store_model.proofs.WithEntry.{option_elsewhere}
 use Rattle.running_store.specs.Blobs.{CanAllBeKept}
 use Rattle.running_store.specs.Jobs.{job_seen, phases_in, to_come}
 use Rattle.running_store.specs.Steps.{Asks, IsPostedAt}
-use Rattle.running_store.specs.StoreInvariant.{IsRunning}
+use Rattle.running_store.specs.RunningState.{IsRunning}
 use Rattle.running_store.specs.StoreView.{base_of, rows_of, state_of, AreResolved, StoreView}
 use Rattle.running_store.specs.declared.job.RunningJob.{RunningJob}
 use Rattle.running_store.specs.declared.replacements.LaidReplacement.{LaidReplacement}

@@ -20,7 +20,7 @@ use Rattle.store_model.specs.StoreState.{StoreState}
 use Rattle.store_model.proofs.Sets.{among_first, length_all_set, were_clear, AllBelow}
 use Rattle.store_model.proofs.WithEntry.{option_elsewhere, option_here}
 use Rattle.running_store.specs.Jobs.{erases_laid, replacing_of, to_come, writes_laid}
-use Rattle.running_store.specs.StoreInvariant.{IsRunning}
+use Rattle.running_store.specs.RunningState.{IsRunning}
 use Rattle.running_store.specs.StoreView.{base_of, state_of, StoreView}
 use Rattle.running_store.specs.declared.effects.Effects.{Effects}
 use Rattle.running_store.specs.declared.job.RunningJob.{RunningJob}

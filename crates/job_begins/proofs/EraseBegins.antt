@@ -32,7 +32,7 @@ use Rattle.store_model.proofs.WithEntry.{option_elsewhere, option_here}
 use Rattle.running_store.specs.Blobs.{CanBeKept}
 use Rattle.running_store.specs.Jobs.{erasure_of, removing_for}
 use Rattle.running_store.specs.Steps.{IsPostedAt}
-use Rattle.running_store.specs.StoreInvariant.{IsRunning}
+use Rattle.running_store.specs.RunningState.{IsRunning}
 use Rattle.running_store.specs.StoreView.{base_of, rows_of, state_of, AreResolved, StoreView}
 use Rattle.running_store.specs.declared.job.Serves.TheVariants as whom
 use Rattle.running_store.specs.declared.replacements.Change.TheVariants as change

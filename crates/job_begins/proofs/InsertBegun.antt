@@ -19,7 +19,7 @@ use Rattle.store_model.specs.StoreState.{marked, StoreState}
 use Rattle.job_begins.specs.Begins.{no_effects, planned_with}
 use Rattle.job_begins.specs.Inserts.{HoldsPosted, IsLack}
 use Rattle.running_store.specs.Jobs.{replacing_of, writing_for}
-use Rattle.running_store.specs.StoreInvariant.{IsRunning}
+use Rattle.running_store.specs.RunningState.{IsRunning}
 use Rattle.running_store.specs.StoreView.{StoreView, rows_of, state_of}
 use Rattle.running_store.specs.GivingBack.{row_given_back, IsGivenUp}
 use Rattle.running_store.specs.TurnMade.{TurnMade, TurnsAs}

@@ -24,7 +24,7 @@ use Rattle.store_model.proofs.Resolved.{steady_unmarked}
 use Rattle.store_model.proofs.Sets.{among_either, among_first}
 use Rattle.store_model.proofs.Used.{within}
 use Rattle.job_begins.specs.Begins.{IsPrepared}
-use Rattle.running_store.specs.StoreInvariant.{IsRunning}
+use Rattle.running_store.specs.RunningState.{IsRunning}
 use Rattle.job_begins.specs.declared.preparing.Prepared.{Prepared}
 use Rattle.job_begins.proofs.JobPlanned.{IsReady}
 use Rattle.job_begins.proofs.JobLaid.{laid}

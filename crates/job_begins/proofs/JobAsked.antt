@@ -39,7 +39,7 @@ use Rattle.store_model.proofs.Known.{Known}
 use Rattle.store_model.proofs.NewBlob.{empty_slot, two_written}
 use Rattle.job_begins.specs.Begins.{job_with_zeros, AsksToWrite}
 use Rattle.running_store.specs.Effects.{commit_by, cut_clusters, is_renewed, live_behind, takes_parent}
-use Rattle.running_store.specs.StoreInvariant.{IsRunning}
+use Rattle.running_store.specs.RunningState.{IsRunning}
 use Rattle.job_begins.proofs.CutClusters.{cut_moves, cut_once}
 use Rattle.job_begins.proofs.LiveBehind.{syncing_stays, synced_live}
 use Rattle.job_begins.proofs.SlotsOfZeros.{filled_map, with_none}

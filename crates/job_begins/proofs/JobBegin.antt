@@ -25,7 +25,7 @@ use Rattle.store_model.specs.Cases.{Begins, CannotBegin, IsPosted, IsRefusedAtBe
 use Rattle.store_model.proofs.JobReady.{lacks_for_one}
 use Rattle.running_store.specs.Jobs.{begun_job, commit_in, replacing_of, writing_for}
 use Rattle.job_begins.specs.Begins.{job_with_zeros, taken_for, AsksToWrite, IsUnprepared}
-use Rattle.running_store.specs.StoreInvariant.{IsRunning}
+use Rattle.running_store.specs.RunningState.{IsRunning}
 use Rattle.running_store.specs.StoreView.{StoreView, rows_of, state_of}
 use Rattle.running_store.specs.Zeroing.{pages_of}
 use Rattle.running_store.specs.Steps.{logged_at, IsPostedAt}

@@ -9,7 +9,7 @@ use Rattle.store_model.specs.RunInvariant.{RunsWell}
 use Rattle.store_model.specs.Steady.{IsStored}
 use Rattle.store_model.specs.StoreState.{StoreState}
 use Rattle.store_model.proofs.Sets.{among_first}
-use Rattle.running_store.specs.StoreInvariant.{IsRunning}
+use Rattle.running_store.specs.RunningState.{IsRunning}
 use Rattle.job_begins.specs.Begins.{IsPrepared}
 use Rattle.job_begins.specs.declared.preparing.Prepared.{Prepared}
 use Rattle.job_begins.proofs.JobPlanned.{IsReady}

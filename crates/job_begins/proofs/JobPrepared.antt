@@ -23,7 +23,7 @@ use Rattle.store_model.proofs.Sets.{among_first}
 use Rattle.store_model.proofs.ZeroSlots.{each_claimed}
 use Rattle.job_begins.specs.Begins.{taken_for, AsksToWrite, IsPrepared, IsTaken}
 use Rattle.running_store.specs.Effects.{cut_clusters}
-use Rattle.running_store.specs.StoreInvariant.{IsRunning}
+use Rattle.running_store.specs.RunningState.{IsRunning}
 use Rattle.job_begins.specs.declared.preparing.Prepared.{Prepared}
 use Rattle.running_store.proofs.Cleared.{among_get}
 use Rattle.job_begins.proofs.FilledMoves.{filled_moves}

@@ -24,7 +24,7 @@ use Rattle.running_store.specs.Jobs.{begun_job, job_seen}
 use Rattle.job_begins.specs.Begins.{planned_with, with_begun, AsksToWrite, HasChain, IsFreshHead, IsPrepared}
 use Rattle.job_begins.specs.Begins.{IsUnprepared, job_with_zeros}
 use Rattle.running_store.specs.Effects.{cut_clusters, AreEffects}
-use Rattle.running_store.specs.StoreInvariant.{IsRunning}
+use Rattle.running_store.specs.RunningState.{IsRunning}
 use Rattle.running_store.specs.Blobs.{metas_given, shows_of, Blobs, CanBeKept, HasPlaces}
 use Rattle.running_store.specs.Places.{HasPlace, HasPlaceFor}
 use Rattle.running_store.specs.StoreView.{base_of, AreResolved, StoreView, rows_of, state_of}

@@ -25,7 +25,7 @@ use Rattle.store_model.proofs.Resolved.{map_of, resolved_of, resolved_stored, Is
 use Rattle.store_model.proofs.Used.{within}
 use Rattle.store_model.proofs.WithEntry.{given_elsewhere, given_here}
 use Rattle.running_store.specs.Jobs.{erasure_of, removing_for, replacing_of, writing_for}
-use Rattle.running_store.specs.StoreInvariant.{IsRunning}
+use Rattle.running_store.specs.RunningState.{IsRunning}
 use Rattle.running_store.specs.StoreView.{state_of, AreResolved, StoreView}
 use Rattle.running_store.specs.Blobs.{CanBeKept}
 use Rattle.running_store.specs.declared.replacements.Change.TheVariants as change

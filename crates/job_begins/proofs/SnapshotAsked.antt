@@ -32,7 +32,7 @@ use Rattle.store_model.proofs.Known.{Known}
 use Rattle.store_model.proofs.NewBlob.{two_written}
 use Rattle.store_model.proofs.OneReplacement.{base_steady}
 use Rattle.store_model.proofs.Sets.{among_first}
-use Rattle.running_store.specs.StoreInvariant.{IsRunning}
+use Rattle.running_store.specs.RunningState.{IsRunning}
 use Rattle.job_begins.specs.Snapshots.{AsksToSnapshot}
 use Rattle.job_begins.specs.declared.asking.SnapshotAsk.{SnapshotAsk}
 use Rattle.job_begins.proofs.JobPlanned.{given}

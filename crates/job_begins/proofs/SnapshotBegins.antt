@@ -31,7 +31,7 @@ use Rattle.running_store.specs.Blobs.{Blobs, CanAllBeKept}
 use Rattle.running_store.specs.Jobs.{job_seen, phases_in, to_come, writes_laid, IsFollowing, IsHeaded, IsMatched}
 use Rattle.running_store.specs.Places.{HasPlace}
 use Rattle.running_store.specs.Steps.{Asks, IsPostedAt}
-use Rattle.running_store.specs.StoreInvariant.{IsRunning}
+use Rattle.running_store.specs.RunningState.{IsRunning}
 use Rattle.running_store.specs.StoreView.{base_of, rows_of, state_of, AreResolved, StoreView}
 use Rattle.running_store.specs.declared.effects.Effects.{Effects}
 use Rattle.running_store.specs.declared.job.RunningJob.{RunningJob}

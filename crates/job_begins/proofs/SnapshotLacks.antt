@@ -21,7 +21,7 @@ use Rattle.store_model.specs.Shown.{fixed_of}
 use Rattle.store_model.specs.StoreState.{shown, StoreState}
 use Rattle.store_model.proofs.JobReady.{plain_zeroed}
 use Rattle.store_model.proofs.WithEntry.{option_elsewhere, option_here}
-use Rattle.running_store.specs.StoreInvariant.{IsRunning}
+use Rattle.running_store.specs.RunningState.{IsRunning}
 use Rattle.job_begins.specs.Begins.{needed}
 use Rattle.job_begins.specs.Drafts.{IsDraftOf}
 use Rattle.job_begins.specs.JobPages.{IsShort}

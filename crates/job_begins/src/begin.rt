@@ -8,7 +8,7 @@ ghost use Rattle.job_begins.specs.declared.begin.BeginTurn.TheVariants.{Began, L
 ghost use Rattle.job_begins.specs.Begins.{row_begun, with_begun, AsksToWrite, BeginsOrNot, IsJobOf};
 ghost use Rattle.job_begins.specs.Asks.{IsAskedAs};
 ghost use Rattle.running_store.specs.Jobs.{IsHeaded};
-ghost use Rattle.running_store.specs.StoreInvariant.{IsRunning};
+ghost use Rattle.running_store.specs.RunningState.{IsRunning};
 ghost use Rattle.running_store.specs.TurnMade.{TurnMade};
 ghost use Rattle.running_store.specs.Blobs.{blobs_of, WillBeKept};
 ghost use Rattle.running_store.specs.Running.{view_of, InOrder};

@@ -15,7 +15,7 @@ ghost use Rattle.job_begins.specs.Inserts.{Fills, HoldsPosted, InsertsOrNot, Row
 ghost use Rattle.running_store.specs.GivingBack.{halting};
 ghost use Rattle.running_store.specs.Running.{view_of, InOrder};
 ghost use Rattle.running_store.specs.Stages.{claim_seen};
-ghost use Rattle.running_store.specs.StoreInvariant.{IsRunning};
+ghost use Rattle.running_store.specs.RunningState.{IsRunning};
 ghost use Rattle.running_store.specs.StoreView.{base_of, rows_of, state_of};
 ghost use Rattle.running_store.specs.TurnMade.{TurnMade};
 

@@ -8,7 +8,7 @@ ghost use Rattle.job_begins.specs.Repairs.{with_repair, IsDue, IsLackForRepair, 
 ghost use Rattle.running_store.specs.Jobs.{IsHeaded};
 ghost use Rattle.running_store.specs.Blobs.{blobs_of, WillBeKept};
 ghost use Rattle.running_store.specs.Running.{view_of, InOrder};
-ghost use Rattle.running_store.specs.StoreInvariant.{IsRunning};
+ghost use Rattle.running_store.specs.RunningState.{IsRunning};
 ghost use Rattle.running_store.specs.StoreView.{base_of, state_of};
 ghost use Rattle.store_model.specs.Cases.BeginRepair.{BeginsRepair};
 

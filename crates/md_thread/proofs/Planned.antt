@@ -6,7 +6,8 @@ use Rattle.volume_model.specs.declared.command.VolumeRef.{VolumeRef}
 use Rattle.volume_model.specs.declared.command.Command.{Command}
 use Rattle.volume_model.specs.declared.command.Command.TheVariants as c
 use Rattle.metadata_turns.specs.Answering.{IsAnswerable}
-use Rattle.running_store.specs.StoreInvariant.{IsRunning, StoreInvariant}
+use Rattle.running_store.specs.RunningState.{IsRunning}
+use Rattle.store_core.specs.StoreInvariant.{StoreInvariant}
 use Rattle.running_store.specs.StoreView.{WithOpening, state_of}
 use Rattle.lvol_store.specs.FillPlans.{IsFill}
 use Rattle.md_thread.specs.Served.{IsServedByMetadata}

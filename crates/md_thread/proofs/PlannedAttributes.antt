@@ -28,7 +28,7 @@ use Rattle.store_model.specs.Asking.{AsksFor, IsSyncing, syncs}
 use Rattle.store_model.specs.Cases.{IsRefusedBy}
 use Rattle.metadata_turns.specs.Answering.{IsFound}
 use Rattle.job_begins.specs.Begins.{IsJobOf}
-use Rattle.running_store.specs.StoreInvariant.{IsRunning}
+use Rattle.running_store.specs.RunningState.{IsRunning}
 use Rattle.store_core.specs.Planning.{HasBlob, PlanLaws}
 use Rattle.blob_meta.specs.Repairs.{HasNoMarks}
 use Rattle.running_store.specs.StoreView.{base_of, AreResolved, StoreView, state_of}

@@ -22,7 +22,7 @@ use Rattle.lvol_store.specs.declared.filling.FillPlan.TheVariants as plan
 use Rattle.store_model.specs.Cases.{IsRefusedBy}
 use Rattle.store_model.specs.Shown.{fixed_of}
 use Rattle.store_model.specs.StoreState.{shown}
-use Rattle.running_store.specs.StoreInvariant.{IsRunning}
+use Rattle.running_store.specs.RunningState.{IsRunning}
 use Rattle.running_store.specs.StoreView.{AreResolved, base_of, state_of, StoreView}
 use Rattle.store_core.specs.Planning.{PlanLaws}
 use Rattle.md_thread.specs.Tasks.{IsFillPlanOf}

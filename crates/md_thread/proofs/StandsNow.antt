@@ -13,7 +13,7 @@ use Rattle.store_model.specs.StateLaws.{StateLaws}
 use Rattle.store_model.proofs.FillKept.{idle_fills_none}
 use Rattle.store_model.specs.Filling.{StandsAt}
 use Rattle.running_store.specs.Stages.{is_stage}
-use Rattle.running_store.specs.StoreInvariant.{StoreInvariant}
+use Rattle.store_core.specs.StoreInvariant.{StoreInvariant}
 use Rattle.running_store.specs.StoreView.{rows_of, state_of, WithOpening}
 use Rattle.running_store.specs.declared.rows.RowStage.TheVariants.{Over}
 use Rattle.md_thread.proofs.StepsDue.{over_idle}

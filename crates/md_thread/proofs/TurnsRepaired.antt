@@ -8,7 +8,7 @@ use Rattle.store_model.specs.Repairing.{IsRepaired}
 use Rattle.store_model.specs.Rows.{Claiming, Copying, Decided, Ended, Idle, InJob, Posted, Ready, Stage}
 use Rattle.store_model.specs.StateLaws.{StateLaws}
 use Rattle.store_model.specs.StoreState.{StoreState}
-use Rattle.running_store.specs.StoreInvariant.{StoreInvariant}
+use Rattle.store_core.specs.StoreInvariant.{StoreInvariant}
 use Rattle.running_store.specs.StoreView.{state_of, WithOpening}
 use Rattle.run_moves.specs.DriverSteps as turns
 use Rattle.run_moves.specs.DriverSteps.{JobTurn, ServingTurn}

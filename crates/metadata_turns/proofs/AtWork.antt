@@ -14,7 +14,7 @@ use Rattle.store_model.specs.Jobs.{gained_by, places_of, JobStands, CanReplace, 
 use Rattle.store_model.specs.RunInvariant.{RunsWell}
 use Rattle.store_model.proofs.Sets.{among_first, among_later}
 use Rattle.store_model.proofs.Used.{within}
-use Rattle.running_store.specs.StoreInvariant.{IsRunning}
+use Rattle.running_store.specs.RunningState.{IsRunning}
 use Rattle.running_store.proofs.Cleared.{among_get}
 use Rattle.running_store.proofs.PlainFacts.{got}
 use Rattle.running_store.specs.declared.replacements.Planned.{Planned}

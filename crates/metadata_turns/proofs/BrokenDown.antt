@@ -15,7 +15,7 @@ use Rattle.store_model.proofs.Shaped.{waits_for_commit, waits_no_more}
 use Rattle.running_store.specs.Jobs.{job_seen, service_of, waits_for_job}
 use Rattle.metadata_turns.specs.JobTurns.{TurnsJob}
 use Rattle.metadata_turns.specs.RowsWork.{RowsWork, WaitsToInsert}
-use Rattle.running_store.specs.StoreInvariant.{IsRunning}
+use Rattle.running_store.specs.RunningState.{IsRunning}
 use Rattle.running_store.specs.Steps.{logged_at}
 use Rattle.running_store.specs.StoreView.{StoreView, rows_of, state_of}
 use Rattle.running_store.specs.GivingBack.{HasWork, IsGivenUp, own}

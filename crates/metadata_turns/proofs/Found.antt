@@ -22,7 +22,7 @@ use Rattle.store_model.specs.Maps.{Map}
 use Rattle.store_model.specs.Shown.{fixed_of}
 use Rattle.store_model.specs.StoreState.{StoreState, shown}
 use Rattle.metadata_turns.specs.Answering.{IsFound}
-use Rattle.running_store.specs.StoreInvariant.{IsRunning}
+use Rattle.running_store.specs.RunningState.{IsRunning}
 use Rattle.metadata_turns.proofs.Answered.{live_same}
 use Rattle.store_model.proofs.Resolved.{resolved_stored}
 use Rattle.running_store.proofs.Showing.{shows_metas}

@@ -26,7 +26,7 @@ use Rattle.store_model.specs.Shown.{fixed_of}
 use Rattle.store_model.specs.StoreState.{StoreState, shown}
 use Rattle.store_model.specs.Cases.{df_of, IsInMemory}
 use Rattle.store_model.proofs.Resolved.{resolved_stored}
-use Rattle.running_store.specs.StoreInvariant.{IsRunning}
+use Rattle.running_store.specs.RunningState.{IsRunning}
 use Rattle.running_store.proofs.Showing.{shows_metas}
 use Rattle.metadata_turns.specs.Infos as infos
 use Rattle.metadata_turns.specs.Infos.{IsQuestion, ParentsFit, Tells, TellsInfo}

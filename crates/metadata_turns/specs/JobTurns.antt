@@ -12,7 +12,7 @@ use Rattle.running_store.specs.Places.{thawed}
 use Rattle.running_store.specs.StoreView.{StoreView, state_of}
 use Rattle.running_store.specs.declared.job.Serves.{Serves}
 use Rattle.running_store.specs.TurnMade.{TurnMade}
-use Rattle.running_store.specs.StoreInvariant.{IsRunning}
+use Rattle.running_store.specs.RunningState.{IsRunning}
 use Rattle.metadata_turns.specs.RowsWork.{RowsWork}
 
 -- the kinds of a job's turns, but for its beginning: those of an insert's job alone, and of any other

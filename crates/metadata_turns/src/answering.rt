@@ -9,7 +9,7 @@ ghost use Rattle.store_model.specs.Cases as kind;
 ghost use Rattle.super_block.specs.Faults.{IsFaultless};
 ghost use Rattle.metadata_turns.specs.Answering.{ComesTo, DoesVerb, IsAnswerable, IsAsked};
 ghost use Rattle.metadata_turns.specs.Infos.{IsQuestion};
-ghost use Rattle.running_store.specs.StoreInvariant.{IsRunning};
+ghost use Rattle.running_store.specs.RunningState.{IsRunning};
 ghost use Rattle.running_store.specs.TurnMade.{TurnMade};
 ghost use Rattle.running_store.specs.Running.{view_of, InOrder};
 ghost use Rattle.running_store.specs.StoreView.{rows_of, state_of};

@@ -7,7 +7,7 @@ ghost use Rattle.running_store.specs.Jobs.{job_seen, waits_for_job, IsHeaded};
 ghost use Rattle.super_block.specs.Faults.{IsFaultless};
 ghost use Rattle.metadata_turns.specs.RowsWork.{RowsWork};
 ghost use Rattle.metadata_turns.specs.declared.job_turn.JobTurn.TheVariants.{Stopped};
-ghost use Rattle.running_store.specs.StoreInvariant.{IsRunning};
+ghost use Rattle.running_store.specs.RunningState.{IsRunning};
 ghost use Rattle.running_store.specs.Running.{view_of, InOrder};
 ghost use Rattle.running_store.specs.StoreView.{state_of};
 

@@ -21,7 +21,7 @@ use Rattle.store_model.specs.StoreState.{StoreState, shown}
 use Rattle.store_model.specs.RunInvariant.{RunsWell}
 use Rattle.store_model.proofs.Shows.{or_empty}
 use Rattle.store_model.proofs.SlotSums.{slots_shown}
-use Rattle.running_store.specs.StoreInvariant.{IsRunning}
+use Rattle.running_store.specs.RunningState.{IsRunning}
 use Rattle.store_model.proofs.Resolved.{resolved_stored}
 
 -- what is shown of a blob

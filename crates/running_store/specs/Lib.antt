@@ -13,7 +13,7 @@ pub mod Running
 pub mod Steps
 pub mod TurnMade
 pub mod Surviving
-pub mod StoreInvariant
+pub mod RunningState
 pub mod Requests
 pub mod GivingBack
 pub mod DeviceCalls

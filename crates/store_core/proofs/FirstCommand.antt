@@ -13,7 +13,7 @@ use Rattle.running_store.specs.declared.rows.RowStage.{RowStage}
 use Rattle.running_store.specs.declared.rows.RowStage.TheVariants as waits
 use Rattle.channel_turns.specs.ChannelTurns.{WaitsToFlush, WaitsToRead, WaitsToWrite}
 use Rattle.channel_turns.specs.ClaimTurns.{HoldsClaim, WaitsToCopy}
-use Rattle.running_store.specs.StoreInvariant.{StoreInvariant}
+use Rattle.store_core.specs.StoreInvariant.{StoreInvariant}
 use Rattle.running_store.specs.StoreView.{StoreView, WithOpening, rows_of, state_of}
 use Rattle.running_store.specs.Stages.{is_stage, waits_for}
 use Rattle.running_store.proofs.Rowing.{channel_low, low_of}

@@ -8,7 +8,7 @@ use Rattle.store_model.specs.Rows.{Posted}
 use Rattle.job_begins.specs.Inserts.{HoldsPosted, InsertsOrNot}
 use Rattle.running_store.specs.GivingBack.{halting}
 use Rattle.running_store.specs.Requests.{IsInsertPosted}
-use Rattle.running_store.specs.StoreInvariant.{StoreInvariant}
+use Rattle.store_core.specs.StoreInvariant.{StoreInvariant}
 use Rattle.running_store.specs.StoreView.{StoreView, WithOpening}
 use Rattle.running_store.specs.TurnMade.{TurnMade}
 use Rattle.job_begins.specs.declared.inserting.InsertTurn.{InsertTurn}

@@ -15,7 +15,7 @@ use Rattle.store_model.proofs.Over.{CrashLaws, Over}
 use Rattle.store_model.proofs.Turns as turns
 use Rattle.running_store.proofs.Showing.{loaded_alike}
 use Rattle.metadata_turns.specs.JobTurns.{TurnsJob}
-use Rattle.running_store.specs.StoreInvariant.{StoreInvariant, opening_script}
+use Rattle.store_core.specs.StoreInvariant.{StoreInvariant, opening_script}
 use Rattle.running_store.specs.TurnMade.{TurnMade}
 use Rattle.running_store.specs.StoreView.{StoreView, WithOpening, base_of, state_of}
 use Rattle.running_store.specs.Surviving.{HasOneImage, HoldsMetadata, OldOrNew}

@@ -21,7 +21,7 @@ use Rattle.store_model.specs.StoreState.{ForCommand, ForInsert, ForRepair, going
 use Rattle.store_model.specs.Turning.{stopped_now}
 use Rattle.store_model.proofs.RowsKept.{row_here}
 use Rattle.metadata_turns.specs.RowsWork.{RowsWork}
-use Rattle.running_store.specs.StoreInvariant.{StoreInvariant}
+use Rattle.store_core.specs.StoreInvariant.{StoreInvariant}
 use Rattle.running_store.specs.StoreView.{WithOpening, state_of}
 use Rattle.store_core.proofs.FillKept.{fill_kept}
 use Rattle.store_core.proofs.OwnSteps.{AreOwn, HaveOwn, log_filled, log_work, no_insert, no_job, same_behind, same_one}

@@ -17,7 +17,8 @@ use Rattle.channel_turns.specs.declared.page_reading.ReadTurn.TheVariants as rea
 use Rattle.channel_turns.specs.ChannelTurns.{IsOfRead}
 use Rattle.running_store.specs.TurnMade.{TurnMade, TurnsAs}
 use Rattle.job_begins.specs.Begins.{BeginsOrNot}
-use Rattle.running_store.specs.StoreInvariant.{IsRunning, StoreInvariant}
+use Rattle.running_store.specs.RunningState.{IsRunning}
+use Rattle.store_core.specs.StoreInvariant.{StoreInvariant}
 use Rattle.running_store.specs.StoreView.{StoreView, WithOpening, rows_of, state_of}
 use Rattle.running_store.specs.Requests.{HavePosted, IsPostedBy}
 use Rattle.running_store.specs.Stages.{is_stage, waits_for}

@@ -6,7 +6,7 @@ use Rattle.store_model.specs.Cases as kind
 use Rattle.job_begins.specs.Repairs.{RepairsOrNot}
 use Rattle.job_begins.specs.declared.repairing.RepairTurn.{RepairTurn}
 use Rattle.job_begins.specs.declared.repairing.RepairTurn.TheVariants as repair
-use Rattle.running_store.specs.StoreInvariant.{StoreInvariant}
+use Rattle.store_core.specs.StoreInvariant.{StoreInvariant}
 use Rattle.running_store.specs.StoreView.{StoreView, WithOpening}
 use Rattle.running_store.specs.TurnMade.{TurnMade}
 

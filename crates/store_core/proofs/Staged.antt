@@ -24,7 +24,7 @@ use Rattle.store_model.specs.Rows.{OpenClaim, Posted, Ready, Row, Rows, Stage, w
 use Rattle.store_model.specs.StoreState.{Opens, StoreState}
 use Rattle.store_model.specs.Turning.{stopped_now}
 use Rattle.store_model.proofs.RowsKept.{row_here, row_other}
-use Rattle.running_store.specs.StoreInvariant.{StoreInvariant}
+use Rattle.store_core.specs.StoreInvariant.{StoreInvariant}
 use Rattle.running_store.specs.StoreView.{rows_of, state_of, WithOpening}
 
 -- a write of a page comes first

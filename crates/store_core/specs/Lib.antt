@@ -1,3 +1,4 @@
 pub mod Opening
+pub mod StoreInvariant
 pub mod Removing
 pub mod Planning

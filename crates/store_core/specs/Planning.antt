@@ -28,7 +28,7 @@ use Rattle.metadata_turns.specs.Answering.{IsFound}
 use Rattle.channel_turns.specs.FillTurns.{IsNextToFill}
 use Rattle.job_begins.specs.Begins.{IsJobOf}
 use Rattle.running_store.specs.LoadedWhole.{IsNextHead}
-use Rattle.running_store.specs.StoreInvariant.{IsRunning}
+use Rattle.running_store.specs.RunningState.{IsRunning}
 use Rattle.running_store.specs.StoreView.{base_of, AreResolved, StoreView, state_of}
 
 -- A blob as a store has it in memory: its metadata, and its live attributes.

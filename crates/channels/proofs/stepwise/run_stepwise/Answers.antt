@@ -2,7 +2,7 @@ use Rattle.std.proofs.Common.{◌≡◌, ℕ, ◌<◌, sym, subst}
 use Rattle.store_model.specs.Filling.{unused_row}
 use Rattle.store_model.specs.Repairing.{IsRepaired}
 use Rattle.store_model.specs.Rows.{fill_row}
-use Rattle.running_store.specs.StoreInvariant.{StoreInvariant}
+use Rattle.store_core.specs.StoreInvariant.{StoreInvariant}
 use Rattle.running_store.specs.StoreView.{rows_of, state_of, WithOpening}
 use Rattle.channels.specs.RunEnds.{ended_row}
 use Rattle.channels.proofs.Ending.{row_over, row_unused}

@@ -1,7 +1,7 @@
 use Rattle.std.proofs.Common.{◌≡◌, sym, subst}
 use Rattle.running_store.specs.declared.running.Running.{Running}
 use Rattle.running_store.specs.Running.{view_of, with_opening}
-use Rattle.running_store.specs.StoreInvariant.{StoreInvariant}
+use Rattle.store_core.specs.StoreInvariant.{StoreInvariant}
 use Rattle.running_store.specs.StoreView.{StoreView}
 use Rattle.store_core.specs.Opening.{opened_with}
 use Rattle.store_core.proofs.LoadedStarts.{is_loaded_with, it_opens, none_past, none_read_past}

@@ -1,13 +1,11 @@
 -- What the type of a running store keeps.
 use Rattle.std.specs.Prelude.{ℕ, List}
 use Rattle.page_disk.specs.declared.disk.PageDisk.{Ghosts}
-use Rattle.super_block.specs.declared.page.Super.{Super}
 use Rattle.super_block.specs.Faults.{IsFaultless}
 use Rattle.super_block.specs.Placed.{IsPlaced}
 use Rattle.volume_model.specs.Naming.{AreNamedAlike}
-use Rattle.volume_model.specs.Volumes.{Volumes}
 use Rattle.volume_model.specs.declared.command.Command.{Command}
-use Rattle.store_model.specs.StoreState.{Opens, StoreState, shown}
+use Rattle.store_model.specs.StoreState.{Opens, shown}
 use Rattle.store_model.specs.Cases.{Kind, Run}
 use Rattle.store_model.specs.RunInvariant.{RunInvariant}
 use Rattle.running_store.specs.StoreView.{StoreView, WithOpening, rows_of, state_of}
@@ -16,16 +14,6 @@ use Rattle.running_store.specs.Surviving.{HasOneImage, StoreSurvives}
 -- the script with which a store began
 abbrev pub opening_script : {D : Type 0} → StoreView D → ℕ → List Command
 opening_script p channel = (rows_of p.rows channel).left
-
--- Some store, its volumes at the opening and its script, of which the state has what every state has. What is read of
--- a volume's name and uuid was on the disk at the opening.
-pub record IsRunning (p : StoreState) : Type 0 where
-  pub store : Super
-  pub first : Volumes
-  pub script : ℕ → List Command
-  pub placed : IsPlaced store
-  pub named : AreNamedAlike first
-  pub facts : RunInvariant store first script p
 
 -- It began with nothing logged, on a super block without fault, and with each volume's name and uuid on the disk as
 -- they are read; turns led from there to here, and the state has what every state of a run has; and power may fail at
