@@ -1,7 +1,9 @@
 pub mod Places
+pub mod PlaceSays
 pub mod Attributes
 pub mod Taken
 pub mod Sums
+pub mod FewPages
 pub mod HeadWalk
 pub mod HeadFaults
 pub mod Marks
@@ -18,4 +20,7 @@ pub mod ChainsOf
 pub mod RecoveryFaults
 pub mod Recovery
 pub mod MarkedRead
+pub mod MaskRead
+pub mod MaskClaims
 pub mod Quick
+pub mod SamePages

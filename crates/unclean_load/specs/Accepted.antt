@@ -17,7 +17,7 @@ use Rattle.blob_meta.specs.Resolving.{IsLawful, resolved, slots_together}
 use Rattle.unclean_load.specs.declared.fault.LoadFault.{LoadFault}
 use Rattle.unclean_load.specs.declared.fault.LoadFault.TheVariants as fault
 use Rattle.unclean_load.specs.declared.heads.Heads.{Heads}
-use Rattle.unclean_load.specs.declared.heads.Heads.TheVariants.{Scanned}
+use Rattle.unclean_load.specs.declared.heads.Heads.TheVariants.{ByScan}
 use Rattle.unclean_load.specs.Heads.{AreWhole, ShowsFirst}
 use Rattle.unclean_load.specs.Parents.{HaveRightParents, ShowsParentFirst}
 use Rattle.unclean_load.specs.Quick.{AreHeads, HasNoFaultByMask, HasNoHeadBesideMask, SameFixed}
@@ -52,7 +52,7 @@ IsAccepted pages image = AcceptedBy AreHeads pages image
 
 -- by the heads that a scan finds, whatever the masks are
 abbrev pub IsAcceptedByScan : ℕ → Image → Type 0
-IsAcceptedByScan pages image = AcceptedBy (λ s image heads. heads ≡ Scanned) pages image
+IsAcceptedByScan pages image = AcceptedBy (λ s image heads. heads ≡ ByScan) pages image
 
 -- ---- faults
 
@@ -135,12 +135,13 @@ pub record CanBeScanned (s : Super) (image : Image) (metas : Metas) (chains : Ch
   pub named : AreNamed (resolved metas)
   pub lawful : IsLawful s.md_len (resolved metas)
 
--- An image that says metadata by a scan is accepted where its masks aren't trusted, as those of a store in use aren't,
--- or name all heads, and none with a fault.
+-- An image that says metadata by a scan is accepted by the heads that it has: by those of its masks where these name
+-- all heads, and none with a fault.
 abbrev pub StoresAreAccepted : Type 0
 StoresAreAccepted =
     (s : Super) (image : Image) (metas : Metas) (chains : Chains) → CanBeScanned s image metas chains
-    → HasNoFaultByMask s image → HasNoHeadBesideMask s image → IsAccepted s.device_pages image
+    → (heads : Heads) → AreHeads s image heads → HasNoFaultByMask s image → HasNoHeadBesideMask s image
+    → IsAccepted s.device_pages image
 
 -- A store that isn't clean has no masks that are trusted.
 abbrev pub InUseAreAccepted : Type 0

@@ -15,21 +15,21 @@ use Rattle.store_model.specs.Scans.{head_at, MetaAt, SomeBlob}
 use Rattle.unclean_load.specs.declared.fault.LoadFault.{LoadFault}
 use Rattle.unclean_load.specs.declared.fault.LoadFault.TheVariants as fault
 use Rattle.unclean_load.specs.declared.heads.Heads.{Heads}
-use Rattle.unclean_load.specs.declared.heads.Heads.TheVariants.{Listed, Scanned}
+use Rattle.unclean_load.specs.declared.heads.Heads.TheVariants.{Listed, ByScan}
 
 -- whether a place is a head: by a scan, where its page is one; or else where it is in the set
 abbrev pub has_head : Heads → Look → ℕ → ℕ → Bool
-has_head Scanned look len place = head_at look len place
+has_head ByScan look len place = head_at look len place
 has_head (Listed places) look len place = is_in places place
 
 -- whether heads are those of a set
 abbrev pub is_listed : Heads → Bool
-is_listed Scanned = false
+is_listed ByScan = false
 is_listed (Listed places) = true
 
 -- the set has a bit for each place
 abbrev pub HeadsFit : ℕ → Heads → Type 0
-HeadsFit md_len Scanned = Unit {0}
+HeadsFit md_len ByScan = Unit {0}
 HeadsFit md_len (Listed places) = length places ≡ md_len
 
 -- The place is a head, with this metadata and chain, and without fault.

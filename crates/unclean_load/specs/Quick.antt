@@ -16,7 +16,7 @@ use Rattle.super_block.specs.declared.masks.Masks.{Masks}
 use Rattle.super_block.specs.declared.page.Super.{Super}
 use Rattle.unclean_load.specs.Heads.{AreWhole, is_listed}
 use Rattle.unclean_load.specs.declared.heads.Heads.{Heads}
-use Rattle.unclean_load.specs.declared.heads.Heads.TheVariants.{Listed, Scanned}
+use Rattle.unclean_load.specs.declared.heads.Heads.TheVariants.{Listed, ByScan}
 
 -- the places of the set have blobs with this metadata and these chains, without fault
 abbrev pub AreListed : Look → MdRegion → List Bool → Metas → Chains → Type 0
@@ -43,12 +43,12 @@ pub record IsQuick (s : Super) (masks : Masks) (image : Image) : Type 0 where
 -- The heads of a store: those of the blob-id mask, where the masks are trusted, or else those that a scan finds.
 abbrev pub AreHeads : Super → Image → Heads → Type 0
 AreHeads s image (Listed places) = (masks : Masks) × IsQuick s masks image × (places ≡ masks.blobs)
-AreHeads s image Scanned = (masks : Masks) → IsQuick s masks image → ⊥
+AreHeads s image ByScan = (masks : Masks) → IsQuick s masks image → ⊥
 
 -- The heads by which a load goes, while the count of read faults comes from one number to another: those of the store,
 -- or those that a scan finds where a read has failed, since it may have been that of a mask.
 abbrev pub AreUsed : ℕ → ℕ → Super → Image → Heads → Type 0
-AreUsed old new s image heads = AreHeads s image heads ⊎ (Rose old new × (heads ≡ Scanned))
+AreUsed old new s image heads = AreHeads s image heads ⊎ (Rose old new × (heads ≡ ByScan))
 
 -- The metadata and the chains are those of the heads by which the load went; it was a quick one, where these are those
 -- of a mask.

@@ -7,7 +7,7 @@ use Rattle.store_model.specs.Maps.{Chains}
 use Rattle.super_block.specs.Numbers.{clusters_of}
 use Rattle.super_block.specs.declared.page.Super.{Super}
 use Rattle.unclean_load.specs.declared.heads.Heads.{Heads}
-use Rattle.unclean_load.specs.declared.heads.Heads.TheVariants.{Listed, Scanned}
+use Rattle.unclean_load.specs.declared.heads.Heads.TheVariants.{Listed, ByScan}
 
 -- how many pages the chains of the heads below a place have together
 abbrev pub pages_together : ℕ → Chains → ℕ
@@ -15,7 +15,7 @@ pages_together end chains = sum_by (λ head. option_map_or (λ pages. length pag
 
 -- how many of so many places are read to test whether they are heads: a set needs no test
 abbrev pub tests : Heads → ℕ → ℕ
-tests Scanned count = count
+tests ByScan count = count
 tests (Listed places) count = 0
 
 -- the pages of the three masks

@@ -157,7 +157,7 @@ pub fn find_blobs<D: PageDisk>(
     if let Some(blobs) = trusted_blobs(alloc, disk, sup)? {
         return Ok(Found { blobs, quick: true });
     }
-    let blobs = blobs_on(alloc, disk, sup, &Heads::Scanned)?;
+    let blobs = blobs_on(alloc, disk, sup, &Heads::ByScan)?;
     Ok(Found {
         blobs,
         quick: false,

@@ -16,7 +16,7 @@ ghost use Rattle.unclean_load.specs.Reading.{GaveHead, IsChainFault, IsItemsFaul
 ghost use Rattle.unclean_load.specs.Reading.{SaysAt, chain_in};
 ghost use Rattle.unclean_load.specs.Reads.{tests};
 ghost use Rattle.unclean_load.specs.declared.fault.LoadFault.TheVariants as fault;
-ghost use Rattle.unclean_load.specs.declared.heads.Heads.TheVariants.{Scanned};
+ghost use Rattle.unclean_load.specs.declared.heads.Heads.TheVariants.{ByScan};
 
 use crate::fault::LoadFault;
 use bit_array::Bits;
@@ -40,7 +40,7 @@ pub struct Blob {
 #[derive(Drop)]
 pub enum Heads {
     /// Those at whose pages a chain begins.
-    Scanned,
+    ByScan,
     /// Those of a set, whatever their pages are.
     Listed(Bits),
 }
@@ -67,7 +67,7 @@ fn is_head(place: u32, page: &Page) -> bool
 fn is_head_on<D: PageDisk>(disk: &mut D, sup: &Super, place: u32) -> Result<bool, LoadFault>
     requires low { place < sup.now.md_len }
     requires inside { sup.now.md_start + sup.now.md_len ≤ D.pages disk.old }
-    ensures found { IfOk result (λ is. GaveHead D.PageDisk sup.now disk.old Scanned place is) }
+    ensures found { IfOk result (λ is. GaveHead D.PageDisk sup.now disk.old ByScan place is) }
     ensures fault { IfErr result (λ e. e ≡ fault.ReadFault) }
     ensures counted { IfErr result (λ e. IsOnlyFault (D.read_faults disk.old) (D.read_faults disk.new) e) }
     ensures quiet { OnOk result (D.read_faults disk.new ≡ D.read_faults disk.old) }
@@ -100,7 +100,7 @@ fn has_head<D: PageDisk>(
     ensures same { OnlyRead D.PageDisk disk.old disk.new }
 {
     match heads {
-        Heads::Scanned => is_head_on(disk, sup, place),
+        Heads::ByScan => is_head_on(disk, sup, place),
         Heads::Listed(places) => Ok(places.get(place)),
     }
 }

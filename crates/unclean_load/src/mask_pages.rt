@@ -1,7 +1,6 @@
 //! The masks of a store, read from its device.
 
-ghost use Rattle.std.specs.Prelude.{◌≡◌, ◌≤◌, ◌<◌, ◌+◌, ℕ, Bool, List, None, length, IsTrue, OnErr, OnOk, IfOk, IsNone};
-ghost use Rattle.std.specs.Prelude.{IfSome, IsSome};
+ghost use Rattle.std.specs.Prelude.{◌≡◌, ◌≤◌, ◌<◌, ◌+◌, Bool, List, length, IfOk, IfSome, IsNone, IsSome, IsTrue};
 ghost use Rattle.bit_array.specs.Mask.{mask_pages};
 ghost use Rattle.clean_stop.specs.Masks.{MasksFit, SaysMask, SaysMasks};
 ghost use Rattle.md_chain.specs.Reading.{OnlyRead};
@@ -13,7 +12,7 @@ ghost use Rattle.unclean_load.specs.Reads.{all_mask_pages};
 use bit_array::{Bits, MaskReader, mask_pages};
 use clean_stop::unloaded_masks_are_read;
 use out_of_memory::Memory;
-use page_disk::PageDisk;
+use page_disk::{Page, PageDisk};
 use std::alloc::Global;
 use super_block::{Masks, Super, regions_are_placed};
 
@@ -25,6 +24,22 @@ const USED_CLUSTERS: u8 = 1;
 
 /// The type of the mask of heads.
 const HEADS: u8 = 2;
+
+/// A page of the device; `None` where the read failed.
+fn page_on<D: PageDisk>(disk: &mut D, at: u64) -> Option<Page>
+    requires { at < D.pages disk.old }
+    ensures content { IsTrue D.tells → IfSome result (λ page. page ≡ D.now disk.old at) }
+    ensures failed { IsNone result → Rose (D.read_faults disk.old) (D.read_faults disk.new) }
+    ensures quiet { IsSome result → D.read_faults disk.new ≡ D.read_faults disk.old }
+    ensures reads { D.reads disk.new ≤ D.reads disk.old + 1 }
+    ensures same { OnlyRead D.PageDisk disk.old disk.new }
+{
+    let mut page = [0; 4096];
+    if disk.read(at, &mut page).is_err() {
+        return None;
+    }
+    Some(page)
+}
 
 /// The set of so many bits that the mask of this type says from a page on; `None` where a read failed, or the mask has
 /// another type or another number of bits.
@@ -47,13 +62,12 @@ fn read_mask<D: PageDisk>(
 {
     let mut reader = MaskReader::new(alloc, kind, len)?;
     for index in 0..mask_pages(len) {
-        let mut page = [0; 4096];
-        if disk.read(u64::from(start) + u64::from(index), &mut page).is_err() {
+        let Some(page) = page_on(disk, u64::from(start) + u64::from(index)) else {
             return Ok(None);
-        }
-        if reader.feed(&page).is_err() {
+        };
+        let Ok(()) = reader.feed(&page) else {
             return Ok(None);
-        }
+        };
     }
     Ok(Some(reader.done()))
 }
