@@ -155,8 +155,8 @@ module _ {D : Type 0} (d : Ghosts D) (laws : LoadLaws) (law : IsTrue d.tells →
 
   -- ---- what is left behind the last turn
 
-  module _ (back : D) (Left : Images) (run : CallsLeave d b.at.disk back Left) (from : (c : Image) → Left c → ComesFrom c)
-  where
+  module _ (back : D) (Left : Images) (run : CallsLeave d b.at.disk back Left)
+      (from : (c : Image) → Left c → ComesFrom c) where
     pub was_one : (c : Image) → d.images back c → ComesFrom c
     was_one c held = from c (run.each c ((law told).counts_now back (d.clock b.at.disk) c run.later held))
 
