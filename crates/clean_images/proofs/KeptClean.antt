@@ -1,9 +1,8 @@
 -- What a crash may leave of a store by whether it is clean, as it begins and over each turn.
-use Rattle.std.proofs.Common.{◌≡◌, ◌≢◌, ◌⊎◌, ℕ, ◌+◌, ◌*◌, ◌≤◌, ◌<◌, Bool, true, false, List, [], ◌∷◌, ◌++◌, length, Some}
-use Rattle.std.proofs.Common.{None, refl, sym, ap, ◌∙◌, subst, inl, inr, arith, IsTrue, get_or}
+use Rattle.std.proofs.Common.{◌≡◌, ◌≢◌, ◌⊎◌, ℕ, ◌*◌, ◌≤◌, ◌<◌, Bool, true, false, List, [], ◌∷◌, ◌++◌, length}
+use Rattle.std.proofs.Common.{Some, None, sym, ap, ◌∙◌, subst, inl, inr, arith, IsTrue, get_or}
 use Rattle.std.proofs.lemmas.Bool.{false≢true}
-use Rattle.std.proofs.Math.Nat.{mul-le-mul_right}
-use Rattle.page_disk.specs.Disk.{Image, Images, Only, Telling, with_page}
+use Rattle.page_disk.specs.Disk.{Image, Images, Only, Telling}
 use Rattle.page_disk.specs.Marks.{MarksKept}
 use Rattle.page_disk.specs.declared.disk.PageDisk.{Ghosts}
 use Rattle.page_disk.proofs.Images.{with_page-here}
@@ -15,20 +14,21 @@ use Rattle.super_block.specs.declared.page.Super.{Super}
 use Rattle.store_model.specs.Agreeing.{IsSameButAt}
 use Rattle.store_model.specs.Cases.{Kind, the, Turn}
 use Rattle.store_model.specs.Device.{Device}
-use Rattle.store_model.specs.Phases.{marking, Marks, Phase}
+use Rattle.store_model.specs.Phases.{marking}
 use Rattle.store_model.specs.Recovers.{SaysInUse}
 use Rattle.store_model.specs.StoreState.{JobState, Opens, StoreState}
-use Rattle.store_model.specs.Touches.{device_of, DoesTouch, is_lasting, left_by, no_new, puts, replaces, Touch, untouched}
+use Rattle.store_model.specs.Touches.{device_of, DoesTouch, is_lasting, left_by, no_new, puts, replaces, Touch}
+use Rattle.store_model.specs.Touches.{untouched}
 use Rattle.store_model.proofs.Going.{told_reads}
 use Rattle.store_model.proofs.Known.{Known}
 use Rattle.store_model.proofs.Over as over
-use Rattle.store_model.proofs.Over.{answer, Effect, fault, halt, Logs, nothing}
+use Rattle.store_model.proofs.Over.{answer, fault, halt, Logs, nothing}
 use Rattle.store_model.proofs.StandsKept.{far_super}
 use Rattle.store_model.proofs.Turns.{law_of}
 use Rattle.clean_images.specs.CleanImages.{CleanImages, HasFixedPagesOf, IsInUse, IsMarkedOrOpened, MarksFirst}
-use Rattle.clean_images.proofs.TouchedPages.{Differs, leaves, left_then, none_new, one_page}
-use Rattle.clean_images.proofs.TurnsMade.{begins, behind, ends, Goes, goes_on, is_marked, Made, made, marks, none, other}
-use Rattle.clean_images.proofs.TurnsMade.{Pages, RunsClean, stays}
+use Rattle.clean_images.proofs.TouchedPages.{leaves, left_then, none_new, one_page}
+use Rattle.clean_images.proofs.TurnsMade.{begins, behind, ends, Goes, goes_on, is_marked, Made, made, marks, none}
+use Rattle.clean_images.proofs.TurnsMade.{other, Pages, RunsClean, stays}
 
 -- ---- images
 

@@ -1,11 +1,10 @@
--- Which pages turns write: on a store that is clean those behind the fixed clusters alone, and never the super block but
--- to mark it.
-use Rattle.std.proofs.Common.{◌≡◌, ◌≢◌, ℕ, ◌+◌, ◌*◌, ◌/◌, ◌%◌, ◌≤◌, ◌<◌, Bool, true, false, Some, None, sym, ap, ◌∙◌}
-use Rattle.std.proofs.Common.{subst, ◌∷◌, ◌++◌, List, Option, refl, arith}
+-- Which pages turns write: on a store that is clean those behind the fixed clusters alone, and never the super block
+-- but to mark it.
+use Rattle.std.proofs.Common.{◌≡◌, ◌≢◌, ℕ, ◌+◌, ◌*◌, ◌/◌, ◌%◌, ◌≤◌, ◌<◌, true, Some, sym, ap, ◌∙◌}
+use Rattle.std.proofs.Common.{subst, ◌∷◌, ◌++◌, Option, refl, arith}
 use Rattle.std.proofs.Math.Nat.{mul-le-mul_right}
 use Rattle.super_block.specs.Numbers.{cluster_pages_of, fixed_clusters_of}
 use Rattle.super_block.specs.declared.page.Super.{Super}
-use Rattle.blob_meta.specs.declared.meta.Meta.{Meta}
 use Rattle.md_chain.specs.Chain.{is_among}
 use Rattle.md_chain.specs.declared.plan.PlannedPage.{PlannedPage}
 use Rattle.shown_volumes.proofs.Inside.{inside_slot}
@@ -14,7 +13,7 @@ use Rattle.store_model.specs.Jobs.{CanReplace, gained_by, JobStands, Lays, Puts}
 use Rattle.store_model.specs.Phases.{Committing, Phase, Replaces, Replacing, taken_by, taken_in, Zeros}
 use Rattle.store_model.specs.Places.{claimed_by, held_by, UsedPages}
 use Rattle.store_model.specs.RunInvariant.{AreStored, RunsWell}
-use Rattle.store_model.specs.StoreState.{ForInsert, JobState}
+use Rattle.store_model.specs.StoreState.{JobState}
 use Rattle.store_model.specs.Turning.{page_of_place, put_by, Runs}
 use Rattle.store_model.proofs.JobKept.{claimed_behind, held_is, held_low}
 use Rattle.store_model.proofs.Known.{Known}

@@ -1,5 +1,5 @@
 -- Which pages of its images a touch of the device changes.
-use Rattle.std.proofs.Common.{◌≡◌, ◌≢◌, ℕ, List, refl, sym, ap, ◌∙◌, subst, inl, inr, IsTrue}
+use Rattle.std.proofs.Common.{◌≡◌, ℕ, List, refl, sym, ap, ◌∙◌, subst, inl, inr, IsTrue}
 use Rattle.page_disk.specs.Disk.{Image, Images, Telling, with_page}
 use Rattle.page_disk.specs.Moments.{CallsLeave}
 use Rattle.page_disk.specs.declared.disk.PageDisk.{Ghosts}

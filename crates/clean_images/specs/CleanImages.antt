@@ -13,8 +13,8 @@ use Rattle.store_model.specs.StoreState.{JobState, StoreState}
 abbrev pub IsInUse : Super → Image → Type 0
 IsInUse s image = (super_of (image 0) s.device_pages).clean ≢ 1
 
--- on every page of the fixed clusters, so of the super block, the masks and the metadata region, the image is as the one
--- with which the store was opened
+-- on every page of the fixed clusters, so of the super block, the masks and the metadata region, the image is as the
+-- one with which the store was opened
 abbrev pub HasFixedPagesOf : Super → Image → Image → Type 0
 HasFixedPagesOf s opened image = (page : ℕ) → page < fixed_clusters_of s * cluster_pages_of s
     → image page ≡ opened page
@@ -28,7 +28,8 @@ abbrev pub MarksFirst : StoreState → Type 0
 MarksFirst p = p.clean ≡ true → (job : JobState) → p.job ≡ Some job → (rest : List Phase) × (job.todo ≡ Marks ∷ rest)
 
 -- What a crash may leave of a device on which a store runs, by whether the device says that the store is clean.
-pub record CleanImages {D : Type 0} (d : Ghosts D) (s : Super) (opened : Image) (p : StoreState) (disk : D) : Type 0 where
+pub record CleanImages {D : Type 0} (d : Ghosts D) (s : Super) (opened : Image) (p : StoreState)
+    (disk : D) : Type 0 where
   pub marks_first : MarksFirst p
   -- As long as it is clean and runs, the fixed clusters of every image are as they were;
   pub as_opened : p.clean ≡ true → p.stopped ≡ None → (image : Image) → d.images disk image

@@ -25,8 +25,8 @@ pub fn clean_images_begin<D: PageDisk>()
 
 /// Each turn keeps it, on a device that tells.
 pub fn clean_images_stay<D: PageDisk>()
-    ensures { (s : Super) (first : Volumes) (script : ℕ → List Command) (opened : Image) (p q : StoreState) (kind : Kind)
-        (from to : D) → IsTrue D.tells → IsPlaced s → RunInvariant s first script p
+    ensures { (s : Super) (first : Volumes) (script : ℕ → List Command) (opened : Image) (p q : StoreState)
+        (kind : Kind) (from to : D) → IsTrue D.tells → IsPlaced s → RunInvariant s first script p
         → p.device ≡ device_of D.PageDisk from → q.device ≡ device_of D.PageDisk to
         → (turn : Turn D.tells p kind q) → DoesTouch D.PageDisk from to ((the kind).touch D.tells p q turn)
         → CleanImages D.PageDisk s opened p from → CleanImages D.PageDisk s opened q to }
