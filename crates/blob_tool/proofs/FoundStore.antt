@@ -17,7 +17,7 @@ use Rattle.unclean_load.specs.Accepted.{AcceptedBy, IsAccepted}
 use Rattle.unclean_load.specs.Heads.{AreWhole, is_listed}
 use Rattle.unclean_load.specs.Quick.{AreListed, AreUsed, HasNoHeadBesideMask, IsQuick, IsReadBy}
 use Rattle.unclean_load.specs.declared.heads.Heads.{Heads}
-use Rattle.unclean_load.specs.declared.heads.Heads.TheVariants.{Listed, Scanned}
+use Rattle.unclean_load.specs.declared.heads.Heads.TheVariants.{ByScan, Listed}
 use Rattle.blob_tool.specs.Found.{HasSoundImage, IsFound, ReadsAs}
 
 module _ {D : Type 0} (d : disk.Ghosts D) (before : D) (loaded : Loaded D) (same : OnlyRead d before loaded.disk) where
@@ -78,7 +78,7 @@ module _ {D : Type 0} (d : disk.Ghosts D) (before : D) (loaded : Loaded D) (same
       → AreWhole (look_of (region_of loaded.sup) (d.now before)) (region_of loaded.sup) heads base chains
       → (masks : Masks) × IsQuick loaded.sup masks (d.now before)
       × AreListed (look_of (region_of loaded.sup) (d.now before)) (region_of loaded.sup) masks.blobs base chains
-  by_masks quick Scanned used is whole = absurd (let bad : true ≡ false = sym quick ∙ is in cc bad)
+  by_masks quick ByScan used is whole = absurd (let bad : true ≡ false = sym quick ∙ is in cc bad)
   by_masks quick (Listed places) (inl x) is whole = (
     x.0,
     x.1.0,
