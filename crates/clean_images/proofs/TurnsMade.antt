@@ -1,6 +1,7 @@
 -- What a turn of each kind writes, and what it makes of the job and of the mark.
 use Rattle.std.proofs.Common.{◌≡◌, ◌≢◌, ℕ, suc, ◌+◌, ◌*◌, ◌≤◌, Bool, true, false, List, [], ◌∷◌, ◌++◌, Option}
 use Rattle.std.proofs.Common.{Some, None, refl, sym, ap, ◌∙◌, subst, inl, inr, arith}
+use Rattle.std.proofs.lemmas.Bool.{false≢true}
 use Rattle.page_disk.specs.Disk.{Image}
 use Rattle.page_disk.proofs.Images.{with_page-here}
 use Rattle.super_block.specs.Numbers.{cluster_pages_of, fixed_clusters_of}
