@@ -78,6 +78,13 @@ all_new n (p ∷ ps) seen differ low new =
         ∙ ap (λ (b : Bool). b || (p == q)) (new q (among_later q p ps is))
         ∙ other q is (p == q) refl
 
+-- so there are no more than places
+pub few_places : (n : ℕ) (ps : List ℕ) → AreDistinct ps → ((p : ℕ) → is_among p ps ≡ true → p < n) → length ps ≤ n
+few_places n ps differ low =
+    let all = all_new n ps [] differ low (λ p is. refl) in
+    let none = unseen-none n in
+    omega (arith, all, none)
+
 -- ---- the chains of a region
 
 -- the places of the chains of the heads below an end

@@ -20,7 +20,9 @@ pub mod ChainsOf
 pub mod RecoveryFaults
 pub mod Recovery
 pub mod MarkedRead
+pub mod MaskTexts
 pub mod MaskRead
 pub mod MaskClaims
 pub mod Quick
 pub mod SamePages
+pub mod FoundBlobs

@@ -54,15 +54,16 @@ one_clusters s a b metas x y =
     to a b x y i lt is = elim (x.no_other i is) [
       | inl fixed ↦ y.fixed i fixed lt
       | inr (inl mapped) ↦ y.mapped i mapped
-      | inr (inr no) ↦ absurd no
+      | inr (inr never) ↦ absurd never
     ]
 
 -- ---- the masks of a clean store
 
-some_of : {o : Option Meta} {m : Meta} → o ≡ Some m → IsSome o
+-- whether there is a blob
+pub some_of : {o : Option Meta} {m : Meta} → o ≡ Some m → IsSome o
 some_of is = subst IsSome (sym is) refl
 
-none_of : {o : Option Meta} → o ≡ None → IsSome o → ⊥
+pub none_of : {o : Option Meta} → o ≡ None → IsSome o → ⊥
 none_of is some = both_ways false refl (subst IsSome is some)
 
 module _ (s : Super) (masks : Masks) (image : Image) (metas : Metas) (chains : Chains) (fit : MasksFit s masks)

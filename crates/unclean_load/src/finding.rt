@@ -11,10 +11,9 @@ ghost use Rattle.store_model.specs.Regions.{look_of, region_of};
 ghost use Rattle.super_block.specs.Faults.{IsFaultless};
 ghost use Rattle.super_block.specs.declared.masks.Masks.{Masks as AllMasks};
 ghost use Rattle.unclean_load.specs.Heads.{AreWhole, IsHeadsFault};
-ghost use Rattle.unclean_load.specs.Quick.{AreHeads, AreUsed, IsQuick, IsReadBy};
+ghost use Rattle.unclean_load.specs.Quick.{AreHeads, AreUsed, IsFaultFound, IsQuick, IsReadBy};
 ghost use Rattle.unclean_load.specs.Reading.{AreRead, IsFaultCounted, IsOnlyFault};
 ghost use Rattle.unclean_load.specs.Reads.{all_mask_pages, pages_together};
-ghost use Rattle.unclean_load.specs.declared.heads.Heads.{Heads as SomeHeads};
 ghost use Rattle.unclean_load.specs.declared.heads.Heads.TheVariants.{Listed};
 
 use crate::claimed::are_claimed;
@@ -94,8 +93,8 @@ fn trusted_blobs<D: PageDisk>(
         → (Rose (D.read_faults disk.old) (D.read_faults disk.new) → ⊥)
         → (m : AllMasks) → IsQuick sup.now m (D.now disk.old) → ⊥) }
     ensures fault { IsTrue D.tells → IfErr result
-        (λ e. (heads : SomeHeads) × AreHeads sup.now (D.now disk.old) heads
-        × IsHeadsFault (look_of (region_of sup.now) (D.now disk.old)) (region_of sup.now) heads e) }
+        (λ e. IsFaultFound (AreHeads sup.now (D.now disk.old)) (look_of (region_of sup.now) (D.now disk.old))
+        (region_of sup.now) e) }
     ensures read { IfOk result (λ blobs. IfSome blobs (λ b. AreRead sup.now (map.get b.metas) (map.get b.chains))) }
     ensures few { IfOk result
         (λ blobs. IfSome blobs (λ b. slots_together sup.now.md_len (map.get b.metas) ≤ 2 ^ 24)) }
@@ -135,9 +134,8 @@ pub fn find_blobs<D: PageDisk>(
         (λ f. IsReadBy (AreUsed (D.read_faults disk.old) (D.read_faults disk.new) sup.now (D.now disk.old)) f.quick sup.now
         (D.now disk.old) (map.get f.blobs.metas) (map.get f.blobs.chains)) }
     ensures fault { IsTrue D.tells → IfErr result
-        (λ e. (heads : SomeHeads)
-        × AreUsed (D.read_faults disk.old) (D.read_faults disk.new) sup.now (D.now disk.old) heads
-        × IsHeadsFault (look_of (region_of sup.now) (D.now disk.old)) (region_of sup.now) heads e) }
+        (λ e. IsFaultFound (AreUsed (D.read_faults disk.old) (D.read_faults disk.new) sup.now (D.now disk.old))
+        (look_of (region_of sup.now) (D.now disk.old)) (region_of sup.now) e) }
 
     // Whatever it tells, they are in order.
     ensures read { IfOk result (λ f. AreRead sup.now (map.get f.blobs.metas) (map.get f.blobs.chains)) }
