@@ -1,6 +1,6 @@
 //! The blobs of a store: by its masks, where these are trusted, and else by a scan.
 
-ghost use Rattle.std.specs.Prelude.{◌≡◌, ◌≤◌, ◌+◌, ◌*◌, ◌^◌, true, IsNone, IsSome, IsTrue, MatchResult, OnOk};
+ghost use Rattle.std.specs.Prelude.{◌≡◌, ◌≤◌, ◌+◌, ◌*◌, ◌^◌, true, IsNone, IsSome, IsTrue, OnOk};
 ghost use Rattle.std.specs.Prelude.{IfOk, IfErr, IfSome};
 ghost use Rattle.std.specs.FinMap as map;
 ghost use Rattle.blob_meta.specs.Resolving.{slots_together};
@@ -61,9 +61,8 @@ fn blobs_by<D: PageDisk>(
     ensures quiet { OnOk result (D.read_faults disk.new ≡ D.read_faults disk.old) }
     ensures reads { IfOk result (λ blobs. IfSome blobs
         (λ b. D.reads disk.new ≤ D.reads disk.old + pages_together sup.now.md_len (map.get b.chains))) }
-    ensures few_reads { IsTrue D.tells → MatchResult result
-        (λ _. D.reads disk.new ≤ D.reads disk.old + sup.now.md_len)
-        (λ _. D.reads disk.new ≤ D.reads disk.old + 2 * sup.now.md_len) }
+    ensures at_ok { IsTrue D.tells → OnOk result (D.reads disk.new ≤ D.reads disk.old + sup.now.md_len) }
+    ensures at_most { IsTrue D.tells → D.reads disk.new ≤ D.reads disk.old + 2 * sup.now.md_len }
     ensures same { OnlyRead D.PageDisk disk.old disk.new }
 {
     let Masks {
@@ -103,9 +102,10 @@ fn trusted_blobs<D: PageDisk>(
     ensures in_use { (sup.now.clean ≡ 1 → ⊥) → (result ≡ Ok None) × (disk.new ≡ disk.old) }
     ensures reads { IfOk result (λ blobs. IfSome blobs (λ b. D.reads disk.new
         ≤ D.reads disk.old + all_mask_pages sup.now + pages_together sup.now.md_len (map.get b.chains))) }
-    ensures few_reads { IsTrue D.tells → MatchResult result
-        (λ _. D.reads disk.new ≤ D.reads disk.old + all_mask_pages sup.now + sup.now.md_len)
-        (λ _. D.reads disk.new ≤ D.reads disk.old + all_mask_pages sup.now + 2 * sup.now.md_len) }
+    ensures at_ok { IsTrue D.tells
+        → OnOk result (D.reads disk.new ≤ D.reads disk.old + all_mask_pages sup.now + sup.now.md_len) }
+    ensures at_most { IsTrue D.tells
+        → D.reads disk.new ≤ D.reads disk.old + all_mask_pages sup.now + 2 * sup.now.md_len }
     ensures same { OnlyRead D.PageDisk disk.old disk.new }
 {
     unloaded_masks_are_read();
@@ -143,12 +143,12 @@ pub fn find_blobs<D: PageDisk>(
 
     ensures counted { IfErr result (λ e. IsFaultCounted (D.read_faults disk.old) (D.read_faults disk.new) e) }
     ensures quiet { IfOk result (λ f. f.quick ≡ true → D.read_faults disk.new ≡ D.read_faults disk.old) }
-    ensures in_use { (sup.now.clean ≡ 1 → ⊥) → MatchResult result
-        (λ _. D.read_faults disk.new ≡ D.read_faults disk.old)
-        (λ e. IsOnlyFault (D.read_faults disk.old) (D.read_faults disk.new) e) }
+    ensures in_use { (sup.now.clean ≡ 1 → ⊥) → OnOk result (D.read_faults disk.new ≡ D.read_faults disk.old) }
+    ensures in_use_fault { (sup.now.clean ≡ 1 → ⊥)
+        → IfErr result (λ e. IsOnlyFault (D.read_faults disk.old) (D.read_faults disk.new) e) }
     ensures reads { IfOk result (λ f. f.quick ≡ true → D.reads disk.new
         ≤ D.reads disk.old + all_mask_pages sup.now + pages_together sup.now.md_len (map.get f.blobs.chains)) }
-    ensures few_reads { IsTrue D.tells
+    ensures at_most { IsTrue D.tells
         → D.reads disk.new ≤ D.reads disk.old + all_mask_pages sup.now + 4 * sup.now.md_len }
     ensures same { OnlyRead D.PageDisk disk.old disk.new }
 {

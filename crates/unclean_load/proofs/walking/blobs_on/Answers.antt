@@ -163,8 +163,8 @@ few_so_far d s heads first disk metas chains slots place w told =
     let reads = w.reads in
     omega (arith, few, reads)
 
-pub returns-clause-few_reads : goal.returns-clause-few_reads
-returns-clause-few_reads g c =
+pub returns-clause-at_ok : goal.returns-clause-at_ok
+returns-clause-at_ok g c =
     let d = g.D.PageDisk in
     let b = c.loop-place.blobs in
     λ told. subst
@@ -173,8 +173,11 @@ returns-clause-few_reads g c =
     (few_so_far d c.args.sup.now c.args.heads.now c.args.disk.now c.loop-place.disk (map.get b.metas)
     (map.get b.chains) b.slots c.loop-place.place c.loop-place.invariant told)
 
-pub returns-in_err-blob-clause-few_reads : goal.returns-in_err-blob-clause-few_reads
-returns-in_err-blob-clause-few_reads g c =
+pub returns-clause-at_most : goal.returns-clause-at_most
+returns-clause-at_most g c = λ told. let most = returns-clause-at_ok g c told in omega (arith, most)
+
+pub returns-in_err-blob-clause-at_most : goal.returns-in_err-blob-clause-at_most
+returns-in_err-blob-clause-at_most g c =
     let d = g.D.PageDisk in
     let b = c.loop-place.blobs in
     let place = c.loop-place.place in
@@ -186,8 +189,8 @@ returns-in_err-blob-clause-few_reads g c =
     let more = c.in_err-blob.ensures.few in
     omega (arith, so_far, tested, more)
 
-pub returns-in_err-add-clause-few_reads : goal.returns-in_err-add-clause-few_reads
-returns-in_err-add-clause-few_reads g c =
+pub returns-in_err-add-clause-at_most : goal.returns-in_err-add-clause-at_most
+returns-in_err-add-clause-at_most g c =
     let d = g.D.PageDisk in
     let s = c.args.sup.now in
     let b = c.loop-place.blobs in
