@@ -1,11 +1,13 @@
 -- The heads by which blobs were found, and the fault where they weren't.
-use Rattle.std.proofs.Common.{◌≡◌, ℕ, ◌+◌, ◌*◌, ◌<◌, ◌≤◌, ◌⊎◌, Bool, true, false, List, Option, Some, None, refl, sym, ap}
-use Rattle.std.proofs.Common.{subst, ◌∙◌, inl, inr, arith}
+use Rattle.std.proofs.Common.{◌≡◌, ℕ, ◌<◌, ◌≤◌, ◌⊎◌, Bool, true, false, [], refl, sym, subst, inl, inr, arith}
 use Rattle.std.proofs.lemmas.Bool.{cases_eq, cases_lt}
-use Rattle.clean_stop.specs.Masks.{SaysMasks}
+use Rattle.clean_stop.specs.Masks.{MasksFit, SaysMasks}
 use Rattle.md_chain.specs.Chain.{Look}
+use Rattle.md_chain.specs.Reading.{region_look}
 use Rattle.page_disk.specs.Disk.{Image, Rose, last_count}
+use Rattle.page_disk.specs.declared.disk.PageDisk.{Ghosts}
 use Rattle.store_model.specs.Maps.{Metas, Chains}
+use Rattle.store_model.specs.Places.{Unclaimed, UsedClusters, UsedPages}
 use Rattle.store_model.specs.Regions.{MdRegion, look_of, region_of}
 use Rattle.super_block.specs.declared.masks.Masks.{Masks}
 use Rattle.super_block.specs.declared.page.Super.{Super}
@@ -18,6 +20,7 @@ use Rattle.unclean_load.specs.Heads.{AreWhole, IsHeadsFault, ShowsFirst}
 use Rattle.unclean_load.specs.Quick.{AreHeads, AreUsed, IsFaultFound, IsQuick, IsReadBy, ShowsBy}
 use Rattle.unclean_load.specs.Reading.{IsFaultCounted, IsOnlyFault}
 use Rattle.unclean_load.proofs.LoadOutcome.{not_twice}
+use Rattle.unclean_load.proofs.MaskClaims.{is_trusted, not_trusted}
 use Rattle.unclean_load.proofs.Refusing.{none_shown}
 
 -- ---- counts of read faults
@@ -123,6 +126,51 @@ module _ (s : Super) (masks : Masks) (image : Image) (clean : s.clean ≡ 1) (sa
   fails_by_masks why x =
       fault_found (AreHeads s image) (look_of (region_of s) image) (region_of s) (Listed masks.blobs) why
       (faulty_heads why) x
+
+-- masks that were read of a device, whose heads were read then
+module _ {D : Type 0} (d : Ghosts D) (s : Super) (masks : Masks) (old mid : D) (same : d.now mid ≡ d.now old)
+    (clean : s.clean ≡ 1) (says : SaysMasks s masks (d.now old)) where
+  -- a fault of these is one of the device as it was
+  pub fault_by_masks : (why : LoadFault)
+      → IsHeadsFault (region_look s (d.now mid)) (region_of s) (Listed masks.blobs) why
+      → IsFaultFound (AreHeads s (d.now old)) (look_of (region_of s) (d.now old)) (region_of s) why
+  fault_by_masks why x =
+      fails_by_masks s masks (d.now old) clean says why
+      (subst (λ (image : Image). IsHeadsFault (region_look s image) (region_of s) (Listed masks.blobs) why) same x)
+
+  module _ (fit : MasksFit s masks) (metas : Metas) (chains : Chains)
+      (whole : AreWhole (region_look s (d.now mid)) (region_of s) (Listed masks.blobs) metas chains) where
+    whole_then : AreWhole (look_of (region_of s) (d.now old)) (region_of s) (Listed masks.blobs) metas chains
+    whole_then =
+        subst (λ (image : Image). AreWhole (region_look s image) (region_of s) (Listed masks.blobs) metas chains) same
+        whole
+
+    -- where they are what the blobs claim, these are those of the store
+    pub read_by_masks : UsedPages s.md_len masks.pages chains [] × UsedClusters s masks.clusters metas Unclaimed
+        → IsReadBy (AreHeads s (d.now old)) true s (d.now old) metas chains
+    read_by_masks claimed = record {
+      heads = Listed masks.blobs;
+      are_used =
+          (masks,
+          is_trusted s masks (d.now old) metas chains fit whole_then clean says claimed.0 claimed.1, refl);
+      quick_is = refl;
+      whole = whole_then;
+    }
+
+    -- and else no masks are trusted
+    pub not_by_masks : (UsedPages s.md_len masks.pages chains [] → UsedClusters s masks.clusters metas Unclaimed → ⊥)
+        → ((other : Masks) → SaysMasks s other (d.now old) → other ≡ masks) → (other : Masks)
+        → IsQuick s other (d.now old) → ⊥
+    not_by_masks differs one other quick =
+        not_trusted s masks (d.now old) metas chains fit whole_then differs
+        (subst (λ (m : Masks). IsQuick s m (d.now old)) (one other quick.says) quick)
+
+    -- whose chains have no page in common, so that memory alone is wanting
+    pub pages_by_masks : (why : LoadFault) → IsPageFault (IsInTwo chains) why
+        → IsFaultFound (AreHeads s (d.now old)) (look_of (region_of s) (d.now old)) (region_of s) why
+    pages_by_masks why x =
+        fails_by_masks s masks (d.now old) clean says why
+        (pages_fail (look_of (region_of s) (d.now old)) (region_of s) (Listed masks.blobs) metas chains whole_then why x)
 
 -- what is read by the store's heads is read by those of the load
 module _ (s : Super) (image : Image) (old new : ℕ) where

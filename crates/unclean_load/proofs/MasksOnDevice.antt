@@ -3,7 +3,6 @@ use Rattle.std.proofs.Common.{◌≡◌, ℕ, ◌+◌, ◌-◌, ◌*◌, ◌<◌
 use Rattle.std.proofs.Math.Nat.{mul-le-mul_right}
 use Rattle.bit_array.specs.Mask.{mask_pages}
 use Rattle.clean_stop.specs.Masks.{IsMaskPage, StandsApart}
-use Rattle.page_runs.specs.Writing.{IsBetween}
 use Rattle.super_block.specs.Numbers.{cluster_pages_of, clusters_of, fixed_clusters_of}
 use Rattle.super_block.specs.Placed.{IsPlaced}
 use Rattle.super_block.specs.declared.page.Super.{Super}
@@ -11,7 +10,7 @@ use Rattle.super_block.specs.declared.page.Super.{Super}
 -- what the laws of regions and of masks say of a store
 module _ (s : Super) (placed : IsPlaced s) (apart : (page : ℕ) → IsMaskPage s page → StandsApart s page) where
   -- pages that are those of masks lie on the device
-  on_device : (start n : ℕ) → 0 < n → ((page : ℕ) → IsBetween start (start + n) page → IsMaskPage s page)
+  on_device : (start n : ℕ) → 0 < n → ((page : ℕ) → (start ≤ page) × (page < start + n) → IsMaskPage s page)
       → start + n ≤ s.device_pages
   on_device start n some are =
       let last = (apart (start + n - 1) (are (start + n - 1) (omega (arith, some), omega (arith, some)))).fixed in

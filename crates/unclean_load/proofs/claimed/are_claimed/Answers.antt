@@ -21,7 +21,7 @@ returns-clause-claimed c is = elim c.if-is_same.branch [
       both_claimed c.args.sup.now (map.get c.args.blobs.now.metas) (map.get c.args.blobs.now.chains) c.requires.read
       c.in_ok-used.used c.in_ok-claims.claims.clusters c.in_ok-claims.claims.twice c.in_ok-used.ensures.used
       c.in_ok-claims.ensures.count c.in_ok-claims.ensures.counted c.args.pages.now c.args.clusters.now
-      (c.is_same.ensures.same w.if-is_same) (w.is_same-then-is_same.ensures.same (sym w.result-is ∙ is))
+      (c.is_same.ensures.same w.if-is_same.true) (w.is_same-then-is_same.ensures.same (sym w.result-is ∙ is))
   | else-is_same w ↦ absurd (both_ways c.if-is_same.result w.result-is is)
 ]
 
@@ -36,5 +36,5 @@ returns-clause-not_claimed c is pages clusters = elim c.if-is_same.branch [
       not_pages c.args.sup.now (map.get c.args.blobs.now.metas) (map.get c.args.blobs.now.chains) c.requires.read
       c.in_ok-used.used c.in_ok-claims.claims.clusters c.in_ok-claims.claims.twice c.in_ok-used.ensures.used
       c.in_ok-claims.ensures.count c.in_ok-claims.ensures.counted c.args.pages.now c.args.clusters.now
-      (c.is_same.ensures.differs w.if-is_same) pages clusters
+      (c.is_same.ensures.differs w.if-is_same.false) pages clusters
 ]
