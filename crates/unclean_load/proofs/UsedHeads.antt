@@ -1,5 +1,5 @@
 -- What is said of the heads by which a load went, of those of the store, and of those of a scan.
-use Rattle.std.proofs.Common.{◌≡◌, ℕ, ◌+◌, ◌*◌, ◌≤◌, ◌⊎◌, Bool, List, refl, sym, ap, subst, ◌∙◌, inl, inr, arith}
+use Rattle.std.proofs.Common.{◌≡◌, ℕ, ◌+◌, ◌*◌, ◌≤◌, ◌⊎◌, Bool, sym, subst, ◌∙◌, inl, inr, arith}
 use Rattle.clean_stop.specs.Masks.{SaysMasks}
 use Rattle.page_disk.specs.Disk.{Image, Rose}
 use Rattle.page_disk.specs.declared.disk.PageDisk.{Ghosts}
@@ -11,9 +11,11 @@ use Rattle.unclean_load.specs.declared.fault.LoadFault.{LoadFault}
 use Rattle.unclean_load.specs.declared.fault.LoadFault.TheVariants as fault
 use Rattle.unclean_load.specs.declared.heads.Heads.{Heads}
 use Rattle.unclean_load.specs.declared.heads.Heads.TheVariants.{ByScan}
-use Rattle.unclean_load.specs.Accepted.{AcceptedBy, FailsBy, IsAccepted, IsAcceptedByScan, IsFaultBy, IsFaultOf}
-use Rattle.unclean_load.specs.Accepted.{IsImageFault, StoreFails, SuperAt}
+use Rattle.unclean_load.specs.Accepted.{IsAccepted, IsAcceptedByScan, IsFaultBy, IsFaultOf}
+use Rattle.unclean_load.specs.Accepted.{IsImageFault, IsSuperFault, StoreFails}
+use Rattle.unclean_load.specs.Claiming.{IsRecoveryFault}
 use Rattle.unclean_load.specs.Quick.{AreHeads, AreUsed, IsFaultFound, IsReadBy}
+use Rattle.unclean_load.specs.Reading.{IsFaultCounted, IsOnlyFault}
 use Rattle.unclean_load.specs.Reads.{all_mask_pages, most_reads}
 use Rattle.unclean_load.proofs.Quick.{one_heads}
 use Rattle.unclean_load.proofs.Refusing.{refused}
@@ -107,6 +109,51 @@ module _ {D : Type 0} (d : Ghosts D) (before first new : D) (quiet : d.read_faul
       (λ (image : Image).
       IsFaultFound (AreUsed (d.read_faults first) (d.read_faults new) s image) (look_of (region_of s) image)
       (region_of s) why) same x)
+
+-- ---- causes
+
+-- a fault of the super block is one of the image
+pub super_fails : (kind : Super → Image → Heads → Type 0) (pages : ℕ) (image : Image) (why : LoadFault)
+    → IsSuperFault pages image why → IsFaultBy kind pages image why
+super_fails kind pages image (fault.Super e) x = x
+super_fails kind pages image fault.ReadFault x = tt
+super_fails kind pages image fault.Memory x = absurd x
+super_fails kind pages image (fault.Chain head e) x = absurd x
+super_fails kind pages image (fault.Meta head e) x = absurd x
+super_fails kind pages image (fault.MapsTooLarge slots) x = absurd x
+super_fails kind pages image (fault.NoParentBlob blob parent) x = absurd x
+super_fails kind pages image (fault.WritableParent blob parent) x = absurd x
+super_fails kind pages image (fault.ParentLoop blob) x = absurd x
+super_fails kind pages image (fault.Shared cluster a b) x = absurd x
+super_fails kind pages image (fault.NoRoom head has wants) x = absurd x
+
+-- no read is needed to resolve what was read
+module _ (md_len : ℕ) (metas : Metas) (chains : Chains) (old new : ℕ) where
+  pub recovery_counted : (why : LoadFault) → IsRecoveryFault md_len metas chains why → IsFaultCounted old new why
+  recovery_counted fault.ReadFault x = absurd x
+  recovery_counted (fault.NoRoom head has wants) x = absurd x
+  recovery_counted fault.Memory x = tt
+  recovery_counted (fault.Super e) x = tt
+  recovery_counted (fault.Chain head e) x = tt
+  recovery_counted (fault.Meta head e) x = tt
+  recovery_counted (fault.MapsTooLarge slots) x = tt
+  recovery_counted (fault.NoParentBlob blob parent) x = tt
+  recovery_counted (fault.WritableParent blob parent) x = tt
+  recovery_counted (fault.ParentLoop blob) x = tt
+  recovery_counted (fault.Shared cluster a b) x = tt
+
+  pub recovery_only : new ≡ old → (why : LoadFault) → IsRecoveryFault md_len metas chains why → IsOnlyFault old new why
+  recovery_only same fault.ReadFault x = absurd x
+  recovery_only same (fault.NoRoom head has wants) x = absurd x
+  recovery_only same fault.Memory x = same
+  recovery_only same (fault.Super e) x = same
+  recovery_only same (fault.Chain head e) x = same
+  recovery_only same (fault.Meta head e) x = same
+  recovery_only same (fault.MapsTooLarge slots) x = same
+  recovery_only same (fault.NoParentBlob blob parent) x = same
+  recovery_only same (fault.WritableParent blob parent) x = same
+  recovery_only same (fault.ParentLoop blob) x = same
+  recovery_only same (fault.Shared cluster a b) x = same
 
 -- the reads of a load, with that of the super block
 pub reads_behind : (old first new : ℕ) (s t : Super) → s ≡ t → first ≤ old + 1

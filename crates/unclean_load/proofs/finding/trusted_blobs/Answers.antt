@@ -1,14 +1,21 @@
-use Rattle.std.proofs.Common.{◌≡◌, rules, Some, None, Option, refl, sym, subst}
-use Rattle.std.specs.Prelude.{IfSome, IsNone, IsTrue}
+use Rattle.std.proofs.Common.{◌≡◌, rules, refl}
 use Rattle.std.specs.FinMap as map
 use Rattle.clean_stop.specs.Masks.{SaysMasks}
 use Rattle.store_model.specs.Regions.{look_of, region_of}
-use Rattle.super_block.specs.declared.masks.Masks.{Masks}
 use Rattle.unclean_load.specs.Quick.{AreHeads, IsFaultFound}
 use Rattle.unclean_load.specs.Reading.{IsFaultCounted}
 use Rattle.unclean_load.proofs.FoundBlobs.{counted_since, fault_by_masks, not_by_masks, pages_by_masks, pages_uncounted}
 use Rattle.unclean_load.proofs.FoundBlobs.{read_by_masks}
 use Rattle.unclean_load.proofs.finding.trusted_blobs.Goals as goal
+
+pub blobs_on-requires-clause-fits : goal.blobs_on-requires-clause-fits
+blobs_on-requires-clause-fits g c = (rw c.in-Some.is at c.in_ok-masks.ensures.fit).blobs
+
+pub are_claimed-requires-clause-pages : goal.are_claimed-requires-clause-pages
+are_claimed-requires-clause-pages g c = (rw c.in-Some.is at c.in_ok-masks.ensures.fit).pages
+
+pub are_claimed-requires-clause-clusters : goal.are_claimed-requires-clause-clusters
+are_claimed-requires-clause-clusters g c = (rw c.in-Some.is at c.in_ok-masks.ensures.fit).clusters
 
 pub returns-in_err-blobs-clause-fault : goal.returns-in_err-blobs-clause-fault
 returns-in_err-blobs-clause-fault g c =

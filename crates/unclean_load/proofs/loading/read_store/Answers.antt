@@ -10,9 +10,10 @@ use Rattle.unclean_load.specs.Accepted.{IsFaultBy}
 use Rattle.unclean_load.specs.Quick.{AreUsed, IsReadBy}
 use Rattle.unclean_load.specs.Reading.{IsFaultCounted, IsOnlyFault}
 use Rattle.unclean_load.specs.Reads.{pages_together}
+use Rattle.unclean_load.proofs.FoundBlobs.{counted_since}
 use Rattle.unclean_load.proofs.LoadOutcome.{heads_fail, recovery_fails}
 use Rattle.unclean_load.proofs.Recovery.{base_read}
-use Rattle.unclean_load.proofs.UsedHeads.{fault_first, read_first, reads_behind}
+use Rattle.unclean_load.proofs.UsedHeads.{fault_first, read_first, reads_behind, recovery_counted, recovery_only, super_fails}
 use Rattle.unclean_load.proofs.loading.read_store.Goals as goal
 
 pub returns-clause-found : goal.returns-clause-found
@@ -109,3 +110,74 @@ returns-clause-quick_reads g c =
     let more = c.in_ok-found.ensures.reads is in
     let same = ap (λ l. pages_together s.md_len (map.get l)) c.in_ok-recovered.ensures.chains in
     omega (arith, first, more, same)
+
+pub returns-in_err-sup-clause-fault : goal.returns-in_err-sup-clause-fault
+returns-in_err-sup-clause-fault g c =
+    let d = g.D.PageDisk in
+    let old = c.args.disk.now in
+    let why = c.in_err-sup.field-0.0 in
+    λ told.
+    let x :
+    IsFaultBy (AreUsed (d.read_faults old) (d.read_faults c.super_on.new.disk)) (d.pages old) (d.now old) why =
+    super_fails (AreUsed (d.read_faults old) (d.read_faults c.super_on.new.disk)) (d.pages old) (d.now old) why
+    (c.in_err-sup.ensures.fault told) in
+    search rules
+
+pub returns-in_err-sup-clause-counted : goal.returns-in_err-sup-clause-counted
+returns-in_err-sup-clause-counted g c =
+    let d = g.D.PageDisk in
+    let why = c.in_err-sup.field-0.0 in
+    let x : IsFaultCounted (d.read_faults c.args.disk.now) (d.read_faults c.super_on.new.disk) why =
+    counted_since (d.read_faults c.args.disk.now) (d.read_faults c.args.disk.now) (d.read_faults c.super_on.new.disk)
+    why (omega arith) c.in_err-sup.ensures.counted in
+    search rules
+
+pub returns-in_err-found-clause-counted : goal.returns-in_err-found-clause-counted
+returns-in_err-found-clause-counted g c =
+    let d = g.D.PageDisk in
+    let why = c.in_err-found.field-0.0 in
+    let x : IsFaultCounted (d.read_faults c.args.disk.now) (d.read_faults c.find_blobs.new.disk) why =
+    subst (λ (n : ℕ). IsFaultCounted n (d.read_faults c.find_blobs.new.disk) why) c.in_ok-sup.ensures.quiet
+    c.in_err-found.ensures.counted in
+    search rules
+
+pub returns-in_err-recovered-clause-counted : goal.returns-in_err-recovered-clause-counted
+returns-in_err-recovered-clause-counted g c =
+    let d = g.D.PageDisk in
+    let f = c.in_ok-found.found in
+    let why = c.in_err-recovered.field-0.0 in
+    let x : IsFaultCounted (d.read_faults c.args.disk.now) (d.read_faults c.find_blobs.new.disk) why =
+    recovery_counted c.in_ok-sup.sup.md_len (map.get f.blobs.metas) (map.get f.blobs.chains)
+    (d.read_faults c.args.disk.now) (d.read_faults c.find_blobs.new.disk) why c.in_err-recovered.ensures.fault in
+    search rules
+
+pub returns-in_err-found-clause-in_use_fault : goal.returns-in_err-found-clause-in_use_fault
+returns-in_err-found-clause-in_use_fault g c =
+    let d = g.D.PageDisk in
+    let why = c.in_err-found.field-0.0 in
+    λ told dirty.
+    let is = ap (λ (s : Super). s.clean) (c.in_ok-sup.ensures.found told).is in
+    let x : IsOnlyFault (d.read_faults c.args.disk.now) (d.read_faults c.find_blobs.new.disk) why =
+    subst (λ (n : ℕ). IsOnlyFault n (d.read_faults c.find_blobs.new.disk) why) c.in_ok-sup.ensures.quiet
+    (c.in_err-found.ensures.in_use_fault (λ e. dirty (sym is ∙ e))) in
+    search rules
+
+pub returns-in_err-recovered-clause-in_use_fault : goal.returns-in_err-recovered-clause-in_use_fault
+returns-in_err-recovered-clause-in_use_fault g c =
+    let d = g.D.PageDisk in
+    let f = c.in_ok-found.found in
+    let why = c.in_err-recovered.field-0.0 in
+    λ told dirty.
+    let is = ap (λ (s : Super). s.clean) (c.in_ok-sup.ensures.found told).is in
+    let x : IsOnlyFault (d.read_faults c.args.disk.now) (d.read_faults c.find_blobs.new.disk) why =
+    recovery_only c.in_ok-sup.sup.md_len (map.get f.blobs.metas) (map.get f.blobs.chains)
+    (d.read_faults c.args.disk.now) (d.read_faults c.find_blobs.new.disk)
+    (c.in_ok-found.ensures.in_use (λ e. dirty (sym is ∙ e)) ∙ c.in_ok-sup.ensures.quiet) why
+    c.in_err-recovered.ensures.fault in
+    search rules
+
+pub returns-clause-in_use : goal.returns-clause-in_use
+returns-clause-in_use g c = λ dirty. c.in_ok-found.ensures.in_use dirty ∙ c.in_ok-sup.ensures.quiet
+
+pub returns-clause-quiet : goal.returns-clause-quiet
+returns-clause-quiet g c = λ is. c.in_ok-found.ensures.quiet is ∙ c.in_ok-sup.ensures.quiet
