@@ -78,6 +78,13 @@ all_new n (p ∷ ps) seen differ low new =
         ∙ ap (λ (b : Bool). b || (p == q)) (new q (among_later q p ps is))
         ∙ other q is (p == q) refl
 
+-- so there are no more than places
+pub few_places : (n : ℕ) (ps : List ℕ) → AreDistinct ps → ((p : ℕ) → is_among p ps ≡ true → p < n) → length ps ≤ n
+few_places n ps differ low =
+    let all = all_new n ps [] differ low (λ p is. refl) in
+    let none = unseen-none n in
+    omega (arith, all, none)
+
 -- ---- the chains of a region
 
 -- the places of the chains of the heads below an end
@@ -126,15 +133,15 @@ module _ (look : Look) (s : Super) (heads : Heads) (metas : Metas) (chains : Cha
             apart_below look (region_of s) heads (end + 1) metas chains said y.0 end p y.1 ps (omega (arith, lt))
             (omega arith) y.3 is y.4 among in
             absurd (omega (arith, e, lt))
-        | inr not ↦ not
+        | inr not_seen ↦ not_seen
       ]
 
       of_both : (p : ℕ) (b : Bool) → is_among p x.places ≡ b → (is_among p x.places || is_among p ps) ≡ true
           → (h : ℕ) × (qs : List ℕ) × (h < end + 1) × (chains h ≡ Some qs) × (is_among p qs ≡ true)
       of_both p true seen either =
           let y = x.of p seen in (y.0, y.1, (let lt = y.2 in omega (arith, lt)), y.3, y.4)
-      of_both p false no either =
-          (end, ps, omega arith, is, sym (ap (λ (b : Bool). b || is_among p ps) no) ∙ either)
+      of_both p false not_seen either =
+          (end, ps, omega arith, is, sym (ap (λ (b : Bool). b || is_among p ps) not_seen) ∙ either)
 
   seen_below : (end : ℕ) → Said end → Seen s.md_len end chains
   seen_below zero said = record {

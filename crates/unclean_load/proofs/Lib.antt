@@ -9,6 +9,7 @@ pub mod HeadFaults
 pub mod Marks
 pub mod Counts
 pub mod Slots
+pub mod ClaimedClusters
 pub mod OfResolved
 pub mod Ancestors
 pub mod WalkSteps
@@ -20,7 +21,11 @@ pub mod ChainsOf
 pub mod RecoveryFaults
 pub mod Recovery
 pub mod MarkedRead
+pub mod MaskTexts
 pub mod MaskRead
+pub mod MasksOnDevice
 pub mod MaskClaims
 pub mod Quick
 pub mod SamePages
+pub mod FoundBlobs
+pub mod UsedHeads

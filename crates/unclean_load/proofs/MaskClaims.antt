@@ -10,15 +10,21 @@ use Rattle.clean_stop.specs.Masks.{MasksFit, SaysMasks}
 use Rattle.md_chain.specs.Chain.{Look}
 use Rattle.page_disk.specs.Disk.{Image}
 use Rattle.running_store.specs.LoadedWhole.{AreMasks}
+use Rattle.running_store.specs.Recovered.{chains_of}
 use Rattle.store_model.specs.Maps.{Metas, Chains}
 use Rattle.store_model.specs.Places.{Unclaimed, UsedClusters, UsedPages}
 use Rattle.store_model.specs.Regions.{look_of, region_of}
-use Rattle.super_block.specs.Numbers.{clusters_of}
+use Rattle.super_block.specs.Numbers.{clusters_of, fixed_clusters_of}
 use Rattle.super_block.specs.declared.masks.Masks.{Masks}
 use Rattle.super_block.specs.declared.page.Super.{Super}
 use Rattle.unclean_load.specs.Heads.{AreWhole, PlaceSays}
 use Rattle.unclean_load.specs.Quick.{AreClaimed, AreFaulty, AreListed, IsQuick}
+use Rattle.unclean_load.specs.Reading.{AreRead}
+use Rattle.unclean_load.specs.Sharing.{AreCounted, copies}
 use Rattle.unclean_load.specs.declared.heads.Heads.TheVariants.{Listed}
+use Rattle.unclean_load.proofs.ChainsOf.{same_chains}
+use Rattle.unclean_load.proofs.ClaimedClusters.{counted_used}
+use Rattle.unclean_load.proofs.OfResolved.{read_below}
 use Rattle.unclean_load.proofs.PlaceSays.{one_chains, one_metas}
 
 -- ---- one set is claimed
@@ -54,15 +60,45 @@ one_clusters s a b metas x y =
     to a b x y i lt is = elim (x.no_other i is) [
       | inl fixed ↦ y.fixed i fixed lt
       | inr (inl mapped) ↦ y.mapped i mapped
-      | inr (inr no) ↦ absurd no
+      | inr (inr never) ↦ absurd never
     ]
+
+-- ---- what was counted of the blobs that were read
+
+module _ (s : Super) (metas : Metas) (chains : Chains) (read : AreRead s metas chains) (used bits : List Bool)
+    (twice : Option ℕ) (are_used : UsedPages s.md_len used (chains_of metas chains) [])
+    (count : length bits ≡ clusters_of s)
+    (counted : AreCounted (fixed_clusters_of s) (copies s.md_len metas) bits twice) where
+  pages_used : UsedPages s.md_len used chains []
+  pages_used = subst (λ (l : Chains). UsedPages s.md_len used l []) (same_chains metas chains read.none) are_used
+
+  clusters_used : UsedClusters s bits metas Unclaimed
+  clusters_used = counted_used s metas bits twice (read_below s metas read.stored) count counted
+
+  -- sets that are the same are claimed
+  pub both_claimed : (pages clusters : List Bool) → used ≡ pages → bits ≡ clusters
+      → UsedPages s.md_len pages chains [] × UsedClusters s clusters metas Unclaimed
+  both_claimed pages clusters p c = (
+    subst (λ (b : List Bool). UsedPages s.md_len b chains []) p pages_used,
+    subst (λ (b : List Bool). UsedClusters s b metas Unclaimed) c clusters_used,
+  )
+
+  -- and others aren't
+  pub not_pages : (pages clusters : List Bool) → (used ≡ pages → ⊥) → UsedPages s.md_len pages chains []
+      → UsedClusters s clusters metas Unclaimed → ⊥
+  not_pages pages clusters differ x y = differ (one_pages s.md_len used pages chains pages_used x)
+
+  pub not_clusters : (pages clusters : List Bool) → (bits ≡ clusters → ⊥) → UsedPages s.md_len pages chains []
+      → UsedClusters s clusters metas Unclaimed → ⊥
+  not_clusters pages clusters differ x y = differ (one_clusters s bits clusters metas clusters_used y)
 
 -- ---- the masks of a clean store
 
-some_of : {o : Option Meta} {m : Meta} → o ≡ Some m → IsSome o
+-- whether there is a blob
+pub some_of : {o : Option Meta} {m : Meta} → o ≡ Some m → IsSome o
 some_of is = subst IsSome (sym is) refl
 
-none_of : {o : Option Meta} → o ≡ None → IsSome o → ⊥
+pub none_of : {o : Option Meta} → o ≡ None → IsSome o → ⊥
 none_of is some = both_ways false refl (subst IsSome is some)
 
 module _ (s : Super) (masks : Masks) (image : Image) (metas : Metas) (chains : Chains) (fit : MasksFit s masks)

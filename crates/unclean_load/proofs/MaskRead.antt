@@ -7,11 +7,11 @@ use Rattle.bit_array.specs.Fault.{head_fault, next_fault}
 use Rattle.bit_array.specs.Mask.{bits_in, mask_pages}
 use Rattle.bit_array.specs.Reading.{HasRead, MaskReading}
 use Rattle.bit_array.specs.declared.reader.MaskFault.{MaskFault}
-use Rattle.clean_stop.proofs.Read.{text_from-more}
 use Rattle.clean_stop.specs.Masks.{SaysMask, text_from}
 use Rattle.md_chain.proofs.DeviceWalk.{no_read, read_on}
 use Rattle.md_chain.specs.Reading.{OnlyRead}
 use Rattle.page_disk.specs.declared.disk.PageDisk.{Ghosts}
+use Rattle.unclean_load.proofs.MaskTexts.{text_more}
 
 -- what is known once so many pages of a mask were read
 pub record MaskRead {D : Type 0} (d : Ghosts D) (first disk : D) (start kind len index : ℕ) (reader : MaskReading)
@@ -78,7 +78,7 @@ module _ {D : Type 0} (d : Ghosts D) (first : D) (start kind len : ℕ) where
       told =
           λ told. ap (λ (t : List ℕ). t ++ page) (w.told told)
           ∙ ap (λ (p : List ℕ). text_from start index (d.now first) ++ p) (page_first told)
-          ∙ sym (text_from-more start index (d.now first));
+          ∙ sym (text_more start index (d.now first));
       head = λ told _. elim (cases_eq index 0) [
         | inl e ↦
             subst (λ (p : List ℕ). head_fault kind len p ≡ None) (at_start e told) (sym (first_fault e) ∙ none)

@@ -141,7 +141,7 @@ module _ (look : Look) (r : MdRegion) (metas : Metas) (chains : Chains) where
       no_head : (h : ℕ) → is_in places h ≡ false → head_at look r.len h ≡ false
       no_head h out = elim (cases_Bool (head_at look r.len h)) [
         | inl is ↦ absurd (both_ways (is_in places h) out (none h is))
-        | inr not ↦ not
+        | inr quiet ↦ quiet
       ]
 
   -- and the blobs of a scan are those of a set with the same places

@@ -4,7 +4,7 @@ use Rattle.std.proofs.Common.{inr}
 use Rattle.std.specs.Prelude.{IsTrue, ◌&&◌, nat_lt}
 use Rattle.std.proofs.lemmas.Bool.{lt-ltb}
 use Rattle.bit_array.specs.Bits.{is_in}
-use Rattle.page_disk.specs.Disk.{with_page}
+use Rattle.page_disk.specs.Disk.{Image, with_page}
 use Rattle.page_disk.proofs.Images.{with_page-here}
 use Rattle.page_disk.specs.declared.disk.PageDisk.{Ghosts}
 use Rattle.super_block.specs.declared.page.Super.{Super}
@@ -12,19 +12,17 @@ use Rattle.descriptors.specs.declared.item.Item.{Item}
 use Rattle.blob_meta.specs.declared.meta.Meta.{Meta}
 use Rattle.blob_meta.specs.Faults.{meta_fault}
 use Rattle.blob_meta.specs.Says.{meta_of}
-use Rattle.md_chain.specs.Chain.{Chain, Look}
-use Rattle.md_chain.specs.Reading.{GaveChain, region_look}
+use Rattle.md_chain.specs.Chain.{Look}
+use Rattle.md_chain.specs.Reading.{GaveChain, OnlyRead, region_look}
 use Rattle.md_chain.proofs.PageWalk.{known}
 use Rattle.store_model.specs.Regions.{region_of}
 use Rattle.store_model.specs.Scans.{MetaAt, is_head}
 use Rattle.store_model.proofs.Scanning.{is_at}
-use Rattle.unclean_load.specs.declared.fault.LoadFault.{LoadFault}
-use Rattle.unclean_load.specs.declared.fault.LoadFault.TheVariants as fault
 use Rattle.unclean_load.specs.declared.heads.Blob.{Blob}
 use Rattle.unclean_load.specs.declared.heads.Heads.{Heads}
 use Rattle.unclean_load.specs.declared.heads.Heads.TheVariants.{ByScan, Listed}
 use Rattle.unclean_load.specs.Heads.{has_head}
-use Rattle.unclean_load.specs.Reading.{GaveHead, IsChainFault, IsItemsFault, IsPlaceFault, SaysAt}
+use Rattle.unclean_load.specs.Reading.{GaveHead, SaysAt}
 
 module _ {D : Type 0} (d : Ghosts D) (s : Super) (disk : D) (place : ℕ) where
   -- a place of the region is a head where its page is one
@@ -50,85 +48,37 @@ module _ {D : Type 0} (d : Ghosts D) (s : Super) (disk : D) (place : ℕ) where
 
   -- ---- what is said of it
 
-  module _ (heads : Heads) where
-    -- it is no head
-    pub gave_none : GaveHead d s disk heads place false → SaysAt d s disk heads place None
-    gave_none x = record {
-      look = x.look;
-      seen = x.seen;
-      says = inr (record { no_head = sym x.is_it; no_meta = refl; no_chain = refl });
-    }
+  -- a head is one by the pages of its chain too
+  head_again : (heads : Heads) → GaveHead d s disk heads place true → (look : Look) (m : Meta) (pages : List ℕ)
+      → MetaAt look (region_of s) place m pages → has_head heads look s.md_len place ≡ true
+  head_again ByScan x look m pages says = is_at look (region_of s) place m pages says
+  head_again (Listed places) x look m pages says = sym x.is_it
 
-    -- where the device tells, a head is one of its image
-    pub head_told : GaveHead d s disk heads place true → IsTrue d.tells
-        → has_head heads (region_look s (d.now disk)) s.md_len place ≡ true
-    head_told x told = ap (λ (look : Look). has_head heads look s.md_len place) (sym (x.seen told)) ∙ sym x.is_it
-
-    -- a head is one by the pages of its chain too
-    head_again : (heads : Heads) → GaveHead d s disk heads place true → (look : Look) (m : Meta) (pages : List ℕ)
-        → MetaAt look (region_of s) place m pages → has_head heads look s.md_len place ≡ true
-    head_again ByScan x look m pages says = is_at look (region_of s) place m pages says
-    head_again (Listed places) x look m pages says = sym x.is_it
-
-    -- it is a head, and its chain says metadata without fault
-    pub gave_blob : GaveHead d s disk heads place true → (blob : Blob) (items : List Item)
-        → GaveChain d s disk place blob.pages items → blob.meta ≡ meta_of place items
-        → meta_fault (region_of s).fixed (region_of s).clusters (meta_of place items) ≡ None
-        → SaysAt d s disk heads place (Some blob)
-    gave_blob x blob items chain is none =
-        let says : MetaAt chain.look (region_of s) place blob.meta blob.pages =
-        record {
-          items = items;
-          chain = chain.chain;
-          meta_is = is;
-          faultless =
-              ap (λ (m : Meta). meta_fault (region_of s).fixed (region_of s).clusters m) is ∙ none;
-        } in
-        record {
-          look = chain.look;
-          seen = chain.seen;
-          says = inl (record {
-            head = head_again heads x chain.look blob.meta blob.pages says;
-            blob = record {
-              meta = blob.meta;
-              pages = blob.pages;
-              says = says;
-              meta_is = refl;
-              pages_are = refl;
-            };
-          });
-        }
-
-    module _ (look : Look) (head : has_head heads look s.md_len place ≡ true) where
-      -- a fault of the chain, or of the metadata, is one of the place
-      pub chain_fails : (why : LoadFault) → IsChainFault look (region_of s) place why
-          → IsPlaceFault look (region_of s) heads place why
-      chain_fails fault.ReadFault x = tt
-      chain_fails fault.Memory x = tt
-      chain_fails (fault.Chain at e) x = record { head = head; shows = λ before. x }
-      chain_fails (fault.Super e) x = absurd x
-      chain_fails (fault.Meta at e) x = absurd x
-      chain_fails (fault.MapsTooLarge slots) x = absurd x
-      chain_fails (fault.NoParentBlob blob parent) x = absurd x
-      chain_fails (fault.WritableParent blob parent) x = absurd x
-      chain_fails (fault.ParentLoop blob) x = absurd x
-      chain_fails (fault.Shared cluster a b) x = absurd x
-      chain_fails (fault.NoRoom at has wants) x = absurd x
-
-      pub items_fail : (items : List Item) (pages : List ℕ) → Chain look s.md_len place items pages
-          → (why : LoadFault) → IsItemsFault (region_of s) place items why
-          → IsPlaceFault look (region_of s) heads place why
-      items_fail items pages chain fault.Memory x = tt
-      items_fail items pages chain (fault.Meta at e) x = record {
-        head = head;
-        shows = λ before. (x.0, record { items = items; pages = pages; chain = chain; is = x.1 });
+  -- it is a head, and its chain, which was read later, says metadata without fault
+  pub gave_blob : (heads : Heads) → GaveHead d s disk heads place true → (later : D) → OnlyRead d disk later → (blob : Blob)
+      (items : List Item) → GaveChain d s later place blob.pages items → blob.meta ≡ meta_of place items
+      → meta_fault (region_of s).fixed (region_of s).clusters (meta_of place items) ≡ None
+      → SaysAt d s disk heads place (Some blob)
+  gave_blob heads x later same blob items chain is none =
+      let says : MetaAt chain.look (region_of s) place blob.meta blob.pages =
+      record {
+        items = items;
+        chain = chain.chain;
+        meta_is = is;
+        faultless =
+            ap (λ (m : Meta). meta_fault (region_of s).fixed (region_of s).clusters m) is ∙ none;
+      } in
+      record {
+        look = chain.look;
+        seen = λ told. chain.seen told ∙ ap (λ (image : Image). region_look s image) (same.now told);
+        says = inl (record {
+          head = head_again heads x chain.look blob.meta blob.pages says;
+          blob = record {
+            meta = blob.meta;
+            pages = blob.pages;
+            says = says;
+            meta_is = refl;
+            pages_are = refl;
+          };
+        });
       }
-      items_fail items pages chain fault.ReadFault x = absurd x
-      items_fail items pages chain (fault.Super e) x = absurd x
-      items_fail items pages chain (fault.Chain at e) x = absurd x
-      items_fail items pages chain (fault.MapsTooLarge slots) x = absurd x
-      items_fail items pages chain (fault.NoParentBlob blob parent) x = absurd x
-      items_fail items pages chain (fault.WritableParent blob parent) x = absurd x
-      items_fail items pages chain (fault.ParentLoop blob) x = absurd x
-      items_fail items pages chain (fault.Shared cluster a b) x = absurd x
-      items_fail items pages chain (fault.NoRoom at has wants) x = absurd x

@@ -110,7 +110,7 @@ module _ (s : Super) (masks : Masks) (image : Image) (metas : Metas) (chains : C
     | inl is ↦ is ∙ sym (is_scanned place is)
     | inr out ↦ elim (cases_Bool (head_at (look_of (region_of s) image) s.md_len place)) [
       | inl is ↦ absurd (both_ways (is_in masks.blobs place) out (scanned_in place is))
-      | inr no ↦ out ∙ sym no
+      | inr quiet ↦ out ∙ sym quiet
     ]
   ]
 

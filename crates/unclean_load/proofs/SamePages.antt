@@ -8,7 +8,6 @@ use Rattle.bit_array.specs.Bits.{is_in}
 use Rattle.bit_array.specs.Fault.{head_fault}
 use Rattle.bit_array.specs.Mask.{bits_in, mask_pages}
 use Rattle.blob_meta.specs.declared.meta.Meta.{Meta}
-use Rattle.clean_stop.proofs.Read.{text_from-more}
 use Rattle.clean_stop.specs.Masks.{IsMaskPage, SaysMask, SaysMasks, StandsApart, text_from}
 use Rattle.md_chain.proofs.Links.{agree_by}
 use Rattle.md_chain.specs.Chain.{Look}
@@ -25,6 +24,7 @@ use Rattle.unclean_load.specs.Heads.{AreWhole, PlaceSays, has_head}
 use Rattle.unclean_load.specs.Quick.{AreClaimed, AreFaulty, AreHeads, HasNoHeadBesideMask, IsQuick, SameFixed}
 use Rattle.unclean_load.specs.declared.heads.Heads.{Heads}
 use Rattle.unclean_load.specs.declared.heads.Heads.TheVariants.{ByScan, Listed}
+use Rattle.unclean_load.proofs.MaskTexts.{text_kept}
 use Rattle.unclean_load.proofs.PlaceSays.{in_chain}
 
 -- ---- the same pages in the metadata region
@@ -64,17 +64,6 @@ module _ (look other : Look) (r : MdRegion) (same : (q : ℕ) → q < r.len → 
       record { says = λ h. place_kept heads h (metas h) (chains h) (whole.says h); few = whole.few }
 
 -- ---- the same pages of a mask
-
-text_kept : (start n : ℕ) (image other : Image) → ((k : ℕ) → k < n → other (start + k) ≡ image (start + k))
-    → text_from start n other ≡ text_from start n image
-text_kept start zero image other same = refl
-text_kept start (suc n) image other same =
-    ap (λ (m : ℕ). text_from start m other) (sym (add-one n))
-    ∙ text_from-more start n other
-    ∙ ap (λ (t : List ℕ). t ++ other (start + n)) (text_kept start n image other (λ k lt. same k (omega (arith, lt))))
-    ∙ ap (λ (page : List ℕ). text_from start n image ++ page) (same n (omega arith))
-    ∙ sym (text_from-more start n image)
-    ∙ ap (λ (m : ℕ). text_from start m image) (add-one n)
 
 mask_kept : (start kind : ℕ) (bits : List Bool) (image other : Image)
     → ((k : ℕ) → k < mask_pages (length bits) → other (start + k) ≡ image (start + k))

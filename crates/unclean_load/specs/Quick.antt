@@ -14,7 +14,9 @@ use Rattle.super_block.specs.Faults.{IsFaultless}
 use Rattle.super_block.specs.Numbers.{cluster_pages_of, fixed_clusters_of}
 use Rattle.super_block.specs.declared.masks.Masks.{Masks}
 use Rattle.super_block.specs.declared.page.Super.{Super}
-use Rattle.unclean_load.specs.Heads.{AreWhole, is_listed}
+use Rattle.unclean_load.specs.Heads.{AreWhole, ShowsFirst, is_listed}
+use Rattle.unclean_load.specs.declared.fault.LoadFault.{LoadFault}
+use Rattle.unclean_load.specs.declared.fault.LoadFault.TheVariants as fault
 use Rattle.unclean_load.specs.declared.heads.Heads.{Heads}
 use Rattle.unclean_load.specs.declared.heads.Heads.TheVariants.{Listed, ByScan}
 
@@ -58,6 +60,18 @@ pub record IsReadBy (used : Heads → Type 0) (quick : Bool) (s : Super) (image 
   pub are_used : used heads
   pub quick_is : quick ≡ is_listed heads
   pub whole : AreWhole (look_of (region_of s) image) (region_of s) heads metas chains
+
+-- Of the heads by which a load goes the first that shows a fault shows this one.
+pub record ShowsBy (used : Heads → Type 0) (look : Look) (r : MdRegion) (why : LoadFault) : Type 0 where
+  pub heads : Heads
+  pub are_used : used heads
+  pub shows : ShowsFirst look r heads why
+
+-- a failed read and want of memory have causes elsewhere
+abbrev pub IsFaultFound : (Heads → Type 0) → Look → MdRegion → LoadFault → Type 0
+IsFaultFound used look r fault.ReadFault = Unit {0}
+IsFaultFound used look r fault.Memory = Unit {0}
+IsFaultFound used look r why = ShowsBy used look r why
 
 -- ---- heads beside the mask
 

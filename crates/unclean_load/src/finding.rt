@@ -1,21 +1,17 @@
 //! The blobs of a store: by its masks, where these are trusted, and else by a scan.
 
-ghost use Rattle.std.specs.Prelude.{◌≡◌, ◌≤◌, ◌+◌, ◌*◌, ◌^◌, true, IsNone, IsSome, IsTrue, MatchResult, OnOk};
+ghost use Rattle.std.specs.Prelude.{◌≡◌, ◌≤◌, ◌+◌, ◌*◌, ◌^◌, true, IsNone, IsSome, IsTrue, OnOk};
 ghost use Rattle.std.specs.Prelude.{IfOk, IfErr, IfSome};
 ghost use Rattle.std.specs.FinMap as map;
 ghost use Rattle.blob_meta.specs.Resolving.{slots_together};
-ghost use Rattle.clean_stop.specs.Masks.{MasksFit, SaysMasks};
 ghost use Rattle.md_chain.specs.Reading.{OnlyRead};
 ghost use Rattle.page_disk.specs.Disk.{Rose};
 ghost use Rattle.store_model.specs.Regions.{look_of, region_of};
 ghost use Rattle.super_block.specs.Faults.{IsFaultless};
 ghost use Rattle.super_block.specs.declared.masks.Masks.{Masks as AllMasks};
-ghost use Rattle.unclean_load.specs.Heads.{AreWhole, IsHeadsFault};
-ghost use Rattle.unclean_load.specs.Quick.{AreHeads, AreUsed, IsQuick, IsReadBy};
+ghost use Rattle.unclean_load.specs.Quick.{AreHeads, AreUsed, IsFaultFound, IsQuick, IsReadBy};
 ghost use Rattle.unclean_load.specs.Reading.{AreRead, IsFaultCounted, IsOnlyFault};
 ghost use Rattle.unclean_load.specs.Reads.{all_mask_pages, pages_together};
-ghost use Rattle.unclean_load.specs.declared.heads.Heads.{Heads as SomeHeads};
-ghost use Rattle.unclean_load.specs.declared.heads.Heads.TheVariants.{Listed};
 
 use crate::claimed::are_claimed;
 use crate::fault::LoadFault;
@@ -34,52 +30,7 @@ pub struct Found {
     pub quick: bool,
 }
 
-/// The blobs of the blob-id mask, where the masks are what they claim; the first fault that one of them shows.
-fn blobs_by<D: PageDisk>(
-    alloc: Global,
-    disk: &mut D,
-    sup: &Super,
-    masks: Masks,
-) -> Result<Option<Blobs>, LoadFault>
-    requires faultless { IsFaultless sup.now }
-    requires device { sup.now.device_pages ≡ D.pages disk.old }
-    requires inside { sup.now.md_start + sup.now.md_len ≤ D.pages disk.old }
-    requires fit { MasksFit sup.now masks }
-    requires clean { sup.now.clean ≡ 1 }
-    ensures trusted { IsTrue D.tells → SaysMasks sup.now masks (D.now disk.old)
-        → IfOk result (λ blobs. IsSome blobs → IsQuick sup.now masks (D.now disk.old)) }
-    ensures whole { IsTrue D.tells → IfOk result (λ blobs. IfSome blobs
-        (λ b. AreWhole (look_of (region_of sup.now) (D.now disk.old)) (region_of sup.now) (Listed masks.blobs)
-        (map.get b.metas) (map.get b.chains))) }
-    ensures none { IsTrue D.tells
-        → IfOk result (λ blobs. IsNone blobs → IsQuick sup.now masks (D.now disk.old) → ⊥) }
-    ensures fault { IsTrue D.tells → IfErr result
-        (λ e. IsHeadsFault (look_of (region_of sup.now) (D.now disk.old)) (region_of sup.now) (Listed masks.blobs) e) }
-    ensures read { IfOk result (λ blobs. IfSome blobs (λ b. AreRead sup.now (map.get b.metas) (map.get b.chains))) }
-    ensures few { IfOk result
-        (λ blobs. IfSome blobs (λ b. slots_together sup.now.md_len (map.get b.metas) ≤ 2 ^ 24)) }
-    ensures counted { IfErr result (λ e. IsOnlyFault (D.read_faults disk.old) (D.read_faults disk.new) e) }
-    ensures quiet { OnOk result (D.read_faults disk.new ≡ D.read_faults disk.old) }
-    ensures reads { IfOk result (λ blobs. IfSome blobs
-        (λ b. D.reads disk.new ≤ D.reads disk.old + pages_together sup.now.md_len (map.get b.chains))) }
-    ensures few_reads { IsTrue D.tells → MatchResult result
-        (λ _. D.reads disk.new ≤ D.reads disk.old + sup.now.md_len)
-        (λ _. D.reads disk.new ≤ D.reads disk.old + 2 * sup.now.md_len) }
-    ensures same { OnlyRead D.PageDisk disk.old disk.new }
-{
-    let Masks {
-        pages,
-        clusters,
-        blobs: heads,
-    } = masks;
-    let blobs = blobs_on(alloc, disk, sup, &Heads::Listed(heads))?;
-    if are_claimed(alloc, sup, &blobs, &pages, &clusters)? {
-        return Ok(Some(blobs));
-    }
-    Ok(None)
-}
-
-/// The blobs of the blob-id mask, where the masks are trusted.
+/// The blobs of the blob-id mask, where the masks are trusted; the first fault that one of them shows.
 fn trusted_blobs<D: PageDisk>(
     alloc: Global,
     disk: &mut D,
@@ -94,8 +45,8 @@ fn trusted_blobs<D: PageDisk>(
         → (Rose (D.read_faults disk.old) (D.read_faults disk.new) → ⊥)
         → (m : AllMasks) → IsQuick sup.now m (D.now disk.old) → ⊥) }
     ensures fault { IsTrue D.tells → IfErr result
-        (λ e. (heads : SomeHeads) × AreHeads sup.now (D.now disk.old) heads
-        × IsHeadsFault (look_of (region_of sup.now) (D.now disk.old)) (region_of sup.now) heads e) }
+        (λ e. IsFaultFound (AreHeads sup.now (D.now disk.old)) (look_of (region_of sup.now) (D.now disk.old))
+        (region_of sup.now) e) }
     ensures read { IfOk result (λ blobs. IfSome blobs (λ b. AreRead sup.now (map.get b.metas) (map.get b.chains))) }
     ensures few { IfOk result
         (λ blobs. IfSome blobs (λ b. slots_together sup.now.md_len (map.get b.metas) ≤ 2 ^ 24)) }
@@ -104,9 +55,10 @@ fn trusted_blobs<D: PageDisk>(
     ensures in_use { (sup.now.clean ≡ 1 → ⊥) → (result ≡ Ok None) × (disk.new ≡ disk.old) }
     ensures reads { IfOk result (λ blobs. IfSome blobs (λ b. D.reads disk.new
         ≤ D.reads disk.old + all_mask_pages sup.now + pages_together sup.now.md_len (map.get b.chains))) }
-    ensures few_reads { IsTrue D.tells → MatchResult result
-        (λ _. D.reads disk.new ≤ D.reads disk.old + all_mask_pages sup.now + sup.now.md_len)
-        (λ _. D.reads disk.new ≤ D.reads disk.old + all_mask_pages sup.now + 2 * sup.now.md_len) }
+    ensures at_ok { IsTrue D.tells
+        → OnOk result (D.reads disk.new ≤ D.reads disk.old + all_mask_pages sup.now + sup.now.md_len) }
+    ensures at_most { IsTrue D.tells
+        → D.reads disk.new ≤ D.reads disk.old + all_mask_pages sup.now + 2 * sup.now.md_len }
     ensures same { OnlyRead D.PageDisk disk.old disk.new }
 {
     unloaded_masks_are_read();
@@ -116,7 +68,17 @@ fn trusted_blobs<D: PageDisk>(
     let Some(masks) = read_masks(alloc, disk, sup)? else {
         return Ok(None);
     };
-    blobs_by(alloc, disk, sup, masks)
+    let Masks {
+        pages,
+        clusters,
+        blobs: heads,
+    } = masks;
+    let blobs = blobs_on(alloc, disk, sup, &Heads::Listed(heads))?;
+    let claimed = are_claimed(alloc, sup, &blobs, &pages, &clusters)?;
+    if claimed {
+        return Ok(Some(blobs));
+    }
+    Ok(None)
 }
 
 /// The blobs of a store, or the first fault that its heads show: of a chain, of its metadata, or of too many slots
@@ -135,9 +97,8 @@ pub fn find_blobs<D: PageDisk>(
         (λ f. IsReadBy (AreUsed (D.read_faults disk.old) (D.read_faults disk.new) sup.now (D.now disk.old)) f.quick sup.now
         (D.now disk.old) (map.get f.blobs.metas) (map.get f.blobs.chains)) }
     ensures fault { IsTrue D.tells → IfErr result
-        (λ e. (heads : SomeHeads)
-        × AreUsed (D.read_faults disk.old) (D.read_faults disk.new) sup.now (D.now disk.old) heads
-        × IsHeadsFault (look_of (region_of sup.now) (D.now disk.old)) (region_of sup.now) heads e) }
+        (λ e. IsFaultFound (AreUsed (D.read_faults disk.old) (D.read_faults disk.new) sup.now (D.now disk.old))
+        (look_of (region_of sup.now) (D.now disk.old)) (region_of sup.now) e) }
 
     // Whatever it tells, they are in order.
     ensures read { IfOk result (λ f. AreRead sup.now (map.get f.blobs.metas) (map.get f.blobs.chains)) }
@@ -145,21 +106,21 @@ pub fn find_blobs<D: PageDisk>(
 
     ensures counted { IfErr result (λ e. IsFaultCounted (D.read_faults disk.old) (D.read_faults disk.new) e) }
     ensures quiet { IfOk result (λ f. f.quick ≡ true → D.read_faults disk.new ≡ D.read_faults disk.old) }
-    ensures in_use { (sup.now.clean ≡ 1 → ⊥) → MatchResult result
-        (λ _. D.read_faults disk.new ≡ D.read_faults disk.old)
-        (λ e. IsOnlyFault (D.read_faults disk.old) (D.read_faults disk.new) e) }
+    ensures in_use { (sup.now.clean ≡ 1 → ⊥) → OnOk result (D.read_faults disk.new ≡ D.read_faults disk.old) }
+    ensures in_use_fault { (sup.now.clean ≡ 1 → ⊥)
+        → IfErr result (λ e. IsOnlyFault (D.read_faults disk.old) (D.read_faults disk.new) e) }
     ensures reads { IfOk result (λ f. f.quick ≡ true → D.reads disk.new
         ≤ D.reads disk.old + all_mask_pages sup.now + pages_together sup.now.md_len (map.get f.blobs.chains)) }
-    ensures few_reads { IsTrue D.tells
+    ensures at_most { IsTrue D.tells
         → D.reads disk.new ≤ D.reads disk.old + all_mask_pages sup.now + 4 * sup.now.md_len }
     ensures same { OnlyRead D.PageDisk disk.old disk.new }
 {
     if let Some(blobs) = trusted_blobs(alloc, disk, sup)? {
         return Ok(Found { blobs, quick: true });
     }
-    let blobs = blobs_on(alloc, disk, sup, &Heads::ByScan)?;
+    let scanned = blobs_on(alloc, disk, sup, &Heads::ByScan)?;
     Ok(Found {
-        blobs,
+        blobs: scanned,
         quick: false,
     })
 }

@@ -1,6 +1,6 @@
 //! The blobs of a metadata region, by their heads from the first place upwards.
 
-ghost use Rattle.std.specs.Prelude.{◌≡◌, ◌≤◌, ◌+◌, ◌*◌, ◌^◌, length, IsTrue, MatchResult, OnOk, IfOk, IfErr};
+ghost use Rattle.std.specs.Prelude.{◌≡◌, ◌≤◌, ◌+◌, ◌*◌, ◌^◌, length, IsTrue, OnOk, IfOk, IfErr};
 ghost use Rattle.std.specs.FinMap as map;
 ghost use Rattle.blob_meta.specs.Resolving.{slots_together};
 ghost use Rattle.md_chain.specs.Reading.{OnlyRead, region_look};
@@ -92,9 +92,10 @@ pub fn blobs_on<D: PageDisk>(
     // Each page of their chains is read once; where the device tells, these have no page in common.
     ensures reads { IfOk result (λ b. D.reads disk.new
         ≤ D.reads disk.old + tests heads.now sup.now.md_len + pages_together sup.now.md_len (map.get b.chains)) }
-    ensures few_reads { IsTrue D.tells → MatchResult result
-        (λ _. D.reads disk.new ≤ D.reads disk.old + tests heads.now sup.now.md_len + sup.now.md_len)
-        (λ _. D.reads disk.new ≤ D.reads disk.old + tests heads.now sup.now.md_len + 2 * sup.now.md_len) }
+    ensures at_ok { IsTrue D.tells
+        → OnOk result (D.reads disk.new ≤ D.reads disk.old + tests heads.now sup.now.md_len + sup.now.md_len) }
+    ensures at_most { IsTrue D.tells
+        → D.reads disk.new ≤ D.reads disk.old + tests heads.now sup.now.md_len + 2 * sup.now.md_len }
     ensures same { OnlyRead D.PageDisk disk.old disk.new }
 {
     let mut blobs = Blobs::new(alloc);

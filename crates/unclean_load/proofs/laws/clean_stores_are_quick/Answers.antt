@@ -14,7 +14,8 @@ returns-clause-quick c s masks image metas chains fine clean has says few claims
     let read = law.read s masks image fine (masks_fit s masks image metas chains says few claims) has in
     (
       is_quick s masks image metas chains says few claims clean read,
-      no_head_beside s masks image metas chains says few claims clean read (λ other is. law.one s other masks image is read),
+      no_head_beside s masks image metas chains says few claims clean read
+          (λ other is. law.one s other masks image is read),
     )
 
 pub returns-clause-accepted : goal.returns-clause-accepted
