@@ -28,4 +28,6 @@ mod snapshot_crashes;
 #[cfg(test)]
 mod snapshot_stops;
 #[cfg(test)]
+mod unloads;
+#[cfg(test)]
 mod writes;

@@ -1,6 +1,6 @@
 //! Tests of the program's calls over a device in memory: the verbs on attributes, new volumes, volumes that are thick
 //! or get another number of slots, volumes that are renamed or told, pages that are read and written, new stores,
-//! listings, generated scripts, printed or run, and each status.
+//! listings, generated scripts, printed or run, what a run leaves of the super block and the masks, and each status.
 #![tactic(auto)]
 
 #[cfg(test)]
@@ -25,6 +25,8 @@ mod page_faults;
 mod pages;
 #[cfg(test)]
 mod slots;
+#[cfg(test)]
+mod unloads;
 #[cfg(test)]
 mod verbs;
 #[cfg(test)]

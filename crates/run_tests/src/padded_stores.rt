@@ -89,20 +89,26 @@ fn put(page: &mut Page, at: usize, bytes: &[u8]) {
     }
 }
 
-/// A logical volume store with these blobs, whose super block tells this size of an I/O unit.
-fn store(alloc: Global, rows: &[PageRow], io_unit_size: u32) -> Result<MemDisk, Fail> {
-    let mut disk = image_with_super(alloc, (64, 16), 1 << 32, rows)?;
+/// Puts bytes into the super block of a device, and its checksum, and flushes.
+pub(crate) fn patch_super(disk: &mut MemDisk, at: usize, bytes: &[u8]) -> Result<(), Fail> {
     if disk.pages() == 0 {
         return Err(Fail::new("the device has no page"));
     }
     let mut page: Page = [0; 4096];
     disk.read(0, &mut page)?;
-    put(&mut page, 56, b"LVOLSTORE\0\0\0\0\0\0\0");
-    put(&mut page, 88, &io_unit_size.to_le_bytes());
+    put(&mut page, at, bytes);
     let checksum = sum(page.get(..4092).ok_or("no such bytes")?);
     put(&mut page, 4092, &checksum.to_le_bytes());
     disk.write(0, &page, WriteKind::Whole)?;
     disk.flush()?;
+    Ok(())
+}
+
+/// A logical volume store with these blobs, whose super block tells this size of an I/O unit.
+fn store(alloc: Global, rows: &[PageRow], io_unit_size: u32) -> Result<MemDisk, Fail> {
+    let mut disk = image_with_super(alloc, (64, 16), 1 << 32, rows)?;
+    patch_super(&mut disk, 56, b"LVOLSTORE\0\0\0\0\0\0\0")?;
+    patch_super(&mut disk, 88, &io_unit_size.to_le_bytes())?;
     Ok(disk)
 }
 
