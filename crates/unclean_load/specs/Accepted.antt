@@ -20,7 +20,7 @@ use Rattle.unclean_load.specs.declared.heads.Heads.{Heads}
 use Rattle.unclean_load.specs.declared.heads.Heads.TheVariants.{ByScan}
 use Rattle.unclean_load.specs.Heads.{AreWhole, ShowsFirst}
 use Rattle.unclean_load.specs.Parents.{HaveRightParents, ShowsParentFirst}
-use Rattle.unclean_load.specs.Quick.{AreHeads, HasNoFaultByMask, HasNoHeadBesideMask, SameFixed}
+use Rattle.unclean_load.specs.Quick.{AreHeads, HasNoFaultByMask, HasNoHeadBesideMask, IsQuick, SameFixed}
 use Rattle.unclean_load.specs.Sharing.{IsShared}
 
 -- the super block of a device with so many pages, without fault
@@ -149,11 +149,13 @@ InUseAreAccepted =
     (s : Super) (image : Image) (metas : Metas) (chains : Chains) → CanBeScanned s image metas chains
     → (s.clean ≡ 1 → ⊥) → IsAccepted s.device_pages image × HasNoHeadBesideMask s image
 
--- An unloaded store, which has the masks that its metadata claims, is accepted.
+-- An unloaded store, which has the masks that its metadata claims, is accepted; they are trusted, and no head stands
+-- beside them.
 abbrev pub UnloadedAreAccepted : Type 0
 UnloadedAreAccepted =
     (s : Super) (masks : Masks) (image : Image) (metas : Metas) (chains : Chains) → CanBeScanned s image metas chains
-    → s.clean ≡ 1 → HasMasks s masks image → AreMasks s metas chains masks → IsAccepted s.device_pages image
+    → s.clean ≡ 1 → HasMasks s masks image → AreMasks s metas chains masks
+    → IsAccepted s.device_pages image × IsQuick s masks image × HasNoHeadBesideMask s image
 
 -- An image is accepted where one with the same pages in the fixed clusters is.
 abbrev pub AcceptedAreKept : Type 0

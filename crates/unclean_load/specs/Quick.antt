@@ -109,6 +109,12 @@ ListedAreScanned =
     → AreListed (look_of (region_of s) image) (region_of s) places metas chains
     → HasNoOtherHead (look_of (region_of s) image) (region_of s) places → Says (region_of s) metas chains image
 
+-- The masks of an image are trusted where those of one with the same pages in the fixed clusters are.
+abbrev pub QuickIsKept : Type 0
+QuickIsKept =
+    (s : Super) (image other : Image) → IsFaultless s → SameFixed s image other → (masks : Masks)
+    → IsQuick s masks image → IsQuick s masks other
+
 -- An image has no head beside its mask where one with the same pages in the fixed clusters has none.
 abbrev pub NoHeadIsKept : Type 0
 NoHeadIsKept =

@@ -2,7 +2,7 @@
 
 ghost use Rattle.unclean_load.specs.Accepted.{AcceptedAreKept, InUseAreAccepted, StoresAreAccepted};
 ghost use Rattle.unclean_load.specs.Accepted.{UnloadedAreAccepted};
-ghost use Rattle.unclean_load.specs.Quick.{ListedAreScanned, NoHeadIsKept, UnloadedAreQuick};
+ghost use Rattle.unclean_load.specs.Quick.{ListedAreScanned, NoHeadIsKept, QuickIsKept, UnloadedAreQuick};
 
 use clean_stop::unloaded_masks_are_read;
 use super_block::regions_are_placed;
@@ -28,10 +28,11 @@ pub fn clean_stores_are_quick()
     unloaded_masks_are_read();
 }
 
-/// A law, with no code: the pages of the fixed clusters decide whether an image is accepted, and whether a head stands
-/// beside its mask.
+/// A law, with no code: the pages of the fixed clusters decide whether an image is accepted, whether its masks are
+/// trusted, and whether a head stands beside them.
 pub fn fixed_clusters_decide()
     ensures accepted { AcceptedAreKept }
+    ensures quick { QuickIsKept }
     ensures no_head { NoHeadIsKept }
 {
     regions_are_placed();

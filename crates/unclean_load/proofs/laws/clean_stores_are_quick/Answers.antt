@@ -26,7 +26,12 @@ returns-clause-accepted c s masks image metas chains can clean has claims =
     let read =
     c.unloaded_masks_are_read.ensures.read s masks image fine
     (masks_fit s masks image metas chains can.says can.few claims) has in
-    accepted_unloaded c.regions_are_placed.ensures s image metas chains can masks clean read claims
+    (
+      accepted_unloaded c.regions_are_placed.ensures s image metas chains can masks clean read claims,
+      is_quick s masks image metas chains can.says can.few claims clean read,
+      no_head_beside s masks image metas chains can.says can.few claims clean read
+          (λ other is. c.unloaded_masks_are_read.ensures.one s other masks image is read),
+    )
 
 pub returns-clause-listed : goal.returns-clause-listed
 returns-clause-listed c s image places metas chains whole none =
