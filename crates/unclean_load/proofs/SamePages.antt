@@ -134,8 +134,9 @@ module _ (s : Super) (placed : IsPlaced s) (apart : (page : ℕ) → IsMaskPage 
   same_masks : (page : ℕ) → IsMaskPage s page → other page ≡ image page
   same_masks page is = same page (apart page is).fixed
 
-  there : (masks : Masks) → IsQuick s masks image → IsQuick s masks other
-  there masks x = quick_kept s image other same_region same_masks masks x
+  -- masks that are trusted of the one are of the other
+  pub still_trusted : (masks : Masks) → IsQuick s masks image → IsQuick s masks other
+  still_trusted masks x = quick_kept s image other same_region same_masks masks x
 
   back : (masks : Masks) → IsQuick s masks other → IsQuick s masks image
   back masks x =
@@ -143,7 +144,7 @@ module _ (s : Super) (placed : IsPlaced s) (apart : (page : ℕ) → IsMaskPage 
 
   -- the heads are the same
   pub heads_kept : (heads : Heads) → AreHeads s image heads → AreHeads s other heads
-  heads_kept (Listed places) x = (x.0, there x.0 x.1, x.2)
+  heads_kept (Listed places) x = (x.0, still_trusted x.0 x.1, x.2)
   heads_kept ByScan x = λ masks quick. x masks (back masks quick)
 
   pub loads_kept : (heads : Heads) (metas : Metas) (chains : Chains)

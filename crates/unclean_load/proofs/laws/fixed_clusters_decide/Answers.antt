@@ -1,5 +1,5 @@
 use Rattle.unclean_load.proofs.Accepting.{accepted_kept}
-use Rattle.unclean_load.proofs.SamePages.{no_head_kept, quick_kept}
+use Rattle.unclean_load.proofs.SamePages.{no_head_kept, still_trusted}
 use Rattle.unclean_load.proofs.laws.fixed_clusters_decide.Goals as goal
 
 pub returns-clause-accepted : goal.returns-clause-accepted
@@ -13,5 +13,5 @@ returns-clause-no_head c s image other fine same none =
 
 pub returns-clause-quick : goal.returns-clause-quick
 returns-clause-quick c s image other fine same masks quick =
-    quick_kept s (c.regions_are_placed.ensures s fine) (c.unloaded_masks_are_read.ensures.apart s fine) image other
+    still_trusted s (c.regions_are_placed.ensures s fine) (c.unloaded_masks_are_read.ensures.apart s fine) image other
     same masks quick
