@@ -150,9 +150,11 @@ module _ {D : Type 0} (d : Ghosts D) (s : Super) (masks : Masks) (old mid : D) (
         → IsReadBy (AreHeads s (d.now old)) true s (d.now old) metas chains
     read_by_masks claimed = record {
       heads = Listed masks.blobs;
-      are_used =
-          (masks,
-          is_trusted s masks (d.now old) metas chains fit whole_then clean says claimed.0 claimed.1, refl);
+      are_used = (
+        masks,
+        is_trusted s masks (d.now old) metas chains fit whole_then clean says claimed.0 claimed.1,
+        refl,
+      );
       quick_is = refl;
       whole = whole_then;
     }

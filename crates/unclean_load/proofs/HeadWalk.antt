@@ -151,116 +151,116 @@ module _ {D : Type 0} (d : Ghosts D) (s : Super) (heads : Heads) (first : D) whe
 
       module _ (blob : Blob) (more : d.reads new ≤ d.reads disk + tests heads 1 + length blob.pages)
           (x : SaysAt d s disk heads place (Some blob)) (few : slots + length blob.meta.map ≤ 2 ^ 24) where
-          abbrev metas_now : Metas
-          metas_now = with_entry metas place blob.meta
+        abbrev metas_now : Metas
+        metas_now = with_entry metas place blob.meta
 
-          abbrev chains_now : Chains
-          chains_now = with_entry chains place blob.pages
+        abbrev chains_now : Chains
+        chains_now = with_entry chains place blob.pages
 
-          meta_here : (k : ℕ) → k ≡ place → metas_now k ≡ Some blob.meta
-          meta_here = given_here metas place blob.meta
+        meta_here : (k : ℕ) → k ≡ place → metas_now k ≡ Some blob.meta
+        meta_here = given_here metas place blob.meta
 
-          says : MetaAt x.look (region_of s) place blob.meta blob.pages
-          says = the_one x.look (region_of s) heads place blob x.says
+        says : MetaAt x.look (region_of s) place blob.meta blob.pages
+        says = the_one x.look (region_of s) heads place blob x.says
 
-          slots_now : slots_together (place + 1) metas_now ≡ slots_together place metas + length blob.meta.map
-          slots_now =
-              let a = slots_more metas_now place in
-              let b : slots_at metas_now place ≡ length blob.meta.map =
-              ap (λ (o : Option Meta). option_map_or (λ (m : Meta). length m.map) o 0) (meta_here place refl) in
-              let c =
-              slots_same metas_now metas place
-              (λ k lt. given_elsewhere metas place blob.meta k (λ e. absurd (omega (arith, e, lt)))) in
-              omega (arith, a, b, c)
+        slots_now : slots_together (place + 1) metas_now ≡ slots_together place metas + length blob.meta.map
+        slots_now =
+            let a = slots_more metas_now place in
+            let b : slots_at metas_now place ≡ length blob.meta.map =
+            ap (λ (o : Option Meta). option_map_or (λ (m : Meta). length m.map) o 0) (meta_here place refl) in
+            let c =
+            slots_same metas_now metas place
+            (λ k lt. given_elsewhere metas place blob.meta k (λ e. absurd (omega (arith, e, lt)))) in
+            omega (arith, a, b, c)
 
-          pages_now : pages_together (place + 1) chains_now ≡ pages_together place chains + length blob.pages
-          pages_now =
-              let a = pages_more chains_now place in
-              let b : pages_at chains_now place ≡ length blob.pages =
-              ap (λ (o : Option (List ℕ)). option_map_or (λ (pages : List ℕ). length pages) o 0)
-              (given_here chains place blob.pages place refl) in
-              let c =
-              pages_same chains_now chains place
-              (λ k lt. given_elsewhere chains place blob.pages k (λ e. absurd (omega (arith, e, lt)))) in
-              omega (arith, a, b, c)
+        pages_now : pages_together (place + 1) chains_now ≡ pages_together place chains + length blob.pages
+        pages_now =
+            let a = pages_more chains_now place in
+            let b : pages_at chains_now place ≡ length blob.pages =
+            ap (λ (o : Option (List ℕ)). option_map_or (λ (pages : List ℕ). length pages) o 0)
+            (given_here chains place blob.pages place refl) in
+            let c =
+            pages_same chains_now chains place
+            (λ k lt. given_elsewhere chains place blob.pages k (λ e. absurd (omega (arith, e, lt)))) in
+            omega (arith, a, b, c)
 
-          blob_now : IsTrue d.tells → (k : ℕ) → k < place + 1
-              → PlaceSays (region_look s (d.now first)) (region_of s) heads k (metas_now k) (chains_now k)
-          blob_now told k lt = elim (cases_eq k place) [
+        blob_now : IsTrue d.tells → (k : ℕ) → k < place + 1
+            → PlaceSays (region_look s (d.now first)) (region_of s) heads k (metas_now k) (chains_now k)
+        blob_now told k lt = elim (cases_eq k place) [
+          | inl here ↦
+              subst
+              (λ (m : Option Meta). PlaceSays (region_look s (d.now first)) (region_of s) heads k m (chains_now k))
+              (sym (meta_here k here))
+              (subst
+              (λ (c : Option (List ℕ)).
+              PlaceSays (region_look s (d.now first)) (region_of s) heads k (Some blob.meta) c)
+              (sym (given_here chains place blob.pages k here))
+              (subst (λ (n : ℕ). PlaceSays (region_look s (d.now first)) (region_of s) heads n (Some blob.meta)
+              (Some blob.pages)) (sym here) (blob_first (Some blob) x told)))
+          | inr other ↦
+              subst
+              (λ (m : Option Meta). PlaceSays (region_look s (d.now first)) (region_of s) heads k m (chains_now k))
+              (sym (given_elsewhere metas place blob.meta k other))
+              (subst
+              (λ (c : Option (List ℕ)). PlaceSays (region_look s (d.now first)) (region_of s) heads k (metas k) c)
+              (sym (given_elsewhere chains place blob.pages k other))
+              ((w.told told).blobs k (omega (arith, lt, other))))
+        ]
+
+        same_meta : (k : ℕ) (m : Meta) → k ≡ place → metas_now k ≡ Some m → blob.meta ≡ m
+        same_meta k m here there = let e = meta_here k here in cc (e, there)
+
+        read_now : AreRead s metas_now chains_now
+        read_now = record {
+          stored = λ k m there. elim (cases_eq k place) [
             | inl here ↦
-                subst
-                (λ (m : Option Meta). PlaceSays (region_look s (d.now first)) (region_of s) heads k m (chains_now k))
-                (sym (meta_here k here))
-                (subst
-                (λ (c : Option (List ℕ)).
-                PlaceSays (region_look s (d.now first)) (region_of s) heads k (Some blob.meta) c)
-                (sym (given_here chains place blob.pages k here))
-                (subst (λ (n : ℕ). PlaceSays (region_look s (d.now first)) (region_of s) heads n (Some blob.meta)
-                (Some blob.pages)) (sym here) (blob_first (Some blob) x told)))
+                subst (λ (n : Meta). IsStored s k n) (same_meta k m here there)
+                (subst (λ (n : ℕ). IsStored s n blob.meta) (sym here)
+                (stored x.look s place blob.meta blob.pages says))
+            | inr other ↦ w.read.stored k m (sym (given_elsewhere metas place blob.meta k other) ∙ there)
+          ];
+          chain = λ k m there. elim (cases_eq k place) [
+            | inl here ↦ (
+              blob.pages,
+              given_here chains place blob.pages k here,
+              subst
+                  (λ (n : ℕ). IsChainOf s.md_len n blob.pages) (sym here)
+                  (chain_of_region x.look s place blob.meta blob.pages says),
+            )
             | inr other ↦
-                subst
-                (λ (m : Option Meta). PlaceSays (region_look s (d.now first)) (region_of s) heads k m (chains_now k))
-                (sym (given_elsewhere metas place blob.meta k other))
-                (subst
-                (λ (c : Option (List ℕ)). PlaceSays (region_look s (d.now first)) (region_of s) heads k (metas k) c)
-                (sym (given_elsewhere chains place blob.pages k other))
-                ((w.told told).blobs k (omega (arith, lt, other))))
-          ]
+                let c =
+                w.read.chain k m (sym (given_elsewhere metas place blob.meta k other) ∙ there) in
+                (c.0, given_elsewhere chains place blob.pages k other ∙ c.1, c.2)
+          ];
+          none = λ k no. elim (cases_eq k place) [
+            | inl here ↦ let e = meta_here k here in absurd (cc (e, no))
+            | inr other ↦
+                given_elsewhere chains place blob.pages k other
+                ∙ w.read.none k (sym (given_elsewhere metas place blob.meta k other) ∙ no)
+          ];
+        }
 
-          same_meta : (k : ℕ) (m : Meta) → k ≡ place → metas_now k ≡ Some m → blob.meta ≡ m
-          same_meta k m here there = let e = meta_here k here in cc (e, there)
-
-          read_now : AreRead s metas_now chains_now
-          read_now = record {
-            stored = λ k m there. elim (cases_eq k place) [
-              | inl here ↦
-                  subst (λ (n : Meta). IsStored s k n) (same_meta k m here there)
-                  (subst (λ (n : ℕ). IsStored s n blob.meta) (sym here)
-                  (stored x.look s place blob.meta blob.pages says))
-              | inr other ↦ w.read.stored k m (sym (given_elsewhere metas place blob.meta k other) ∙ there)
-            ];
-            chain = λ k m there. elim (cases_eq k place) [
-              | inl here ↦ (
-                blob.pages,
-                given_here chains place blob.pages k here,
-                subst
-                    (λ (n : ℕ). IsChainOf s.md_len n blob.pages) (sym here)
-                    (chain_of_region x.look s place blob.meta blob.pages says),
-              )
-              | inr other ↦
-                  let c =
-                  w.read.chain k m (sym (given_elsewhere metas place blob.meta k other) ∙ there) in
-                  (c.0, given_elsewhere chains place blob.pages k other ∙ c.1, c.2)
-            ];
-            none = λ k no. elim (cases_eq k place) [
-              | inl here ↦ let e = meta_here k here in absurd (cc (e, no))
-              | inr other ↦
-                  given_elsewhere chains place blob.pages k other
-                  ∙ w.read.none k (sym (given_elsewhere metas place blob.meta k other) ∙ no)
-            ];
-          }
-
-          -- the blob at the place is added
-          pub one_there : Walked d s heads first new metas_now chains_now (slots + length blob.meta.map) (place + 1)
-          one_there = record {
-            same = read_on d first disk new w.same on;
-            quiet = still ∙ w.quiet;
-            reads =
-                let a = w.reads in
-                let b = tests_more heads place in
-                let c = pages_now in
-                omega (arith, a, b, c, more);
-            told = λ told. record {
-              blobs = blob_now told;
-              few = let a = slots_now in let b = w.count in omega (arith, a, b, few);
-            };
-            read = read_now;
-            none =
-                λ k le. given_elsewhere metas place blob.meta k (λ e. absurd (omega (arith, e, le)))
-                ∙ w.none k (omega (arith, le));
-            count = let a = slots_now in let b = w.count in omega (arith, a, b);
-            few = few;
-          }
+        -- the blob at the place is added
+        pub one_there : Walked d s heads first new metas_now chains_now (slots + length blob.meta.map) (place + 1)
+        one_there = record {
+          same = read_on d first disk new w.same on;
+          quiet = still ∙ w.quiet;
+          reads =
+              let a = w.reads in
+              let b = tests_more heads place in
+              let c = pages_now in
+              omega (arith, a, b, c, more);
+          told = λ told. record {
+            blobs = blob_now told;
+            few = let a = slots_now in let b = w.count in omega (arith, a, b, few);
+          };
+          read = read_now;
+          none =
+              λ k le. given_elsewhere metas place blob.meta k (λ e. absurd (omega (arith, e, le)))
+              ∙ w.none k (omega (arith, le));
+          count = let a = slots_now in let b = w.count in omega (arith, a, b);
+          few = few;
+        }
 
 -- the maps of the code
 module _ {D : Type 0} (d : Ghosts D) (s : Super) (heads : Heads) (first disk : D) (metas : map.FinMap nat_cmp Meta)

@@ -78,26 +78,26 @@ holds_metadata d before after s metas chains at pages says same =
 -- ---- faults of an image
 
 module _ (kind : Super → Image → Heads → Type 0) (pages : ℕ) (image : Image) (s : Super) (at : SuperAt pages image s)
-    where
-  by_shown : (why : LoadFault) → ((x : ShowsBy (kind s image) (look_of (region_of s) image) (region_of s) why)
-      → FailsBy s image x.heads why) → ShowsBy (kind s image) (look_of (region_of s) image) (region_of s) why
-      → StoreFails kind pages image why
-  by_shown why fails x = record { sup = s; super_at = at; heads = x.heads; are = x.are_used; fails = fails x }
+  where
+    by_shown : (why : LoadFault) → ((x : ShowsBy (kind s image) (look_of (region_of s) image) (region_of s) why)
+        → FailsBy s image x.heads why) → ShowsBy (kind s image) (look_of (region_of s) image) (region_of s) why
+        → StoreFails kind pages image why
+    by_shown why fails x = record { sup = s; super_at = at; heads = x.heads; are = x.are_used; fails = fails x }
 
-  -- the first fault that a head shows is one of the image
-  pub heads_fail : (why : LoadFault) → IsFaultFound (kind s image) (look_of (region_of s) image) (region_of s) why
-      → IsFaultBy kind pages image why
-  heads_fail (fault.Super e) x = absurd x.shows.shows
-  heads_fail fault.ReadFault x = tt
-  heads_fail fault.Memory x = tt
-  heads_fail (fault.Chain head e) x = by_shown (fault.Chain head e) (λ y. y.shows) x
-  heads_fail (fault.Meta head e) x = by_shown (fault.Meta head e) (λ y. y.shows) x
-  heads_fail (fault.MapsTooLarge slots) x = by_shown (fault.MapsTooLarge slots) (λ y. y.shows) x
-  heads_fail (fault.NoParentBlob blob parent) x = absurd x.shows.shows
-  heads_fail (fault.WritableParent blob parent) x = absurd x.shows.shows
-  heads_fail (fault.ParentLoop blob) x = absurd x.shows.shows
-  heads_fail (fault.Shared cluster a b) x = absurd x.shows.shows
-  heads_fail (fault.NoRoom head has wants) x = absurd x.shows.shows
+    -- the first fault that a head shows is one of the image
+    pub heads_fail : (why : LoadFault) → IsFaultFound (kind s image) (look_of (region_of s) image) (region_of s) why
+        → IsFaultBy kind pages image why
+    heads_fail (fault.Super e) x = absurd x.shows.shows
+    heads_fail fault.ReadFault x = tt
+    heads_fail fault.Memory x = tt
+    heads_fail (fault.Chain head e) x = by_shown (fault.Chain head e) (λ y. y.shows) x
+    heads_fail (fault.Meta head e) x = by_shown (fault.Meta head e) (λ y. y.shows) x
+    heads_fail (fault.MapsTooLarge slots) x = by_shown (fault.MapsTooLarge slots) (λ y. y.shows) x
+    heads_fail (fault.NoParentBlob blob parent) x = absurd x.shows.shows
+    heads_fail (fault.WritableParent blob parent) x = absurd x.shows.shows
+    heads_fail (fault.ParentLoop blob) x = absurd x.shows.shows
+    heads_fail (fault.Shared cluster a b) x = absurd x.shows.shows
+    heads_fail (fault.NoRoom head has wants) x = absurd x.shows.shows
 
 -- heads by which all are whole
 module _ (kind : Super → Image → Heads → Type 0) (pages : ℕ) (image : Image) (s : Super) (at : SuperAt pages image s)

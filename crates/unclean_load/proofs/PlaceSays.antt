@@ -31,8 +31,7 @@ module _ (look : Look) (r : MdRegion) (heads : Heads) (h : ℕ) where
   one_place m n c d (inl a) (inl b) =
       let x = a.blob in
       let y = b.blob in
-      let e = one_chain look r.len h 0 [] h h x.says.items y.says.items x.pages y.pages x.says.chain y.says.chain in
-      (
+      let e = one_chain look r.len h 0 [] h h x.says.items y.says.items x.pages y.pages x.says.chain y.says.chain in (
         x.meta_is ∙ ap (λ (v : Meta). Some v) (x.says.meta_is ∙ ap (meta_of h) e.0 ∙ sym y.says.meta_is)
             ∙ sym y.meta_is,
         x.pages_are ∙ ap (λ (v : List ℕ). Some v) e.1 ∙ sym y.pages_are,

@@ -43,8 +43,10 @@ module _ (one : (s : Super) (a b : Masks) (image : Image) → SaysMasks s a imag
   pub goes_by_masks : (old new : ℕ) (quick : Bool) (metas : Metas) (chains : Chains)
       → IsReadBy (AreUsed old new s image) quick s image metas chains → (Rose old new → ⊥)
       → (quick ≡ true) ↔ ((masks : Masks) × IsQuick s masks image)
-  goes_by_masks old new quick metas chains x none = (λ is. to x.heads x.are_used (sym x.quick_is ∙ is),
-    λ masks. x.quick_is ∙ from x.heads x.are_used masks.0 masks.1)
+  goes_by_masks old new quick metas chains x none = (
+    λ is. to x.heads x.are_used (sym x.quick_is ∙ is),
+    λ masks. x.quick_is ∙ from x.heads x.are_used masks.0 masks.1,
+  )
     where
       to : (heads : Heads) → AreUsed old new s image heads → is_listed heads ≡ true
           → (masks : Masks) × IsQuick s masks image

@@ -92,12 +92,12 @@ FailsBy s image heads why = HeadFails s image heads why
 
 -- The super block has no fault, but heads of this kind show this one.
 pub record StoreFails (kind : Super → Image → Heads → Type 0) (pages : ℕ) (image : Image) (why : LoadFault) : Type 0
-    where
-  pub sup : Super
-  pub super_at : SuperAt pages image sup
-  pub heads : Heads
-  pub are : kind sup image heads
-  pub fails : FailsBy sup image heads why
+  where
+    pub sup : Super
+    pub super_at : SuperAt pages image sup
+    pub heads : Heads
+    pub are : kind sup image heads
+    pub fails : FailsBy sup image heads why
 
 -- The fault of an image by heads of this kind; a failed read and want of memory are none of it. Marks are no fault.
 abbrev pub IsFaultBy : (Super → Image → Heads → Type 0) → ℕ → Image → LoadFault → Type 0

@@ -83,11 +83,7 @@ fn trusted_blobs<D: PageDisk>(
 
 /// The blobs of a store, or the first fault that its heads show: of a chain, of its metadata, or of too many slots
 /// together.
-pub fn find_blobs<D: PageDisk>(
-    alloc: Global,
-    disk: &mut D,
-    sup: &Super,
-) -> Result<Found, LoadFault>
+pub fn find_blobs<D: PageDisk>(alloc: Global, disk: &mut D, sup: &Super) -> Result<Found, LoadFault>
     requires faultless { IsFaultless sup.now }
     requires device { sup.now.device_pages ≡ D.pages disk.old }
     requires inside { sup.now.md_start + sup.now.md_len ≤ D.pages disk.old }

@@ -11,8 +11,7 @@ use Rattle.unclean_load.proofs.laws.clean_stores_are_quick.Goals as goal
 pub returns-clause-quick : goal.returns-clause-quick
 returns-clause-quick c s masks image metas chains fine clean has says few claims =
     let law = c.unloaded_masks_are_read.ensures in
-    let read = law.read s masks image fine (masks_fit s masks image metas chains says few claims) has in
-    (
+    let read = law.read s masks image fine (masks_fit s masks image metas chains says few claims) has in (
       is_quick s masks image metas chains says few claims clean read,
       no_head_beside s masks image metas chains says few claims clean read
           (λ other is. law.one s other masks image is read),
