@@ -1,4 +1,4 @@
--- What a driver keeps over steps: what its rows have left, which of them have ended, and that row 16 is unused.
+-- What a driver keeps over steps: which of its rows have ended, and what is known of posted rows and of the fill's.
 use Rattle.std.proofs.Common.{◌≡◌, ◌⊎◌, inl, inr, ℕ, Bool, List, [], length, None, refl}
 use Rattle.std.proofs.Common.{sym, ◌∙◌, ap, subst, arith}
 use Rattle.std.proofs.Math.ListN.{get_or-eq_default}

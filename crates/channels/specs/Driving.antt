@@ -59,9 +59,9 @@ pub record KeepsFill {D : Type 0} (w : Driver D) : Type 0 where
 abbrev pub StillKeepsFill : {D : Type 0} → Driver D → Driver D → Type 0
 StillKeepsFill w v = KeepsFill v ⊎ (v.metadata ≡ w.metadata)
 
--- What it keeps: the right is the store's, of which sixteen channels' rows and the fill's began; each command that is
--- left is served; nothing is left to repair; the store with its messages has what every state of a run has; and the
--- fill that goes on is the one that the fill's row works for.
+-- What it keeps: the right is the store's, of which sixteen channels' rows and the fill's began; nothing is left to
+-- repair; the store with its messages has what every state of a run has; and the fill that goes on is the one that the
+-- fill's row works for.
 pub record IsDriven {D : Type 0} (d : Ghosts D) (w : Driver D) : Type 0 where
   pub right : w.right ≡ w.plant.right
   pub seventeen : length w.plant.opening.rows ≡ 17
