@@ -53,7 +53,7 @@ CRATES = {
     "lvol_store": (3, 3, 4), "thin_write": (5, 5, 4), "store_format": (1, 1, 4),
     "unclean_load": (2, 2, 5), "data_path": (5, 5, 5), "blob_report": (6, 6, 5),
     "store_core": (4, 4, 6), "run_moves": (6, 6, 6), "job_begins": (4, 4, 7),
-    "channel_turns": (3, 3, 8), "metadata_turns": (4, 4, 8), "repair_runs": (6, 6, 8), "running_store": (3, 4, 9),
+    "channel_turns": (3, 3, 8), "metadata_turns": (4, 4, 8), "repair_runs": (6, 6, 8), "clean_images": (6, 6, 9), "running_store": (3, 4, 9),
     "md_queue": (1, 1, 10), "io_freeze": (3, 3, 10), "store_model": (4, 4, 10),
     "md_chain": (2, 2, 11), "pools": (4, 4, 11), "shown_volumes": (6, 6, 11),
     "md_page": (3, 3, 12), "inflate_delete": (6, 6, 12), "snapshots": (6, 6, 13), "blob_meta": (1, 1, 14),

@@ -1,44 +1,30 @@
 -- How a run ends with its repairs.
-use Rattle.std.proofs.Common.{◌≡◌, ◌∙◌, ℕ, List, [], length, Option, Some, None, IsTrue, refl, ap, subst}
+use Rattle.std.proofs.Common.{◌≡◌, ◌∙◌, ℕ, Bool, List, [], length, Option, Some, None, IsTrue, refl, ap, subst}
+use Rattle.std.specs.FinMap as map
 use Rattle.page_disk.specs.Disk.{Rose, Telling}
 use Rattle.page_disk.specs.declared.disk.PageDisk.{Ghosts}
-use Rattle.clean_stop.specs.Masks.{IsMaskPage, StandsApart}
-use Rattle.super_block.specs.Faults.{IsFaultless}
-use Rattle.super_block.specs.declared.masks.Masks.{Masks}
-use Rattle.super_block.specs.declared.page.Super.{Super}
 use Rattle.volume_model.specs.declared.reply.Entry.{Entry}
-use Rattle.running_store.specs.Running.{super_left}
 use Rattle.store_core.specs.StoreInvariant.{StoreInvariant}
 use Rattle.blob_meta.specs.Repairs.{HasNoMarks}
 use Rattle.running_store.specs.StoreView.{base_of, state_of, StoreView, WithOpening}
 use Rattle.store_model.specs.StateLaws.{StopLaws}
 use Rattle.streams.specs.declared.sink.Sink as sink
-use Rattle.unclean_load.specs.Accepted.{StoresAreAccepted}
-use Rattle.blob_tool.specs.Closing.{Unloads}
+use Rattle.blob_tool.specs.Found.{ReadsAs}
 use Rattle.blob_tool.specs.Repairing.{status_of_repairs, EndedInRepair, EndsRepairs, IsEndOfRepairs, Repaired}
 use Rattle.blob_tool.specs.declared.repairing.RepairsEnd.{RepairsEnd}
 use Rattle.blob_tool.specs.declared.repairing.RepairsEnd.TheVariants as end
 use Rattle.blob_tool.specs.declared.status.Status.{Status}
-use Rattle.blob_tool.proofs.Closed.{left_alone}
-use Rattle.blob_tool.proofs.WholeRun.{survives}
+use Rattle.blob_tool.proofs.RunSurvives.{LoadLaws, survives_alone}
 
--- masks of nothing
-abbrev none : Masks
-none = record { pages = []; clusters = []; blobs = [] }
-
-module _ {D : Type 0} (d : Ghosts D) (accepts : StoresAreAccepted)
-    (apart : (s : Super) → IsFaultless s → (page : ℕ) → IsMaskPage s page → StandsApart s page)
-    (law : IsTrue d.tells → Telling d.now d.images d.since d.clock) (stops : StopLaws) (b : WithOpening D)
-    (kept : StoreInvariant d b) {K : Type 0} (k : sink.Ghosts K) (out : K) where
+module _ {D : Type 0} (d : Ghosts D) (laws : LoadLaws) (law : IsTrue d.tells → Telling d.now d.images d.since d.clock)
+    (stops : StopLaws) (b : WithOpening D) (kept : StoreInvariant d b) (quick : Bool)
+    (read : ReadsAs d quick b.opening.super (base_of b.opening.metas b.opening.marked) (map.get b.opening.chains)
+    b.opening.disk) {K : Type 0} (k : sink.Ghosts K) (out : K) where
   abbrev first : StoreView D
   first = b.opening
 
   unlogged : (how : RepairsEnd) → EndsRepairs d first b.at how → b.at.log ≡ []
   unlogged how ends = ends.made.unlogged ∙ kept.began.log
-
-  -- the store is not unloaded then
-  alone : Unloads d (super_left b.at.clean b.at.super) none b.at.disk b.at.disk
-  alone = left_alone d (super_left b.at.clean b.at.super) none b.at.disk law
 
   repaired : (how : RepairsEnd) → EndsRepairs d first b.at how → Repaired d k out out b.at.disk first
   repaired how ends = record {
@@ -47,7 +33,7 @@ module _ {D : Type 0} (d : Ghosts D) (accepts : StoresAreAccepted)
     device = refl;
     quiet = refl;
     unlogged = unlogged how ends;
-    survives = survives d accepts apart law b kept none b.at.disk alone;
+    survives = survives_alone d laws law b kept quick read;
   }
 
   abbrev IsEnded : Option Status → Type 0

@@ -1,6 +1,7 @@
 -- What a run came to, by what was printed of its log.
 use Rattle.std.proofs.Common.{
   ◌≡◌,
+  Bool,
   ℕ,
   ◌++◌,
   length,
@@ -29,10 +30,10 @@ use Rattle.md_chain.specs.Reading.{OnlyRead}
 use Rattle.running_store.specs.declared.loaded.Loaded.{Loaded}
 use Rattle.store_core.specs.Opening.{IsOpened}
 use Rattle.running_store.specs.StoreView.{StoreView, state_of}
-use Rattle.running_store.specs.Surviving.{HasOneImage}
+use Rattle.blob_tool.specs.Found.{HasSoundImage}
 use Rattle.unclean_load.specs.declared.fault.LoadFault.{LoadFault}
 use Rattle.unclean_load.specs.declared.fault.LoadFault.TheVariants as loading
-use Rattle.unclean_load.specs.Accepted.{IsAccepted, IsFaultOf, IsImageFault}
+use Rattle.unclean_load.specs.Accepted.{IsImageFault}
 use Rattle.unclean_load.specs.Reading.{IsFaultCounted}
 use Rattle.streams.specs.declared.printing.PrintFault.{PrintFault}
 use Rattle.streams.specs.declared.printing.PrintFault.TheVariants as printing
@@ -44,7 +45,7 @@ use Rattle.blob_tool.specs.Surviving.{IsLasting}
 use Rattle.store_model.specs.StoreState.{shown}
 use Rattle.script_lang.specs.declared.schedule.Actor.{Actor}
 use Rattle.blob_tool.specs.Outcome.{EndedRepairing, HasScript, Outcome, RanTo}
-use Rattle.blob_tool.specs.Untouched.{NothingWritten}
+use Rattle.blob_tool.specs.Untouched.{IsRefused, NothingWritten}
 use Rattle.blob_tool.specs.Outcome.{HasCommands, Started}
 use Rattle.blob_tool.specs.RunScripts.{printed_text}
 use Rattle.blob_tool.specs.declared.run_script.RunScript.{RunScript}
@@ -52,24 +53,24 @@ use Rattle.blob_tool.specs.declared.run_script.RunScript.{RunScript}
 module _ {D : Type 0} (d : disk.Ghosts D) (script : List (List Command)) (schedule : List Actor) (from : RunScript)
     {K : Type 0} (k : sink.Ghosts K) (out out_now : K) (back : D) (first : StoreView D) where
   -- how a run ended, by where it stopped or was closed and how much was printed
-  pub ends : (p : Played d script schedule from k out out_now back first) (stopped ended : Option ℕ)
+  pub ends : (p : Played d script schedule from k out out_now back first) (quick : Bool) (stopped ended : Option ℕ)
       (printed : Result (Unit {0}) PrintFault) → p.last.stopped ≡ stopped
-      → Closes d (super_left p.last.clean p.last.super) p.masks p.last.disk back (length p.last.log) stopped ended
-      → (IsClosed d (super_left p.last.clean p.last.super) p.masks p.last.disk back → p.last.stopped ≡ None
-      → HasOneImage d first.disk → IsLasting d first.super (shown (state_of d first)) p.last back)
+      → Closes d (super_left p.last.clean p.last.super) p.masks p.last.disk back quick (length p.last.log) stopped ended
+      → (IsClosed d (super_left p.last.clean p.last.super) p.masks p.last.disk back quick → p.last.stopped ≡ None
+      → HasSoundImage d first.disk → IsLasting d first.super (shown (state_of d first)) p.last back)
       → (IsTrue k.tells → OnOk printed (k.written out_now ≡ k.written out ++ printed_text from p.last.log))
       → (printed ≡ Err printing.Sink → Rose (k.faults out) (k.faults out_now))
       → Ended d script schedule from k out out_now back first (of_run ended printed)
-  ends p stopped ended (Err printing.Memory) is closes lasts whole rose = p
-  ends p None None (Err printing.Sink) is closes lasts whole rose = (p, (is, lasts closes is), rose refl)
-  ends p None None (Ok done) is closes lasts whole rose = (p, (is, lasts closes is), whole)
-  ends p None (Some at) (Err printing.Sink) is closes lasts whole rose =
+  ends p quick stopped ended (Err printing.Memory) is closes lasts whole rose = p
+  ends p quick None None (Err printing.Sink) is closes lasts whole rose = (p, (is, lasts closes is), rose refl)
+  ends p quick None None (Ok done) is closes lasts whole rose = (p, (is, lasts closes is), whole)
+  ends p quick None (Some at) (Err printing.Sink) is closes lasts whole rose =
       (p, inr (is, closes.0, closes.2), inr (rose refl))
-  ends p None (Some at) (Ok done) is closes lasts whole rose = (p, inr (is, closes.0, closes.2), inl whole)
-  ends p (Some at) None printed is closes lasts whole rose = absurd (cc closes.0)
-  ends p (Some at) (Some end) (Err printing.Sink) is closes lasts whole rose =
+  ends p quick None (Some at) (Ok done) is closes lasts whole rose = (p, inr (is, closes.0, closes.2), inl whole)
+  ends p quick (Some at) None printed is closes lasts whole rose = absurd (cc closes.0)
+  ends p quick (Some at) (Some end) (Err printing.Sink) is closes lasts whole rose =
       (p, inl (is ∙ sym closes.0, closes.1), inr (rose refl))
-  ends p (Some at) (Some end) (Ok done) is closes lasts whole rose =
+  ends p quick (Some at) (Some end) (Ok done) is closes lasts whole rose =
       (p, inl (is ∙ sym closes.0, closes.1), inl whole)
 
 module _ {S : Type 0} (s : source.Ghosts S) (script script_now : S) {D : Type 0} (d : disk.Ghosts D) {K : Type 0}
@@ -121,25 +122,16 @@ module _ {S : Type 0} (s : source.Ghosts S) (script script_now : S) {D : Type 0}
   pub of_a_fault : (fault : LoadFault) → NothingWritten d before out out_now back
       → HasScript s script script_now d k out out_now before back from
       → IsFaultCounted (d.read_faults before) (d.read_faults back) fault
-      → (IsTrue d.tells → IsFaultOf (d.pages before) (d.now before) fault)
-      → (IsTrue d.tells → IsImageFault fault → IsAccepted (d.pages before) (d.now before) → ⊥)
+      → (IsImageFault fault → IsRefused d before back fault)
       → Outcome s script script_now d k out out_now before back from schedule (of_loading fault)
-  of_a_fault loading.ReadFault stays script counted cause refused = inr (inl (stays, script, refl, counted))
-  of_a_fault loading.Memory stays script counted cause refused = inr (inl stays)
-  of_a_fault (loading.Super why) stays script counted cause refused =
-      (stays, script, (tt, λ tells. (cause tells, refused tells tt)))
-  of_a_fault (loading.Chain head why) stays script counted cause refused =
-      (stays, script, (tt, λ tells. (cause tells, refused tells tt)))
-  of_a_fault (loading.Meta head why) stays script counted cause refused =
-      (stays, script, (tt, λ tells. (cause tells, refused tells tt)))
-  of_a_fault (loading.MapsTooLarge slots) stays script counted cause refused =
-      (stays, script, (tt, λ tells. (cause tells, refused tells tt)))
-  of_a_fault (loading.NoParentBlob blob parent) stays script counted cause refused =
-      (stays, script, (tt, λ tells. (cause tells, refused tells tt)))
-  of_a_fault (loading.WritableParent blob parent) stays script counted cause refused =
-      (stays, script, (tt, λ tells. (cause tells, refused tells tt)))
-  of_a_fault (loading.ParentLoop blob) stays script counted cause refused =
-      (stays, script, (tt, λ tells. (cause tells, refused tells tt)))
-  of_a_fault (loading.Shared cluster a b) stays script counted cause refused =
-      (stays, script, (tt, λ tells. (cause tells, refused tells tt)))
-  of_a_fault (loading.NoRoom head has wants) stays script counted cause refused = absurd counted
+  of_a_fault loading.ReadFault stays script counted refused = inr (inl (stays, script, refl, counted))
+  of_a_fault loading.Memory stays script counted refused = inr (inl stays)
+  of_a_fault (loading.Super why) stays script counted refused = (stays, script, refused tt)
+  of_a_fault (loading.Chain head why) stays script counted refused = (stays, script, refused tt)
+  of_a_fault (loading.Meta head why) stays script counted refused = (stays, script, refused tt)
+  of_a_fault (loading.MapsTooLarge slots) stays script counted refused = (stays, script, refused tt)
+  of_a_fault (loading.NoParentBlob blob parent) stays script counted refused = (stays, script, refused tt)
+  of_a_fault (loading.WritableParent blob parent) stays script counted refused = (stays, script, refused tt)
+  of_a_fault (loading.ParentLoop blob) stays script counted refused = (stays, script, refused tt)
+  of_a_fault (loading.Shared cluster a b) stays script counted refused = (stays, script, refused tt)
+  of_a_fault (loading.NoRoom head has wants) stays script counted refused = absurd counted

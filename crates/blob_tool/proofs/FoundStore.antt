@@ -1,40 +1,109 @@
 -- A store as a load finds it.
-use Rattle.std.proofs.Common.{◌≡◌, ◌∙◌, IsTrue, sym}
+use Rattle.std.proofs.Common.{◌≡◌, ◌≢◌, ◌⊎◌, ◌↔◌, ◌∙◌, Bool, false, true, IsTrue, ap, inl, inr, refl, subst, sym}
 use Rattle.std.specs.FinMap as map
+use Rattle.page_disk.specs.Disk.{Image, Rose}
 use Rattle.page_disk.specs.declared.disk.PageDisk as disk
 use Rattle.super_block.specs.Page.{super_of}
+use Rattle.super_block.specs.declared.masks.Masks.{Masks}
+use Rattle.super_block.specs.declared.page.Super.{Super}
 use Rattle.md_chain.specs.Reading.{OnlyRead}
-use Rattle.store_model.specs.Regions.{region_of}
+use Rattle.store_model.specs.Maps.{Chains, Metas}
+use Rattle.store_model.specs.Regions.{look_of, region_of}
 use Rattle.store_model.specs.Scans.{Says}
 use Rattle.running_store.specs.declared.loaded.Loaded.{Loaded}
 use Rattle.running_store.specs.Recovered.{base_of, IsLoadedFrom}
-use Rattle.running_store.specs.Surviving.{HasOneImage}
-use Rattle.unclean_load.specs.Accepted.{IsAccepted}
-use Rattle.blob_tool.specs.Found.{IsFound}
+use Rattle.running_store.specs.Surviving.{HasOneImage, HoldsMetadata}
+use Rattle.unclean_load.specs.Accepted.{AcceptedBy, IsAccepted}
+use Rattle.unclean_load.specs.Heads.{AreWhole, is_listed}
+use Rattle.unclean_load.specs.Quick.{AreListed, AreUsed, HasNoHeadBesideMask, IsQuick, IsReadBy}
+use Rattle.unclean_load.specs.declared.heads.Heads.{Heads}
+use Rattle.unclean_load.specs.declared.heads.Heads.TheVariants.{ByScan, Listed}
+use Rattle.blob_tool.specs.Found.{HasSoundImage, IsFound, ReadsAs}
 
--- a device that was only read has one image still
-pub still_one : {D : Type 0} (d : disk.Ghosts D) (before after : D) → OnlyRead d before after → HasOneImage d before
-    → HasOneImage d after
-still_one d before after same one = (
-  one.0,
-  λ c. (
-    λ held. (one.1 c).0 ((same.images one.0 c).0 held) ∙ sym (same.now one.0),
-    λ is. (same.images one.0 c).1 ((one.1 c).1 (is ∙ same.now one.0)),
-  ),
-)
+module _ {D : Type 0} (d : disk.Ghosts D) (before : D) (loaded : Loaded D) (same : OnlyRead d before loaded.disk) where
+  abbrev base : Metas
+  base = base_of loaded.metas loaded.marked
 
--- a store as a load found it
-pub found_by : {D : Type 0} (d : disk.Ghosts D) (before : D) (loaded : Loaded D)
-    → (IsTrue d.tells → loaded.sup ≡ super_of (d.now before 0) (d.pages before))
-    → (IsTrue d.tells
-    → Says (region_of loaded.sup) (base_of loaded.metas loaded.marked) (map.get loaded.chains) (d.now before))
-    → (IsTrue d.tells → IsAccepted (d.pages before) (d.now before))
-    → IsLoadedFrom (base_of loaded.metas loaded.marked) loaded → OnlyRead d before loaded.disk → IsFound d before loaded
-found_by d before loaded super says accepted recovered same = record {
-  super = super;
-  says = says;
-  accepted = accepted;
-  recovered = recovered;
-  same = same;
-  one_image = still_one d before loaded.disk same;
-}
+  abbrev chains : Chains
+  chains = map.get loaded.chains
+
+  abbrev Used : Heads → Type 0
+  Used = AreUsed (d.read_faults before) (d.read_faults loaded.disk) loaded.sup (d.now before)
+
+  -- a device that was only read has one image still
+  still_one : HasOneImage d before → HasOneImage d loaded.disk
+  still_one one = (
+    one.0,
+    λ c. (
+      λ held. (one.1 c).0 ((same.images one.0 c).0 held) ∙ sym (same.now one.0),
+      λ is. (same.images one.0 c).1 ((one.1 c).1 (is ∙ same.now one.0)),
+    ),
+  )
+
+  -- and that is sound
+  still_sound : HasSoundImage d before → HasSoundImage d loaded.disk
+  still_sound x =
+      let now = sym (same.now x.one.0) in
+      record {
+        one = still_one x.one;
+        accepted = subst (λ n. IsAccepted n (d.now loaded.disk)) (sym same.pages)
+            (subst (IsAccepted (d.pages before)) now x.accepted);
+        no_head = subst (λ n. HasNoHeadBesideMask (super_of (d.now loaded.disk 0) n) (d.now loaded.disk)) (sym same.pages)
+            (subst (λ (i : Image). HasNoHeadBesideMask (super_of (i 0) (d.pages before)) i) now x.no_head);
+      }
+
+  -- a store as a load found it
+  pub found_by : (IsTrue d.tells → loaded.sup ≡ super_of (d.now before 0) (d.pages before))
+      → (IsTrue d.tells → IsReadBy Used loaded.quick loaded.sup (d.now before) base chains)
+      → (IsTrue d.tells → (Rose (d.read_faults before) (d.read_faults loaded.disk) → ⊥)
+      → (loaded.quick ≡ true) ↔ ((masks : Masks) × IsQuick loaded.sup masks (d.now before)))
+      → (IsTrue d.tells → AcceptedBy (AreUsed (d.read_faults before) (d.read_faults loaded.disk)) (d.pages before)
+      (d.now before))
+      → (IsTrue d.tells → HasNoHeadBesideMask loaded.sup (d.now before)
+      → Says (region_of loaded.sup) base chains (d.now before))
+      → IsLoadedFrom base loaded → IsFound d before loaded
+  found_by super read quick accepted says recovered = record {
+    super = super;
+    read = read;
+    quick = quick;
+    accepted = accepted;
+    says = says;
+    recovered = recovered;
+    same = same;
+    sound = still_sound;
+  }
+
+  -- by masks, where the load was a quick one
+  by_masks : loaded.quick ≡ true → (heads : Heads) → Used heads → loaded.quick ≡ is_listed heads
+      → AreWhole (look_of (region_of loaded.sup) (d.now before)) (region_of loaded.sup) heads base chains
+      → (masks : Masks) × IsQuick loaded.sup masks (d.now before)
+      × AreListed (look_of (region_of loaded.sup) (d.now before)) (region_of loaded.sup) masks.blobs base chains
+  by_masks quick ByScan used is whole = absurd (let bad : true ≡ false = sym quick ∙ is in cc bad)
+  by_masks quick (Listed places) (inl x) is whole = (
+    x.0,
+    x.1.0,
+    subst (λ p. AreListed (look_of (region_of loaded.sup) (d.now before)) (region_of loaded.sup) p base chains) x.1.1
+        whole,
+  )
+  by_masks quick (Listed places) (inr x) is whole = absurd (cc x.1)
+
+  -- what the device is read as
+  pub read_as : loaded.sup.device_pages ≡ d.pages loaded.disk
+      → (IsTrue d.tells → loaded.sup ≡ super_of (d.now before 0) (d.pages before))
+      → (IsTrue d.tells → HasNoHeadBesideMask loaded.sup (d.now before)
+      → HoldsMetadata loaded.sup base chains (d.now loaded.disk))
+      → (IsTrue d.tells → IsReadBy Used loaded.quick loaded.sup (d.now before) base chains)
+      → ReadsAs d loaded.quick loaded.sup base chains loaded.disk
+  read_as device_pages super holds read = record {
+    device_pages = device_pages;
+    super = λ t.
+        super t ∙ ap (λ (i : Image). super_of (i 0) (d.pages before)) (sym (same.now t))
+        ∙ ap (λ n. super_of (d.now loaded.disk 0) n) (sym same.pages);
+    holds = λ t no_head. holds t (subst (HasNoHeadBesideMask loaded.sup) (same.now t) no_head);
+    trusted = λ t quick.
+        let x = read t in
+        subst
+        (λ (i : Image). (masks : Masks) × IsQuick loaded.sup masks i
+        × AreListed (look_of (region_of loaded.sup) i) (region_of loaded.sup) masks.blobs base chains)
+        (sym (same.now t)) (by_masks quick x.heads x.are_used x.quick_is x.whole);
+  }

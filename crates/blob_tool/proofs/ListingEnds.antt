@@ -4,12 +4,12 @@ use Rattle.page_disk.specs.Disk.{Rose}
 use Rattle.page_disk.specs.declared.disk.PageDisk as disk
 use Rattle.md_chain.specs.Reading.{OnlyRead}
 use Rattle.streams.specs.declared.sink.Sink as sink
-use Rattle.unclean_load.specs.Accepted.{IsAccepted, IsFaultOf, IsImageFault}
+use Rattle.unclean_load.specs.Accepted.{IsImageFault}
 use Rattle.unclean_load.specs.Reading.{IsFaultCounted}
 use Rattle.unclean_load.specs.declared.fault.LoadFault.{LoadFault}
 use Rattle.unclean_load.specs.declared.fault.LoadFault.TheVariants as loading
 use Rattle.blob_tool.specs.ListOutcome.{ListEnded}
-use Rattle.blob_tool.specs.Untouched.{NothingWritten}
+use Rattle.blob_tool.specs.Untouched.{IsRefused, NothingWritten}
 use Rattle.blob_tool.specs.Statuses.{of_loading}
 use Rattle.blob_tool.specs.declared.status.Status.{Status}
 use Rattle.blob_tool.specs.declared.status.Status.TheVariants as status
@@ -18,26 +18,18 @@ module _ {D : Type 0} (d : disk.Ghosts D) {K : Type 0} (k : sink.Ghosts K) (out 
   -- a store that wasn't loaded
   pub unlisted : (fault : LoadFault) → NothingWritten d before out out_now back
       → IsFaultCounted (d.read_faults before) (d.read_faults back) fault
-      → (IsTrue d.tells → IsFaultOf (d.pages before) (d.now before) fault)
-      → (IsTrue d.tells → IsImageFault fault → IsAccepted (d.pages before) (d.now before) → ⊥)
-      → ListEnded d before back k out out_now (of_loading fault)
-  unlisted loading.ReadFault stays counted cause refused = (stays, refl, counted)
-  unlisted loading.Memory stays counted cause refused = stays
-  unlisted (loading.Super why) stays counted cause refused = (stays, (tt, λ tells. (cause tells, refused tells tt)))
-  unlisted (loading.Chain head why) stays counted cause refused =
-      (stays, (tt, λ tells. (cause tells, refused tells tt)))
-  unlisted (loading.Meta head why) stays counted cause refused = (stays, (tt, λ tells. (cause tells, refused tells tt)))
-  unlisted (loading.MapsTooLarge slots) stays counted cause refused =
-      (stays, (tt, λ tells. (cause tells, refused tells tt)))
-  unlisted (loading.NoParentBlob blob parent) stays counted cause refused =
-      (stays, (tt, λ tells. (cause tells, refused tells tt)))
-  unlisted (loading.WritableParent blob parent) stays counted cause refused =
-      (stays, (tt, λ tells. (cause tells, refused tells tt)))
-  unlisted (loading.ParentLoop blob) stays counted cause refused =
-      (stays, (tt, λ tells. (cause tells, refused tells tt)))
-  unlisted (loading.Shared cluster a b) stays counted cause refused =
-      (stays, (tt, λ tells. (cause tells, refused tells tt)))
-  unlisted (loading.NoRoom head has wants) stays counted cause refused = absurd counted
+      → (IsImageFault fault → IsRefused d before back fault) → ListEnded d before back k out out_now (of_loading fault)
+  unlisted loading.ReadFault stays counted refused = (stays, refl, counted)
+  unlisted loading.Memory stays counted refused = stays
+  unlisted (loading.Super why) stays counted refused = (stays, refused tt)
+  unlisted (loading.Chain head why) stays counted refused = (stays, refused tt)
+  unlisted (loading.Meta head why) stays counted refused = (stays, refused tt)
+  unlisted (loading.MapsTooLarge slots) stays counted refused = (stays, refused tt)
+  unlisted (loading.NoParentBlob blob parent) stays counted refused = (stays, refused tt)
+  unlisted (loading.WritableParent blob parent) stays counted refused = (stays, refused tt)
+  unlisted (loading.ParentLoop blob) stays counted refused = (stays, refused tt)
+  unlisted (loading.Shared cluster a b) stays counted refused = (stays, refused tt)
+  unlisted (loading.NoRoom head has wants) stays counted refused = absurd counted
 
   -- whatever came of it, the device was only read
   pub only_read : (st : Status) → ListEnded d before back k out out_now st → OnlyRead d before back

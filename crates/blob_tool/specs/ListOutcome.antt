@@ -33,7 +33,7 @@ module _ {D : Type 0} (d : disk.Ghosts D) (before back : D) where
 
     -- the image isn't accepted, and this is its first fault
     abbrev pub IsUnlisted : LoadFault → Type 0
-    IsUnlisted fault = NothingWritten d before out out_now back × IsRefused d before fault
+    IsUnlisted fault = NothingWritten d before out out_now back × IsRefused d before back fault
 
     -- a read of the device failed
     abbrev pub IsUnreadable : ℕ → Type 0

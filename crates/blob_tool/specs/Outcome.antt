@@ -12,7 +12,7 @@ use Rattle.script_lang.specs.declared.schedule.Actor.{Actor}
 use Rattle.running_store.specs.declared.loaded.Loaded.{Loaded}
 use Rattle.running_store.specs.StoreView.{state_of, StoreView}
 use Rattle.repair_runs.specs.RepairRuns.{RepairRun}
-use Rattle.unclean_load.specs.Accepted.{IsAccepted, IsFaultOf, IsImageFault}
+use Rattle.unclean_load.specs.Accepted.{IsAccepted}
 use Rattle.unclean_load.specs.declared.fault.LoadFault.{LoadFault}
 use Rattle.unclean_load.specs.declared.fault.LoadFault.TheVariants as fault
 use Rattle.streams.specs.declared.source.Source as source
@@ -128,7 +128,7 @@ module _ {S : Type 0} (s : source.Ghosts S) (script script_now : S) where
     -- The image has this fault, and isn't accepted; or it is accepted, and a repair needs more pages than are clear.
     abbrev pub IsBadImage : LoadFault → Type 0
     IsBadImage (fault.NoRoom head has wants) = EndedRepairing (status.Image (fault.NoRoom head has wants))
-    IsBadImage why = NothingWritten d before out out_now back × HasScript × IsRefused d before why
+    IsBadImage why = NothingWritten d before out out_now back × HasScript × IsRefused d before back why
 
     -- a read of the device failed while the store was loaded
     abbrev pub IsUnloaded : ℕ → Type 0

@@ -6,9 +6,9 @@ use Rattle.blob_meta.specs.Repairs.{HasNoMarks}
 use Rattle.job_begins.specs.Repairs.{LacksForRepair}
 use Rattle.repair_runs.specs.RepairRuns.{marks_left, RepairRun}
 use Rattle.running_store.specs.StoreView.{base_of, rows_of, state_of, StoreView}
-use Rattle.running_store.specs.Surviving.{HasOneImage}
 use Rattle.store_model.specs.StoreState.{shown}
 use Rattle.streams.specs.declared.sink.Sink as sink
+use Rattle.blob_tool.specs.Found.{HasSoundImage}
 use Rattle.blob_tool.specs.Surviving.{RunSurvives}
 use Rattle.blob_tool.specs.declared.repairing.RepairsEnd.{RepairsEnd}
 use Rattle.blob_tool.specs.declared.repairing.RepairsEnd.TheVariants as end
@@ -67,7 +67,7 @@ module _ {D : Type 0} (d : Ghosts D) {K : Type 0} (k : sink.Ghosts K) (out out_n
     pub device : back ≡ last.disk
     pub quiet : out_now ≡ out
     pub unlogged : last.log ≡ []
-    pub survives : HasOneImage d first.disk → RunSurvives d first.super (shown (state_of d first)) last back
+    pub survives : HasSoundImage d first.disk → RunSurvives d first.super (shown (state_of d first)) last back
 
   -- A run ended with its repairs: the device failed; the next repair needs more pages than are clear; or memory ran
   -- out.

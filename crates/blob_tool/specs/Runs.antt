@@ -25,7 +25,6 @@ use Rattle.store_core.specs.Opening.{IsOpened}
 use Rattle.running_store.specs.LoadedWhole.{AreMasks}
 use Rattle.running_store.specs.Running.{super_left}
 use Rattle.running_store.specs.StoreView.{StoreView, base_of, rows_of, state_of}
-use Rattle.running_store.specs.Surviving.{HasOneImage}
 use Rattle.running_store.specs.Recovered.{IsLoadedFrom}
 use Rattle.unclean_load.specs.Accepted.{IsAccepted}
 use Rattle.blob_meta.specs.Repairs.{HasNoMarks}
@@ -38,10 +37,10 @@ use Rattle.run_moves.specs.DriverSteps.{StoreFollows}
 use Rattle.channels.specs.Actors.{actors_in_run}
 use Rattle.channels.specs.RunEnds.{ended_row}
 use Rattle.streams.specs.Printing.{IsPartOf}
-use Rattle.blob_tool.specs.Closing.{Unloads}
+use Rattle.blob_tool.specs.Closing.{LeavesClosing}
 use Rattle.blob_tool.specs.Repairing.{AreMade, EndedInRepair}
 use Rattle.blob_tool.specs.Surviving.{IsLasting, RunSurvives}
-use Rattle.blob_tool.specs.Found.{IsFound}
+use Rattle.blob_tool.specs.Found.{HasSoundImage, IsFound}
 use Rattle.blob_tool.specs.RunScripts.{printed_text}
 use Rattle.blob_tool.specs.declared.run_script.RunScript.{RunScript}
 
@@ -96,9 +95,9 @@ module _ {D : Type 0} (d : disk.Ghosts D) (script : List (List Command)) where
         pub masks : Masks
         pub claims : last.stopped ≡ None
             → AreMasks last.super (base_of last.metas last.marked) (map.get last.chains) masks
-        pub device : Unloads d (super_left last.clean last.super) masks last.disk back
-        -- power may fail at any moment, of a device that had one image
-        pub survives : HasOneImage d first.disk → RunSurvives d first.super (shown (state_of d first)) last back
+        pub device : LeavesClosing d (super_left last.clean last.super) masks last.disk back
+        -- power may fail at any moment, of a device that had one sound image
+        pub survives : HasSoundImage d first.disk → RunSurvives d first.super (shown (state_of d first)) last back
         pub printed : IsTrue k.tells → IsPartOf (k.written out) (k.written out_now) (printed_text from last.log)
 
       -- the whole text was printed
@@ -108,7 +107,7 @@ module _ {D : Type 0} (d : disk.Ghosts D) (script : List (List Command)) where
       -- the store didn't stop, and all that was written is lasting
       abbrev pub IsWhole : {first : StoreView D} → Played first → Type 0
       IsWhole {first} p = (p.last.stopped ≡ None)
-          × (HasOneImage d first.disk → IsLasting d first.super (shown (state_of d first)) p.last back)
+          × (HasSoundImage d first.disk → IsLasting d first.super (shown (state_of d first)) p.last back)
 
       -- The store stopped there, and the device was left alone from then on; or, behind all entries, the unload failed.
       abbrev pub EndsAt : {first : StoreView D} → Played first → ℕ → Type 0

@@ -1,7 +1,6 @@
 -- What a crash may leave of a device on which a script was run, at any moment since the store was loaded.
-use Rattle.std.specs.Prelude.{◌≡◌, ℕ, Some, None, false}
+use Rattle.std.specs.Prelude.{◌≡◌, ℕ, Some, None}
 use Rattle.std.specs.FinMap as map
-use Rattle.clean_stop.specs.Masks.{HasMasks}
 use Rattle.page_disk.specs.Disk.{Image, Only}
 use Rattle.page_disk.specs.Marks.{MarksKept}
 use Rattle.page_disk.specs.declared.disk.PageDisk.{Ghosts}
@@ -14,6 +13,7 @@ use Rattle.running_store.specs.LoadedWhole.{AreMasks}
 use Rattle.running_store.specs.StoreView.{base_of, StoreView}
 use Rattle.running_store.specs.Surviving.{HoldsMetadata}
 use Rattle.unclean_load.specs.Accepted.{IsAccepted}
+use Rattle.unclean_load.specs.Quick.{HasNoHeadBesideMask, IsQuick}
 
 -- a store that began with this super block and these volumes, at the end of its run, and the device that is left
 module _ {D : Type 0} (d : Ghosts D) (s : Super) (first : Volumes) (p : StoreView D) (back : D) where
@@ -33,16 +33,17 @@ module _ {D : Type 0} (d : Ghosts D) (s : Super) (first : Volumes) (p : StoreVie
     pub stopped : (at : ℕ) → p.stopped ≡ Some at → (image : Image) → d.images back image
         → IsAccepted s.device_pages image × RecoversAt s first p.log at image
 
-  -- The super block says that the store is clean, and the masks on the device are those that its metadata claims.
+  -- The super block says that the store is clean; the masks on the device are those that its metadata claims; and no
+  -- page outside of the blob-id mask is a head.
   pub record IsLeftClean : Type 0 where
-    pub clean : (super_of (d.now back 0) s.device_pages).clean ≡ 1
     pub masks : Masks
-    pub whole : HasMasks s masks (d.now back)
+    pub quick : IsQuick (super_of (d.now back 0) s.device_pages) masks (d.now back)
     pub claims : AreMasks s (base_of p.metas p.marked) (map.get p.chains) masks
+    pub no_head : HasNoHeadBesideMask (super_of (d.now back 0) s.device_pages) (d.now back)
 
-  -- The device has one image, which holds just the metadata that the store has of it in memory, marks and all; and where
-  -- the store was in use it is left clean.
+  -- The device has one image, which holds just the metadata that the store has of it in memory, marks and all, and
+  -- which is clean: the next load needs its masks alone.
   pub record IsLasting : Type 0 where
     pub one_image : Only (d.now back) (d.images back)
     pub holds : HoldsMetadata s (base_of p.metas p.marked) (map.get p.chains) (d.now back)
-    pub unloaded : p.clean ≡ false → IsLeftClean
+    pub unloaded : IsLeftClean

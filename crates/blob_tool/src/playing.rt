@@ -1,16 +1,16 @@
 //! A loaded store is repaired, and a script is run on it to its end.
 
-ghost use Rattle.std.specs.Prelude.{◌≡◌, ◌≤◌, ◌+◌, ℕ, List, [], None, length, slice_index_or, IsTrue};
+ghost use Rattle.std.specs.Prelude.{◌≡◌, ◌≤◌, ◌+◌, ℕ, List, [], None, length, slice_index_or};
 ghost use Rattle.std.specs.List.{All};
 ghost use Rattle.std.specs.FinMap as map;
 ghost use Rattle.blob_meta.specs.Repairs.{HasNoMarks};
+ghost use Rattle.blob_tool.specs.Found.{ReadsAs};
 ghost use Rattle.blob_tool.specs.Repairing.{AreMade};
 ghost use Rattle.blob_tool.specs.Runs.{Ended, EndedFrom};
 ghost use Rattle.channels.specs.Served.{AreServed};
 ghost use Rattle.running_store.specs.Recovered.{base_of, IsLoadedFrom};
 ghost use Rattle.store_core.specs.StoreInvariant.{StoreInvariant};
 ghost use Rattle.running_store.specs.StoreView.{rows_of, state_of};
-ghost use Rattle.running_store.specs.Surviving.{HoldsMetadata};
 ghost use Rattle.script_lang.specs.Served.{IsServed};
 ghost use Rattle.store_core.specs.Opening.{AreRows};
 ghost use Rattle.store_model.specs.Filling.{unused_row};
@@ -32,7 +32,7 @@ use std::alloc::Global;
 use store_core::{Loaded, MdRight, Parts, Plant};
 use store_model::state_stops;
 use streams::Sink;
-use unclean_load::stores_are_accepted;
+use unclean_load::{clean_stores_are_quick, fixed_clusters_decide, stores_are_accepted};
 use volume_model::Script;
 
 /// The device of a loaded store.
@@ -61,9 +61,12 @@ fn run_repaired<K: Sink, D: PageDisk>(
     schedule: &Schedule,
     plant: Plant<D>,
     right: MdRight,
+    quick: bool,
     out: &mut K,
 ) -> (Status, D)
     requires right { right ≡ plant.right }
+    requires read { ReadsAs D.PageDisk quick plant.opening.super (base_of plant.opening.metas plant.opening.marked)
+        (map.get plant.opening.chains) plant.opening.disk }
     requires seventeen { length plant.opening.rows ≡ 17 }
     requires served { AreServed plant.at.rows }
     requires unused { rows_of plant.at.rows fill_row ≡ unused_row }
@@ -74,6 +77,8 @@ fn run_repaired<K: Sink, D: PageDisk>(
 {
     state_stops();
     stores_are_accepted();
+    clean_stores_are_quick();
+    fixed_clusters_decide();
     unloaded_masks_are_read();
     let (plant, right, _end) = run_stepwise(alloc, plant, right, schedule);
     let stopped = plant.stopped();
@@ -83,7 +88,14 @@ fn run_repaired<K: Sink, D: PageDisk>(
         masks,
         entries,
     } = plant.into_parts(right);
-    let ended = close(&mut disk, &mut sup, &masks, stopped, entries.len() as u32);
+    let ended = close(
+        &mut disk,
+        &mut sup,
+        &masks,
+        quick,
+        stopped,
+        entries.len() as u32,
+    );
     let printed = report(alloc, from, entries.as_slice(), out);
     (Status::of_run(ended, printed), disk)
 }
@@ -116,16 +128,18 @@ pub(crate) fn play<K: Sink, D: PageDisk>(
 ) -> (Status, D)
     requires recovered { IsLoadedFrom (base_of loaded.metas loaded.marked) loaded }
     requires faultless { IsFaultless loaded.sup }
-    requires holds { IsTrue D.tells
-        → HoldsMetadata loaded.sup (base_of loaded.metas loaded.marked) (map.get loaded.chains) (D.now loaded.disk) }
+    requires read { ReadsAs D.PageDisk loaded.quick loaded.sup (base_of loaded.metas loaded.marked)
+        (map.get loaded.chains) loaded.disk }
     requires inside { loaded.sup.md_start + loaded.sup.md_len ≤ D.pages loaded.disk }
-    requires device { loaded.sup.device_pages ≤ D.pages loaded.disk }
     requires all_served { (channel : ℕ) → All IsServed (slice_index_or script channel []) }
     ensures { EndedFrom D.PageDisk script schedule.now from K.Sink out.old out.new result.1 loaded result.0 }
 {
     state_stops();
     stores_are_accepted();
+    clean_stores_are_quick();
+    fixed_clusters_decide();
     unloaded_masks_are_read();
+    let quick = loaded.quick;
     let (mut plant, mut right) = match Plant::start(alloc, loaded, script) {
         Ok(made) => made,
         Err(loaded) => return (Status::Memory, disk_of(loaded)),
@@ -133,6 +147,6 @@ pub(crate) fn play<K: Sink, D: PageDisk>(
     let end = repair(&mut plant, &mut right);
     match end.status() {
         Some(status) => (status, device_left(plant, right)),
-        None => run_repaired(alloc, from, schedule, plant, right, out),
+        None => run_repaired(alloc, from, schedule, plant, right, quick, out),
     }
 }

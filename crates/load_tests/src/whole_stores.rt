@@ -7,7 +7,7 @@ use std::alloc::Global;
 use std::test::Fail;
 use super_block::Masks;
 use test_stores::{LAST, PageRow, THIN, image};
-use unclean_load::{clean_stores_are_quick, load, stores_are_accepted};
+use unclean_load::{clean_stores_are_quick, fixed_clusters_decide, load, stores_are_accepted};
 
 /// An attribute `name` of value `a`.
 const NAME: &[u8] = b"\x02\x0a\0\0\0\x04\0\x02\0namea\0";
@@ -77,6 +77,7 @@ fn members(alloc: Global, bits: &Bits) -> Result<String, Fail> {
 #[test]
 fn a_blob_with_a_chain_of_three_pages_is_loaded_whole(rt: HostRuntime) -> Result<(), Fail> {
     stores_are_accepted();
+    fixed_clusters_decide();
     let (metas, chains, _, _) = whole(rt.alloc())?;
     assert_eq!(rt;
         blob_line(rt.alloc(), &metas, &chains)?.as_str(),

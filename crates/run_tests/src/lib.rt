@@ -24,6 +24,8 @@ mod page_faults;
 #[cfg(test)]
 mod pages;
 #[cfg(test)]
+mod quick_loads;
+#[cfg(test)]
 mod slots;
 #[cfg(test)]
 mod unloads;

@@ -13,20 +13,20 @@ use Rattle.store_model.specs.RunInvariant.{RunInvariant}
 use Rattle.store_model.proofs.Going.{survives_start}
 use Rattle.store_model.proofs.Over.{CrashLaws, Over}
 use Rattle.store_model.proofs.Turns as turns
+use Rattle.clean_images.specs.CleanImages.{CleanImages}
 use Rattle.running_store.proofs.Showing.{loaded_alike}
 use Rattle.metadata_turns.specs.JobTurns.{TurnsJob}
-use Rattle.store_core.specs.StoreInvariant.{StoreInvariant, opening_script}
+use Rattle.store_core.specs.StoreInvariant.{OpensAsRead, StoreInvariant, opening_script}
 use Rattle.running_store.specs.TurnMade.{TurnMade}
 use Rattle.running_store.specs.StoreView.{StoreView, WithOpening, base_of, state_of}
-use Rattle.running_store.specs.Surviving.{HasOneImage, HoldsMetadata, OldOrNew}
+use Rattle.running_store.specs.Surviving.{OldOrNew}
 
 module _ {D : Type 0} (d : Ghosts D) (laws : CrashLaws)
     (law : IsTrue d.tells → Telling d.now d.images d.since d.clock) where
   pub kept_begins : (p : StoreView D) → IsLoadedWith p.super (state_of d p) → Opens (state_of d p) → IsFaultless p.super
-      → IsPlaced p.super
-      → (IsTrue d.tells → HoldsMetadata p.super (base_of p.metas p.marked) (map.get p.chains) (d.now p.disk))
+      → IsPlaced p.super → (OpensAsRead d p → CleanImages d p.super (d.now p.disk) (state_of d p) p.disk)
       → (right : ℕ) → StoreInvariant d (record { at = p; opening = p; right = right })
-  kept_begins p loaded opens faultless placed holds right =
+  kept_begins p loaded opens faultless placed images right =
       let facts : RunInvariant p.super (shown (state_of d p)) (opening_script p) (state_of d p) =
       laws.plants.begin p.super (state_of d p) loaded opens in
       record {
@@ -36,8 +36,10 @@ module _ {D : Type 0} (d : Ghosts D) (laws : CrashLaws)
         facts = facts;
         placed = placed;
         named = loaded_alike p.super (state_of d p) loaded;
-        survives = λ one. survives_start d laws one.0 law p.super placed (shown (state_of d p)) (opening_script p)
-            (state_of d p) p.disk refl refl opens.log opens.marks opens.stopped opens.job facts one.1 (holds one.0);
+        survives = λ read. survives_start d laws read.one.0 law p.super placed (shown (state_of d p))
+            (opening_script p) (state_of d p) p.disk refl refl opens.log opens.marks opens.stopped opens.job facts
+            read.one.1 read.holds;
+        images = images;
       }
 
   module _ (p : WithOpening D) (q : StoreView D) (kind : Kind) (kept : StoreInvariant d p)
@@ -46,11 +48,11 @@ module _ {D : Type 0} (d : Ghosts D) (laws : CrashLaws)
     facts_after = laws.plants.keep d.tells p.opening.super (shown (state_of d p.opening)) (opening_script p.opening)
         (state_of d p.at) (state_of d q) kind kept.placed kept.facts made.0
 
-    over : HasOneImage d p.opening.disk → Over d
-    over one = record {
+    over : OpensAsRead d p.opening → Over d
+    over read = record {
       laws = laws;
-      told = one.0;
-      law = law one.0;
+      told = read.one.0;
+      law = law read.one.0;
       s = p.opening.super;
       placed = kept.placed;
       first = shown (state_of d p.opening);
@@ -63,14 +65,16 @@ module _ {D : Type 0} (d : Ghosts D) (laws : CrashLaws)
       to_is = refl;
       from_tells = refl;
       to_tells = refl;
-      old = kept.survives one;
+      old = kept.survives read;
       facts = kept.facts;
       after = facts_after;
     }
 
-    pub kept_goes_on : StoreInvariant d (record { at = q; opening = p.opening; right = p.right })
+    pub kept_goes_on : (OpensAsRead d p.opening
+        → CleanImages d p.opening.super (d.now p.opening.disk) (state_of d q) q.disk)
+        → StoreInvariant d (record { at = q; opening = p.opening; right = p.right })
     unfolding over
-    kept_goes_on = record {
+    kept_goes_on images = record {
       began = kept.began;
       faultless = kept.faultless;
       run = (
@@ -81,17 +85,18 @@ module _ {D : Type 0} (d : Ghosts D) (laws : CrashLaws)
       facts = facts_after;
       placed = kept.placed;
       named = kept.named;
-      survives = λ one. turns.survives d (over one) kind made.0 made.1;
+      survives = λ read. turns.survives d (over read) kind made.0 made.1;
+      images = images;
     }
 
-    pub leaves_here : HasOneImage d p.opening.disk
+    pub leaves_here : OpensAsRead d p.opening
         → p.at.stopped ≡ None → (job : JobState) → p.at.job ≡ Some job → CallsLeaveOnly d p.at.disk q.disk
         (OldOrNew p.opening.super (base_of p.at.metas p.at.marked) (map.get p.at.chains) job.todo)
     unfolding over
-    leaves_here one runs job is _ = turns.leaves_old_or_new d (over one) kind made.0 made.1 runs job is
+    leaves_here read runs job is _ = turns.leaves_old_or_new d (over read) kind made.0 made.1 runs job is
 
   pub leaves_old_or_new : (p : WithOpening D) (q : StoreView D) (job : JobState) → StoreInvariant d p
-      → TurnsJob d p.at q → HasOneImage d p.opening.disk → p.at.stopped ≡ None → p.at.job ≡ Some job
+      → TurnsJob d p.at q → OpensAsRead d p.opening → p.at.stopped ≡ None → p.at.job ≡ Some job
       → CallsLeaveOnly d p.at.disk q.disk
       (OldOrNew p.opening.super (base_of p.at.metas p.at.marked) (map.get p.at.chains) job.todo)
-  leaves_old_or_new p q job kept turn one runs is = leaves_here p q turn.kind kept turn.made one runs job is
+  leaves_old_or_new p q job kept turn read runs is = leaves_here p q turn.kind kept turn.made read runs job is

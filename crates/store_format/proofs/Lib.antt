@@ -2,4 +2,5 @@ mod Regions
 mod NewStore
 mod SuperBlobPage
 mod FirstPage
+mod NewMasks
 mod Loading

@@ -6,9 +6,14 @@ use Rattle.std.specs.List.{range_with_len, sum_by}
 use Rattle.std.specs.Option.{option_and_then, option_map_or}
 use Rattle.std.proofs.lemmas.Bool.{cases_Bool, ltb-true}
 use Rattle.std.proofs.lemmas.List.Sums.{sum_by-cons}
+use Rattle.bit_array.specs.Mask.{mask_pages}
+use Rattle.clean_stop.specs.Masks.{HasMasks}
 use Rattle.crc32c.proofs.Zeros.{is_sound-zeros}
+use Rattle.crc32c.specs.Crc.{is_sound}
 use Rattle.page_disk.specs.Disk.{Image}
-use Rattle.super_block.specs.Faults.{clusters_fault, pages_fault, super_fault}
+use Rattle.running_store.specs.LoadedWhole.{AreMasks}
+use Rattle.super_block.specs.Faults.{clusters_fault, fault_of, pages_fault, super_fault, IsFaultless}
+use Rattle.super_block.specs.Placed.{IsLaidOut}
 use Rattle.super_block.specs.Layout.{cluster_pages_fault, layout_of, new_super, plan_fault, room_fault, IsPlanned}
 use Rattle.super_block.specs.Page.{super_of}
 use Rattle.super_block.proofs.Passed.{all_pass, few_pages, AllPass}
@@ -27,8 +32,11 @@ use Rattle.store_model.specs.Regions.{look_of, region_of, MdRegion}
 use Rattle.store_model.specs.Scans.{is_head, BlobAt, Says}
 use Rattle.store_model.specs.Steady.{AreNamed}
 use Rattle.store_model.proofs.NewBlob.{new_steady, two_written}
-use Rattle.unclean_load.specs.Accepted.{IsAccepted, StoresAreAccepted}
-use Rattle.store_format.specs.NewStore.{first_super, md_page, zero_page, IsNewStore, IsReadAsPlanned}
+use Rattle.unclean_load.proofs.Accepting.{faultless_by}
+use Rattle.unclean_load.specs.Accepted.{CanBeScanned, IsAccepted, UnloadedAreAccepted}
+use Rattle.unclean_load.specs.Quick.{UnloadedAreQuick}
+use Rattle.store_format.proofs.NewMasks.{are_masks, clusters_long}
+use Rattle.store_format.specs.NewStore.{first_masks, first_super, md_page, zero_page, IsNewStore, IsReadAsPlanned}
 use Rattle.store_format.specs.NewStore.{LoadsAsPlanned}
 use Rattle.store_format.specs.SuperBlob.{new_chains, new_metas, page_of, store_xattrs, super_blob_page, super_items}
 use Rattle.store_format.specs.SuperBlob.{super_meta, AreReadable, IsReadable}
@@ -119,6 +127,15 @@ planned_md plan blob sum s is = (
   ap (λ (t : Super). t.md_start) is ∙ (first_md plan blob).0,
   ap (λ (t : Super). t.md_len) is ∙ (first_md plan blob).1,
 )
+
+-- where the masks stand, and that the store is clean
+first_starts : (plan : Layout) (blob : Option (List ℕ))
+    → ((first_super plan blob).used_page_mask_start ≡ plan.page_mask_start)
+    × ((first_super plan blob).used_cluster_mask_start ≡ plan.cluster_mask_start)
+    × ((first_super plan blob).used_blobid_mask_start ≡ plan.blob_mask_start) × ((first_super plan blob).clean ≡ 1)
+unfolding new_super
+first_starts plan None = (refl, refl, refl, refl)
+first_starts plan (Some page) = (refl, refl, refl, refl)
 
 -- there are few metadata pages
 pub few_md_pages : (plan : Layout) → IsPlanned plan → plan.md_pages ≤ 2 ^ 20
@@ -220,31 +237,88 @@ module _ (plan : Layout) (named : Option StoreName) (image : Image) (some : 0 < 
   bare : AreBare (new_metas named)
   bare = new_bare named
 
-  -- a new store is accepted, and holds the super blob alone, if it has one
-  loads_as_planned : StoresAreAccepted → ScanLaws → LoadsAsPlanned plan named image
-  loads_as_planned accepts scans = record {
-    sum = read.sum;
-    super_is = sup_is;
-    accepted = subst (λ (n : ℕ). IsAccepted n image) same_pages
-        (accepts sup image (new_metas named) (new_chains named) faultless read_again says
-        (few_slots (new_metas named) bare sup.md_len)
-        (bare_are_named (resolved (new_metas named)) (resolved_bare (new_metas named) bare))
-        (bare_is_lawful (resolved (new_metas named)) (resolved_bare (new_metas named) bare) sup.md_len));
-    holds = record {
-      store = record { faultless = faultless; same = subst (IsSameStore sup) read_again refl };
-      says = says;
-    };
-    no_other = λ metas chains other head.
-        scans.one (look_of (region_of sup) image) (region_of sup) metas (new_metas named) chains (new_chains named)
-        other says head;
+  -- its super block has no fault, and says that the store is clean
+  fine : IsFaultless sup
+  fine =
+      faultless_by (is_sound (image 0)) sup
+      (ap (λ (t : Super). fault_of (is_sound (image 0)) t) read_again ∙ faultless)
+
+  starts : (sup.used_page_mask_start ≡ plan.page_mask_start) × (sup.used_cluster_mask_start ≡ plan.cluster_mask_start)
+      × (sup.used_blobid_mask_start ≡ plan.blob_mask_start) × (sup.clean ≡ 1)
+  starts =
+      let first = first_starts plan (page_of named) in (
+        ap (λ (t : Super). t.used_page_mask_start) sup_is ∙ first.0,
+        ap (λ (t : Super). t.used_cluster_mask_start) sup_is ∙ first.1,
+        ap (λ (t : Super). t.used_blobid_mask_start) sup_is ∙ first.2,
+        ap (λ (t : Super). t.clean) sup_is ∙ first.3,
+      )
+
+  can_be_scanned : CanBeScanned sup image (new_metas named) (new_chains named)
+  can_be_scanned = record {
+    faultless = faultless;
+    is = read_again;
+    says = says;
+    few = few_slots (new_metas named) bare sup.md_len;
+    named = bare_are_named (resolved (new_metas named)) (resolved_bare (new_metas named) bare);
+    lawful = bare_is_lawful (resolved (new_metas named)) (resolved_bare (new_metas named) bare) sup.md_len;
   }
+
+  module _ (planned : IsPlanned plan) (laid : IsLaidOut plan) where
+    -- its masks are what the super blob claims, if it has one
+    claims : AreMasks sup (new_metas named) (new_chains named) (first_masks plan (page_of named))
+    claims =
+        are_masks plan planned laid some named read.sum sup sup_is md_is.1
+        (λ c x. let bad = sym (no_cluster x.meta (bare x.head x.meta x.there).0 x.place) ∙ x.in_slot in cc bad)
+
+    -- and stand where the super block says
+    has_masks : HasMasks sup (first_masks plan (page_of named)) image
+    has_masks = record {
+      pages =
+          λ k lt. ap (λ (n : ℕ). image (n + k)) starts.0
+          ∙ new.regions.page_mask k
+          (subst (λ (n : ℕ). k < n) (ap mask_pages (claims.pages.count ∙ md_is.1) ∙ sym laid.page_mask_len) lt);
+      clusters =
+          λ k lt. ap (λ (n : ℕ). image (n + k)) starts.1
+          ∙ new.regions.cluster_mask k
+          (subst (λ (n : ℕ). k < n)
+          (ap mask_pages (clusters_long plan laid (page_of named)) ∙ sym laid.cluster_mask_len) lt);
+      blobs =
+          λ k lt. ap (λ (n : ℕ). image (n + k)) starts.2
+          ∙ new.regions.blob_mask k
+          (subst (λ (n : ℕ). k < n) (ap mask_pages (claims.count ∙ md_is.1) ∙ sym laid.blob_mask_len) lt);
+    }
+
+    -- a new store is accepted by its masks, and holds the super blob alone, if it has one
+    loads_as_planned : UnloadedAreQuick → UnloadedAreAccepted → ScanLaws → LoadsAsPlanned plan named image
+    loads_as_planned quick accepts scans =
+        let by_masks =
+        quick sup (first_masks plan (page_of named)) image (new_metas named) (new_chains named) fine starts.3 has_masks
+        says (few_slots (new_metas named) bare sup.md_len) claims in
+        record {
+          sum = read.sum;
+          super_is = sup_is;
+          accepted = subst (λ (n : ℕ). IsAccepted n image) same_pages
+              (accepts sup (first_masks plan (page_of named)) image (new_metas named) (new_chains named) can_be_scanned
+              starts.3 has_masks claims);
+          quick = by_masks.0;
+          no_head = by_masks.1;
+          holds = record {
+            store = record { faultless = faultless; same = subst (IsSameStore sup) read_again refl };
+            says = says;
+          };
+          no_other = λ metas chains other head.
+              scans.one (look_of (region_of sup) image) (region_of sup) metas (new_metas named) chains
+              (new_chains named) other says head;
+        }
 
 -- the same by the page of its super blob
 pub loads : (plan : Layout) (named : Option StoreName) (image : Image) (blob : Option (List ℕ)) → blob ≡ page_of named
-    → 0 < plan.md_pages → plan.md_pages ≤ 2 ^ 20 → AreReadable named → StoresAreAccepted → ScanLaws
-    → IsNewStore plan blob image → IsReadAsPlanned plan blob → LoadsAsPlanned plan named image
-loads plan named image blob is some few readable accepts scans =
+    → 0 < plan.md_pages → plan.md_pages ≤ 2 ^ 20 → AreReadable named → IsPlanned plan → IsLaidOut plan
+    → UnloadedAreQuick → UnloadedAreAccepted → ScanLaws → IsNewStore plan blob image → IsReadAsPlanned plan blob
+    → LoadsAsPlanned plan named image
+loads plan named image blob is some few readable planned laid quick accepts scans =
     subst
     (λ (b : Option (List ℕ)). IsNewStore plan b image → IsReadAsPlanned plan b → LoadsAsPlanned plan named image)
     (sym is)
-    (λ new read. loads_as_planned plan named image some few readable new read accepts scans)
+    (λ new read.
+    loads_as_planned plan named image some few readable new read planned laid quick accepts scans)

@@ -16,6 +16,7 @@ use Rattle.store_model.specs.Regions.{region_of}
 use Rattle.store_model.specs.Scans.{Says}
 use Rattle.store_model.specs.Surviving.{HoldsMetadata}
 use Rattle.unclean_load.specs.Accepted.{IsAccepted}
+use Rattle.unclean_load.specs.Quick.{HasNoHeadBesideMask, IsQuick}
 use Rattle.page_runs.specs.Writing.{IsAnyBut, IsBetween}
 use Rattle.store_format.specs.SuperBlob.{new_chains, new_metas, page_of}
 use Rattle.store_format.specs.declared.fault.FormatFault.{FormatFault}
@@ -85,12 +86,14 @@ IsUnderWay plan super_blob images image =
     IsAnyBut (IsBetween 1 (md_end_of plan)) images image
     ⊎ (IsNewStore plan super_blob image × IsAnyBut (IsBetween 0 (md_end_of plan)) images image)
 
--- The image is accepted as the planned store, whose sum the page holds. It says the super blob alone, if the store has
--- a name, and else no blob; and whatever it says is that.
+-- The image is accepted as the planned store, whose sum the page holds: it is loaded by its masks, beside which no head
+-- stands. It says the super blob alone, if the store has a name, and else no blob; and whatever it says is that.
 pub record LoadsAsPlanned (plan : Layout) (named : Option StoreName) (image : Image) : Type 0 where
   pub sum : ℕ
   pub super_is : super_of (image 0) plan.device_pages ≡ record (first_super plan (page_of named)) { crc = sum }
   pub accepted : IsAccepted plan.device_pages image
+  pub quick : IsQuick (super_of (image 0) plan.device_pages) (first_masks plan (page_of named)) image
+  pub no_head : HasNoHeadBesideMask (super_of (image 0) plan.device_pages) image
   pub holds : HoldsMetadata (super_of (image 0) plan.device_pages) (new_metas named) (new_chains named) image
   pub no_other : (metas : Metas) (chains : Chains)
       → Says (region_of (super_of (image 0) plan.device_pages)) metas chains image →

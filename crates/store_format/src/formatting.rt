@@ -19,7 +19,7 @@ use page_runs::{Content, write_pages};
 use std::alloc::Global;
 use store_model::scans;
 use super_block::{Layout, Masks, Super, layouts_are_placed, write_super};
-use unclean_load::stores_are_accepted;
+use unclean_load::clean_stores_are_quick;
 
 /// The masks of a new store, which may have a super blob.
 fn masks_of(alloc: Global, layout: &Layout, super_blob: Option<Page>) -> Result<Masks, Memory>
@@ -167,8 +167,9 @@ pub fn write_store<D: PageDisk>(
     ensures writes { Writes D.PageDisk layout.now (page_said (option_copied named.entry)) disk.old disk.new }
     ensures cause { IfErr result (IsCause D.PageDisk disk.old disk.new) }
 {
+    layouts_are_placed();
     scans();
-    stores_are_accepted();
+    clean_stores_are_quick();
     let super_blob = page_of(alloc, named)?;
     let masks = masks_of(alloc, layout, super_blob)?;
     write_new(disk, layout, &masks, super_blob)?;

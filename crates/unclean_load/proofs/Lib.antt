@@ -1,12 +1,15 @@
 pub mod Places
+pub mod PlaceSays
 pub mod Attributes
 pub mod Taken
 pub mod Sums
+pub mod FewPages
 pub mod HeadWalk
 pub mod HeadFaults
 pub mod Marks
 pub mod Counts
 pub mod Slots
+pub mod ClaimedClusters
 pub mod OfResolved
 pub mod Ancestors
 pub mod WalkSteps
@@ -18,4 +21,11 @@ pub mod ChainsOf
 pub mod RecoveryFaults
 pub mod Recovery
 pub mod MarkedRead
+pub mod MaskTexts
+pub mod MaskRead
+pub mod MasksOnDevice
+pub mod MaskClaims
 pub mod Quick
+pub mod SamePages
+pub mod FoundBlobs
+pub mod UsedHeads

@@ -1,8 +1,5 @@
 -- What was read of a store is whole.
-use Rattle.std.proofs.Common.{◌≡◌, ℕ, ◌<◌, false, List, Option, Some, None, refl, sym, subst, ◌∙◌, inl, inr, arith}
-use Rattle.std.specs.Prelude.{nat_lt}
-use Rattle.std.proofs.lemmas.Bool.{cases_lt}
-use Rattle.std.proofs.lemmas.Bool.Decides.{nat_tests}
+use Rattle.std.proofs.Common.{◌≡◌, ℕ, ◌<◌, List, Option, Some, None, refl, sym, subst, ◌∙◌}
 use Rattle.page_disk.specs.Disk.{Image}
 use Rattle.super_block.specs.declared.page.Super.{Super}
 use Rattle.blob_meta.specs.declared.meta.Meta.{Meta}
@@ -18,14 +15,16 @@ use Rattle.store_model.specs.Recovers.{IsSameStore}
 use Rattle.store_model.specs.Scans.{Says}
 use Rattle.store_model.specs.Maps.{Metas, Chains}
 use Rattle.store_model.specs.Regions.{MdRegion, region_of, look_of}
-use Rattle.store_model.proofs.Scanning.{apart}
 use Rattle.unclean_load.specs.declared.fault.LoadFault.{LoadFault}
 use Rattle.unclean_load.specs.declared.fault.LoadFault.TheVariants as fault
-use Rattle.unclean_load.specs.Accepted.{SuperAt, IsFaultOf, ParentFails}
+use Rattle.unclean_load.specs.declared.heads.Heads.{Heads}
+use Rattle.unclean_load.specs.Accepted.{FailsBy, IsFaultBy, ParentFails, StoreFails, SuperAt}
 use Rattle.unclean_load.specs.Claiming.{AreChains, IsInTwo, IsTwice, IsRecoveryFault}
-use Rattle.unclean_load.specs.Heads.{AreWhole, AreWholeBelow, IsHeadsFault}
+use Rattle.unclean_load.specs.Heads.{AreWhole}
+use Rattle.unclean_load.specs.Quick.{IsFaultFound, ShowsBy}
 use Rattle.unclean_load.specs.Parents.{ShowsParentFirst}
-use Rattle.unclean_load.specs.Reading.{AreRead, HasNoneFrom, IsChainOf}
+use Rattle.unclean_load.specs.Reading.{AreRead, IsChainOf}
+use Rattle.unclean_load.proofs.PlaceSays.{apart}
 
 -- ---- chains
 
@@ -42,21 +41,22 @@ module _ (s : Super) (metas : Metas) (chains : Chains) (read : AreRead s metas c
   pub read_chains : AreChains s.md_len chains
   read_chains head pages there = one_chain head pages (metas head) refl there
 
--- ---- every head of the region
+-- ---- places in two chains
 
--- blobs that are whole below the region's end, with none behind it, are whole
-pub whole_region : (look : Look) (r : MdRegion) (metas : Metas) (chains : Chains)
-    → AreWholeBelow look r r.len metas chains → HasNoneFrom metas r.len
-    → ((head : ℕ) → metas head ≡ None → chains head ≡ None) → AreWhole look r metas chains
-whole_region look r metas chains below none no_chain = record {
-  says = λ head. elim (cases_lt head r.len) [
-    | inl lt ↦ below.blobs head lt
-    | inr ge ↦
-        let out : nat_lt head r.len ≡ false = grind (arith, nat_tests) in
-        inr (record { no_head = rw out refl; no_meta = none head ge; no_chain = no_chain head (none head ge) })
-  ];
-  few = below.few;
-}
+module _ (look : Look) (r : MdRegion) (heads : Heads) (metas : Metas) (chains : Chains)
+    (whole : AreWhole look r heads metas chains) where
+  -- where the heads are whole, no place is in two chains
+  pub not_twice : (head : ℕ) (why : ChainFault) → IsTwice (IsInTwo chains) head why → ⊥
+  not_twice head (chain.Loop place) x =
+      x.differs (apart look r heads metas chains whole x.other head place x.others x.pages x.other_chain x.chain
+      x.other_among x.among)
+  not_twice head (chain.LinkPastEnd a b) x = x
+  not_twice head chain.ReadFault x = x
+  not_twice head (chain.Unsound a) x = x
+  not_twice head (chain.WrongId a b) x = x
+  not_twice head (chain.WrongSequence a b d) x = x
+  not_twice head (chain.BadItem a b d) x = x
+  not_twice head chain.Memory x = x
 
 -- ---- the image of a store
 
@@ -77,60 +77,55 @@ holds_metadata d before after s metas chains at pages says same =
 
 -- ---- faults of an image
 
-module _ (pages : ℕ) (image : Image) where
-  module _ (s : Super) (at : SuperAt pages image s) where
-    -- and so is the first fault that a head shows
-    pub heads_fail : (why : LoadFault) → IsHeadsFault (look_of (region_of s) image) (region_of s) why
-        → IsFaultOf pages image why
-    heads_fail (fault.Super e) x = absurd x.shows
+module _ (kind : Super → Image → Heads → Type 0) (pages : ℕ) (image : Image) (s : Super) (at : SuperAt pages image s)
+  where
+    by_shown : (why : LoadFault) → ((x : ShowsBy (kind s image) (look_of (region_of s) image) (region_of s) why)
+        → FailsBy s image x.heads why) → ShowsBy (kind s image) (look_of (region_of s) image) (region_of s) why
+        → StoreFails kind pages image why
+    by_shown why fails x = record { sup = s; super_at = at; heads = x.heads; are = x.are_used; fails = fails x }
+
+    -- the first fault that a head shows is one of the image
+    pub heads_fail : (why : LoadFault) → IsFaultFound (kind s image) (look_of (region_of s) image) (region_of s) why
+        → IsFaultBy kind pages image why
+    heads_fail (fault.Super e) x = absurd x.shows.shows
     heads_fail fault.ReadFault x = tt
     heads_fail fault.Memory x = tt
-    heads_fail (fault.Chain head e) x = record { sup = s; super_at = at; shows = x }
-    heads_fail (fault.Meta head e) x = record { sup = s; super_at = at; shows = x }
-    heads_fail (fault.MapsTooLarge slots) x = record { sup = s; super_at = at; shows = x }
-    heads_fail (fault.NoParentBlob blob parent) x = absurd x.shows
-    heads_fail (fault.WritableParent blob parent) x = absurd x.shows
-    heads_fail (fault.ParentLoop blob) x = absurd x.shows
-    heads_fail (fault.Shared cluster a b) x = absurd x.shows
-    heads_fail (fault.NoRoom head has wants) x = absurd x.shows
+    heads_fail (fault.Chain head e) x = by_shown (fault.Chain head e) (λ y. y.shows) x
+    heads_fail (fault.Meta head e) x = by_shown (fault.Meta head e) (λ y. y.shows) x
+    heads_fail (fault.MapsTooLarge slots) x = by_shown (fault.MapsTooLarge slots) (λ y. y.shows) x
+    heads_fail (fault.NoParentBlob blob parent) x = absurd x.shows.shows
+    heads_fail (fault.WritableParent blob parent) x = absurd x.shows.shows
+    heads_fail (fault.ParentLoop blob) x = absurd x.shows.shows
+    heads_fail (fault.Shared cluster a b) x = absurd x.shows.shows
+    heads_fail (fault.NoRoom head has wants) x = absurd x.shows.shows
 
-    module _ (metas : Metas) (chains : Chains)
-        (whole : AreWhole (look_of (region_of s) image) (region_of s) metas chains) where
-      not_twice : (head : ℕ) (why : ChainFault) → IsTwice (IsInTwo chains) head why → ⊥
-      not_twice head (chain.Loop place) x =
-          x.differs (apart (look_of (region_of s) image)
-          (region_of s) metas chains whole.says x.other head place x.others x.pages x.other_chain x.chain x.other_among
-          x.among)
-      not_twice head (chain.LinkPastEnd a b) x = x
-      not_twice head chain.ReadFault x = x
-      not_twice head (chain.Unsound a) x = x
-      not_twice head (chain.WrongId a b) x = x
-      not_twice head (chain.WrongSequence a b d) x = x
-      not_twice head (chain.BadItem a b d) x = x
-      not_twice head chain.Memory x = x
+-- heads by which all are whole
+module _ (kind : Super → Image → Heads → Type 0) (pages : ℕ) (image : Image) (s : Super) (at : SuperAt pages image s)
+    (heads : Heads) (are : kind s image heads) where
+  shown : (why : LoadFault) → FailsBy s image heads why → StoreFails kind pages image why
+  shown why x = record { sup = s; super_at = at; heads = heads; are = are; fails = x }
 
-      parents_fail : (why : LoadFault) → ShowsParentFirst (resolved metas) why → ParentFails pages image why
-      parents_fail why x = record { sup = s; super_at = at; metas = metas; chains = chains; whole = whole; shows = x }
+  module _ (metas : Metas) (chains : Chains)
+      (whole : AreWhole (look_of (region_of s) image) (region_of s) heads metas chains) where
+    parents_fail : (why : LoadFault) → ShowsParentFirst (resolved metas) why → ParentFails s image heads why
+    parents_fail why x = record { metas = metas; chains = chains; whole = whole; shows = x }
 
-      -- and so is a fault of what is resolved, where all heads are whole
-      pub recovery_fails : (why : LoadFault) → IsRecoveryFault s.md_len metas chains why → IsFaultOf pages image why
-      recovery_fails (fault.Chain head why) x = absurd (not_twice head why x)
-      recovery_fails (fault.NoParentBlob blob parent) x = parents_fail (fault.NoParentBlob blob parent) x
-      recovery_fails (fault.WritableParent blob parent) x = parents_fail (fault.WritableParent blob parent) x
-      recovery_fails (fault.ParentLoop blob) x = parents_fail (fault.ParentLoop blob) x
-      recovery_fails (fault.Shared cluster a b) x =
-          record {
-            sup = s;
-            super_at = at;
-            metas = metas;
-            chains = chains;
-            whole = whole;
-            parents = x.0;
-            shared = x.1;
-          }
-      recovery_fails fault.Memory x = tt
-      recovery_fails fault.ReadFault x = absurd x
-      recovery_fails (fault.Super e) x = absurd x
-      recovery_fails (fault.Meta head e) x = absurd x
-      recovery_fails (fault.MapsTooLarge slots) x = absurd x
-      recovery_fails (fault.NoRoom head has wants) x = absurd x
+    -- a fault of what is resolved is one of the image too
+    pub recovery_fails : (why : LoadFault) → IsRecoveryFault s.md_len metas chains why → IsFaultBy kind pages image why
+    recovery_fails (fault.Chain head why) x =
+        absurd (not_twice (look_of (region_of s) image) (region_of s) heads metas chains whole head why x)
+    recovery_fails (fault.NoParentBlob blob parent) x =
+        shown (fault.NoParentBlob blob parent) (parents_fail (fault.NoParentBlob blob parent) x)
+    recovery_fails (fault.WritableParent blob parent) x =
+        shown (fault.WritableParent blob parent) (parents_fail (fault.WritableParent blob parent) x)
+    recovery_fails (fault.ParentLoop blob) x =
+        shown (fault.ParentLoop blob) (parents_fail (fault.ParentLoop blob) x)
+    recovery_fails (fault.Shared cluster a b) x =
+        shown (fault.Shared cluster a b)
+        (record { metas = metas; chains = chains; whole = whole; parents = x.0; shared = x.1 })
+    recovery_fails fault.Memory x = tt
+    recovery_fails fault.ReadFault x = absurd x
+    recovery_fails (fault.Super e) x = absurd x
+    recovery_fails (fault.Meta head e) x = absurd x
+    recovery_fails (fault.MapsTooLarge slots) x = absurd x
+    recovery_fails (fault.NoRoom head has wants) x = absurd x

@@ -1,6 +1,6 @@
--- A clean store is loaded by its masks.
-use Rattle.std.proofs.Common.{◌≡◌, ℕ, ◌^◌, ◌<◌, ◌≤◌, Bool, true, false, List, Option, Some, None, IsSome, inl, inr}
-use Rattle.std.proofs.Common.{refl, sym, subst, arith}
+-- Clean stores, and the heads by which they are loaded.
+use Rattle.std.proofs.Common.{◌≡◌, ℕ, ◌^◌, ◌<◌, ◌≤◌, ◌⊎◌, Bool, true, false, List, Option, Some, None, IsSome, inl, inr}
+use Rattle.std.proofs.Common.{refl, sym, ap, subst, ◌∙◌, arith}
 use Rattle.std.specs.Prelude.{◌↔◌}
 use Rattle.std.proofs.lemmas.Bool.{and_parts, both_ways, cases_Bool, cases_lt, ltb-true}
 use Rattle.std.proofs.lemmas.List.{get_or_past}
@@ -9,49 +9,80 @@ use Rattle.blob_meta.specs.Resolving.{slots_together}
 use Rattle.blob_meta.specs.declared.meta.Meta.{Meta}
 use Rattle.clean_stop.specs.Masks.{MasksFit, SaysMasks}
 use Rattle.md_chain.specs.Chain.{Look}
-use Rattle.page_disk.specs.Disk.{Image}
+use Rattle.page_disk.specs.Disk.{Image, Rose}
 use Rattle.running_store.specs.LoadedWhole.{AreMasks}
 use Rattle.store_model.specs.Maps.{Metas, Chains}
 use Rattle.store_model.specs.Regions.{MdRegion, look_of, region_of}
-use Rattle.store_model.specs.Scans.{SomeBlob, Says, head_at}
+use Rattle.store_model.specs.Scans.{Says, head_at}
 use Rattle.store_model.proofs.Scanning.{is_at}
 use Rattle.super_block.specs.declared.masks.Masks.{Masks}
 use Rattle.super_block.specs.declared.page.Super.{Super}
-use Rattle.unclean_load.specs.Heads.{AreWhole}
-use Rattle.unclean_load.specs.Quick.{AreListed, HasNoOtherHead, IsHead, IsQuick, IsScanned}
+use Rattle.unclean_load.specs.Heads.{AreWhole, is_listed}
+use Rattle.unclean_load.specs.Quick.{AreHeads, AreListed, AreUsed, HasNoHeadBesideMask, HasNoOtherHead, IsQuick}
+use Rattle.unclean_load.specs.Quick.{IsReadBy}
+use Rattle.unclean_load.specs.declared.heads.Heads.{Heads}
+use Rattle.unclean_load.specs.declared.heads.Heads.TheVariants.{ByScan, Listed}
+use Rattle.unclean_load.proofs.MaskClaims.{none_of, some_of}
+use Rattle.unclean_load.proofs.PlaceSays.{scan_of, scan_of_set, set_of_scan}
 
--- the blobs of a set are all, where no other place is a head
-pub all_whole : (look : Look) (r : MdRegion) (heads : List Bool) (metas : Metas) (chains : Chains)
-    → AreListed look r heads metas chains → HasNoOtherHead look r heads → AreWhole look r metas chains
-all_whole look r heads metas chains blobs none = record {
-  says =
-      λ head. elim (cases_Bool (is_in heads head)) [
-        | inl listed ↦ inl (blobs.listed head listed)
-        | inr out ↦
-            let nothing = blobs.no_other head out in
-            inr (record { no_head = no_head head out; no_meta = nothing.0; no_chain = nothing.1 })
-      ];
-  few = blobs.few;
-}
-  where
-    no_head : (head : ℕ) → is_in heads head ≡ false → head_at look r.len head ≡ false
-    no_head head out = elim (cases_Bool (head_at look r.len head)) [
-      | inl is ↦ absurd (both_ways (is_in heads head) out (none head is))
-      | inr false_is ↦ false_is
-    ]
+-- ---- the heads of a store
 
-some_of : {o : Option Meta} {m : Meta} → o ≡ Some m → IsSome o
-some_of is = subst IsSome (sym is) refl
+-- what `unloaded_masks_are_read` says
+module _ (one : (s : Super) (a b : Masks) (image : Image) → SaysMasks s a image → SaysMasks s b image → a ≡ b)
+    (s : Super) (image : Image) where
+  -- a store has one set of heads
+  pub one_heads : (a b : Heads) → AreHeads s image a → AreHeads s image b → a ≡ b
+  one_heads ByScan ByScan x y = refl
+  one_heads ByScan (Listed places) x y = absurd (x y.0 y.1)
+  one_heads (Listed places) ByScan x y = absurd (y x.0 x.1)
+  one_heads (Listed places) (Listed others) x y =
+      let same = one s x.0 y.0 image x.1.says y.1.says in
+      ap (λ (l : List Bool). Listed l) (x.2 ∙ ap (λ (m : Masks). m.blobs) same ∙ sym y.2)
 
-none_of : {o : Option Meta} → o ≡ None → IsSome o → ⊥
-none_of is some = both_ways false refl (subst IsSome is some)
+  -- where the masks are trusted, and no read failed, a load goes by them
+  pub goes_by_masks : (old new : ℕ) (quick : Bool) (metas : Metas) (chains : Chains)
+      → IsReadBy (AreUsed old new s image) quick s image metas chains → (Rose old new → ⊥)
+      → (quick ≡ true) ↔ ((masks : Masks) × IsQuick s masks image)
+  goes_by_masks old new quick metas chains x none = (
+    λ is. to x.heads x.are_used (sym x.quick_is ∙ is),
+    λ masks. x.quick_is ∙ from x.heads x.are_used masks.0 masks.1,
+  )
+    where
+      to : (heads : Heads) → AreUsed old new s image heads → is_listed heads ≡ true
+          → (masks : Masks) × IsQuick s masks image
+      to ByScan used is = absurd (cc is)
+      to (Listed places) (inl are) is = (are.0, are.1)
+      to (Listed places) (inr failed) is = absurd (none failed.0)
 
--- a store whose masks are what its metadata claims
+      from : (heads : Heads) → AreUsed old new s image heads → (masks : Masks) → IsQuick s masks image
+          → is_listed heads ≡ true
+      from ByScan (inl are) masks quick = absurd (are masks quick)
+      from ByScan (inr failed) masks quick = absurd (none failed.0)
+      from (Listed places) used masks quick = refl
+
+  -- where no head stands beside the mask, what is loaded is what a scan says
+  pub said_by_scan : (old new : ℕ) (quick : Bool) (metas : Metas) (chains : Chains)
+      → IsReadBy (AreUsed old new s image) quick s image metas chains → HasNoHeadBesideMask s image
+      → Says (region_of s) metas chains image
+  said_by_scan old new quick metas chains x none = by x.heads x.are_used x.whole
+    where
+      by : (heads : Heads) → AreUsed old new s image heads
+          → AreWhole (look_of (region_of s) image) (region_of s) heads metas chains
+          → Says (region_of s) metas chains image
+      by ByScan used whole = scan_of (look_of (region_of s) image) (region_of s) metas chains whole
+      by (Listed places) (inl are) whole =
+          scan_of_set (look_of (region_of s) image) (region_of s) metas chains places whole
+          (subst (λ (l : List Bool). HasNoOtherHead (look_of (region_of s) image) (region_of s) l) (sym are.2)
+          (none are.0 are.1))
+      by (Listed places) (inr failed) whole = absurd (let bad = failed.1 in cc bad)
+
+-- ---- a store whose masks are what its metadata claims
+
 module _ (s : Super) (masks : Masks) (image : Image) (metas : Metas) (chains : Chains)
     (says : Says (region_of s) metas chains image) (few : slots_together s.md_len metas ≤ 2 ^ 24)
     (claims : AreMasks s metas chains masks) where
-  -- a place with a blob is in the region, and in the set
-  scanned_in : (place : ℕ) → IsScanned s image place → is_in masks.blobs place ≡ true
+  -- a head by a scan is in the region, and in the set
+  pub scanned_in : HasNoOtherHead (look_of (region_of s) image) (region_of s) masks.blobs
   scanned_in place is =
       let low : place < s.md_len = ltb-true _ _ (and_parts _ _ is).0 in
       elim (says place) [
@@ -68,38 +99,32 @@ module _ (s : Super) (masks : Masks) (image : Image) (metas : Metas) (chains : C
         (get_or_past masks.blobs place false (omega (arith, le, claims.count))) listed)
   ]
 
-  -- each of them has a blob
-  listed_blob : (place : ℕ) → is_in masks.blobs place ≡ true
-      → SomeBlob (look_of (region_of s) image) (region_of s) place (metas place) (chains place)
-  listed_blob place listed = elim (says place) [
-    | inl blob ↦ blob
+  -- and each is a head by a scan
+  is_scanned : (place : ℕ) → is_in masks.blobs place ≡ true
+      → head_at (look_of (region_of s) image) s.md_len place ≡ true
+  is_scanned place listed = elim (says place) [
+    | inl blob ↦ is_at (look_of (region_of s) image) (region_of s) place blob.meta blob.pages blob.says
     | inr none ↦ absurd (none_of none.no_meta ((claims.blobs place (inside place listed)).0 listed))
   ]
 
-  is_scanned : (place : ℕ) → is_in masks.blobs place ≡ true → IsScanned s image place
-  is_scanned place listed =
-      let blob = listed_blob place listed in
-      is_at (look_of (region_of s) image) (region_of s) place blob.meta blob.pages blob.says
-
-  -- and no other has one
-  not_listed : (place : ℕ) → is_in masks.blobs place ≡ false → (metas place ≡ None) × (chains place ≡ None)
-  not_listed place out = elim (says place) [
-    | inl blob ↦
-        absurd (both_ways (is_in masks.blobs place) out
-        (scanned_in place (is_at (look_of (region_of s) image) (region_of s) place blob.meta blob.pages blob.says)))
-    | inr none ↦ (none.no_meta, none.no_chain)
+  same_heads : (place : ℕ) → is_in masks.blobs place ≡ head_at (look_of (region_of s) image) s.md_len place
+  same_heads place = elim (cases_Bool (is_in masks.blobs place)) [
+    | inl is ↦ is ∙ sym (is_scanned place is)
+    | inr out ↦ elim (cases_Bool (head_at (look_of (region_of s) image) s.md_len place)) [
+      | inl is ↦ absurd (both_ways (is_in masks.blobs place) out (scanned_in place is))
+      | inr quiet ↦ out ∙ sym quiet
+    ]
   ]
 
-  -- they are the blobs of the blob-id mask
+  -- so they have the blobs of the scan
   pub are_listed : AreListed (look_of (region_of s) image) (region_of s) masks.blobs metas chains
-  are_listed = record { listed = listed_blob; no_other = not_listed; few = few }
+  are_listed = set_of_scan (look_of (region_of s) image) (region_of s) metas chains masks.blobs says few same_heads
 
   pub masks_fit : MasksFit s masks
   masks_fit = record { pages = claims.pages.count; clusters = claims.clusters.count; blobs = claims.count }
 
-  module _ (clean : s.clean ≡ 1) (read : SaysMasks s masks image)
-      (one : (other : Masks) → SaysMasks s other image → other ≡ masks) where
-    -- they are trusted
+  module _ (clean : s.clean ≡ 1) (read : SaysMasks s masks image) where
+    -- and are trusted
     pub is_quick : IsQuick s masks image
     is_quick = record {
       clean = clean;
@@ -107,12 +132,7 @@ module _ (s : Super) (masks : Masks) (image : Image) (metas : Metas) (chains : C
       trusted = inl (record { metas = metas; chains = chains; blobs = are_listed; claims = claims });
     }
 
-    -- and the heads are those of a scan
-    pub same_heads : (place : ℕ) → IsHead s image place ↔ IsScanned s image place
-    same_heads place = (to_scan, λ is. inl (masks, is_quick, scanned_in place is))
-      where
-        to_scan : IsHead s image place → IsScanned s image place
-        to_scan (inl quick) =
-            is_scanned place
-            (subst (λ (m : Masks). is_in m.blobs place ≡ true) (one quick.0 quick.1.says) quick.2)
-        to_scan (inr scan) = scan.1
+    pub no_head_beside : ((other : Masks) → SaysMasks s other image → other ≡ masks) → HasNoHeadBesideMask s image
+    no_head_beside one other quick =
+        subst (λ (m : Masks). HasNoOtherHead (look_of (region_of s) image) (region_of s) m.blobs)
+        (sym (one other quick.says)) scanned_in

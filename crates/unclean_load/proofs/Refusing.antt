@@ -3,8 +3,7 @@ use Rattle.std.proofs.Common.{◌≡◌, ℕ, ◌+◌, ◌^◌, ◌≤◌, true,
 use Rattle.std.proofs.Common.{sym, ap, subst, ◌∙◌, inl, inr, arith}
 use Rattle.std.specs.Prelude.{codes}
 use Rattle.std.specs.Option.{option_map_or, option_map, option_and_then}
-use Rattle.std.proofs.Math.Path.{fun_ext}
-use Rattle.std.proofs.lemmas.Bool.{and_from, lt-ltb, both_ways}
+use Rattle.std.proofs.lemmas.Bool.{both_ways}
 use Rattle.page_disk.specs.Disk.{Image}
 use Rattle.page_fields.specs.Fields.{number}
 use Rattle.super_block.specs.declared.page.Super.{Super}
@@ -18,56 +17,44 @@ use Rattle.md_chain.specs.Chain.{Look}
 use Rattle.md_chain.proofs.OneChain.{one_chain, not_both_ways}
 use Rattle.store_model.specs.Maps.{Metas, Chains}
 use Rattle.store_model.specs.Regions.{MdRegion, region_of, look_of}
-use Rattle.store_model.specs.Scans.{MetaAt, SomeBlob, BlobAt, head_at}
+use Rattle.store_model.specs.Scans.{MetaAt, SomeBlob}
 use Rattle.store_model.specs.Steady.{NamesHead}
-use Rattle.store_model.proofs.Scanning.{is_at}
-use Rattle.store_model.proofs.One.{one_scan}
 use Rattle.unclean_load.specs.declared.fault.LoadFault.{LoadFault}
 use Rattle.unclean_load.specs.declared.fault.LoadFault.TheVariants as fault
-use Rattle.unclean_load.specs.Accepted.{ClusterFails, HeadFails, IsAccepted, IsFaultOf, IsImageFault, ParentFails}
+use Rattle.unclean_load.specs.declared.heads.Heads.{Heads}
+use Rattle.unclean_load.specs.Accepted.{AcceptedBy, ClusterFails, FailsBy, HeadFails, IsFaultBy, IsImageFault, LoadsBy}
+use Rattle.unclean_load.specs.Accepted.{ParentFails, StoreFails}
 use Rattle.unclean_load.specs.Heads.{AreWhole, Shows, ShowsFirst}
 use Rattle.unclean_load.specs.Parents.{HasWritableParent, NamesNoBlob, ShowsParent, ShowsParentFirst}
+use Rattle.unclean_load.proofs.PlaceSays.{blob_of_head, one_metas, one_place}
 use Rattle.unclean_load.proofs.Ancestors.{never_back}
 use Rattle.unclean_load.proofs.Counts.{copies_grow}
 use Rattle.unclean_load.proofs.Slots.{one_copy}
 use Rattle.unclean_load.proofs.Sums.{sum_grows}
 use Rattle.unclean_load.proofs.HeadWalk.{slots_more, slots_same}
 
--- ---- a place says one thing
+-- ---- a head says one thing
 
 one_meta : (look : Look) (r : MdRegion) (h : ℕ) (m n : Meta) (ps qs : List ℕ) → MetaAt look r h m ps
     → MetaAt look r h n qs → m ≡ n
 one_meta look r h m n ps qs x y =
     x.meta_is ∙ ap (meta_of h) (one_chain look r.len h 0 [] h h x.items y.items ps qs x.chain y.chain).0 ∙ sym y.meta_is
 
-one_place : (look : Look) (r : MdRegion) (h : ℕ) (m n : Option Meta) (c d : Option (List ℕ)) → BlobAt look r h m c
-    → BlobAt look r h n d → m ≡ n
-one_place look r h m n c d (inl x) (inl y) =
-    x.meta_is ∙ ap (λ (v : Meta). Some v) (one_meta look r h x.meta y.meta x.pages y.pages x.says y.says)
-    ∙ sym y.meta_is
-one_place look r h m n c d (inl x) (inr y) =
-    absurd (both_ways (head_at look r.len h) y.no_head (is_at look r h x.meta x.pages x.says))
-one_place look r h m n c d (inr x) (inl y) =
-    absurd (both_ways (head_at look r.len h) x.no_head (is_at look r h y.meta y.pages y.says))
-one_place look r h m n c d (inr x) (inr y) = x.no_meta ∙ sym y.no_meta
-
 -- ---- no head shows a fault
 
-module _ (look : Look) (r : MdRegion) (metas : Metas) (chains : Chains) (whole : AreWhole look r metas chains)
-    (why : LoadFault) (x : ShowsFirst look r why) where
+module _ (look : Look) (r : MdRegion) (heads : Heads) (metas : Metas) (chains : Chains)
+    (whole : AreWhole look r heads metas chains) (why : LoadFault) (x : ShowsFirst look r heads why) where
   abbrev h : ℕ
   h = x.head
 
   blob_there : SomeBlob look r h (metas h) (chains h)
-  blob_there = elim (whole.says h) [
-    | inl w ↦ w
-    | inr w ↦ absurd (both_ways (head_at look r.len h) w.no_head (and_from _ _ (lt-ltb h r.len x.low) x.is))
-  ]
+  blob_there = blob_of_head look r heads h (metas h) (chains h) (whole.says h) x.is
 
   same_slots : slots_together h x.metas ≡ slots_together h metas
   same_slots =
       slots_same x.metas metas h
-      (λ k lt. one_place look r k (x.metas k) (metas k) (x.chains k) (chains k) (x.before.blobs k lt) (whole.says k))
+      (λ k lt. (one_place look r heads k (x.metas k) (metas k) (x.chains k) (chains k) (x.before.blobs k lt)
+      (whole.says k)).0)
 
   slots_here : slots_together h metas + length blob_there.meta.map ≤ 2 ^ 24
   slots_here =
@@ -152,55 +139,71 @@ module _ (md_len : ℕ) (metas : Metas) (named : (head : ℕ) (m : Meta) → met
 
 -- ---- an image
 
-module _ (pages : ℕ) (image : Image) (a : IsAccepted pages image) where
-  whole_at : (s : Super) → a.sup ≡ s → AreWhole (look_of (region_of s) image) (region_of s) a.metas a.chains
-  whole_at s e = subst (λ (t : Super). AreWhole (look_of (region_of t) image) (region_of t) a.metas a.chains) e a.whole
+module _ (s : Super) (image : Image) (heads : Heads) (a : LoadsBy s image heads) where
+  -- the heads say one metadata
+  one_said : (metas : Metas) (chains : Chains)
+      → AreWhole (look_of (region_of s) image) (region_of s) heads metas chains → a.metas ≡ metas
+  one_said metas chains whole =
+      one_metas (look_of (region_of s) image) (region_of s) heads a.metas a.chains a.whole metas chains whole
 
-  lawful_at : (s : Super) → a.sup ≡ s → IsLawful s.md_len (resolved a.metas)
-  lawful_at s e = subst (λ (t : Super). IsLawful t.md_len (resolved a.metas)) e a.lawful
-
-  -- the image says one metadata
-  one_said : (s : Super) (metas : Metas) (chains : Chains) → a.sup ≡ s
-      → AreWhole (look_of (region_of s) image) (region_of s) metas chains → a.metas ≡ metas
-  one_said s metas chains e whole =
-      let r = region_of s in
-      fun_ext (λ k. (one_scan (look_of r image) r a.metas metas a.chains chains (whole_at s e).says whole.says k).0)
-
-  no_head_fails : (why : LoadFault) → HeadFails pages image why → ⊥
+  no_head_fails : (why : LoadFault) → HeadFails s image heads why → ⊥
   no_head_fails why x =
-      none_shown (look_of (region_of x.sup) image) (region_of x.sup) a.metas a.chains
-      (whole_at x.sup (a.super_at.is ∙ sym x.super_at.is)) why x.shows
+      none_shown (look_of (region_of s) image) (region_of s) heads a.metas a.chains a.whole why x
 
-  no_parent_fails : (why : LoadFault) → ParentFails pages image why → ⊥
+  no_parent_fails : (why : LoadFault) → ParentFails s image heads why → ⊥
   no_parent_fails why x =
-      let same = one_said x.sup x.metas x.chains (a.super_at.is ∙ sym x.super_at.is) x.whole in
-      no_parent_shown a.sup.md_len (resolved a.metas) a.named a.lawful why
-      (subst (λ (m : Metas). ShowsParentFirst (resolved m) why) (sym same) x.shows)
+      no_parent_shown s.md_len (resolved a.metas) a.named a.lawful why
+      (subst (λ (m : Metas). ShowsParentFirst (resolved m) why) (sym (one_said x.metas x.chains x.whole)) x.shows)
 
-  no_cluster_fails : (cluster p q : ℕ) → ClusterFails pages image cluster p q → ⊥
+  no_cluster_fails : (cluster p q : ℕ) → ClusterFails s image heads cluster p q → ⊥
   no_cluster_fails cluster p q x =
-      let e = a.super_at.is ∙ sym x.super_at.is in
-      let same = one_said x.sup x.metas x.chains e x.whole in
-      let n = x.sup.md_len in
+      let n = s.md_len in
       let lawful : IsLawful n (resolved x.metas) =
-      subst (λ (m : Metas). IsLawful n (resolved m)) same (lawful_at x.sup e) in
+      subst (λ (m : Metas). IsLawful n (resolved m)) (one_said x.metas x.chains x.whole) a.lawful in
       let most =
       one_copy (resolved x.metas) cluster (λ h k i j m o b c y z. lawful.alone h k i j cluster m o b c y z) n in
       let grow = copies_grow (resolved x.metas) cluster (q + 1) n (let lt = x.shared.second.low in omega (arith, lt)) in
       let two = x.shared.second.here in
       absurd (omega (arith, grow, two, most))
 
-  -- an accepted image has no fault
-  pub refused : (why : LoadFault) → IsFaultOf pages image why → IsImageFault why → ⊥
-  refused (fault.Super e) (inl none) is = let some = a.super_at.some_pages in absurd (omega (arith, some, none.0))
-  refused (fault.Super e) (inr bad) is = let fine = a.super_at.faultless in let x = sym fine ∙ bad.1 in absurd (cc x)
-  refused (fault.NoParentBlob blob parent) x is = no_parent_fails (fault.NoParentBlob blob parent) x
-  refused (fault.WritableParent blob parent) x is = no_parent_fails (fault.WritableParent blob parent) x
-  refused (fault.ParentLoop blob) x is = no_parent_fails (fault.ParentLoop blob) x
-  refused (fault.Shared cluster p q) x is = no_cluster_fails cluster p q x
-  refused (fault.NoRoom head has wants) x is = x
-  refused fault.ReadFault x is = is
-  refused fault.Memory x is = is
-  refused (fault.Chain head e) x is = no_head_fails (fault.Chain head e) x
-  refused (fault.Meta head e) x is = no_head_fails (fault.Meta head e) x
-  refused (fault.MapsTooLarge slots) x is = no_head_fails (fault.MapsTooLarge slots) x
+  -- heads by which the store is loaded show no fault
+  none_fails : (why : LoadFault) → IsImageFault why → FailsBy s image heads why → ⊥
+  none_fails (fault.NoParentBlob blob parent) is x = no_parent_fails (fault.NoParentBlob blob parent) x
+  none_fails (fault.WritableParent blob parent) is x = no_parent_fails (fault.WritableParent blob parent) x
+  none_fails (fault.ParentLoop blob) is x = no_parent_fails (fault.ParentLoop blob) x
+  none_fails (fault.Shared cluster p q) is x = no_cluster_fails cluster p q x
+  none_fails (fault.Super e) is x = no_head_fails (fault.Super e) x
+  none_fails (fault.NoRoom head has wants) is x = no_head_fails (fault.NoRoom head has wants) x
+  none_fails fault.ReadFault is x = no_head_fails fault.ReadFault x
+  none_fails fault.Memory is x = no_head_fails fault.Memory x
+  none_fails (fault.Chain head e) is x = no_head_fails (fault.Chain head e) x
+  none_fails (fault.Meta head e) is x = no_head_fails (fault.Meta head e) x
+  none_fails (fault.MapsTooLarge slots) is x = no_head_fails (fault.MapsTooLarge slots) x
+
+-- an image that is accepted has no fault, where the heads of the two kinds are the same
+module _ (pages : ℕ) (image : Image) (kind other : Super → Image → Heads → Type 0)
+    (same : (s : Super) (a b : Heads) → kind s image a → other s image b → a ≡ b) where
+  store_fails : AcceptedBy kind pages image → (why : LoadFault) → IsImageFault why
+      → StoreFails other pages image why → ⊥
+  store_fails a why is x =
+      let e : a.sup ≡ x.sup = a.super_at.is ∙ sym x.super_at.is in
+      let are : kind x.sup image a.heads = subst (λ (s : Super). kind s image a.heads) e a.are in
+      let heads : a.heads ≡ x.heads = same x.sup a.heads x.heads are x.are in
+      none_fails x.sup image x.heads
+      (subst (λ (h : Heads). LoadsBy x.sup image h) heads
+      (subst (λ (s : Super). LoadsBy s image a.heads) e a.loads)) why is x.fails
+
+  pub refused : AcceptedBy kind pages image → (why : LoadFault) → IsImageFault why → IsFaultBy other pages image why → ⊥
+  refused a (fault.Super e) is (inl none) = let some = a.super_at.some_pages in absurd (omega (arith, some, none.0))
+  refused a (fault.Super e) is (inr bad) =
+      let fine = a.super_at.faultless in let x = sym fine ∙ bad.1 in absurd (cc x)
+  refused a (fault.NoParentBlob blob parent) is x = store_fails a (fault.NoParentBlob blob parent) is x
+  refused a (fault.WritableParent blob parent) is x = store_fails a (fault.WritableParent blob parent) is x
+  refused a (fault.ParentLoop blob) is x = store_fails a (fault.ParentLoop blob) is x
+  refused a (fault.Shared cluster p q) is x = store_fails a (fault.Shared cluster p q) is x
+  refused a (fault.NoRoom head has wants) is x = x
+  refused a fault.ReadFault is x = is
+  refused a fault.Memory is x = is
+  refused a (fault.Chain head e) is x = store_fails a (fault.Chain head e) is x
+  refused a (fault.Meta head e) is x = store_fails a (fault.Meta head e) is x
+  refused a (fault.MapsTooLarge slots) is x = store_fails a (fault.MapsTooLarge slots) is x

@@ -1,6 +1,9 @@
 -- Which images are loaded, and the fault of one that isn't.
 use Rattle.std.specs.Prelude.{◌≡◌, ◌⊎◌, ℕ, ◌^◌, ◌<◌, ◌≤◌, None, Some}
+use Rattle.clean_stop.specs.Masks.{HasMasks}
 use Rattle.page_disk.specs.Disk.{Image}
+use Rattle.running_store.specs.LoadedWhole.{AreMasks}
+use Rattle.super_block.specs.declared.masks.Masks.{Masks}
 use Rattle.super_block.specs.declared.page.Super.{Super}
 use Rattle.super_block.specs.declared.fault.SuperFault.{SuperFault}
 use Rattle.super_block.specs.declared.fault.SuperFault.TheVariants.{BadSignature}
@@ -13,8 +16,11 @@ use Rattle.store_model.specs.Steady.{AreNamed}
 use Rattle.blob_meta.specs.Resolving.{IsLawful, resolved, slots_together}
 use Rattle.unclean_load.specs.declared.fault.LoadFault.{LoadFault}
 use Rattle.unclean_load.specs.declared.fault.LoadFault.TheVariants as fault
+use Rattle.unclean_load.specs.declared.heads.Heads.{Heads}
+use Rattle.unclean_load.specs.declared.heads.Heads.TheVariants.{ByScan}
 use Rattle.unclean_load.specs.Heads.{AreWhole, ShowsFirst}
 use Rattle.unclean_load.specs.Parents.{HaveRightParents, ShowsParentFirst}
+use Rattle.unclean_load.specs.Quick.{AreHeads, HasNoFaultByMask, HasNoHeadBesideMask, IsQuick, SameFixed}
 use Rattle.unclean_load.specs.Sharing.{IsShared}
 
 -- the super block of a device with so many pages, without fault
@@ -23,16 +29,30 @@ pub record SuperAt (pages : ℕ) (image : Image) (s : Super) : Type 0 where
   pub faultless : super_fault (image 0) pages ≡ None
   pub is : s ≡ super_of (image 0) pages
 
--- A device of so many pages is accepted: its super block has no fault, each head is whole, and what recovery makes of
--- the metadata is lawful, and each SNAP in it names a head.
-pub record IsAccepted (pages : ℕ) (image : Image) : Type 0 where
-  pub sup : Super
-  pub super_at : SuperAt pages image sup
+-- By these heads the store is loaded: each is whole, what recovery makes of the metadata is lawful, and each SNAP in it
+-- names a head.
+pub record LoadsBy (s : Super) (image : Image) (heads : Heads) : Type 0 where
   pub metas : Metas
   pub chains : Chains
-  pub whole : AreWhole (look_of (region_of sup) image) (region_of sup) metas chains
+  pub whole : AreWhole (look_of (region_of s) image) (region_of s) heads metas chains
   pub named : AreNamed (resolved metas)
-  pub lawful : IsLawful sup.md_len (resolved metas)
+  pub lawful : IsLawful s.md_len (resolved metas)
+
+-- A device of so many pages is accepted by heads of this kind: its super block has no fault, and the store is loaded.
+pub record AcceptedBy (kind : Super → Image → Heads → Type 0) (pages : ℕ) (image : Image) : Type 0 where
+  pub sup : Super
+  pub super_at : SuperAt pages image sup
+  pub heads : Heads
+  pub are : kind sup image heads
+  pub loads : LoadsBy sup image heads
+
+-- by the heads of the store
+abbrev pub IsAccepted : ℕ → Image → Type 0
+IsAccepted pages image = AcceptedBy AreHeads pages image
+
+-- by the heads that a scan finds, whatever the masks are
+abbrev pub IsAcceptedByScan : ℕ → Image → Type 0
+IsAcceptedByScan pages image = AcceptedBy (λ s image heads. heads ≡ ByScan) pages image
 
 -- ---- faults
 
@@ -41,44 +61,55 @@ abbrev pub SuperFails : ℕ → Image → SuperFault → Type 0
 SuperFails pages image why =
     ((pages ≡ 0) × (why ≡ BadSignature)) ⊎ ((0 < pages) × (super_fault (image 0) pages ≡ Some why))
 
--- The super block has no fault, and the first head that shows a fault shows this one.
-pub record HeadFails (pages : ℕ) (image : Image) (why : LoadFault) : Type 0 where
-  pub sup : Super
-  pub super_at : SuperAt pages image sup
-  pub shows : ShowsFirst (look_of (region_of sup) image) (region_of sup) why
+-- The first head that shows a fault shows this one.
+abbrev pub HeadFails : Super → Image → Heads → LoadFault → Type 0
+HeadFails s image heads why = ShowsFirst (look_of (region_of s) image) (region_of s) heads why
 
 -- Each head is whole, but once the metadata is resolved the first blob that shows a fault of its parents shows this
 -- one.
-pub record ParentFails (pages : ℕ) (image : Image) (why : LoadFault) : Type 0 where
-  pub sup : Super
-  pub super_at : SuperAt pages image sup
+pub record ParentFails (s : Super) (image : Image) (heads : Heads) (why : LoadFault) : Type 0 where
   pub metas : Metas
   pub chains : Chains
-  pub whole : AreWhole (look_of (region_of sup) image) (region_of sup) metas chains
+  pub whole : AreWhole (look_of (region_of s) image) (region_of s) heads metas chains
   pub shows : ShowsParentFirst (resolved metas) why
 
 -- Each head is whole, and once the metadata is resolved every blob's parents are right, but this is the least cluster
 -- that stands in two slots; the first two are in the maps of these heads.
-pub record ClusterFails (pages : ℕ) (image : Image) (cluster a b : ℕ) : Type 0 where
-  pub sup : Super
-  pub super_at : SuperAt pages image sup
+pub record ClusterFails (s : Super) (image : Image) (heads : Heads) (cluster a b : ℕ) : Type 0 where
   pub metas : Metas
   pub chains : Chains
-  pub whole : AreWhole (look_of (region_of sup) image) (region_of sup) metas chains
+  pub whole : AreWhole (look_of (region_of s) image) (region_of s) heads metas chains
   pub parents : HaveRightParents (resolved metas)
-  pub shared : IsShared sup.md_len (resolved metas) cluster a b
+  pub shared : IsShared s.md_len (resolved metas) cluster a b
 
--- The fault of an image; a failed read and want of memory are none of it. Marks are no fault.
+-- the fault that these heads show
+abbrev pub FailsBy : Super → Image → Heads → LoadFault → Type 0
+FailsBy s image heads (fault.NoParentBlob blob parent) = ParentFails s image heads (fault.NoParentBlob blob parent)
+FailsBy s image heads (fault.WritableParent blob parent) = ParentFails s image heads (fault.WritableParent blob parent)
+FailsBy s image heads (fault.ParentLoop blob) = ParentFails s image heads (fault.ParentLoop blob)
+FailsBy s image heads (fault.Shared cluster a b) = ClusterFails s image heads cluster a b
+FailsBy s image heads why = HeadFails s image heads why
+
+-- The super block has no fault, but heads of this kind show this one.
+pub record StoreFails (kind : Super → Image → Heads → Type 0) (pages : ℕ) (image : Image) (why : LoadFault) : Type 0
+  where
+    pub sup : Super
+    pub super_at : SuperAt pages image sup
+    pub heads : Heads
+    pub are : kind sup image heads
+    pub fails : FailsBy sup image heads why
+
+-- The fault of an image by heads of this kind; a failed read and want of memory are none of it. Marks are no fault.
+abbrev pub IsFaultBy : (Super → Image → Heads → Type 0) → ℕ → Image → LoadFault → Type 0
+IsFaultBy kind pages image (fault.Super why) = SuperFails pages image why
+IsFaultBy kind pages image (fault.NoRoom head has wants) = ⊥
+IsFaultBy kind pages image fault.ReadFault = Unit {0}
+IsFaultBy kind pages image fault.Memory = Unit {0}
+IsFaultBy kind pages image why = StoreFails kind pages image why
+
+-- by the heads of the store
 abbrev pub IsFaultOf : ℕ → Image → LoadFault → Type 0
-IsFaultOf pages image (fault.Super why) = SuperFails pages image why
-IsFaultOf pages image (fault.NoParentBlob blob parent) = ParentFails pages image (fault.NoParentBlob blob parent)
-IsFaultOf pages image (fault.WritableParent blob parent) = ParentFails pages image (fault.WritableParent blob parent)
-IsFaultOf pages image (fault.ParentLoop blob) = ParentFails pages image (fault.ParentLoop blob)
-IsFaultOf pages image (fault.Shared cluster a b) = ClusterFails pages image cluster a b
-IsFaultOf pages image (fault.NoRoom head has wants) = ⊥
-IsFaultOf pages image fault.ReadFault = Unit {0}
-IsFaultOf pages image fault.Memory = Unit {0}
-IsFaultOf pages image why = HeadFails pages image why
+IsFaultOf pages image why = IsFaultBy AreHeads pages image why
 
 -- a fault of what the device holds
 abbrev pub IsImageFault : LoadFault → Type 0
@@ -92,11 +123,42 @@ IsSuperFault pages image (fault.Super why) = SuperFails pages image why
 IsSuperFault pages image fault.ReadFault = Unit {0}
 IsSuperFault pages image _ = ⊥
 
--- An image of a store is accepted: its super block has no fault, it says metadata of at most 2^24 slots together, and
--- once that is resolved it is lawful, and each SNAP in it names a head.
+-- ---- laws
+
+-- A super block without fault that says this, and metadata of at most 2^24 slots together by a scan; once that is
+-- resolved it is lawful, and each SNAP in it names a head.
+pub record CanBeScanned (s : Super) (image : Image) (metas : Metas) (chains : Chains) : Type 0 where
+  pub faultless : super_fault (image 0) s.device_pages ≡ None
+  pub is : s ≡ super_of (image 0) s.device_pages
+  pub says : Says (region_of s) metas chains image
+  pub few : slots_together s.md_len metas ≤ 2 ^ 24
+  pub named : AreNamed (resolved metas)
+  pub lawful : IsLawful s.md_len (resolved metas)
+
+-- An image that says metadata by a scan is accepted by the heads that it has: by those of its masks where these name
+-- all heads, and none with a fault.
 abbrev pub StoresAreAccepted : Type 0
 StoresAreAccepted =
-    (s : Super) (image : Image) (metas : Metas) (chains : Chains) → super_fault (image 0) s.device_pages ≡ None
-    → s ≡ super_of (image 0) s.device_pages
-    → Says (region_of s) metas chains image → slots_together s.md_len metas ≤ 2 ^ 24
-    → AreNamed (resolved metas) → IsLawful s.md_len (resolved metas) → IsAccepted s.device_pages image
+    (s : Super) (image : Image) (metas : Metas) (chains : Chains) → CanBeScanned s image metas chains
+    → (heads : Heads) → AreHeads s image heads → HasNoFaultByMask s image → HasNoHeadBesideMask s image
+    → IsAccepted s.device_pages image
+
+-- A store that isn't clean has no masks that are trusted.
+abbrev pub InUseAreAccepted : Type 0
+InUseAreAccepted =
+    (s : Super) (image : Image) (metas : Metas) (chains : Chains) → CanBeScanned s image metas chains
+    → (s.clean ≡ 1 → ⊥) → IsAccepted s.device_pages image × HasNoHeadBesideMask s image
+
+-- An unloaded store, which has the masks that its metadata claims, is accepted; they are trusted, and no head stands
+-- beside them.
+abbrev pub UnloadedAreAccepted : Type 0
+UnloadedAreAccepted =
+    (s : Super) (masks : Masks) (image : Image) (metas : Metas) (chains : Chains) → CanBeScanned s image metas chains
+    → s.clean ≡ 1 → HasMasks s masks image → AreMasks s metas chains masks
+    → IsAccepted s.device_pages image × IsQuick s masks image × HasNoHeadBesideMask s image
+
+-- An image is accepted where one with the same pages in the fixed clusters is.
+abbrev pub AcceptedAreKept : Type 0
+AcceptedAreKept =
+    (pages : ℕ) (image other : Image) → SameFixed (super_of (image 0) pages) image other → IsAccepted pages image
+    → IsAccepted pages other

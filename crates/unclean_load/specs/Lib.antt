@@ -1,8 +1,9 @@
 pub mod Heads
 pub mod Reading
+pub mod Reads
 pub mod Claiming
 pub mod Sharing
 pub mod Parents
 pub mod Walks
-pub mod Accepted
 pub mod Quick
+pub mod Accepted

@@ -12,19 +12,20 @@ use Rattle.md_chain.specs.Chain.{Look, is_among, IsBroken}
 use Rattle.md_chain.specs.Reading.{WasSeen}
 use Rattle.store_model.specs.Maps.{Metas, Chains}
 use Rattle.store_model.specs.Regions.{MdRegion, region_of}
-use Rattle.store_model.specs.Scans.{is_head, BlobAt}
 use Rattle.store_model.specs.Steady.{IsStored}
 use Rattle.store_model.specs.Places.{AreDistinct}
 use Rattle.unclean_load.specs.declared.heads.Blob.{Blob}
+use Rattle.unclean_load.specs.declared.heads.Heads.{Heads}
 use Rattle.unclean_load.specs.declared.fault.LoadFault.{LoadFault}
 use Rattle.unclean_load.specs.declared.fault.LoadFault.TheVariants as fault
-use Rattle.unclean_load.specs.Heads.{Shows}
+use Rattle.unclean_load.specs.Heads.{PlaceSays, Shows, has_head}
 
--- whether the page that the device gave at a place is a head
-pub record GaveHead {D : Type 0} (d : Ghosts D) (s : Super) (disk : D) (place : ℕ) (is : Bool) : Type 0 where
+-- whether a place is a head, by the page that the device gave there, where that is asked
+pub record GaveHead {D : Type 0} (d : Ghosts D) (s : Super) (disk : D) (heads : Heads) (place : ℕ) (is : Bool)
+    : Type 0 where
   pub look : Look
   pub seen : WasSeen d s disk look
-  pub is_it : is ≡ is_head place (look place)
+  pub is_it : is ≡ has_head heads look s.md_len place
 
 -- the blob's metadata
 abbrev pub meta_in : Option Blob → Option Meta
@@ -35,21 +36,22 @@ abbrev pub chain_in : Option Blob → Option (List ℕ)
 chain_in blob = option_map (λ (b : Blob). b.pages) blob
 
 -- the blob that the pages which the device gave say of a place
-pub record SaysAt {D : Type 0} (d : Ghosts D) (s : Super) (disk : D) (place : ℕ) (blob : Option Blob) : Type 0 where
+pub record SaysAt {D : Type 0} (d : Ghosts D) (s : Super) (disk : D) (heads : Heads) (place : ℕ) (blob : Option Blob)
+    : Type 0 where
   pub look : Look
   pub seen : WasSeen d s disk look
-  pub blob_at : BlobAt look (region_of s) place (meta_in blob) (chain_in blob)
+  pub says : PlaceSays look (region_of s) heads place (meta_in blob) (chain_in blob)
 
--- the page is a head, and the fault is that of its chain or of its metadata
-pub record IsBlobFault (look : Look) (r : MdRegion) (place : ℕ) (why : LoadFault) : Type 0 where
-  pub head : is_head place (look place) ≡ true
+-- the place is a head, and the fault is that of its chain or of its metadata
+pub record IsBlobFault (look : Look) (r : MdRegion) (heads : Heads) (place : ℕ) (why : LoadFault) : Type 0 where
+  pub head : has_head heads look r.len place ≡ true
   pub shows : (before : Metas) → Shows look r before place why
 
 -- a failed read and want of memory have other causes
-abbrev pub IsPlaceFault : Look → MdRegion → ℕ → LoadFault → Type 0
-IsPlaceFault look r place fault.ReadFault = Unit {0}
-IsPlaceFault look r place fault.Memory = Unit {0}
-IsPlaceFault look r place why = IsBlobFault look r place why
+abbrev pub IsPlaceFault : Look → MdRegion → Heads → ℕ → LoadFault → Type 0
+IsPlaceFault look r heads place fault.ReadFault = Unit {0}
+IsPlaceFault look r heads place fault.Memory = Unit {0}
+IsPlaceFault look r heads place why = IsBlobFault look r heads place why
 
 -- the first fault of a head's chain
 abbrev pub IsChainFault : Look → MdRegion → ℕ → LoadFault → Type 0
@@ -65,11 +67,18 @@ IsItemsFault r head items (fault.Meta at why) =
     (at ≡ head) × (meta_fault r.fixed r.clusters (meta_of head items) ≡ Some why)
 IsItemsFault r head items _ = ⊥
 
--- a failed read, which was counted; or another fault, and no read has failed. A load never answers `NoRoom`
+-- A failed read was counted. After a clean store's masks were read the count may have risen before another fault too. A
+-- load never answers `NoRoom`.
 abbrev pub IsFaultCounted : ℕ → ℕ → LoadFault → Type 0
 IsFaultCounted old new fault.ReadFault = Rose old new
 IsFaultCounted old new (fault.NoRoom head has wants) = ⊥
-IsFaultCounted old new _ = new ≡ old
+IsFaultCounted old new _ = Unit {0}
+
+-- a failed read, which was counted; or another fault, and no read has failed
+abbrev pub IsOnlyFault : ℕ → ℕ → LoadFault → Type 0
+IsOnlyFault old new fault.ReadFault = Rose old new
+IsOnlyFault old new (fault.NoRoom head has wants) = ⊥
+IsOnlyFault old new _ = new ≡ old
 
 -- ---- the blobs of a region, whatever the device tells
 

@@ -1,6 +1,8 @@
 //! The blob at a place of the metadata region.
 
-ghost use Rattle.std.specs.Prelude.{◌≡◌, ◌==◌, ◌&&◌, ◌<◌, ◌≤◌, ◌+◌, None, IsTrue, OnOk, IfOk, IfErr};
+ghost use Rattle.std.specs.Prelude.{◌≡◌, ◌==◌, ◌&&◌, ◌<◌, ◌≤◌, ◌+◌, ℕ, List, None, length, IsTrue, OnOk, OnErr};
+ghost use Rattle.std.specs.Prelude.{IfOk, IfErr};
+ghost use Rattle.std.specs.Option.{option_map_or};
 ghost use Rattle.blob_meta.specs.Faults.{meta_fault};
 ghost use Rattle.blob_meta.specs.Says.{meta_of};
 ghost use Rattle.md_chain.specs.Chain.{blob_id};
@@ -9,11 +11,15 @@ ghost use Rattle.md_page.specs.Page.{id_of, sequence_of};
 ghost use Rattle.store_model.specs.Regions.{region_of};
 ghost use Rattle.store_model.specs.Scans.{is_head as is_head_said};
 ghost use Rattle.super_block.specs.Faults.{IsFaultless};
-ghost use Rattle.unclean_load.specs.Reading.{GaveHead, IsChainFault, IsFaultCounted, IsItemsFault, IsPlaceFault};
-ghost use Rattle.unclean_load.specs.Reading.{SaysAt};
+ghost use Rattle.unclean_load.specs.Heads.{HeadsFit};
+ghost use Rattle.unclean_load.specs.Reading.{GaveHead, IsChainFault, IsItemsFault, IsOnlyFault, IsPlaceFault};
+ghost use Rattle.unclean_load.specs.Reading.{SaysAt, chain_in};
+ghost use Rattle.unclean_load.specs.Reads.{tests};
 ghost use Rattle.unclean_load.specs.declared.fault.LoadFault.TheVariants as fault;
+ghost use Rattle.unclean_load.specs.declared.heads.Heads.TheVariants.{ByScan};
 
 use crate::fault::LoadFault;
+use bit_array::Bits;
 use blob_meta::{Meta, MetaFault, from_items};
 use descriptors::ItemList;
 use md_chain::{Chain, ChainFault, read_chain};
@@ -28,6 +34,15 @@ use volume_model::PlaceList;
 pub struct Blob {
     pub meta: Meta,
     pub pages: PlaceList,
+}
+
+/// Which places of the metadata region are heads.
+#[derive(Drop)]
+pub enum Heads {
+    /// Those at whose pages a chain begins.
+    ByScan,
+    /// Those of a set, whatever their pages are.
+    Listed(Bits),
 }
 
 /// Whether a page, sound or not, has sequence 0 and the id of its place.
@@ -52,10 +67,11 @@ fn is_head(place: u32, page: &Page) -> bool
 fn is_head_on<D: PageDisk>(disk: &mut D, sup: &Super, place: u32) -> Result<bool, LoadFault>
     requires low { place < sup.now.md_len }
     requires inside { sup.now.md_start + sup.now.md_len ≤ D.pages disk.old }
-    ensures found { IfOk result (λ is. GaveHead D.PageDisk sup.now disk.old place is) }
+    ensures found { IfOk result (λ is. GaveHead D.PageDisk sup.now disk.old ByScan place is) }
     ensures fault { IfErr result (λ e. e ≡ fault.ReadFault) }
-    ensures counted { IfErr result (λ e. IsFaultCounted (D.read_faults disk.old) (D.read_faults disk.new) e) }
+    ensures counted { IfErr result (λ e. IsOnlyFault (D.read_faults disk.old) (D.read_faults disk.new) e) }
     ensures quiet { OnOk result (D.read_faults disk.new ≡ D.read_faults disk.old) }
+    ensures reads { D.reads disk.new ≤ D.reads disk.old + 1 }
     ensures same { OnlyRead D.PageDisk disk.old disk.new }
 {
     let mut page = [0; 4096];
@@ -64,6 +80,29 @@ fn is_head_on<D: PageDisk>(disk: &mut D, sup: &Super, place: u32) -> Result<bool
         return Err(LoadFault::ReadFault);
     }
     Ok(is_head(place, &page))
+}
+
+/// Whether a place of the metadata region is one of these heads.
+fn has_head<D: PageDisk>(
+    disk: &mut D,
+    sup: &Super,
+    heads: &Heads,
+    place: u32,
+) -> Result<bool, LoadFault>
+    requires fits { HeadsFit sup.now.md_len heads.now }
+    requires low { place < sup.now.md_len }
+    requires inside { sup.now.md_start + sup.now.md_len ≤ D.pages disk.old }
+    ensures found { IfOk result (λ is. GaveHead D.PageDisk sup.now disk.old heads.now place is) }
+    ensures fault { IfErr result (λ e. e ≡ fault.ReadFault) }
+    ensures counted { IfErr result (λ e. IsOnlyFault (D.read_faults disk.old) (D.read_faults disk.new) e) }
+    ensures quiet { OnOk result (D.read_faults disk.new ≡ D.read_faults disk.old) }
+    ensures reads { D.reads disk.new ≤ D.reads disk.old + tests heads.now 1 }
+    ensures same { OnlyRead D.PageDisk disk.old disk.new }
+{
+    match heads {
+        Heads::ByScan => is_head_on(disk, sup, place),
+        Heads::Listed(places) => Ok(places.get(place)),
+    }
 }
 
 /// The chain at a head.
@@ -78,8 +117,10 @@ fn chain_at<D: PageDisk>(
     ensures found { IfOk result (λ c. GaveChain D.PageDisk sup.now disk.old head c.pages c.items) }
     ensures fault { IsTrue D.tells
         → IfErr result (λ e. IsChainFault (region_look sup.now (D.now disk.old)) (region_of sup.now) head e) }
-    ensures counted { IfErr result (λ e. IsFaultCounted (D.read_faults disk.old) (D.read_faults disk.new) e) }
+    ensures counted { IfErr result (λ e. IsOnlyFault (D.read_faults disk.old) (D.read_faults disk.new) e) }
     ensures quiet { OnOk result (D.read_faults disk.new ≡ D.read_faults disk.old) }
+    ensures reads { IfOk result (λ c. D.reads disk.new ≤ D.reads disk.old + length c.pages) }
+    ensures few { D.reads disk.new ≤ D.reads disk.old + sup.now.md_len }
     ensures same { OnlyRead D.PageDisk disk.old disk.new }
 {
     match read_chain(alloc, disk, sup, head) {
@@ -105,25 +146,30 @@ fn meta_at(alloc: Global, sup: &Super, head: u32, items: &ItemList) -> Result<Me
     }
 }
 
-/// The blob at a place of the metadata region; `None` exactly where the page there is no head.
+/// The blob at a place of the metadata region; `None` exactly where the place is none of these heads.
 pub fn blob_at<D: PageDisk>(
     alloc: Global,
     disk: &mut D,
     sup: &Super,
+    heads: &Heads,
     place: u32,
 ) -> Result<Option<Blob>, LoadFault>
     requires faultless { IsFaultless sup.now }
     requires device { sup.now.device_pages ≡ D.pages disk.old }
+    requires fits { HeadsFit sup.now.md_len heads.now }
     requires low { place < sup.now.md_len }
     requires inside { sup.now.md_start + sup.now.md_len ≤ D.pages disk.old }
-    ensures found { IfOk result (λ b. SaysAt D.PageDisk sup.now disk.old place b) }
-    ensures fault { IsTrue D.tells
-        → IfErr result (λ e. IsPlaceFault (region_look sup.now (D.now disk.old)) (region_of sup.now) place e) }
-    ensures counted { IfErr result (λ e. IsFaultCounted (D.read_faults disk.old) (D.read_faults disk.new) e) }
+    ensures found { IfOk result (λ b. SaysAt D.PageDisk sup.now disk.old heads.now place b) }
+    ensures fault { IsTrue D.tells → IfErr result
+        (λ e. IsPlaceFault (region_look sup.now (D.now disk.old)) (region_of sup.now) heads.now place e) }
+    ensures counted { IfErr result (λ e. IsOnlyFault (D.read_faults disk.old) (D.read_faults disk.new) e) }
     ensures quiet { OnOk result (D.read_faults disk.new ≡ D.read_faults disk.old) }
+    ensures reads { IfOk result (λ b. D.reads disk.new
+        ≤ D.reads disk.old + tests heads.now 1 + option_map_or (λ (p : List ℕ). length p) (chain_in b) 0) }
+    ensures few { OnErr result (D.reads disk.new ≤ D.reads disk.old + tests heads.now 1 + sup.now.md_len) }
     ensures same { OnlyRead D.PageDisk disk.old disk.new }
 {
-    if !is_head_on(disk, sup, place)? {
+    if !has_head(disk, sup, heads, place)? {
         return Ok(None);
     }
     let chain = chain_at(alloc, disk, sup, place)?;

@@ -1,10 +1,13 @@
-//! Loading a store by reading every metadata page, and when its masks would do.
+//! Loading a store: by its masks, where these can be trusted, or else by reading every metadata page.
 #![tactic(auto)]
 
+mod claimed;
 mod fault;
+mod finding;
 mod heads;
 mod laws;
 mod loading;
+mod mask_pages;
 mod masks;
 mod parents;
 mod recovering;
@@ -13,5 +16,5 @@ mod super_page;
 mod walking;
 
 pub use fault::LoadFault;
-pub use laws::{clean_stores_are_quick, stores_are_accepted};
+pub use laws::{clean_stores_are_quick, fixed_clusters_decide, stores_are_accepted};
 pub use loading::load;

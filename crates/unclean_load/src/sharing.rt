@@ -20,8 +20,8 @@ use super_block::{Super, regions_are_placed};
 
 /// The clusters that were claimed, and the least that was claimed twice.
 #[derive(Drop)]
-struct Claims {
-    clusters: Bits,
+pub struct Claims {
+    pub clusters: Bits,
     twice: Option<u32>,
 }
 
@@ -77,7 +77,7 @@ impl Claims {
 }
 
 /// The claims of all maps.
-fn claims_of(alloc: Global, sup: &Super, metas: &Metas) -> Result<Claims, Memory>
+pub fn claims_of(alloc: Global, sup: &Super, metas: &Metas) -> Result<Claims, Memory>
     requires faultless { IsFaultless sup.now }
     requires inside { AreAllInside sup.now (map.get metas.now) }
     ensures count { IfOk result (λ c. length c.clusters ≡ clusters_of sup.now) }

@@ -4,7 +4,7 @@ ghost use Rattle.std.specs.Prelude.{◌≡◌, ◌≤◌, ◌+◌, IsTrue, OnOk,
 ghost use Rattle.md_chain.specs.Reading.{OnlyRead};
 ghost use Rattle.super_block.specs.Faults.{IsFaultless};
 ghost use Rattle.unclean_load.specs.Accepted.{IsSuperFault, SuperAt};
-ghost use Rattle.unclean_load.specs.Reading.{IsFaultCounted};
+ghost use Rattle.unclean_load.specs.Reading.{IsOnlyFault};
 
 use crate::fault::LoadFault;
 use page_disk::PageDisk;
@@ -17,8 +17,9 @@ pub fn super_on<D: PageDisk>(disk: &mut D) -> Result<Super, LoadFault>
     ensures device { IfOk result (λ sup. sup.device_pages ≡ D.pages disk.old) }
     ensures inside { IfOk result (λ sup. sup.md_start + sup.md_len ≤ D.pages disk.old) }
     ensures fault { IsTrue D.tells → IfErr result (λ e. IsSuperFault (D.pages disk.old) (D.now disk.old) e) }
-    ensures counted { IfErr result (λ e. IsFaultCounted (D.read_faults disk.old) (D.read_faults disk.new) e) }
+    ensures counted { IfErr result (λ e. IsOnlyFault (D.read_faults disk.old) (D.read_faults disk.new) e) }
     ensures quiet { OnOk result (D.read_faults disk.new ≡ D.read_faults disk.old) }
+    ensures reads { D.reads disk.new ≤ D.reads disk.old + 1 }
     ensures same { OnlyRead D.PageDisk disk.old disk.new }
 {
     regions_are_placed();

@@ -1,16 +1,17 @@
 //! The blobs of a metadata region, by their heads from the first place upwards.
 
-ghost use Rattle.std.specs.Prelude.{◌≡◌, ◌≤◌, ◌+◌, ◌^◌, length, IsTrue, OnOk, IfOk, IfErr};
+ghost use Rattle.std.specs.Prelude.{◌≡◌, ◌≤◌, ◌+◌, ◌*◌, ◌^◌, length, IsTrue, OnOk, IfOk, IfErr};
 ghost use Rattle.std.specs.FinMap as map;
 ghost use Rattle.blob_meta.specs.Resolving.{slots_together};
 ghost use Rattle.md_chain.specs.Reading.{OnlyRead, region_look};
 ghost use Rattle.store_model.specs.Regions.{region_of};
 ghost use Rattle.super_block.specs.Faults.{IsFaultless};
-ghost use Rattle.unclean_load.specs.Heads.{AreWholeBelow, IsHeadsFault};
-ghost use Rattle.unclean_load.specs.Reading.{AreRead, HasNoneFrom, IsFaultCounted, IsBlobRefused};
+ghost use Rattle.unclean_load.specs.Heads.{AreWhole, HeadsFit, IsHeadsFault};
+ghost use Rattle.unclean_load.specs.Reading.{AreRead, IsBlobRefused, IsOnlyFault};
+ghost use Rattle.unclean_load.specs.Reads.{pages_together, tests};
 
 use crate::fault::LoadFault;
-use crate::heads::{Blob, blob_at};
+use crate::heads::{Blob, Heads, blob_at};
 use blob_meta::{Chains, Metas};
 use page_disk::PageDisk;
 use std::alloc::Global;
@@ -60,33 +61,46 @@ impl Blobs {
     }
 }
 
-/// The blobs of the whole metadata region, or the first fault that a head shows: of its chain, of its metadata, or of
-/// too many slots together.
-pub fn blobs_on<D: PageDisk>(alloc: Global, disk: &mut D, sup: &Super) -> Result<Blobs, LoadFault>
+/// The blobs of these heads, or the first fault that one shows: of its chain, of its metadata, or of too many slots
+/// together.
+pub fn blobs_on<D: PageDisk>(
+    alloc: Global,
+    disk: &mut D,
+    sup: &Super,
+    heads: &Heads,
+) -> Result<Blobs, LoadFault>
     requires faultless { IsFaultless sup.now }
     requires device { sup.now.device_pages ≡ D.pages disk.old }
+    requires fits { HeadsFit sup.now.md_len heads.now }
     requires inside { sup.now.md_start + sup.now.md_len ≤ D.pages disk.old }
 
     // Where the device tells, they are what its image says.
     ensures found { IsTrue D.tells
         → IfOk result
-        (λ b. AreWholeBelow (region_look sup.now (D.now disk.old)) (region_of sup.now) sup.now.md_len (map.get b.metas)
+        (λ b. AreWhole (region_look sup.now (D.now disk.old)) (region_of sup.now) heads.now (map.get b.metas)
         (map.get b.chains)) }
-    ensures fault { IsTrue D.tells
-        → IfErr result (λ e. IsHeadsFault (region_look sup.now (D.now disk.old)) (region_of sup.now) e) }
+    ensures fault { IsTrue D.tells → IfErr result
+        (λ e. IsHeadsFault (region_look sup.now (D.now disk.old)) (region_of sup.now) heads.now e) }
 
     // Whatever it tells, they are in order.
     ensures read { IfOk result (λ b. AreRead sup.now (map.get b.metas) (map.get b.chains)) }
-    ensures no_other { IfOk result (λ b. HasNoneFrom (map.get b.metas) sup.now.md_len) }
     ensures few { IfOk result (λ b. slots_together sup.now.md_len (map.get b.metas) ≤ 2 ^ 24) }
 
-    ensures counted { IfErr result (λ e. IsFaultCounted (D.read_faults disk.old) (D.read_faults disk.new) e) }
+    ensures counted { IfErr result (λ e. IsOnlyFault (D.read_faults disk.old) (D.read_faults disk.new) e) }
     ensures quiet { OnOk result (D.read_faults disk.new ≡ D.read_faults disk.old) }
+
+    // Each page of their chains is read once; where the device tells, these have no page in common.
+    ensures reads { IfOk result (λ b. D.reads disk.new
+        ≤ D.reads disk.old + tests heads.now sup.now.md_len + pages_together sup.now.md_len (map.get b.chains)) }
+    ensures at_ok { IsTrue D.tells
+        → OnOk result (D.reads disk.new ≤ D.reads disk.old + tests heads.now sup.now.md_len + sup.now.md_len) }
+    ensures at_most { IsTrue D.tells
+        → D.reads disk.new ≤ D.reads disk.old + tests heads.now sup.now.md_len + 2 * sup.now.md_len }
     ensures same { OnlyRead D.PageDisk disk.old disk.new }
 {
     let mut blobs = Blobs::new(alloc);
     for place in 0..sup.md_len {
-        if let Some(blob) = blob_at(alloc, disk, sup, place)? {
+        if let Some(blob) = blob_at(alloc, disk, sup, heads, place)? {
             blobs.add(place, blob)?;
         }
     }

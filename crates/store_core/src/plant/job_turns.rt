@@ -21,7 +21,8 @@ impl<D: PageDisk> Plant<D> {
     ghost use Rattle.running_store.specs.Requests.{IsPostedBy};
     ghost use Rattle.running_store.specs.Steps.{decided, Asks, OnlyRow};
     ghost use Rattle.running_store.specs.StoreView.{base_of, rows_of, state_of};
-    ghost use Rattle.running_store.specs.Surviving.{HasOneImage, OldOrNew};
+    ghost use Rattle.running_store.specs.Surviving.{OldOrNew};
+    ghost use Rattle.store_core.specs.StoreInvariant.{OpensAsRead};
     ghost use Rattle.running_store.specs.TurnMade.{TurnMade};
     ghost use Rattle.store_model.specs.Cases.{IsRefusedBy};
     ghost use Rattle.store_model.specs.Cases as kind;
@@ -101,7 +102,7 @@ impl<D: PageDisk> Plant<D> {
         ensures answer { result ≡ answer_of self.new.at }
         // While the store runs, a crash leaves at any moment of the turn the metadata from before it, or that with the
         // job's blob's replaced.
-        ensures any_moment { HasOneImage D.PageDisk self.old.opening.disk → self.old.at.stopped ≡ None
+        ensures any_moment { OpensAsRead D.PageDisk self.old.opening → self.old.at.stopped ≡ None
             → (job : JobState) → self.old.at.job ≡ Some job
             → CallsLeaveOnly D.PageDisk self.old.at.disk self.new.at.disk
             (OldOrNew self.old.opening.super (base_of self.old.at.metas self.old.at.marked) (map.get self.old.at.chains)

@@ -14,8 +14,13 @@ returns-in-Err g c =
     subst (λ (st : Status). ListEnded d c.args.disk c.in-Err.disk g.K.Sink c.args.out.now c.args.out.now st)
     (sym c.from.ensures)
     (unlisted d g.K.Sink c.args.out.now c.args.out.now c.args.disk c.in-Err.disk c.in-Err.fault
-    (record { quiet = refl; device = c.in-Err.ensures.same }) c.in-Err.ensures.counted c.in-Err.ensures.cause
-    c.in-Err.ensures.refused)
+    (record { quiet = refl; device = c.in-Err.ensures.same }) c.in-Err.ensures.counted
+    (λ of_image. record {
+      of_image = of_image;
+      first = c.in-Err.ensures.cause;
+      refused = λ t quiet accepted. c.in-Err.ensures.refused t of_image accepted quiet;
+      either = λ t. c.in-Err.ensures.refused_either t of_image;
+    }))
 
 pub returns-in-Ok-offer : goal.returns-in-Ok-offer
 returns-in-Ok-offer g c =
@@ -23,8 +28,9 @@ returns-in-Ok-offer g c =
     record {
       listed = record {
         loaded = c.in-Ok.loaded;
-        found = found_by g.D.PageDisk c.args.disk c.in-Ok.loaded c.in-Ok.ensures.super_block c.in-Ok.ensures.found
-            c.in-Ok.ensures.accepted c.in-Ok.ensures.recovered c.in-Ok.ensures.same;
+        found = found_by g.D.PageDisk c.args.disk c.in-Ok.loaded c.in-Ok.ensures.same c.in-Ok.ensures.super_block
+            c.in-Ok.ensures.found c.in-Ok.ensures.quick c.in-Ok.ensures.accepted c.in-Ok.ensures.says
+            c.in-Ok.ensures.recovered;
         device = c.disk_of-disk.ensures;
       };
       printed = λ t.
@@ -38,8 +44,9 @@ returns g c =
     record {
       listed = record {
         loaded = c.in-Ok.loaded;
-        found = found_by g.D.PageDisk c.args.disk c.in-Ok.loaded c.in-Ok.ensures.super_block c.in-Ok.ensures.found
-            c.in-Ok.ensures.accepted c.in-Ok.ensures.recovered c.in-Ok.ensures.same;
+        found = found_by g.D.PageDisk c.args.disk c.in-Ok.loaded c.in-Ok.ensures.same c.in-Ok.ensures.super_block
+            c.in-Ok.ensures.found c.in-Ok.ensures.quick c.in-Ok.ensures.accepted c.in-Ok.ensures.says
+            c.in-Ok.ensures.recovered;
         device = c.disk_of-disk.ensures;
       };
       part = λ t.

@@ -1,8 +1,14 @@
-use Rattle.std.proofs.Common.{◌≡◌, ◌∙◌, inl, inr, subst, sym}
-use Rattle.running_store.specs.StoreView.{StoreView}
+use Rattle.std.proofs.Common.{◌≡◌, ◌∙◌, List, inl, inr, subst, sym}
+use Rattle.std.specs.FinMap as map
+use Rattle.page_disk.specs.declared.disk.PageDisk as disk
+use Rattle.running_store.specs.declared.loaded.Loaded.{Loaded}
+use Rattle.running_store.specs.StoreView.{base_of, StoreView}
+use Rattle.volume_model.specs.declared.command.Command.{Command}
 use Rattle.store_core.specs.Opening.{IsOpened}
+use Rattle.blob_tool.specs.Found.{ReadsAs}
 use Rattle.blob_tool.specs.Repairing.{EndedInRepair, EndsRepairs}
 use Rattle.blob_tool.proofs.EndedInRepair.{ended_in_repair, none_left}
+use Rattle.blob_tool.proofs.RunSurvives.{load_laws}
 use Rattle.blob_tool.proofs.WholeRun.{served_at_start, served_behind}
 use Rattle.blob_tool.proofs.playing.play.Goals as goal
 
@@ -15,6 +21,23 @@ run_repaired-requires-clause-served g c =
 pub run_repaired-requires-clause-unused : goal.run_repaired-requires-clause-unused
 run_repaired-requires-clause-unused g c =
     c.repair-end.ensures.ended.made.rows 16 ∙ c.in-Ok.ensures.opened.rows.fill
+
+-- a store that is opened is read as it was loaded
+read_at_opening : {D : Type 0} (d : disk.Ghosts D) (loaded : Loaded D) (script : List (List Command)) (p : StoreView D)
+    → IsOpened d loaded script p
+    → ReadsAs d loaded.quick loaded.sup (base_of loaded.metas loaded.marked) (map.get loaded.chains) loaded.disk
+    → ReadsAs d loaded.quick p.super (base_of p.metas p.marked) (map.get p.chains) p.disk
+read_at_opening {D} d loaded script p opened read =
+    subst (λ (q : StoreView D). ReadsAs d loaded.quick q.super (base_of q.metas q.marked) (map.get q.chains) q.disk)
+    (sym opened.at) read
+
+pub run_repaired-requires-clause-read : goal.run_repaired-requires-clause-read
+run_repaired-requires-clause-read g c =
+    let d = g.D.PageDisk in
+    let b = c.repair-end.new.plant in
+    let same : c.in-Ok.made.0.at ≡ b.opening = sym (c.repair-end.ensures.opening ∙ c.in-Ok.ensures.opening) in
+    read_at_opening d c.args.loaded c.args.script b.opening
+    (subst (IsOpened d c.args.loaded c.args.script) same c.in-Ok.ensures.opened) c.requires.read
 
 pub returns-in-Some : goal.returns-in-Some
 returns-in-Some g c =
@@ -32,9 +55,14 @@ returns-in-Some g c =
       inr (
           subst (λ (x : g.row.D.Denot). EndedInRepair d k out out x b.opening c.in-Some.status)
           (sym c.device_left.ensures.disk)
-          (ended_in_repair d c.stores_are_accepted.ensures c.unloaded_masks_are_read.ensures.apart g.met.D.PageDisk.telling c.state_stops.ensures b
-          c.device_left.ensures.kept k out c.repair-end.result c.in-Some.status (sym c.status.ensures ∙ c.in-Some.is)
-          ends)
+          (ended_in_repair d
+          (load_laws c.stores_are_accepted.ensures.in_use c.clean_stores_are_quick.ensures.accepted
+          c.clean_stores_are_quick.ensures.listed c.fixed_clusters_decide.ensures.accepted
+          c.fixed_clusters_decide.ensures.quick c.fixed_clusters_decide.ensures.no_head
+          c.unloaded_masks_are_read.ensures.apart)
+          g.met.D.PageDisk.telling c.state_stops.ensures b c.device_left.ensures.kept c.args.loaded.quick
+          (read_at_opening d c.args.loaded c.args.script b.opening opened c.requires.read) k out c.repair-end.result
+          c.in-Some.status (sym c.status.ensures ∙ c.in-Some.is) ends)
           ),
     )
 

@@ -1,19 +1,23 @@
 use Rattle.std.proofs.Common.{◌≡◌, ◌≤◌, List, ◌++◌, OnOk, ap, length, sym, subst, ◌∙◌, arith}
 use Rattle.volume_model.specs.declared.reply.Entry.{Entry}
 use Rattle.streams.specs.Printing.{IsPartOf}
+use Rattle.std.specs.FinMap as map
 use Rattle.clean_stop.specs.Masks.{MasksFit}
 use Rattle.super_block.specs.Faults.{IsFaultless}
 use Rattle.super_block.specs.declared.page.Super.{Super}
 use Rattle.running_store.specs.Running.{super_left}
-use Rattle.blob_tool.specs.Closing.{Closes, Unloads}
+use Rattle.blob_tool.specs.Closing.{Closes, IsClosed}
+use Rattle.blob_tool.specs.Found.{ReadsAs}
 use Rattle.blob_tool.specs.Repairing.{AreMade}
 use Rattle.blob_tool.specs.RunScripts.{printed_text}
 use Rattle.blob_tool.specs.Runs.{Ended, Played}
-use Rattle.blob_tool.proofs.Closed.{closing_unloads}
+use Rattle.blob_tool.proofs.Closed.{closes_at_most}
 use Rattle.blob_tool.proofs.Ending.{ends}
-use Rattle.blob_tool.proofs.Unloading.{masks_fit}
-use Rattle.blob_tool.proofs.WholeRun.{is_run, lasting, survives}
-use Rattle.running_store.specs.StoreView.{StoreView}
+use Rattle.blob_tool.proofs.ClosedStore.{masks_fit}
+use Rattle.blob_tool.proofs.RunLasts.{lasting}
+use Rattle.blob_tool.proofs.RunSurvives.{at_opening, load_laws, survives_to_its_end}
+use Rattle.blob_tool.proofs.WholeRun.{is_run}
+use Rattle.running_store.specs.StoreView.{base_of, StoreView}
 use Rattle.store_core.specs.Opening.{AreRows}
 use Rattle.blob_tool.proofs.playing.run_repaired.Goals as goal
 
@@ -54,16 +58,19 @@ returns g c script rows made unmarked =
     c.len.ensures ∙ ap (λ (l : List Entry). length l) c.into_parts-disk.ensures.entries in
     let sup = super_left store.at.clean store.at.super in
     let masks = c.into_parts-disk.result.masks in
-    let apart = c.unloaded_masks_are_read.ensures.apart in
-    let closes : Closes d sup masks store.at.disk back (length store.at.log) c.stopped-stopped.result
+    let closes : Closes d sup masks store.at.disk back c.args.quick (length store.at.log) c.stopped-stopped.result
     c.close-ended.result =
-    subst (λ n. Closes d sup masks store.at.disk back n c.stopped-stopped.result c.close-ended.result) count
-    (subst (λ disk. Closes d sup masks disk back c.len.result c.stopped-stopped.result c.close-ended.result)
+    subst (λ n. Closes d sup masks store.at.disk back c.args.quick n c.stopped-stopped.result c.close-ended.result) count
+    (subst (λ disk. Closes d sup masks disk back c.args.quick c.len.result c.stopped-stopped.result c.close-ended.result)
     c.into_parts-disk.ensures.disk
-    (subst (λ s. Closes d s masks c.into_parts-disk.result.disk back c.len.result c.stopped-stopped.result
+    (subst (λ s. Closes d s masks c.into_parts-disk.result.disk back c.args.quick c.len.result c.stopped-stopped.result
     c.close-ended.result) c.into_parts-disk.ensures.sup c.close-ended.ensures)) in
-    let unloads : Unloads d sup masks store.at.disk back = closing_unloads d sup masks store.at.disk back law
-    (length store.at.log) c.stopped-stopped.result c.close-ended.result closes in
+    let laws = load_laws c.stores_are_accepted.ensures.in_use c.clean_stores_are_quick.ensures.accepted
+    c.clean_stores_are_quick.ensures.listed c.fixed_clusters_decide.ensures.accepted
+    c.fixed_clusters_decide.ensures.quick c.fixed_clusters_decide.ensures.no_head
+    c.unloaded_masks_are_read.ensures.apart in
+    let read = subst (λ (p : StoreView g.row.D.Denot). ReadsAs d c.args.quick p.super (base_of p.metas p.marked)
+    (map.get p.chains) p.disk) (sym same) c.requires.read in
     let made_here : AreMade d store.opening c.args.plant.at =
     subst (λ (first : StoreView g.row.D.Denot). AreMade d first c.args.plant.at) (sym same) made in
     let rows_here = subst (λ (first : StoreView g.row.D.Denot). AreRows script first.rows) (sym same) rows in
@@ -75,8 +82,11 @@ returns g c script rows made unmarked =
           c.run_stepwise-plant.ensures.no_job c.run_stepwise-plant.ensures.unused;
       masks = masks;
       claims = c.into_parts-disk.ensures.masks;
-      device = unloads;
-      survives = survives d c.stores_are_accepted.ensures apart law store kept masks back unloads;
+      device = closes_at_most d sup masks store.at.disk back law c.args.quick (length store.at.log)
+          c.stopped-stopped.result c.close-ended.result closes;
+      survives = survives_to_its_end d laws law store kept c.args.quick read masks back (length store.at.log)
+          c.stopped-stopped.result c.close-ended.result (sym c.stopped-stopped.ensures) c.into_parts-disk.ensures.masks
+          closes;
       printed =
           λ tells. subst
           (λ (l : List Entry). IsPartOf (k.written c.args.out.now) (k.written c.report-printed.new.out)
@@ -90,9 +100,11 @@ returns g c script rows made unmarked =
     (Ended d script c.args.schedule.now c.args.from k c.args.out.now c.report-printed.new.out back store.opening)
     (sym c.of_run.ensures)
     (ends d script c.args.schedule.now c.args.from k c.args.out.now c.report-printed.new.out back store.opening played
-    c.stopped-stopped.result c.close-ended.result c.report-printed.result (sym c.stopped-stopped.ensures) closes
-    (λ closed runs one. lasting d c.stores_are_accepted.ensures apart law store kept masks back unloads runs
-    closed.lasting closed.unloaded (c.into_parts-disk.ensures.masks runs) one)
+    c.args.quick c.stopped-stopped.result c.close-ended.result c.report-printed.result (sym c.stopped-stopped.ensures) closes
+    (λ closed runs sound. lasting d laws law store kept c.args.quick read sound runs masks
+    (c.into_parts-disk.ensures.masks runs) back
+    (at_opening d laws law store kept c.args.quick read masks back
+    (λ t. IsClosed d (super_left store.at.clean t) masks store.at.disk back c.args.quick) closed))
     (λ tells. subst
     (λ (l : List Entry). OnOk c.report-printed.result
     (k.written c.report-printed.new.out ≡ k.written c.args.out.now ++ printed_text c.args.from l)) entries

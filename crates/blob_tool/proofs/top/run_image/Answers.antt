@@ -4,35 +4,40 @@ use Rattle.blob_tool.specs.Outcome.{Outcome}
 use Rattle.blob_tool.specs.declared.status.Status.{Status}
 use Rattle.blob_tool.proofs.Complete.{done_from}
 use Rattle.blob_tool.proofs.Ending.{of_a_fault, of_a_run}
-use Rattle.blob_tool.proofs.FoundStore.{found_by}
+use Rattle.blob_tool.proofs.FoundStore.{found_by, read_as}
 use Rattle.blob_tool.proofs.HavingCommands.{no_usage, only_memory, unread, unread_without, without_commands}
 use Rattle.blob_tool.proofs.top.run_image.Goals as goal
+
+pub play-requires-clause-read : goal.play-requires-clause-read
+play-requires-clause-read g c =
+    let x = c.in-Ok-load.ensures in
+    read_as g.D.PageDisk c.args.disk c.in-Ok-load.loaded x.same x.device_pages x.super_block x.holds x.found
 
 pub returns-in-Ok-load-clause-outcome : goal.returns-in-Ok-load-clause-outcome
 returns-in-Ok-load-clause-outcome g c =
     let d = g.D.PageDisk in
     let loaded = c.in-Ok-load.loaded in
+    let x = c.in-Ok-load.ensures in
     of_a_run g.S.Source c.args.script.now c.commands_of.new.source d g.K.Sink c.args.out.now c.play.new.out c.args.disk
     c.play.result.1 c.args.from c.args.schedule.now c.in-Ok.commands loaded c.play.result.0 c.in-Ok.ensures.commands
     (λ first opened. record {
-      found = found_by d c.args.disk loaded c.in-Ok-load.ensures.super_block c.in-Ok-load.ensures.found
-          c.in-Ok-load.ensures.accepted c.in-Ok-load.ensures.recovered c.in-Ok-load.ensures.same;
+      found = found_by d c.args.disk loaded x.same x.super_block x.found x.quick x.accepted x.says x.recovered;
       opened = opened;
-    }) c.in-Ok-load.ensures.same c.play.ensures
+    }) x.same c.play.ensures
 
 pub returns-in-Ok-load-clause-complete : goal.returns-in-Ok-load-clause-complete
 returns-in-Ok-load-clause-complete g c fails =
     let d = g.D.PageDisk in
     let loaded = c.in-Ok-load.loaded in
+    let x = c.in-Ok-load.ensures in
     done_from g.S.Source c.args.script.now c.commands_of.new.source d g.K.Sink c.args.out.now c.play.new.out c.args.disk
-    c.play.result.1 c.args.from fails loaded c.in-Ok-load.ensures.same c.in-Ok.commands c.args.schedule.now
+    c.play.result.1 c.args.from fails loaded x.same c.in-Ok.commands c.args.schedule.now
     c.play.result.0
     (λ first opened. record {
       script_is = c.in-Ok.ensures.commands;
       loaded = loaded;
       as_found = record {
-        found = found_by d c.args.disk loaded c.in-Ok-load.ensures.super_block c.in-Ok-load.ensures.found
-            c.in-Ok-load.ensures.accepted c.in-Ok-load.ensures.recovered c.in-Ok-load.ensures.same;
+        found = found_by d c.args.disk loaded x.same x.super_block x.found x.quick x.accepted x.says x.recovered;
         opened = opened;
       };
     }) c.play.ensures
@@ -47,7 +52,13 @@ returns-in-Err-load-clause-outcome g c =
     c.in-Err-load.disk c.args.from c.args.schedule.now c.in-Err-load.fault
     (record { quiet = refl; device = c.in-Err-load.ensures.same })
     (record { commands = c.in-Ok.commands; script_is = c.in-Ok.ensures.commands })
-    c.in-Err-load.ensures.counted c.in-Err-load.ensures.cause c.in-Err-load.ensures.refused)
+    c.in-Err-load.ensures.counted
+    (λ of_image. record {
+      of_image = of_image;
+      first = c.in-Err-load.ensures.cause;
+      refused = λ t quiet accepted. c.in-Err-load.ensures.refused t of_image accepted quiet;
+      either = λ t. c.in-Err-load.ensures.refused_either t of_image;
+    }))
 
 pub returns-in-Err-clause-no_usage : goal.returns-in-Err-clause-no_usage
 returns-in-Err-clause-no_usage g c =

@@ -1,85 +1,183 @@
-use Rattle.std.proofs.Common.{◌≡◌, rules, sym, ap, subst}
+use Rattle.std.proofs.Common.{◌≡◌, ℕ, ◌+◌, ◌≤◌, rules, sym, ap, subst, ◌∙◌, arith}
 use Rattle.std.specs.Prelude.{IsTrue}
 use Rattle.std.specs.FinMap as map
 use Rattle.page_disk.specs.Disk.{Image}
 use Rattle.page_disk.specs.declared.disk.PageDisk.{Ghosts}
 use Rattle.super_block.specs.declared.page.Super.{Super}
-use Rattle.md_chain.specs.Reading.{OnlyRead}
 use Rattle.store_model.specs.Maps.{Metas, Chains}
-use Rattle.store_model.specs.Regions.{region_of, look_of}
 use Rattle.running_store.specs.Recovered.{IsRecovered, base_of}
-use Rattle.unclean_load.specs.Accepted.{IsFaultOf}
-use Rattle.unclean_load.specs.Heads.{AreWhole, AreWholeBelow, IsHeadsFault}
-use Rattle.unclean_load.specs.Reading.{AreRead, HasNoneFrom}
-use Rattle.unclean_load.proofs.LoadOutcome.{whole_region, heads_fail, recovery_fails}
+use Rattle.unclean_load.specs.Accepted.{IsFaultBy}
+use Rattle.unclean_load.specs.Quick.{AreUsed, IsReadBy}
+use Rattle.unclean_load.specs.Reading.{IsFaultCounted, IsOnlyFault}
+use Rattle.unclean_load.specs.Reads.{pages_together}
+use Rattle.unclean_load.proofs.FoundBlobs.{counted_since}
+use Rattle.unclean_load.proofs.LoadOutcome.{heads_fail, recovery_fails}
 use Rattle.unclean_load.proofs.Recovery.{base_read}
+use Rattle.unclean_load.proofs.UsedHeads.{fault_first, read_first, reads_behind, recovery_counted, recovery_only, super_fails}
 use Rattle.unclean_load.proofs.loading.read_store.Goals as goal
-
--- what the heads say after the super block was read is what they said before
-whole_first : {D : Type 0} (d : Ghosts D) (old first : D) (s : Super) (metas : Metas) (chains : Chains)
-    → OnlyRead d old first → (told : IsTrue d.tells)
-    → AreWholeBelow (look_of (region_of s) (d.now first)) (region_of s) s.md_len metas chains
-    → HasNoneFrom metas s.md_len → AreRead s metas chains
-    → AreWhole (look_of (region_of s) (d.now old)) (region_of s) metas chains
-whole_first d old first s metas chains same told below none read =
-    whole_region (look_of (region_of s) (d.now old)) (region_of s) metas chains
-    (subst (λ (image : Image). AreWholeBelow (look_of (region_of s) image) (region_of s) s.md_len metas chains)
-    (same.now told) below) none read.none
 
 pub returns-clause-found : goal.returns-clause-found
 returns-clause-found g c =
     let d = g.D.PageDisk in
+    let old = c.args.disk.now in
     let s = c.in_ok-sup.sup in
-    let b = c.in_ok-blobs.blobs in
-    let e = c.in_ok-blobs.ensures in
+    let f = c.in_ok-found.found in
+    let new = c.find_blobs.new.disk in
     let r = c.in_ok-recovered.recovered in
     let x = c.in_ok-recovered.ensures in
-    let base : base_of r.metas r.marked ≡ map.get b.metas =
-    base_read s (map.get b.metas) (map.get r.chains) r.metas r.removed r.marked r.repairs r.masks x.recovered in
+    let base : base_of r.metas r.marked ≡ map.get f.blobs.metas =
+    base_read s (map.get f.blobs.metas) (map.get r.chains) r.metas r.removed r.marked r.repairs r.masks x.recovered in
     λ told. subst
-    (λ (m : Metas). AreWhole (look_of (region_of s) (d.now c.args.disk.now)) (region_of s) m (map.get r.chains))
+    (λ (m : Metas).
+    IsReadBy (AreUsed (d.read_faults old) (d.read_faults new) s (d.now old)) f.quick s (d.now old) m (map.get r.chains))
     (sym base)
     (subst
-    (λ (l : Chains). AreWhole (look_of (region_of s) (d.now c.args.disk.now)) (region_of s) (map.get b.metas) l)
+    (λ (l : Chains).
+    IsReadBy (AreUsed (d.read_faults old) (d.read_faults new) s (d.now old)) f.quick s (d.now old)
+    (map.get f.blobs.metas) l)
     (ap map.get (sym x.chains))
-    (whole_first d c.args.disk.now c.super_on.new.disk s (map.get b.metas)
-    (map.get b.chains) c.in_ok-sup.ensures.same told (e.found told) e.no_other e.read))
+    (read_first d old c.super_on.new.disk new c.in_ok-sup.ensures.quiet (c.in_ok-sup.ensures.same.now told) s f.quick
+    (map.get f.blobs.metas) (map.get f.blobs.chains) (c.in_ok-found.ensures.found told)))
 
 pub returns-clause-recovered : goal.returns-clause-recovered
 returns-clause-recovered g c =
     let s = c.in_ok-sup.sup in
-    let b = c.in_ok-blobs.blobs in
+    let b = c.in_ok-found.found.blobs in
     let r = c.in_ok-recovered.recovered in
     let x = c.in_ok-recovered.ensures.recovered in
     subst (λ (m : Metas). IsRecovered s m (map.get r.chains) r.metas r.removed r.marked r.repairs r.masks)
     (sym (base_read s (map.get b.metas) (map.get r.chains) r.metas r.removed r.marked r.repairs r.masks x)) x
 
-pub returns-in_err-blobs-clause-fault : goal.returns-in_err-blobs-clause-fault
-returns-in_err-blobs-clause-fault g c =
+pub returns-in_err-found-clause-fault : goal.returns-in_err-found-clause-fault
+returns-in_err-found-clause-fault g c =
     let d = g.D.PageDisk in
     let s = c.in_ok-sup.sup in
-    let why = c.in_err-blobs.field-0.0 in
+    let why = c.in_err-found.field-0.0 in
     let old = c.args.disk.now in
+    let new = c.find_blobs.new.disk in
     λ told.
-    let x : IsFaultOf (d.pages old) (d.now old) why =
-    heads_fail (d.pages old) (d.now old) s (c.in_ok-sup.ensures.found told) why
-    (subst (λ (image : Image). IsHeadsFault (look_of (region_of s) image) (region_of s) why)
-    (c.in_ok-sup.ensures.same.now told) (c.in_err-blobs.ensures.fault told)) in
+    let x : IsFaultBy (AreUsed (d.read_faults old) (d.read_faults new)) (d.pages old) (d.now old) why =
+    heads_fail (AreUsed (d.read_faults old) (d.read_faults new)) (d.pages old) (d.now old) s
+    (c.in_ok-sup.ensures.found told) why
+    (fault_first d old c.super_on.new.disk new c.in_ok-sup.ensures.quiet (c.in_ok-sup.ensures.same.now told) s why
+    (c.in_err-found.ensures.fault told)) in
     search rules
 
 pub returns-in_err-recovered-clause-fault : goal.returns-in_err-recovered-clause-fault
 returns-in_err-recovered-clause-fault g c =
     let d = g.D.PageDisk in
     let s = c.in_ok-sup.sup in
-    let b = c.in_ok-blobs.blobs in
-    let e = c.in_ok-blobs.ensures in
+    let f = c.in_ok-found.found in
     let why = c.in_err-recovered.field-0.0 in
     let old = c.args.disk.now in
+    let new = c.find_blobs.new.disk in
     λ told.
-    let whole =
-    whole_first d old c.super_on.new.disk s (map.get b.metas) (map.get b.chains) c.in_ok-sup.ensures.same told
-    (e.found told) e.no_other e.read in
-    let x : IsFaultOf (d.pages old) (d.now old) why =
-    recovery_fails (d.pages old) (d.now old) s (c.in_ok-sup.ensures.found told) (map.get b.metas)
-    (map.get b.chains) whole why c.in_err-recovered.ensures.fault in
+    let read =
+    read_first d old c.super_on.new.disk new c.in_ok-sup.ensures.quiet (c.in_ok-sup.ensures.same.now told) s f.quick
+    (map.get f.blobs.metas) (map.get f.blobs.chains) (c.in_ok-found.ensures.found told) in
+    let x : IsFaultBy (AreUsed (d.read_faults old) (d.read_faults new)) (d.pages old) (d.now old) why =
+    recovery_fails (AreUsed (d.read_faults old) (d.read_faults new)) (d.pages old) (d.now old) s
+    (c.in_ok-sup.ensures.found told) read.heads read.are_used (map.get f.blobs.metas) (map.get f.blobs.chains)
+    read.whole why c.in_err-recovered.ensures.fault in
     search rules
+
+pub returns-clause-reads : goal.returns-clause-reads
+returns-clause-reads g c =
+    let d = g.D.PageDisk in
+    λ told. reads_behind (d.reads c.args.disk.now) (d.reads c.super_on.new.disk) (d.reads c.find_blobs.new.disk)
+    c.in_ok-sup.sup _ (c.in_ok-sup.ensures.found told).is c.in_ok-sup.ensures.reads
+    (c.find_blobs.ensures.at_most told)
+
+pub returns-in_err-found-clause-reads : goal.returns-in_err-found-clause-reads
+returns-in_err-found-clause-reads g c =
+    let d = g.D.PageDisk in
+    λ told. reads_behind (d.reads c.args.disk.now) (d.reads c.super_on.new.disk) (d.reads c.find_blobs.new.disk)
+    c.in_ok-sup.sup _ (c.in_ok-sup.ensures.found told).is c.in_ok-sup.ensures.reads
+    (c.find_blobs.ensures.at_most told)
+
+pub returns-in_err-recovered-clause-reads : goal.returns-in_err-recovered-clause-reads
+returns-in_err-recovered-clause-reads g c =
+    let d = g.D.PageDisk in
+    λ told. reads_behind (d.reads c.args.disk.now) (d.reads c.super_on.new.disk) (d.reads c.find_blobs.new.disk)
+    c.in_ok-sup.sup _ (c.in_ok-sup.ensures.found told).is c.in_ok-sup.ensures.reads
+    (c.find_blobs.ensures.at_most told)
+
+pub returns-clause-quick_reads : goal.returns-clause-quick_reads
+returns-clause-quick_reads g c =
+    let s = c.in_ok-sup.sup in
+    λ is.
+    let first = c.in_ok-sup.ensures.reads in
+    let more = c.in_ok-found.ensures.reads is in
+    let same = ap (λ l. pages_together s.md_len (map.get l)) c.in_ok-recovered.ensures.chains in
+    omega (arith, first, more, same)
+
+pub returns-in_err-sup-clause-fault : goal.returns-in_err-sup-clause-fault
+returns-in_err-sup-clause-fault g c =
+    let d = g.D.PageDisk in
+    let old = c.args.disk.now in
+    let why = c.in_err-sup.field-0.0 in
+    λ told.
+    let x :
+    IsFaultBy (AreUsed (d.read_faults old) (d.read_faults c.super_on.new.disk)) (d.pages old) (d.now old) why =
+    super_fails (AreUsed (d.read_faults old) (d.read_faults c.super_on.new.disk)) (d.pages old) (d.now old) why
+    (c.in_err-sup.ensures.fault told) in
+    search rules
+
+pub returns-in_err-sup-clause-counted : goal.returns-in_err-sup-clause-counted
+returns-in_err-sup-clause-counted g c =
+    let d = g.D.PageDisk in
+    let why = c.in_err-sup.field-0.0 in
+    let x : IsFaultCounted (d.read_faults c.args.disk.now) (d.read_faults c.super_on.new.disk) why =
+    counted_since (d.read_faults c.args.disk.now) (d.read_faults c.args.disk.now) (d.read_faults c.super_on.new.disk)
+    why (omega arith) c.in_err-sup.ensures.counted in
+    search rules
+
+pub returns-in_err-found-clause-counted : goal.returns-in_err-found-clause-counted
+returns-in_err-found-clause-counted g c =
+    let d = g.D.PageDisk in
+    let why = c.in_err-found.field-0.0 in
+    let x : IsFaultCounted (d.read_faults c.args.disk.now) (d.read_faults c.find_blobs.new.disk) why =
+    subst (λ (n : ℕ). IsFaultCounted n (d.read_faults c.find_blobs.new.disk) why) c.in_ok-sup.ensures.quiet
+    c.in_err-found.ensures.counted in
+    search rules
+
+pub returns-in_err-recovered-clause-counted : goal.returns-in_err-recovered-clause-counted
+returns-in_err-recovered-clause-counted g c =
+    let d = g.D.PageDisk in
+    let f = c.in_ok-found.found in
+    let why = c.in_err-recovered.field-0.0 in
+    let x : IsFaultCounted (d.read_faults c.args.disk.now) (d.read_faults c.find_blobs.new.disk) why =
+    recovery_counted c.in_ok-sup.sup.md_len (map.get f.blobs.metas) (map.get f.blobs.chains)
+    (d.read_faults c.args.disk.now) (d.read_faults c.find_blobs.new.disk) why c.in_err-recovered.ensures.fault in
+    search rules
+
+pub returns-in_err-found-clause-in_use_fault : goal.returns-in_err-found-clause-in_use_fault
+returns-in_err-found-clause-in_use_fault g c =
+    let d = g.D.PageDisk in
+    let why = c.in_err-found.field-0.0 in
+    λ told dirty.
+    let is = ap (λ (s : Super). s.clean) (c.in_ok-sup.ensures.found told).is in
+    let x : IsOnlyFault (d.read_faults c.args.disk.now) (d.read_faults c.find_blobs.new.disk) why =
+    subst (λ (n : ℕ). IsOnlyFault n (d.read_faults c.find_blobs.new.disk) why) c.in_ok-sup.ensures.quiet
+    (c.in_err-found.ensures.in_use_fault (λ e. dirty (sym is ∙ e))) in
+    search rules
+
+pub returns-in_err-recovered-clause-in_use_fault : goal.returns-in_err-recovered-clause-in_use_fault
+returns-in_err-recovered-clause-in_use_fault g c =
+    let d = g.D.PageDisk in
+    let f = c.in_ok-found.found in
+    let why = c.in_err-recovered.field-0.0 in
+    λ told dirty.
+    let is = ap (λ (s : Super). s.clean) (c.in_ok-sup.ensures.found told).is in
+    let x : IsOnlyFault (d.read_faults c.args.disk.now) (d.read_faults c.find_blobs.new.disk) why =
+    recovery_only c.in_ok-sup.sup.md_len (map.get f.blobs.metas) (map.get f.blobs.chains)
+    (d.read_faults c.args.disk.now) (d.read_faults c.find_blobs.new.disk)
+    (c.in_ok-found.ensures.in_use (λ e. dirty (sym is ∙ e)) ∙ c.in_ok-sup.ensures.quiet) why
+    c.in_err-recovered.ensures.fault in
+    search rules
+
+pub returns-clause-in_use : goal.returns-clause-in_use
+returns-clause-in_use g c = λ dirty. c.in_ok-found.ensures.in_use dirty ∙ c.in_ok-sup.ensures.quiet
+
+pub returns-clause-quiet : goal.returns-clause-quiet
+returns-clause-quiet g c = λ is. c.in_ok-found.ensures.quiet is ∙ c.in_ok-sup.ensures.quiet

@@ -1,28 +1,6 @@
-use Rattle.std.proofs.Common.{◌≡◌, ◌<◌, ℕ, Bool, List, Option, IsSome, length, refl, sym, subst, inl, inr}
 use Rattle.std.specs.FinMap as map
-use Rattle.super_block.specs.declared.page.Super.{Super}
-use Rattle.super_block.specs.Numbers.{clusters_of, fixed_clusters_of}
-use Rattle.blob_meta.specs.Repairs.{HasHeadsBelow}
-use Rattle.store_model.specs.Maps.{Metas}
-use Rattle.store_model.specs.Places.{Unclaimed, UsedClusters}
-use Rattle.unclean_load.specs.Sharing.{copies, AreCounted}
-use Rattle.unclean_load.proofs.Slots.{mapped_copy, find_mapped}
+use Rattle.unclean_load.proofs.ClaimedClusters.{counted_used}
 use Rattle.unclean_load.proofs.sharing.used_clusters.Goals as goal
-
-counted_used : (s : Super) (metas : Metas) (bits : List Bool) (twice : Option ℕ) → HasHeadsBelow s.md_len metas
-    → length bits ≡ clusters_of s → AreCounted (fixed_clusters_of s) (copies s.md_len metas) bits twice
-    → UsedClusters s bits metas Unclaimed
-counted_used s metas bits twice below count x = record {
-  count = count;
-  fixed = λ k lt below. x.first k lt (subst (λ (n : ℕ). k < n) (sym count) below);
-  mapped = λ k m. x.claimed k (mapped_copy metas k s.md_len (λ h n there. below h (subst IsSome (sym there) refl)) m);
-  claimed_too = λ k bad. absurd bad;
-  no_other = λ k is. elim (x.no_other k is) [
-    | inl first ↦ inl first
-    | inr some ↦ inr (inl (find_mapped metas k s.md_len some).mapped)
-  ];
-  apart = λ k bad. absurd bad;
-}
 
 pub returns-in_default-clause-used : goal.returns-in_default-clause-used
 returns-in_default-clause-used c =

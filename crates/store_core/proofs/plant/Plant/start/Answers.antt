@@ -1,4 +1,4 @@
-use Rattle.std.proofs.Common.{◌≡◌, sym, subst}
+use Rattle.std.proofs.Common.{◌≡◌, refl, sym, subst}
 use Rattle.running_store.specs.declared.running.Running.{Running}
 use Rattle.running_store.specs.Running.{view_of, with_opening}
 use Rattle.store_core.specs.StoreInvariant.{StoreInvariant}
@@ -32,7 +32,7 @@ invariant_of-result g c =
     c.in-Ok.ensures.live c.running_at_start-running.ensures.pages c.running_at_start-running.ensures.clusters)
     (it_opens loaded c.requires.recovered d live guards rows pages clusters c.in-Ok.ensures.guards c.args.script
     c.in-Ok.ensures.rows)
-    c.requires.faultless c.requires.holds right in
+    c.requires.faultless refl right in
     let kept_at : StoreInvariant d (with_opening running running right) =
     subst (λ (p : StoreView g.row.D.Denot). StoreInvariant d (record { at = p; opening = p; right = right }))
     (sym at) kept in (

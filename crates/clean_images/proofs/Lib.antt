@@ -1,0 +1,4 @@
+pub mod TouchedPages
+pub mod PagesWritten
+pub mod TurnsMade
+pub mod KeptClean
