@@ -21,10 +21,10 @@ use Rattle.running_store.specs.Running.{super_left}
 use Rattle.blob_tool.specs.Closing.{as_before, Becomes, clean, in_use, kept}
 
 -- the masks of a store have the lengths that an unload asks of them
-pub masks_fit : (clean : Bool) (s : Super) (metas : Metas) (chains : Chains) (masks : Masks)
-    → AreMasks s metas chains masks → MasksFit (super_left clean s) masks
+pub masks_fit : (left : Bool) (s : Super) (metas : Metas) (chains : Chains) (masks : Masks)
+    → AreMasks s metas chains masks → MasksFit (super_left left s) masks
 unfolding clusters_of
-masks_fit clean s metas chains masks are =
+masks_fit left s metas chains masks are =
     record { pages = are.pages.count; clusters = are.clusters.count; blobs = are.count }
 
 -- One image has this store where another has it, and the metadata region and all behind the fixed clusters are the same.

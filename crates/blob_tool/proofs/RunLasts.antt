@@ -73,13 +73,13 @@ module _ {D : Type 0} (d : Ghosts D) (laws : LoadLaws) (law : IsTrue d.tells →
 
   written : IsCleanWith (super_left b.at.clean s) masks image → IsLeftClean d s first b.at back
   written is =
-      let x = (run.unloaded_at d laws law b kept quick read sound runs masks claims came.image image came.was came.same
-      is).1 in
+      let x = run.unloaded_at d laws law b kept quick read sound runs masks claims came.image image came.was came.same
+      is in
       record {
         masks = masks;
-        quick = subst (λ (t : Super). IsQuick t masks image) super_here x.0;
+        quick = subst (λ (t : Super). IsQuick t masks image) super_here x.1;
         claims = run.claims_here d laws law b kept quick read sound runs masks claims;
-        no_head = subst (λ (t : Super). HasNoHeadBesideMask t image) super_here x.1;
+        no_head = subst (λ (t : Super). HasNoHeadBesideMask t image) super_here x.2;
       }
 
   -- ---- they were trusted, and nothing was written
@@ -107,7 +107,7 @@ module _ {D : Type 0} (d : Ghosts D) (laws : LoadLaws) (law : IsTrue d.tells →
     -- the blobs of the mask are those in memory
     claimed_here : AreClaimed s found.0 opened → AreMasks s base chains found.0
     claimed_here x =
-        let listed = laws.listed s opened found.0.blobs x.metas x.chains x.blobs (no_head found.0 found.1.0) in
+        let listed = laws.listed s opened found.0.blobs x.metas x.chains x.blobs (no_head found.0 found.1) in
         let here : Says (region_of s) x.metas x.chains image =
         same_region (look_of (region_of s) opened) (region_of s) x.metas x.chains listed (look_of (region_of s) image)
         (λ q low. fixed (s.md_start + q) (let end = kept.placed.md_end in omega (arith, end, low))) in
@@ -124,10 +124,10 @@ module _ {D : Type 0} (d : Ghosts D) (laws : LoadLaws) (law : IsTrue d.tells →
     trusted = record {
       masks = found.0;
       quick = subst (λ (t : Super). IsQuick t found.0 image) super_stays
-          (laws.quick_kept s opened image kept.faultless fixed found.0 found.1.0);
-      claims = elim found.1.0.trusted [
+          (laws.quick_kept s opened image kept.faultless fixed found.0 found.1);
+      claims = elim found.1.trusted [
         | inl x ↦ claimed_here x
-        | inr faulty ↦ absurd (faulty _ _ found.1.1)
+        | inr faulty ↦ absurd (faulty _ _ found.2)
       ];
       no_head = subst (λ (t : Super). HasNoHeadBesideMask t image) super_stays
           (laws.no_head_kept s opened image kept.faultless fixed no_head);

@@ -28,8 +28,8 @@ use Rattle.running_store.specs.Surviving.{CanBeLoaded, StoreComesBack, StoreSurv
 use Rattle.store_core.specs.StoreInvariant.{OpensAsRead, opening_script, StoreInvariant}
 use Rattle.unclean_load.specs.Accepted.{AcceptedAreKept, CanBeScanned, InUseAreAccepted, IsAccepted, UnloadedAreAccepted}
 use Rattle.unclean_load.specs.Quick.{HasNoHeadBesideMask, IsQuick, ListedAreScanned, NoHeadIsKept, QuickIsKept}
-use Rattle.blob_tool.specs.Closing.{as_before, Becomes, clean, Closes, Closing, in_use, IsCleanWith, kept}
-use Rattle.blob_tool.specs.Closing.{LeavesClosing}
+use Rattle.blob_tool.specs.Closing.{Becomes, Closes, Closing, IsCleanWith, LeavesClosing}
+use Rattle.blob_tool.specs.Closing as closing
 use Rattle.blob_tool.specs.Found.{HasSoundImage, ReadsAs}
 use Rattle.blob_tool.specs.Surviving.{RunComesBack, RunSurvives}
 use Rattle.blob_tool.proofs.ClosedStore.{becomes_same, HasSameStore}
@@ -274,25 +274,25 @@ module _ {D : Type 0} (d : Ghosts D) (laws : LoadLaws) (law : IsTrue d.tells →
 
     accepted_so : (image c : Image) → d.images b.at.disk image → HasSameStore s image c → Becomes left masks image c
         → IsAccepted s.device_pages c
-    accepted_so image c held same (as_before stays) = accepts c
+    accepted_so image c held same (closing.as_before stays) = accepts c
         (loaded_same s kept_so.placed image c (same.store (loads image held).store) same.region same.behind
         (loads image held))
         (⊎_elim
         (λ in_use. inl (subst (λ page. (super_of page s.device_pages).clean ≢ 1) (sym (stays 0)) in_use))
         (λ fixed. inr (λ page lt. stays page ∙ fixed page lt)) (way image held))
-    accepted_so image c held same (kept dirty stays) = accepts c
+    accepted_so image c held same (closing.kept dirty stays) = accepts c
         (loaded_same s kept_so.placed image c (same.store (loads image held).store) same.region same.behind
         (loads image held))
         (inl (subst (λ page. (super_of page s.device_pages).clean ≢ 1) (sym stays)
         (images.in_use (not_clean dirty) image held)))
-    accepted_so image c held same (in_use is) = accepts c
+    accepted_so image c held same (closing.in_use is) = accepts c
         (loaded_same s kept_so.placed image c (same.store (loads image held).store) same.region same.behind
         (loads image held))
         (inl (λ one. let zero : 0 ≡ 1 = sym (ap (λ (t : Super). t.clean) is.reads) ∙ one in cc zero))
-    accepted_so image c held same (clean is) =
+    accepted_so image c held same (closing.clean is) =
         (unloaded_at image c held same is).0
 
-    from_closing : (c : Image) → Closing left masks (d.images b.at.disk) c → ComesFrom c
+    pub from_closing : (c : Image) → Closing left masks (d.images b.at.disk) c → ComesFrom c
     from_closing c x =
         let same = becomes_same s kept_so.placed (laws.apart s kept_so.faultless) b.at.clean masks x.image c x.others
         x.becomes in

@@ -46,7 +46,12 @@ fn patch(disk: &mut MemDisk, page: u64, at: usize, byte: u8) -> Result<(), Fail>
 /// A volume of one page of metadata at place 0, of which the cluster 5 is in slot 1.
 fn written(alloc: Global) -> Result<MemDisk, Fail> {
     let script = b"0 create v 4 thin\n0 write v 5 1 7\n";
-    play(alloc, script, b"0 0 ok @0\n0 1 ok\n", image(alloc, (64, 16), &[])?)
+    play(
+        alloc,
+        script,
+        b"0 0 ok @0\n0 1 ok\n",
+        image(alloc, (64, 16), &[])?,
+    )
 }
 
 /// The super block, three masks, and the one metadata page that is used.
@@ -70,7 +75,12 @@ fn a_mask_with_a_cluster_too_many_is_written_anew(rt: HostRuntime) -> Result<(),
         return Err(Fail::new("the store is not loaded"));
     };
     assert_eq!(rt; found, (false, 22));
-    let disk = play(alloc, b"0 df\n", b"0 0 df clusters 10 of 16 pages 15 of 16\n", disk)?;
+    let disk = play(
+        alloc,
+        b"0 df\n",
+        b"0 0 df clusters 10 of 16 pages 15 of 16\n",
+        disk,
+    )?;
     let Ok(found) = loaded(alloc, disk) else {
         return Err(Fail::new("the store is not loaded"));
     };
@@ -88,6 +98,9 @@ fn a_head_that_its_mask_names_is_missed(rt: HostRuntime) -> Result<(), Fail> {
         return Err(Fail::new("the store is loaded"));
     };
     let told = format!(in alloc; "{fault:?}")?;
-    assert_eq!(rt; told.as_str(), "Chain { head: 0, fault: Unsound { page: 0 } }");
+    assert_eq!(rt;
+        told.as_str(),
+        "Chain { head: 0, fault: Unsound { page: 0 } }"
+    );
     Ok(())
 }
