@@ -7,7 +7,7 @@ set -euo pipefail
 program blobtool format "$image" --cluster 16384 </dev/null
 # The last write has a cluster of zeros for its slot by then, and has written the volume's new map, which isn't flushed:
 # the map is lost (with 1 in place of 0 it would be left).
-program power_cut "$image" 41 0 <<'END'
+program power_cut "$image" 28 0 <<'END'
 0 create v 4 thin
 0 write v 5 1 7
 0 flush

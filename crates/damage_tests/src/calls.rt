@@ -98,6 +98,30 @@ fn a_run_is_done_but_for_its_last_flush(rt: HostRuntime) -> Result<(), TestFail>
     expect_done(rt.alloc(), disk.into_inner())
 }
 
+/// The eleventh flush is the first one of the snapshot's last replacement, which follows its commit: the store stops, and
+/// the command is done.
+#[test]
+fn a_snapshot_is_done_with_its_commit(rt: HostRuntime) -> Result<(), TestFail> {
+    let alloc = rt.alloc();
+    let fail = Fail {
+        kind: CallKind::Flush,
+        nth: 11,
+    };
+    let script = b"0 create v 1 thin\n0 snapshot v s\n0 read v 0 1\n";
+    let disk = FaultDisk::new(new_store(alloc)?, vec![in alloc; fail]?);
+    let Ran { status, out, disk } = run(alloc, script, disk)?;
+    assert!(rt; matches!(status, Status::Device { at: 2 }));
+    expect_printed(&out, b"0 0 ok @0\n0 1 ok @1\n0 2 stopped 2\n")?;
+    play(
+        alloc,
+        b"0 read v 0 1\n0 read s 0 1\n0 df\n",
+        b"0 0 page fill 0000000000000000\n0 1 page fill 0000000000000000\n\
+            0 2 df clusters 11 of 16 pages 14 of 16\n",
+        disk.into_inner(),
+    )?;
+    Ok(())
+}
+
 /// How many reads the load of a device makes: those of a run without a command.
 fn reads_of_load(alloc: Global, disk: &MemDisk) -> Result<u64, TestFail> {
     let disk = FaultDisk::new(disk.crash(0)?, Vec::new(alloc));

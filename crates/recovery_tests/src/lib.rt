@@ -12,3 +12,5 @@ mod parents;
 mod repair_crashes;
 #[cfg(test)]
 mod repairs;
+#[cfg(test)]
+mod stops;

@@ -34,8 +34,9 @@ fn stopped(alloc: Global, disk: MemDisk, calls: u64, counted: &[u8]) -> Result<L
     })
 }
 
-/// How many calls the load of a store of 16 metadata pages makes at least, and where its clusters of data begin.
-const LOAD: u64 = 17;
+/// How many calls the load of one of these stores makes at least, of a super block, three masks and the pages of a blob,
+/// and where its clusters of data begin.
+const LOAD: u64 = 5;
 
 const DATA: u64 = 20;
 
