@@ -18,7 +18,7 @@ const CLONES: Cut = Cut {
 /// The metadata pages of the store, just enough. With them clusters 0 and 1 are fixed.
 const MD_PAGES: u32 = 3;
 
-/// Before the commands, and after each. Loading reads the super block, three metadata pages, and a chain of one page.
+/// Before the commands, and after each. Loading reads the super block, three masks, and a chain of one page.
 /// No command has a fresh page behind its head: it flushes, writes the head, and flushes. The first clone marks the
 /// store as in use before, in three calls; the unload at the end makes six: 17 + 6.
 const POINTS: &[Point] = &[

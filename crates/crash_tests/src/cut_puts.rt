@@ -45,18 +45,18 @@ fn expect_left(alloc: Global, disk: MemDisk, is_new: bool) -> Result<(), Fail> {
     expect_written(&mut disk, 5, chain)
 }
 
-/// Loading reads the super block, five metadata pages and a chain of three pages. The put begins with the three calls
-/// that mark the store as in use. It makes two writes of fresh pages, a flush, the head's write and a flush:
-/// 9 + 3 + 2 + 3. Then it makes two writes of old pages and a flush, and the run ends with the six calls of the unload:
-/// 17 + 3 + 6. Whenever it is cut off, two pages are clear for the next put, and once that is done the others hold
-/// zeros.
+/// Loading reads the super block, a page that is no mask, five metadata pages and a chain of three pages. The put
+/// begins with the three calls that mark the store as in use. It makes two writes of fresh pages, a flush, the head's
+/// write and a flush: 10 + 3 + 2 + 3. Then it makes two writes of old pages and a flush, and the run ends with the six
+/// calls of the unload: 18 + 3 + 6. Whenever it is cut off, two pages are clear for the next put, and once that is done
+/// the others hold zeros.
 #[test]
 fn a_put_cut_off_leaves_its_pages_clear(rt: HostRuntime) -> Result<(), Fail> {
     let alloc = rt.alloc();
-    for calls in 9..27 {
+    for calls in 10..28 {
         let Ran { status, out, disk } = cut_put(alloc, calls)?;
-        assert_eq!(rt; matches!(status, Status::Good), calls == 26);
-        let answer: &[u8] = if calls < 17 {
+        assert_eq!(rt; matches!(status, Status::Good), calls == 27);
+        let answer: &[u8] = if calls < 18 {
             b"0 0 fault\n"
         } else {
             b"0 0 ok\n"
@@ -64,7 +64,7 @@ fn a_put_cut_off_leaves_its_pages_clear(rt: HostRuntime) -> Result<(), Fail> {
         expect_printed(&out, answer)?;
         let disk = disk.into_inner();
         for pick in 0..11 {
-            let is_new = calls >= 17 || (calls == 16 && pick % 4 == 1);
+            let is_new = calls >= 18 || (calls == 17 && pick % 4 == 1);
             expect_left(alloc, disk.crash(pick)?, is_new)?;
         }
     }

@@ -53,7 +53,7 @@ const DECOUPLED: &[u8] =
 
 const CHAINS: &[(u32, &[u32])] = &[(0, &[0]), (1, &[1]), (2, &[2])];
 
-/// Loading reads the super block, three metadata pages, and three chains of one page. A slot makes four reads and four
+/// Loading reads the super block, three masks, and three chains of one page. A slot makes four reads and four
 /// writes of copies, a flush, and for the head a flush, a write and a flush; so does the end for the head. The insert
 /// of the first slot begins, behind its copies, with the mark of a store in use, three calls; the unload makes six.
 const INFLATE: Cut = Cut {
@@ -138,7 +138,7 @@ const LONG: Cut = Cut {
     script: b"0 inflate v\n",
     look: b"0 info v\n0 read v 0 2\n0 read v 12 1\n0 read v 16 1\n0 df\n",
     points: LONG_POINTS,
-    calls: 79,
+    calls: 80,
 };
 
 /// The chain as it was, and after each second replacement.
@@ -147,10 +147,10 @@ const EVEN: &[(u32, &[u32])] = &[(0, &[0, 1, 2])];
 /// The chain after each other one.
 const ODD: &[(u32, &[u32])] = &[(0, &[0, 3, 4])];
 
-/// With six metadata pages clusters 0 to 2 are fixed. Loading reads the super block, six metadata pages, and a chain of
-/// three pages. A slot that reads as zeros makes four writes and a flush, then two fresh pages, and a flush, a write
-/// and a flush of the head; then two old pages are overwritten with zeros, and flushed. The first slot's insert marks
-/// the store before it writes a fresh page.
+/// With six metadata pages clusters 0 to 2 are fixed. Loading reads the super block, a page that is no mask, six
+/// metadata pages, and a chain of three pages. A slot that reads as zeros makes four writes and a flush, then two fresh
+/// pages, and a flush, a write and a flush of the head; then two old pages are overwritten with zeros, and flushed. The
+/// first slot's insert marks the store before it writes a fresh page.
 const LONG_POINTS: &[Point] = &[
     Point {
         calls: 0,
@@ -160,18 +160,18 @@ const LONG_POINTS: &[Point] = &[
             0 5 df clusters 10 of 16 pages 3 of 6\n",
         chains: EVEN,
     },
-    // 10 + 4 + 1 + 3 + 2 + 3.
+    // 11 + 4 + 1 + 3 + 2 + 3.
     Point {
-        calls: 23,
+        calls: 24,
         printed: b"",
         found: b"0 0 volume @0 v slots 7 parent - thin rw xattrs 3\n0 1 page fill 0000000000000000\n\
             0 2 page fill 0000000000000000\n0 3 page fill 0000000000000000\n0 4 page fill 0000000000000000\n\
             0 5 df clusters 9 of 16 pages 3 of 6\n",
         chains: ODD,
     },
-    // 23 + 3 + 4 + 1 + 2 + 3.
+    // 24 + 3 + 4 + 1 + 2 + 3.
     Point {
-        calls: 36,
+        calls: 37,
         printed: b"",
         found: b"0 0 volume @0 v slots 7 parent - thin rw xattrs 3\n0 1 page fill 0000000000000000\n\
             0 2 page fill 0000000000000000\n0 3 page fill 0000000000000000\n0 4 page fill 0000000000000000\n\
@@ -179,7 +179,7 @@ const LONG_POINTS: &[Point] = &[
         chains: EVEN,
     },
     Point {
-        calls: 49,
+        calls: 50,
         printed: b"",
         found: b"0 0 volume @0 v slots 7 parent - thin rw xattrs 3\n0 1 page fill 0000000000000000\n\
             0 2 page fill 0000000000000000\n0 3 page fill 0000000000000000\n0 4 page fill 0000000000000000\n\
@@ -187,16 +187,16 @@ const LONG_POINTS: &[Point] = &[
         chains: ODD,
     },
     Point {
-        calls: 62,
+        calls: 63,
         printed: b"",
         found: b"0 0 volume @0 v slots 7 parent - thin rw xattrs 3\n0 1 page fill 0000000000000000\n\
             0 2 page fill 0000000000000000\n0 3 page fill 0000000000000000\n0 4 page fill 0000000000000000\n\
             0 5 df clusters 6 of 16 pages 3 of 6\n",
         chains: EVEN,
     },
-    // 62 + 3 + 2 + 3. Then two old pages, and the unload: 70 + 3 + 6.
+    // 63 + 3 + 2 + 3. Then two old pages, and the unload: 71 + 3 + 6.
     Point {
-        calls: 70,
+        calls: 71,
         printed: b"0 0 ok\n",
         found: b"0 0 volume @0 v slots 7 parent - thick rw xattrs 3\n0 1 page fill 0000000000000000\n\
             0 2 page fill 0000000000000000\n0 3 page fill 0000000000000000\n0 4 page fill 0000000000000000\n\

@@ -12,12 +12,12 @@ const LONG_MAP: Cut = Cut {
     script: b"0 create v 500 thick\n",
     look: b"0 read a 0 1\n0 read a 509 1\n0 read v 0 1\n0 read v 499 1\n0 df\n",
     points: POINTS,
-    calls: 524,
+    calls: 519,
 };
 
-/// Loading reads the super block, eight metadata pages, and a chain of two pages. The create marks the store as in use,
+/// Loading reads the super block, three masks, and a chain of two pages. The create marks the store as in use,
 /// in three calls, zeroes 500 pages, one a slot, writes a fresh page, flushes, writes the head, and flushes:
-/// 11 + 3 + 500 + 1 + 3. The unload makes six calls: 518 + 6.
+/// 6 + 3 + 500 + 1 + 3. The unload makes six calls: 513 + 6.
 const POINTS: &[Point] = &[
     Point {
         calls: 0,
@@ -27,7 +27,7 @@ const POINTS: &[Point] = &[
         chains: &[(0, &[0, 1])],
     },
     Point {
-        calls: 518,
+        calls: 513,
         printed: b"0 0 ok @2\n",
         found: b"0 0 page fill 0000000000000001\n0 1 page fill 00000000000001fe\n\
             0 2 page fill 0000000000000000\n0 3 page fill 0000000000000000\n\

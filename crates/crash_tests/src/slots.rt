@@ -13,12 +13,13 @@ const THICK: Cut = Cut {
     script: b"0 create a 2 thick\n0 resize a 3\n0 resize a 1\n",
     look: b"0 read a 3 2\n0 read a 7 2\n0 read a 11 2\n0 df\n",
     points: THICK_POINTS,
-    calls: 33,
+    calls: 34,
 };
 
-/// With two metadata pages clusters 0 and 1 are fixed. Loading reads the super block and two metadata pages. A command
-/// zeroes the four pages of each cluster that it claims; no page is fresh behind its head: it flushes, writes the head,
-/// and flushes. The first one begins with three calls that mark the store as in use, before it zeroes a page.
+/// With two metadata pages clusters 0 and 1 are fixed. Loading reads the super block, a page that is no mask, and two
+/// metadata pages. A command zeroes the four pages of each cluster that it claims; no page is fresh behind its head: it
+/// flushes, writes the head, and flushes. The first one begins with three calls that mark the store as in use, before
+/// it zeroes a page.
 const THICK_POINTS: &[Point] = &[
     Point {
         calls: 0,
@@ -27,27 +28,27 @@ const THICK_POINTS: &[Point] = &[
             0 6 df clusters 14 of 16 pages 2 of 2\n",
         chains: &[],
     },
-    // Two clusters: 3 + 3 + 8 + 3.
+    // Two clusters: 4 + 3 + 8 + 3.
     Point {
-        calls: 17,
+        calls: 18,
         printed: b"0 0 ok @0\n",
         found: b"0 0 page fill 0000000000000000\n0 1 page fill 0000000000000000\n\
             0 2 page fill 0000000000000000\n0 3 out of range\n0 4 out of range\n0 5 out of range\n\
             0 6 df clusters 12 of 16 pages 1 of 2\n",
         chains: &[(0, &[0])],
     },
-    // A cluster more: 17 + 4 + 3.
+    // A cluster more: 18 + 4 + 3.
     Point {
-        calls: 24,
+        calls: 25,
         printed: b"0 0 ok @0\n0 1 ok\n",
         found: b"0 0 page fill 0000000000000000\n0 1 page fill 0000000000000000\n\
             0 2 page fill 0000000000000000\n0 3 page fill 0000000000000000\n\
             0 4 page fill 0000000000000000\n0 5 out of range\n0 6 df clusters 11 of 16 pages 1 of 2\n",
         chains: &[(0, &[0])],
     },
-    // Two less: 24 + 3. Then the unload: 27 + 6.
+    // Two less: 25 + 3. Then the unload: 28 + 6.
     Point {
-        calls: 27,
+        calls: 28,
         printed: b"0 0 ok @0\n0 1 ok\n0 2 ok\n",
         found: b"0 0 page fill 0000000000000000\n0 1 out of range\n0 2 out of range\n0 3 out of range\n\
             0 4 out of range\n0 5 out of range\n0 6 df clusters 13 of 16 pages 1 of 2\n",
@@ -74,13 +75,12 @@ const LONG: Cut = Cut {
     script: b"0 resize a 2\n",
     look: b"0 read a 3 2\n0 df\n",
     points: LONG_POINTS,
-    calls: 30,
+    calls: 28,
 };
 
-/// With five metadata pages clusters 0 to 2 are fixed. Loading reads the super block, five metadata pages and a chain
-/// of three pages. The growth marks the store, zeroes four pages and writes two fresh ones, flushes, writes the head,
-/// and flushes: 9 + 3 + 4 + 2 + 3. Then it overwrites two old pages, and flushes: 21 + 3. The unload ends the run:
-/// 24 + 6.
+/// With five metadata pages clusters 0 to 2 are fixed. Loading reads the super block, three masks and a chain of three
+/// pages. The growth marks the store, zeroes four pages and writes two fresh ones, flushes, writes the head, and
+/// flushes: 7 + 3 + 4 + 2 + 3. Then it overwrites two old pages, and flushes: 19 + 3. The unload ends the run: 22 + 6.
 const LONG_POINTS: &[Point] = &[
     Point {
         calls: 0,
@@ -89,7 +89,7 @@ const LONG_POINTS: &[Point] = &[
         chains: &[(0, &[0, 1, 2])],
     },
     Point {
-        calls: 21,
+        calls: 19,
         printed: b"0 0 ok\n",
         found: b"0 0 page fill 0000000000000000\n0 1 page fill 0000000000000000\n\
             0 2 df clusters 11 of 16 pages 2 of 5\n",

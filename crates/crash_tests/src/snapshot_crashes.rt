@@ -16,7 +16,7 @@ const FAMILY: Cut = Cut {
 };
 
 /// Before the commands, and after each that changes metadata. With three metadata pages clusters 0 and 1 are fixed.
-/// Loading reads the super block, three metadata pages, and a chain of one page. No head has a fresh page behind it: a
+/// Loading reads the super block, three masks, and a chain of one page. No head has a fresh page behind it: a
 /// replacement flushes, writes the head, and flushes. A snapshot makes four and is done with the third, a delete with a
 /// clone makes three and is done with the second. The first snapshot begins with the mark of a store in use, three
 /// calls.
@@ -91,12 +91,12 @@ const LONG: Cut = Cut {
     script: b"0 snapshot v s\n0 delete s\n0 delete v\n",
     look: b"0 list\n0 read v 16 1\n0 df\n",
     points: LONG_POINTS,
-    calls: 56,
+    calls: 57,
 };
 
-/// With six metadata pages clusters 0 to 2 are fixed. Loading reads the super block, six metadata pages, and a chain of
-/// three pages. A replacement of the volume writes two fresh pages before the flush; behind it two old ones are
-/// overwritten with zeros, and a flush makes that last.
+/// With six metadata pages clusters 0 to 2 are fixed. Loading reads the super block, a page that is no mask, six
+/// metadata pages, and a chain of three pages. A replacement of the volume writes two fresh pages before the flush;
+/// behind it two old ones are overwritten with zeros, and a flush makes that last.
 const LONG_POINTS: &[Point] = &[
     Point {
         calls: 0,
@@ -105,26 +105,26 @@ const LONG_POINTS: &[Point] = &[
             0 2 df clusters 10 of 16 pages 3 of 6\n",
         chains: &[(0, &[0, 1, 2])],
     },
-    // The mark, and then 13 + 3 + 3 + 5. Then two old pages, and the last replacement: 24 + 3 + 3.
+    // The mark, and then 14 + 3 + 3 + 5. Then two old pages, and the last replacement: 25 + 3 + 3.
     Point {
-        calls: 24,
+        calls: 25,
         printed: b"0 0 ok @3\n",
         found: b"0 0 list 2\nvolume @0 v slots 7 parent @3 thin rw xattrs 3\n\
             volume @3 s slots 7 parent - thin ro xattrs 2\n0 1 page fill 0000000000000000\n\
             0 2 df clusters 10 of 16 pages 2 of 6\n",
         chains: &[(0, &[0, 4, 5]), (3, &[3])],
     },
-    // 30 + 3 + 5. Then two old pages, and the snapshot's head: 38 + 3 + 3.
+    // 31 + 3 + 5. Then two old pages, and the snapshot's head: 39 + 3 + 3.
     Point {
-        calls: 38,
+        calls: 39,
         printed: b"0 0 ok @3\n0 1 ok\n",
         found: b"0 0 list 1\nvolume @0 v slots 7 parent - thin rw xattrs 3\n0 1 page fill 0000000000000000\n\
             0 2 df clusters 10 of 16 pages 3 of 6\n",
         chains: &[(0, &[0, 1, 2])],
     },
-    // 44 + 3. Then two old pages, and the unload: 47 + 3 + 6.
+    // 45 + 3. Then two old pages, and the unload: 48 + 3 + 6.
     Point {
-        calls: 47,
+        calls: 48,
         printed: b"0 0 ok @3\n0 1 ok\n0 2 ok\n",
         found: b"0 0 list 0\n0 1 no volume\n0 2 df clusters 13 of 16 pages 6 of 6\n",
         chains: &[],

@@ -27,14 +27,15 @@ const VOLUME: Listed = (
     "@0 v 11223344-5566-4788-99aa-bbccddeeff00 slots 7 own 3 parent - thin rw\n",
 );
 
-/// Loading reads the super block, 16 metadata pages, and a chain of three pages: 20. The mark is a flush, the write of
-/// the super block, and a flush. The unload writes three pages of masks, flushes, writes the super block, and flushes.
+/// Loading reads the super block, a page that is no mask, 16 metadata pages, and a chain of three pages: 21. The mark
+/// is a flush, the write of the super block, and a flush. The unload writes three pages of masks, flushes, writes the
+/// super block, and flushes.
 const SESSIONS: [Session; 4] = [
-    // Eight pages of zeros, and a flush, the head's write and a flush: 23 + 8 + 3.
+    // Eight pages of zeros, and a flush, the head's write and a flush: 24 + 8 + 3.
     Session {
         script: b"0 create w 2 thick 5f2b4e66-0d0c-4c1e-9a55-3f0a7c2d9b10\n",
-        mark: 20,
-        unload: 34,
+        mark: 21,
+        unload: 35,
         before: VOLUME,
         after: (
             "store type - cluster 16384 clusters 16 free 6 pages 16 free 12",
@@ -43,11 +44,11 @@ const SESSIONS: [Session; 4] = [
         ),
     },
     // Four pages of zeros and a flush come before the job. It writes two fresh pages, flushes, writes the head and
-    // flushes, and overwrites two old pages and flushes: 28 + 5 + 3. Then the page is written.
+    // flushes, and overwrites two old pages and flushes: 29 + 5 + 3. Then the page is written.
     Session {
         script: b"0 write v 0 1 7\n",
-        mark: 25,
-        unload: 37,
+        mark: 26,
+        unload: 38,
         before: VOLUME,
         after: (
             "store type - cluster 16384 clusters 16 free 7 pages 16 free 13",
@@ -55,11 +56,11 @@ const SESSIONS: [Session; 4] = [
         ),
     },
     // The snapshot is written twice, the volume with two fresh pages and two old ones, and the snapshot once more:
-    // 23 + 6 + 8 + 3.
+    // 24 + 6 + 8 + 3.
     Session {
         script: b"0 snapshot v c\n",
-        mark: 20,
-        unload: 40,
+        mark: 21,
+        unload: 41,
         before: VOLUME,
         after: (
             "store type - cluster 16384 clusters 16 free 8 pages 16 free 12",
@@ -67,11 +68,11 @@ const SESSIONS: [Session; 4] = [
             @3 c 0f443162-a7b1-54c6-977f-cca1b1a128bb slots 7 own 3 parent - thin ro\n",
         ),
     },
-    // The head is overwritten between two flushes, and then two pages, and a flush: 23 + 3 + 3.
+    // The head is overwritten between two flushes, and then two pages, and a flush: 24 + 3 + 3.
     Session {
         script: b"0 delete v\n",
-        mark: 20,
-        unload: 29,
+        mark: 21,
+        unload: 30,
         before: VOLUME,
         after: (
             "store type - cluster 16384 clusters 16 free 11 pages 16 free 16",

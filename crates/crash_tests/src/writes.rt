@@ -10,27 +10,27 @@ use test_stores::{fill, image};
 
 /// Writes over pages that are settled and over others, between a flush, a put and a sync.
 ///
-/// Loading reads the super block, two metadata pages, and a chain of one page. A write is one call, as a flush is; a
+/// Loading reads the super block, three masks, and a chain of one page. A write is one call, as a flush is; a
 /// put and a sync flush, write the head, and flush. The put is the first job of the run: it begins with the mark of a
-/// store in use, three calls. The unload that ends the run makes six: 24 + 6.
+/// store in use, three calls. The unload that ends the run makes six: 25 + 6.
 const IN_PLACE: Story = Story {
     script: b"0 write a 0 2 1\n0 flush\n0 write a 0 1 3\n0 write a 0 1 4\n0 write a 2 1 5\n0 put a k t:x\n\
         0 write a 2 1 6\n0 write a 3 1 7\n0 write a 3 1 8\n0 sync a\n0 write a 1 1 9\n0 write a 0 1 10\n",
     steps: &[
-        (5, Some((0, 1))),
-        (6, Some((1, 2))),
-        (7, None),
-        (8, Some((0, 3))),
-        (9, Some((0, 4))),
-        (10, Some((2, 5))),
-        // 10 + 3 + 3.
-        (16, None),
-        (17, Some((2, 6))),
-        (18, Some((3, 7))),
-        (19, Some((3, 8))),
-        (22, None),
-        (23, Some((1, 9))),
-        (24, Some((0, 10))),
+        (6, Some((0, 1))),
+        (7, Some((1, 2))),
+        (8, None),
+        (9, Some((0, 3))),
+        (10, Some((0, 4))),
+        (11, Some((2, 5))),
+        // 11 + 3 + 3.
+        (17, None),
+        (18, Some((2, 6))),
+        (19, Some((3, 7))),
+        (20, Some((3, 8))),
+        (23, None),
+        (24, Some((1, 9))),
+        (25, Some((0, 10))),
     ],
     look: b"0 read a 0 4\n0 df\n",
     pages: 4,
@@ -39,8 +39,8 @@ const IN_PLACE: Story = Story {
         free: "0 4 df clusters 13 of 16 pages 1 of 2",
         chains: &[(0, &[0])],
     }],
-    loading: 4,
-    calls: 30,
+    loading: 5,
+    calls: 31,
 };
 
 /// A store of so many metadata pages, where the clusters that are claimed first have other bytes than zeros, with a
@@ -65,13 +65,13 @@ fn each_crash_leaves_the_settled_pages(rt: HostRuntime) -> Result<(), Fail> {
 const INTO_EMPTY: Story = Story {
     script: b"0 write a 1 1 7\n0 flush\n0 write a 4 1 8\n0 put a k t:x\n",
     steps: &[
-        // 4 + 5 + 3 + 3 + 1.
-        (16, Some((1, 7))),
-        (17, None),
-        // 17 + 5 + 3 + 1.
-        (26, Some((4, 8))),
-        // 26 + 3. Then the unload: 29 + 6.
-        (29, None),
+        // 5 + 5 + 3 + 3 + 1.
+        (17, Some((1, 7))),
+        (18, None),
+        // 18 + 5 + 3 + 1.
+        (27, Some((4, 8))),
+        // 27 + 3. Then the unload: 30 + 6.
+        (30, None),
     ],
     look: b"0 read a 0 8\n0 df\n",
     pages: 8,
@@ -82,18 +82,18 @@ const INTO_EMPTY: Story = Story {
             chains: &[(0, &[0])],
         },
         Stand {
-            calls: 15,
+            calls: 16,
             free: "0 8 df clusters 13 of 16 pages 1 of 2",
             chains: &[(0, &[0])],
         },
         Stand {
-            calls: 25,
+            calls: 26,
             free: "0 8 df clusters 12 of 16 pages 1 of 2",
             chains: &[(0, &[0])],
         },
     ],
-    loading: 4,
-    calls: 35,
+    loading: 5,
+    calls: 36,
 };
 
 #[test]
@@ -105,12 +105,12 @@ fn each_crash_leaves_a_slot_empty_or_filled(rt: HostRuntime) -> Result<(), Fail>
 
 /// A write to an empty slot of a volume with a chain of three pages, and one beside it.
 ///
-/// Loading reads the super block, five metadata pages, and a chain of three pages. Behind the four copies and their
-/// flush the insert marks the store, writes two fresh pages, flushes, writes the head, and flushes: 9 + 5 + 3 + 2 + 3.
-/// Then it overwrites two old pages, and flushes: 22 + 3. Two writes, a flush and the unload end the run: 25 + 3 + 6.
+/// Loading reads the super block, three masks, and a chain of three pages. Behind the four copies and their flush the
+/// insert marks the store, writes two fresh pages, flushes, writes the head, and flushes: 7 + 5 + 3 + 2 + 3. Then it
+/// overwrites two old pages, and flushes: 20 + 3. Two writes, a flush and the unload end the run: 23 + 3 + 6.
 const ON_LONG_CHAIN: Story = Story {
     script: b"0 write a 1 1 7\n0 write a 2 1 8\n0 flush\n",
-    steps: &[(26, Some((1, 7))), (27, Some((2, 8))), (28, None)],
+    steps: &[(24, Some((1, 7))), (25, Some((2, 8))), (26, None)],
     look: b"0 read a 0 4\n0 df\n",
     pages: 4,
     stands: &[
@@ -120,13 +120,13 @@ const ON_LONG_CHAIN: Story = Story {
             chains: &[(0, &[0, 1, 2])],
         },
         Stand {
-            calls: 22,
+            calls: 20,
             free: "0 4 df clusters 12 of 16 pages 2 of 5",
             chains: &[(0, &[0, 3, 4])],
         },
     ],
-    loading: 9,
-    calls: 34,
+    loading: 7,
+    calls: 32,
 };
 
 /// A store whose thin volume `a` of one slot has a chain of three pages.
@@ -169,8 +169,8 @@ fn cut_write(alloc: Global, calls: u64, printed: &[u8]) -> Result<MemDisk, Fail>
 #[test]
 fn an_open_page_may_be_lost(rt: HostRuntime) -> Result<(), Fail> {
     let alloc = rt.alloc();
-    let open = cut_write(alloc, 5, b"0 0 ok\n0 1 fault\n")?;
-    let settled = cut_write(alloc, 6, b"0 0 ok\n0 1 ok\n")?;
+    let open = cut_write(alloc, 6, b"0 0 ok\n0 1 fault\n")?;
+    let settled = cut_write(alloc, 7, b"0 0 ok\n0 1 ok\n")?;
     for (pick, left) in OPEN {
         play(alloc, b"0 read a 3 1\n", left, open.crash(pick)?)?;
         let kept = b"0 0 page fill 0000000000000007\n";
