@@ -18,13 +18,13 @@ const ERASING: &[u8] = b"0 0 ok\n0 1 stopped 1\n0 2 stopped 1\n";
 
 const SECOND: &[u8] = b"0 0 ok\n0 1 fault\n0 2 stopped 1\n";
 
-/// Loading reads the super block, five metadata pages and three of the chain. A put makes two writes of fresh pages, a
-/// flush, the head's write, a flush, and two writes of old pages and a flush. It is answered before these last three,
-/// and takes hold with the head's write. The first put marks the store as in use before, by a flush, a write and a
-/// flush: it has the writes 1 to 6 and the flushes 1 to 5.
+/// Loading reads the super block, a page that is no mask, five metadata pages and three of the chain. A put makes two
+/// writes of fresh pages, a flush, the head's write, a flush, and two writes of old pages and a flush. It is answered
+/// before these last three, and takes hold with the head's write. The first put marks the store as in use before, by a
+/// flush, a write and a flush: it has the writes 1 to 6 and the flushes 1 to 5.
 const CASES: [Case; 16] = [
     (CallKind::Read, 1, 0, b"", b'x'),
-    (CallKind::Read, 7, 0, b"", b'x'),
+    (CallKind::Read, 8, 0, b"", b'x'),
     (CallKind::Flush, 1, 0, FIRST, b'x'),
     (CallKind::Write, 1, 0, FIRST, b'x'),
     (CallKind::Flush, 2, 0, FIRST, b'x'),

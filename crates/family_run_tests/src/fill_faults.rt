@@ -33,24 +33,24 @@ const ONE_FILLED: &[u8] =
     b"0 0 read fault\n0 1 volume @0 v slots 2 parent @1 thin rw xattrs 2\n0 2 page fill 0000000000000001\n\
     0 3 page fill 0000000000000002\n0 4 df clusters 8 of 16 pages 14 of 16\n";
 
-/// A script, a read of the device that fails, by its number, and what is printed. Loading reads the super block, 16
-/// metadata pages, and two chains of one page. Each slot has four pages, and each page is read once.
+/// A script, a read of the device that fails, by its number, and what is printed. Loading reads the super block, three
+/// masks, and two chains of one page. Each slot has four pages, and each page is read once.
 const FAILED_READS: [(&[u8], u64, &[u8]); 8] = [
-    (INFLATE, 20, NONE_FILLED),
-    (INFLATE, 23, NONE_FILLED),
-    (INFLATE, 24, ONE_FILLED),
-    (INFLATE, 27, ONE_FILLED),
+    (INFLATE, 7, NONE_FILLED),
+    (INFLATE, 10, NONE_FILLED),
+    (INFLATE, 11, ONE_FILLED),
+    (INFLATE, 14, ONE_FILLED),
     (
         INFLATE,
-        28,
+        15,
         b"0 0 ok\n0 1 volume @0 v slots 2 parent - thick rw xattrs 2\n0 2 read fault\n\
             0 3 page fill 0000000000000002\n0 4 df clusters 7 of 16 pages 14 of 16\n",
     ),
-    (DECOUPLE, 20, NONE_FILLED),
-    (DECOUPLE, 27, ONE_FILLED),
+    (DECOUPLE, 7, NONE_FILLED),
+    (DECOUPLE, 14, ONE_FILLED),
     (
         DECOUPLE,
-        28,
+        15,
         b"0 0 ok\n0 1 volume @0 v slots 2 parent - thin rw xattrs 2\n0 2 read fault\n\
             0 3 page fill 0000000000000002\n0 4 df clusters 7 of 16 pages 14 of 16\n",
     ),
