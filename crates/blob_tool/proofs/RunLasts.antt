@@ -3,7 +3,6 @@ use Rattle.std.proofs.Common.{◌≡◌, ℕ, ◌+◌, Bool, true, false, None, 
 use Rattle.std.proofs.Common.{IsTrue}
 use Rattle.std.proofs.Math.Path.{fun_ext}
 use Rattle.std.specs.FinMap as map
-use Rattle.clean_images.specs.CleanImages.{HasFixedPagesOf}
 use Rattle.page_disk.specs.Disk.{Image, Telling}
 use Rattle.page_disk.specs.declared.disk.PageDisk.{Ghosts}
 use Rattle.super_block.specs.declared.masks.Masks.{Masks}
@@ -14,6 +13,7 @@ use Rattle.store_model.specs.Maps.{Chains, Metas}
 use Rattle.store_model.specs.Recovers.{HasStore}
 use Rattle.store_model.specs.Regions.{look_of, region_of}
 use Rattle.store_model.specs.Scans.{Says}
+use Rattle.store_model.specs.StateLaws.{HasFixedPagesOf}
 use Rattle.store_model.specs.StoreState.{shown}
 use Rattle.store_model.proofs.Besides.{says_same}
 use Rattle.store_model.proofs.One.{one_scan}

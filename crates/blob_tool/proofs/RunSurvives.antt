@@ -2,7 +2,7 @@
 use Rattle.std.proofs.Common.{◌≡◌, ◌≢◌, ⊎_elim, ℕ, ◌+◌, ◌*◌, ◌<◌, length, Bool, true, false, Option, None, Some, refl, sym, ap, subst, ◌∙◌}
 use Rattle.std.proofs.Common.{inl, inr, arith, IsTrue, get_or}
 use Rattle.std.specs.FinMap as map
-use Rattle.clean_images.specs.CleanImages.{CleanImages, HasFixedPagesOf, IsInUse, IsMarkedOrOpened}
+use Rattle.clean_images.specs.CleanImages.{CleanImages, IsInUse, IsMarkedOrOpened}
 use Rattle.clean_stop.specs.Masks.{IsMaskPage, StandsApart}
 use Rattle.page_disk.specs.Disk.{Image, Images, Telling}
 use Rattle.page_disk.specs.Marks.{MarksKept}
@@ -18,6 +18,7 @@ use Rattle.super_block.specs.Page.{super_of}
 use Rattle.volume_model.specs.Volumes.{Volumes}
 use Rattle.store_model.specs.Maps.{Chains, Metas}
 use Rattle.store_model.specs.Recovers.{RecoversFrom}
+use Rattle.store_model.specs.StateLaws.{HasFixedPagesOf}
 use Rattle.store_model.specs.StoreState.{shown}
 use Rattle.store_model.proofs.AtStart.{holds_loaded, stands_whole}
 use Rattle.store_model.proofs.Besides.{loaded_same, recovers_at_same, recovers_from_same, recovers_same, says_same}

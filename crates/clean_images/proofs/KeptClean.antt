@@ -16,6 +16,7 @@ use Rattle.store_model.specs.Cases.{Kind, the, Turn}
 use Rattle.store_model.specs.Device.{Device}
 use Rattle.store_model.specs.Phases.{marking}
 use Rattle.store_model.specs.Recovers.{SaysInUse}
+use Rattle.store_model.specs.StateLaws.{HasFixedPagesOf}
 use Rattle.store_model.specs.StoreState.{JobState, Opens, StoreState}
 use Rattle.store_model.specs.Touches.{device_of, DoesTouch, is_lasting, left_by, no_new, puts, replaces, Touch}
 use Rattle.store_model.specs.Touches.{untouched}
@@ -25,7 +26,7 @@ use Rattle.store_model.proofs.Over as over
 use Rattle.store_model.proofs.Over.{answer, fault, halt, Logs, nothing}
 use Rattle.store_model.proofs.StandsKept.{far_super}
 use Rattle.store_model.proofs.Turns.{law_of}
-use Rattle.clean_images.specs.CleanImages.{CleanImages, HasFixedPagesOf, IsInUse, IsMarkedOrOpened, MarksFirst}
+use Rattle.clean_images.specs.CleanImages.{CleanImages, IsInUse, IsMarkedOrOpened, MarksFirst}
 use Rattle.clean_images.proofs.TouchedPages.{leaves, left_then, none_new, one_page}
 use Rattle.clean_images.proofs.TurnsMade.{begins, behind, ends, Goes, goes_on, is_marked, Made, made, marks, none}
 use Rattle.clean_images.proofs.TurnsMade.{other, Pages, RunsClean, stays}

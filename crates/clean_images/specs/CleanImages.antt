@@ -1,23 +1,17 @@
 -- Which images a crash may leave of a store that was found clean: none of them is trusted by mistake.
-use Rattle.std.specs.Prelude.{◌≡◌, ◌≢◌, ◌⊎◌, ℕ, ◌*◌, ◌<◌, List, ◌∷◌, None, Some, true, false}
+use Rattle.std.specs.Prelude.{◌≡◌, ◌≢◌, ◌⊎◌, ℕ, List, ◌∷◌, None, Some, true, false}
 use Rattle.page_disk.specs.Disk.{Image}
 use Rattle.page_disk.specs.Marks.{MarksKept}
 use Rattle.page_disk.specs.declared.disk.PageDisk.{Ghosts}
-use Rattle.super_block.specs.Numbers.{cluster_pages_of, fixed_clusters_of}
 use Rattle.super_block.specs.Page.{super_of}
 use Rattle.super_block.specs.declared.page.Super.{Super}
 use Rattle.store_model.specs.Phases.{Marks, Phase}
+use Rattle.store_model.specs.StateLaws.{HasFixedPagesOf}
 use Rattle.store_model.specs.StoreState.{JobState, StoreState}
 
 -- the super block of the image doesn't say that the store is clean
 abbrev pub IsInUse : Super → Image → Type 0
 IsInUse s image = (super_of (image 0) s.device_pages).clean ≢ 1
-
--- on every page of the fixed clusters, so of the super block, the masks and the metadata region, the image is as the
--- one with which the store was opened
-abbrev pub HasFixedPagesOf : Super → Image → Image → Type 0
-HasFixedPagesOf s opened image = (page : ℕ) → page < fixed_clusters_of s * cluster_pages_of s
-    → image page ≡ opened page
 
 -- the image is marked as in use, so that it is scanned; or it is loaded just as the one that was opened
 abbrev pub IsMarkedOrOpened : Super → Image → Image → Type 0

@@ -67,6 +67,11 @@ pub record IsLoadedWith (s : Super) (p : StoreState) : Type 0 where
   pub no_live : (head : ℕ) → resolved p.base head ≡ None → p.live head ≡ None
   pub generations : AreGenerations p.base p.generations p.drawn
 
+-- on every page of the fixed clusters, so of the super block, the masks and the metadata region, the second image is as
+-- the first one
+abbrev pub HasFixedPagesOf : Super → Image → Image → Type 0
+HasFixedPagesOf s image other = (page : ℕ) → page < fixed_clusters_of s * cluster_pages_of s → other page ≡ image page
+
 -- the two images are the same behind the fixed clusters
 abbrev pub IsSameBehind : Super → Image → Image → Type 0
 IsSameBehind s image other = (page : ℕ) → fixed_clusters_of s * cluster_pages_of s ≤ page → other page ≡ image page

@@ -17,13 +17,13 @@ use Rattle.running_store.specs.LoadedWhole.{AreMasks}
 use Rattle.store_model.specs.Maps.{Metas, Chains}
 use Rattle.store_model.specs.Regions.{look_of, region_of}
 use Rattle.store_model.specs.Scans.{Says}
+use Rattle.store_model.specs.StateLaws.{HasFixedPagesOf}
 use Rattle.store_model.proofs.One.{one_scan}
 use Rattle.unclean_load.specs.declared.heads.Heads.{Heads}
 use Rattle.unclean_load.specs.declared.heads.Heads.TheVariants.{ByScan, Listed}
 use Rattle.unclean_load.specs.Accepted.{CanBeScanned, IsAccepted, SuperAt}
 use Rattle.unclean_load.specs.Heads.{AreWhole}
 use Rattle.unclean_load.specs.Quick.{AreClaimed, AreFaulty, AreHeads, HasNoFaultByMask, HasNoHeadBesideMask}
-use Rattle.unclean_load.specs.Quick.{SameFixed}
 use Rattle.unclean_load.proofs.PlaceSays.{scan_of_set, whole_scan}
 use Rattle.unclean_load.proofs.Quick.{are_listed, is_quick}
 use Rattle.unclean_load.proofs.SamePages.{heads_kept, loads_kept, super_kept}
@@ -123,7 +123,7 @@ module _ (placed : (s : Super) → IsFaultless s → IsPlaced s) where
 -- an image with the same pages in the fixed clusters as one that is accepted is so too
 module _ (placed : (s : Super) → IsFaultless s → IsPlaced s)
     (apart : (s : Super) → IsFaultless s → (page : ℕ) → IsMaskPage s page → StandsApart s page)
-    (pages : ℕ) (image other : Image) (same : SameFixed (super_of (image 0) pages) image other) where
+    (pages : ℕ) (image other : Image) (same : HasFixedPagesOf (super_of (image 0) pages) image other) where
   pub accepted_kept : IsAccepted pages image → IsAccepted pages other
   accepted_kept a =
       let s = a.sup in
@@ -131,7 +131,7 @@ module _ (placed : (s : Super) → IsFaultless s → IsPlaced s)
       let fine : IsFaultless s =
       faultless_by (is_sound (image 0)) s
       (ap (λ (t : Super). fault_of (is_sound (image 0)) t) at.is ∙ at.faultless) in
-      let kept : SameFixed s image other = subst (λ (t : Super). SameFixed t image other) (sym at.is) same in
+      let kept : HasFixedPagesOf s image other = subst (λ (t : Super). HasFixedPagesOf t image other) (sym at.is) same in
       let first : other 0 ≡ image 0 = super_kept s (placed s fine) (apart s fine) image other kept in
       record {
         sup = s;

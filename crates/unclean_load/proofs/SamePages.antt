@@ -17,11 +17,12 @@ use Rattle.store_model.specs.Maps.{Metas, Chains}
 use Rattle.store_model.specs.Regions.{MdRegion, look_of, region_of}
 use Rattle.store_model.specs.Scans.{is_head}
 use Rattle.super_block.specs.Numbers.{cluster_pages_of, clusters_of, fixed_clusters_of}
+use Rattle.store_model.specs.StateLaws.{HasFixedPagesOf}
 use Rattle.super_block.specs.Placed.{IsPlaced}
 use Rattle.super_block.specs.declared.masks.Masks.{Masks}
 use Rattle.super_block.specs.declared.page.Super.{Super}
 use Rattle.unclean_load.specs.Heads.{AreWhole, PlaceSays, has_head}
-use Rattle.unclean_load.specs.Quick.{AreClaimed, AreFaulty, AreHeads, HasNoHeadBesideMask, IsQuick, SameFixed}
+use Rattle.unclean_load.specs.Quick.{AreClaimed, AreFaulty, AreHeads, HasNoHeadBesideMask, IsQuick}
 use Rattle.unclean_load.specs.declared.heads.Heads.{Heads}
 use Rattle.unclean_load.specs.declared.heads.Heads.TheVariants.{ByScan, Listed}
 use Rattle.unclean_load.proofs.MaskTexts.{text_kept}
@@ -127,7 +128,7 @@ module _ (s : Super) (image other : Image) (region : (q : ℕ) → q < s.md_len 
 
 -- where the regions lie
 module _ (s : Super) (placed : IsPlaced s) (apart : (page : ℕ) → IsMaskPage s page → StandsApart s page)
-    (image other : Image) (same : SameFixed s image other) where
+    (image other : Image) (same : HasFixedPagesOf s image other) where
   same_region : (q : ℕ) → q < s.md_len → other (s.md_start + q) ≡ image (s.md_start + q)
   same_region q lt = same (s.md_start + q) (let e = placed.md_end in omega (arith, lt, e))
 

@@ -12,6 +12,7 @@ use Rattle.super_block.specs.Faults.{super_fault}
 use Rattle.store_model.specs.Maps.{Metas, Chains}
 use Rattle.store_model.specs.Regions.{region_of, look_of}
 use Rattle.store_model.specs.Scans.{Says}
+use Rattle.store_model.specs.StateLaws.{HasFixedPagesOf}
 use Rattle.store_model.specs.Steady.{AreNamed}
 use Rattle.blob_meta.specs.Resolving.{IsLawful, resolved, slots_together}
 use Rattle.unclean_load.specs.declared.fault.LoadFault.{LoadFault}
@@ -20,7 +21,7 @@ use Rattle.unclean_load.specs.declared.heads.Heads.{Heads}
 use Rattle.unclean_load.specs.declared.heads.Heads.TheVariants.{ByScan}
 use Rattle.unclean_load.specs.Heads.{AreWhole, ShowsFirst}
 use Rattle.unclean_load.specs.Parents.{HaveRightParents, ShowsParentFirst}
-use Rattle.unclean_load.specs.Quick.{AreHeads, HasNoFaultByMask, HasNoHeadBesideMask, IsQuick, SameFixed}
+use Rattle.unclean_load.specs.Quick.{AreHeads, HasNoFaultByMask, HasNoHeadBesideMask, IsQuick}
 use Rattle.unclean_load.specs.Sharing.{IsShared}
 
 -- the super block of a device with so many pages, without fault
@@ -160,5 +161,5 @@ UnloadedAreAccepted =
 -- An image is accepted where one with the same pages in the fixed clusters is.
 abbrev pub AcceptedAreKept : Type 0
 AcceptedAreKept =
-    (pages : ℕ) (image other : Image) → SameFixed (super_of (image 0) pages) image other → IsAccepted pages image
+    (pages : ℕ) (image other : Image) → HasFixedPagesOf (super_of (image 0) pages) image other → IsAccepted pages image
     → IsAccepted pages other

@@ -1,6 +1,6 @@
 -- Which places of a metadata region are heads: those of the blob-id mask, where the masks can be trusted, or else those
 -- that a scan finds.
-use Rattle.std.specs.Prelude.{◌≡◌, ◌⊎◌, ℕ, ◌*◌, ◌^◌, ◌<◌, ◌≤◌, Bool, true, List}
+use Rattle.std.specs.Prelude.{◌≡◌, ◌⊎◌, ℕ, ◌^◌, ◌≤◌, Bool, true, List}
 use Rattle.bit_array.specs.Bits.{is_in}
 use Rattle.blob_meta.specs.Resolving.{slots_together}
 use Rattle.clean_stop.specs.Masks.{HasMasks, SaysMasks}
@@ -10,8 +10,8 @@ use Rattle.running_store.specs.LoadedWhole.{AreMasks}
 use Rattle.store_model.specs.Maps.{Metas, Chains}
 use Rattle.store_model.specs.Regions.{MdRegion, look_of, region_of}
 use Rattle.store_model.specs.Scans.{Says, head_at}
+use Rattle.store_model.specs.StateLaws.{HasFixedPagesOf}
 use Rattle.super_block.specs.Faults.{IsFaultless}
-use Rattle.super_block.specs.Numbers.{cluster_pages_of, fixed_clusters_of}
 use Rattle.super_block.specs.declared.masks.Masks.{Masks}
 use Rattle.super_block.specs.declared.page.Super.{Super}
 use Rattle.unclean_load.specs.Heads.{AreWhole, ShowsFirst, is_listed}
@@ -89,10 +89,6 @@ abbrev pub HasNoFaultByMask : Super → Image → Type 0
 HasNoFaultByMask s image =
     (masks : Masks) → IsQuick s masks image → AreFaulty (look_of (region_of s) image) (region_of s) masks.blobs → ⊥
 
--- the images have the same pages in the fixed clusters, where the super block and the regions lie
-abbrev pub SameFixed : Super → Image → Image → Type 0
-SameFixed s image other = (page : ℕ) → page < fixed_clusters_of s * cluster_pages_of s → other page ≡ image page
-
 -- ---- laws
 
 -- A clean store with the masks that its metadata claims is loaded by them, and no head stands beside them.
@@ -112,11 +108,11 @@ ListedAreScanned =
 -- The masks of an image are trusted where those of one with the same pages in the fixed clusters are.
 abbrev pub QuickIsKept : Type 0
 QuickIsKept =
-    (s : Super) (image other : Image) → IsFaultless s → SameFixed s image other → (masks : Masks)
+    (s : Super) (image other : Image) → IsFaultless s → HasFixedPagesOf s image other → (masks : Masks)
     → IsQuick s masks image → IsQuick s masks other
 
 -- An image has no head beside its mask where one with the same pages in the fixed clusters has none.
 abbrev pub NoHeadIsKept : Type 0
 NoHeadIsKept =
-    (s : Super) (image other : Image) → IsFaultless s → SameFixed s image other → HasNoHeadBesideMask s image
+    (s : Super) (image other : Image) → IsFaultless s → HasFixedPagesOf s image other → HasNoHeadBesideMask s image
     → HasNoHeadBesideMask s other
