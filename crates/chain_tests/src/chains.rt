@@ -129,7 +129,7 @@ fn a_put_without_page_leaves_the_device_alone(rt: HostRuntime) -> Result<(), Fai
     let alloc = rt.alloc();
     let script = script_of(alloc, &[(b'y', 4062)])?;
     for md_pages in 3..5 {
-        let disk = volume(alloc, md_pages)?;
+        let disk = play(alloc, b"", b"", volume(alloc, md_pages)?)?;
         let written = disk.clock();
         let disk = play(alloc, &script, b"0 0 no page\n", disk)?;
         // No job was made: the flush at the end of the run is the one call.
