@@ -3,4 +3,5 @@ mod NewStore
 mod SuperBlobPage
 mod FirstPage
 mod NewMasks
+mod BareMetas
 mod Loading

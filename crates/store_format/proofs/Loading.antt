@@ -1,11 +1,8 @@
 -- A new store is loaded as it was planned.
-use Rattle.std.proofs.Common.{◌≡◌, ℕ, zero, suc, ◌+◌, ◌/◌, ◌^◌, ◌<◌, ◌≤◌, true, false, List, [], ◌∷◌, length, None}
+use Rattle.std.proofs.Common.{◌≡◌, ℕ, zero, suc, ◌+◌, ◌/◌, ◌^◌, ◌<◌, ◌≤◌, true, false, List, [], ◌∷◌, None}
 use Rattle.std.proofs.Common.{Option, Some, refl, sym, ap, subst, ◌∙◌, inl, inr, arith}
 use Rattle.std.specs.Prelude.{nat_lt}
-use Rattle.std.specs.List.{range_with_len, sum_by}
-use Rattle.std.specs.Option.{option_and_then, option_map_or}
 use Rattle.std.proofs.lemmas.Bool.{cases_Bool, ltb-true}
-use Rattle.std.proofs.lemmas.List.Sums.{sum_by-cons}
 use Rattle.bit_array.specs.Mask.{mask_pages}
 use Rattle.clean_stop.specs.Masks.{HasMasks}
 use Rattle.crc32c.proofs.Zeros.{is_sound-zeros}
@@ -20,21 +17,19 @@ use Rattle.super_block.proofs.Passed.{all_pass, few_pages, AllPass}
 use Rattle.super_block.specs.declared.layout.Layout.{Layout}
 use Rattle.super_block.specs.declared.page.Super.{Super}
 use Rattle.volume_model.specs.Names.{IsName}
-use Rattle.blob_meta.specs.declared.meta.Meta.{Meta}
 use Rattle.blob_meta.specs.Faults.{meta_fault}
-use Rattle.blob_meta.specs.Parents.{parent_of, slot}
-use Rattle.blob_meta.specs.Resolving.{resolved, resolved_one, IsLawful, slots_together}
+use Rattle.blob_meta.specs.Resolving.{resolved}
 use Rattle.md_chain.specs.Chain.{Look}
 use Rattle.store_model.specs.Laws.{ScanLaws}
-use Rattle.store_model.specs.Maps.{Metas}
 use Rattle.store_model.specs.Recovers.{IsSameStore}
 use Rattle.store_model.specs.Regions.{look_of, region_of, MdRegion}
 use Rattle.store_model.specs.Scans.{is_head, BlobAt, Says}
-use Rattle.store_model.specs.Steady.{AreNamed}
 use Rattle.store_model.proofs.NewBlob.{new_steady, two_written}
 use Rattle.unclean_load.proofs.Accepting.{faultless_by}
 use Rattle.unclean_load.specs.Accepted.{CanBeScanned, IsAccepted, UnloadedAreAccepted}
 use Rattle.unclean_load.specs.Quick.{UnloadedAreQuick}
+use Rattle.store_format.proofs.BareMetas.{bare_are_named, bare_is_lawful, few_slots, new_bare, no_cluster, resolved_bare}
+use Rattle.store_format.proofs.BareMetas.{AreBare}
 use Rattle.store_format.proofs.NewMasks.{are_masks, clusters_long}
 use Rattle.store_format.specs.NewStore.{first_masks, first_super, md_page, zero_page, IsNewStore, IsReadAsPlanned}
 use Rattle.store_format.specs.NewStore.{LoadsAsPlanned}
@@ -42,71 +37,6 @@ use Rattle.store_format.specs.SuperBlob.{new_chains, new_metas, page_of, store_x
 use Rattle.store_format.specs.SuperBlob.{super_meta, AreReadable, IsReadable}
 use Rattle.store_format.specs.declared.super_blob.StoreName.{StoreName}
 use Rattle.store_format.proofs.SuperBlobPage.{says_super_meta}
-
--- ---- metadata without clusters and without parents
-
--- no blob has a slot, or an internal attribute
-abbrev AreBare : Metas → Type 0
-AreBare metas = (head : ℕ) (m : Meta) → metas head ≡ Some m → (m.map ≡ []) × (m.internal ≡ [])
-
-no_cluster : (m : Meta) → m.map ≡ [] → (i : ℕ) → slot m i ≡ None
-no_cluster m none i = rw none refl
-
-no_parent : (m : Meta) → m.internal ≡ [] → parent_of m ≡ None
-no_parent m none = rw none refl
-
-abbrev slots_at : Metas → ℕ → ℕ
-slots_at metas head = option_map_or (λ (m : Meta). length m.map) (metas head) 0
-
-no_slots : (found : Option Meta) → ((m : Meta) → found ≡ Some m → (m.map ≡ []) × (m.internal ≡ []))
-    → option_map_or (λ (m : Meta). length m.map) found 0 ≡ 0
-no_slots None bare = refl
-no_slots (Some m) bare = ap (λ (map : List (Option ℕ)). length map) (bare m refl).0
-
-none_together : (metas : Metas) → AreBare metas → (heads : List ℕ) → sum_by (slots_at metas) heads ≡ 0
-none_together metas bare [] = refl
-none_together metas bare (head ∷ heads) =
-    let more = sum_by-cons (slots_at metas) head heads in
-    let here : slots_at metas head ≡ 0 = no_slots (metas head) (bare head) in
-    let rest = none_together metas bare heads in
-    omega (arith, more, here, rest)
-
-few_slots : (metas : Metas) → AreBare metas → (md_len : ℕ) → slots_together md_len metas ≤ 2 ^ 24
-few_slots metas bare md_len = let none = none_together metas bare (range_with_len 0 md_len) in omega (arith, none)
-
-bare_is_lawful : (metas : Metas) → AreBare metas → (md_len : ℕ) → IsLawful md_len metas
-bare_is_lawful metas bare md_len = record {
-  alone =
-      λ h k i j cluster m n is also at same.
-      absurd (let bad = sym (no_cluster m (bare h m is).0 i) ∙ at in cc bad);
-  parents = λ h p m is of. absurd (let bad = sym (no_parent m (bare h m is).1) ∙ of in cc bad);
-  rank = λ head. 0;
-  falls = λ h p m is of. absurd (let bad = sym (no_parent m (bare h m is).1) ∙ of in cc bad);
-  few = few_slots metas bare md_len;
-}
-
--- nothing is marked, so recovery leaves it as it is
-found_as_is : (metas : Metas) (head : ℕ) (found : Option Meta)
-    → ((m : Meta) → found ≡ Some m → (m.map ≡ []) × (m.internal ≡ []))
-    → option_and_then (resolved_one metas head) found ≡ found
-found_as_is metas head None bare = refl
-found_as_is metas head (Some m) bare = rw (bare m refl).1 refl
-
-resolved_as_is : (metas : Metas) → AreBare metas → (head : ℕ) → resolved metas head ≡ metas head
-resolved_as_is metas bare head = found_as_is metas head (metas head) (bare head)
-
-resolved_bare : (metas : Metas) → AreBare metas → AreBare (resolved metas)
-resolved_bare metas bare head m is = bare head m (sym (resolved_as_is metas bare head) ∙ is)
-
-bare_are_named : (metas : Metas) → AreBare metas → AreNamed metas
-bare_are_named metas bare head m is = rw (bare head m is).1 refl
-
-new_bare : (named : Option StoreName) → AreBare (new_metas named)
-new_bare None head m is = absurd (cc is)
-new_bare (Some named) zero m is =
-    let same : super_meta named ≡ m = cc is in
-    subst (λ (n : Meta). (n.map ≡ []) × (n.internal ≡ [])) same (refl, refl)
-new_bare (Some named) (suc head) m is = absurd (cc is)
 
 -- ---- the super block
 

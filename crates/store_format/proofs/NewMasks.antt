@@ -1,7 +1,7 @@
 -- The masks of a new store are what its metadata claims.
 use Rattle.std.proofs.Common.{◌≡◌, ◌≢◌, ℕ, zero, suc, ◌+◌, ◌-◌, ◌*◌, ◌/◌, ◌<◌, ◌≤◌, Bool, true, false, List, [], ◌∷◌}
-use Rattle.std.proofs.Common.{◌++◌, length, replicate, set, Option, Some, None, IsSome, refl, sym, ap, subst, ◌∙◌, inl, inr}
-use Rattle.std.proofs.Common.{length-append, arith}
+use Rattle.std.proofs.Common.{◌++◌, length, replicate, set, Option, Some, None, IsSome, refl, sym, ap, subst, ◌∙◌, inl}
+use Rattle.std.proofs.Common.{inr, length-append, arith}
 use Rattle.std.specs.Prelude.{◌==◌, ◌↔◌, cond, slice_set}
 use Rattle.std.specs.Int.{div_ceil}
 use Rattle.std.proofs.Math.Nat.{mul-div-mul_right, mul-div_cancel}
@@ -147,7 +147,8 @@ used_pages plan some (Some named) = record {
     of_first place (suc head) pages chain among = absurd (cc chain)
 
 used_clusters : (plan : Layout) → IsLaidOut plan → (s : Super) → HasClusters plan s → (blob : Option (List ℕ))
-    → (metas : Metas) → ((c : ℕ) → IsMapped metas c → ⊥) → UsedClusters s (first_masks plan blob).clusters metas Unclaimed
+    → (metas : Metas) → ((c : ℕ) → IsMapped metas c → ⊥)
+    → UsedClusters s (first_masks plan blob).clusters metas Unclaimed
 used_clusters plan laid s has blob metas none =
     subst (λ (bits : List Bool). UsedClusters s bits metas Unclaimed) (same_set blob) (record {
       count = long_first plan.fixed_clusters plan.clusters laid.fixed_clusters ∙ sym has.all;

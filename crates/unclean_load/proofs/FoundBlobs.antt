@@ -172,7 +172,8 @@ module _ {D : Type 0} (d : Ghosts D) (s : Super) (masks : Masks) (old mid : D) (
         → IsFaultFound (AreHeads s (d.now old)) (look_of (region_of s) (d.now old)) (region_of s) why
     pages_by_masks why x =
         fails_by_masks s masks (d.now old) clean says why
-        (pages_fail (look_of (region_of s) (d.now old)) (region_of s) (Listed masks.blobs) metas chains whole_then why x)
+        (pages_fail (look_of (region_of s) (d.now old)) (region_of s) (Listed masks.blobs) metas chains whole_then why
+        x)
 
 -- what is read by the store's heads is read by those of the load
 module _ (s : Super) (image : Image) (old new : ℕ) where

@@ -117,7 +117,8 @@ module _ {D : Type 0} (d : Ghosts D) (s : Super) (heads : Heads) (first : D) whe
           omega (arith, x, y)
 
       -- there is no blob at the place
-      pub none_there : d.reads new ≤ d.reads disk + tests heads 1 → SaysAt d s disk heads place None → Walked d s heads first new metas chains slots (place + 1)
+      pub none_there : d.reads new ≤ d.reads disk + tests heads 1 → SaysAt d s disk heads place None
+          → Walked d s heads first new metas chains slots (place + 1)
       none_there more x = record {
         same = read_on d first disk new w.same on;
         quiet = still ∙ w.quiet;
@@ -267,8 +268,10 @@ module _ {D : Type 0} (d : Ghosts D) (s : Super) (heads : Heads) (first disk : D
     (chains : map.FinMap nat_cmp (List ℕ)) where
   -- what holds with the blob given holds with it put into the maps
   pub inserted : (slots place head : ℕ) (m : Meta) (pages : List ℕ)
-      → Walked d s heads first disk (with_entry (map.get metas) head m) (with_entry (map.get chains) head pages) slots place
-      → Walked d s heads first disk (map.get (map.insert metas head m)) (map.get (map.insert chains head pages)) slots place
+      → Walked d s heads first disk (with_entry (map.get metas) head m) (with_entry (map.get chains) head pages) slots
+      place
+      → Walked d s heads first disk (map.get (map.insert metas head m)) (map.get (map.insert chains head pages)) slots
+      place
   inserted slots place head m pages w =
       subst (λ (f : Metas). Walked d s heads first disk f (map.get (map.insert chains head pages)) slots place)
       (sym (insert_given metas head m))

@@ -38,7 +38,8 @@ same_bool false false to from = refl
 pub one_pages : (md_len : ℕ) (a b : List Bool) (chains : Chains) → UsedPages md_len a chains []
     → UsedPages md_len b chains [] → a ≡ b
 one_pages md_len a b chains x y =
-    ext_get_or false a b (x.count ∙ sym y.count) (λ i lt. same_bool (is_in a i) (is_in b i) (to a b x y i) (to b a y x i))
+    ext_get_or false a b (x.count ∙ sym y.count)
+    (λ i lt. same_bool (is_in a i) (is_in b i) (to a b x y i) (to b a y x i))
   where
     to : (a b : List Bool) → UsedPages md_len a chains [] → UsedPages md_len b chains [] → (i : ℕ) → is_in a i ≡ true
         → is_in b i ≡ true

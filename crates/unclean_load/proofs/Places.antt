@@ -55,7 +55,8 @@ module _ {D : Type 0} (d : Ghosts D) (s : Super) (disk : D) (place : ℕ) where
   head_again (Listed places) x look m pages says = sym x.is_it
 
   -- it is a head, and its chain, which was read later, says metadata without fault
-  pub gave_blob : (heads : Heads) → GaveHead d s disk heads place true → (later : D) → OnlyRead d disk later → (blob : Blob)
+  pub gave_blob : (heads : Heads) → GaveHead d s disk heads place true → (later : D) → OnlyRead d disk later
+      → (blob : Blob)
       (items : List Item) → GaveChain d s later place blob.pages items → blob.meta ≡ meta_of place items
       → meta_fault (region_of s).fixed (region_of s).clusters (meta_of place items) ≡ None
       → SaysAt d s disk heads place (Some blob)

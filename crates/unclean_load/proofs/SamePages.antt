@@ -89,13 +89,16 @@ module _ (s : Super) (image other : Image) (region : (q : ℕ) → q < s.md_len 
     fit = says.fit;
     pages =
         mask_kept s.used_page_mask_start 0 masks.pages image other
-        (λ k lt. masks_too _ (inl (omega arith, let e = ap mask_pages says.fit.pages in omega (arith, lt, e)))) says.pages;
+        (λ k lt. masks_too _
+        (inl (omega arith, let e = ap mask_pages says.fit.pages in omega (arith, lt, e)))) says.pages;
     clusters =
         mask_kept s.used_cluster_mask_start 1 masks.clusters image other
-        (λ k lt. masks_too _ (inr (inl (omega arith, let e = ap mask_pages says.fit.clusters in omega (arith, lt, e))))) says.clusters;
+        (λ k lt. masks_too _
+        (inr (inl (omega arith, let e = ap mask_pages says.fit.clusters in omega (arith, lt, e))))) says.clusters;
     blobs =
         mask_kept s.used_blobid_mask_start 2 masks.blobs image other
-        (λ k lt. masks_too _ (inr (inr (omega arith, let e = ap mask_pages says.fit.blobs in omega (arith, lt, e))))) says.blobs;
+        (λ k lt. masks_too _
+        (inr (inr (omega arith, let e = ap mask_pages says.fit.blobs in omega (arith, lt, e))))) says.blobs;
   }
 
   abbrev before : Look
@@ -152,14 +155,14 @@ module _ (s : Super) (placed : IsPlaced s) (apart : (page : ℕ) → IsMaskPage 
       → AreWhole (look_of (region_of s) image) (region_of s) heads metas chains
       → AreWhole (look_of (region_of s) other) (region_of s) heads metas chains
   loads_kept heads metas chains whole =
-      whole_kept (look_of (region_of s) image) (look_of (region_of s) other) (region_of s) same_region heads metas chains
-      whole
+      whole_kept (look_of (region_of s) image) (look_of (region_of s) other) (region_of s) same_region heads metas
+      chains whole
 
   pub no_head_kept : HasNoHeadBesideMask s image → HasNoHeadBesideMask s other
   no_head_kept none masks quick place is =
       none masks (back masks quick) place
-      (sym (head_kept (look_of (region_of s) image) (look_of (region_of s) other) (region_of s) same_region ByScan place)
-      ∙ is)
+      (sym (head_kept (look_of (region_of s) image) (look_of (region_of s) other) (region_of s) same_region ByScan
+      place) ∙ is)
 
   -- and the super block is
   pub super_kept : other 0 ≡ image 0

@@ -11,7 +11,8 @@ use Rattle.unclean_load.specs.declared.heads.Heads.TheVariants.{Listed, ByScan}
 
 -- how many pages the chains of the heads below a place have together
 abbrev pub pages_together : ℕ → Chains → ℕ
-pages_together end chains = sum_by (λ head. option_map_or (λ pages. length pages) (chains head) 0) (range_with_len 0 end)
+pages_together end chains =
+    sum_by (λ head. option_map_or (λ pages. length pages) (chains head) 0) (range_with_len 0 end)
 
 -- how many of so many places are read to test whether they are heads: a set needs no test
 abbrev pub tests : Heads → ℕ → ℕ

@@ -39,8 +39,9 @@ fn trusted_blobs<D: PageDisk>(
     requires faultless { IsFaultless sup.now }
     requires device { sup.now.device_pages ≡ D.pages disk.old }
     requires inside { sup.now.md_start + sup.now.md_len ≤ D.pages disk.old }
-    ensures found { IsTrue D.tells → IfOk result (λ blobs. IfSome blobs (λ b. IsReadBy (AreHeads sup.now (D.now disk.old))
-        true sup.now (D.now disk.old) (map.get b.metas) (map.get b.chains))) }
+    ensures found { IsTrue D.tells → IfOk result (λ blobs. IfSome blobs
+        (λ b. IsReadBy (AreHeads sup.now (D.now disk.old)) true sup.now (D.now disk.old) (map.get b.metas)
+        (map.get b.chains))) }
     ensures none { IsTrue D.tells → IfOk result (λ blobs. IsNone blobs
         → (Rose (D.read_faults disk.old) (D.read_faults disk.new) → ⊥)
         → (m : AllMasks) → IsQuick sup.now m (D.now disk.old) → ⊥) }
@@ -90,8 +91,8 @@ pub fn find_blobs<D: PageDisk>(alloc: Global, disk: &mut D, sup: &Super) -> Resu
 
     // Where the device tells, they are what the heads of its image say.
     ensures found { IsTrue D.tells → IfOk result
-        (λ f. IsReadBy (AreUsed (D.read_faults disk.old) (D.read_faults disk.new) sup.now (D.now disk.old)) f.quick sup.now
-        (D.now disk.old) (map.get f.blobs.metas) (map.get f.blobs.chains)) }
+        (λ f. IsReadBy (AreUsed (D.read_faults disk.old) (D.read_faults disk.new) sup.now (D.now disk.old)) f.quick
+        sup.now (D.now disk.old) (map.get f.blobs.metas) (map.get f.blobs.chains)) }
     ensures fault { IsTrue D.tells → IfErr result
         (λ e. IsFaultFound (AreUsed (D.read_faults disk.old) (D.read_faults disk.new) sup.now (D.now disk.old))
         (look_of (region_of sup.now) (D.now disk.old)) (region_of sup.now) e) }

@@ -93,8 +93,8 @@ pub fn load<D: PageDisk>(alloc: Global, disk: D) -> Result<Loaded<D>, (D, LoadFa
     // failed, they are those of a scan.
     ensures super_block { IsTrue D.tells → IfOk result (λ l. l.sup ≡ super_of (D.now disk 0) (D.pages disk)) }
     ensures found { IsTrue D.tells → IfOk result
-        (λ l. IsReadBy (AreUsed (D.read_faults disk) (D.read_faults l.disk) l.sup (D.now disk)) l.quick l.sup (D.now disk)
-        (base_of l.metas l.marked) (map.get l.chains)) }
+        (λ l. IsReadBy (AreUsed (D.read_faults disk) (D.read_faults l.disk) l.sup (D.now disk)) l.quick l.sup
+        (D.now disk) (base_of l.metas l.marked) (map.get l.chains)) }
     ensures accepted { IsTrue D.tells → IfOk result
         (λ l. AcceptedBy (AreUsed (D.read_faults disk) (D.read_faults l.disk)) (D.pages disk) (D.now disk)) }
 

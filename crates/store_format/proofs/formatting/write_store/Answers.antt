@@ -9,4 +9,5 @@ returns-clause-loads g c = λ told.
     c.in_ok-super_blob.ensures.page
     c.requires.some_page (few_md_pages plan c.requires.planned) c.in_ok-super_blob.ensures.readable
     c.requires.planned (c.layouts_are_placed.ensures plan c.requires.planned) c.clean_stores_are_quick.ensures.quick
-    c.clean_stores_are_quick.ensures.accepted c.scans.ensures (c.in_ok-write_new.ensures.store told) c.in_ok-write_new.ensures.read
+    c.clean_stores_are_quick.ensures.accepted c.scans.ensures (c.in_ok-write_new.ensures.store told)
+    c.in_ok-write_new.ensures.read

@@ -22,7 +22,7 @@ returns-clause-claimed c is = elim c.if-is_same.branch [
       c.in_ok-used.used c.in_ok-claims.claims.clusters c.in_ok-claims.claims.twice c.in_ok-used.ensures.used
       c.in_ok-claims.ensures.count c.in_ok-claims.ensures.counted c.args.pages.now c.args.clusters.now
       (c.is_same.ensures.same w.if-is_same.true) (w.is_same-then-is_same.ensures.same (sym w.result-is ∙ is))
-  | else-is_same w ↦ absurd (both_ways c.if-is_same.result w.result-is is)
+  | else-is_same w ↦ absurd (both_ways c.if-is_same.result (w.result-is ∙ w.if-is_same.false) is)
 ]
 
 pub returns-clause-not_claimed : goal.returns-clause-not_claimed

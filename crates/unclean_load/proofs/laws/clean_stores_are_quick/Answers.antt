@@ -24,8 +24,7 @@ returns-clause-accepted c s masks image metas chains can clean has claims =
     (ap (λ (t : Super). fault_of (is_sound (image 0)) t) can.is ∙ can.faultless) in
     let read =
     c.unloaded_masks_are_read.ensures.read s masks image fine
-    (masks_fit s masks image metas chains can.says can.few claims) has in
-    (
+    (masks_fit s masks image metas chains can.says can.few claims) has in (
       accepted_unloaded c.regions_are_placed.ensures s image metas chains can masks clean read claims,
       is_quick s masks image metas chains can.says can.few claims clean read,
       no_head_beside s masks image metas chains can.says can.few claims clean read

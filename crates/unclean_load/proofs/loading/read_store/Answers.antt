@@ -13,7 +13,8 @@ use Rattle.unclean_load.specs.Reads.{pages_together}
 use Rattle.unclean_load.proofs.FoundBlobs.{counted_since}
 use Rattle.unclean_load.proofs.LoadOutcome.{heads_fail, recovery_fails}
 use Rattle.unclean_load.proofs.Recovery.{base_read}
-use Rattle.unclean_load.proofs.UsedHeads.{fault_first, read_first, reads_behind, recovery_counted, recovery_only, super_fails}
+use Rattle.unclean_load.proofs.UsedHeads.{fault_first, read_first, reads_behind, recovery_counted, recovery_only}
+use Rattle.unclean_load.proofs.UsedHeads.{super_fails}
 use Rattle.unclean_load.proofs.loading.read_store.Goals as goal
 
 pub returns-clause-found : goal.returns-clause-found
