@@ -93,7 +93,7 @@ first_in : (n : ℕ) → 0 < n → is_in (slice_set (replicate n false) 0 true) 
 first_in n some = get_or-set_same (replicate n false) 0 true false (rw length-replicate some)
 
 others_out : (n p : ℕ) → p ≢ 0 → is_in (slice_set (replicate n false) 0 true) p ≡ false
-others_out n p ne = get_or-set_other (replicate n false) p 0 true false (λ e. ne e) ∙ none_in n p
+others_out n p ne = get_or-set_other (replicate n false) p 0 true false (λ e. ne (sym e)) ∙ none_in n p
 
 -- so many first places
 below_in : (count len p : ℕ) → p < count → is_in (first_of count len) p ≡ true
@@ -136,7 +136,7 @@ used_pages plan some (Some named) = record {
   where
     is_first : (place : ℕ) → is_among place (0 ∷ []) ≡ true → place ≡ 0
     is_first zero is = refl
-    is_first (suc place) is = absurd (cc is)
+    is_first (suc place) is = absurd (let bad : false ≡ true = is in cc bad)
 
     of_first : (place head : ℕ) (pages : List ℕ) → new_chains (Some named) head ≡ Some pages
         → is_among place pages ≡ true → is_in (slice_set (replicate plan.md_pages false) 0 true) place ≡ true
