@@ -1,21 +1,16 @@
 //! A loaded store is repaired, and a script is run on it to its end.
 
-ghost use Rattle.std.specs.Prelude.{◌≡◌, ◌≤◌, ◌+◌, ℕ, List, [], None, length, slice_index_or};
-ghost use Rattle.std.specs.List.{All};
+ghost use Rattle.std.specs.Prelude.{◌≡◌, ◌≤◌, ◌+◌, List, None, length};
 ghost use Rattle.std.specs.FinMap as map;
 ghost use Rattle.blob_meta.specs.Repairs.{HasNoMarks};
 ghost use Rattle.blob_tool.specs.Found.{ReadsAs};
 ghost use Rattle.blob_tool.specs.Repairing.{AreMade};
 ghost use Rattle.blob_tool.specs.Runs.{Ended, EndedFrom};
-ghost use Rattle.channels.specs.Served.{AreServed};
 ghost use Rattle.running_store.specs.Recovered.{base_of, IsLoadedFrom};
-ghost use Rattle.store_core.specs.StoreInvariant.{StoreInvariant};
-ghost use Rattle.running_store.specs.StoreView.{rows_of, state_of};
-ghost use Rattle.script_lang.specs.Served.{IsServed};
+ghost use Rattle.running_store.specs.StoreView.{state_of};
 ghost use Rattle.store_core.specs.Opening.{AreRows};
-ghost use Rattle.store_model.specs.Filling.{unused_row};
+ghost use Rattle.store_core.specs.StoreInvariant.{StoreInvariant};
 ghost use Rattle.store_model.specs.Repairing.{IsRepaired};
-ghost use Rattle.store_model.specs.Rows.{fill_row};
 ghost use Rattle.super_block.specs.Faults.{IsFaultless};
 ghost use Rattle.volume_model.specs.declared.command.Command.{Command as ACommand};
 
@@ -68,8 +63,6 @@ fn run_repaired<K: Sink, D: PageDisk>(
     requires read { ReadsAs D.PageDisk quick plant.opening.super (base_of plant.opening.metas plant.opening.marked)
         (map.get plant.opening.chains) plant.opening.disk }
     requires seventeen { length plant.opening.rows ≡ 17 }
-    requires served { AreServed plant.at.rows }
-    requires unused { rows_of plant.at.rows fill_row ≡ unused_row }
     requires repaired { IsRepaired (state_of D.PageDisk plant.at) }
     ensures { (script : List (List ACommand)) → AreRows script plant.opening.rows
         → AreMade D.PageDisk plant.opening plant.at → HasNoMarks (base_of plant.at.metas plant.at.marked)
@@ -131,7 +124,6 @@ pub(crate) fn play<K: Sink, D: PageDisk>(
     requires read { ReadsAs D.PageDisk loaded.quick loaded.sup (base_of loaded.metas loaded.marked)
         (map.get loaded.chains) loaded.disk }
     requires inside { loaded.sup.md_start + loaded.sup.md_len ≤ D.pages loaded.disk }
-    requires all_served { (channel : ℕ) → All IsServed (slice_index_or script channel []) }
     ensures { EndedFrom D.PageDisk script schedule.now from K.Sink out.old out.new result.1 loaded result.0 }
 {
     state_stops();

@@ -1,7 +1,6 @@
--- What a driver keeps over steps: what its rows have left, which of them have ended, and that row 16 is unused.
-use Rattle.std.proofs.Common.{◌≡◌, ◌⊎◌, inl, inr, ℕ, ◌≤◌, Bool, false, List, [], ◌∷◌, length, None, refl}
+-- What a driver keeps over steps: which of its rows have ended, and what is known of posted rows and of the fill's.
+use Rattle.std.proofs.Common.{◌≡◌, ◌⊎◌, inl, inr, ℕ, Bool, List, [], length, None, refl}
 use Rattle.std.proofs.Common.{sym, ◌∙◌, ap, subst, arith}
-use Rattle.std.specs.List.{AllByRecursion}
 use Rattle.std.proofs.Math.ListN.{get_or-eq_default}
 use Rattle.std.proofs.lemmas.Bool.{cases_eq}
 use Rattle.store_model.specs.Filling.{FillStands, IsFilledFor}
@@ -9,29 +8,23 @@ use Rattle.store_model.specs.StateLaws.{StateLaws}
 use Rattle.run_moves.specs.FillTurns as fills
 use Rattle.run_moves.specs.FillTurns.{FailedFill, FillEnd, FillTurn}
 use Rattle.page_disk.specs.declared.disk.PageDisk.{Ghosts}
-use Rattle.volume_model.specs.declared.command.Command.{Command}
 use Rattle.volume_model.specs.declared.reply.Msg.{Msg}
 use Rattle.store_model.specs.Cases as kind
 use Rattle.store_model.specs.Rows.{Ended, fill_row, Posted, Row}
 use Rattle.store_model.specs.StoreState.{StoreState}
-use Rattle.running_store.specs.Requests.{IsPostedBy}
 use Rattle.store_core.specs.StoreInvariant.{opening_script, StoreInvariant}
 use Rattle.running_store.specs.StoreView.{rows_of, state_of, WithOpening}
 use Rattle.run_work.specs.Following.{ActorInRun, ChannelActs, MetadataActs}
-use Rattle.run_work.specs.Reading.{is_in_use}
 use Rattle.run_moves.specs.DrivenStore.{DrivenStore}
 use Rattle.run_moves.specs.DriverLaws.{IsOfChannels}
 use Rattle.run_moves.specs.DriverSteps as turns
 use Rattle.run_moves.specs.DriverSteps.{ChannelActsOn, ChannelTurn, DriverStep, MetadataActsOn, PostingTurn}
 use Rattle.run_moves.specs.DriverSteps.{driven_at_turn, FillActsOn}
-use Rattle.run_moves.specs.Projection.{stage_in_run}
-use Rattle.md_thread.specs.Served.{IsServedByMetadata}
 use Rattle.md_thread.proofs.TurnsRepaired.{job_kind, serving_kind, SomeTurn}
 use Rattle.channels.specs.ChannelState.{ChannelState}
 use Rattle.channels.specs.Driving.{AreChannelsOf, IsChannelOf}
-use Rattle.channels.specs.Served.{AreServed, IsServed}
-use Rattle.channels.proofs.OneRow.{AsksUnclaimed, HasMetadata, IsAsked, IsAskedAt, IsLeftOf, RowsStep, RowStep, stays}
-use Rattle.channels.proofs.RowSteps.{asked_along, row_steps}
+use Rattle.md_thread.proofs.OneRow.{RowsStep, RowStep, stays}
+use Rattle.md_thread.proofs.RowSteps.{row_steps}
 
 -- ---- each turn is one of a kind
 
@@ -134,14 +127,7 @@ module _ (told : Bool) (w v : DrivenStore) where
 
 -- ---- what is kept
 
-left_served : (old new : List Command) → IsLeftOf old new → AllByRecursion IsServed old → AllByRecursion IsServed new
-left_served old new (inl is) all = subst (AllByRecursion IsServed) (sym is) all
-left_served old new (inr x) all = (subst (AllByRecursion IsServed) x.1 all).1
-
 module _ (rows later : List Row) (steps : (k : ℕ) → RowStep (rows_of rows k) (rows_of later k)) where
-  pub still_served : AreServed rows → AreServed later
-  still_served all k = left_served (rows_of rows k).left (rows_of later k).left (steps k).left (all k)
-
   pub still_own : (k : ℕ) (c : ChannelState) → IsChannelOf rows k c → IsChannelOf later k c
   still_own k c own = record {
     number = own.number;
@@ -176,29 +162,3 @@ pub filled_still : {D : Type 0} (d : Ghosts D) (p q : WithOpening D) → RowsSte
     → IsFilledFor (rows_of q.at.rows channel)
 filled_still d p q steps channel serial now was = subst IsFilledFor (sym ((steps channel).posted was.serial serial
     (ap (λ (r : Row). r.stage) was.is) now)) was
-
--- the command of a posted row is served
-module _ {D : Type 0} (d : Ghosts D) (p : WithOpening D) (kept : StoreInvariant d p) (served : AreServed p.at.rows)
-    (msg : Msg) (posted : IsPostedBy p.at.rows msg) where
-  abbrev row : Row
-  row = rows_of p.at.rows msg.channel
-
-  asked : HasMetadata row.left
-  asked =
-      let is : IsAsked row = asked_along d.tells (state_of d p.opening) kept.run.0 (state_of d p.at) kept.began
-      kept.run.1 msg.channel in
-      let at : IsAskedAt row.left row.claim (Posted msg.serial) =
-      subst (IsAskedAt row.left row.claim) posted.stage is in
-      subst (AsksUnclaimed row.left) posted.unclaimed at
-
-  pub asks_served : (command : Command) (rest : List Command) → row.left ≡ command ∷ rest → IsServedByMetadata command
-  asks_served command rest is =
-      let x = asked in
-      let all = subst (AllByRecursion IsServed) x.is (served msg.channel) in
-      let both : (x.command ∷ x.rest) ≡ (command ∷ rest) = sym x.is ∙ is in
-      let same : x.command ≡ command = ap (first command) both in
-      subst IsServedByMetadata same (all.0 x.for)
-    where
-      first : Command → List Command → Command
-      first none [] = none
-      first none (y ∷ ys) = y

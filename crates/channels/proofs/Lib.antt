@@ -1,5 +1,3 @@
-pub mod OneRow
-pub mod RowSteps
 pub mod OwnTurns
 pub mod Stages
 pub mod HeldUp

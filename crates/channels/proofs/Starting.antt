@@ -29,7 +29,6 @@ use Rattle.run_moves.specs.DrivenStore.{driven_at_start, DrivenStore, run_of, se
 use Rattle.run_moves.specs.DriverLaws.{DriverLaws}
 use Rattle.channels.specs.ChannelState.{channel_at, ChannelState, serial_at}
 use Rattle.channels.specs.Driving.{AreChannelsOf, AreStarting, driven, IsChannelOf, IsDriven, unsent_of}
-use Rattle.channels.specs.Served.{AreServed}
 use Rattle.channels.specs.declared.driver.Driver.{Driver}
 use Rattle.channels.proofs.StepsMade.{ended_stage}
 
@@ -96,12 +95,11 @@ module _ {D : Type 0} (d : Ghosts D) (laws : DriverLaws) (w : Driver D) (kept : 
   pub starts_as : driven d w ≡ driven_at_start (state_of d w.plant.at)
   starts_as = λ i. driven_by (state_of d w.plant.at) (begins i) (unsent_then w.plant.at.rows w.channels are i) (queue i)
 
-  pub starts_driven : StateLaws → w.right ≡ w.plant.right → length w.plant.opening.rows ≡ 17 → AreServed w.plant.at.rows
+  pub starts_driven : StateLaws → w.right ≡ w.plant.right → length w.plant.opening.rows ≡ 17
       → rows_of w.plant.at.rows fill_row ≡ unused_row → IsRepaired (state_of d w.plant.at) → IsDriven d w
-  starts_driven state right seventeen served unused repaired = record {
+  starts_driven state right seventeen unused repaired = record {
     right = right;
     seventeen = seventeen;
-    served = served;
     channels = own_then w.plant.at.rows w.channels are;
     repaired = repaired;
     run = subst (λ (x : DrivenStore). RunFacts (run_of x)) (sym starts_as)

@@ -33,8 +33,8 @@ use Rattle.channels.specs.declared.driver.Driver.{Driver}
 use Rattle.channels.proofs.Acting.{held_acts, keeping_acts, posted_stage, sending_acts, turn_acts}
 use Rattle.channels.specs.Driving.{driven_of}
 use Rattle.md_thread.specs.Holding.{MetadataState}
-use Rattle.channels.proofs.Keeping.{filled_still, of_channels, rows_step, stands, still_own, still_served, turn_or_none}
-use Rattle.channels.proofs.OneRow.{RowStep}
+use Rattle.channels.proofs.Keeping.{filled_still, of_channels, rows_step, stands, still_own, turn_or_none}
+use Rattle.md_thread.proofs.OneRow.{RowStep}
 
 -- ---- the same store
 
@@ -91,7 +91,6 @@ module _ {D : Type 0} (d : Ghosts D) (laws : DriverLaws) (plain : PlainRowLaws) 
   still_driven channels fill = record {
     right = store.right ∙ is.right ∙ sym store.name;
     seventeen = ap (λ (o : StoreView D). length o.rows) store.opening ∙ is.seventeen;
-    served = still_served w.plant.at.rows v.plant.at.rows along is.served;
     channels = channels;
     repaired = elim (turn_or_none d.tells (driven d w) (driven d v) actor step) [
       | inl turn ↦ turned d state w.plant v.plant kept turn is.repaired

@@ -19,7 +19,6 @@ use Rattle.md_thread.specs.Holding.{driven_by, MetadataState}
 use Rattle.store_model.specs.Filling.{IsFilledFor}
 use Rattle.store_model.specs.StoreState.{StoreState}
 use Rattle.channels.specs.ChannelState.{channel_at, ChannelState}
-use Rattle.channels.specs.Served.{AreServed}
 use Rattle.channels.specs.declared.driver.Driver.{Driver}
 
 -- the serial of the message that each channel has still to send
@@ -60,13 +59,12 @@ pub record KeepsFill {D : Type 0} (w : Driver D) : Type 0 where
 abbrev pub StillKeepsFill : {D : Type 0} → Driver D → Driver D → Type 0
 StillKeepsFill w v = KeepsFill v ⊎ (v.metadata ≡ w.metadata)
 
--- What it keeps: the right is the store's, of which sixteen channels' rows and the fill's began; each command that is
--- left is served; nothing is left to repair; the store with its messages has what every state of a run has; and the
--- fill that goes on is the one that the fill's row works for.
+-- What it keeps: the right is the store's, of which sixteen channels' rows and the fill's began; nothing is left to
+-- repair; the store with its messages has what every state of a run has; and the fill that goes on is the one that the
+-- fill's row works for.
 pub record IsDriven {D : Type 0} (d : Ghosts D) (w : Driver D) : Type 0 where
   pub right : w.right ≡ w.plant.right
   pub seventeen : length w.plant.opening.rows ≡ 17
-  pub served : AreServed w.plant.at.rows
   pub channels : AreChannelsOf w.plant.at.rows w.channels
   pub repaired : IsRepaired (state_of d w.plant.at)
   pub run : RunFacts (run_of (driven d w))

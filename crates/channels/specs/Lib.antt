@@ -3,4 +3,4 @@ pub mod ChannelState
 pub mod ChannelSteps
 pub mod Driving
 pub mod RunEnds
-pub mod Served
+pub mod StepwiseRuns

@@ -10,7 +10,6 @@ ghost use Rattle.run_moves.specs.DrivenStore.{driven_at_start};
 ghost use Rattle.run_moves.specs.DriverSteps.{has_all_ended, DriverStep, StoreFollows};
 ghost use Rattle.channels.specs.Actors.{actor_in_run, actors_in_run};
 ghost use Rattle.channels.specs.Driving.{driven, AreChannelsOf, AreStarting, IsDriven, IsSameStore, KeepsFill, StillKeepsFill, Steps};
-ghost use Rattle.channels.specs.Served.{AreServed};
 ghost use Rattle.script_lang.specs.Schedules.{repeated};
 
 use crate::channel::Channel;
@@ -46,11 +45,10 @@ fn channels_of<D: PageDisk>(plant: &Plant<D>) -> [Channel; 16]
 }
 
 impl<D: PageDisk> Driver<D> {
-    /// A driver that begins on a store, at whatever stages its rows are.
+    /// A driver that begins on a store, at whatever stages the rows of its channels are.
     pub(crate) fn new(plant: Plant<D>, right: MdRight) -> Driver<D>
         requires right { right ≡ plant.right }
         requires seventeen { length plant.opening.rows ≡ 17 }
-        requires served { AreServed plant.at.rows }
         requires unused { rows_of plant.at.rows fill_row ≡ unused_row }
         requires repaired { IsRepaired (state_of D.PageDisk plant.at) }
         ensures starts { driven D.PageDisk result ≡ driven_at_start (state_of D.PageDisk plant.at) }

@@ -5,13 +5,12 @@ ghost use Rattle.store_model.specs.Filling.{unused_row};
 ghost use Rattle.store_model.specs.Rows.{fill_row};
 ghost use Rattle.store_model.specs.Repairing.{IsRepaired};
 ghost use Rattle.running_store.specs.StoreView.{rows_of, state_of};
-ghost use Rattle.run_moves.specs.DrivenStore.{driven_at_start, DrivenStore};
-ghost use Rattle.run_moves.specs.DriverSteps.{StoreFollows};
 ghost use Rattle.channels.specs.Actors.{actors_in_run};
 ghost use Rattle.channels.specs.RunEnds.{end_of, ended_row};
-ghost use Rattle.channels.specs.Served.{AreServed};
+ghost use Rattle.channels.specs.StepwiseRuns.{RunsStepwise};
 
 use crate::driver::Driver;
+use md_thread::take_over;
 use page_disk::PageDisk;
 use script_lang::Schedule;
 use std::alloc::Global;
@@ -28,21 +27,19 @@ pub enum RunEnd {
 }
 
 /// Runs a store, of which nothing is left to repair, to its end: the steps of a schedule, and then rounds of channels 0
-/// to 15 and the metadata thread until all have ended. Rows may be at any stage. `alloc` serves the jobs of commands
-/// alone.
+/// to 15 and the metadata thread until all have ended. Rows may be at any stage, as others have left them that ran it
+/// before. `alloc` serves the jobs of commands alone.
 pub fn run_stepwise<D: PageDisk>(
     alloc: Global,
-    plant: Plant<D>,
-    right: MdRight,
+    mut plant: Plant<D>,
+    mut right: MdRight,
     schedule: &Schedule,
 ) -> (Plant<D>, MdRight, RunEnd)
     requires right { right ≡ plant.right }
     requires seventeen { length plant.opening.rows ≡ 17 }
-    requires served { AreServed plant.at.rows }
-    requires unused { rows_of plant.at.rows fill_row ≡ unused_row }
     requires repaired { IsRepaired (state_of D.PageDisk plant.at) }
-    ensures follows { (w : DrivenStore) × (w.store ≡ state_of D.PageDisk result.0.at)
-        × StoreFollows D.tells (actors_in_run schedule.now) (driven_at_start (state_of D.PageDisk plant.at)) w }
+    ensures follows { RunsStepwise D.tells (actors_in_run schedule.now) (state_of D.PageDisk plant.at)
+        (state_of D.PageDisk result.0.at) }
     ensures ended { (channel : ℕ) → channel < 16 → rows_of result.0.at.rows channel ≡ ended_row }
     ensures unused { rows_of result.0.at.rows fill_row ≡ unused_row }
     ensures no_job { result.0.at.job ≡ None }
@@ -52,6 +49,7 @@ pub fn run_stepwise<D: PageDisk>(
     ensures right { (result.1 ≡ right) × (result.0.right ≡ plant.right) }
 {
     state_turns();
+    take_over(&mut plant, &mut right);
     let mut driver = Driver::new(plant, right);
     driver.run(alloc, schedule);
     let (plant, right) = driver.into_parts();

@@ -21,7 +21,7 @@ const SEVEN: &[u8] = b"\x01\x10\0\0\0\x07\0\0\0\x01\0\0\0\0\0\0\0\x01\0\0\0";
 
 /// A store whose thin volume `v` has two empty slots over those of its snapshot, of which the first has cluster 7 with
 /// bytes 0xAB. With four metadata pages clusters 0 and 1 are fixed, and 13 are clear.
-fn family(alloc: Global) -> Result<MemDisk, Fail> {
+pub fn family(alloc: Global) -> Result<MemDisk, Fail> {
     let rows: [PageRow; 2] = [
         (0, 0, 0, LAST, &[THIN, NAMED, SNAP, EMPTY]),
         (1, 1, 0, LAST, &[THIN_READ_ONLY, SEVEN]),

@@ -14,3 +14,5 @@ mod lacks;
 mod orders;
 #[cfg(test)]
 mod sessions;
+#[cfg(test)]
+mod takeovers;

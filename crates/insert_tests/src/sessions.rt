@@ -24,7 +24,7 @@ pub struct Session {
 }
 
 /// Lets go of what was loaded.
-fn let_go(loaded: Loaded<MemDisk>) {
+pub fn let_go(loaded: Loaded<MemDisk>) {
     let Loaded {
         disk: _,
         sup: _,

@@ -1,11 +1,11 @@
 -- What a turn of the fill makes of it.
-use Rattle.std.proofs.Common.{◌≡◌, ◌≢◌, ℕ, ◌<◌, Option, Some, None, refl, sym, ap, ◌∙◌, subst, arith}
+use Rattle.std.proofs.Common.{◌≡◌, ℕ, ◌<◌, Some, None, refl, sym, ap, ◌∙◌, subst, arith}
 use Rattle.page_disk.specs.declared.disk.PageDisk.{Ghosts}
 use Rattle.volume_model.specs.declared.reply.Msg.{Msg}
 use Rattle.store_model.specs.Filling.{IsFilledFor}
-use Rattle.store_model.specs.Rows.{fill_row, Posted, Row}
+use Rattle.store_model.specs.Rows.{Row}
 use Rattle.run_work.specs.RunFacts.{is_filled_for}
-use Rattle.run_moves.specs.FillTurns.{FillEnd, FillTurn}
+use Rattle.run_moves.specs.FillTurns.{FillTurn}
 use Rattle.running_store.specs.Requests.{IsPostedBy}
 use Rattle.running_store.specs.StoreView.{rows_of, state_of, StoreView}
 use Rattle.md_thread.specs.Holding.{IsKept, MetadataState}

@@ -1,5 +1,5 @@
 -- At which stage the fill's row is, by what it waits for, and behind its calls.
-use Rattle.std.proofs.Common.{◌≡◌, ◌≢◌, ◌⊎◌, ℕ, List, [], Option, Some, None, refl, sym, ap, ◌∙◌, subst, inl, inr}
+use Rattle.std.proofs.Common.{◌≡◌, ℕ, List, [], Option, Some, None, refl, sym, ap, ◌∙◌, subst, inl}
 use Rattle.std.specs.Prelude.{IsSome}
 use Rattle.volume_model.specs.declared.command.Command.{Command}
 use Rattle.volume_model.specs.declared.reply.Msg.{Msg}
@@ -7,7 +7,7 @@ use Rattle.store_model.specs.Filling.{FillStands, StandsAt}
 use Rattle.store_model.specs.Rows.{Claiming, Copying, Decided, Decision, Ended, fill_row, Idle, InJob, OpenClaim, Posted}
 use Rattle.store_model.specs.Rows.{Ready, Row, Stage}
 use Rattle.store_model.specs.RunInvariant.{IsShaped}
-use Rattle.store_model.specs.StoreState.{JobState, StoreState}
+use Rattle.store_model.specs.StoreState.{StoreState}
 use Rattle.running_store.specs.GivingBack.{filled, HasGivenUp, own}
 use Rattle.running_store.specs.Requests.{IsInsertPosted}
 use Rattle.running_store.specs.Stages.{is_stage}

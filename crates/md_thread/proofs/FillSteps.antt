@@ -1,23 +1,18 @@
 -- A turn on the fill's row is one of the fill.
-use Rattle.std.proofs.Common.{◌≡◌, ◌≢◌, ◌⊎◌, ℕ, zero, suc, ◌<◌, Bool, List, [], ◌∷◌, Option, Some, None, refl, sym, ap, ◌∙◌}
-use Rattle.std.proofs.Common.{subst, inl, inr, arith}
-use Rattle.std.specs.Prelude.{IsSome}
+use Rattle.std.proofs.Common.{◌≡◌, ◌≢◌, ℕ, zero, suc, Some, None, refl, sym, ap, ◌∙◌}
+use Rattle.std.proofs.Common.{inl, inr, arith}
 use Rattle.std.proofs.lemmas.Bool.{cases_eq}
 use Rattle.page_disk.specs.declared.disk.PageDisk.{Ghosts}
-use Rattle.volume_model.specs.declared.command.Command.{Command}
 use Rattle.volume_model.specs.declared.reply.Reply.{Reply}
 use Rattle.store_model.specs.Cases as kind
 use Rattle.store_model.specs.Cases.{Kind}
-use Rattle.store_model.specs.Cases.BeginInsert.{BeginsInsert}
-use Rattle.store_model.specs.Cases.Copy.{Copies, stage_left}
+use Rattle.store_model.specs.Cases.Copy.{stage_left}
 use Rattle.store_model.specs.Cases.Halt.{Halts}
 use Rattle.store_model.specs.Cases.HaltFill.{HaltsFill}
-use Rattle.store_model.specs.Cases.LoseInsert.{LosesInsert}
-use Rattle.store_model.specs.Cases.Send.{Sends}
 use Rattle.store_model.specs.Claiming.{given_back, logs_filled, logs_own, LogsWork}
 use Rattle.store_model.specs.Device.{Device}
-use Rattle.store_model.specs.Filling.{FillStands, unused_row}
-use Rattle.store_model.specs.Rows.{Answered, Copying, Decided, fill_row, Idle, InJob, Lost, Posted, Ready, Row, Rows, Stage}
+use Rattle.store_model.specs.Filling.{FillStands}
+use Rattle.store_model.specs.Rows.{Copying, fill_row, Idle, Row, Rows, Stage}
 use Rattle.store_model.specs.Rows.{with_row}
 use Rattle.store_model.specs.StoreState.{StoreState}
 use Rattle.store_model.specs.Turning.{stopped_now}

@@ -1,6 +1,5 @@
 -- A message of a command that was served while the fill's row wasn't used ended its fill.
 use Rattle.std.proofs.Common.{◌≡◌, ℕ, Bool, None, Some, refl, sym, ap, ◌∙◌}
-use Rattle.page_disk.specs.declared.disk.PageDisk.{Ghosts}
 use Rattle.store_model.specs.Filling.{unused_row}
 use Rattle.store_model.specs.Rows.{fill_row, OpenClaim, Row}
 use Rattle.run_moves.specs.DriverSteps as turn

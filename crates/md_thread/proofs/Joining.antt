@@ -1,5 +1,5 @@
 -- A command that is held waits where it has to.
-use Rattle.std.proofs.Common.{◌≡◌, ◌≢◌, ◌⊎◌, ℕ, Bool, true, false, List, [], ◌∷◌, ◌++◌, Option, Some, None, refl, sym, ap}
+use Rattle.std.proofs.Common.{◌≡◌, ◌⊎◌, Bool, true, false, List, [], ◌∷◌, ◌++◌, Option, Some, None, refl, sym, ap}
 use Rattle.std.proofs.Common.{◌∙◌, subst, inl, inr}
 use Rattle.std.specs.Prelude.{◌||◌, IsSome, not}
 use Rattle.std.specs.Option.{option_map}
@@ -7,13 +7,13 @@ use Rattle.page_disk.specs.declared.disk.PageDisk.{Ghosts}
 use Rattle.volume_model.specs.declared.reply.Msg.{Msg}
 use Rattle.store_model.specs.Rows.{OpenClaim}
 use Rattle.store_model.specs.StoreState.{StoreState}
-use Rattle.running_store.specs.StoreView.{rows_of, state_of, StoreView}
+use Rattle.running_store.specs.StoreView.{StoreView}
 use Rattle.run_work.specs.Reading.{has_any, is_in_use, is_there}
 use Rattle.run_work.specs.RunFacts.{in_queue, is_filled_for, is_held, is_waiting, IsOneOf, not_sent}
 use Rattle.run_work.specs.Steps.{holds_command}
 use Rattle.run_moves.specs.DrivenStore.{run_of}
 use Rattle.run_moves.specs.Projection.{claim_in_run, stage_in_run}
-use Rattle.md_thread.specs.Holding.{AreCurrent, driven_by, IsKept, Keeps, MetadataState}
+use Rattle.md_thread.specs.Holding.{driven_by, IsKept, Keeps, MetadataState}
 use Rattle.md_thread.specs.Turns.{HasJoined}
 use Rattle.md_thread.proofs.StepsDue.{command_waits, held_alone, insert_held, none_held}
 

@@ -17,3 +17,8 @@ mod SomeTurns
 mod FillMade
 mod FillStage
 mod Dropped
+pub mod OneRow
+pub mod RowSteps
+mod Asking
+mod JobEnds
+mod TakenOver

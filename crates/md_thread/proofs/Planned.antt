@@ -5,12 +5,12 @@ use Rattle.volume_model.specs.Xattrs.{Text}
 use Rattle.volume_model.specs.declared.command.VolumeRef.{VolumeRef}
 use Rattle.volume_model.specs.declared.command.Command.{Command}
 use Rattle.volume_model.specs.declared.command.Command.TheVariants as c
+use Rattle.store_model.specs.Rows.{IsForMetadata}
 use Rattle.metadata_turns.specs.Answering.{IsAnswerable}
 use Rattle.running_store.specs.RunningState.{IsRunning}
 use Rattle.store_core.specs.StoreInvariant.{StoreInvariant}
 use Rattle.running_store.specs.StoreView.{WithOpening, state_of}
 use Rattle.lvol_store.specs.FillPlans.{IsFill}
-use Rattle.md_thread.specs.Served.{IsServedByMetadata}
 
 -- a store has what every state of a run has
 pub is_running : {D : Type 0} (d : Ghosts D) (b : WithOpening D) → StoreInvariant d b → IsRunning (state_of d b.at)
@@ -24,8 +24,8 @@ is_running d b kept =
       facts = kept.facts;
     }
 
--- what is served without a job is answered in memory
-pub answerable : (command : Command) → IsServedByMetadata command → ¬ IsFill command
+-- what is for the metadata thread, and has no job, is answered in memory
+pub answerable : (command : Command) → IsForMetadata command → ¬ IsFill command
     → ((name : Text) (slots : ℕ) (thick : Bool) (uuid : Option (List ℕ)) → command ≡ c.Create name slots thick uuid → ⊥)
     → ((volume : VolumeRef) (key value : Text) → command ≡ c.Put volume key value → ⊥)
     → ((volume : VolumeRef) → command ≡ c.Sync volume → ⊥)

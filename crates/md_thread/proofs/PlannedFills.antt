@@ -1,5 +1,5 @@
 -- What is planned next for an inflate or a decouple is what the command asks for.
-use Rattle.std.proofs.Common.{◌≡◌, ℕ, Result, Ok, Err, Some, None, sym, subst}
+use Rattle.std.proofs.Common.{◌≡◌, Result, Ok, Err, None, sym, subst}
 use Rattle.std.specs.Prelude.{IfOk, IfErr}
 use Rattle.std.specs.Ordering.{nat_cmp}
 use Rattle.std.specs.FinMap as map
@@ -14,7 +14,6 @@ use Rattle.blob_meta.specs.Repairs.{HasNoMarks}
 use Rattle.blob_meta.specs.ShownBy.{IsFirstRefusal, ShowsMetas}
 use Rattle.blob_meta.specs.declared.meta.Meta.{Meta}
 use Rattle.blob_meta.proofs.Shown.{heads_fit}
-use Rattle.inflate_delete.specs.Fills.{command_of}
 use Rattle.lvol_store.specs.FillPlans.{FillsAsAsked, IsFill}
 use Rattle.lvol_store.specs.SlotPlans.{RefusesFirst}
 use Rattle.lvol_store.specs.declared.filling.FillPlan.{FillPlan}

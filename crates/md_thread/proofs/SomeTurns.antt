@@ -1,18 +1,17 @@
 -- What serves a command is a turn of some kind, by what its call answers.
-use Rattle.std.proofs.Common.{◌≡◌, ◌≢◌, ℕ, Option, Some, None, refl}
+use Rattle.std.proofs.Common.{◌≡◌, ℕ, Option, Some, None, refl}
 use Rattle.std.specs.Prelude.{IsSome}
 use Rattle.page_disk.specs.declared.disk.PageDisk.{Ghosts}
 use Rattle.store_model.specs.Cases as kind
 use Rattle.store_model.specs.Cases.{Kind}
-use Rattle.channel_turns.specs.ClaimTurns.{IsOfCopy, IsOfSend}
 use Rattle.job_begins.specs.Begins.{BeginsOrNot}
-use Rattle.job_begins.specs.Inserts.{InsertsOrNot, IsLack}
+use Rattle.job_begins.specs.Inserts.{InsertsOrNot}
 use Rattle.job_begins.specs.declared.begin.BeginTurn.{BeginTurn}
 use Rattle.job_begins.specs.declared.begin.BeginTurn.TheVariants as begin
 use Rattle.job_begins.specs.declared.inserting.InsertTurn.{InsertTurn}
 use Rattle.job_begins.specs.declared.inserting.InsertTurn.TheVariants as insert
 use Rattle.running_store.specs.GivingBack.{halting}
-use Rattle.running_store.specs.TurnMade.{TurnMade, TurnsAs}
+use Rattle.running_store.specs.TurnMade.{TurnMade}
 use Rattle.running_store.specs.StoreView.{state_of, StoreView}
 use Rattle.md_thread.proofs.TurnsRepaired.{SomeTurn}
 

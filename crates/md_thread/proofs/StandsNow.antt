@@ -1,14 +1,14 @@
 -- What is known of the fill's row of a store that runs.
-use Rattle.std.proofs.Common.{◌≡◌, ◌≢◌, ◌⊎◌, ℕ, List, [], ◌∷◌, Option, Some, None, refl, sym, ap, ◌∙◌, subst, inl, inr}
+use Rattle.std.proofs.Common.{◌≡◌, ◌≢◌, ℕ, List, [], ◌∷◌, Option, Some, None, refl, sym, ap, ◌∙◌, subst, inl}
 use Rattle.page_disk.specs.declared.disk.PageDisk.{Ghosts}
 use Rattle.volume_model.specs.declared.command.Command.{Command}
 use Rattle.volume_model.specs.declared.reply.Msg.{Msg}
 use Rattle.store_model.specs.Filling.{AsksForFill, FillStands, IsFilledFor, unused_row}
 use Rattle.running_store.specs.Requests.{IsPostedBy}
 use Rattle.running_store.specs.Steps.{Asks}
-use Rattle.store_model.specs.Rows.{Claiming, Copying, Decided, Ended, fill_row, Idle, InJob, OpenClaim, Posted, Ready, Row}
+use Rattle.store_model.specs.Rows.{fill_row, Idle, OpenClaim, Posted, Row}
 use Rattle.store_model.specs.Rows.{Stage}
-use Rattle.store_model.specs.RunInvariant.{IsShaped, MayClaim}
+use Rattle.store_model.specs.RunInvariant.{MayClaim}
 use Rattle.store_model.specs.StateLaws.{StateLaws}
 use Rattle.store_model.proofs.FillKept.{idle_fills_none}
 use Rattle.store_model.specs.Filling.{StandsAt}

@@ -1,13 +1,13 @@
 -- Which step is due, and whether a command that is held has to wait, by what the metadata thread keeps.
-use Rattle.std.proofs.Common.{◌≡◌, ◌≢◌, ℕ, ◌<◌, Bool, true, false, ◌&&◌, List, [], ◌∷◌, Option, Some, None, refl, sym, ap}
-use Rattle.std.proofs.Common.{◌∙◌, subst}
+use Rattle.std.proofs.Common.{◌≡◌, ◌≢◌, ℕ, Bool, true, false, ◌&&◌, List, [], ◌∷◌, Option, Some, None, refl, ap}
+use Rattle.std.proofs.Common.{◌∙◌}
 use Rattle.std.specs.Prelude.{◌||◌, ◌++◌, if◌then◌else◌, IsSome, length, nat_lt, not}
 use Rattle.std.specs.Option.{option_map}
 use Rattle.volume_model.specs.declared.command.Command.{Command}
 use Rattle.volume_model.specs.declared.reply.Msg.{Msg}
 use Rattle.store_model.specs.Filling.{StandsAt}
-use Rattle.store_model.specs.Rows.{Answered, Claiming, Copying, Decided, Ended, Idle, InJob, Lost, OpenClaim, Posted}
-use Rattle.store_model.specs.Rows.{Ready, Row, Stage, Won}
+use Rattle.store_model.specs.Rows.{Claiming, Copying, Decided, Ended, Idle, InJob, OpenClaim, Posted}
+use Rattle.store_model.specs.Rows.{Ready, Row, Stage}
 use Rattle.store_model.specs.StoreState.{JobState, StoreState}
 use Rattle.running_store.specs.Stages.{is_stage}
 use Rattle.running_store.specs.declared.rows.RowStage.TheVariants.{Over}
@@ -16,7 +16,7 @@ use Rattle.run_work.specs.Steps.{can_metadata, CloseStep, due, due_in, FillStep,
 use Rattle.run_work.specs.Steps.{MessageStep, MoveKind, TakeStep}
 use Rattle.run_moves.specs.DrivenStore.{DrivenStore, run_of}
 use Rattle.run_moves.specs.DriverSteps.{behind_others, driven_at_turn}
-use Rattle.run_moves.specs.Projection.{claim_in_run, job_in_run, stage_in_run}
+use Rattle.run_moves.specs.Projection.{job_in_run, stage_in_run}
 use Rattle.md_thread.specs.Holding.{driven_by, MetadataState}
 
 -- ---- parts

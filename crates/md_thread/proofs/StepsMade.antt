@@ -8,11 +8,11 @@ use Rattle.store_model.specs.Cases.EndFill.{EndsFill}
 use Rattle.store_model.specs.StoreState.{JobState, StoreState}
 use Rattle.run_work.specs.Reading.{has_any, is_in_use, is_there}
 use Rattle.run_work.specs.ServingMoves.{the_first, the_held}
-use Rattle.run_work.specs.Steps.{due_in, FillStep, MoveKind, TakeStep}
+use Rattle.run_work.specs.Steps.{due_in, FillStep, TakeStep}
 use Rattle.run_moves.specs.DrivenStore.{DrivenStore, run_of}
 use Rattle.run_moves.specs.DriverSteps as acts
 use Rattle.run_moves.specs.DriverSteps.{driven_at_turn, FillActsOn, MetadataActsOn}
-use Rattle.run_moves.specs.Projection.{RunMessages, stage_in_run}
+use Rattle.run_moves.specs.Projection.{stage_in_run}
 use Rattle.md_thread.specs.Holding.{driven_by, looks_first, LooksForMessage, MakesStep, messages_by, MetadataState}
 use Rattle.md_thread.specs.Turns as made
 use Rattle.md_thread.specs.Turns.{ActsNow, FillMade, HasJoined, JobMade, ServiceMade}

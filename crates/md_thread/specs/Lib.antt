@@ -1,4 +1,4 @@
-pub mod Served
 pub mod Tasks
 pub mod Holding
 pub mod Turns
+pub mod TakingOver

@@ -1,11 +1,9 @@
 //! The turns of a fill.
 
 ghost use Rattle.std.specs.Prelude.{◌≡◌, ◌<◌, ℕ, None, Some};
-ghost use Rattle.md_thread.specs.Served.{IsServedByMetadata};
 ghost use Rattle.md_thread.specs.Tasks.{FillMoves};
 ghost use Rattle.running_store.specs.Requests.{IsPostedBy};
 ghost use Rattle.running_store.specs.Stages.{is_stage};
-ghost use Rattle.running_store.specs.Steps.{Asks};
 ghost use Rattle.running_store.specs.StoreView.{rows_of, state_of};
 ghost use Rattle.running_store.specs.declared.rows.RowStage.TheVariants.{Over};
 ghost use Rattle.store_model.specs.Repairing.{IsRepaired};
@@ -27,7 +25,6 @@ fn between_slots<D: PageDisk>(
     msg: Msg,
 ) -> Filling
     requires right { right.old ≡ plant.old.right }
-    requires served { IsPostedBy plant.old.at.rows msg → Asks plant.old.at msg.channel IsServedByMetadata }
     requires over { is_stage (rows_of plant.old.at.rows fill_row) fill_row ≡ Over }
     requires no_job { plant.old.at.job ≡ None }
     requires repaired { IsRepaired (state_of D.PageDisk plant.old.at) }
@@ -54,7 +51,6 @@ pub(crate) fn fill_turn<D: PageDisk>(
     msg: Msg,
 ) -> Filling
     requires right { right.old ≡ plant.old.right }
-    requires served { IsPostedBy plant.old.at.rows msg → Asks plant.old.at msg.channel IsServedByMetadata }
     requires no_job { plant.old.at.job ≡ None }
     requires repaired { IsRepaired (state_of D.PageDisk plant.old.at) }
     ensures moves { msg.channel < 16 → IsPostedBy plant.old.at.rows msg

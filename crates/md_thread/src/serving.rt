@@ -2,7 +2,6 @@
 
 ghost use Rattle.std.specs.Prelude.{◌≡◌, ◌≢◌, ◌<◌, None};
 ghost use Rattle.channel_turns.specs.FillTurns.{IsNextToFill};
-ghost use Rattle.md_thread.specs.Served.{IsServedByMetadata};
 ghost use Rattle.md_thread.specs.Tasks.{FillMoves, Serves};
 ghost use Rattle.md_thread.specs.declared.serving.Served.TheVariants.{Done};
 ghost use Rattle.running_store.specs.Requests.{IsPostedBy};
@@ -77,7 +76,6 @@ pub(crate) fn serve<D: PageDisk>(
     msg: Msg,
 ) -> Served
     requires right { right.old ≡ plant.old.right }
-    requires served { IsPostedBy plant.old.at.rows msg → Asks plant.old.at msg.channel IsServedByMetadata }
     requires over { IsPostedBy plant.old.at.rows msg
         → is_stage (rows_of plant.old.at.rows fill_row) fill_row ≡ Over }
     requires no_job { plant.old.at.job ≡ None }

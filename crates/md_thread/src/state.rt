@@ -79,9 +79,6 @@ impl MdState {
     ghost use Rattle.md_thread.specs.Holding.{MetadataState, without_next};
     ghost use Rattle.md_thread.specs.Turns.{ServiceMade};
     ghost use Rattle.metadata_turns.specs.JobTurns.{TurnsJob};
-    ghost use Rattle.md_thread.specs.Served.{IsServedByMetadata};
-    ghost use Rattle.running_store.specs.Requests.{IsPostedBy};
-    ghost use Rattle.running_store.specs.Steps.{Asks};
     ghost use Rattle.running_store.specs.StoreView.{rows_of, state_of};
     ghost use Rattle.store_model.specs.Filling.{IsFilledFor};
     ghost use Rattle.store_model.specs.Repairing.{IsRepaired};
@@ -144,8 +141,6 @@ impl MdState {
         plant: &mut Plant<D>,
     ) -> Turn
         requires right { right.old ≡ plant.old.right }
-        requires served { (msg : AMsg) → IsPostedBy plant.old.at.rows msg
-            → Asks plant.old.at msg.channel IsServedByMetadata }
         requires repaired { IsRepaired (state_of D.PageDisk plant.old.at) }
         // It is the step that is due,
         ensures step { result ≡ Moved → IsKept D.PageDisk plant.old.at self.old

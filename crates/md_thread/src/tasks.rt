@@ -4,12 +4,10 @@ ghost use Rattle.std.specs.Prelude.{◌≡◌, ◌↔◌, None, IfOk, IfErr, IsF
 ghost use Rattle.blob_meta.specs.Repairs.{HasNoMarks};
 ghost use Rattle.store_model.specs.Cases.{IsRefusedBy};
 ghost use Rattle.store_model.specs.Repairing.{IsRepaired};
-ghost use Rattle.store_model.specs.Rows.{Posted};
-ghost use Rattle.md_thread.specs.Served.{IsServedByMetadata};
+ghost use Rattle.store_model.specs.Rows.{IsForMetadata, Posted};
 ghost use Rattle.lvol_store.specs.FillPlans.{IsFill};
 ghost use Rattle.md_thread.specs.Tasks.{IsFillPlanOf, IsPlanOf, IsTaskOf};
 ghost use Rattle.running_store.specs.Requests.{IsPostedBy};
-ghost use Rattle.running_store.specs.Steps.{Asks};
 ghost use Rattle.running_store.specs.StoreView.{base_of, rows_of, state_of};
 
 use blob_meta::{Job, least_heads_are_meant};
@@ -81,7 +79,7 @@ fn planned<D: PageDisk>(
     plant: &Plant<D>,
     command: &Command,
 ) -> Option<Result<Job, Reply>>
-    requires served { IsServedByMetadata command.now }
+    requires for_metadata { IsForMetadata command.now }
     requires unfilled { ¬ IsFill command.now }
     requires runs { plant.now.at.stopped ≡ None }
     requires unmarked { HasNoMarks (base_of plant.now.at.metas plant.now.at.marked) }
@@ -123,11 +121,11 @@ pub(crate) fn task_of<D: PageDisk>(
     msg: Msg,
 ) -> Task
     requires right { right.now ≡ plant.now.right }
-    requires served { IsPostedBy plant.now.at.rows msg → Asks plant.now.at msg.channel IsServedByMetadata }
     requires no_job { plant.now.at.job ≡ None }
     requires repaired { IsRepaired (state_of D.PageDisk plant.now.at) }
     ensures { IsTaskOf D.PageDisk plant.now.at msg result }
 {
+    plant.keeps();
     let command = match plant.request(right, msg) {
         Ok(Request::Meta(command)) => command,
         Ok(Request::Insert) => return Task::Insert,

@@ -15,13 +15,11 @@ impl MdState {
     ghost use Rattle.std.specs.Prelude.{◌≡◌, ◌≢◌, ◌⊎◌, ◌<◌, List, [], ◌∷◌, None, Some, false, true, length, nat_lt};
     ghost use Rattle.std.specs.Prelude.{◌↔◌, IsFalse, IsSome, IsTrue};
     ghost use Rattle.md_thread.specs.Holding.{ComesNext, IsKept, LooksForMessage, looks_first, MakesStep, without_next};
-    ghost use Rattle.md_thread.specs.Served.{IsServedByMetadata};
     ghost use Rattle.md_thread.specs.Turns.{ActsNow, HasJoined, JobMade, ServiceMade};
     ghost use Rattle.md_thread.specs.declared.state.Turn.TheVariants.{Idle, Moved};
     ghost use Rattle.metadata_turns.specs.JobTurns.{TurnsJob};
     ghost use Rattle.running_store.specs.Requests.{IsPostedBy};
     ghost use Rattle.running_store.specs.Stages.{is_stage};
-    ghost use Rattle.running_store.specs.Steps.{Asks};
     ghost use Rattle.running_store.specs.StoreView.{rows_of, state_of};
     ghost use Rattle.running_store.specs.declared.rows.RowStage.TheVariants.{Over};
     ghost use Rattle.store_model.specs.Filling.{IsFilledFor};
@@ -37,8 +35,6 @@ impl MdState {
         plant: &mut Plant<D>,
     ) -> Turn
         requires right { right.old ≡ plant.old.right }
-        requires served { (msg : AMsg) → IsPostedBy plant.old.at.rows msg
-            → Asks plant.old.at msg.channel IsServedByMetadata }
         requires repaired { IsRepaired (state_of D.PageDisk plant.old.at) }
         ensures step { result ≡ Moved → IsKept D.PageDisk plant.old.at self.old
             → MakesStep D.tells (state_of D.PageDisk plant.old.at) self.old (state_of D.PageDisk plant.new.at) self.new }
@@ -90,8 +86,6 @@ impl MdState {
         plant: &mut Plant<D>,
     ) -> Turn
         requires right { right.old ≡ plant.old.right }
-        requires served { (msg : AMsg) → IsPostedBy plant.old.at.rows msg
-            → Asks plant.old.at msg.channel IsServedByMetadata }
         requires over { self.old.fill ≡ None → is_stage (rows_of plant.old.at.rows fill_row) fill_row ≡ Over }
         requires no_job { plant.old.at.job ≡ None }
         requires repaired { IsRepaired (state_of D.PageDisk plant.old.at) }
@@ -207,7 +201,6 @@ impl MdState {
         msg: Msg,
     )
         requires right { right.old ≡ plant.old.right }
-        requires served { IsPostedBy plant.old.at.rows msg → Asks plant.old.at msg.channel IsServedByMetadata }
         requires unfilled { IsPostedBy plant.old.at.rows msg → self.old.fill ≡ None }
         requires over { self.old.fill ≡ None → is_stage (rows_of plant.old.at.rows fill_row) fill_row ≡ Over }
         requires no_job { plant.old.at.job ≡ None }
@@ -239,8 +232,6 @@ impl MdState {
         plant: &mut Plant<D>,
     ) -> Turn
         requires right { right.old ≡ plant.old.right }
-        requires served { (msg : AMsg) → IsPostedBy plant.old.at.rows msg
-            → Asks plant.old.at msg.channel IsServedByMetadata }
         requires held { self.old.held ≡ None }
         requires over { self.old.fill ≡ None → is_stage (rows_of plant.old.at.rows fill_row) fill_row ≡ Over }
         requires no_job { plant.old.at.job ≡ None }

@@ -9,18 +9,7 @@ use Rattle.blob_tool.specs.Found.{ReadsAs}
 use Rattle.blob_tool.specs.Repairing.{EndedInRepair, EndsRepairs}
 use Rattle.blob_tool.proofs.EndedInRepair.{ended_in_repair, none_left}
 use Rattle.blob_tool.proofs.RunSurvives.{load_laws}
-use Rattle.blob_tool.proofs.WholeRun.{served_at_start, served_behind}
 use Rattle.blob_tool.proofs.playing.play.Goals as goal
-
-pub run_repaired-requires-clause-served : goal.run_repaired-requires-clause-served
-run_repaired-requires-clause-served g c =
-    let first = c.in-Ok.made.0.at in
-    served_behind g.D.PageDisk first c.repair-end.new.plant.at c.repair-end.ensures.ended.made
-    (served_at_start c.args.script first.rows c.in-Ok.ensures.opened.rows c.requires.all_served)
-
-pub run_repaired-requires-clause-unused : goal.run_repaired-requires-clause-unused
-run_repaired-requires-clause-unused g c =
-    c.repair-end.ensures.ended.made.rows 16 ∙ c.in-Ok.ensures.opened.rows.fill
 
 -- a store that is opened is read as it was loaded
 read_at_opening : {D : Type 0} (d : disk.Ghosts D) (loaded : Loaded D) (script : List (List Command)) (p : StoreView D)

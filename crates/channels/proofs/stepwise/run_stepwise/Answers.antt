@@ -1,12 +1,28 @@
-use Rattle.std.proofs.Common.{◌≡◌, ℕ, ◌<◌, sym, subst}
+use Rattle.std.proofs.Common.{◌≡◌, ℕ, ◌<◌, ap, sym, subst}
 use Rattle.store_model.specs.Filling.{unused_row}
 use Rattle.store_model.specs.Repairing.{IsRepaired}
 use Rattle.store_model.specs.Rows.{fill_row}
 use Rattle.store_core.specs.StoreInvariant.{StoreInvariant}
 use Rattle.running_store.specs.StoreView.{rows_of, state_of, WithOpening}
+use Rattle.run_moves.specs.DrivenStore.{DrivenStore}
+use Rattle.run_moves.specs.DriverSteps.{StoreFollows}
+use Rattle.channels.specs.Actors.{actors_in_run}
+use Rattle.channels.specs.Driving.{driven}
 use Rattle.channels.specs.RunEnds.{ended_row}
 use Rattle.channels.proofs.Ending.{row_over, row_unused}
 use Rattle.channels.proofs.stepwise.run_stepwise.Goals as goal
+
+pub returns-clause-follows : goal.returns-clause-follows
+returns-clause-follows g c =
+    let d = g.D.PageDisk in
+    record {
+      first = state_of d c.take_over.new.plant.at;
+      takes_over = c.take_over.ensures.takes_over;
+      last = driven d c.run.new.self;
+      is = ap (λ (p : WithOpening g.row.D.Denot). state_of d p.at) (sym c.into_parts-plant.ensures.0);
+      follows = subst (λ (w : DrivenStore). StoreFollows d.tells (actors_in_run c.args.schedule.now) w
+          (driven d c.run.new.self)) c.new-driver.ensures.starts c.run.ensures.follows;
+    }
 
 pub returns-clause-ended : goal.returns-clause-ended
 returns-clause-ended g c =

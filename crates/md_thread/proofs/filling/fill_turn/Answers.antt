@@ -1,7 +1,7 @@
-use Rattle.std.proofs.Common.{◌≡◌, ◌≢◌, ℕ, List, Some, None, sym, ◌∙◌, ap, refl, subst}
+use Rattle.std.proofs.Common.{◌≡◌, ◌≢◌, sym, ◌∙◌, ap, refl, subst}
 use Rattle.volume_model.specs.declared.reply.Msg.{Msg}
 use Rattle.store_model.specs.Cases as kind
-use Rattle.store_model.specs.Rows.{Answered, Copying, Decided, fill_row, Idle, InJob, Lost, Posted, Ready, Row, Stage}
+use Rattle.store_model.specs.Rows.{Answered, Copying, Decided, fill_row, Idle, InJob, Lost, Posted, Ready, Row}
 use Rattle.channel_turns.specs.ClaimTurns.{RowsCopied, RowsSent}
 use Rattle.channel_turns.specs.declared.settling.SettleTurn.TheVariants.{Waiting}
 use Rattle.job_begins.specs.Inserts.{InsertsOrNot, RowsInserting}

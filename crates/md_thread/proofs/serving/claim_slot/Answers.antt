@@ -1,4 +1,4 @@
-use Rattle.std.proofs.Common.{◌≡◌, ℕ, Some, sym, ◌∙◌, ap, subst}
+use Rattle.std.proofs.Common.{◌≡◌, Some, sym, ◌∙◌, ap, subst}
 use Rattle.store_model.specs.Cases as kind
 use Rattle.store_model.specs.StoreState.{StoreState}
 use Rattle.channel_turns.specs.FillTurns.{ClaimsFillOrNot, RowsFilling}

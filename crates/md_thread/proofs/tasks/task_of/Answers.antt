@@ -1,4 +1,4 @@
-use Rattle.std.proofs.Common.{◌≡◌, Ok, Some, List, ◌∷◌, sym, ◌∙◌, ap, subst}
+use Rattle.std.proofs.Common.{◌≡◌, Ok, Some, sym, ◌∙◌, ap, subst}
 use Rattle.std.specs.Prelude.{Option, Result}
 use Rattle.volume_model.specs.declared.command.Command.{Command}
 use Rattle.volume_model.specs.declared.reply.Reply.{Reply}
@@ -7,11 +7,16 @@ use Rattle.job_begins.specs.Begins.{IsJobOf}
 use Rattle.running_store.specs.Requests.{IsAsked}
 use Rattle.running_store.specs.StoreView.{rows_of, state_of}
 use Rattle.md_thread.specs.Tasks.{IsPlanOf}
+use Rattle.md_thread.proofs.Asking.{asks_metadata, same_first}
 use Rattle.md_thread.proofs.tasks.task_of.Goals as goal
 
--- a list begins with one command
-same_first : (c k : Command) (cs ks : List Command) → c ∷ cs ≡ k ∷ ks → c ≡ k
-same_first c k cs ks e = cc e
+pub planned-requires-clause-for_metadata : goal.planned-requires-clause-for_metadata
+planned-requires-clause-for_metadata g c =
+    let found = c.in-Ok-Meta.ensures.found in
+    let asked = subst (IsAsked (rows_of c.args.plant.now.at.rows c.args.msg.channel)) c.in-Ok-Meta.field-0-is
+    found.asked in
+    asks_metadata g.D.PageDisk c.args.plant.now c.keeps.ensures c.args.msg
+    (record { stage = found.posted; unclaimed = asked.0 }) c.in-Ok-Meta.command.now asked.1 asked.2
 
 pub returns-in-Some-Ok : goal.returns-in-Some-Ok
 returns-in-Some-Ok g c =

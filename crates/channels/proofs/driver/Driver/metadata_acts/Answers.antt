@@ -2,23 +2,15 @@ use Rattle.std.proofs.Common.{◌≡◌, Some, inl, inr, sym, ◌∙◌, subst}
 use Rattle.std.proofs.lemmas.Bool.{false≢true}
 use Rattle.volume_model.specs.declared.reply.Msg.{Msg}
 use Rattle.store_model.specs.Filling.{IsFilledFor}
-use Rattle.running_store.specs.Requests.{IsPostedBy}
-use Rattle.running_store.specs.Steps.{Asks}
 use Rattle.running_store.specs.StoreView.{rows_of, state_of, WithOpening}
 use Rattle.run_work.specs.Following.{MetadataActs}
 use Rattle.run_moves.specs.DriverSteps.{DriverStep}
 use Rattle.md_thread.specs.Holding.{IsKept, LooksForMessage, MakesStep}
-use Rattle.md_thread.specs.Served.{IsServedByMetadata}
 use Rattle.channels.specs.Driving.{driven, driven_of, unsent_of}
-use Rattle.channels.proofs.Keeping.{asks_served}
 use Rattle.channels.proofs.MetadataActing.{acts_due, is_kept}
 use Rattle.channels.proofs.QueueLooked.{asked_then, fills_on, front_taken, kept_then, looked, moved_or_idle, no_message}
 use Rattle.channels.proofs.QueueLooked.{none_moved, rests_on}
 use Rattle.channels.proofs.driver.Driver.metadata_acts.Goals as goal
-
-pub md_turn-turn-requires-clause-served : goal.md_turn-turn-requires-clause-served
-md_turn-turn-requires-clause-served g c msg posted =
-    asks_served g.D.PageDisk c.args.self.now.plant c.keeps.ensures c.requires.driven.served msg posted
 
 pub returns-in-Moved-clause-step : goal.returns-in-Moved-clause-step
 returns-in-Moved-clause-step g c =
@@ -93,14 +85,6 @@ returns-then-holds-clause-keeps g c =
           (asked_then d w is c.moves_keep_facts.ensures c.what_is_due.ensures t looks none asked u rest
           c.md_take.ensures.state);
     }
-
-pub md_turn-requires-clause-served : goal.md_turn-requires-clause-served
-md_turn-requires-clause-served g c =
-    let idle = none_moved c.md_turn-turn.result c.in_default.not-Moved in
-    subst
-    (λ (p : WithOpening g.row.D.Denot). (msg : Msg) → IsPostedBy p.at.rows msg
-    → Asks p.at msg.channel IsServedByMetadata) (sym (c.md_turn-turn.ensures.idle idle).0)
-    (λ (msg : Msg). asks_served g.D.PageDisk c.args.self.now.plant c.keeps.ensures c.requires.driven.served msg)
 
 pub returns-clause-step : goal.returns-clause-step
 returns-clause-step g c =

@@ -24,5 +24,5 @@ returns-clause-driven g c =
       queue = c.new-2.result;
     } in
     starts_driven g.D.PageDisk c.steps_are_moves.ensures w c.keeps.ensures c.channels_of-channels.ensures
-    c.new-2.ensures c.new.ensures c.state_turns.ensures c.requires.right c.requires.seventeen c.requires.served
+    c.new-2.ensures c.new.ensures c.state_turns.ensures c.requires.right c.requires.seventeen
     c.requires.unused c.requires.repaired

@@ -2,7 +2,6 @@ use Rattle.std.proofs.Common.{◌≡◌, List, None, Some, sym, ◌∙◌, ap, s
 use Rattle.std.specs.Prelude.{IsSome}
 use Rattle.volume_model.specs.declared.reply.Msg.{Msg}
 use Rattle.run_work.specs.RunFacts.{is_held}
-use Rattle.store_model.specs.Rows.{OpenClaim}
 use Rattle.running_store.specs.StoreView.{rows_of, state_of}
 use Rattle.md_thread.specs.contracts.state.MdState.{the_view}
 use Rattle.md_thread.specs.Holding.{IsKept, MetadataState}

@@ -1,14 +1,10 @@
 use Rattle.std.proofs.Common.{◌≡◌, None, Some, sym, ◌∙◌, ap, refl, subst}
-use Rattle.store_model.specs.Filling.{IsFilledFor}
-use Rattle.store_model.specs.Rows.{Posted}
-use Rattle.volume_model.specs.declared.reply.Msg.{Msg}
 use Rattle.running_store.specs.Requests.{IsPostedBy}
-use Rattle.running_store.specs.StoreView.{rows_of, state_of}
+use Rattle.running_store.specs.StoreView.{state_of}
 use Rattle.md_thread.specs.contracts.state.MdState.{the_view}
-use Rattle.md_thread.specs.Holding.{IsKept, MetadataState}
+use Rattle.md_thread.specs.Holding.{MetadataState}
 use Rattle.md_thread.specs.Tasks.{Serves}
 use Rattle.md_thread.specs.Turns.{ServiceMade}
-use Rattle.md_thread.specs.declared.serving.Filling.TheVariants as filling
 use Rattle.md_thread.specs.declared.serving.Served.TheVariants as served
 use Rattle.md_thread.proofs.Services.{asked_done, asked_ended, asked_on, done, ended, went_on}
 use Rattle.md_thread.proofs.state.MdState.serve.Goals as goal

@@ -1,4 +1,4 @@
-use Rattle.std.proofs.Common.{◌≡◌, ◌≢◌, ◌⊎◌, ℕ, ◌<◌, false, true, length, List, [], ◌∷◌, None, Some, refl, sym, ◌∙◌, ap}
+use Rattle.std.proofs.Common.{◌≡◌, ◌≢◌, ◌⊎◌, ◌<◌, false, true, length, List, [], ◌∷◌, None, Some, refl, sym, ◌∙◌, ap}
 use Rattle.std.proofs.Common.{subst, inl, inr}
 use Rattle.volume_model.specs.declared.reply.Msg.{Msg}
 use Rattle.store_model.specs.Filling.{IsFilledFor}
@@ -6,7 +6,7 @@ use Rattle.store_model.specs.Rows.{Posted}
 use Rattle.run_work.specs.RunFacts.{is_held}
 use Rattle.running_store.specs.StoreView.{rows_of, state_of}
 use Rattle.md_thread.specs.contracts.state.MdState.{the_view}
-use Rattle.md_thread.specs.Holding.{ComesNext, IsKept, LooksForMessage, looks_first, MetadataState, the_first, the_held}
+use Rattle.md_thread.specs.Holding.{IsKept, LooksForMessage, looks_first, MetadataState, the_first, the_held}
 use Rattle.md_thread.specs.Holding.{without_next}
 use Rattle.md_thread.specs.Turns.{ActsNow, ServiceMade}
 use Rattle.md_thread.specs.declared.state.Turn.TheVariants.{Idle, Moved}

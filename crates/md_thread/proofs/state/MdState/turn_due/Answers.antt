@@ -1,4 +1,4 @@
-use Rattle.std.proofs.Common.{◌≡◌, None, Some, Option, false, true, sym, ◌∙◌, ap, refl, subst}
+use Rattle.std.proofs.Common.{Option, sym, ◌∙◌, ap, subst}
 use Rattle.std.specs.Prelude.{is_some, IsSome}
 use Rattle.store_model.specs.Cases as kind
 use Rattle.store_model.specs.Rows.{fill_row}

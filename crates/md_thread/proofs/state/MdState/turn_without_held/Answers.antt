@@ -1,6 +1,5 @@
-use Rattle.std.proofs.Common.{◌≡◌, ◌≢◌, ◌<◌, List, ◌∷◌, None, Some, sym, ◌∙◌, ap, refl, subst, inl}
+use Rattle.std.proofs.Common.{◌≡◌, ◌≢◌, ◌<◌, List, ◌∷◌, None, sym, ◌∙◌, ap, refl, subst, inl}
 use Rattle.volume_model.specs.declared.reply.Msg.{Msg}
-use Rattle.store_model.specs.Filling.{IsFilledFor}
 use Rattle.store_model.specs.Rows.{Posted}
 use Rattle.run_work.specs.RunFacts.{is_waiting, IsOneOf}
 use Rattle.running_store.specs.StoreView.{rows_of, state_of}

@@ -1,5 +1,5 @@
--- What every turn leaves of each row: one that has ended stays, commands only leave it, and what is posted without a
--- claim is a command for the metadata thread.
+-- What every turn leaves of each row: one that has ended stays, what is posted still is as it was, and what is posted
+-- without a claim is a command for the metadata thread.
 use Rattle.std.proofs.Common.{◌≡◌, inl, inr, ℕ, zero, suc, Bool, List, [], ◌∷◌, Option, Some, None, refl}
 use Rattle.std.proofs.Common.{sym, ◌∙◌, ap, subst}
 use Rattle.super_block.specs.Numbers.{cluster_pages_of}
@@ -19,8 +19,8 @@ use Rattle.store_model.specs.StoreState.{Opens, StoreState}
 use Rattle.store_model.specs.Turning.{stopped_now}
 use Rattle.store_model.specs.Filling.{FillStands, StandsAt}
 use Rattle.store_model.proofs.FillRuns.{fill_stands, turn_stands}
-use Rattle.channels.proofs.OneRow.{goes, IsAsked, IsAskedAt, IsLive, IsUnposted, live, logged, logged_posted}
-use Rattle.channels.proofs.OneRow.{logged_work, no_row, one_row, RowsStep, RowStep, unposted}
+use Rattle.md_thread.proofs.OneRow.{goes, IsAsked, IsAskedAt, IsLive, IsUnposted, live, logged, logged_posted}
+use Rattle.md_thread.proofs.OneRow.{logged_work, no_row, one_row, RowsStep, RowStep, unposted}
 
 -- ---- stages at which nothing is posted
 
@@ -57,7 +57,7 @@ module _ (tells : Bool) (p q : StoreState) where
       → p.rows channel ≡ record { left = command ∷ rest; stage = stage; claim = claim } → IsLive stage
       → IsUnposted next → RowStep (p.rows channel) (record { left = rest; stage = next; claim = None })
   was channel command rest stage claim next row alive plain =
-      logged (p.rows channel) command rest next (ap (λ (r : Row). r.left) row)
+      logged (p.rows channel) rest next
       (live (p.rows channel) stage (ap (λ (r : Row). r.stage) row) alive) plain
 
   on : (channel : ℕ) (left : List Command) (stage : Stage) (claim : Option OpenClaim) (next : Stage)
@@ -65,19 +65,19 @@ module _ (tells : Bool) (p q : StoreState) where
       → IsAskedAt left given next → ((serial other : ℕ) → stage ≡ Posted serial → next ≡ Posted other → ⊥)
       → RowStep (p.rows channel) (record { left = left; stage = next; claim = given })
   on channel left stage claim next given row alive asked apart =
-      goes (p.rows channel) left next given (sym (ap (λ (r : Row). r.left) row))
+      goes (p.rows channel) left next given
       (live (p.rows channel) stage (ap (λ (r : Row). r.stage) row) alive) asked
       (λ serial other was is. apart serial other (sym (ap (λ (r : Row). r.stage) row) ∙ was) is)
 
   at : (channel : ℕ) (stage next : Stage) → (p.rows channel).stage ≡ stage → IsLive stage → IsUnposted next
       → RowStep (p.rows channel) (record { left = (p.rows channel).left; stage = next; claim = None })
   at channel stage next is alive plain =
-      goes (p.rows channel) (p.rows channel).left next None refl (live (p.rows channel) stage is alive)
+      goes (p.rows channel) (p.rows channel).left next None (live (p.rows channel) stage is alive)
       (plain (p.rows channel).left None) (λ serial other was at. unposted next plain other at)
 
   halted : (t : kind.Halts p q) → RowsStep p q
   halted t = one_row p q _ t.next t.channel _ refl
-      (logged (p.rows t.channel) t.command t.rest (stage_after t.stage) (ap (λ (r : Row). r.left) t.row)
+      (logged (p.rows t.channel) t.rest (stage_after t.stage)
       (λ e. subst MayLog (sym (ap (λ (r : Row). r.stage) t.row) ∙ e) t.may) (after t.stage))
 
   broken_down : (t : BreaksDown p q) → RowsStep p q
@@ -184,7 +184,7 @@ module _ (tells : Bool) (p q : StoreState) where
   row_steps stands kind.halts_fill t = logged_posted p q p refl fill_row (stage_after (p.rows fill_row).stage)
       (λ e. subst MayLog e t.may) (after (p.rows fill_row).stage) t.posted (ap (λ (s : StoreState). s.rows) t.next)
   row_steps stands kind.ends_fill t = one_row p q _ t.next fill_row _ refl
-      (goes (p.rows fill_row) (p.rows fill_row).left Idle None refl (not_ended p.filling stands.stage) tt
+      (goes (p.rows fill_row) (p.rows fill_row).left Idle None (not_ended p.filling stands.stage) tt
       (λ serial other was is. cc is))
     where
       not_ended : (filling : Option ℕ) → StandsAt filling (p.rows fill_row).stage → (p.rows fill_row).stage ≡ Ended → ⊥

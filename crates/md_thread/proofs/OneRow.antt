@@ -1,10 +1,9 @@
--- A step of a row: one that has ended stays, commands only leave it, and what is posted without a claim is a command
--- for the metadata thread. And a step of all rows, where one of them changes at most.
-use Rattle.std.proofs.Common.{◌≡◌, ◌≢◌, ◌⊎◌, inl, inr, ℕ, List, [], ◌∷◌, Option, Some, None, refl, sym, ◌∙◌, ap}
+-- A step of a row: one that has ended stays, what is posted still is as it was, and what is posted without a claim is
+-- a command for the metadata thread. And a step of all rows, where one of them changes at most.
+use Rattle.std.proofs.Common.{◌≡◌, ◌≢◌, inl, inr, ℕ, List, [], ◌∷◌, Option, Some, None, refl, sym, ◌∙◌, ap}
 use Rattle.std.proofs.Common.{subst}
 use Rattle.std.proofs.lemmas.Bool.{cases_eq}
 use Rattle.volume_model.specs.declared.command.Command.{Command}
-use Rattle.volume_model.specs.declared.command.Command.TheVariants as c
 use Rattle.volume_model.specs.declared.reply.Reply.{Reply}
 use Rattle.store_model.specs.Claiming.{given_back, logs_filled, logs_own, LogsOwn, LogsWork}
 use Rattle.store_model.specs.Device.{Device}
@@ -35,13 +34,8 @@ IsAskedAt left claim _ = Unit {0}
 abbrev pub IsAsked : Row → Type 0
 IsAsked row = IsAskedAt row.left row.claim row.stage
 
--- all commands are left, or all but the first
-abbrev pub IsLeftOf : List Command → List Command → Type 0
-IsLeftOf old new = (new ≡ old) ⊎ ((command : Command) × (old ≡ command ∷ new))
-
 pub record RowStep (old new : Row) : Type 0 where
   pub ended : old.stage ≡ Ended → new ≡ old
-  pub left : IsLeftOf old.left new.left
   pub asked : IsAsked old → IsAsked new
   -- a row that is posted still is as it was
   pub posted : (serial other : ℕ) → old.stage ≡ Posted serial → new.stage ≡ Posted other → new ≡ old
@@ -49,7 +43,7 @@ pub record RowStep (old new : Row) : Type 0 where
 -- it stays
 pub stays : (row : Row) → RowStep row row
 stays row =
-    record { ended = λ e. refl; left = inl refl; asked = λ is. is; posted = λ serial other was is. refl }
+    record { ended = λ e. refl; asked = λ is. is; posted = λ serial other was is. refl }
 
 -- the stages of a row that hasn't ended
 abbrev pub IsLive : Stage → Type 0
@@ -70,23 +64,20 @@ unposted stage plain serial is =
     let bad : [] ≡ asked.command ∷ asked.rest = asked.is in cc bad
 
 -- the first command is logged
-pub logged : (row : Row) (command : Command) (rest : List Command) (next : Stage) → row.left ≡ command ∷ rest
-    → (row.stage ≡ Ended → ⊥) → IsUnposted next → RowStep row (record { left = rest; stage = next; claim = None })
-logged row command rest next left alive plain = record {
+pub logged : (row : Row) (rest : List Command) (next : Stage) → (row.stage ≡ Ended → ⊥) → IsUnposted next
+    → RowStep row (record { left = rest; stage = next; claim = None })
+logged row rest next alive plain = record {
   ended = λ e. absurd (alive e);
-  left = inr (command, left);
   asked = λ is. plain rest None;
   posted = λ serial other was is. absurd (unposted next plain other is);
 }
 
 -- it is at another stage
-pub goes : (row : Row) (left : List Command) (next : Stage) (claim : Option OpenClaim) → left ≡ row.left
-    → (row.stage ≡ Ended → ⊥) → IsAskedAt left claim next
-    → ((serial other : ℕ) → row.stage ≡ Posted serial → next ≡ Posted other → ⊥)
+pub goes : (row : Row) (left : List Command) (next : Stage) (claim : Option OpenClaim) → (row.stage ≡ Ended → ⊥)
+    → IsAskedAt left claim next → ((serial other : ℕ) → row.stage ≡ Posted serial → next ≡ Posted other → ⊥)
     → RowStep row (record { left = left; stage = next; claim = claim })
-goes row left next claim same alive asked apart = record {
+goes row left next claim alive asked apart = record {
   ended = λ e. absurd (alive e);
-  left = inl same;
   asked = λ is. asked;
   posted = λ serial other was is. absurd (apart serial other was is);
 }
@@ -128,14 +119,11 @@ module _ (p q : StoreState) where
       (device : Device)
       → LogsOwn mid row next reply device q → (p.rows row).stage ≡ stage → IsLive stage → IsUnposted next → RowsStep
   logged_own mid rows row stage next reply device logs at alive plain =
-      let left : (p.rows row).left ≡ c.Write logs.volume logs.page logs.word ∷ logs.rest =
-      ap (λ (r : Rows). (r row).left) (sym rows) ∙ logs.left in
       changed row (given_back mid row next).rows (record { left = logs.rest; stage = next; claim = None })
       (λ k ne. row_other mid.rows row (record { left = (mid.rows row).left; stage = next; claim = None }) k ne
       ∙ ap (λ (r : Rows). r k) rows)
       (ap (λ (s : StoreState). s.rows) logs.next)
-      (logged (p.rows row) (c.Write logs.volume logs.page logs.word) logs.rest next left
-      (live (p.rows row) stage at alive) plain)
+      (logged (p.rows row) logs.rest next (live (p.rows row) stage at alive) plain)
 
   -- a row gives its claim back, and a posted command is logged
   pub logged_posted : (mid : StoreState) → mid.rows ≡ p.rows → (row : ℕ) (next : Stage)
@@ -147,8 +135,7 @@ module _ (p q : StoreState) where
         let here : q.rows k ≡ now = ap (λ (r : Rows). r k) is ∙ row_here gave.rows posted.channel now k e in
         subst (λ (r : Row). RowStep (p.rows k) r) (sym here)
         (subst (λ j. RowStep (p.rows j) now) (sym e)
-        (logged (p.rows posted.channel) posted.command posted.rest (Decided Answered)
-        (ap (λ (r : Rows). (r posted.channel).left) (sym rows) ∙ ap (λ (r : Row). r.left) posted.row)
+        (logged (p.rows posted.channel) posted.rest (Decided Answered)
         (live (p.rows posted.channel) (Posted posted.serial)
         (ap (λ (r : Rows). (r posted.channel).stage) (sym rows) ∙ ap (λ (r : Row). r.stage) posted.row) tt)
         (λ left claim. tt)))
@@ -172,7 +159,7 @@ module _ (p q : StoreState) where
         | inl e ↦
             subst (λ (r : Row). RowStep (p.rows k) r) (sym (row_here mid.rows row left_now k e))
             (subst (λ j. RowStep (p.rows j) left_now) (sym e)
-            (goes (p.rows row) (mid.rows row).left next None (ap (λ (r : Rows). (r row).left) rows) alive
+            (goes (p.rows row) (mid.rows row).left next None alive
             (plain (mid.rows row).left None) (λ serial other was is. unposted next plain other is)))
         | inr ne ↦
             subst (λ (r : Row). RowStep (p.rows k) r)

@@ -1,0 +1,109 @@
+//! A run that begins where a metadata thread left off, which filled slots of a volume, at each of its turns.
+
+ghost use Rattle.std.specs.Prelude.{◌≡◌};
+ghost use Rattle.running_store.specs.StoreView.{state_of};
+ghost use Rattle.store_model.specs.Repairing.{IsRepaired};
+
+use crate::families::family;
+use crate::sessions::let_go;
+use blob_report::render_entry;
+use channels::run_stepwise;
+use md_queue::{Inbox, ListQueue, Outbox};
+use md_thread::{MdState, Turn};
+use page_disk::{MemDisk, PageDisk};
+use script_lang::{Grammar, Schedule, read_script};
+use std::alloc::Global;
+use std::process::Abort;
+use std::test::Fail;
+use store_core::{MdRight, Parts, Plant, RowStage};
+use store_model::{state_stops, state_turns};
+use unclean_load::{load, stores_are_accepted};
+use volume_model::Msg;
+
+/// An inflate, and behind it what the volume reads and how much is clear.
+const SCRIPT: &[u8] = b"0 inflate v\n0 read v 0 1\n0 read v 4 1\n0 df\n";
+
+const LOG: &[u8] =
+    b"0 0 ok\n0 1 page fill abababababababab\n0 2 page fill 0000000000000000\n0 3 df clusters 11 of 16 pages 2 of 4\n";
+
+/// A metadata thread has this message queued, and makes so many turns.
+fn make_turns<D: PageDisk>(
+    alloc: Global,
+    plant: &mut Plant<D>,
+    right: &mut MdRight,
+    msg: Msg,
+    count: u32,
+)
+    requires right { right.old ≡ plant.old.right }
+    requires repaired { IsRepaired (state_of D.PageDisk plant.old.at) }
+    ensures repaired { IsRepaired (state_of D.PageDisk plant.new.at) }
+    ensures opening { plant.new.opening ≡ plant.old.opening }
+    ensures right { (right.new ≡ right.old) × (plant.new.right ≡ plant.old.right) }
+{
+    let mut metadata = MdState::new();
+    let mut queue = ListQueue::new();
+    if queue.send(msg).is_err() {
+        return;
+    }
+    for _ in 0..count {
+        if let Turn::Idle = metadata.md_turn(alloc, right, plant) {
+            metadata.md_take(&mut queue);
+        }
+    }
+}
+
+/// The log of a run of the script, whose first turns are the post of its first command and so many of the metadata
+/// thread, of which another one takes over then.
+fn log_behind(rt: &impl Abort, alloc: Global, count: u32) -> Result<Vec<u8>, Fail> {
+    state_stops();
+    state_turns();
+    stores_are_accepted();
+    let Ok(script) = read_script(alloc, Grammar::Whole, SCRIPT) else {
+        return Err(Fail::new("the script is outside the grammar"));
+    };
+    let loaded = match load(alloc, family(alloc)?) {
+        Ok(loaded) => loaded,
+        Err((_, fault)) => return Err(Fail::new(fault)),
+    };
+    let (mut plant, mut right) = match Plant::start(alloc, loaded, script) {
+        Ok(started) => started,
+        Err(loaded) => {
+            let_go(loaded);
+            return Err(Fail::new("no memory"));
+        }
+    };
+    let RowStage::Meta = plant.stage(0) else {
+        panic!(rt; "the first command isn't for the metadata thread");
+    };
+    let msg = plant.post(0);
+    if !plant.is_unmarked() {
+        panic!(rt; "something is left to repair");
+    }
+    make_turns(alloc, &mut plant, &mut right, msg, count);
+    let (plant, right, _end) = run_stepwise(alloc, plant, right, &Schedule::new(alloc));
+    let Parts {
+        disk: _,
+        sup: _,
+        masks: _,
+        entries,
+    } = plant.into_parts(right);
+    let mut lines = Vec::new(alloc);
+    for entry in entries.as_slice() {
+        render_entry(entry, &mut lines)?;
+    }
+    Ok(lines)
+}
+
+#[test]
+fn run_goes_on_where_another_one_left_off(rt: HostRuntime) -> Result<(), Fail> {
+    for count in 0..64 {
+        let log = log_behind(&rt, rt.alloc(), count)?;
+        if log.as_slice() != LOG {
+            return Err(Fail::new(format_args!(
+                "behind {count} turns the log is {:?}",
+                log.as_slice()
+            )));
+        }
+    }
+    Ok(())
+}
