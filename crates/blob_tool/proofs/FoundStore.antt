@@ -81,8 +81,8 @@ module _ {D : Type 0} (d : disk.Ghosts D) (before : D) (loaded : Loaded D) (same
   by_masks quick ByScan used is whole = absurd (let bad : true ≡ false = sym quick ∙ is in cc bad)
   by_masks quick (Listed places) (inl x) is whole = (
     x.0,
-    x.1.0,
-    subst (λ p. AreListed (look_of (region_of loaded.sup) (d.now before)) (region_of loaded.sup) p base chains) x.1.1
+    x.1,
+    subst (λ p. AreListed (look_of (region_of loaded.sup) (d.now before)) (region_of loaded.sup) p base chains) x.2
         whole,
   )
   by_masks quick (Listed places) (inr x) is whole = absurd (cc x.1)
