@@ -1,6 +1,6 @@
 -- The masks of a new store are what its metadata claims.
 use Rattle.std.proofs.Common.{◌≡◌, ◌≢◌, ℕ, zero, suc, ◌+◌, ◌-◌, ◌*◌, ◌/◌, ◌<◌, ◌≤◌, Bool, true, false, List, [], ◌∷◌}
-use Rattle.std.proofs.Common.{◌++◌, length, replicate, set, Option, Some, None, IsSome, refl, sym, ap, subst, ◌∙◌, inl}
+use Rattle.std.proofs.Common.{length, replicate, Option, Some, None, IsSome, refl, sym, ap, subst, ◌∙◌, inl}
 use Rattle.std.proofs.Common.{inr, length-append, arith}
 use Rattle.std.specs.Prelude.{◌==◌, ◌↔◌, cond, slice_set}
 use Rattle.std.specs.Int.{div_ceil}
@@ -17,8 +17,8 @@ use Rattle.super_block.specs.Placed.{IsLaidOut}
 use Rattle.super_block.specs.Span.{greatest_end}
 use Rattle.super_block.specs.declared.layout.Layout.{Layout}
 use Rattle.super_block.specs.declared.page.Super.{Super}
-use Rattle.store_model.specs.Maps.{Metas, Chains}
-use Rattle.store_model.specs.Places.{IsLinked, IsMapped, Unclaimed, UsedClusters, UsedPages}
+use Rattle.store_model.specs.Maps.{Metas}
+use Rattle.store_model.specs.Places.{IsMapped, Unclaimed, UsedClusters, UsedPages}
 use Rattle.store_format.specs.NewStore.{first_masks, first_super}
 use Rattle.store_format.specs.SuperBlob.{new_chains, new_metas, page_of}
 use Rattle.store_format.specs.declared.super_blob.StoreName.{StoreName}
