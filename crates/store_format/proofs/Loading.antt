@@ -6,10 +6,9 @@ use Rattle.std.proofs.lemmas.Bool.{cases_Bool, ltb-true}
 use Rattle.bit_array.specs.Mask.{mask_pages}
 use Rattle.clean_stop.specs.Masks.{HasMasks}
 use Rattle.crc32c.proofs.Zeros.{is_sound-zeros}
-use Rattle.crc32c.specs.Crc.{is_sound}
 use Rattle.page_disk.specs.Disk.{Image}
 use Rattle.running_store.specs.LoadedWhole.{AreMasks}
-use Rattle.super_block.specs.Faults.{clusters_fault, fault_of, pages_fault, super_fault, IsFaultless}
+use Rattle.super_block.specs.Faults.{clusters_fault, pages_fault, super_fault}
 use Rattle.super_block.specs.Placed.{IsLaidOut}
 use Rattle.super_block.specs.Layout.{cluster_pages_fault, layout_of, new_super, plan_fault, room_fault, IsPlanned}
 use Rattle.super_block.specs.Page.{super_of}
@@ -25,9 +24,7 @@ use Rattle.store_model.specs.Recovers.{IsSameStore}
 use Rattle.store_model.specs.Regions.{look_of, region_of, MdRegion}
 use Rattle.store_model.specs.Scans.{is_head, BlobAt, Says}
 use Rattle.store_model.proofs.NewBlob.{new_steady, two_written}
-use Rattle.unclean_load.proofs.Accepting.{faultless_by}
 use Rattle.unclean_load.specs.Accepted.{CanBeScanned, IsAccepted, UnloadedAreAccepted}
-use Rattle.unclean_load.specs.Quick.{UnloadedAreQuick}
 use Rattle.store_format.proofs.BareMetas.{bare_are_named, bare_is_lawful, few_slots, new_bare, no_cluster, resolved_bare}
 use Rattle.store_format.proofs.BareMetas.{AreBare}
 use Rattle.store_format.proofs.NewMasks.{are_masks, clusters_long}
@@ -167,12 +164,7 @@ module _ (plan : Layout) (named : Option StoreName) (image : Image) (some : 0 < 
   bare : AreBare (new_metas named)
   bare = new_bare named
 
-  -- its super block has no fault, and says that the store is clean
-  fine : IsFaultless sup
-  fine =
-      faultless_by (is_sound (image 0)) sup
-      (ap (λ (t : Super). fault_of (is_sound (image 0)) t) read_again ∙ faultless)
-
+  -- where its masks stand, and that it is clean
   starts : (sup.used_page_mask_start ≡ plan.page_mask_start) × (sup.used_cluster_mask_start ≡ plan.cluster_mask_start)
       × (sup.used_blobid_mask_start ≡ plan.blob_mask_start) × (sup.clean ≡ 1)
   starts =
@@ -219,19 +211,17 @@ module _ (plan : Layout) (named : Option StoreName) (image : Image) (some : 0 < 
     }
 
     -- a new store is accepted by its masks, and holds the super blob alone, if it has one
-    loads_as_planned : UnloadedAreQuick → UnloadedAreAccepted → ScanLaws → LoadsAsPlanned plan named image
-    loads_as_planned quick accepts scans =
+    loads_as_planned : UnloadedAreAccepted → ScanLaws → LoadsAsPlanned plan named image
+    loads_as_planned accepts scans =
         let by_masks =
-        quick sup (first_masks plan (page_of named)) image (new_metas named) (new_chains named) fine starts.3 has_masks
-        says (few_slots (new_metas named) bare sup.md_len) claims in
+        accepts sup (first_masks plan (page_of named)) image (new_metas named) (new_chains named) can_be_scanned
+        starts.3 has_masks claims in
         record {
           sum = read.sum;
           super_is = sup_is;
-          accepted = subst (λ (n : ℕ). IsAccepted n image) same_pages
-              (accepts sup (first_masks plan (page_of named)) image (new_metas named) (new_chains named) can_be_scanned
-              starts.3 has_masks claims);
-          quick = by_masks.0;
-          no_head = by_masks.1;
+          accepted = subst (λ (n : ℕ). IsAccepted n image) same_pages by_masks.0;
+          quick = by_masks.1;
+          no_head = by_masks.2;
           holds = record {
             store = record { faultless = faultless; same = subst (IsSameStore sup) read_again refl };
             says = says;
@@ -244,11 +234,11 @@ module _ (plan : Layout) (named : Option StoreName) (image : Image) (some : 0 < 
 -- the same by the page of its super blob
 pub loads : (plan : Layout) (named : Option StoreName) (image : Image) (blob : Option (List ℕ)) → blob ≡ page_of named
     → 0 < plan.md_pages → plan.md_pages ≤ 2 ^ 20 → AreReadable named → IsPlanned plan → IsLaidOut plan
-    → UnloadedAreQuick → UnloadedAreAccepted → ScanLaws → IsNewStore plan blob image → IsReadAsPlanned plan blob
+    → UnloadedAreAccepted → ScanLaws → IsNewStore plan blob image → IsReadAsPlanned plan blob
     → LoadsAsPlanned plan named image
-loads plan named image blob is some few readable planned laid quick accepts scans =
+loads plan named image blob is some few readable planned laid accepts scans =
     subst
     (λ (b : Option (List ℕ)). IsNewStore plan b image → IsReadAsPlanned plan b → LoadsAsPlanned plan named image)
     (sym is)
     (λ new read.
-    loads_as_planned plan named image some few readable new read planned laid quick accepts scans)
+    loads_as_planned plan named image some few readable new read planned laid accepts scans)

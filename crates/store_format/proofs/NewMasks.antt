@@ -5,7 +5,7 @@ use Rattle.std.proofs.Common.{inr, length-append, arith}
 use Rattle.std.specs.Prelude.{◌==◌, ◌↔◌, cond, slice_set}
 use Rattle.std.specs.Int.{div_ceil}
 use Rattle.std.proofs.Math.Nat.{mul-div-mul_right, mul-div_cancel}
-use Rattle.std.proofs.lemmas.Bool.{both_ways, cases_eq, cases_lt}
+use Rattle.std.proofs.lemmas.Bool.{both_ways, cases_eq, cases_lt, eqb-true, or_cases}
 use Rattle.std.proofs.lemmas.List.{get_or-replicate, get_or-set_other, get_or-set_same, get_or_past, length-replicate}
 use Rattle.std.proofs.lemmas.List.{get_or_append_left, get_or-append_right, length-set}
 use Rattle.bit_array.specs.Bits.{first_of, is_in}
@@ -93,7 +93,7 @@ first_in : (n : ℕ) → 0 < n → is_in (slice_set (replicate n false) 0 true) 
 first_in n some = get_or-set_same (replicate n false) 0 true false (rw length-replicate some)
 
 others_out : (n p : ℕ) → p ≢ 0 → is_in (slice_set (replicate n false) 0 true) p ≡ false
-others_out n p ne = get_or-set_other (replicate n false) p 0 true false (λ e. ne e) ∙ none_in n p
+others_out n p ne = get_or-set_other (replicate n false) 0 p true false ne ∙ none_in n p
 
 -- so many first places
 below_in : (count len p : ℕ) → p < count → is_in (first_of count len) p ≡ true
@@ -135,8 +135,10 @@ used_pages plan some (Some named) = record {
 }
   where
     is_first : (place : ℕ) → is_among place (0 ∷ []) ≡ true → place ≡ 0
-    is_first zero is = refl
-    is_first (suc place) is = absurd (cc is)
+    is_first place is = elim (or_cases (0 == place) false is) [
+      | inl e ↦ sym (eqb-true 0 place e)
+      | inr never ↦ absurd (cc never)
+    ]
 
     of_first : (place head : ℕ) (pages : List ℕ) → new_chains (Some named) head ≡ Some pages
         → is_among place pages ≡ true → is_in (slice_set (replicate plan.md_pages false) 0 true) place ≡ true

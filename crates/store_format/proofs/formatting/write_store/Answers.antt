@@ -8,6 +8,6 @@ returns-clause-loads g c = λ told.
     loads plan (option_copied c.args.named) (g.D.PageDisk.now c.write_new.new.disk) c.in_ok-super_blob.super_blob
     c.in_ok-super_blob.ensures.page
     c.requires.some_page (few_md_pages plan c.requires.planned) c.in_ok-super_blob.ensures.readable
-    c.requires.planned (c.layouts_are_placed.ensures plan c.requires.planned) c.clean_stores_are_quick.ensures.quick
+    c.requires.planned (c.layouts_are_placed.ensures plan c.requires.planned)
     c.clean_stores_are_quick.ensures.accepted c.scans.ensures (c.in_ok-write_new.ensures.store told)
     c.in_ok-write_new.ensures.read
