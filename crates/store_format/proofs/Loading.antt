@@ -6,10 +6,9 @@ use Rattle.std.proofs.lemmas.Bool.{cases_Bool, ltb-true}
 use Rattle.bit_array.specs.Mask.{mask_pages}
 use Rattle.clean_stop.specs.Masks.{HasMasks}
 use Rattle.crc32c.proofs.Zeros.{is_sound-zeros}
-use Rattle.crc32c.specs.Crc.{is_sound}
 use Rattle.page_disk.specs.Disk.{Image}
 use Rattle.running_store.specs.LoadedWhole.{AreMasks}
-use Rattle.super_block.specs.Faults.{clusters_fault, fault_of, pages_fault, super_fault, IsFaultless}
+use Rattle.super_block.specs.Faults.{clusters_fault, pages_fault, super_fault}
 use Rattle.super_block.specs.Placed.{IsLaidOut}
 use Rattle.super_block.specs.Layout.{cluster_pages_fault, layout_of, new_super, plan_fault, room_fault, IsPlanned}
 use Rattle.super_block.specs.Page.{super_of}
@@ -25,7 +24,6 @@ use Rattle.store_model.specs.Recovers.{IsSameStore}
 use Rattle.store_model.specs.Regions.{look_of, region_of, MdRegion}
 use Rattle.store_model.specs.Scans.{is_head, BlobAt, Says}
 use Rattle.store_model.proofs.NewBlob.{new_steady, two_written}
-use Rattle.unclean_load.proofs.Accepting.{faultless_by}
 use Rattle.unclean_load.specs.Accepted.{CanBeScanned, IsAccepted, UnloadedAreAccepted}
 use Rattle.store_format.proofs.BareMetas.{bare_are_named, bare_is_lawful, few_slots, new_bare, no_cluster, resolved_bare}
 use Rattle.store_format.proofs.BareMetas.{AreBare}
@@ -166,12 +164,7 @@ module _ (plan : Layout) (named : Option StoreName) (image : Image) (some : 0 < 
   bare : AreBare (new_metas named)
   bare = new_bare named
 
-  -- its super block has no fault, and says that the store is clean
-  fine : IsFaultless sup
-  fine =
-      faultless_by (is_sound (image 0)) sup
-      (ap (λ (t : Super). fault_of (is_sound (image 0)) t) read_again ∙ faultless)
-
+  -- where its masks stand, and that it is clean
   starts : (sup.used_page_mask_start ≡ plan.page_mask_start) × (sup.used_cluster_mask_start ≡ plan.cluster_mask_start)
       × (sup.used_blobid_mask_start ≡ plan.blob_mask_start) × (sup.clean ≡ 1)
   starts =

@@ -1,6 +1,6 @@
 -- The masks of a new store are what its metadata claims.
 use Rattle.std.proofs.Common.{◌≡◌, ◌≢◌, ℕ, zero, suc, ◌+◌, ◌-◌, ◌*◌, ◌/◌, ◌<◌, ◌≤◌, Bool, true, false, List, [], ◌∷◌}
-use Rattle.std.proofs.Common.{◌++◌, length, replicate, set, Option, Some, None, IsSome, refl, sym, ap, subst, ◌∙◌, inl}
+use Rattle.std.proofs.Common.{length, replicate, Option, Some, None, IsSome, refl, sym, ap, subst, ◌∙◌, inl}
 use Rattle.std.proofs.Common.{inr, length-append, arith}
 use Rattle.std.specs.Prelude.{◌==◌, ◌↔◌, cond, slice_set}
 use Rattle.std.specs.Int.{div_ceil}
@@ -17,8 +17,8 @@ use Rattle.super_block.specs.Placed.{IsLaidOut}
 use Rattle.super_block.specs.Span.{greatest_end}
 use Rattle.super_block.specs.declared.layout.Layout.{Layout}
 use Rattle.super_block.specs.declared.page.Super.{Super}
-use Rattle.store_model.specs.Maps.{Metas, Chains}
-use Rattle.store_model.specs.Places.{IsLinked, IsMapped, Unclaimed, UsedClusters, UsedPages}
+use Rattle.store_model.specs.Maps.{Metas}
+use Rattle.store_model.specs.Places.{IsMapped, Unclaimed, UsedClusters, UsedPages}
 use Rattle.store_format.specs.NewStore.{first_masks, first_super}
 use Rattle.store_format.specs.SuperBlob.{new_chains, new_metas, page_of}
 use Rattle.store_format.specs.declared.super_blob.StoreName.{StoreName}
@@ -135,7 +135,10 @@ used_pages plan some (Some named) = record {
 }
   where
     is_first : (place : ℕ) → is_among place (0 ∷ []) ≡ true → place ≡ 0
-    is_first place is = elim (or_cases (0 == place) false is) [ inl e ↦ sym (eqb-true 0 place e) | inr bad ↦ absurd cc ]
+    is_first place is = elim (or_cases (0 == place) false is) [
+      | inl e ↦ sym (eqb-true 0 place e)
+      | inr never ↦ absurd (cc never)
+    ]
 
     of_first : (place head : ℕ) (pages : List ℕ) → new_chains (Some named) head ≡ Some pages
         → is_among place pages ≡ true → is_in (slice_set (replicate plan.md_pages false) 0 true) place ≡ true

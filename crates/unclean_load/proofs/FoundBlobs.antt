@@ -1,5 +1,5 @@
 -- The heads by which blobs were found, and the fault where they weren't.
-use Rattle.std.proofs.Common.{◌≡◌, ℕ, ◌<◌, ◌≤◌, ◌⊎◌, Bool, true, false, [], refl, sym, subst, inl, inr, arith}
+use Rattle.std.proofs.Common.{◌≡◌, ℕ, ◌≤◌, ◌⊎◌, Bool, true, false, [], refl, sym, subst, inl, inr, arith}
 use Rattle.std.proofs.lemmas.Bool.{cases_eq, cases_lt}
 use Rattle.clean_stop.specs.Masks.{MasksFit, SaysMasks}
 use Rattle.md_chain.specs.Chain.{Look}

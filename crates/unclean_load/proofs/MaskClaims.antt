@@ -1,15 +1,13 @@
 -- Masks that are what blobs claim.
-use Rattle.std.proofs.Common.{◌≡◌, ℕ, ◌+◌, ◌<◌, ◌⊎◌, Bool, true, false, List, [], length, Option, Some, None, IsSome}
-use Rattle.std.proofs.Common.{refl, sym, ap, subst, ◌∙◌, inl, inr, arith}
+use Rattle.std.proofs.Common.{◌≡◌, ℕ, ◌<◌, ◌⊎◌, Bool, true, false, List, [], length, Option, Some, None, IsSome}
+use Rattle.std.proofs.Common.{refl, sym, subst, ◌∙◌, inl, inr}
 use Rattle.std.specs.Prelude.{◌↔◌}
 use Rattle.std.proofs.lemmas.Bool.{both_ways}
 use Rattle.std.proofs.lemmas.List.{ext_get_or}
 use Rattle.bit_array.specs.Bits.{is_in}
 use Rattle.blob_meta.specs.declared.meta.Meta.{Meta}
 use Rattle.clean_stop.specs.Masks.{MasksFit, SaysMasks}
-use Rattle.md_chain.specs.Chain.{Look}
 use Rattle.page_disk.specs.Disk.{Image}
-use Rattle.running_store.specs.LoadedWhole.{AreMasks}
 use Rattle.running_store.specs.Recovered.{chains_of}
 use Rattle.store_model.specs.Maps.{Metas, Chains}
 use Rattle.store_model.specs.Places.{Unclaimed, UsedClusters, UsedPages}
@@ -17,7 +15,7 @@ use Rattle.store_model.specs.Regions.{look_of, region_of}
 use Rattle.super_block.specs.Numbers.{clusters_of, fixed_clusters_of}
 use Rattle.super_block.specs.declared.masks.Masks.{Masks}
 use Rattle.super_block.specs.declared.page.Super.{Super}
-use Rattle.unclean_load.specs.Heads.{AreWhole, PlaceSays}
+use Rattle.unclean_load.specs.Heads.{PlaceSays}
 use Rattle.unclean_load.specs.Quick.{AreClaimed, AreFaulty, AreListed, IsQuick}
 use Rattle.unclean_load.specs.Reading.{AreRead}
 use Rattle.unclean_load.specs.Sharing.{AreCounted, copies}

@@ -1,5 +1,5 @@
 -- The masks of a store lie on its device.
-use Rattle.std.proofs.Common.{◌≡◌, ℕ, ◌+◌, ◌-◌, ◌*◌, ◌<◌, ◌≤◌, inl, inr, arith}
+use Rattle.std.proofs.Common.{ℕ, ◌+◌, ◌-◌, ◌*◌, ◌<◌, ◌≤◌, inl, inr, arith}
 use Rattle.std.proofs.Math.Nat.{mul-le-mul_right}
 use Rattle.bit_array.specs.Mask.{mask_pages}
 use Rattle.clean_stop.specs.Masks.{IsMaskPage, StandsApart}

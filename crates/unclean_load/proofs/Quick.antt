@@ -1,18 +1,16 @@
 -- Clean stores, and the heads by which they are loaded.
-use Rattle.std.proofs.Common.{◌≡◌, ℕ, ◌^◌, ◌<◌, ◌≤◌, ◌⊎◌, Bool, true, false, List, Option, Some, None, IsSome, inl, inr}
+use Rattle.std.proofs.Common.{◌≡◌, ℕ, ◌^◌, ◌<◌, ◌≤◌, Bool, true, false, List, inl, inr}
 use Rattle.std.proofs.Common.{refl, sym, ap, subst, ◌∙◌, arith}
 use Rattle.std.specs.Prelude.{◌↔◌}
 use Rattle.std.proofs.lemmas.Bool.{and_parts, both_ways, cases_Bool, cases_lt, ltb-true}
 use Rattle.std.proofs.lemmas.List.{get_or_past}
 use Rattle.bit_array.specs.Bits.{is_in}
 use Rattle.blob_meta.specs.Resolving.{slots_together}
-use Rattle.blob_meta.specs.declared.meta.Meta.{Meta}
 use Rattle.clean_stop.specs.Masks.{MasksFit, SaysMasks}
-use Rattle.md_chain.specs.Chain.{Look}
 use Rattle.page_disk.specs.Disk.{Image, Rose}
 use Rattle.running_store.specs.LoadedWhole.{AreMasks}
 use Rattle.store_model.specs.Maps.{Metas, Chains}
-use Rattle.store_model.specs.Regions.{MdRegion, look_of, region_of}
+use Rattle.store_model.specs.Regions.{look_of, region_of}
 use Rattle.store_model.specs.Scans.{Says, head_at}
 use Rattle.store_model.proofs.Scanning.{is_at}
 use Rattle.super_block.specs.declared.masks.Masks.{Masks}

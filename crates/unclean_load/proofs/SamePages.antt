@@ -1,14 +1,13 @@
 -- Images with the same pages in the fixed clusters have the same heads.
-use Rattle.std.proofs.Common.{◌≡◌, ℕ, zero, suc, ◌+◌, ◌*◌, ◌<◌, ◌≤◌, ◌⊎◌, Bool, true, false, List, ◌++◌, length}
-use Rattle.std.proofs.Common.{Option, Some, None, refl, sym, ap, subst, ◌∙◌, inl, inr, add-one, arith}
+use Rattle.std.proofs.Common.{◌≡◌, ℕ, ◌+◌, ◌*◌, ◌<◌, ◌≤◌, ◌⊎◌, Bool, List, length}
+use Rattle.std.proofs.Common.{Option, refl, sym, ap, subst, ◌∙◌, inl, inr, arith}
 use Rattle.std.specs.Prelude.{◌&&◌, nat_lt}
 use Rattle.std.proofs.Math.Nat.{mul-le-mul_right}
 use Rattle.std.proofs.lemmas.Bool.{cases_Bool, ltb-true}
-use Rattle.bit_array.specs.Bits.{is_in}
 use Rattle.bit_array.specs.Fault.{head_fault}
 use Rattle.bit_array.specs.Mask.{bits_in, mask_pages}
 use Rattle.blob_meta.specs.declared.meta.Meta.{Meta}
-use Rattle.clean_stop.specs.Masks.{IsMaskPage, SaysMask, SaysMasks, StandsApart, text_from}
+use Rattle.clean_stop.specs.Masks.{IsMaskPage, SaysMask, SaysMasks, StandsApart}
 use Rattle.md_chain.proofs.Links.{agree_by}
 use Rattle.md_chain.specs.Chain.{Look}
 use Rattle.page_disk.specs.Disk.{Image}
@@ -16,8 +15,8 @@ use Rattle.store_model.proofs.Scanning.{meta_kept}
 use Rattle.store_model.specs.Maps.{Metas, Chains}
 use Rattle.store_model.specs.Regions.{MdRegion, look_of, region_of}
 use Rattle.store_model.specs.Scans.{is_head}
-use Rattle.super_block.specs.Numbers.{cluster_pages_of, clusters_of, fixed_clusters_of}
 use Rattle.store_model.specs.StateLaws.{HasFixedPagesOf}
+use Rattle.super_block.specs.Numbers.{cluster_pages_of, fixed_clusters_of}
 use Rattle.super_block.specs.Placed.{IsPlaced}
 use Rattle.super_block.specs.declared.masks.Masks.{Masks}
 use Rattle.super_block.specs.declared.page.Super.{Super}

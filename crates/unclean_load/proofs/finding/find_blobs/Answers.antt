@@ -1,4 +1,4 @@
-use Rattle.std.proofs.Common.{◌≡◌, ℕ, rules, true, refl, ap, subst, ◌∙◌}
+use Rattle.std.proofs.Common.{ℕ, rules, true, refl, ap, subst, ◌∙◌}
 use Rattle.std.specs.FinMap as map
 use Rattle.md_chain.specs.Reading.{region_look}
 use Rattle.page_disk.specs.Disk.{Image}

@@ -1,4 +1,4 @@
-use Rattle.std.proofs.Common.{◌≡◌, None, ap, ◌∙◌}
+use Rattle.std.proofs.Common.{ap, ◌∙◌}
 use Rattle.crc32c.specs.Crc.{is_sound}
 use Rattle.super_block.specs.Faults.{IsFaultless, fault_of}
 use Rattle.super_block.specs.declared.page.Super.{Super}

@@ -1,4 +1,4 @@
-use Rattle.std.proofs.Common.{◌≡◌, ◌+◌, ◌≤◌, ℕ, ap, sym, subst, ◌∙◌, arith}
+use Rattle.std.proofs.Common.{ap, arith}
 use Rattle.bit_array.specs.Mask.{mask_pages}
 use Rattle.unclean_load.proofs.MasksOnDevice.{blobs_end, clusters_end, pages_end}
 use Rattle.unclean_load.proofs.mask_pages.read_masks.Goals as goal
