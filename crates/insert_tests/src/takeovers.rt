@@ -26,8 +26,8 @@ const SCRIPT: &[u8] = b"0 inflate v\n0 read v 0 1\n0 read v 4 1\n0 df\n";
 const LOG: &[u8] =
     b"0 0 ok\n0 1 page fill abababababababab\n0 2 page fill 0000000000000000\n0 3 df clusters 11 of 16 pages 2 of 4\n";
 
-/// So many turns of the metadata thread that leaves off, and what the fill's row waits for behind them: before the first
-/// slot, at each stage of it, between the two slots, while the last job runs, and behind the entry of the inflate.
+/// So many turns of the metadata thread that leaves off, and what the fill's row waits for behind them: before the
+/// first slot, at each stage of it, between the two slots, while the last job runs, and behind the inflate's entry.
 const LEFT_OFF: [(u32, &str); 9] = [
     (0, "nothing"),
     (2, "copy"),
@@ -78,8 +78,8 @@ fn make_turns<D: PageDisk>(
     }
 }
 
-/// What the fill's row waits for where another metadata thread takes over, behind the post of the script's first command
-/// and so many turns of the first thread; and the log of the run that goes on there.
+/// What the fill's row waits for where another metadata thread takes over, behind the post of the script's first
+/// command and so many turns of the first thread; and the log of the run that goes on there.
 fn log_behind(rt: &impl Abort, alloc: Global, count: u32) -> Result<(&'static str, Vec<u8>), Fail> {
     state_stops();
     state_turns();
