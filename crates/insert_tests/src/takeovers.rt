@@ -1,4 +1,4 @@
-//! A run that begins where a metadata thread left off, which filled slots of a volume, at each of its turns.
+//! A run that begins where a metadata thread left off, which filled slots of a volume.
 
 ghost use Rattle.std.specs.Prelude.{◌≡◌};
 ghost use Rattle.running_store.specs.StoreView.{state_of};
@@ -15,7 +15,7 @@ use script_lang::{Grammar, Schedule, read_script};
 use std::alloc::Global;
 use std::process::Abort;
 use std::test::Fail;
-use store_core::{MdRight, Parts, Plant, RowStage};
+use store_core::{FILL_ROW, MdRight, Parts, Plant, RowStage};
 use store_model::{state_stops, state_turns};
 use unclean_load::{load, stores_are_accepted};
 use volume_model::Msg;
@@ -25,6 +25,32 @@ const SCRIPT: &[u8] = b"0 inflate v\n0 read v 0 1\n0 read v 4 1\n0 df\n";
 
 const LOG: &[u8] =
     b"0 0 ok\n0 1 page fill abababababababab\n0 2 page fill 0000000000000000\n0 3 df clusters 11 of 16 pages 2 of 4\n";
+
+/// So many turns of the metadata thread that leaves off, and what the fill's row waits for behind them: before the
+/// first slot, at each stage of it, between the two slots, while the last job runs, and behind the inflate's entry.
+const LEFT_OFF: [(u32, &str); 9] = [
+    (0, "nothing"),
+    (2, "copy"),
+    (10, "post"),
+    (12, "begin"),
+    (14, "job"),
+    (16, "settle"),
+    (18, "nothing"),
+    (37, "nothing"),
+    (38, "nothing"),
+];
+
+/// What the fill's row waits for.
+fn filled<D: PageDisk>(plant: &Plant<D>) -> &'static str {
+    match plant.stage(FILL_ROW) {
+        RowStage::Copy { .. } => "copy",
+        RowStage::Ready => "post",
+        RowStage::Posted(_) => "begin",
+        RowStage::InJob => "job",
+        RowStage::Decided => "settle",
+        _ => "nothing",
+    }
+}
 
 /// A metadata thread has this message queued, and makes so many turns.
 fn make_turns<D: PageDisk>(
@@ -52,9 +78,9 @@ fn make_turns<D: PageDisk>(
     }
 }
 
-/// The log of a run of the script, whose first turns are the post of its first command and so many of the metadata
-/// thread, of which another one takes over then.
-fn log_behind(rt: &impl Abort, alloc: Global, count: u32) -> Result<Vec<u8>, Fail> {
+/// What the fill's row waits for where another metadata thread takes over, behind the post of the script's first
+/// command and so many turns of the first thread; and the log of the run that goes on there.
+fn log_behind(rt: &impl Abort, alloc: Global, count: u32) -> Result<(&'static str, Vec<u8>), Fail> {
     state_stops();
     state_turns();
     stores_are_accepted();
@@ -80,6 +106,7 @@ fn log_behind(rt: &impl Abort, alloc: Global, count: u32) -> Result<Vec<u8>, Fai
         panic!(rt; "something is left to repair");
     }
     make_turns(alloc, &mut plant, &mut right, msg, count);
+    let left_off = filled(&plant);
     let (plant, right, _end) = run_stepwise(alloc, plant, right, &Schedule::new(alloc));
     let Parts {
         disk: _,
@@ -91,16 +118,16 @@ fn log_behind(rt: &impl Abort, alloc: Global, count: u32) -> Result<Vec<u8>, Fai
     for entry in entries.as_slice() {
         render_entry(entry, &mut lines)?;
     }
-    Ok(lines)
+    Ok((left_off, lines))
 }
 
 #[test]
 fn run_goes_on_where_another_one_left_off(rt: HostRuntime) -> Result<(), Fail> {
-    for count in 0..64 {
-        let log = log_behind(&rt, rt.alloc(), count)?;
-        if log.as_slice() != LOG {
+    for (count, left_off) in &LEFT_OFF {
+        let (found, log) = log_behind(&rt, rt.alloc(), *count)?;
+        if found != *left_off || log.as_slice() != LOG {
             return Err(Fail::new(format_args!(
-                "behind {count} turns the log is {:?}",
+                "behind {count} turns: {found}, and then {:?}",
                 log.as_slice()
             )));
         }
