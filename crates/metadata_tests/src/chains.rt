@@ -1,10 +1,9 @@
 //! Chains: the pages of a plan, a plan read again, and each fault of a chain.
 
-ghost use Rattle.std.specs.Prelude.{◌≡◌, IfOk};
-ghost use Rattle.descriptors.specs.declared.item.Item.TheVariants.{Xattr};
+ghost use Rattle.std.specs.Prelude.{IfOk};
 ghost use Rattle.md_chain.specs.Packing.{ArePlannable, AreFew};
 
-use crate::fixtures::small;
+use crate::fixtures::{attribute, expect_text, list_of, small, text_of};
 use crc32c::page_ok;
 use descriptors::{Item, ItemList};
 use md_chain::{ChainFault, Memory, Plan, chain_len, plan_chain, read_chain};
@@ -13,34 +12,28 @@ use page_disk::{CallKind, Fail, FaultDisk, MemDisk, Page, PageDisk, WriteKind};
 use std::alloc::Global;
 use std::process::Abort;
 use std::test::Fail as TestFail;
-use volume_model::{Blobtext, PlaceList, RunList, SlotRun};
+use volume_model::{PlaceList, SlotRun};
 
 /// The number that stands for no next page.
 const LAST: u32 = 0xFFFF_FFFF;
 
-fn attribute(alloc: Global, key: &[u8], value: &[u8]) -> Result<Item, Memory>
-    ensures { IfOk result (λ item. item ≡ Xattr key.now value.now) }
-{
-    Ok(Item::Xattr {
-        key: Blobtext::new(alloc, key)?,
-        value: Blobtext::new(alloc, value)?,
-    })
-}
+/// Four empty slots, and three clusters from 7 on.
+const TWO_RUNS: [SlotRun; 2] = [
+    SlotRun {
+        cluster: 0,
+        length: 4,
+    },
+    SlotRun {
+        cluster: 7,
+        length: 3,
+    },
+];
 
 /// The items of a thin volume: flags, a name, a uuid, an attribute that fills a page, and the runs of a map.
 fn volume(alloc: Global) -> Result<ItemList, Memory>
     ensures plannable { IfOk result (λ items. ArePlannable items) }
     ensures few { IfOk result (λ items. AreFew items) }
 {
-    let mut runs = RunList::new(alloc);
-    runs.push(SlotRun {
-        cluster: 0,
-        length: 4,
-    })?;
-    runs.push(SlotRun {
-        cluster: 7,
-        length: 3,
-    })?;
     let mut items = ItemList::new(alloc);
     items.push(Item::Flags {
         invalid: 1,
@@ -50,7 +43,7 @@ fn volume(alloc: Global) -> Result<ItemList, Memory>
     items.push(attribute(alloc, b"name", b"v\0")?)?;
     items.push(attribute(alloc, b"uuid", b"11223344-5566-4788-99aa-bbccddeeff00\0")?)?;
     items.push(attribute(alloc, b"k", &[b'x'; 4062])?)?;
-    items.push(Item::Rle(runs))?;
+    items.push(Item::Rle(list_of(alloc, &TWO_RUNS)?))?;
     Ok(items)
 }
 
@@ -66,19 +59,47 @@ fn planned(rt: &impl Abort, alloc: Global, items: &ItemList) -> Result<Plan, Tes
     Ok(plan_chain(alloc, items, 5, &fresh)?)
 }
 
-/// A page that begins with these bytes, has this byte in the rest of its body, and then this next place.
-fn page_with(front: &[u8], rest: u8, next: [u8; 4]) -> Page {
-    let mut page = [rest; 4096];
-    if front.len() <= 4088 {
-        page[..front.len()].copy_from_slice(front);
-    }
-    page[4088..4092].copy_from_slice(&next);
-    page
+/// A page of a plan: its place, the bytes that it begins with, the byte that fills the rest of its body, and its next
+/// place.
+struct PlannedPage {
+    place: u32,
+    front: &'static [u8],
+    rest: u8,
+    next: [u8; 4],
 }
 
-/// Whether the pages have the same bytes before their sums.
-fn bytes_agree(page: &Page, wanted: &Page) -> bool {
-    page[..4092] == wanted[..4092]
+const PAGES: [PlannedPage; 3] = [
+    PlannedPage {
+        place: 5,
+        front: b"\x05\0\0\0\x01\0\0\0\0\0\0\0\0\0\0\0\
+            \x03\x18\0\0\0\x01\0\0\0\0\0\0\0\0\0\0\0\0\0\0\0\0\0\0\0\0\0\0\0\
+            \x02\x0A\0\0\0\x04\0\x02\0namev\0\
+            \x02\x2D\0\0\0\x04\0\x25\0uuid11223344-5566-4788-99aa-bbccddeeff00\0",
+        rest: 0,
+        next: [2, 0, 0, 0],
+    },
+    PlannedPage {
+        place: 2,
+        front: b"\x05\0\0\0\x01\0\0\0\x01\0\0\0\0\0\0\0\x02\xE3\x0F\0\0\x01\0\xDE\x0Fk",
+        rest: b'x',
+        next: [9, 0, 0, 0],
+    },
+    PlannedPage {
+        place: 9,
+        front: b"\x05\0\0\0\x01\0\0\0\x02\0\0\0\0\0\0\0\x01\x10\0\0\0\0\0\0\0\x04\0\0\0\x07\0\0\0\x03\0\0\0",
+        rest: 0,
+        next: [0xFF; 4],
+    },
+];
+
+/// Whether a page has the bytes of this one before its sum.
+fn bytes_agree(page: &Page, wanted: &PlannedPage) -> bool {
+    let mut bytes = [wanted.rest; 4096];
+    if wanted.front.len() <= 4088 {
+        bytes[..wanted.front.len()].copy_from_slice(wanted.front);
+    }
+    bytes[4088..4092].copy_from_slice(&wanted.next);
+    page[..4092] == bytes[..4092]
 }
 
 #[test]
@@ -87,30 +108,11 @@ fn a_volume_with_a_full_attribute_and_a_map_takes_three_pages(
 ) -> Result<(), TestFail> {
     let items = volume(rt.alloc())?;
     let plan = planned(&rt, rt.alloc(), &items)?;
-    let first = page_with(
-        b"\x05\0\0\0\x01\0\0\0\0\0\0\0\0\0\0\0\
-        \x03\x18\0\0\0\x01\0\0\0\0\0\0\0\0\0\0\0\0\0\0\0\0\0\0\0\0\0\0\0\
-        \x02\x0A\0\0\0\x04\0\x02\0namev\0\
-        \x02\x2D\0\0\0\x04\0\x25\0uuid11223344-5566-4788-99aa-bbccddeeff00\0",
-        0,
-        [2, 0, 0, 0],
-    );
-    let second = page_with(
-        b"\x05\0\0\0\x01\0\0\0\x01\0\0\0\0\0\0\0\x02\xE3\x0F\0\0\x01\0\xDE\x0Fk",
-        b'x',
-        [9, 0, 0, 0],
-    );
-    let third = page_with(
-        b"\x05\0\0\0\x01\0\0\0\x02\0\0\0\0\0\0\0\x01\x10\0\0\0\0\0\0\0\x04\0\0\0\x07\0\0\0\x03\0\0\0",
-        0,
-        [0xFF; 4],
-    );
-    let wanted = [(5, first), (2, second), (9, third)];
     assert_eq!(rt; plan.len(), 3);
-    for (planned, (place, page)) in plan.as_slice().iter().zip(wanted) {
-        assert_eq!(rt; planned.place, place);
-        assert!(rt; bytes_agree(&planned.page, &page));
-        assert!(rt; page_ok(&planned.page));
+    for (found, wanted) in plan.as_slice().iter().zip(&PAGES) {
+        assert_eq!(rt; found.place, wanted.place);
+        assert!(rt; bytes_agree(&found.page, wanted));
+        assert!(rt; page_ok(&found.page));
     }
     Ok(())
 }
@@ -140,14 +142,12 @@ fn a_written_plan_is_read_again(rt: HostRuntime) -> Result<(), TestFail> {
     assert!(rt; sup.device_pages == disk.pages());
     let chain = read_chain(rt.alloc(), &mut disk, &sup, 5)?;
     assert!(rt; chain.pages.as_slice() == [5, 2, 9].as_slice());
-    let said = format!(in rt.alloc(); "{:?}", chain.items)?;
-    let wanted = format!(in rt.alloc(); "{items:?}")?;
-    assert_eq!(rt; said.as_str(), wanted.as_str());
+    let said = text_of(rt.alloc(), &chain.items)?;
+    expect_text(&rt, &said, text_of(rt.alloc(), &items)?.as_str());
     Ok(())
 }
 
 /// One page of a chain at a place, with the first bytes of its body.
-#[derive(Clone, Copy)]
 struct Row {
     place: u32,
     blob: u32,
@@ -175,7 +175,7 @@ const SECOND: Row = Row {
     ..HEAD
 };
 
-fn page_of(row: Row) -> Page {
+fn page_of(row: &Row) -> Page {
     let mut body = [0; 4072];
     body[..2].copy_from_slice(&row.body);
     let mut page = [0; 4096];
@@ -198,7 +198,7 @@ fn page_of(row: Row) -> Page {
 fn fault(
     rt: &impl Abort,
     alloc: Global,
-    rows: [Row; 2],
+    rows: &[Row; 2],
     nth: u64,
     head: u32,
 ) -> Result<Option<ChainFault>, TestFail> {
@@ -215,9 +215,12 @@ fn fault(
     Ok(read_chain(alloc, &mut disk, &sup, head).err())
 }
 
+/// Two pages, which of the reads fails, the place of the head, and the fault that is found.
+type Case = ([Row; 2], u64, u32, Option<ChainFault>);
+
 #[test]
 fn each_fault_of_a_chain_has_its_numbers(rt: HostRuntime) -> Result<(), TestFail> {
-    let table = [
+    let cases: &[Case] = &[
         ([HEAD, SECOND], 9, 0, None),
         (
             [Row { next: 16, ..HEAD }, SECOND],
@@ -293,8 +296,8 @@ fn each_fault_of_a_chain_has_its_numbers(rt: HostRuntime) -> Result<(), TestFail
             }),
         ),
     ];
-    for (rows, nth, head, wanted) in table {
-        assert_eq!(rt; fault(&rt, rt.alloc(), rows, nth, head)?, wanted);
+    for (rows, nth, head, wanted) in cases {
+        assert_eq!(rt; fault(&rt, rt.alloc(), rows, *nth, *head)?, *wanted);
     }
     Ok(())
 }

@@ -1,19 +1,29 @@
 //! Each fault of metadata, and each public call once.
 
-use crate::fixtures::small;
+use crate::fixtures::{attribute, expect_text, internal_attribute, small, text_of};
 use blob_meta::{Flags, HeadMap, Job, Meta, Metas, find, from_items, to_items};
 use descriptors::{Item, ItemList, SlotMap};
 use std::alloc::Global;
 use std::test::Fail;
-use volume_model::{
-    Blobtext, Memory, Name, RunList, SlotRun, TryCopy, VolumeRef, Xattr, XattrList,
-};
+use volume_model::{Memory, Name, RunList, SlotRun, TryCopy, VolumeRef, Xattr, XattrList};
 
 /// What one item of a case says.
 enum Says {
     Flags(u64),
     Runs(&'static [(u32, u32)]),
+    Attribute(&'static [u8], &'static [u8]),
     Internal(&'static [u8], &'static [u8]),
+}
+
+fn run_list(alloc: Global, runs: &[(u32, u32)]) -> Result<RunList, Memory> {
+    let mut list = RunList::new(alloc);
+    for (cluster, length) in runs {
+        list.push(SlotRun {
+            cluster: *cluster,
+            length: *length,
+        })?;
+    }
+    Ok(list)
 }
 
 fn item(alloc: Global, says: &Says) -> Result<Item, Memory> {
@@ -23,20 +33,9 @@ fn item(alloc: Global, says: &Says) -> Result<Item, Memory> {
             data_ro: 0,
             md_ro: 0,
         }),
-        Says::Runs(runs) => {
-            let mut list = RunList::new(alloc);
-            for (cluster, length) in *runs {
-                list.push(SlotRun {
-                    cluster: *cluster,
-                    length: *length,
-                })?;
-            }
-            Ok(Item::Rle(list))
-        }
-        Says::Internal(key, value) => Ok(Item::InternalXattr {
-            key: Blobtext::new(alloc, key)?,
-            value: Blobtext::new(alloc, value)?,
-        }),
+        Says::Runs(runs) => Ok(Item::Rle(run_list(alloc, runs)?)),
+        Says::Attribute(key, value) => attribute(alloc, key, value),
+        Says::Internal(key, value) => internal_attribute(alloc, key, value),
     }
 }
 
@@ -48,78 +47,77 @@ fn items(alloc: Global, case: &[Says]) -> Result<ItemList, Memory> {
     Ok(list)
 }
 
+const CASES: &[(&[Says], &str)] = &[
+    (&[Says::Flags(u64::MAX)], "unknown flags 0xfffffffffffffffc"),
+    (
+        &[Says::Runs(&[(0, 1 << 20), (5, 1)])],
+        "1048577 slots where at most 1048576 are possible",
+    ),
+    (
+        &[Says::Flags(1), Says::Runs(&[(0, 2), (4, 1)])],
+        "cluster 4 is not one that a blob may have",
+    ),
+    (
+        &[Says::Runs(&[(5, 1), (14, 3)])],
+        "cluster 16 is not one that a blob may have",
+    ),
+    (
+        &[Says::Runs(&[(5, 2), (0, 1)]), Says::Flags(2)],
+        "slot 2 of a thick blob is empty",
+    ),
+    (
+        &[Says::Internal(b"SNAP", &[1, 0, 0, 0])],
+        "a mark of 4 bytes where 8 are wanted",
+    ),
+    // Two tests fail.
+    (
+        &[Says::Flags(4), Says::Runs(&[(0, (1 << 20) + 1)])],
+        "unknown flags 0x4",
+    ),
+    (
+        &[Says::Runs(&[(4, 1), (0, 1 << 20)])],
+        "1048577 slots where at most 1048576 are possible",
+    ),
+    (
+        &[Says::Runs(&[(0, 1), (16, 1)])],
+        "cluster 16 is not one that a blob may have",
+    ),
+    (
+        &[Says::Internal(b"SNAPRM", &[]), Says::Runs(&[(0, 1)])],
+        "slot 0 of a thick blob is empty",
+    ),
+    (
+        &[Says::Internal(b"SNAPTMP", &[1; 9]), Says::Internal(b"SNAP", &[])],
+        "a mark of 9 bytes where 8 are wanted",
+    ),
+    // Neither an empty slot of a thin blob nor another internal attribute is a fault.
+    (
+        &[Says::Flags(3), Says::Runs(&[(0, 1), (15, 1)]), Says::Internal(b"OTHER", &[])],
+        "",
+    ),
+];
+
+/// The fault of the metadata that these items say; nothing where it has none.
+fn fault_of(alloc: Global, case: &[Says]) -> Result<String, Fail> {
+    let list = items(alloc, case)?;
+    match from_items(alloc, 0, &list, &small(u64::MAX)?) {
+        Ok(_) => Ok(String::new(alloc)),
+        Err(fault) => Ok(format!(in alloc; "{fault}")?),
+    }
+}
+
 #[test]
 fn the_first_test_that_fails_is_the_fault(rt: HostRuntime) -> Result<(), Fail> {
-    use Says::{Flags, Internal, Runs};
-
-    let alloc = rt.alloc();
-    let sup = small(u64::MAX)?;
-    let cases: &[(&[Says], &str)] = &[
-        (&[Flags(u64::MAX)], "unknown flags 0xfffffffffffffffc"),
-        (
-            &[Runs(&[(0, 1 << 20), (5, 1)])],
-            "1048577 slots where at most 1048576 are possible",
-        ),
-        (
-            &[Flags(1), Runs(&[(0, 2), (4, 1)])],
-            "cluster 4 is not one that a blob may have",
-        ),
-        (
-            &[Runs(&[(5, 1), (14, 3)])],
-            "cluster 16 is not one that a blob may have",
-        ),
-        (
-            &[Runs(&[(5, 2), (0, 1)]), Flags(2)],
-            "slot 2 of a thick blob is empty",
-        ),
-        (
-            &[Internal(b"SNAP", &[1, 0, 0, 0])],
-            "a mark of 4 bytes where 8 are wanted",
-        ),
-        // Two tests fail.
-        (
-            &[Flags(4), Runs(&[(0, (1 << 20) + 1)])],
-            "unknown flags 0x4",
-        ),
-        (
-            &[Runs(&[(4, 1), (0, 1 << 20)])],
-            "1048577 slots where at most 1048576 are possible",
-        ),
-        (
-            &[Runs(&[(0, 1), (16, 1)])],
-            "cluster 16 is not one that a blob may have",
-        ),
-        (
-            &[Internal(b"SNAPRM", &[]), Runs(&[(0, 1)])],
-            "slot 0 of a thick blob is empty",
-        ),
-        (
-            &[Internal(b"SNAPTMP", &[1; 9]), Internal(b"SNAP", &[])],
-            "a mark of 9 bytes where 8 are wanted",
-        ),
-        // Neither an empty slot of a thin blob nor another internal attribute is a fault.
-        (
-            &[Flags(3), Runs(&[(0, 1), (15, 1)]), Internal(b"OTHER", &[])],
-            "",
-        ),
-    ];
-    for (case, wanted) in cases {
-        let list = items(alloc, case)?;
-        let found = match from_items(alloc, 0, &list, &sup) {
-            Ok(_) => format!(in alloc; "")?,
-            Err(fault) => format!(in alloc; "{fault}")?,
-        };
-        assert_eq!(rt; found.as_str(), *wanted);
+    for (case, wanted) in CASES {
+        let found = fault_of(rt.alloc(), case)?;
+        expect_text(&rt, &found, wanted);
     }
     Ok(())
 }
 
 fn one(alloc: Global, key: &[u8], value: &[u8]) -> Result<XattrList, Memory> {
     let mut list = XattrList::new(alloc);
-    list.push(Xattr {
-        key: Blobtext::new(alloc, key)?,
-        value: Blobtext::new(alloc, value)?,
-    })?;
+    list.push(Xattr::new(alloc, key, value)?)?;
     Ok(list)
 }
 
@@ -141,50 +139,57 @@ fn named(alloc: Global, head: u32, name: &[u8]) -> Result<Meta, Memory> {
     })
 }
 
+/// The items of the blob `a` above.
+const ITEMS: [Says; 4] = [
+    Says::Flags(3),
+    Says::Attribute(b"name", b"a\0"),
+    Says::Internal(b"SNAP", &[1, 0, 0, 0, 1, 0, 0, 0]),
+    Says::Runs(&[(5, 1), (0, 3)]),
+];
+
 #[test]
-fn metadata_is_written_and_read(rt: HostRuntime) -> Result<(), Fail> {
+fn metadata_is_written(rt: HostRuntime) -> Result<(), Fail> {
     let alloc = rt.alloc();
-    let meta = named(alloc, 7, b"a\0")?;
-    let list = to_items(alloc, &meta)?;
-    let mut wanted = ItemList::new(alloc);
-    wanted.push(Item::Flags {
-        invalid: 3,
-        data_ro: 0,
-        md_ro: 0,
-    })?;
-    wanted.push(Item::Xattr {
-        key: Blobtext::new(alloc, b"name")?,
-        value: Blobtext::new(alloc, b"a\0")?,
-    })?;
-    wanted.push(item(alloc, &Says::Internal(b"SNAP", &[1, 0, 0, 0, 1, 0, 0, 0]))?)?;
-    wanted.push(item(alloc, &Says::Runs(&[(5, 1), (0, 3)]))?)?;
-    assert_eq!(rt;
-        format!(in alloc; "{list:?}")?,
-        format!(in alloc; "{wanted:?}")?
-    );
-    let read = from_items(alloc, 7, &list, &small(u64::MAX)?)?;
-    let copy = meta.try_copy(alloc)?;
-    assert_eq!(rt;
-        format!(in alloc; "{read:?}")?,
-        format!(in alloc; "{copy:?}")?
-    );
+    let list = to_items(alloc, &named(alloc, 7, b"a\0")?)?;
+    let wanted = text_of(alloc, &items(alloc, &ITEMS)?)?;
+    expect_text(&rt, &text_of(alloc, &list)?, wanted.as_str());
     Ok(())
 }
 
 #[test]
-fn blobs_are_found(rt: HostRuntime) -> Result<(), Fail> {
+fn written_metadata_is_read(rt: HostRuntime) -> Result<(), Fail> {
     let alloc = rt.alloc();
+    let meta = named(alloc, 7, b"a\0")?;
+    let wanted = text_of(alloc, &meta.try_copy(alloc)?)?;
+    let list = to_items(alloc, &meta)?;
+    let read = from_items(alloc, 7, &list, &small(u64::MAX)?)?;
+    expect_text(&rt, &text_of(alloc, &read)?, wanted.as_str());
+    Ok(())
+}
+
+/// The super blob is at 2, and the store's volumes are at 6 and 9.
+fn three_blobs(alloc: Global) -> Result<Metas, Memory> {
     let mut metas = Metas::new(alloc);
-    metas.insert(9, named(alloc, 9, b"a")?)?;
-    metas.insert(6, named(alloc, 6, b"a\0")?)?;
-    metas.insert(2, named(alloc, 2, b"a")?)?;
+    let blobs: &[(u32, &[u8])] = &[(9, b"a"), (6, b"a\0"), (2, b"a")];
+    for (head, name) in blobs {
+        metas.insert(*head, named(alloc, *head, name)?)?;
+    }
+    Ok(metas)
+}
+
+#[test]
+fn blobs_are_found(rt: HostRuntime) -> Result<(), Fail> {
+    let metas = three_blobs(rt.alloc())?;
     let sup = small((1 << 32) + 2)?;
-    let a = VolumeRef::Named(Name::new(b"a"));
-    let b = VolumeRef::Named(Name::new(b"b"));
-    assert_eq!(rt; find(&metas, &sup, &a), Some(6));
-    assert_eq!(rt; find(&metas, &sup, &b), None);
-    assert_eq!(rt; find(&metas, &sup, &VolumeRef::Head(2)), Some(2));
-    assert_eq!(rt; find(&metas, &sup, &VolumeRef::Head(3)), None);
+    let cases = [
+        (VolumeRef::Named(Name::new(b"a")), Some(6)),
+        (VolumeRef::Named(Name::new(b"b")), None),
+        (VolumeRef::Head(2), Some(2)),
+        (VolumeRef::Head(3), None),
+    ];
+    for (volume, wanted) in &cases {
+        assert_eq!(rt; find(&metas, &sup, volume), *wanted);
+    }
     Ok(())
 }
 

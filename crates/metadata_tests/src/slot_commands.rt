@@ -2,7 +2,7 @@
 
 ghost use Rattle.blob_meta.specs.SlotCounts.{IsCreate, IsResize};
 
-use crate::fixtures::small;
+use crate::fixtures::{expect_text, small, text_of};
 use blob_meta::{Flags, Meta, Metas, new_meta, refusal_of_create, refusal_of_resize, resized_meta};
 use descriptors::SlotMap;
 use std::alloc::Global;
@@ -61,15 +61,21 @@ fn blob(alloc: Global, head: u32, name: &[u8], data_ro: u64) -> Result<Meta, Mem
     })
 }
 
-/// The super blob at 2, a blob at 5, a read-only one at 6, and at 8 one of no slot whose parent is at 6.
+/// A blob at 8 of no slot, whose parent is at 6.
+fn clone_of_six(alloc: Global) -> Result<Meta, Memory> {
+    let mut clone = new_meta(alloc, 8, XattrList::new(alloc), false, 0)?;
+    clone.internal = XattrList::new(alloc).with_value(alloc, SNAP, SIX)?;
+    Ok(clone)
+}
+
+/// The super blob at 2, a blob at 5, a read-only one at 6, and its clone.
 fn metas(alloc: Global) -> Result<Metas, Memory> {
     let mut metas = Metas::new(alloc);
-    metas.insert(2, blob(alloc, 2, b"store\0", 0)?)?;
-    metas.insert(5, blob(alloc, 5, b"v\0", 0)?)?;
-    metas.insert(6, blob(alloc, 6, b"w\0", 1)?)?;
-    let mut clone = new_meta(alloc, 8, XattrList::new(alloc), false, 0)?;
-    clone.internal = clone.internal.with_value(alloc, SNAP, SIX)?;
-    metas.insert(8, clone)?;
+    let blobs: &[(u32, &[u8], u64)] = &[(2, b"store\0", 0), (5, b"v\0", 0), (6, b"w\0", 1)];
+    for (head, name, data_ro) in blobs {
+        metas.insert(*head, blob(alloc, *head, name, *data_ro)?)?;
+    }
+    metas.insert(8, clone_of_six(alloc)?)?;
     Ok(metas)
 }
 
@@ -78,66 +84,77 @@ const MOST: u64 = 1 << 20;
 
 const TOO_MANY: u64 = MOST + 1;
 
+const CREATES: &[(&str, u64, &str)] = &[
+    ("v", TOO_MANY, "Some(NameTaken)"),
+    ("w", 1, "Some(NameTaken)"),
+    ("u", TOO_MANY, "Some(TooLarge)"),
+    ("u", u64::MAX, "Some(TooLarge)"),
+    ("u", MOST, "None"),
+    ("store", 0, "None"),
+];
+
 #[test]
-fn the_first_cause_is_answered(rt: HostRuntime) -> Result<(), Fail> {
-    let alloc = rt.alloc();
-    let metas = metas(alloc)?;
+fn the_first_cause_against_a_create_is_answered(rt: HostRuntime) -> Result<(), Fail> {
+    let metas = metas(rt.alloc())?;
     let sup = small((1 << 32) + 2)?;
-    let creates: &[(&str, u64, &str)] = &[
-        ("v", TOO_MANY, "Some(NameTaken)"),
-        ("w", 1, "Some(NameTaken)"),
-        ("u", TOO_MANY, "Some(TooLarge)"),
-        ("u", u64::MAX, "Some(TooLarge)"),
-        ("u", MOST, "None"),
-        ("store", 0, "None"),
-    ];
-    for (name, slots, wanted) in creates {
-        let command = create(name_of(name), *slots);
-        let found = refusal_of_create(&metas, &sup, &command);
-        assert_eq!(rt; format!(in alloc; "{found:?}")?.as_str(), *wanted);
+    for (name, slots, wanted) in CREATES {
+        let found = refusal_of_create(&metas, &sup, &create(name_of(name), *slots));
+        expect_text(&rt, &text_of(rt.alloc(), &found)?, wanted);
     }
-    let resizes: &[(u32, u64, &str)] = &[
-        (9, TOO_MANY, "Some(NoVolume)"),
-        (2, TOO_MANY, "Some(Reserved)"),
-        (6, TOO_MANY, "Some(ReadOnly)"),
-        (8, TOO_MANY, "Some(Short)"),
-        (8, 1, "Some(Short)"),
-        (8, 0, "None"),
-        (5, TOO_MANY, "Some(TooLarge)"),
-        (5, MOST, "None"),
-        (5, 0, "None"),
-    ];
-    for (head, slots, wanted) in resizes {
+    Ok(())
+}
+
+const RESIZES: &[(u32, u64, &str)] = &[
+    (9, TOO_MANY, "Some(NoVolume)"),
+    (2, TOO_MANY, "Some(Reserved)"),
+    (6, TOO_MANY, "Some(ReadOnly)"),
+    (8, TOO_MANY, "Some(Short)"),
+    (8, 1, "Some(Short)"),
+    (8, 0, "None"),
+    (5, TOO_MANY, "Some(TooLarge)"),
+    (5, MOST, "None"),
+    (5, 0, "None"),
+];
+
+#[test]
+fn the_first_cause_against_a_resize_is_answered(rt: HostRuntime) -> Result<(), Fail> {
+    let metas = metas(rt.alloc())?;
+    let sup = small((1 << 32) + 2)?;
+    for (head, slots, wanted) in RESIZES {
         let found = refusal_of_resize(&metas, &sup, &resize(*head, *slots));
-        assert_eq!(rt; format!(in alloc; "{found:?}")?.as_str(), *wanted);
+        expect_text(&rt, &text_of(rt.alloc(), &found)?, wanted);
     }
     Ok(())
 }
 
 /// The flags, the number of attributes, and the map.
-fn shown(alloc: Global, meta: &Meta) -> Result<String, Memory> {
+fn shown(alloc: Global, meta: &Meta) -> Result<String, Fail> {
     let (flags, map) = (meta.flags, meta.map.as_slice());
-    format!(in alloc;
+    Ok(format!(in alloc;
         "{} {} {} {} {map:?}",
         meta.id,
         flags.invalid,
         flags.data_ro,
         meta.xattrs.len()
-    )
-    .map_err(|_| Memory)
+    )?)
 }
 
 #[test]
 fn new_slots_are_empty(rt: HostRuntime) -> Result<(), Fail> {
-    let alloc = rt.alloc();
-    let thin = new_meta(alloc, 3, XattrList::new(alloc), false, 2)?;
-    assert_eq!(rt;
-        shown(alloc, &thin)?.as_str(),
-        "4294967299 1 0 0 [None, None]"
-    );
-    let thick = new_meta(alloc, 3, XattrList::new(alloc), true, 0)?;
-    assert_eq!(rt; shown(alloc, &thick)?.as_str(), "4294967299 0 0 0 []");
-    let six = blob(alloc, 5, b"v\0", 0)?;
+    let cases: &[(bool, u32, &str)] = &[
+        (false, 2, "4294967299 1 0 0 [None, None]"),
+        (true, 0, "4294967299 0 0 0 []"),
+    ];
+    for (thick, slots, wanted) in cases {
+        let meta = new_meta(rt.alloc(), 3, XattrList::new(rt.alloc()), *thick, *slots)?;
+        expect_text(&rt, &shown(rt.alloc(), &meta)?, wanted);
+    }
+    Ok(())
+}
+
+#[test]
+fn slots_are_cut_or_added_at_the_end(rt: HostRuntime) -> Result<(), Fail> {
+    let six = blob(rt.alloc(), 5, b"v\0", 0)?;
     let cases: &[(u32, &str)] = &[
         (0, "4294967301 1 0 1 []"),
         (4, "4294967301 1 0 1 [Some(5), Some(6), Some(7), None]"),
@@ -147,8 +164,8 @@ fn new_slots_are_empty(rt: HostRuntime) -> Result<(), Fail> {
         ),
     ];
     for (slots, wanted) in cases {
-        let meta = resized_meta(alloc, &six, *slots)?;
-        assert_eq!(rt; shown(alloc, &meta)?.as_str(), *wanted);
+        let meta = resized_meta(rt.alloc(), &six, *slots)?;
+        expect_text(&rt, &shown(rt.alloc(), &meta)?, wanted);
     }
     Ok(())
 }

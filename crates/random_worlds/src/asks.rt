@@ -100,6 +100,32 @@ impl Ask {
     }
 }
 
+/// The word that a line asks by.
+fn verb_of(ask: &Ask) -> &'static str {
+    match ask {
+        Ask::Create { .. } => "create",
+        Ask::Resize { .. } => "resize",
+        Ask::Write { .. } => "write",
+        Ask::Read { .. } => "read",
+        Ask::Flush => "flush",
+        Ask::Set { .. } => "setx",
+        Ask::Put { .. } => "put",
+        Ask::Remove { .. } => "delx",
+        Ask::Get { .. } => "getx",
+        Ask::Sync { .. } => "sync",
+        Ask::Snapshot { .. } => "snapshot",
+        Ask::Clone { .. } => "clone",
+        Ask::Rename { .. } => "rename",
+        Ask::Delete { .. } => "delete",
+        Ask::Inflate { .. } => "inflate",
+        Ask::Decouple { .. } => "decouple",
+        Ask::ReadOnly { .. } => "readonly",
+        Ask::Info { .. } => "info",
+        Ask::List => "list",
+        Ask::Df => "df",
+    }
+}
+
 /// Appends the words behind the channel of the line that asks for this, a read or a write for so many pages, and ends
 /// the line; its volume is told by a word.
 pub fn push_words(
@@ -109,45 +135,36 @@ pub fn push_words(
     volume: &str,
     count: u64,
 ) -> Result<(), Fail> {
+    let verb = verb_of(ask);
     let line = match ask {
+        Ask::Flush | Ask::List | Ask::Df => format!(in alloc; "{verb}\n")?,
         Ask::Create { slots, thick, .. } => {
             let form = if *thick { "thick" } else { "thin" };
-            format!(in alloc; "create {volume} {slots} {form}\n")?
+            format!(in alloc; "{verb} {volume} {slots} {form}\n")?
         }
-        Ask::Resize { slots, .. } => format!(in alloc; "resize {volume} {slots}\n")?,
+        Ask::Resize { slots, .. } => format!(in alloc; "{verb} {volume} {slots}\n")?,
         Ask::Write { page, word, .. } => {
-            format!(in alloc; "write {volume} {page} {count} {word}\n")?
+            format!(in alloc; "{verb} {volume} {page} {count} {word}\n")?
         }
-        Ask::Read { page, .. } => format!(in alloc; "read {volume} {page} {count}\n")?,
-        Ask::Flush => format!(in alloc; "flush\n")?,
-        Ask::Set { attribute, .. } => return push_value(
-            alloc,
-            script,
-            ("setx", volume),
-            *attribute,
-        ),
-        Ask::Put { attribute, .. } => return push_value(alloc, script, ("put", volume), *attribute),
-        Ask::Remove { key, .. } => format!(in alloc; "delx {volume} {}\n", key_text(*key))?,
-        Ask::Get { key, .. } => format!(in alloc; "getx {volume} {}\n", key_text(*key))?,
-        Ask::Sync { .. } => format!(in alloc; "sync {volume}\n")?,
-        Ask::Delete { .. } => format!(in alloc; "delete {volume}\n")?,
-        Ask::Inflate { .. } => format!(in alloc; "inflate {volume}\n")?,
-        Ask::Decouple { .. } => format!(in alloc; "decouple {volume}\n")?,
-        Ask::ReadOnly { .. } => format!(in alloc; "readonly {volume}\n")?,
-        Ask::Snapshot { new, .. } => naming(alloc, "snapshot", volume, *new)?,
-        Ask::Clone { new, .. } => naming(alloc, "clone", volume, *new)?,
-        Ask::Rename { new, .. } => naming(alloc, "rename", volume, *new)?,
-        Ask::Info { .. } => format!(in alloc; "info {volume}\n")?,
-        Ask::List => format!(in alloc; "list\n")?,
-        Ask::Df => format!(in alloc; "df\n")?,
+        Ask::Read { page, .. } => format!(in alloc; "{verb} {volume} {page} {count}\n")?,
+        Ask::Set { attribute, .. } | Ask::Put { attribute, .. } => {
+            return push_value(alloc, script, (verb, volume), *attribute);
+        }
+        Ask::Remove { key, .. } | Ask::Get { key, .. } => {
+            format!(in alloc; "{verb} {volume} {}\n", key_text(*key))?
+        }
+        Ask::Snapshot { new, .. } | Ask::Clone { new, .. } | Ask::Rename { new, .. } => {
+            format!(in alloc; "{verb} {volume} {}\n", char::from(*new))?
+        }
+        Ask::Sync { .. }
+        | Ask::Delete { .. }
+        | Ask::Inflate { .. }
+        | Ask::Decouple { .. }
+        | Ask::ReadOnly { .. }
+        | Ask::Info { .. } => format!(in alloc; "{verb} {volume}\n")?,
     };
     script.extend_from_slice(line.as_bytes())?;
     Ok(())
-}
-
-/// The words of a verb that gives a name, which a letter tells.
-fn naming(alloc: Global, verb: &str, volume: &str, new: u8) -> Result<String, Fail> {
-    Ok(format!(in alloc; "{verb} {volume} {}\n", char::from(new))?)
 }
 
 /// Appends the words that set an attribute by this verb, of the volume that a word tells.

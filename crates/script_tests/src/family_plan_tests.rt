@@ -3,11 +3,11 @@
 ghost use Rattle.lvol_store.specs.CopyPlans.{IsSnapshot};
 ghost use Rattle.lvol_store.specs.DeletePlans.{IsDelete};
 
-use crate::plan_tests::volume;
+use crate::plan_tests::{sup, volume};
 use crate::slot_plan_tests::{metas, told_whole};
+use crate::told::expect;
 use lvol_store::{check_name, plan_delete, plan_snapshot};
 use std::test::Fail;
-use super_block::{Layout, Super};
 use volume_model::{Command, Name, VolumeRef};
 
 fn snapshot(volume: VolumeRef, name: Name) -> Command
@@ -27,7 +27,7 @@ fn delete(volume: VolumeRef) -> Command
 fn snapshots_are_planned_or_refused(rt: HostRuntime) -> Result<(), Fail> {
     let alloc = rt.alloc();
     let metas = metas(alloc)?;
-    let sup = Layout::plan(64, 4, Some(16))?.new_super((1 << 32) + 2, [0; 16]);
+    let sup = sup()?;
     let cases: &[(u32, &[u8], &[u8], &[u8])] = &[
         (
             0,
@@ -61,7 +61,7 @@ fn snapshots_are_planned_or_refused(rt: HostRuntime) -> Result<(), Fail> {
             continue;
         };
         let plan = plan_snapshot(alloc, &metas, &sup, &snapshot(volume(*head, of), name), 9);
-        assert_eq!(rt; told_whole(alloc, &plan)?.as_slice(), *wanted);
+        expect(&rt, &told_whole(alloc, &plan)?, wanted);
     }
     Ok(())
 }
@@ -71,7 +71,7 @@ fn snapshots_are_planned_or_refused(rt: HostRuntime) -> Result<(), Fail> {
 fn deletes_are_planned_or_refused(rt: HostRuntime) -> Result<(), Fail> {
     let alloc = rt.alloc();
     let metas = metas(alloc)?;
-    let sup = Layout::plan(64, 4, Some(16))?.new_super((1 << 32) + 2, [0; 16]);
+    let sup = sup()?;
     let cases: &[(u32, &[u8], &[u8])] = &[
         (0, b"thin", b"5 zero"),
         (7, b"", b"7 zero"),
@@ -87,7 +87,7 @@ fn deletes_are_planned_or_refused(rt: HostRuntime) -> Result<(), Fail> {
     ];
     for (head, name, wanted) in cases {
         let plan = plan_delete(alloc, &metas, &sup, &delete(volume(*head, name)));
-        assert_eq!(rt; told_whole(alloc, &plan)?.as_slice(), *wanted);
+        expect(&rt, &told_whole(alloc, &plan)?, wanted);
     }
     Ok(())
 }

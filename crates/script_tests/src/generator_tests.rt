@@ -1,6 +1,6 @@
 //! Generated scripts.
 
-use crate::told::{told, told_of};
+use crate::told::{expect, told, told_of};
 use script_lang::{Grammar, generate, generate_line, generate_text};
 use std::test::Fail;
 
@@ -11,12 +11,12 @@ fn the_first_draws(rt: HostRuntime) -> Result<(), Fail> {
     let text = generate_text(alloc, 1, 3)?;
     let wanted: &[u8] =
         b"0 create v0 8 thin\n1 create v1 8 thin\n2 create v2 8 thin\n3 create v3 8 thin\n2 flush\n1 write v1 11 1 5627\n2 write v2 20 1 4086\n";
-    assert_eq!(rt; text.as_slice(), wanted);
+    expect(&rt, &text, wanted);
     let mut line = Vec::new(alloc);
     generate_line(1, 3, 6, &mut line)?;
     generate_line(1, 3, 0, &mut line)?;
     let wanted: &[u8] = b"2 write v2 20 1 4086\n0 create v0 8 thin\n";
-    assert_eq!(rt; line.as_slice(), wanted);
+    expect(&rt, &line, wanted);
     Ok(())
 }
 
@@ -27,10 +27,9 @@ fn the_scripts_of_numbers(rt: HostRuntime) -> Result<(), Fail> {
     let script = generate(alloc, 1, 3)?;
     let wanted: &[u8] =
         b"0 create v0 8 thin;1 create v1 8 thin;1 write v1 11 5627;2 create v2 8 thin;2 flush;2 write v2 20 4086;3 create v3 8 thin;";
-    assert_eq!(rt; told_of(alloc, &script)?.as_slice(), wanted);
+    expect(&rt, &told_of(alloc, &script)?, wanted);
     let text = generate_text(alloc, 1, 65000)?;
-    let said = told(alloc, Grammar::Whole, text.as_slice())?;
-    assert_eq!(rt; said.as_slice(), b"too big".as_slice());
+    expect(&rt, &told(alloc, Grammar::Whole, text.as_slice())?, b"too big");
     let script = generate(alloc, 1, 65000)?;
     let mut commands: usize = 0;
     for channel in 0..4 {

@@ -1,6 +1,6 @@
 //! Lines, each with its commands or with what is wrong with it.
 
-use crate::told::told;
+use crate::told::{expect, told};
 use script_lang::Grammar;
 use std::alloc::Global;
 use std::process::Abort;
@@ -14,8 +14,7 @@ fn compare(
     cases: &[(&[u8], &[u8])],
 ) -> Result<(), Fail> {
     for (text, wanted) in cases {
-        let said = told(alloc, grammar, text)?;
-        assert_eq!(rt; said.as_slice(), *wanted);
+        expect(rt, &told(alloc, grammar, text)?, wanted);
     }
     Ok(())
 }
@@ -292,15 +291,9 @@ fn names_and_keys_have_their_lengths(rt: HostRuntime) -> Result<(), Fail> {
     for (front, word, wanted) in cases {
         let mut line = front.to_vec(alloc)?;
         line.extend_from_slice(word)?;
-        let mut good = line.as_slice().to_vec(alloc)?;
-        good.push(b';')?;
-        let said = told(alloc, Grammar::Whole, line.as_slice())?;
-        let wanted = if wanted.is_empty() {
-            good.as_slice()
-        } else {
-            *wanted
-        };
-        assert_eq!(rt; said.as_slice(), wanted);
+        let said = told(alloc, Grammar::Whole, &line)?;
+        line.push(b';')?;
+        expect(&rt, &said, if wanted.is_empty() { &line } else { wanted });
     }
     Ok(())
 }

@@ -1,6 +1,6 @@
 //! The limits on lines, pages and bytes, each at its last good value and one above it.
 
-use crate::told::told;
+use crate::told::{expect, told};
 use script_lang::{Grammar, parse, read_script};
 use std::alloc::Global;
 use std::test::Fail;
@@ -37,8 +37,7 @@ fn one_line_one_page_or_one_byte_too_many(rt: HostRuntime) -> Result<(), Fail> {
     ];
     for (lines, line, end, wanted) in cases {
         let text = long_text(alloc, *lines, line, end)?;
-        let said = told(alloc, Grammar::Whole, text.as_slice())?;
-        assert_eq!(rt; said.as_slice(), *wanted);
+        expect(&rt, &told(alloc, Grammar::Whole, text.as_slice())?, wanted);
     }
     Ok(())
 }

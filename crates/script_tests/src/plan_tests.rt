@@ -3,14 +3,15 @@
 ghost use Rattle.std.specs.Prelude.{IfOk};
 ghost use Rattle.lvol_store.specs.Plans.{IsPut, IsReadOnlyCommand, IsSync};
 
-use blob_meta::{Flags, Job, Meta, Metas, asked_volume, find};
+use crate::told::expect;
+use blob_meta::{Flags, Job, Meta, Metas, Replacement, asked_volume, find};
 use descriptors::SlotMap;
 use lvol_store::{check_name, plan_put, plan_readonly, plan_sync};
 use out_of_memory::Memory;
 use std::alloc::Global;
 use std::test::Fail;
-use super_block::{Layout, Super};
-use volume_model::{Blobtext, Command, Reply, VolumeRef, XattrList};
+use super_block::{Layout, Super, SuperFault};
+use volume_model::{Blobtext, Command, Reply, VolumeRef, Xattr, XattrList};
 
 fn blob(alloc: Global, head: u32, name: &[u8], data_ro: u64) -> Result<Meta, Memory> {
     Ok(Meta {
@@ -63,22 +64,36 @@ pub(crate) fn told(alloc: Global, plan: &Result<Job, Reply>) -> Result<Vec<u8>, 
         Err(reply) => text.extend_from_slice(format!(in alloc; "{reply:?}")?.as_bytes())?,
         Ok(job) => {
             for replacement in job.list.as_slice() {
-                text.extend_from_slice(format!(in alloc; "{}", replacement.head)?.as_bytes())?;
-                if let Some(meta) = &replacement.new {
-                    push_xattrs(&mut text, &meta.xattrs)?;
-                }
+                push_replacement(&mut text, alloc, replacement)?;
             }
         }
     }
     Ok(text)
 }
 
+fn push_replacement(
+    text: &mut Vec<u8>,
+    alloc: Global,
+    replacement: &Replacement,
+) -> Result<(), Fail> {
+    text.extend_from_slice(format!(in alloc; "{}", replacement.head)?.as_bytes())?;
+    match &replacement.new {
+        Some(meta) => push_xattrs(text, &meta.xattrs),
+        None => Ok(()),
+    }
+}
+
+fn push_xattr(text: &mut Vec<u8>, xattr: &Xattr) -> Result<(), Memory> {
+    text.push(b' ')?;
+    text.extend_from_slice(xattr.key.bytes())?;
+    text.push(b'=')?;
+    text.extend_from_slice(xattr.value.bytes())?;
+    Ok(())
+}
+
 fn push_xattrs(text: &mut Vec<u8>, xattrs: &XattrList) -> Result<(), Fail> {
     for xattr in xattrs.as_slice() {
-        text.push(b' ')?;
-        text.extend_from_slice(xattr.key.bytes())?;
-        text.push(b'=')?;
-        text.extend_from_slice(xattr.value.bytes())?;
+        push_xattr(text, xattr)?;
     }
     Ok(())
 }
@@ -86,60 +101,58 @@ fn push_xattrs(text: &mut Vec<u8>, xattrs: &XattrList) -> Result<(), Fail> {
 /// The super blob at 2, a blob that can be written at 5, and a read-only one at 6.
 fn metas(alloc: Global) -> Result<Metas, Memory> {
     let mut metas = Metas::new(alloc);
-    metas.insert(2, blob(alloc, 2, b"store\0", 0)?)?;
-    metas.insert(5, blob(alloc, 5, b"open\0", 0)?)?;
-    metas.insert(6, blob(alloc, 6, b"fixed\0", 1)?)?;
+    let blobs: &[(u32, &[u8], u64)] = &[
+        (2, b"store\0", 0),
+        (5, b"open\0", 0),
+        (6, b"fixed\0", 1),
+    ];
+    for (head, name, data_ro) in blobs {
+        metas.insert(*head, blob(alloc, *head, name, *data_ro)?)?;
+    }
     Ok(metas)
+}
+
+/// The store of the super blob at 2.
+pub(crate) fn sup() -> Result<Super, SuperFault> {
+    Ok(Layout::plan(64, 4, Some(16))?.new_super((1 << 32) + 2, [0; 16]))
 }
 
 /// Each blob's live attribute is `owner=me`, which isn't on the disk yet.
 fn live(alloc: Global) -> Result<XattrList, Memory> {
-    let owner = Blobtext::new(alloc, b"owner")?;
-    let me = Blobtext::new(alloc, b"me")?;
-    XattrList::new(alloc).with_value(alloc, owner.bytes(), me.bytes())
+    XattrList::new(alloc).with_value(alloc, b"owner", b"me")
 }
 
-fn planned_put(
-    alloc: Global,
-    metas: &Metas,
-    sup: &Super,
-    volume: VolumeRef,
-    key: &[u8],
-    value: &[u8],
-) -> Result<Result<Job, Reply>, Memory> {
-    let live = live(alloc)?;
-    let command = put(alloc, volume, key, value)?;
-    match find(metas, sup, asked_volume(&command)) {
-        Some(_) => Ok(plan_put(alloc, metas, sup, &command, 9, Some(&live))),
-        None => Ok(plan_put(alloc, metas, sup, &command, 9, None)),
+fn planned_put(alloc: Global, metas: &Metas, command: &Command) -> Result<Result<Job, Reply>, Fail>
+    requires { IsPut command.now }
+{
+    let (live, sup) = (live(alloc)?, sup()?);
+    match find(metas, &sup, asked_volume(command)) {
+        Some(_) => Ok(plan_put(alloc, metas, &sup, command, 9, Some(&live))),
+        None => Ok(plan_put(alloc, metas, &sup, command, 9, None)),
     }
 }
 
-fn planned_sync(
-    alloc: Global,
-    metas: &Metas,
-    sup: &Super,
-    volume: VolumeRef,
-) -> Result<Result<Job, Reply>, Memory> {
-    let live = live(alloc)?;
-    let command = sync(volume);
-    match find(metas, sup, asked_volume(&command)) {
-        Some(_) => Ok(plan_sync(alloc, metas, sup, &command, 9, Some(&live))),
-        None => Ok(plan_sync(alloc, metas, sup, &command, 9, None)),
+fn planned_sync(alloc: Global, metas: &Metas, command: &Command) -> Result<Result<Job, Reply>, Fail>
+    requires { IsSync command.now }
+{
+    let (live, sup) = (live(alloc)?, sup()?);
+    match find(metas, &sup, asked_volume(command)) {
+        Some(_) => Ok(plan_sync(alloc, metas, &sup, command, 9, Some(&live))),
+        None => Ok(plan_sync(alloc, metas, &sup, command, 9, None)),
     }
 }
 
 fn planned_read_only(
     alloc: Global,
     metas: &Metas,
-    sup: &Super,
-    volume: VolumeRef,
-) -> Result<Result<Job, Reply>, Memory> {
-    let live = live(alloc)?;
-    let command = read_only(volume);
-    match find(metas, sup, asked_volume(&command)) {
-        Some(_) => Ok(plan_readonly(alloc, metas, sup, &command, 9, Some(&live))),
-        None => Ok(plan_readonly(alloc, metas, sup, &command, 9, None)),
+    command: &Command,
+) -> Result<Result<Job, Reply>, Fail>
+    requires { IsReadOnlyCommand command.now }
+{
+    let (live, sup) = (live(alloc)?, sup()?);
+    match find(metas, &sup, asked_volume(command)) {
+        Some(_) => Ok(plan_readonly(alloc, metas, &sup, command, 9, Some(&live))),
+        None => Ok(plan_readonly(alloc, metas, &sup, command, 9, None)),
     }
 }
 
@@ -161,7 +174,6 @@ fn data_ro(plan: &Result<Job, Reply>) -> u64 {
 fn puts_are_planned_or_refused(rt: HostRuntime) -> Result<(), Fail> {
     let alloc = rt.alloc();
     let metas = metas(alloc)?;
-    let sup = Layout::plan(64, 4, Some(16))?.new_super((1 << 32) + 2, [0; 16]);
     let long = [b'a'; 4059];
     let cases: &[(u32, &[u8], &[u8], &[u8], &[u8])] = &[
         (5, b"", b"color", b"red", b"5 owner=me color=red"),
@@ -174,8 +186,9 @@ fn puts_are_planned_or_refused(rt: HostRuntime) -> Result<(), Fail> {
         (5, b"", b"color", &long, b"TooLong"),
     ];
     for (head, name, key, value, wanted) in cases {
-        let plan = planned_put(alloc, &metas, &sup, volume(*head, name), key, value)?;
-        assert_eq!(rt; told(alloc, &plan)?.as_slice(), *wanted);
+        let command = put(alloc, volume(*head, name), key, value)?;
+        let plan = planned_put(alloc, &metas, &command)?;
+        expect(&rt, &told(alloc, &plan)?, wanted);
     }
     Ok(())
 }
@@ -184,7 +197,6 @@ fn puts_are_planned_or_refused(rt: HostRuntime) -> Result<(), Fail> {
 fn syncs_are_planned_or_refused(rt: HostRuntime) -> Result<(), Fail> {
     let alloc = rt.alloc();
     let metas = metas(alloc)?;
-    let sup = Layout::plan(64, 4, Some(16))?.new_super((1 << 32) + 2, [0; 16]);
     let cases: &[(u32, &[u8], &[u8])] = &[
         (5, b"", b"5 owner=me"),
         (0, b"open", b"5 owner=me"),
@@ -193,8 +205,8 @@ fn syncs_are_planned_or_refused(rt: HostRuntime) -> Result<(), Fail> {
         (6, b"", b"ReadOnly"),
     ];
     for (head, name, wanted) in cases {
-        let plan = planned_sync(alloc, &metas, &sup, volume(*head, name))?;
-        assert_eq!(rt; told(alloc, &plan)?.as_slice(), *wanted);
+        let plan = planned_sync(alloc, &metas, &sync(volume(*head, name)))?;
+        expect(&rt, &told(alloc, &plan)?, wanted);
     }
     Ok(())
 }
@@ -203,7 +215,6 @@ fn syncs_are_planned_or_refused(rt: HostRuntime) -> Result<(), Fail> {
 fn volumes_are_planned_read_only_or_refused(rt: HostRuntime) -> Result<(), Fail> {
     let alloc = rt.alloc();
     let metas = metas(alloc)?;
-    let sup = Layout::plan(64, 4, Some(16))?.new_super((1 << 32) + 2, [0; 16]);
     let cases: &[(u32, &[u8], &[u8], u64)] = &[
         (5, b"", b"5 owner=me", 1),
         (0, b"open", b"5 owner=me", 1),
@@ -212,9 +223,9 @@ fn volumes_are_planned_read_only_or_refused(rt: HostRuntime) -> Result<(), Fail>
         (6, b"", b"ReadOnly", 0),
     ];
     for (head, name, wanted, flag) in cases {
-        let plan = planned_read_only(alloc, &metas, &sup, volume(*head, name))?;
-        assert_eq!(rt; told(alloc, &plan)?.as_slice(), *wanted);
+        let plan = planned_read_only(alloc, &metas, &read_only(volume(*head, name)))?;
         assert_eq!(rt; data_ro(&plan), *flag);
+        expect(&rt, &told(alloc, &plan)?, wanted);
     }
     Ok(())
 }

@@ -2,11 +2,11 @@
 
 ghost use Rattle.lvol_store.specs.RenamePlans.{IsRename};
 
-use crate::plan_tests::volume;
+use crate::plan_tests::{sup, volume};
 use crate::slot_plan_tests::{metas, told_whole};
+use crate::told::expect;
 use lvol_store::{check_name, plan_rename};
 use std::test::Fail;
-use super_block::{Layout, Super};
 use volume_model::{Command, Name, VolumeRef};
 
 fn rename(volume: VolumeRef, name: Name) -> Command
@@ -19,7 +19,7 @@ fn rename(volume: VolumeRef, name: Name) -> Command
 fn renames_are_planned_or_refused(rt: HostRuntime) -> Result<(), Fail> {
     let alloc = rt.alloc();
     let metas = metas(alloc)?;
-    let sup = Layout::plan(64, 4, Some(16))?.new_super((1 << 32) + 2, [0; 16]);
+    let sup = sup()?;
     let cases: &[(u32, &[u8], &[u8], &[u8])] = &[
         (0, b"thin", b"w", b"5 name=w\0 flags 1 slots - - - zero"),
         (7, b"", b"longer", b"7 name=longer\0 flags 0 slots 5 6 zero"),
@@ -43,7 +43,7 @@ fn renames_are_planned_or_refused(rt: HostRuntime) -> Result<(), Fail> {
             continue;
         };
         let plan = plan_rename(alloc, &metas, &sup, &rename(volume(*head, of), name), 9);
-        assert_eq!(rt; told_whole(alloc, &plan)?.as_slice(), *wanted);
+        expect(&rt, &told_whole(alloc, &plan)?, wanted);
     }
     Ok(())
 }

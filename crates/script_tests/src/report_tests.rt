@@ -1,7 +1,9 @@
 //! Printed lines.
 
+use crate::told::expect;
 use blob_report::{render_entry, space_line};
 use std::alloc::Global;
+use std::process::Abort;
 use std::test::Fail;
 use volume_model::{Blobtext, Command, Df, Entry, Info, InfoList, Memory, Reply};
 
@@ -32,57 +34,39 @@ fn line(alloc: Global, channel: u8, index: u32, reply: Reply) -> Result<Vec<u8>,
     Ok(line)
 }
 
+/// Expects that this is the line of an entry with this reply, at a place of a channel.
+fn expect_line(
+    rt: &impl Abort,
+    alloc: Global,
+    (channel, index): (u8, u32),
+    reply: Reply,
+    wanted: &[u8],
+) -> Result<(), Memory> {
+    expect(rt, &line(alloc, channel, index, reply)?, wanted);
+    Ok(())
+}
+
 #[test]
 fn each_reply_has_its_text(rt: HostRuntime) -> Result<(), Fail> {
     let a = rt.alloc();
-    let value = Reply::Value(Blobtext::new(a, b"\x00bO\xff")?);
-    let empty = Reply::Value(Blobtext::new(a, b"")?);
     let df = Reply::Df(Df {
         free_clusters: 5,
         clusters: 60,
         free_pages: 7,
         pages: 800,
     });
-    assert_eq!(rt;
-        line(a, 0, 0, Reply::Ok)?.as_slice(),
-        b"0 0 ok\n".as_slice()
-    );
-    assert_eq!(rt;
-        line(a, 15, 10, Reply::Made(12))?.as_slice(),
-        b"15 10 ok @12\n".as_slice()
-    );
-    assert_eq!(rt;
-        line(a, 0, 1, value)?.as_slice(),
-        b"0 1 value 00624fff\n".as_slice()
-    );
-    assert_eq!(rt;
-        line(a, 0, 2, empty)?.as_slice(),
-        b"0 2 value -\n".as_slice()
-    );
-    assert_eq!(rt;
-        line(a, 0, 3, df)?.as_slice(),
-        b"0 3 df clusters 5 of 60 pages 7 of 800\n".as_slice()
-    );
-    assert_eq!(rt;
-        line(a, 0, 4, Reply::NoVolume)?.as_slice(),
-        b"0 4 no volume\n".as_slice()
-    );
-    assert_eq!(rt;
-        line(a, 0, 5, Reply::Busy(2))?.as_slice(),
-        b"0 5 busy 2\n".as_slice()
-    );
-    assert_eq!(rt;
-        line(a, 0, 6, Reply::ReadFault)?.as_slice(),
-        b"0 6 read fault\n".as_slice()
-    );
-    assert_eq!(rt;
-        line(a, 0, 7, Reply::Stopped(4294967295))?.as_slice(),
-        b"0 7 stopped 4294967295\n".as_slice()
-    );
-    assert_eq!(rt;
-        line(a, 0, 65535, Reply::Memory)?.as_slice(),
-        b"0 65535 no memory\n".as_slice()
-    );
+    expect_line(&rt, a, (0, 3), df, b"0 3 df clusters 5 of 60 pages 7 of 800\n")?;
+    let value = Reply::Value(Blobtext::new(a, b"\x00bO\xff")?);
+    expect_line(&rt, a, (0, 1), value, b"0 1 value 00624fff\n")?;
+    let empty = Reply::Value(Blobtext::new(a, b"")?);
+    expect_line(&rt, a, (0, 2), empty, b"0 2 value -\n")?;
+    expect_line(&rt, a, (0, 0), Reply::Ok, b"0 0 ok\n")?;
+    expect_line(&rt, a, (15, 10), Reply::Made(12), b"15 10 ok @12\n")?;
+    expect_line(&rt, a, (0, 4), Reply::NoVolume, b"0 4 no volume\n")?;
+    expect_line(&rt, a, (0, 5), Reply::Busy(2), b"0 5 busy 2\n")?;
+    expect_line(&rt, a, (0, 6), Reply::ReadFault, b"0 6 read fault\n")?;
+    expect_line(&rt, a, (0, 7), Reply::Stopped(4294967295), b"0 7 stopped 4294967295\n")?;
+    expect_line(&rt, a, (0, 65535), Reply::Memory, b"0 65535 no memory\n")?;
     Ok(())
 }
 
@@ -96,31 +80,37 @@ fn a_line_follows_what_was_there(rt: HostRuntime) -> Result<(), Fail> {
         pages: 4,
     };
     space_line(space, &mut text)?;
-    assert_eq!(rt;
-        text.as_slice(),
-        b"0 0 no value\nclusters 12 free 9 pages 4 free 3\n".as_slice()
-    );
+    expect(&rt, &text, b"0 0 no value\nclusters 12 free 9 pages 4 free 3\n");
     Ok(())
+}
+
+/// A reply that tells two volumes.
+fn two_volumes(alloc: Global) -> Result<Reply, Memory> {
+    let mut infos = InfoList::new(alloc);
+    infos.push(info(alloc, b"-", Some(9), false)?)?;
+    infos.push(info(alloc, b"", None, true)?)?;
+    Ok(Reply::List(infos))
 }
 
 #[test]
 fn volumes_are_told_line_by_line(rt: HostRuntime) -> Result<(), Fail> {
     let a = rt.alloc();
     let one = Reply::Info(info(a, b"a b\\\xff~", None, true)?);
-    assert_eq!(rt;
-        line(a, 1, 0, one)?.as_slice(),
-        b"1 0 volume @3 a\\x20b\\x5c\\xff~ slots 1099511627776 parent - thin rw xattrs 2\n".as_slice()
-    );
-    let mut infos = InfoList::new(a);
-    infos.push(info(a, b"-", Some(9), false)?)?;
-    infos.push(info(a, b"", None, true)?)?;
-    assert_eq!(rt;
-        line(a, 1, 1, Reply::List(infos))?.as_slice(),
-        b"1 1 list 2\nvolume @3 \\x2d slots 1099511627776 parent @9 thick ro xattrs 2\nvolume @3 - slots 1099511627776 parent - thin rw xattrs 2\n".as_slice()
-    );
-    assert_eq!(rt;
-        line(a, 1, 2, Reply::List(InfoList::new(a)))?.as_slice(),
-        b"1 2 list 0\n".as_slice()
-    );
+    expect_line(
+        &rt,
+        a,
+        (1, 0),
+        one,
+        b"1 0 volume @3 a\\x20b\\x5c\\xff~ slots 1099511627776 parent - thin rw xattrs 2\n",
+    )?;
+    expect_line(
+        &rt,
+        a,
+        (1, 1),
+        two_volumes(a)?,
+        b"1 1 list 2\nvolume @3 \\x2d slots 1099511627776 parent @9 thick ro xattrs 2\nvolume @3 - slots 1099511627776 parent - thin rw xattrs 2\n",
+    )?;
+    let none = Reply::List(InfoList::new(a));
+    expect_line(&rt, a, (1, 2), none, b"1 2 list 0\n")?;
     Ok(())
 }

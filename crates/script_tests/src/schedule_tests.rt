@@ -1,8 +1,20 @@
 //! Schedules, each with its steps or with the place at which no schedule goes on.
 
+use crate::told::expect;
 use script_lang::{Actor, Schedule, ScheduleFault, parse_schedule};
 use std::alloc::Global;
 use std::test::Fail;
+
+/// Appends what takes a step, and a space.
+fn push_actor(text: &mut Vec<u8>, alloc: Global, actor: &Actor) -> Result<(), Fail> {
+    match actor {
+        Actor::Channel(channel) => {
+            text.extend_from_slice(format!(in alloc; "{channel} ")?.as_bytes())?;
+        }
+        Actor::Metadata => text.extend_from_slice(b"m ")?,
+    }
+    Ok(())
+}
 
 /// The steps of a schedule written out, a space after each.
 fn steps(alloc: Global, schedule: &Schedule) -> Result<Vec<u8>, Fail> {
@@ -10,12 +22,7 @@ fn steps(alloc: Global, schedule: &Schedule) -> Result<Vec<u8>, Fail> {
     for part in schedule.parts() {
         for _ in 0..part.count {
             for actor in part.actors.as_slice() {
-                match actor {
-                    Actor::Channel(channel) => {
-                        text.extend_from_slice(format!(in alloc; "{channel} ")?.as_bytes())?;
-                    }
-                    Actor::Metadata => text.extend_from_slice(b"m ")?,
-                }
+                push_actor(&mut text, alloc, actor)?;
             }
         }
     }
@@ -39,7 +46,7 @@ fn good_schedules(rt: HostRuntime) -> Result<(), Fail> {
     ];
     for (text, wanted) in cases {
         let schedule = parse_schedule(alloc, text)?;
-        assert_eq!(rt; steps(alloc, &schedule)?.as_slice(), *wanted);
+        expect(&rt, &steps(alloc, &schedule)?, wanted);
     }
     Ok(())
 }

@@ -3,7 +3,8 @@
 ghost use Rattle.blob_meta.specs.SlotCounts.{IsCreate, IsResize};
 ghost use Rattle.lvol_store.specs.CopyPlans.{IsClone};
 
-use crate::plan_tests::{told, volume};
+use crate::plan_tests::{sup, told, volume};
+use crate::told::expect;
 use blob_meta::{Flags, Job, Meta, Metas, parent_of};
 use descriptors::SlotMap;
 use lvol_store::{
@@ -49,11 +50,9 @@ fn blob(
     })
 }
 
-/// The super blob with a uuid at 2, a thin blob at 5, a read-only one at 6, a thick one at 7, and at 8 one whose parent
-/// at 6 has more slots.
-pub fn metas(alloc: Global) -> Result<Metas, Memory> {
-    let mut metas = Metas::new(alloc);
-    let mut super_blob = blob(alloc, 2, b"store", (1, 0), 0)?;
+/// The super blob, which has a uuid.
+fn super_blob(alloc: Global) -> Result<Meta, Memory> {
+    let mut super_blob = blob(alloc, 2, b"store\0", (1, 0), 0)?;
     super_blob.xattrs = xattrs(
         alloc,
         &[
@@ -61,13 +60,30 @@ pub fn metas(alloc: Global) -> Result<Metas, Memory> {
             (b"uuid", b"5f2b4e66-0d0c-4c1e-9a55-3f0a7c2d9b10\0"),
         ],
     )?;
-    metas.insert(2, super_blob)?;
-    metas.insert(5, blob(alloc, 5, b"thin\0", (1, 0), 3)?)?;
-    metas.insert(6, blob(alloc, 6, b"fixed\0", (1, 1), 3)?)?;
-    metas.insert(7, blob(alloc, 7, b"thick\0", (0, 0), 2)?)?;
+    Ok(super_blob)
+}
+
+/// A blob with a parent at 6.
+fn clone_of_six(alloc: Global) -> Result<Meta, Memory> {
     let mut clone = blob(alloc, 8, b"clone\0", (1, 0), 1)?;
     clone.internal = xattrs(alloc, &[(b"SNAP", b"\x06\0\0\0\x01\0\0\0")])?;
-    metas.insert(8, clone)?;
+    Ok(clone)
+}
+
+/// The super blob at 2, a thin blob at 5, a read-only one at 6, a thick one at 7, and at 8 one whose parent at 6 has
+/// more slots.
+pub fn metas(alloc: Global) -> Result<Metas, Memory> {
+    let mut metas = Metas::new(alloc);
+    let blobs: &[(u32, &[u8], (u64, u64), u32)] = &[
+        (5, b"thin\0", (1, 0), 3),
+        (6, b"fixed\0", (1, 1), 3),
+        (7, b"thick\0", (0, 0), 2),
+    ];
+    for (head, name, flags, slots) in blobs {
+        metas.insert(*head, blob(alloc, *head, name, *flags, *slots)?)?;
+    }
+    metas.insert(2, super_blob(alloc)?)?;
+    metas.insert(8, clone_of_six(alloc)?)?;
     Ok(metas)
 }
 
@@ -104,6 +120,12 @@ fn push_numbers(text: &mut Vec<u8>, alloc: Global, numbers: &[Option<u32>]) -> R
     Ok(())
 }
 
+fn push_slots(text: &mut Vec<u8>, alloc: Global, meta: &Meta) -> Result<(), Fail> {
+    let invalid = meta.flags.invalid;
+    text.extend_from_slice(format!(in alloc; " flags {invalid} slots")?.as_bytes())?;
+    push_numbers(text, alloc, meta.map.as_slice())
+}
+
 /// A plan with its attributes, its slots, and those that get a cluster of zeros; or the reply.
 pub fn told_whole(alloc: Global, plan: &Result<Job, Reply>) -> Result<Vec<u8>, Fail> {
     let mut text = told(alloc, plan)?;
@@ -112,9 +134,7 @@ pub fn told_whole(alloc: Global, plan: &Result<Job, Reply>) -> Result<Vec<u8>, F
     };
     for replacement in job.list.as_slice() {
         if let Some(meta) = &replacement.new {
-            text.extend_from_slice(format!(in alloc; " flags {}", meta.flags.invalid)?.as_bytes())?;
-            text.extend_from_slice(b" slots")?;
-            push_numbers(&mut text, alloc, meta.map.as_slice())?;
+            push_slots(&mut text, alloc, meta)?;
         }
     }
     text.extend_from_slice(b" zero")?;
@@ -145,7 +165,7 @@ fn planned_create(
 fn creates_are_planned_or_refused(rt: HostRuntime) -> Result<(), Fail> {
     let alloc = rt.alloc();
     let metas = metas(alloc)?;
-    let sup = Layout::plan(64, 4, Some(16))?.new_super((1 << 32) + 2, [0; 16]);
+    let sup = sup()?;
     let cases: &[((&[u8], u64, bool, Option<[u8; 16]>), &[u8])] = &[
         (
             (b"v", 2, false, None),
@@ -165,27 +185,50 @@ fn creates_are_planned_or_refused(rt: HostRuntime) -> Result<(), Fail> {
         ((b"v", (1 << 20) + 1, false, None), b"TooLarge"),
     ];
     for (asked, wanted) in cases {
-        let plan = planned_create(alloc, &metas, &sup, *asked)?;
-        assert_eq!(rt; plan.as_slice(), *wanted);
+        expect(&rt, &planned_create(alloc, &metas, &sup, *asked)?, wanted);
     }
+    Ok(())
+}
+
+#[test]
+fn a_store_has_its_super_blobs_uuid(rt: HostRuntime) -> Result<(), Fail> {
     let uuid = parse_uuid("5f2b4e66-0d0c-4c1e-9a55-3f0a7c2d9b10")?;
-    assert_eq!(rt; store_uuid(&metas, &sup), uuid);
-    // Without a super blob the store's uuid is nil.
-    let other = Layout::plan(64, 4, Some(16))?.new_super(u64::MAX, [0; 16]);
-    assert_eq!(rt; store_uuid(&metas, &other), [0; 16]);
-    let plan = planned_create(alloc, &metas, &other, (b"v", 0, false, None))?;
-    assert_eq!(rt;
-        plan.as_slice(),
-        b"9 name=v\0 uuid=80e2434c-466c-59a0-a364-5d8d01601338\0 flags 1 slots zero".as_slice()
+    let metas = metas(rt.alloc())?;
+    assert_eq!(rt; store_uuid(&metas, &sup()?), uuid);
+    Ok(())
+}
+
+/// Without a super blob the store's uuid is nil.
+#[test]
+fn a_store_without_a_super_blob_plans_creates(rt: HostRuntime) -> Result<(), Fail> {
+    let alloc = rt.alloc();
+    let sup = Layout::plan(64, 4, Some(16))?.new_super(u64::MAX, [0; 16]);
+    let metas = metas(alloc)?;
+    assert_eq!(rt; store_uuid(&metas, &sup), [0; 16]);
+    expect(
+        &rt,
+        &planned_create(alloc, &metas, &sup, (b"v", 0, false, None))?,
+        b"9 name=v\0 uuid=80e2434c-466c-59a0-a364-5d8d01601338\0 flags 1 slots zero",
     );
     Ok(())
+}
+
+/// Whether the parent of each blob that a plan writes is at 6; also where it is refused.
+fn are_clones_of_six(plan: &Result<Job, Reply>) -> bool {
+    let Ok(job) = plan else {
+        return true;
+    };
+    job.list.as_slice().iter().all(|replacement| match &replacement.new {
+        Some(meta) => parent_of(meta) == Some(6),
+        None => false,
+    })
 }
 
 #[test]
 fn clones_are_planned_or_refused(rt: HostRuntime) -> Result<(), Fail> {
     let alloc = rt.alloc();
     let metas = metas(alloc)?;
-    let sup = Layout::plan(64, 4, Some(16))?.new_super((1 << 32) + 2, [0; 16]);
+    let sup = sup()?;
     let cases: &[(u32, &[u8], &[u8], &[u8])] = &[
         (
             0,
@@ -210,15 +253,8 @@ fn clones_are_planned_or_refused(rt: HostRuntime) -> Result<(), Fail> {
             continue;
         };
         let plan = plan_clone(alloc, &metas, &sup, &clone_of(volume(*head, of), name), 9);
-        assert_eq!(rt; told_whole(alloc, &plan)?.as_slice(), *wanted);
-        if let Ok(job) = &plan {
-            for replacement in job.list.as_slice() {
-                assert_eq!(rt;
-                    replacement.new.as_ref().and_then(|meta| parent_of(meta)),
-                    Some(6)
-                );
-            }
-        }
+        expect(&rt, &told_whole(alloc, &plan)?, wanted);
+        assert!(rt; are_clones_of_six(&plan));
     }
     Ok(())
 }
@@ -227,7 +263,7 @@ fn clones_are_planned_or_refused(rt: HostRuntime) -> Result<(), Fail> {
 fn resizes_are_planned_or_refused(rt: HostRuntime) -> Result<(), Fail> {
     let alloc = rt.alloc();
     let metas = metas(alloc)?;
-    let sup = Layout::plan(64, 4, Some(16))?.new_super((1 << 32) + 2, [0; 16]);
+    let sup = sup()?;
     let cases: &[(u32, &[u8], u64, &[u8])] = &[
         (0, b"thin", 5, b"5 name=thin\0 flags 1 slots - - - - - zero"),
         (5, b"", 1, b"5 name=thin\0 flags 1 slots - zero"),
@@ -250,7 +286,7 @@ fn resizes_are_planned_or_refused(rt: HostRuntime) -> Result<(), Fail> {
     for (head, name, slots, wanted) in cases {
         let command = resize(volume(*head, name), *slots);
         let plan = plan_resize(alloc, &metas, &sup, &command, 9);
-        assert_eq!(rt; told_whole(alloc, &plan)?.as_slice(), *wanted);
+        expect(&rt, &told_whole(alloc, &plan)?, wanted);
     }
     Ok(())
 }

@@ -3,8 +3,14 @@
 use out_of_memory::Memory;
 use script_lang::{Grammar, ScriptFault, read_script};
 use std::alloc::Global;
+use std::process::Abort;
 use std::test::Fail;
 use volume_model::{Command, PageWord, Script, VolumeRef};
+
+/// Expects that these are the bytes that are wanted.
+pub fn expect(rt: &impl Abort, found: &Vec<u8>, wanted: &[u8]) {
+    assert_eq!(rt; found.as_slice(), wanted);
+}
 
 fn push_number(into: &mut Vec<u8>, alloc: Global, number: u64) -> Result<(), Fail> {
     into.extend_from_slice(format!(in alloc; " {number}")?.as_bytes())?;
@@ -118,15 +124,25 @@ fn push_words(into: &mut Vec<u8>, alloc: Global, command: &Command) -> Result<()
     Ok(())
 }
 
+fn push_command(
+    into: &mut Vec<u8>,
+    alloc: Global,
+    channel: u8,
+    command: &Command,
+) -> Result<(), Fail> {
+    into.extend_from_slice(format!(in alloc; "{channel} ")?.as_bytes())?;
+    into.extend_from_slice(verb(command))?;
+    push_words(into, alloc, command)?;
+    into.push(b';')?;
+    Ok(())
+}
+
 /// The commands of each channel, with `;` after each.
 pub fn told_of(alloc: Global, script: &Script) -> Result<Vec<u8>, Fail> {
     let mut into = Vec::new(alloc);
     for channel in 0..16u8 {
         for command in script.commands(channel) {
-            into.extend_from_slice(format!(in alloc; "{channel} ")?.as_bytes())?;
-            into.extend_from_slice(verb(command))?;
-            push_words(&mut into, alloc, command)?;
-            into.push(b';')?;
+            push_command(&mut into, alloc, channel, command)?;
         }
     }
     Ok(into)
