@@ -6,7 +6,7 @@ ghost use Rattle.md_chain.specs.Packing.{ArePlannable, AreFew};
 use crate::fixtures::{attribute, expect_text, list_of, small, text_of};
 use crc32c::page_ok;
 use descriptors::{Item, ItemList};
-use md_chain::{ChainFault, Memory, Plan, chain_len, plan_chain, read_chain};
+use md_chain::{Chain, ChainFault, Memory, Plan, chain_len, plan_chain, read_chain};
 use md_page::MdPage;
 use page_disk::{CallKind, Fail, FaultDisk, MemDisk, Page, PageDisk, WriteKind};
 use std::alloc::Global;
@@ -130,17 +130,32 @@ fn put<D: PageDisk>(
     Ok(())
 }
 
+/// What comes of reading the chain at a head of this device.
+fn chain_in<D: PageDisk>(
+    rt: &impl Abort,
+    alloc: Global,
+    disk: &mut D,
+    head: u32,
+) -> Result<Result<Chain, ChainFault>, TestFail> {
+    let sup = small(u64::MAX)?;
+    assert!(rt; sup.device_pages == disk.pages());
+    Ok(read_chain(alloc, disk, &sup, head))
+}
+
+/// A device on which the pages of a plan are written.
+fn disk_of(rt: &impl Abort, alloc: Global, plan: &Plan) -> Result<MemDisk, TestFail> {
+    let mut disk = MemDisk::new(alloc, 64, 8)?;
+    for planned in plan.as_slice() {
+        put(rt, &mut disk, planned.place, &planned.page)?;
+    }
+    Ok(disk)
+}
+
 #[test]
 fn a_written_plan_is_read_again(rt: HostRuntime) -> Result<(), TestFail> {
     let items = volume(rt.alloc())?;
-    let plan = planned(&rt, rt.alloc(), &items)?;
-    let mut disk = MemDisk::new(rt.alloc(), 64, 8)?;
-    for planned in plan.as_slice() {
-        put(&rt, &mut disk, planned.place, &planned.page)?;
-    }
-    let sup = small(u64::MAX)?;
-    assert!(rt; sup.device_pages == disk.pages());
-    let chain = read_chain(rt.alloc(), &mut disk, &sup, 5)?;
+    let mut disk = disk_of(&rt, rt.alloc(), &planned(&rt, rt.alloc(), &items)?)?;
+    let chain = chain_in(&rt, rt.alloc(), &mut disk, 5)??;
     assert!(rt; chain.pages.as_slice() == [5, 2, 9].as_slice());
     let said = text_of(rt.alloc(), &chain.items)?;
     expect_text(&rt, &said, text_of(rt.alloc(), &items)?.as_str());
@@ -210,9 +225,7 @@ fn fault(
     for row in rows {
         put(rt, &mut disk, row.place, &page_of(row))?;
     }
-    let sup = small(u64::MAX)?;
-    assert!(rt; sup.device_pages == disk.pages());
-    Ok(read_chain(alloc, &mut disk, &sup, head).err())
+    Ok(chain_in(rt, alloc, &mut disk, head)?.err())
 }
 
 /// Two pages, which of the reads fails, the place of the head, and the fault that is found.

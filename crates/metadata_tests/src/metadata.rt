@@ -87,12 +87,19 @@ const CASES: &[(&[Says], &str)] = &[
         "slot 0 of a thick blob is empty",
     ),
     (
-        &[Says::Internal(b"SNAPTMP", &[1; 9]), Says::Internal(b"SNAP", &[])],
+        &[
+            Says::Internal(b"SNAPTMP", &[1; 9]),
+            Says::Internal(b"SNAP", &[]),
+        ],
         "a mark of 9 bytes where 8 are wanted",
     ),
     // Neither an empty slot of a thin blob nor another internal attribute is a fault.
     (
-        &[Says::Flags(3), Says::Runs(&[(0, 1), (15, 1)]), Says::Internal(b"OTHER", &[])],
+        &[
+            Says::Flags(3),
+            Says::Runs(&[(0, 1), (15, 1)]),
+            Says::Internal(b"OTHER", &[]),
+        ],
         "",
     ),
 ];

@@ -62,11 +62,7 @@ fn blob(alloc: Global, head: u32, name: &[u8], data_ro: u64) -> Result<Meta, Mem
 /// The super blob is at 2, a blob that can be written at 5, a read-only one at 6, and none at 9.
 fn three_blobs(alloc: Global) -> Result<Metas, Memory> {
     let mut metas = Metas::new(alloc);
-    let blobs: &[(u32, &[u8], u64)] = &[
-        (2, b"store\0", 0),
-        (5, b"open\0", 0),
-        (6, b"fixed\0", 1),
-    ];
+    let blobs: &[(u32, &[u8], u64)] = &[(2, b"store\0", 0), (5, b"open\0", 0), (6, b"fixed\0", 1)];
     for (head, name, data_ro) in blobs {
         metas.insert(*head, blob(alloc, *head, name, *data_ro)?)?;
     }

@@ -107,22 +107,27 @@ pub fn taken_pages(alloc: Global, state: &mut State, count: usize) -> Result<Vec
     Ok(places)
 }
 
-fn create(alloc: Global, next: State, ask: &Ask, slots: u64, thick: bool) -> Result<Outcome, Fail> {
-    let mut next = next;
-    let (map, has_room) = added_slots(alloc, &mut next, thick, slots)?;
+fn create(
+    alloc: Global,
+    next: &mut State,
+    ask: &Ask,
+    slots: u64,
+    thick: bool,
+) -> Result<Option<Reply>, Fail> {
+    let (map, has_room) = added_slots(alloc, next, thick, slots)?;
     let length = chain_length(&[], &[], &map);
     if clear_count(&next.used_pages) < length {
-        return Ok(Outcome::Lacks(Reply::NoPage));
+        return Ok(Some(Reply::NoPage));
     }
     if !has_room {
-        return Ok(Outcome::Lacks(Reply::Full));
+        return Ok(Some(Reply::Full));
     }
-    let chain = taken_pages(alloc, &mut next, length)?;
+    let chain = taken_pages(alloc, next, length)?;
     next.change(alloc, ask, *chain.first().ok_or("no head")?)?;
     let made = next.volumes.last_mut().ok_or("no volume")?;
     made.map = map;
     made.chain = chain;
-    Ok(Outcome::Next(next))
+    Ok(None)
 }
 
 /// The sizes of a volume's internal attributes: it has one where it has a parent.
@@ -154,49 +159,95 @@ pub fn replace_chain(alloc: Global, next: &mut State, name: u8) -> Result<bool, 
     Ok(true)
 }
 
-/// The state where a volume's chain is written anew, or that too little is clear.
-fn replaced(alloc: Global, next: State, name: u8, has_room: bool) -> Result<Outcome, Fail> {
-    let mut next = next;
-    if !replace_chain(alloc, &mut next, name)? {
-        return Ok(Outcome::Lacks(Reply::NoPage));
+/// Writes a volume's chain anew.
+fn replace(
+    alloc: Global,
+    next: &mut State,
+    name: u8,
+    has_room: bool,
+) -> Result<Option<Reply>, Fail> {
+    if !replace_chain(alloc, next, name)? {
+        return Ok(Some(Reply::NoPage));
     }
-    if !has_room {
-        return Ok(Outcome::Lacks(Reply::Full));
-    }
-    Ok(Outcome::Next(next))
+    Ok(if has_room { None } else { Some(Reply::Full) })
 }
 
-/// A resize: a thick volume's new slots hold the least clear clusters, and those of the slots that are cut are clear.
-fn resize(alloc: Global, next: State, ask: &Ask, name: u8, slots: u64) -> Result<Outcome, Fail> {
-    let mut next = next;
-    let old = next.find(name).ok_or("no volume")?;
-    let (thick, had) = (old.thick, old.map.len());
-    let more = slots.saturating_sub(had as u64);
-    let (added, has_room) = added_slots(alloc, &mut next, thick, more)?;
+/// Changes a volume's map: its first slots stay, so many, and these are added. The clusters of the others are clear.
+fn change_map(
+    alloc: Global,
+    next: &mut State,
+    name: u8,
+    slots: u64,
+    added: &[Option<u32>],
+) -> Result<(), Fail> {
     let volume = next.find_mut(name).ok_or("no volume")?;
     let cut = Vec::from_slice(alloc, &volume.map)?;
     volume.map.truncate(slots as usize);
-    volume.map.extend_from_slice(&added)?;
+    volume.map.extend_from_slice(added)?;
     let has = volume.map.len();
     for cluster in cut.iter().skip(has).flatten() {
         give_back(&mut next.used_clusters, *cluster);
     }
+    Ok(())
+}
+
+/// A resize: a thick volume's new slots hold the least clear clusters, and those of the slots that are cut are clear.
+fn resize(
+    alloc: Global,
+    next: &mut State,
+    ask: &Ask,
+    name: u8,
+    slots: u64,
+) -> Result<Option<Reply>, Fail> {
+    let old = next.find(name).ok_or("no volume")?;
+    let (thick, had) = (old.thick, old.map.len());
+    let more = slots.saturating_sub(had as u64);
+    let (added, has_room) = added_slots(alloc, next, thick, more)?;
+    change_map(alloc, next, name, slots, &added)?;
     next.change(alloc, ask, 0)?;
-    replaced(alloc, next, name, has_room)
+    replace(alloc, next, name, has_room)
 }
 
 /// A write: where its slot is empty, the least clear cluster comes there first.
-fn write(alloc: Global, next: State, ask: &Ask, name: u8, page: usize) -> Result<Outcome, Fail> {
-    let mut next = next;
+fn write(
+    alloc: Global,
+    next: &mut State,
+    ask: &Ask,
+    name: u8,
+    page: usize,
+) -> Result<Option<Reply>, Fail> {
     let slot = page / CLUSTER_PAGES;
     let volume = next.find(name).ok_or("no volume")?;
     if volume.map.get(slot) == Some(&None) {
-        if let Some(lack) = insert(alloc, &mut next, name, slot)? {
-            return Ok(Outcome::Lacks(lack));
+        if let Some(lack) = insert(alloc, next, name, slot)? {
+            return Ok(Some(lack));
         }
     }
     next.change(alloc, ask, 0)?;
-    Ok(Outcome::Next(next))
+    Ok(None)
+}
+
+/// Does what is asked for. Gives the lack where too little is clear; the state is of no use then.
+fn apply(alloc: Global, next: &mut State, ask: &Ask) -> Result<Option<Reply>, Fail> {
+    match *ask {
+        Ask::Create { slots, thick, .. } => create(alloc, next, ask, slots, thick),
+        Ask::Resize { name, slots } => resize(alloc, next, ask, name, slots),
+        Ask::Write { name, page, .. } => write(alloc, next, ask, name, page as usize),
+        Ask::Put { name, .. }
+        | Ask::Sync { name }
+        | Ask::ReadOnly { name }
+        | Ask::Rename { new: name, .. } => {
+            next.change(alloc, ask, 0)?;
+            replace(alloc, next, name, true)
+        }
+        Ask::Snapshot { name, new } => snapshot(alloc, next, ask, name, new),
+        Ask::Clone { name, new } => clone(alloc, next, ask, name, new),
+        Ask::Delete { name } => delete(alloc, next, ask, name),
+        _ => {
+            next.change(alloc, ask, 0)?;
+            Ok(None)
+        }
+    }
 }
 
 /// What a command makes of a state.
@@ -205,25 +256,11 @@ pub fn outcome_of(alloc: Global, state: &State, ask: &Ask) -> Result<Outcome, Fa
         return Ok(Outcome::Same);
     }
     let mut next = state.copy(alloc)?;
-    match *ask {
-        Ask::Create { slots, thick, .. } => create(alloc, next, ask, slots, thick),
-        Ask::Resize { name, slots } => resize(alloc, next, ask, name, slots),
-        Ask::Write { name, page, .. } => write(alloc, next, ask, name, page as usize),
-        Ask::Put { name, .. } | Ask::Sync { name } | Ask::ReadOnly { name } => {
-            next.change(alloc, ask, 0)?;
-            replaced(alloc, next, name, true)
-        }
-        Ask::Rename { new, .. } => {
-            next.change(alloc, ask, 0)?;
-            replaced(alloc, next, new, true)
-        }
-        Ask::Snapshot { name, new } => snapshot(alloc, next, ask, name, new),
-        Ask::Clone { name, new } => clone(alloc, next, ask, name, new),
-        Ask::Delete { name } => delete(alloc, next, ask, name),
-        Ask::Inflate { name } | Ask::Decouple { name } => fill(alloc, next, ask, name),
-        _ => {
-            next.change(alloc, ask, 0)?;
-            Ok(Outcome::Next(next))
-        }
+    if let Ask::Inflate { name } | Ask::Decouple { name } = *ask {
+        return fill(alloc, next, ask, name);
+    }
+    match apply(alloc, &mut next, ask)? {
+        Some(lack) => Ok(Outcome::Lacks(lack)),
+        None => Ok(Outcome::Next(next)),
     }
 }

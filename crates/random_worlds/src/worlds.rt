@@ -25,32 +25,43 @@ impl World {
         })
     }
 
+    /// The plain machine's reply to what is asked for.
+    fn apply(&mut self, alloc: Global, ask: &Ask) -> Result<Reply, Fail> {
+        let command = command_of(alloc, ask)?;
+        Ok(self.machine.apply(alloc, &command))
+    }
+
     /// Does what is asked for, and gives the reply. A new volume has the least clear metadata page as its head.
     pub fn step(&mut self, alloc: Global, ask: &Ask) -> Result<Reply, Fail> {
-        let outcome = outcome_of(alloc, &self.state, ask)?;
-        let outcome = match outcome {
-            Outcome::Lacks(reply) => return Ok(reply),
+        match outcome_of(alloc, &self.state, ask)? {
+            Outcome::Lacks(reply) => Ok(reply),
             Outcome::Fills(state, reply) => {
                 self.state = state;
-                return Ok(reply);
+                Ok(reply)
             }
-            other => other,
-        };
-        let reply = self.machine.apply(alloc, &command_of(alloc, ask)?);
-        match (outcome, reply) {
-            (Outcome::Next(state), Reply::Made(_)) => {
+            Outcome::Next(state) => {
                 self.state = state;
-                Ok(Reply::Made(self.last_head()?))
+                self.done(alloc, ask)
             }
-            (Outcome::Next(state), Reply::Ok) => {
-                self.state = state;
-                Ok(Reply::Ok)
-            }
-            (Outcome::Same, Reply::Df(_)) => Ok(Reply::Df(self.state.df())),
-            (Outcome::Same, Reply::Ok | Reply::Made(_)) | (Outcome::Next(_), _) => {
-                Err(Fail::new(format_args!("the machine does otherwise with {ask:?}")))
-            }
-            (_, reply) => self.told(alloc, ask, reply),
+            Outcome::Same => self.refused(alloc, ask),
+        }
+    }
+
+    /// The reply to what plain volumes do, after which the state is as it is now.
+    fn done(&mut self, alloc: Global, ask: &Ask) -> Result<Reply, Fail> {
+        match self.apply(alloc, ask)? {
+            Reply::Made(_) => Ok(Reply::Made(self.last_head()?)),
+            Reply::Ok => Ok(Reply::Ok),
+            _ => Err(does_otherwise(ask)),
+        }
+    }
+
+    /// The reply to what plain volumes refuse, or only tell.
+    fn refused(&mut self, alloc: Global, ask: &Ask) -> Result<Reply, Fail> {
+        match self.apply(alloc, ask)? {
+            Reply::Df(_) => Ok(Reply::Df(self.state.df())),
+            Reply::Ok | Reply::Made(_) => Err(does_otherwise(ask)),
+            reply => self.told(alloc, ask, reply),
         }
     }
 
@@ -70,10 +81,7 @@ impl World {
     fn info_told(&mut self, alloc: Global, name: u8) -> Result<Info, Fail> {
         let volume = self.state.find(name).ok_or("no volume")?;
         let (head, parent) = (volume.head().ok_or("no head")?, volume.parent);
-        let reply = self
-            .machine
-            .apply(alloc, &command_of(alloc, &Ask::Info { name })?);
-        let Reply::Info(mut info) = reply else {
+        let Reply::Info(mut info) = self.apply(alloc, &Ask::Info { name })? else {
             return Err(Fail::new("the machine tells nothing of a volume"));
         };
         if info.parent.is_some() != parent.is_some() {
@@ -113,7 +121,7 @@ impl World {
             Some(lack) if is_done(&self.state, ask) => return Ok(lack),
             _ => {}
         }
-        match self.machine.apply(alloc, &command_of(alloc, ask)?) {
+        match self.apply(alloc, ask)? {
             Reply::Ok => {
                 self.state.change(alloc, ask, 0)?;
                 Ok(Reply::Ok)
@@ -175,6 +183,10 @@ impl World {
             ..self.state.df()
         })
     }
+}
+
+fn does_otherwise(ask: &Ask) -> Fail {
+    Fail::new(format_args!("the machine does otherwise with {ask:?}"))
 }
 
 /// Whether a reply is a page that is filled with a word.

@@ -29,7 +29,11 @@ fn the_scripts_of_numbers(rt: HostRuntime) -> Result<(), Fail> {
         b"0 create v0 8 thin;1 create v1 8 thin;1 write v1 11 5627;2 create v2 8 thin;2 flush;2 write v2 20 4086;3 create v3 8 thin;";
     expect(&rt, &told_of(alloc, &script)?, wanted);
     let text = generate_text(alloc, 1, 65000)?;
-    expect(&rt, &told(alloc, Grammar::Whole, text.as_slice())?, b"too big");
+    expect(
+        &rt,
+        &told(alloc, Grammar::Whole, text.as_slice())?,
+        b"too big",
+    );
     let script = generate(alloc, 1, 65000)?;
     let mut commands: usize = 0;
     for channel in 0..4 {

@@ -101,11 +101,7 @@ fn push_xattrs(text: &mut Vec<u8>, xattrs: &XattrList) -> Result<(), Fail> {
 /// The super blob at 2, a blob that can be written at 5, and a read-only one at 6.
 fn metas(alloc: Global) -> Result<Metas, Memory> {
     let mut metas = Metas::new(alloc);
-    let blobs: &[(u32, &[u8], u64)] = &[
-        (2, b"store\0", 0),
-        (5, b"open\0", 0),
-        (6, b"fixed\0", 1),
-    ];
+    let blobs: &[(u32, &[u8], u64)] = &[(2, b"store\0", 0), (5, b"open\0", 0), (6, b"fixed\0", 1)];
     for (head, name, data_ro) in blobs {
         metas.insert(*head, blob(alloc, *head, name, *data_ro)?)?;
     }

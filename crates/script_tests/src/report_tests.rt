@@ -55,7 +55,13 @@ fn each_reply_has_its_text(rt: HostRuntime) -> Result<(), Fail> {
         free_pages: 7,
         pages: 800,
     });
-    expect_line(&rt, a, (0, 3), df, b"0 3 df clusters 5 of 60 pages 7 of 800\n")?;
+    expect_line(
+        &rt,
+        a,
+        (0, 3),
+        df,
+        b"0 3 df clusters 5 of 60 pages 7 of 800\n",
+    )?;
     let value = Reply::Value(Blobtext::new(a, b"\x00bO\xff")?);
     expect_line(&rt, a, (0, 1), value, b"0 1 value 00624fff\n")?;
     let empty = Reply::Value(Blobtext::new(a, b"")?);
@@ -65,7 +71,13 @@ fn each_reply_has_its_text(rt: HostRuntime) -> Result<(), Fail> {
     expect_line(&rt, a, (0, 4), Reply::NoVolume, b"0 4 no volume\n")?;
     expect_line(&rt, a, (0, 5), Reply::Busy(2), b"0 5 busy 2\n")?;
     expect_line(&rt, a, (0, 6), Reply::ReadFault, b"0 6 read fault\n")?;
-    expect_line(&rt, a, (0, 7), Reply::Stopped(4294967295), b"0 7 stopped 4294967295\n")?;
+    expect_line(
+        &rt,
+        a,
+        (0, 7),
+        Reply::Stopped(4294967295),
+        b"0 7 stopped 4294967295\n",
+    )?;
     expect_line(&rt, a, (0, 65535), Reply::Memory, b"0 65535 no memory\n")?;
     Ok(())
 }
@@ -80,7 +92,11 @@ fn a_line_follows_what_was_there(rt: HostRuntime) -> Result<(), Fail> {
         pages: 4,
     };
     space_line(space, &mut text)?;
-    expect(&rt, &text, b"0 0 no value\nclusters 12 free 9 pages 4 free 3\n");
+    expect(
+        &rt,
+        &text,
+        b"0 0 no value\nclusters 12 free 9 pages 4 free 3\n",
+    );
     Ok(())
 }
 

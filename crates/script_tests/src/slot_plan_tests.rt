@@ -218,10 +218,13 @@ fn are_clones_of_six(plan: &Result<Job, Reply>) -> bool {
     let Ok(job) = plan else {
         return true;
     };
-    job.list.as_slice().iter().all(|replacement| match &replacement.new {
-        Some(meta) => parent_of(meta) == Some(6),
-        None => false,
-    })
+    job.list
+        .as_slice()
+        .iter()
+        .all(|replacement| match &replacement.new {
+            Some(meta) => parent_of(meta) == Some(6),
+            None => false,
+        })
 }
 
 #[test]
