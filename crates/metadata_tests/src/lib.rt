@@ -5,6 +5,8 @@
 #[cfg(test)]
 mod bodies;
 #[cfg(test)]
+mod chain_faults;
+#[cfg(test)]
 mod chains;
 #[cfg(test)]
 mod fixtures;

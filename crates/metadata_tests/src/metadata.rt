@@ -146,7 +146,7 @@ fn named(alloc: Global, head: u32, name: &[u8]) -> Result<Meta, Memory> {
     })
 }
 
-/// The items of the blob `a` above.
+/// The items of the blob named `a`.
 const ITEMS: [Says; 4] = [
     Says::Flags(3),
     Says::Attribute(b"name", b"a\0"),

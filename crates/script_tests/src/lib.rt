@@ -23,4 +23,6 @@ mod slot_plan_tests;
 #[cfg(test)]
 mod told;
 #[cfg(test)]
+mod uuid_tests;
+#[cfg(test)]
 mod word_tests;

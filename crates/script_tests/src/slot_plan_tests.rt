@@ -1,4 +1,4 @@
-//! Plans of creates, clones and resizes, each cause of a refusal, and uuids of names.
+//! Plans of creates, clones and resizes, and each cause of a refusal.
 
 ghost use Rattle.blob_meta.specs.SlotCounts.{IsCreate, IsResize};
 ghost use Rattle.lvol_store.specs.CopyPlans.{IsClone};
@@ -7,9 +7,7 @@ use crate::plan_tests::{sup, told, volume};
 use crate::told::expect;
 use blob_meta::{Flags, Job, Meta, Metas, parent_of};
 use descriptors::SlotMap;
-use lvol_store::{
-    check_name, parse_uuid, plan_clone, plan_create, plan_resize, store_uuid, uuid_for,
-};
+use lvol_store::{check_name, plan_clone, plan_create, plan_resize, store_uuid};
 use out_of_memory::Memory;
 use std::alloc::Global;
 use std::test::Fail;
@@ -190,14 +188,6 @@ fn creates_are_planned_or_refused(rt: HostRuntime) -> Result<(), Fail> {
     Ok(())
 }
 
-#[test]
-fn a_store_has_its_super_blobs_uuid(rt: HostRuntime) -> Result<(), Fail> {
-    let uuid = parse_uuid("5f2b4e66-0d0c-4c1e-9a55-3f0a7c2d9b10")?;
-    let metas = metas(rt.alloc())?;
-    assert_eq!(rt; store_uuid(&metas, &sup()?), uuid);
-    Ok(())
-}
-
 /// Without a super blob the store's uuid is nil.
 #[test]
 fn a_store_without_a_super_blob_plans_creates(rt: HostRuntime) -> Result<(), Fail> {
@@ -291,15 +281,5 @@ fn resizes_are_planned_or_refused(rt: HostRuntime) -> Result<(), Fail> {
         let plan = plan_resize(alloc, &metas, &sup, &command, 9);
         expect(&rt, &told_whole(alloc, &plan)?, wanted);
     }
-    Ok(())
-}
-
-/// The name space of domain names, and the uuid of one name in it, as RFC 9562 prints them.
-#[test]
-fn a_name_has_its_uuid(rt: HostRuntime) -> Result<(), Fail> {
-    let names = parse_uuid("6ba7b810-9dad-11d1-80b4-00c04fd430c8")?;
-    let wanted = parse_uuid("2ed6657d-e927-568b-95e1-2665a8aea6a2")?;
-    let name = Name::new(b"www.example.com");
-    assert_eq!(rt; uuid_for(names, &name), wanted);
     Ok(())
 }
