@@ -163,14 +163,23 @@ fn metadata_is_written(rt: HostRuntime) -> Result<(), Fail> {
     Ok(())
 }
 
+/// What is read of the items in which metadata is written, as text.
+fn read_again(alloc: Global, meta: &Meta) -> Result<String, Fail> {
+    let list = to_items(alloc, meta)?;
+    let read = from_items(alloc, 7, &list, &small(u64::MAX)?)?;
+    text_of(alloc, &read)
+}
+
+/// A copy of metadata as text.
+fn copied(alloc: Global, meta: &Meta) -> Result<String, Fail> {
+    text_of(alloc, &meta.try_copy(alloc)?)
+}
+
 #[test]
 fn written_metadata_is_read(rt: HostRuntime) -> Result<(), Fail> {
-    let alloc = rt.alloc();
-    let meta = named(alloc, 7, b"a\0")?;
-    let wanted = text_of(alloc, &meta.try_copy(alloc)?)?;
-    let list = to_items(alloc, &meta)?;
-    let read = from_items(alloc, 7, &list, &small(u64::MAX)?)?;
-    expect_text(&rt, &text_of(alloc, &read)?, wanted.as_str());
+    let meta = named(rt.alloc(), 7, b"a\0")?;
+    let wanted = copied(rt.alloc(), &meta)?;
+    expect_text(&rt, &read_again(rt.alloc(), &meta)?, wanted.as_str());
     Ok(())
 }
 
@@ -200,12 +209,18 @@ fn blobs_are_found(rt: HostRuntime) -> Result<(), Fail> {
     Ok(())
 }
 
+/// The map in which heads are given these values, one after another.
+fn filled(alloc: Global, values: &[(u32, u64)]) -> Result<HeadMap<u64>, Memory> {
+    let mut map = HeadMap::new(alloc);
+    for (head, value) in values {
+        map.insert(*head, *value)?;
+    }
+    Ok(map)
+}
+
 #[test]
 fn a_map_from_heads_keeps_what_it_is_given(rt: HostRuntime) -> Result<(), Fail> {
-    let mut map = HeadMap::new(rt.alloc());
-    map.insert(7, 1u64)?;
-    map.insert(3, 2)?;
-    map.insert(7, 3)?;
+    let mut map = filled(rt.alloc(), &[(7, 1), (3, 2), (7, 3)])?;
     assert_eq!(rt; (map.get(7).copied(), map.get(4).copied()), (Some(3), None));
     assert_eq!(rt;
         (map.next_from(3), map.next_from(4), map.next_from(8)),
@@ -218,9 +233,7 @@ fn a_map_from_heads_keeps_what_it_is_given(rt: HostRuntime) -> Result<(), Fail> 
 
 #[test]
 fn a_map_from_heads_moves_into_its_room(rt: HostRuntime) -> Result<(), Fail> {
-    let mut map = HeadMap::new(rt.alloc());
-    map.insert(7, 1u64)?;
-    map.insert(3, 2)?;
+    let mut map = filled(rt.alloc(), &[(7, 1), (3, 2)])?;
     for (head, value) in [(5, 3), (7, 4)] {
         let room = map.room(rt.alloc())?;
         map.insert_in(room, head, value);

@@ -53,6 +53,22 @@ fn settles(ask: &Ask) -> bool {
 }
 
 impl Volume {
+    /// A volume of another name that shows what this one does, without attributes and clusters, with a chain of one
+    /// page.
+    fn bare_copy(&self, alloc: Global, name: u8, head: u32) -> Result<Volume, Fail> {
+        Ok(Volume {
+            name,
+            thick: self.thick,
+            read_only: self.read_only,
+            parent: self.parent,
+            live: Vec::new(alloc),
+            synced: Vec::new(alloc),
+            map: Vec::new(alloc),
+            chain: vec![in alloc; head]?,
+            pages: Vec::from_slice(alloc, &self.pages)?,
+        })
+    }
+
     /// Does what is asked for of it: its attributes and its pages change.
     fn change(&mut self, alloc: Global, ask: &Ask) -> Result<(), Fail> {
         match *ask {
@@ -87,28 +103,27 @@ impl Volume {
 }
 
 impl State {
-    /// Makes a volume that shows what another one does, without attributes: its clone, or its snapshot, by which the
-    /// other one reads from then on.
+    /// Makes a volume that shows what another one does: its clone, or its snapshot, by which the other one reads from
+    /// then on.
     fn make_copy(&mut self, alloc: Global, ask: &Ask, name: u8, head: u32) -> Result<(), Fail> {
-        let of = self.find(name).ok_or("no volume")?;
-        let mut made = of.copy(alloc)?;
-        let was = of.head();
-        made.live.clear();
-        made.synced.clear();
-        made.map.clear();
-        made.chain = vec![in alloc; head]?;
-        if let Ask::Snapshot { new, .. } = *ask {
-            made.name = new;
-            made.read_only = true;
-            let of = self.find_mut(name).ok_or("no volume")?;
-            of.thick = false;
-            of.parent = Some(head);
-        } else if let Ask::Clone { new, .. } = *ask {
-            made.name = new;
-            made.thick = false;
-            made.read_only = false;
-            made.parent = was;
-        }
+        let of = self.find_mut(name).ok_or("no volume")?;
+        let made = match *ask {
+            Ask::Snapshot { new, .. } => {
+                let mut made = of.bare_copy(alloc, new, head)?;
+                made.read_only = true;
+                of.thick = false;
+                of.parent = Some(head);
+                made
+            }
+            Ask::Clone { new, .. } => {
+                let mut made = of.bare_copy(alloc, new, head)?;
+                made.thick = false;
+                made.read_only = false;
+                made.parent = of.head();
+                made
+            }
+            _ => return Ok(()),
+        };
         self.volumes.push(made)?;
         Ok(())
     }
@@ -125,16 +140,10 @@ impl State {
     }
 
     /// Deletes a volume, whose clone has its parent from then on.
-    fn delete(&mut self, alloc: Global, name: u8) -> Result<(), Fail> {
+    fn delete(&mut self, name: u8) -> Result<(), Fail> {
         let gone = self.find(name).ok_or("no volume")?;
         let (head, parent) = (gone.head(), gone.parent);
-        let mut rest = Vec::new(alloc);
-        for volume in &self.volumes {
-            if volume.name != name {
-                rest.push(volume.copy(alloc)?)?;
-            }
-        }
-        self.volumes = rest;
+        self.volumes.retain(|volume| volume.name != name);
         for volume in self.volumes.iter_mut() {
             if volume.parent.is_some() && volume.parent == head {
                 volume.parent = parent;
@@ -154,7 +163,7 @@ impl State {
             Ask::Snapshot { name, .. } | Ask::Clone { name, .. } => {
                 self.make_copy(alloc, ask, name, head)?;
             }
-            Ask::Delete { name } => self.delete(alloc, name)?,
+            Ask::Delete { name } => self.delete(name)?,
             Ask::Decouple { name } => self.decouple(name)?,
             _ => {
                 if let Some(name) = ask.name() {

@@ -6,7 +6,7 @@ use std::test::Fail;
 use volume_model::Df;
 
 /// A page: the word that fills it, and whether it outlasts a crash.
-#[derive(Clone, Copy, Debug)]
+#[derive(Clone, Copy)]
 pub struct PageState {
     pub word: u64,
     pub is_settled: bool,

@@ -8,8 +8,8 @@ use std::test::Fail;
 use volume_model::{Command, PageWord, Script, VolumeRef};
 
 /// Expects that these are the bytes that are wanted.
-pub fn expect(rt: &impl Abort, found: &Vec<u8>, wanted: &[u8]) {
-    assert_eq!(rt; found.as_slice(), wanted);
+pub fn expect(rt: &impl Abort, found: &[u8], wanted: &[u8]) {
+    assert_eq!(rt; found, wanted);
 }
 
 fn push_number(into: &mut Vec<u8>, alloc: Global, number: u64) -> Result<(), Fail> {
