@@ -12,6 +12,7 @@ use std::test::Fail as TestFail;
 const LAST: u32 = 0xFFFF_FFFF;
 
 /// One page of a chain at a place, with the first bytes of its body.
+#[derive(Drop)]
 struct Row {
     place: u32,
     blob: u32,

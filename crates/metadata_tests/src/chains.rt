@@ -88,14 +88,19 @@ const PAGES: [PlannedPage; 3] = [
     },
 ];
 
+/// A page that begins with these bytes, has this byte in the rest of its body, and then this next place.
+fn page_with(front: &[u8], rest: u8, next: [u8; 4]) -> Page {
+    let mut page = [rest; 4096];
+    if front.len() <= 4088 {
+        page[..front.len()].copy_from_slice(front);
+    }
+    page[4088..4092].copy_from_slice(&next);
+    page
+}
+
 /// Whether a page has the bytes of this one before its sum.
 fn bytes_agree(page: &Page, wanted: &PlannedPage) -> bool {
-    let mut bytes = [wanted.rest; 4096];
-    if wanted.front.len() <= 4088 {
-        bytes[..wanted.front.len()].copy_from_slice(wanted.front);
-    }
-    bytes[4088..4092].copy_from_slice(&wanted.next);
-    page[..4092] == bytes[..4092]
+    page[..4092] == page_with(wanted.front, wanted.rest, wanted.next)[..4092]
 }
 
 #[test]
