@@ -1,11 +1,10 @@
 //! Clean stores with masks written by hand: by which they are loaded, unless a header is another one.
 
+use crate::whole_stores::parts_on;
 use page_disk::{MemDisk, Page, PageDisk, WriteKind};
-use running_store::Loaded;
 use std::alloc::Global;
 use std::test::Fail;
 use test_stores::{LAST, THIN, image};
-use unclean_load::load;
 
 /// The first bytes of the masks of used pages, clusters and heads, of 16 bits each: a blob has page 0 and no cluster, and
 /// five clusters are fixed.
@@ -63,23 +62,8 @@ fn store(alloc: Global, other: (usize, usize, u8)) -> Result<MemDisk, Fail> {
 
 /// Whether a store is loaded by its masks.
 fn is_quick(alloc: Global, disk: MemDisk) -> Result<bool, Fail> {
-    match load(alloc, disk) {
-        Ok(loaded) => {
-            let Loaded {
-                disk: _disk,
-                sup: _sup,
-                metas: _metas,
-                removed: _removed,
-                marked: _marked,
-                chains: _chains,
-                repairs: _repairs,
-                masks: _masks,
-                quick,
-            } = loaded;
-            Ok(quick)
-        }
-        Err((_disk, fault)) => Err(Fail::new(fault)),
-    }
+    let (_, _, _, quick) = parts_on(alloc, disk)?;
+    Ok(quick)
 }
 
 /// No header is a fault: the store is scanned.

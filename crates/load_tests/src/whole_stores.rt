@@ -2,6 +2,7 @@
 
 use bit_array::Bits;
 use blob_meta::{Chains, Metas};
+use page_disk::MemDisk;
 use running_store::Loaded;
 use std::alloc::Global;
 use std::test::Fail;
@@ -12,20 +13,28 @@ use unclean_load::{clean_stores_are_quick, fixed_clusters_decide, load, stores_a
 /// An attribute `name` of value `a`.
 const NAME: &[u8] = b"\x02\x0a\0\0\0\x04\0\x02\0namea\0";
 
-/// What was loaded, without the device.
-fn parts_of<D: Drop>(loaded: Loaded<D>) -> (Metas, Chains, Masks, bool) {
-    let Loaded {
-        disk: _disk,
-        sup: _sup,
-        metas,
-        removed: _removed,
-        marked: _marked,
-        chains,
-        repairs: _repairs,
-        masks,
-        quick,
-    } = loaded;
-    (metas, chains, masks, quick)
+/// An attribute of the same name, of value `b`.
+const OTHER_NAME: &[u8] = b"\x02\x0a\0\0\0\x04\0\x02\0nameb\0";
+
+/// What is loaded of a device, which has to be a store, and whether it was loaded by its masks.
+pub(crate) fn parts_on(alloc: Global, disk: MemDisk) -> Result<(Metas, Chains, Masks, bool), Fail> {
+    match load(alloc, disk) {
+        Ok(loaded) => {
+            let Loaded {
+                disk: _disk,
+                sup: _sup,
+                metas,
+                removed: _removed,
+                marked: _marked,
+                chains,
+                repairs: _repairs,
+                masks,
+                quick,
+            } = loaded;
+            Ok((metas, chains, masks, quick))
+        }
+        Err((_, fault)) => Err(Fail::new(fault)),
+    }
 }
 
 /// The pages of a blob at place 2 whose chain goes on at 9 and ends at 3.
@@ -43,10 +52,7 @@ const CHAIN: [PageRow; 3] = [
 
 /// What is loaded of that chain.
 fn whole(alloc: Global) -> Result<(Metas, Chains, Masks, bool), Fail> {
-    match load(alloc, image(alloc, (256, 16), &CHAIN)?) {
-        Ok(loaded) => Ok(parts_of(loaded)),
-        Err((_, fault)) => Err(Fail::new(fault)),
-    }
+    parts_on(alloc, image(alloc, (256, 16), &CHAIN)?)
 }
 
 /// The id, the map and the attributes of the blob at place 2, and the places of its chain.
@@ -83,6 +89,17 @@ fn a_blob_with_a_chain_of_three_pages_is_loaded_whole(rt: HostRuntime) -> Result
         blob_line(rt.alloc(), &metas, &chains)?.as_str(),
         "4294967298 [Some(7), Some(8), None, Some(9)] \
             [Xattr { key: Blobtext { bytes: [110, 97, 109, 101] }, value: Blobtext { bytes: [97, 0] } }] [2, 9, 3]"
+    );
+    Ok(())
+}
+
+#[test]
+fn of_two_attributes_with_one_name_the_first_counts(rt: HostRuntime) -> Result<(), Fail> {
+    let rows: [PageRow; 1] = [(2, 2, 0, LAST, &[THIN, NAME, OTHER_NAME])];
+    let (metas, chains, _, _) = parts_on(rt.alloc(), image(rt.alloc(), (256, 16), &rows)?)?;
+    assert_eq!(rt;
+        blob_line(rt.alloc(), &metas, &chains)?.as_str(),
+        "4294967298 [] [Xattr { key: Blobtext { bytes: [110, 97, 109, 101] }, value: Blobtext { bytes: [97, 0] } }] [2]"
     );
     Ok(())
 }

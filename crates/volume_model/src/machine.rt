@@ -2,6 +2,7 @@
 
 mod attributes;
 mod family;
+mod family_refusals;
 mod looking;
 mod making;
 mod pages;

@@ -16,8 +16,6 @@ use crate::machine::rows::Volume;
 use crate::name::Name;
 use crate::reply::Reply;
 use crate::text::Blobtext;
-use out_of_memory::Memory;
-use std::alloc::Global;
 
 /// The greatest number of slots of one volume.
 const MOST_SLOTS: u64 = 1 << 20;
@@ -38,7 +36,7 @@ fn is_too_long(key: &Blobtext, value: &Blobtext) -> bool
 }
 
 /// Refuses a change of metadata of the super blob or under a key that is reserved, and then one of a read-only volume.
-fn refuse_change(reserved: bool, read_only: bool) -> Result<(), Reply>
+pub(super) fn refuse_change(reserved: bool, read_only: bool) -> Result<(), Reply>
     ensures ok { OnOk result ((reserved ≡ false) × (read_only ≡ false)) }
     ensures err { IfErr result (λ reply. Some reply
         ≡ (if reserved then Some r.Reserved else if read_only then Some r.ReadOnly else None)) }
@@ -54,33 +52,25 @@ fn refuse_change(reserved: bool, read_only: bool) -> Result<(), Reply>
 
 impl Volumes {
     /// Whether a volume has too many slots, by itself or with the others.
-    fn is_too_large(&self, slots: u64, others: u128) -> bool
+    pub(super) fn is_too_large(&self, slots: u64, others: u128) -> bool
         ensures { result ≡ f.is_too_large self.now.fixed (volumes_in self.now) slots others }
     {
         slots > MOST_SLOTS || others > MOST_SLOTS_IN_ALL - u128::from(slots)
     }
 
-    fn is_taken(&self, name: &Name) -> bool
+    pub(super) fn is_taken(&self, name: &Name) -> bool
         ensures { result ≡ f.is_taken self.now.fixed (volumes_in self.now) name.now }
     {
         self.head_named(name.bytes()).is_some()
     }
 
-    fn has_longer_parent(&self, volume: &Volume, slots: u64) -> bool
+    pub(super) fn has_longer_parent(&self, volume: &Volume, slots: u64) -> bool
         ensures { result ≡ f.has_longer_parent self.now.fixed (volumes_in self.now) (volume_in_row volume.now) slots }
     {
         match volume.parent {
             Some(parent) => slots < self.slots_at(parent),
             None => false,
         }
-    }
-
-    fn is_short_between(&self, volume: &Volume, clone: &Volume) -> bool
-        ensures { result ≡ f.is_short_between self.now.fixed (volumes_in self.now) (volume_in_row volume.now)
-            (volume_in_row clone.now) }
-    {
-        let slots = self.slots_of(volume);
-        self.has_longer_parent(volume, slots) && slots < self.slots_of(clone)
     }
 
     pub(super) fn may_create(&self, name: &Name, slots: u64) -> Result<(), Reply>
@@ -183,109 +173,6 @@ impl Volumes {
             Err(Reply::Short)
         } else if self.is_too_large(slots, self.all_slots().saturating_sub(u128::from(old))) {
             Err(Reply::TooLarge)
-        } else {
-            Ok(head)
-        }
-    }
-
-    pub(super) fn may_snapshot(&self, volume: &VolumeRef, name: &Name) -> Result<u32, Reply>
-        ensures { MayBeDone self.now volume.now (c.Snapshot volume.now name.now) result }
-    {
-        let (head, x) = self.find(volume)?;
-        refuse_change(self.is_super(head), x.read_only)?;
-        if self.is_taken(name) {
-            Err(Reply::NameTaken)
-        } else if self.is_too_large(self.slots_of(x), self.all_slots()) {
-            Err(Reply::TooLarge)
-        } else {
-            Ok(head)
-        }
-    }
-
-    pub(super) fn may_clone(&self, volume: &VolumeRef, name: &Name) -> Result<u32, Reply>
-        ensures { MayBeDone self.now volume.now (c.Clone volume.now name.now) result }
-    {
-        let (head, x) = self.find(volume)?;
-        if !x.read_only {
-            Err(Reply::NotReadOnly)
-        } else if self.is_taken(name) {
-            Err(Reply::NameTaken)
-        } else if self.is_too_large(self.slots_of(x), self.all_slots()) {
-            Err(Reply::TooLarge)
-        } else {
-            Ok(head)
-        }
-    }
-
-    fn is_short_under(&self, parent: Option<u32>, clone: &Volume) -> bool
-        ensures { result ≡ option_map_or (λ p. option_map_or
-            (λ s. f.is_short_between self.now.fixed (volumes_in self.now) s (volume_in_row clone.now))
-            (volumes_in self.now p) false) parent false }
-    {
-        match parent {
-            Some(parent) => match self.get(parent) {
-                Some(between) => self.is_short_between(between, clone),
-                None => false,
-            },
-            None => false,
-        }
-    }
-
-    pub(super) fn may_decouple(&self, volume: &VolumeRef) -> Result<u32, Reply>
-        ensures cause { MayBeDone self.now volume.now (c.Decouple volume.now) result }
-        ensures refused { IfErr result IsCauseOfRefusal }
-    {
-        let (head, x) = self.find(volume)?;
-        refuse_change(self.is_super(head), x.read_only)?;
-        if x.parent.is_none() {
-            Err(Reply::NoParent)
-        } else if self.is_short_under(x.parent, x) {
-            Err(Reply::Short)
-        } else {
-            Ok(head)
-        }
-    }
-
-    /// Whether there is one clone alone, and it is locked.
-    fn has_locked_clone(&self, clones: &[u32]) -> bool
-        ensures { result ≡ f.only_clone self.now.fixed (volumes_in self.now) (λ y. y.locked) clones.now }
-    {
-        match clones {
-            [clone] => match self.get(*clone) {
-                Some(clone) => clone.locked,
-                None => false,
-            },
-            _ => false,
-        }
-    }
-
-    /// Whether there is one clone alone, and it would read the parent where the volume reads zeros.
-    fn has_short_clone(&self, volume: &Volume, clones: &[u32]) -> bool
-        ensures { result ≡ f.only_clone self.now.fixed (volumes_in self.now)
-            (f.is_short_between self.now.fixed (volumes_in self.now) (volume_in_row volume.now)) clones.now }
-    {
-        match clones {
-            [clone] => match self.get(*clone) {
-                Some(clone) => self.is_short_between(volume, clone),
-                None => false,
-            },
-            _ => false,
-        }
-    }
-
-    pub(super) fn may_delete(&self, alloc: Global, volume: &VolumeRef) -> Result<u32, Reply>
-        ensures { MayBeDone self.now volume.now (c.Delete volume.now) result }
-    {
-        let (head, x) = self.find(volume)?;
-        let clones = self.clones(alloc, head)?;
-        if self.is_super(head) {
-            Err(Reply::Reserved)
-        } else if x.locked || self.has_locked_clone(clones.as_slice()) {
-            Err(Reply::ReadOnly)
-        } else if clones.len() >= 2 {
-            Err(Reply::Busy(clones.len() as u32))
-        } else if self.has_short_clone(x, clones.as_slice()) {
-            Err(Reply::Short)
         } else {
             Ok(head)
         }
