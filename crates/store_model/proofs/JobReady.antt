@@ -37,8 +37,9 @@ use Rattle.store_model.specs.Jobs.{AreLaid, IsLaid, LacksPages, LacksPagesFor, R
 use Rattle.store_model.specs.Steady.{AreSteady, IsStored}
 use Rattle.store_model.specs.RunInvariant.{RunsWell}
 use Rattle.store_model.proofs.ChangedLive.{deleted_commit, made_commit}
+use Rattle.store_model.proofs.CopyJobs.{clone_family, snapshot_family}
 use Rattle.store_model.proofs.CreateStep.{create_ready, new_zeros}
-use Rattle.store_model.proofs.FamilyJobs.{clone_family, delete_family, erase_family, snapshot_family}
+use Rattle.store_model.proofs.DeleteJobs.{delete_family, erase_family}
 use Rattle.store_model.proofs.FamilyReady.{family_ready}
 use Rattle.store_model.proofs.FamilyStep.{IsFamilyJob}
 use Rattle.store_model.proofs.Known.{Known}

@@ -28,8 +28,9 @@ use Rattle.store_model.specs.Places.{AreLeastClear}
 use Rattle.store_model.specs.Shown.{fixed_of}
 use Rattle.store_model.specs.Steady.{IsSteady}
 use Rattle.store_model.specs.StoreState.{shown}
+use Rattle.store_model.proofs.CopyJobs.{clone_family, snapshot_family}
 use Rattle.store_model.proofs.CreateStep.{create_ready, new_zeros}
-use Rattle.store_model.proofs.FamilyJobs.{clone_family, delete_family, erase_family, snapshot_family}
+use Rattle.store_model.proofs.DeleteJobs.{delete_family, erase_family}
 use Rattle.store_model.proofs.JobReady.{plain_zeroed}
 use Rattle.store_model.proofs.Known.{Known}
 use Rattle.store_model.proofs.LastJobs.{last_family}

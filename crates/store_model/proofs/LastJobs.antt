@@ -28,12 +28,12 @@ use Rattle.store_model.specs.RunInvariant.{RunsWell}
 use Rattle.store_model.specs.Shown.{fixed_of}
 use Rattle.store_model.specs.StoreState.{live_of, shown, StoreState}
 use Rattle.store_model.proofs.ChangedLive.{is_live, lives_mapped, writable_as_shown}
-use Rattle.store_model.proofs.FamilyJobs.{was_stored}
 use Rattle.store_model.proofs.FamilyStep.{at_rest, IsFamilyJob}
 use Rattle.store_model.proofs.Known.{Known}
 use Rattle.store_model.proofs.Meanwhile.{blank_reading, reading}
 use Rattle.store_model.proofs.Moved.{live_shown}
 use Rattle.store_model.proofs.Sets.{not_first}
+use Rattle.store_model.proofs.VolumeShown.{was_stored}
 use Rattle.store_model.proofs.Writable.{AllWritable}
 
 -- what its commit makes
