@@ -1,28 +1,18 @@
 -- The turns of the metadata thread in which an insert is lost, or a job begins.
-use Rattle.std.proofs.Common.{◌≡◌, ℕ, ◌+◌, ◌*◌, ◌<◌, ◌≤◌, Bool, true, List, [], ◌∷◌, ◌++◌, length}
-use Rattle.std.proofs.Common.{Option, Some, None, refl, sym, ap, ◌∙◌, subst, arith}
+use Rattle.std.proofs.Common.{◌≡◌, ℕ, ◌+◌, ◌*◌, ◌≤◌, Bool, true, List, [], ◌∷◌, ◌++◌, length, Option, Some, None, refl}
+use Rattle.std.proofs.Common.{sym, ap, ◌∙◌, subst, arith}
 use Rattle.std.specs.Prelude.{map, if◌then◌else◌}
 use Rattle.std.specs.Option.{option_map}
 use Rattle.std.proofs.lemmas.List.{length-append, length-map}
 use Rattle.super_block.specs.Numbers.{cluster_pages_of, clusters_of}
-use Rattle.volume_model.specs.declared.command.Command.{Command}
-use Rattle.volume_model.specs.declared.command.Command.TheVariants as c
-use Rattle.volume_model.specs.declared.command.VolumeRef.{VolumeRef}
 use Rattle.volume_model.specs.declared.reply.Msg.{Msg}
-use Rattle.blob_meta.specs.declared.job.Job.{Job as Changes}
 use Rattle.blob_meta.specs.declared.job.Replacement.{Replacement}
-use Rattle.inflate_delete.specs.DeletePlans.{IsJobBeside}
-use Rattle.inflate_delete.specs.Fills.{command_of}
-use Rattle.inflate_delete.specs.declared.filling.FillKind.{FillKind}
-use Rattle.inflate_delete.specs.declared.filling.FillKind.TheVariants.{Inflate, Decouple}
-use Rattle.store_model.specs.Asking.{clones, creates, deletes, fills, IsJobFor, IsSyncing, resizes, snapshots, syncs}
 use Rattle.store_model.specs.Cases.Begin.{Begins}
 use Rattle.store_model.specs.Cases.BeginInsert.{BeginsInsert}
 use Rattle.store_model.specs.Cases.LoseInsert.{LosesInsert}
 use Rattle.store_model.specs.Guarding.{freezing}
 use Rattle.store_model.specs.Jobs.{pages_in, with_zeroed, zeroing}
-use Rattle.store_model.specs.Phases.{Committing, has_commit, marking, Phase, phases_of}
-use Rattle.store_model.specs.Phases.{Replacing, todo_of}
+use Rattle.store_model.specs.Phases.{has_commit, marking, Phase, phases_of, Replacing, todo_of}
 use Rattle.store_model.specs.Rows.{Row}
 use Rattle.store_model.specs.StoreState.{ForCommand, ForInsert, JobState, StoreState}
 use Rattle.run_work.specs.Reading.{frozen_set, logged_at, row_at}
@@ -31,13 +21,14 @@ use Rattle.run_work.specs.ChannelMoves.{moved_row}
 use Rattle.run_work.specs.ServingMoves.{BeginInsertMove, BeginJobMove, BeginsFor, for_message, LoseInsertMove}
 use Rattle.run_work.specs.Steps.{begin_step, served_step}
 use Rattle.run_work.specs.Work.{replacements_in}
-use Rattle.run_moves.specs.Projection.{claim_in_run, command_in_run, job_in_run}
-use Rattle.run_moves.specs.Projection.{phase_in_run, phases_in_run, row_in_run, run_state_of, RunMessages, stage_in_run}
+use Rattle.run_moves.specs.Projection.{claim_in_run, command_in_run, job_in_run, phase_in_run, phases_in_run}
+use Rattle.run_moves.specs.Projection.{row_in_run, run_state_of, RunMessages, stage_in_run}
 use Rattle.run_moves.specs.ServingTurns.{BeginningTurns, IsMeasured, ServesRow, with_taken}
 use Rattle.run_moves.specs.Sizes.{most_replacements, replacement_turns, sizes_of}
 use Rattle.run_moves.proofs.DoomedClaims.{doomed_claim}
 use Rattle.store_model.proofs.Marking.{commit_marking}
 use Rattle.run_moves.proofs.JobPhases as phases
+use Rattle.run_moves.proofs.JobsAsked.{AreFew, job_asks, job_few}
 use Rattle.run_moves.proofs.ListCounted as counts
 use Rattle.run_moves.proofs.Moved.{changes_row}
 
@@ -47,62 +38,6 @@ chains_short p measured head places is =
     let few = phases.few_below places p.super.md_len (measured.chains.differ head places is)
     (λ x among. measured.chains.low head x places is among) in
     omega (arith, few)
-
--- ---- the command of a job
-
-module _ (p : StoreState) where
-  syncing_asks : (command : Command) → IsSyncing command → command_in_run p.super command ≡ MetadataCommand
-  syncing_asks (c.Put volume key value) is = refl
-  syncing_asks (c.Sync volume) is = refl
-  syncing_asks (c.ReadOnly volume) is = refl
-  syncing_asks (c.Rename volume name) is = refl
-  syncing_asks _ is = absurd is
-
-  fill_asks : (kind : FillKind) (volume : VolumeRef) → command_in_run p.super (command_of kind volume) ≡ MetadataCommand
-  fill_asks Inflate volume = refl
-  fill_asks Decouple volume = refl
-
-  -- a job's command is one for the metadata thread
-  pub job_asks : (command : Command) (changes : Changes) (commit : Committing) → IsJobFor p command changes commit
-      → command_in_run p.super command ≡ MetadataCommand
-  job_asks command changes commit (syncs x) = syncing_asks command x.asks.syncing
-  job_asks command changes commit (creates x) = ap (command_in_run p.super) x.command_is
-  job_asks command changes commit (resizes x) = ap (command_in_run p.super) x.command_is
-  job_asks command changes commit (clones x) = ap (command_in_run p.super) x.command_is
-  job_asks command changes commit (snapshots x) = ap (command_in_run p.super) x.command_is
-  job_asks command changes commit (deletes x) = ap (command_in_run p.super) x.command_is
-  job_asks command changes commit (fills x) = ap (command_in_run p.super) x.command_is ∙ fill_asks x.kind x.volume
-
-  -- it has few replacements, of which one is its commit
-  pub record AreFew (changes : Changes) : Type 0 where
-    pub some : 0 < changes.commit
-    pub within : changes.commit ≤ length changes.list
-    pub few : length changes.list ≤ most_replacements
-
-  few_as : (changes other : Changes) → changes ≡ other → AreFew other → AreFew changes
-  few_as changes other is few = subst AreFew (sym is) few
-
-  pub job_few : (command : Command) (changes : Changes) (commit : Committing) → IsJobFor p command changes commit
-      → AreFew changes
-  job_few command changes commit (syncs x) = few_as changes _ x.is
-      (record { some = omega arith; within = omega arith; few = omega arith })
-  job_few command changes commit (creates x) = few_as changes _ x.is
-      (record { some = omega arith; within = omega arith; few = omega arith })
-  job_few command changes commit (resizes x) = few_as changes _ x.is
-      (record { some = omega arith; within = omega arith; few = omega arith })
-  job_few command changes commit (clones x) = few_as changes _ x.is
-      (record { some = omega arith; within = omega arith; few = omega arith })
-  job_few command changes commit (snapshots x) = few_as changes _ x.is
-      (record { some = omega arith; within = omega arith; few = omega arith })
-  job_few command changes commit (deletes x) = by x.clones x.is
-    where
-      by : (clones_of : List ℕ) → IsJobBeside p.base x.of x.old clones_of changes → AreFew changes
-      by [] is = few_as changes _ is (record { some = omega arith; within = omega arith; few = omega arith })
-      by (clone ∷ []) is =
-          few_as changes _ is.2 (record { some = omega arith; within = omega arith; few = omega arith })
-      by (clone ∷ other ∷ rest) is = absurd is
-  job_few command changes commit (fills x) = few_as changes _ x.is
-      (record { some = omega arith; within = omega arith; few = omega arith })
 
 frozen_same : (frozen : ℕ → Bool) (o : Option ℕ) → freezing frozen o ≡ frozen_set frozen o true
 frozen_same frozen None = refl

@@ -36,7 +36,8 @@ use Rattle.run_moves.specs.Sizes.{sizes_of}
 use Rattle.run_moves.proofs.ChannelSteps.{channel_moves}
 use Rattle.run_moves.proofs.FillHeld.{holds_at_turn, none_worked}
 use Rattle.run_moves.proofs.FillKept.{failed_for}
-use Rattle.run_moves.proofs.FillMoves.{closing_moves, ending_moves, failing_moves, going_moves}
+use Rattle.run_moves.proofs.FillEnds.{ending_moves, failing_moves}
+use Rattle.run_moves.proofs.FillMoves.{closing_moves, going_moves}
 use Rattle.run_moves.proofs.MetadataSteps.{job_moves, measured as is_measured, MovesIn, serving_moves}
 
 -- ---- the start

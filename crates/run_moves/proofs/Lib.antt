@@ -7,6 +7,7 @@ pub mod JobPhases
 pub mod ListCounted
 pub mod Answering
 pub mod DoomedClaims
+pub mod JobsAsked
 pub mod Beginning
 pub mod JobTurning
 pub mod BlobReplaced
@@ -20,6 +21,7 @@ pub mod CanMove
 pub mod ChannelSteps
 pub mod MetadataSteps
 pub mod FillMoves
+pub mod FillEnds
 pub mod FillKept
 pub mod FillHeld
 pub mod DriverMoves
