@@ -12,6 +12,7 @@ pub mod Rowing
 pub mod Entered
 pub mod GivenBack
 pub mod WorkLogged
+pub mod WorkHalted
 pub mod FillEntered
 pub mod ClaimsCleared
 pub mod Cleared

@@ -10,7 +10,7 @@ ghost use Rattle.running_store.specs.Stages.{stage_seen};
 ghost use Rattle.running_store.specs.Steps.{decided, gone_on, Asks, left_at, logged_at, logged_on, logged_then};
 ghost use Rattle.running_store.specs.Steps.{OnlyRow};
 
-use crate::rows::Taken;
+use crate::reserved::Taken;
 use crate::running::Running;
 use crate::stages::{Decision, Stage};
 use page_disk::{Page, PageDisk};

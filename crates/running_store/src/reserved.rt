@@ -10,6 +10,13 @@ use std::alloc::Global;
 use std::boxed::Box;
 use volume_model::Command;
 
+/// A command that was taken out of its row, with a page for its answer where it reads one.
+#[derive(Drop)]
+pub(crate) struct Taken {
+    pub(crate) command: Command,
+    pub(crate) page: Option<Box<Page>>,
+}
+
 /// Whether a command reads a page.
 pub(crate) fn is_read(command: &Command) -> bool
     ensures { result ≡ reserved.is_read command.now }

@@ -4,7 +4,7 @@ ghost use Rattle.std.specs.Prelude.{None, ◌≡◌, ◌<◌, ◌∷◌, List, l
 ghost use Rattle.volume_model.specs.declared.command.Command.{Command as ACommand};
 ghost use Rattle.running_store.specs.StoreView.{rows_of};
 
-use crate::reserved::{is_read, pages_for};
+use crate::reserved::{Taken, is_read, pages_for};
 use crate::stages::{Decision, OpenClaim, Stage};
 use out_of_memory::Memory;
 use page_disk::Page;
@@ -70,13 +70,6 @@ pub struct Row {
     reserved: Vec<Box<Page>>,
 }
 
-/// A command that was taken out of its row, with a page for its answer where it reads one.
-#[derive(Drop)]
-pub(crate) struct Taken {
-    pub(crate) command: Command,
-    pub(crate) page: Option<Box<Page>>,
-}
-
 impl Model for Row {
     ghost use Rattle.std.specs.Option.{option_map};
     ghost use Rattle.store_model.specs.Rows.{Row};
@@ -107,17 +100,19 @@ impl Row {
       option_copied,
       slice_get,
       true,
+      None,
+      Some,
       IfOk,
       IfSome,
       IfNone,
       IsSome,
     };
     ghost use Rattle.running_store.specs.Reserved.{is_read};
-    ghost use Rattle.std.specs.Prelude.{None, Some};
     ghost use Rattle.std.specs.Option.{option_map};
     ghost use Rattle.store_model.specs.Rows.{Copying, Idle, Posted, InJob, Ended};
     ghost use Rattle.running_store.specs.Requests.{posted_in};
-    ghost use Rattle.running_store.specs.Stages.{claim_seen, is_stage, stage_seen};
+    ghost use Rattle.running_store.specs.Stages.{claim_seen, decided_in, decision_seen, is_stage, stage_seen};
+    ghost use Rattle.running_store.specs.Stages.{to_copy_in};
 
     /// The row of a channel with these commands, of which none is posted.
     pub fn new(alloc: Global, commands: Vec<Command>) -> Result<Row, Memory>
@@ -264,13 +259,6 @@ impl Row {
         self.stage = next;
         self.claim.take()
     }
-}
-
-impl Row {
-    ghost use Rattle.std.specs.Prelude.{◌≡◌};
-    ghost use Rattle.std.specs.Option.{option_map};
-    ghost use Rattle.running_store.specs.Stages.{decided_in, to_copy_in};
-    ghost use Rattle.running_store.specs.Stages.{decision_seen};
 
     /// What is decided of the row, if something is.
     pub fn decision(&self) -> Option<Decision>

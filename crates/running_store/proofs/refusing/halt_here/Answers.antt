@@ -1,5 +1,5 @@
 use Rattle.running_store.specs.Running.{view_of}
-use Rattle.running_store.proofs.WorkLogged.{halted_here}
+use Rattle.running_store.proofs.WorkHalted.{halted_here}
 use Rattle.running_store.proofs.refusing.halt_here.Goals as goal
 
 pub returns-clause-case : goal.returns-clause-case

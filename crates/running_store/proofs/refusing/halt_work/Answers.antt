@@ -1,6 +1,7 @@
 use Rattle.running_store.specs.Running.{view_of}
 use Rattle.running_store.specs.Stages.{stage_seen}
-use Rattle.running_store.proofs.WorkLogged.{halted_work, has_work}
+use Rattle.running_store.proofs.WorkHalted.{halted_work}
+use Rattle.running_store.proofs.WorkLogged.{has_work}
 use Rattle.running_store.proofs.refusing.halt_work.Goals as goal
 
 pub give_up-requires-clause-works : goal.give_up-requires-clause-works
