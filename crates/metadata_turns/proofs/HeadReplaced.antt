@@ -23,7 +23,7 @@ use Rattle.running_store.specs.StoreView.{base_of, StoreView, state_of}
 use Rattle.running_store.specs.declared.replacements.Planned.{Planned}
 use Rattle.running_store.specs.declared.job.Serves.{Serves}
 use Rattle.running_store.specs.declared.replacements.Change.TheVariants as change
-use Rattle.metadata_turns.proofs.HeadMade.{IsAtHead, TouchesHead}
+use Rattle.metadata_turns.proofs.AtHead.{IsAtHead, TouchesHead}
 use Rattle.std.proofs.Math.Seq.{drop-length}
 use Rattle.metadata_turns.proofs.AtWork.{can, has_meta, head_low, head_page, well}
 use Rattle.running_store.proofs.Cleared.{among_get}

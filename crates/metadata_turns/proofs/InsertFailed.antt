@@ -75,7 +75,8 @@ module _ {D : Type 0} (d : Ghosts D) (p : StoreView D) (j : JobState) (w : IsAtW
       pub insert_disk : q.disk ≡ disk
       insert_disk = work_disk d stopped seventeen fill q row (Decided Answered) r.Fault insert_low works given
 
-      abbrev pub fails_insert : (phase : Phase) (others : List Phase) → j.todo ≡ phase ∷ others → TriedInsert s.super j phase
+      abbrev pub fails_insert : (phase : Phase) (others : List Phase) → j.todo ≡ phase ∷ others
+          → TriedInsert s.super j phase
           → FailsToReplace (device_of d p.disk) (device_of d disk) → InsertFails s (state_of d q)
       fails_insert phase others next tried fails = record {
         phase = phase;

@@ -1,4 +1,4 @@
--- A job of which a write or a flush failed: the store stops, and what waits for it is logged.
+-- A job of which the write of a page, or of the super block, failed: the store stops, and what waits for it is logged.
 use Rattle.std.proofs.Common.{◌≡◌, ◌≢◌, ℕ, ◌+◌, ◌<◌, Bool, true, false, List, ◌∷◌, length, Option, Some, None, refl}
 use Rattle.std.proofs.Common.{sym, ◌∙◌, ap, subst}
 use Rattle.page_disk.specs.Disk.{Written}
@@ -7,7 +7,6 @@ use Rattle.page_disk.specs.declared.disk.PageDisk.{Ghosts}
 use Rattle.page_disk.specs.declared.disk.WriteKind.TheVariants.{Plain}
 use Rattle.volume_model.specs.declared.command.Command.{Command}
 use Rattle.volume_model.specs.declared.reply.Reply.TheVariants as r
-use Rattle.blob_meta.specs.declared.meta.Meta.{Meta}
 use Rattle.md_chain.specs.declared.plan.PlannedPage.{PlannedPage}
 use Rattle.store_model.specs.Cases.{FailsToReplace, put_by}
 use Rattle.store_model.specs.Cases as kind
@@ -16,9 +15,9 @@ use Rattle.store_model.specs.Cases.BreakOff as alone
 use Rattle.store_model.specs.Cases.Fail as fail
 use Rattle.store_model.specs.Cases.InsertFail as insert
 use Rattle.store_model.specs.Jobs.{IsServed, JobStands}
-use Rattle.store_model.specs.Phases.{has_commit, Marks, page_in, Committing, Phase, Replaces, Replacing}
+use Rattle.store_model.specs.Phases.{has_commit, Marks, Phase, Replaces, Replacing}
 use Rattle.store_model.specs.Recovers.{SaysInUse}
-use Rattle.store_model.specs.Rows.{InJob, Row}
+use Rattle.store_model.specs.Rows.{InJob, Row, Answered, Decided, fill_row}
 use Rattle.store_model.specs.StoreState.{ForCommand, ForInsert, ForRepair, JobState, logged, Service, StoreState}
 use Rattle.store_model.specs.StoreState.{waiting}
 use Rattle.store_model.specs.Touches.{puts, replaces, Touched}
@@ -26,16 +25,13 @@ use Rattle.store_model.proofs.Shaped.{waits_for_commit, waits_no_more}
 use Rattle.running_store.specs.Jobs.{waits_for_job}
 use Rattle.running_store.specs.Steps.{logged_at}
 use Rattle.running_store.specs.StoreView.{StoreView, device_of, rows_of, state_of}
-use Rattle.running_store.proofs.Rowing.{state_logged}
+use Rattle.running_store.proofs.Rowing.{state_logged, low_left}
 use Rattle.metadata_turns.specs.JobTurns.{stopped_at, with_job, IsAtWork, TurnsJob}
 use Rattle.metadata_turns.specs.Telling.{HasFailed, HasWaitingRow}
-use Rattle.metadata_turns.proofs.InsertFailed.{fails_insert, insert_disk, stopped_state}
-use Rattle.metadata_turns.proofs.InsertFailed.{waits as waits_to_insert}
+use Rattle.metadata_turns.proofs.InsertFailed.{fails_insert, insert_disk, stopped_state, waits as waits_to_insert}
 use Rattle.metadata_turns.proofs.JobTurned.{entered, has_command}
-use Rattle.running_store.proofs.Rowing.{low_left}
 use Rattle.running_store.proofs.WorkLogged.{given_up_plainly, has_work}
 use Rattle.running_store.specs.GivingBack.{own}
-use Rattle.store_model.specs.Rows.{Answered, Decided, fill_row}
 
 module _ {D : Type 0} (d : Ghosts D) (p : StoreView D) (j : JobState) (w : IsAtWork d p j) where
   abbrev s : StoreState
@@ -143,7 +139,7 @@ module _ {D : Type 0} (d : Ghosts D) (p : StoreView D) (j : JobState) (w : IsAtW
   module _ (seventeen : length p.rows ≡ 17) (disk : D)
       (fails : FailsToReplace (device_of d p.disk) (device_of d disk)) (q : StoreView D)
       (failed : HasFailed j.freeze (waits_for_job j) (record p { disk = disk }) q (d.clock q.disk)) where
-    by_waiting : (o : Option ℕ) → waits_for_job j ≡ o
+    pub by_waiting : (o : Option ℕ) → waits_for_job j ≡ o
         → HasFailed j.freeze o (record p { disk = disk }) q (d.clock q.disk)
     by_waiting o is =
         subst (λ (x : Option ℕ). HasFailed j.freeze x (record p { disk = disk }) q (d.clock q.disk)) is failed
@@ -257,94 +253,3 @@ module _ {D : Type 0} (d : Ghosts D) (p : StoreView D) (j : JobState) (w : IsAtW
                 );
               }
           by ForRepair serves b commit = mark_alone (ap (λ (x : Service). waiting x j.todo) serves)
-
-    -- ---- a head that was being replaced
-
-    module _ (replacing : Replacing) (commit : Option Committing) (others : List Phase)
-        (todo : j.todo ≡ Replaces replacing commit ∷ others)
-        (touches : CallsLeaveOnly d p.disk disk (IsReplaced (d.images p.disk) (d.now p.disk)
-        (p.super.md_start + replacing.head) (page_in replacing.planned replacing.head))) where
-      todo_as : (o : Option Committing) → commit ≡ o → j.todo ≡ Replaces replacing o ∷ others
-      todo_as o is = todo ∙ ap (λ (x : Option Committing). Replaces replacing x ∷ others) is
-
-      no_row : commit ≡ None → waits_for_job j ≡ None → TurnsJob d (with_job p j) q
-      no_row no_commit none = subst (TurnsJob d (with_job p j)) (sym (by_waiting None none)) (record {
-        kind = kind.more_breaks_off;
-        of_job = tt;
-        made = (
-          record {
-            replacing = replacing;
-            running = record {
-              job = j;
-              is = refl;
-              rest = others;
-              next = todo_as None no_commit;
-              runs = w.not_stopped;
-            };
-            waits = none;
-            device = device_of d disk;
-            fails = fails;
-            next = stopped;
-          },
-          record { moments = touches; durable = λ never. absurd (cc never) },
-        );
-      })
-
-      committing : (channel : ℕ) → j.serves ≡ ForCommand channel → (c : Committing) → commit ≡ Some c
-          → TurnsJob d (with_job p j) q
-      committing channel serves c is =
-          let waits : has_commit j.todo ≡ true = ap has_commit (todo_as (Some c) is) in
-          subst (TurnsJob d (with_job p j)) (sym (entry channel serves waits disk q
-          (by_waiting (Some channel) (waits_for_commit j channel serves waits)))) (record {
-            kind = kind.fails;
-            of_job = tt;
-            made = (
-              fails_case channel serves waits disk (Replaces replacing (Some c)) others (todo_as (Some c) is)
-                  (fail.head replacing c refl) fails,
-              record { moments = touches; durable = λ never. absurd (cc never) },
-            );
-          })
-
-      before_commit : (channel : ℕ) → j.serves ≡ ForCommand channel → commit ≡ None → (b : Bool)
-          → has_commit j.todo ≡ b → TurnsJob d (with_job p j) q
-      before_commit channel serves no_commit true waits = subst (TurnsJob d (with_job p j))
-          (sym (entry channel serves waits disk q
-          (by_waiting (Some channel) (waits_for_commit j channel serves waits)))) (record {
-            kind = kind.more_fails;
-            of_job = tt;
-            made = (
-              fails_more channel serves waits disk replacing others (todo_as None no_commit) fails,
-              record { moments = touches; durable = λ never. absurd (cc never) },
-            );
-          })
-      before_commit channel serves no_commit false waits = no_row no_commit (waits_no_more j channel serves waits)
-
-      -- of a command's job
-      pub failed_for_command : (channel : ℕ) → j.serves ≡ ForCommand channel → TurnsJob d (with_job p j) q
-      failed_for_command channel serves = by commit refl
-        where
-          by : (o : Option Committing) → commit ≡ o → TurnsJob d (with_job p j) q
-          by (Some c) is = committing channel serves c is
-          by None is = before_commit channel serves is (has_commit j.todo) refl
-
-      -- of an insert's
-      pub failed_for_insert : (row : ℕ) → j.serves ≡ ForInsert row → commit ≡ None → (new : Meta)
-          → replacing.new ≡ Some new → TurnsJob d (with_job p j) q
-      failed_for_insert at serves no_commit new new_is =
-          let given = by_waiting (Some at) (ap (λ (x : Service). waiting x j.todo) serves) in
-          record {
-            kind = kind.insert_fails;
-            of_job = tt;
-            made = (
-              fails_insert d p j w at serves seventeen disk q given (Replaces replacing None) others
-                  (todo_as None no_commit) (insert.head replacing new refl new_is) fails,
-              subst (λ (x : D). Touched d p.disk x (replaces (p.super.md_start + replacing.head)
-                  (page_in replacing.planned replacing.head) false))
-                  (sym (insert_disk d p j w at serves seventeen disk q given))
-                  (record { moments = touches; durable = λ never. absurd (cc never) }),
-            );
-          }
-
-      -- of a repair's
-      pub failed_for_repair : j.serves ≡ ForRepair → commit ≡ None → TurnsJob d (with_job p j) q
-      failed_for_repair serves no_commit = no_row no_commit (ap (λ (x : Service). waiting x j.todo) serves)

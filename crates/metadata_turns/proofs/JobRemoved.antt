@@ -22,7 +22,7 @@ use Rattle.running_store.specs.declared.job.Serves.TheVariants as whom
 use Rattle.running_store.specs.declared.replacements.Change.TheVariants as change
 use Rattle.running_store.specs.declared.replacements.Erasure.{Erasure}
 use Rattle.metadata_turns.proofs.AtWork.{well}
-use Rattle.metadata_turns.proofs.HeadMade.{IsAtHead, TouchesHead}
+use Rattle.metadata_turns.proofs.AtHead.{IsAtHead, TouchesHead}
 use Rattle.running_store.proofs.Cleared.{among_get}
 
 -- ---- whom it serves

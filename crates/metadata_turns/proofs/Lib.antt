@@ -5,10 +5,14 @@ pub mod AtWork
 pub mod InsertFailed
 pub mod JobTurned
 pub mod JobFailed
+pub mod AtHead
+pub mod HeadFailed
 pub mod Marked
 pub mod JobErased
 pub mod HeadReplaced
 pub mod Behind
+pub mod HeadForCommand
+pub mod HeadForInsert
 pub mod HeadMade
 pub mod JobRemoved
 pub mod BrokenDown

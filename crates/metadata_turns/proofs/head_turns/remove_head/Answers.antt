@@ -18,7 +18,9 @@ use Rattle.running_store.proofs.PlainFacts.{on_err, on_ok, zeros}
 use Rattle.running_store.proofs.Without.{heads_gone}
 use Rattle.metadata_turns.specs.Telling.{gone_on, HasFailed, HasRow, HasWaitingRow}
 use Rattle.metadata_turns.proofs.Behind.{left_seen}
-use Rattle.metadata_turns.proofs.HeadMade.{head_failed, head_made, told_row}
+use Rattle.metadata_turns.proofs.AtHead.{told_row}
+use Rattle.metadata_turns.proofs.HeadFailed.{head_failed}
+use Rattle.metadata_turns.proofs.HeadMade.{head_made}
 use Rattle.metadata_turns.proofs.HeadReplaced.{comes_alone, kept_left}
 use Rattle.metadata_turns.proofs.JobFailed.{waiting_row}
 use Rattle.metadata_turns.proofs.JobRemoved.{at_head, freed_in_use, head_below, once, page_used, touched, unfrozen}

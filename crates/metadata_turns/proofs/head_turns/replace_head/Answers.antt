@@ -22,7 +22,9 @@ use Rattle.running_store.proofs.PlainFacts.{got, on_err, on_ok}
 use Rattle.metadata_turns.specs.JobTurns.{IsAtWork}
 use Rattle.metadata_turns.specs.Telling.{gone_on, HasFailed, HasRow, HasWaitingRow}
 use Rattle.metadata_turns.proofs.Behind.{left_seen}
-use Rattle.metadata_turns.proofs.HeadMade.{head_failed, head_made, told_row, TouchesHead}
+use Rattle.metadata_turns.proofs.AtHead.{told_row, TouchesHead}
+use Rattle.metadata_turns.proofs.HeadFailed.{head_failed}
+use Rattle.metadata_turns.proofs.HeadMade.{head_made}
 use Rattle.metadata_turns.proofs.HeadReplaced.{at_head, base_there, comes_alone, freed_in_use, head_below, kept_left}
 use Rattle.metadata_turns.proofs.HeadReplaced.{matched, now, planned_is, touched}
 use Rattle.metadata_turns.proofs.JobFailed.{waiting_row}
