@@ -34,6 +34,8 @@ pub mod PlacesInParts
 pub mod SnapshotLaid
 pub mod SnapshotAsked
 pub mod SnapshotLacks
+pub mod SnapshotKnown
+pub mod SnapshotListed
 pub mod SnapshotBegins
 pub mod ListParts
 pub mod DeletionAsked

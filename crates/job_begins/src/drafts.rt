@@ -5,7 +5,8 @@ ghost use Rattle.md_chain.specs.Packing.{parts_of, FitsPage};
 ghost use Rattle.job_begins.specs.Begins.{needed, no_effects};
 ghost use Rattle.job_begins.specs.Drafts.{IsDraft, IsDraftOf, IsPlannedOn, IsReplacedOn};
 
-use crate::preparing::{Laid, items_of, lay, nothing_besides, pages_needed, places_from};
+use crate::preparing::{Laid, items_of, lay, pages_needed, places_from};
+use crate::single_jobs::nothing_besides;
 use blob_meta::Meta;
 use descriptors::ItemList;
 use out_of_memory::Memory;

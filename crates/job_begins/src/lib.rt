@@ -12,6 +12,7 @@ mod filling;
 mod inserting;
 mod preparing;
 mod repairing;
+mod single_jobs;
 mod snapshot_parts;
 mod snapshotting;
 mod taking;

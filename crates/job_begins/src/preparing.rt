@@ -8,18 +8,15 @@ ghost use Rattle.pools.specs.Pool.{clear_in};
 ghost use Rattle.blob_meta.specs.Items.{IsItemsOf};
 ghost use Rattle.md_chain.specs.Packing.{parts_of, ArePlannable, AreFew, FitsPage};
 ghost use Rattle.job_begins.specs.Begins.{behind_in, HasChain, IsFreshHead, IsLaid, IsPrepared, IsTaken};
-ghost use Rattle.job_begins.specs.Begins.{needed, no_effects, IsUnprepared};
+ghost use Rattle.job_begins.specs.Begins.{needed, IsUnprepared};
 
 use blob_meta::{Chains, Meta, to_items};
 use descriptors::ItemList;
 use md_chain::{Plan, chain_len, plan_chain};
 use out_of_memory::Memory;
 use pools::PagePool;
-use running_store::{
-    Effects, Planned, Rooms, RunningJob, Serves, Work, Zeroed, clear_places, take_places,
-};
+use running_store::{clear_places, take_places};
 use std::alloc::Global;
-use std::collections::VecDeque;
 use volume_model::{PlaceList, Reply};
 
 /// Metadata with as many attributes and slots together isn't written: what counts the pages of a chain takes fewer.
@@ -38,120 +35,6 @@ pub(crate) struct Prepared {
     pub(crate) laid: Laid,
     /// The places that stand behind the head.
     pub(crate) old: PlaceList,
-}
-
-impl Prepared {
-    ghost use Rattle.std.specs.Prelude.{◌≡◌, ◌<◌, ◌∷◌, [], drop, false, IsSome, None};
-    ghost use Rattle.store_model.specs.Places.{AreDistinct};
-    ghost use Rattle.running_store.specs.Jobs.{begun_job, job_seen, to_come, writes_laid, writing_for, IsHeaded};
-    ghost use Rattle.running_store.specs.declared.job.Serves.TheVariants.{Command};
-    ghost use Rattle.job_begins.specs.Begins.{no_effects, planned_with};
-
-    /// The job that writes the metadata as its commit, at its begin: clusters of so many pages each that it has claimed
-    /// are to be overwritten with zeros first.
-    pub(crate) fn job(
-        self,
-        alloc: Global,
-        channel: u8,
-        head: u32,
-        new: Meta,
-        effects: Effects,
-        cluster_pages: u32,
-    ) -> RunningJob
-        requires headed { self.laid.chain ≡ head ∷ drop 1 self.laid.chain }
-        requires once { AreDistinct effects.freed }
-        requires commits { IsSome effects.commit }
-        requires some_pages { 0 < cluster_pages }
-        ensures seen { job_seen result
-            ≡ begun_job (Command channel None) (planned_with self head new effects) self.old cluster_pages [] }
-        ensures unmarked { result.marks ≡ false }
-        ensures headed { IsHeaded result }
-        ensures coming { to_come result ≡ writes_laid (planned_with self head new effects) self.old ∷ [] }
-    {
-        let Prepared { laid, old } = self;
-        let Laid { chain, pages } = laid;
-        let serves = Serves::Command {
-            channel,
-            freeze: None,
-        };
-        let later = VecDeque::new(alloc);
-        let claimed = effects.claimed.len();
-        let planned = Planned {
-            head,
-            new,
-            effects,
-            chain,
-            pages,
-        };
-        let work = if claimed > 0 {
-            let zeroed = Zeroed {
-                cluster_pages,
-                clusters: 0,
-                pages: 0,
-            };
-            Work::Zeroing { planned, zeroed }
-        } else {
-            Work::Writing {
-                planned,
-                written: 0,
-            }
-        };
-        RunningJob {
-            serves,
-            marks: false,
-            work,
-            old,
-            later,
-        }
-    }
-
-    /// The job that writes the metadata of a blob that is there, at its begin, and commits nothing and does nothing
-    /// besides.
-    pub(crate) fn alone(self, alloc: Global, serves: Serves, head: u32, new: Meta) -> RunningJob
-        requires headed { self.laid.chain ≡ head ∷ drop 1 self.laid.chain }
-        ensures seen { job_seen result
-            ≡ writing_for serves (planned_with self head new no_effects) self.old 0 [] }
-        ensures unmarked { result.marks ≡ false }
-        ensures headed { IsHeaded result }
-        ensures coming { to_come result
-            ≡ writes_laid (planned_with self head new no_effects) self.old ∷ [] }
-    {
-        let Prepared { laid, old } = self;
-        let Laid { chain, pages } = laid;
-        let effects = nothing_besides(alloc);
-        let planned = Planned {
-            head,
-            new,
-            effects,
-            chain,
-            pages,
-        };
-        RunningJob {
-            serves,
-            marks: false,
-            work: Work::Writing {
-                planned,
-                written: 0,
-            },
-            old,
-            later: VecDeque::new(alloc),
-        }
-    }
-}
-
-/// Nothing is done besides.
-pub(crate) fn nothing_besides(alloc: Global) -> Effects
-    ensures { result ≡ no_effects }
-{
-    Effects {
-        commit: None,
-        freed: PlaceList::new(alloc),
-        claimed: PlaceList::new(alloc),
-        rooms: Rooms {
-            chain: None,
-            meta: None,
-        },
-    }
 }
 
 /// These places, as a list.

@@ -17,8 +17,8 @@ use Rattle.running_store.specs.StoreView.{rows_of, state_of}
 use Rattle.running_store.specs.declared.job.RunningJob.{RunningJob}
 use Rattle.job_begins.specs.Begins.{IsFreshHead}
 use Rattle.job_begins.proofs.JobPlanned.{all_fit}
-use Rattle.job_begins.proofs.SnapshotBegins.{known, next_head, numbered, snapshot_begins_so, snapshot_headed}
-use Rattle.job_begins.proofs.SnapshotBegins.{snapshot_kept_so}
+use Rattle.job_begins.proofs.SnapshotBegins.{snapshot_begins_so, snapshot_headed, snapshot_kept_so}
+use Rattle.job_begins.proofs.SnapshotKnown.{known, next_head, numbered}
 use Rattle.job_begins.proofs.SnapshotLacks.{snapshot_memory, snapshot_short}
 use Rattle.job_begins.proofs.snapshotting.snapshot_job.Goals as goal
 
