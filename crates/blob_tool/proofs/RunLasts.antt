@@ -27,6 +27,7 @@ use Rattle.blob_tool.specs.Closing.{IsCleanWith, IsClosed}
 use Rattle.blob_tool.specs.Found.{HasSoundImage, ReadsAs}
 use Rattle.blob_tool.specs.Surviving.{IsLasting, IsLeftClean}
 use Rattle.blob_tool.proofs.ClosedStore.{some_fixed_page}
+use Rattle.blob_tool.proofs.ClosedSurvives as closes
 use Rattle.blob_tool.proofs.RunSurvives as run
 use Rattle.blob_tool.proofs.RunSurvives.{LoadLaws}
 
@@ -56,7 +57,7 @@ module _ {D : Type 0} (d : Ghosts D) (laws : LoadLaws) (law : IsTrue d.tells →
 
   came : run.ComesFrom d laws law b kept quick read sound image
   came = run.was_one d laws law b kept quick read sound back _ (closed.closing told)
-      (run.from_closing d laws law b kept quick read sound runs masks claims) image ((closed.lasting told image).1 refl)
+      (closes.from_closing d laws law b kept quick read sound runs masks claims) image ((closed.lasting told image).1 refl)
 
   store : HasStore s image
   store = came.same.store ((run.survived d laws law b kept quick read sound).stands runs came.image came.was).store
@@ -67,18 +68,18 @@ module _ {D : Type 0} (d : Ghosts D) (laws : LoadLaws) (law : IsTrue d.tells →
 
   -- ---- the masks were written
 
-  super_here : run.super_at d laws law b kept quick read sound runs masks claims image
+  super_here : closes.super_at d laws law b kept quick read sound runs masks claims image
       ≡ super_of (image 0) s.device_pages
   super_here = store.same
 
   written : IsCleanWith (super_left b.at.clean s) masks image → IsLeftClean d s first b.at back
   written is =
-      let x = run.unloaded_at d laws law b kept quick read sound runs masks claims came.image image came.was came.same
+      let x = closes.unloaded_at d laws law b kept quick read sound runs masks claims came.image image came.was came.same
       is in
       record {
         masks = masks;
         quick = subst (λ (t : Super). IsQuick t masks image) super_here x.1;
-        claims = run.claims_here d laws law b kept quick read sound runs masks claims;
+        claims = closes.claims_here d laws law b kept quick read sound runs masks claims;
         no_head = subst (λ (t : Super). HasNoHeadBesideMask t image) super_here x.2;
       }
 

@@ -15,7 +15,8 @@ use Rattle.blob_tool.proofs.Closed.{closes_at_most}
 use Rattle.blob_tool.proofs.Ending.{ends}
 use Rattle.blob_tool.proofs.ClosedStore.{masks_fit}
 use Rattle.blob_tool.proofs.RunLasts.{lasting}
-use Rattle.blob_tool.proofs.RunSurvives.{at_opening, load_laws, survives_to_its_end}
+use Rattle.blob_tool.proofs.ClosedSurvives.{at_opening, survives_to_its_end}
+use Rattle.blob_tool.proofs.RunSurvives.{load_laws}
 use Rattle.blob_tool.proofs.WholeRun.{follows_here, is_run}
 use Rattle.running_store.specs.StoreView.{base_of, StoreView}
 use Rattle.store_core.specs.Opening.{AreRows}
