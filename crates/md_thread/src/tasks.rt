@@ -7,7 +7,6 @@ ghost use Rattle.store_model.specs.Repairing.{IsRepaired};
 ghost use Rattle.store_model.specs.Rows.{IsForMetadata, Posted};
 ghost use Rattle.lvol_store.specs.FillPlans.{IsFill};
 ghost use Rattle.md_thread.specs.Tasks.{IsFillPlanOf, IsPlanOf, IsTaskOf};
-ghost use Rattle.running_store.specs.Requests.{IsPostedBy};
 ghost use Rattle.running_store.specs.StoreView.{base_of, rows_of, state_of};
 
 use blob_meta::{Job, least_heads_are_meant};
