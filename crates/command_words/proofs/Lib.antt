@@ -1,4 +1,6 @@
 mod FullRows
+mod FullWords
+mod FullLevels
 mod Parsed
 mod Stops
 mod TakenWords

@@ -22,7 +22,9 @@ use Rattle.command_words.specs.CommandLine.{run_line}
 use Rattle.command_words.specs.Words.{as_read, asked_by, asked_in, refusal_of, unless_refused}
 use Rattle.command_words.specs.Words.{exercise, format, generate, list, options_by, run, Asked}
 use Rattle.command_words.specs.declared.reading.CommandWords.{CommandWords}
-use Rattle.command_words.proofs.FullRows.{AllReady, both_none, full-level, given-first}
+use Rattle.command_words.proofs.FullLevels.{full-level}
+use Rattle.command_words.proofs.FullRows.{both_none, given-first}
+use Rattle.command_words.proofs.FullWords.{AllReady}
 use Rattle.command_words.proofs.Stops.{StopsAtNoHelp, stops_at_no_help}
 
 is_some-map : {X Y : Type 0} (f : X → Y) (o : Option X) → is_some (option_map f o) ≡ is_some o
