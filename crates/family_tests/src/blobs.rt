@@ -38,6 +38,25 @@ pub(crate) const CHILD: Blob = Blob {
     ..PLAIN
 };
 
+/// A read-only blob `g` at head 1 of six slots.
+pub(crate) const GRANDPARENT: Blob = Blob {
+    head: 1,
+    name: b"g\0",
+    data_ro: 1,
+    map: &[Some(5), Some(6), Some(7), Some(8), Some(9), Some(10)],
+    ..PLAIN
+};
+
+/// Over `g`, a read-only blob `s` at head 3 of four slots, of which two are empty.
+pub(crate) const PARENT: Blob = Blob {
+    head: 3,
+    name: b"s\0",
+    data_ro: 1,
+    map: &[Some(11), None, Some(12), None],
+    snap: Some(1),
+    ..PLAIN
+};
+
 fn with_id(
     alloc: Global,
     list: XattrList,

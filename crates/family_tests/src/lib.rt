@@ -5,6 +5,8 @@
 #[cfg(test)]
 mod blobs;
 #[cfg(test)]
+mod fill_slots;
+#[cfg(test)]
 mod fills;
 #[cfg(test)]
 mod plans;
