@@ -13,4 +13,6 @@ mod pool;
 #[cfg(test)]
 mod stops;
 #[cfg(test)]
+mod super_faults;
+#[cfg(test)]
 mod super_page;
