@@ -58,7 +58,7 @@ pub record SnapshotTaken (D : Type 0) : Type 1 where
   pub on : IsSnapshotJob parts channel p.pages after job
 
 module _ {D : Type 0} (k : SnapshotTaken D) where
-  open k use {d, p, channel, posted, running, clean, runs, no_job, x, asks_it, parts, are, on}
+  open k use {d, p, channel, posted, running, clean, runs, no_job, x, asks_it, parts, are, job, on}
 
   abbrev s : StoreState
   s = state_of d p

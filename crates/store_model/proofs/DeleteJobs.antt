@@ -70,9 +70,9 @@ module _ (known : Known) (unmarked : HasNoMarks known.p.base) where
       live_else : (h : ℕ) → h ≢ of → live_of w h ≡ live_of v h
       live_else h ne = ap (λ o. option_map (λ (x : Volume). x.live) o)
           (deleted.deleted_else f v volume of x found_now is h ne)
-          ∙ lives_mapped (λ (x : Volume). record x {
-            parent = deleted.moved f v volume of x found_now is x.parent;
-          }) (λ x. refl) (v h)
+          ∙ lives_mapped (λ (y : Volume). record y {
+            parent = deleted.moved f v volume of x found_now is y.parent;
+          }) (λ y. refl) (v h)
 
       lives_deleted : live_of w ≡ with_option p.live of None
       lives_deleted = lives_changed (reading p image) (facts.well runs).live (facts.well runs).no_live w of None
