@@ -32,8 +32,7 @@ use Rattle.streams.specs.declared.sink.Sink as sink
 use Rattle.blob_tool.specs.declared.status.Status.{Status}
 use Rattle.blob_tool.specs.declared.status.Status.TheVariants as status
 use Rattle.script_lang.specs.declared.schedule.Actor.{Actor}
-use Rattle.run_moves.specs.DrivenStore.{driven_at_start, DrivenStore}
-use Rattle.run_moves.specs.DriverSteps.{StoreFollows}
+use Rattle.channels.specs.StepwiseRuns.{RunsStepwise}
 use Rattle.channels.specs.Actors.{actors_in_run}
 use Rattle.channels.specs.RunEnds.{ended_row}
 use Rattle.streams.specs.Printing.{IsPartOf}
@@ -45,11 +44,10 @@ use Rattle.blob_tool.specs.RunScripts.{printed_text}
 use Rattle.blob_tool.specs.declared.run_script.RunScript.{RunScript}
 
 -- The turns that lead from one state of a store to another are those of the steps of a schedule, and then of rounds of
--- the channels and the metadata thread until all have ended. No message is on its way at first.
+-- the channels and the metadata thread until all have ended.
 abbrev pub FollowsSchedule : {D : Type 0} → disk.Ghosts D → List Actor → StoreView D → StoreView D → Type 0
 FollowsSchedule d schedule first last =
-    (w : DrivenStore) × (w.store ≡ state_of d last)
-    × StoreFollows d.tells (actors_in_run schedule) (driven_at_start (state_of d first)) w
+    RunsStepwise d.tells (actors_in_run schedule) (state_of d first) (state_of d last)
 
 module _ {D : Type 0} (d : disk.Ghosts D) (script : List (List Command)) where
   -- a store is found on the device, and opened with the script

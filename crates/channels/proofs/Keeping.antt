@@ -11,12 +11,12 @@ use Rattle.page_disk.specs.declared.disk.PageDisk.{Ghosts}
 use Rattle.volume_model.specs.declared.reply.Msg.{Msg}
 use Rattle.store_model.specs.Cases as kind
 use Rattle.store_model.specs.Rows.{Ended, fill_row, Posted, Row}
-use Rattle.store_model.specs.StoreState.{StoreState}
+use Rattle.store_model.specs.StoreState.{shown, StoreState}
 use Rattle.store_core.specs.StoreInvariant.{opening_script, StoreInvariant}
 use Rattle.running_store.specs.StoreView.{rows_of, state_of, WithOpening}
 use Rattle.run_work.specs.Following.{ActorInRun, ChannelActs, MetadataActs}
 use Rattle.run_moves.specs.DrivenStore.{DrivenStore}
-use Rattle.run_moves.specs.DriverLaws.{IsOfChannels}
+use Rattle.run_moves.specs.DriverLaws.{DriverLaws, DriverLawsOf, IsOfChannels}
 use Rattle.run_moves.specs.DriverSteps as turns
 use Rattle.run_moves.specs.DriverSteps.{ChannelActsOn, ChannelTurn, DriverStep, MetadataActsOn, PostingTurn}
 use Rattle.run_moves.specs.DriverSteps.{driven_at_turn, FillActsOn}
@@ -146,6 +146,11 @@ pub stands : {D : Type 0} (d : Ghosts D) (laws : StateLaws) (p : WithOpening D) 
     → FillStands (state_of d p.at)
 stands d laws p kept =
     laws.fill_stands d.tells (state_of d p.opening) (state_of d p.at) kept.run.0 kept.began kept.run.1
+
+-- the laws of a driver, of this store
+pub laws_on : {D : Type 0} (d : Ghosts D) (laws : DriverLaws) (p : WithOpening D)
+    → DriverLawsOf p.opening.super (shown (state_of d p.opening)) (opening_script p.opening)
+laws_on d laws p = laws p.opening.super (shown (state_of d p.opening)) (opening_script p.opening)
 
 -- the rows of channels alone have commands
 pub of_channels : {D : Type 0} (d : Ghosts D) (p : WithOpening D) → StoreInvariant d p → length p.opening.rows ≡ 17

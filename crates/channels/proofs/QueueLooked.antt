@@ -1,6 +1,6 @@
 -- The step of the metadata thread where there was nothing to do before it looked into the queue.
 use Rattle.std.proofs.Common.{◌≡◌, ◌⊎◌, inl, inr, ℕ, Bool, true, false, List, [], Option, Some, None, refl, sym, ap, ◌∙◌, subst}
-use Rattle.std.specs.Prelude.{if◌then◌else◌, IfSome, is_none as is_empty, IsSome}
+use Rattle.std.specs.Prelude.{IfSome, is_none as is_empty, IsSome}
 use Rattle.page_disk.specs.declared.disk.PageDisk.{Ghosts}
 use Rattle.volume_model.specs.declared.reply.Msg.{Msg}
 use Rattle.md_queue.specs.Queue.{GivesOldest, IsEmpty}
@@ -10,9 +10,8 @@ use Rattle.running_store.specs.StoreView.{rows_of, state_of}
 use Rattle.run_work.specs.Following.{MetadataActs}
 use Rattle.run_work.specs.RunFacts.{RunFacts}
 use Rattle.run_work.specs.RunLaws.{DueLaws, FactLaws}
-use Rattle.run_work.specs.Steps.{has_to_wait}
 use Rattle.run_moves.specs.DrivenStore.{DrivenStore, run_of}
-use Rattle.run_moves.specs.DriverSteps.{behind_others, DriverStep}
+use Rattle.run_moves.specs.DriverSteps.{driven_at_turn, DriverStep}
 use Rattle.run_moves.specs.FillTurns.{HoldsFill}
 use Rattle.run_moves.specs.Projection.{RunMessages}
 use Rattle.run_moves.proofs.DriverMoves.{turn_is}
@@ -45,13 +44,6 @@ moved_or_idle Idle = inr refl
 pub none_moved : (t : Turn) → (t ≡ Moved → ⊥) → t ≡ Idle
 none_moved Moved none = absurd (none refl)
 none_moved Idle none = refl
-
--- what comes to wait leaves the fill
-fill_stays : (m : RunMessages) (waits : Bool) (o : Option Msg)
-    → (if waits then behind_others m o else m).fill ≡ m.fill
-fill_stays m true None = refl
-fill_stays m true (Some x) = refl
-fill_stays m false o = refl
 
 module _ {D : Type 0} (d : Ghosts D) (w : Driver D) (is : IsDriven d w) (fact : FactLaws) (due : DueLaws)
     (t : MetadataState) (looks : LooksForMessage (state_of d w.plant.at) w.metadata t) (none : t.held ≡ None)
@@ -104,15 +96,10 @@ module _ {D : Type 0} (d : Ghosts D) (w : Driver D) (is : IsDriven d w) (fact : 
         (subst (λ (x : DrivenStore). RunFacts (run_of x)) (sym (looks.joined unsent w.queue))
         (subst RunFacts (sym (turn_is (driven d w))) (fact.turn (run_of (driven d w)) is.run)))
 
-    holds : HoldsFill s (messages_by u unsent w.queue)
-    holds channel works =
-        let x = is.works channel works in
-        let joined = ap (λ (v : DrivenStore). v.messages.fill) (looks.joined unsent w.queue)
-        ∙ fill_stays (driven d w).messages (has_to_wait (run_of (driven d w))) w.metadata.held in
-        (x.0, fill_same ∙ joined ∙ x.1, x.2)
-
-    pub kept_then : IsKept d w.plant.at u
-    kept_then = is_kept d w.plant.at u unsent w.queue fact facts_then asked_then holds
+    pub kept_then : HoldsFill s (driven_at_turn (driven d w)).messages → IsKept d w.plant.at u
+    kept_then turned = is_kept d w.plant.at u unsent w.queue fact facts_then asked_then
+        (subst (HoldsFill s) same_messages
+        (subst (λ (x : DrivenStore). HoldsFill s x.messages) (sym (looks.joined unsent w.queue)) turned))
 
     behind : (v : StoreState) (after : MetadataState)
         → DriverStep d.tells MetadataActs (driven_by s w.metadata unsent []) (driven_by v after unsent [])

@@ -1,10 +1,10 @@
 -- How a driver starts.
-use Rattle.std.proofs.Common.{◌≡◌, inl, inr, ℕ, ◌<◌, nat_lt, Option, Some, None, true, false, List, [], ◌∷◌}
+use Rattle.std.proofs.Common.{◌≡◌, inl, inr, ℕ, ◌<◌, nat_lt, Option, Some, None, Bool, true, false, List, [], ◌∷◌}
 use Rattle.std.proofs.Common.{if◌then◌else◌, length, refl, sym, ◌∙◌, ap, subst, arith}
-use Rattle.std.specs.Prelude.{slice_get, slice_set, ◌+◌}
+use Rattle.std.specs.Prelude.{slice_get, slice_set, ◌+◌, ◌&&◌, ◌==◌, not}
 use Rattle.store_model.proofs.Inserted.{get_set_here}
 use Rattle.store_model.proofs.Ranges.{get_set_other}
-use Rattle.std.specs.Option.{option_and_then}
+use Rattle.std.specs.Option.{option_and_then, option_map}
 use Rattle.std.proofs.Math.Path.{fun_ext}
 use Rattle.std.proofs.lemmas.Bool.Decides.{nat_tests}
 use Rattle.std.proofs.lemmas.Option.{slice_get_past, slice_get_within}
@@ -14,20 +14,20 @@ use Rattle.page_disk.specs.declared.disk.PageDisk.{Ghosts}
 use Rattle.volume_model.specs.declared.command.Command.{Command}
 use Rattle.volume_model.specs.declared.command.Command.TheVariants as c
 use Rattle.store_model.specs.Repairing.{IsRepaired}
-use Rattle.store_model.specs.Rows.{Claiming, Copying, Decided, Ended, fill_row, Idle, InJob, OpenClaim, Posted, Ready}
+use Rattle.store_model.specs.Rows.{Claiming, Copying, Decided, Ended, Idle, InJob, OpenClaim, Posted, Ready}
 use Rattle.store_model.specs.Rows.{Row, Stage}
-use Rattle.store_model.specs.Filling.{StandsAt, unused_row}
 use Rattle.store_model.specs.StateLaws.{StateLaws}
-use Rattle.md_thread.specs.Holding.{driven_by, MetadataState}
-use Rattle.md_thread.specs.declared.state.Next.TheVariants as on
-use Rattle.channels.proofs.Keeping.{stands}
+use Rattle.store_model.specs.StoreState.{StoreState}
+use Rattle.md_thread.specs.Holding.{at_first, driven_by, MetadataState}
+use Rattle.channels.proofs.Keeping.{laws_on, of_channels, stands}
 use Rattle.running_store.specs.Stages.{is_stage, waits_for}
 use Rattle.store_core.specs.StoreInvariant.{StoreInvariant}
 use Rattle.running_store.specs.StoreView.{rows_of, state_of}
-use Rattle.run_work.specs.RunFacts.{RunFacts}
-use Rattle.run_moves.specs.DrivenStore.{driven_at_start, DrivenStore, run_of, serial_in}
+use Rattle.run_work.specs.RunFacts.{comes_from, RunFacts}
+use Rattle.run_moves.specs.DrivenStore.{driven_at_start, DrivenStore, message_filled_for, run_of, serial_in}
 use Rattle.run_moves.specs.DriverLaws.{DriverLaws}
-use Rattle.channels.specs.ChannelState.{channel_at, ChannelState, serial_at}
+use Rattle.run_moves.specs.FillTurns.{HoldsFill}
+use Rattle.channels.specs.ChannelState.{channel_at, ChannelState, fills_for, sent_at, serial_at, starting_at}
 use Rattle.channels.specs.Driving.{AreChannelsOf, AreStarting, driven, IsChannelOf, IsDriven, unsent_of}
 use Rattle.channels.specs.declared.driver.Driver.{Driver}
 use Rattle.channels.proofs.StepsMade.{ended_stage}
@@ -50,88 +50,113 @@ serial_by left InJob claim channel = refl
 serial_by left (Decided outcome) claim channel = refl
 serial_by left Ended claim channel = refl
 
-module _ (rows : List Row) (channels : List ChannelState) (are : AreStarting rows channels) where
-  serial_there : (k : ℕ) → unsent_of channels k ≡ (if nat_lt k 16 then serial_in (rows_of rows k).stage else None)
+-- what a channel has to send at the start
+sends_at : (filled : Bool) (row : Row) (k : ℕ)
+    → (if filled then sent_at k else channel_at k (is_stage row k)).unsent
+    ≡ (if true && not filled then serial_in row.stage else None)
+sends_at true row k = refl
+sends_at false row k = serial_by row.left row.stage row.claim k
+
+module _ (filling : Option ℕ) (rows : List Row) (channels : List ChannelState)
+    (are : AreStarting filling rows channels) where
+  -- the message that each channel has still to send, where slots are filled for the command of one or of none
+  abbrev to_send : ℕ → Option ℕ
+  to_send k = if nat_lt k 16 && not (fills_for filling k) then serial_in (rows_of rows k).stage else None
+
+  serial_there : (k : ℕ) → unsent_of channels k ≡ to_send k
   serial_there k = elim (cases_lt k 16) [
     | inl low ↦
         let below : nat_lt k 16 ≡ true = grind (arith, nat_tests) in
-        let row = rows_of rows k in
         ap (option_and_then (λ (x : ChannelState). x.unsent)) (are.each k low)
-        ∙ serial_by row.left row.stage row.claim k
-        ∙ sym (ap (λ b. if b then serial_in (rows_of rows k).stage else None) below)
+        ∙ sends_at (fills_for filling k) (rows_of rows k) k
+        ∙ sym (ap (λ b. if b && not (fills_for filling k) then serial_in (rows_of rows k).stage else None) below)
     | inr high ↦
         let above : nat_lt k 16 ≡ false = grind (arith, nat_tests) in
         ap (option_and_then (λ (x : ChannelState). x.unsent))
         (slice_get_past channels k (omega (arith, high, are.sixteen)))
-        ∙ sym (ap (λ b. if b then serial_in (rows_of rows k).stage else None) above)
+        ∙ sym (ap (λ b. if b && not (fills_for filling k) then serial_in (rows_of rows k).stage else None) above)
   ]
-
-  pub unsent_then : unsent_of channels ≡ (λ k. if nat_lt k 16 then serial_in (rows_of rows k).stage else None)
-  unsent_then = fun_ext serial_there
 
   each_own : (k : ℕ) (x : ChannelState) → slice_get channels k ≡ Some x → IsChannelOf rows k x
   each_own k x at =
       let low : k < 16 = let within = slice_get_within channels k x at in omega (arith, within, are.sixteen) in
-      let both : Some (channel_at k (is_stage (rows_of rows k) k)) ≡ Some x = sym (are.each k low) ∙ at in
-      let same : channel_at k (is_stage (rows_of rows k) k) ≡ x = cc both in
-      subst (IsChannelOf rows k) same
-      (record { number = refl; ended = λ is. ended_stage (rows_of rows k) k is })
+      let both : Some (starting_at filling k (is_stage (rows_of rows k) k)) ≡ Some x = sym (are.each k low) ∙ at in
+      let same : starting_at filling k (is_stage (rows_of rows k) k) ≡ x = cc both in
+      subst (IsChannelOf rows k) same (own (fills_for filling k))
+    where
+      own : (filled : Bool)
+          → IsChannelOf rows k (if filled then sent_at k else channel_at k (is_stage (rows_of rows k) k))
+      own true = record { number = refl; ended = λ is. absurd (cc is) }
+      own false = record { number = refl; ended = λ is. ended_stage (rows_of rows k) k is }
 
   pub own_then : AreChannelsOf rows channels
   own_then = record { sixteen = are.sixteen; each = each_own }
 
--- how the metadata thread begins
-abbrev pub fresh : MetadataState
-fresh = record { held = None; waiting = []; fill = None; found_none = false; next = on.Plant }
-
--- a fill's row that isn't in use works for none
-none_filled : (filling : Option ℕ) (stage : Stage) → StandsAt filling stage → stage ≡ Idle → filling ≡ None
-none_filled None stage at is = refl
-none_filled (Some channel) stage at is = absurd (subst (StandsAt (Some channel)) is at)
+-- the metadata thread has the message of the channel for whose command slots are filled
+held_from : (p : StoreState) → HoldsFill p (driven_at_start p).messages → (k : ℕ)
+    → comes_from k (message_filled_for p) ≡ fills_for p.filling k
+held_from p holds k = go p.filling refl
+  where
+    go : (o : Option ℕ) → p.filling ≡ o → comes_from k (message_filled_for p) ≡ fills_for p.filling k
+    go None none =
+        ap (λ (o : Option ℕ). comes_from k (option_and_then (λ channel.
+        option_map (λ serial. record { channel = channel; serial = serial }) (serial_in (p.rows channel).stage)) o)) none
+        ∙ sym (ap (λ (o : Option ℕ). fills_for o k) none)
+    go (Some channel) works =
+        let x = holds channel works in
+        ap (comes_from k) x.1 ∙ ap (λ n. k == n) x.2 ∙ sym (ap (λ (o : Option ℕ). fills_for o k) works)
 
 -- a driver that starts on a store is that store with the messages of its posted rows
 module _ {D : Type 0} (d : Ghosts D) (laws : DriverLaws) (w : Driver D) (kept : StoreInvariant d w.plant)
-    (are : AreStarting w.plant.at.rows w.channels) (queue : w.queue ≡ []) (begins : w.metadata ≡ fresh) where
-  pub starts_as : driven d w ≡ driven_at_start (state_of d w.plant.at)
-  starts_as = λ i. driven_by (state_of d w.plant.at) (begins i) (unsent_then w.plant.at.rows w.channels are i) (queue i)
+    (state : StateLaws) (are : AreStarting w.plant.at.filling w.plant.at.rows w.channels) (queue : w.queue ≡ [])
+    (begins : w.metadata ≡ at_first (message_filled_for (state_of d w.plant.at))) where
+  abbrev p : StoreState
+  p = state_of d w.plant.at
 
-  pub starts_driven : StateLaws → w.right ≡ w.plant.right → length w.plant.opening.rows ≡ 17
-      → rows_of w.plant.at.rows fill_row ≡ unused_row → IsRepaired (state_of d w.plant.at) → IsDriven d w
-  starts_driven state right seventeen unused repaired = record {
+  holds : HoldsFill p (driven_at_start p).messages
+  holds = (laws_on d laws w.plant).start_fill p (stands d state w.plant kept)
+
+  unsent_then : unsent_of w.channels ≡ (driven_at_start p).messages.unsent
+  unsent_then = fun_ext (λ k. serial_there p.filling w.plant.at.rows w.channels are k
+      ∙ sym (ap (λ b. if nat_lt k 16 && not b then serial_in (p.rows k).stage else None) (held_from p holds k)))
+
+  pub starts_as : driven d w ≡ driven_at_start p
+  starts_as = λ i. driven_by p (begins i) (unsent_then i) (queue i)
+
+  pub starts_driven : w.right ≡ w.plant.right → length w.plant.opening.rows ≡ 17 → IsRepaired p → IsDriven d w
+  starts_driven right seventeen repaired = record {
     right = right;
     seventeen = seventeen;
-    channels = own_then w.plant.at.rows w.channels are;
+    channels = own_then p.filling w.plant.at.rows w.channels are;
     repaired = repaired;
     run = subst (λ (x : DrivenStore). RunFacts (run_of x)) (sym starts_as)
-        ((laws _ _ _).start (state_of d w.plant.at) kept.facts);
+        ((laws_on d laws w.plant).start p (of_channels d w.plant kept seventeen) kept.facts (stands d state w.plant kept));
     fill = record {
       looks = ap (λ (s : MetadataState). s.found_none) begins;
       asked = λ msg is. let bad : None ≡ Some msg = sym (ap (λ (s : MetadataState). s.fill) begins) ∙ is in
           absurd (cc bad);
     };
-    works = λ channel is.
-        let none = none_filled w.plant.at.filling _ (stands d state w.plant kept).stage
-        (ap (λ (r : Row). r.stage) unused) in
-        let bad : None ≡ Some channel = sym none ∙ is in absurd (cc bad);
+    works = subst (λ (x : DrivenStore). HoldsFill x.store x.messages) (sym starts_as) holds;
   }
 
 -- ---- one channel after the other
 
-pub record StartsSoFar (rows : List Row) (count : ℕ) (channels : List ChannelState) : Type 0 where
+pub record StartsSoFar (filling : Option ℕ) (rows : List Row) (count : ℕ) (channels : List ChannelState) : Type 0 where
   pub sixteen : length channels ≡ 16
-  pub each : (k : ℕ) → k < count → slice_get channels k ≡ Some (channel_at k (is_stage (rows_of rows k) k))
+  pub each : (k : ℕ) → k < count → slice_get channels k ≡ Some (starting_at filling k (is_stage (rows_of rows k) k))
 
-module _ (rows : List Row) (count : ℕ) (channels : List ChannelState) (so : StartsSoFar rows count channels)
-    (low : count < 16) (e : ChannelState) (is : e ≡ channel_at count (is_stage (rows_of rows count) count)) where
+module _ (filling : Option ℕ) (rows : List Row) (count : ℕ) (channels : List ChannelState)
+    (so : StartsSoFar filling rows count channels) (low : count < 16) (e : ChannelState)
+    (is : e ≡ starting_at filling count (is_stage (rows_of rows count) count)) where
   next_each : (k : ℕ) → k < count + 1
-      → slice_get (slice_set channels count e) k ≡ Some (channel_at k (is_stage (rows_of rows k) k))
+      → slice_get (slice_set channels count e) k ≡ Some (starting_at filling k (is_stage (rows_of rows k) k))
   next_each k below = elim (cases_eq k count) [
     | inl same ↦
         let within : count < length channels = omega (arith, low, so.sixteen) in
         ap (slice_get (slice_set channels count e)) same ∙ get_set_here channels count e within ∙ ap (λ x. Some x) is
-        ∙ ap (λ n. Some (channel_at n (is_stage (rows_of rows n) n))) (sym same)
+        ∙ ap (λ n. Some (starting_at filling n (is_stage (rows_of rows n) n))) (sym same)
     | inr ne ↦ get_set_other channels count k e ne ∙ so.each k (omega (arith, below, ne))
   ]
 
-  pub one_started : StartsSoFar rows (count + 1) (slice_set channels count e)
+  pub one_started : StartsSoFar filling rows (count + 1) (slice_set channels count e)
   one_started = record { sixteen = length-set channels count e ∙ so.sixteen; each = next_each }

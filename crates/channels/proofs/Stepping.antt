@@ -33,7 +33,7 @@ use Rattle.channels.specs.declared.driver.Driver.{Driver}
 use Rattle.channels.proofs.Acting.{held_acts, keeping_acts, posted_stage, sending_acts, turn_acts}
 use Rattle.channels.specs.Driving.{driven_of}
 use Rattle.md_thread.specs.Holding.{MetadataState}
-use Rattle.channels.proofs.Keeping.{filled_still, of_channels, rows_step, stands, still_own, turn_or_none}
+use Rattle.channels.proofs.Keeping.{filled_still, laws_on, of_channels, rows_step, stands, still_own, turn_or_none}
 use Rattle.md_thread.proofs.OneRow.{RowStep}
 
 -- ---- the same store
@@ -56,8 +56,7 @@ module _ {D : Type 0} (d : Ghosts D) (laws : DriverLaws) (plain : PlainRowLaws) 
       (state_of d v.plant.at)) store.opening later.facts
 
   in_run : StepOf (sizes_of w.plant.opening.super) actor (run_of (driven d w)) (run_of (driven d v))
-  in_run = (laws w.plant.opening.super (shown (state_of d w.plant.opening)) (opening_script w.plant.opening)).step
-      d.tells actor (driven d w) (driven d v) kept.placed.some_pages (of_channels d w.plant kept is.seventeen) kept.facts
+  in_run = (laws_on d laws w.plant).step d.tells actor (driven d w) (driven d v) kept.placed.some_pages (of_channels d w.plant kept is.seventeen) kept.facts
       later_facts
       (plain.run d.tells kept.run.0 (state_of d w.plant.opening) (state_of d w.plant.at) kept.run.1
       (plain.opens (state_of d w.plant.opening) kept.began))
@@ -98,7 +97,7 @@ module _ {D : Type 0} (d : Ghosts D) (laws : DriverLaws) (plain : PlainRowLaws) 
     ];
     run = in_run_then;
     fill = keeps_fill fill;
-    works = (laws w.plant.opening.super (shown (state_of d w.plant.opening)) (opening_script w.plant.opening)).fill
+    works = (laws_on d laws w.plant).fill
         d.tells actor (driven d w) (driven d v) (stands d state w.plant kept) is.works step;
   }
 

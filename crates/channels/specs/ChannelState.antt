@@ -1,5 +1,5 @@
 -- What contracts see of a channel.
-use Rattle.std.specs.Prelude.{ℕ, Option, Some, None, Bool, true, false}
+use Rattle.std.specs.Prelude.{ℕ, ◌==◌, if◌then◌else◌, Option, Some, None, Bool, true, false}
 use Rattle.std.specs.Option.{option_map}
 use Rattle.volume_model.specs.declared.reply.Msg.{Msg}
 use Rattle.running_store.specs.declared.rows.RowStage.{RowStage}
@@ -30,6 +30,21 @@ has_ended_at _ = false
 abbrev pub channel_at : ℕ → RowStage → ChannelState
 channel_at channel stage =
     record { channel = channel; unsent = serial_at stage; ended = has_ended_at stage }
+
+-- the channel of this number, whose message is sent
+abbrev pub sent_at : ℕ → ChannelState
+sent_at channel = record { channel = channel; unsent = None; ended = false }
+
+-- whether slots are filled for the command of this channel
+abbrev pub fills_for : Option ℕ → ℕ → Bool
+fills_for None channel = false
+fills_for (Some filled) channel = channel == filled
+
+-- The channel of this number at the start of a run: its row's stage says whether it has a message to send. The metadata
+-- thread has that of the command for which slots are filled.
+abbrev pub starting_at : Option ℕ → ℕ → RowStage → ChannelState
+starting_at filling channel stage =
+    if fills_for filling channel then sent_at channel else channel_at channel stage
 
 abbrev pub next_at : Option ℕ → Bool → Next
 next_at (Some serial) ended = next.Queue

@@ -18,7 +18,7 @@ use Rattle.run_moves.specs.Sizes.{sizes_of}
 use Rattle.md_thread.specs.Holding.{driven_by, MetadataState}
 use Rattle.store_model.specs.Filling.{IsFilledFor}
 use Rattle.store_model.specs.StoreState.{StoreState}
-use Rattle.channels.specs.ChannelState.{channel_at, ChannelState}
+use Rattle.channels.specs.ChannelState.{ChannelState, starting_at}
 use Rattle.channels.specs.declared.driver.Driver.{Driver}
 
 -- the serial of the message that each channel has still to send
@@ -43,10 +43,10 @@ pub record AreChannelsOf (rows : List Row) (channels : List ChannelState) : Type
   pub sixteen : length channels ≡ 16
   pub each : (k : ℕ) (c : ChannelState) → slice_get channels k ≡ Some c → IsChannelOf rows k c
 
--- sixteen channels, each at the stage of its row
-pub record AreStarting (rows : List Row) (channels : List ChannelState) : Type 0 where
+-- sixteen channels, each at the stage of its row, while slots are filled for the command of one of them, or of none
+pub record AreStarting (filling : Option ℕ) (rows : List Row) (channels : List ChannelState) : Type 0 where
   pub sixteen : length channels ≡ 16
-  pub each : (k : ℕ) → k < 16 → slice_get channels k ≡ Some (channel_at k (is_stage (rows_of rows k) k))
+  pub each : (k : ℕ) → k < 16 → slice_get channels k ≡ Some (starting_at filling k (is_stage (rows_of rows k) k))
 
 -- ---- the driver
 

@@ -4,13 +4,10 @@ use Rattle.store_model.specs.StoreState.{StoreState}
 use Rattle.run_work.specs.Following.{ActorInRun}
 use Rattle.run_moves.specs.DrivenStore.{driven_at_start, DrivenStore}
 use Rattle.run_moves.specs.DriverSteps.{StoreFollows}
-use Rattle.md_thread.specs.TakingOver.{TakesOver}
 
--- The store is taken over, which leaves it as it is unless the fill's row is in use. No message is on its way then but
--- those that posted rows have still to send, and the steps of a schedule follow, and rounds until all have ended.
+-- The steps of a schedule, and rounds until all have ended, lead from one state to the other. Whoever drives it begins
+-- with the messages that the stages of the rows tell of.
 pub record RunsStepwise (told : Bool) (schedule : List ActorInRun) (p q : StoreState) : Type 0 where
-  pub first : StoreState
-  pub takes_over : TakesOver told p first
   pub last : DrivenStore
   pub is : last.store ≡ q
-  pub follows : StoreFollows told schedule (driven_at_start first) last
+  pub follows : StoreFollows told schedule (driven_at_start p) last

@@ -32,7 +32,7 @@ impl Channel {
     ghost use Rattle.std.specs.Prelude.{◌≡◌, ◌<◌, ◌↔◌, ℕ, ◌++◌, ◌∷◌, [], Some, None};
     ghost use Rattle.md_thread.specs.declared.state.Next.TheVariants as next;
     ghost use Rattle.md_thread.specs.declared.state.Turn.TheVariants.{Idle, Moved};
-    ghost use Rattle.channels.specs.ChannelState.{channel_at, has_ended_at, message_of, next_of};
+    ghost use Rattle.channels.specs.ChannelState.{channel_at, has_ended_at, message_of, next_of, sent_at};
     ghost use Rattle.channels.specs.ChannelSteps.{IsHeldUp, TurnsOrPosts};
     ghost use Rattle.running_store.specs.Stages.{is_stage};
     ghost use Rattle.running_store.specs.StoreView.{rows_of, state_of};
@@ -50,6 +50,17 @@ impl Channel {
             channel,
             unsent,
             ended: matches!(stage, RowStage::Ended),
+        }
+    }
+
+    /// The channel of this number, whose row is posted, and whose message is sent.
+    pub fn sent(channel: u8) -> Channel
+        ensures { result ≡ sent_at channel }
+    {
+        Channel {
+            channel,
+            unsent: None,
+            ended: false,
         }
     }
 

@@ -1,14 +1,14 @@
 //! The driver of a stepwise run: the store, its channels and the metadata thread, and the queue between them.
 
 ghost use Rattle.std.specs.Prelude.{◌≡◌, ◌<◌, length};
+ghost use Rattle.running_store.specs.Stages.{is_stage};
 ghost use Rattle.running_store.specs.StoreView.{rows_of, state_of};
 ghost use Rattle.store_model.specs.Repairing.{IsRepaired};
-ghost use Rattle.store_model.specs.Filling.{unused_row};
-ghost use Rattle.store_model.specs.Rows.{fill_row};
 ghost use Rattle.run_work.specs.Following.{ChannelActs, MetadataActs, Round, Scheduled};
 ghost use Rattle.run_moves.specs.DrivenStore.{driven_at_start};
 ghost use Rattle.run_moves.specs.DriverSteps.{has_all_ended, DriverStep, StoreFollows};
 ghost use Rattle.channels.specs.Actors.{actor_in_run, actors_in_run};
+ghost use Rattle.channels.specs.ChannelState.{starting_at};
 ghost use Rattle.channels.specs.Driving.{driven, AreChannelsOf, AreStarting, IsDriven, IsSameStore, KeepsFill, StillKeepsFill, Steps};
 ghost use Rattle.script_lang.specs.Schedules.{repeated};
 
@@ -33,23 +33,33 @@ pub(crate) struct Driver<D: PageDisk> {
     queue: ListQueue,
 }
 
-/// The channels of a store, each at the stage of its row.
+/// A channel at the stage of its row. The message of the command that slots are filled for is sent.
+fn channel_on<D: PageDisk>(plant: &Plant<D>, channel: u8) -> Channel
+    ensures { result ≡ starting_at plant.now.at.filling channel
+        (is_stage (rows_of plant.now.at.rows channel) channel) }
+{
+    match plant.filled_channel() {
+        Some(filled) if filled == channel => Channel::sent(channel),
+        _ => Channel::new(channel, plant.stage(channel)),
+    }
+}
+
+/// The channels of a store.
 fn channels_of<D: PageDisk>(plant: &Plant<D>) -> [Channel; 16]
-    ensures { AreStarting plant.now.at.rows result }
+    ensures { AreStarting plant.now.at.filling plant.now.at.rows result }
 {
     let mut channels = [Channel::new(0, RowStage::Ended); 16];
     for channel in 0..16 {
-        channels[usize::from(channel)] = Channel::new(channel, plant.stage(channel));
+        channels[usize::from(channel)] = channel_on(plant, channel);
     }
     channels
 }
 
 impl<D: PageDisk> Driver<D> {
-    /// A driver that begins on a store, at whatever stages the rows of its channels are.
+    /// A driver that begins on a store, at whatever stages its rows are: the metadata thread takes it over.
     pub(crate) fn new(plant: Plant<D>, right: MdRight) -> Driver<D>
         requires right { right ≡ plant.right }
         requires seventeen { length plant.opening.rows ≡ 17 }
-        requires unused { rows_of plant.at.rows fill_row ≡ unused_row }
         requires repaired { IsRepaired (state_of D.PageDisk plant.at) }
         ensures starts { driven D.PageDisk result ≡ driven_at_start (state_of D.PageDisk plant.at) }
         ensures driven { IsDriven D.PageDisk result }
@@ -60,11 +70,12 @@ impl<D: PageDisk> Driver<D> {
         state_turns();
         plant.keeps();
         let channels = channels_of(&plant);
+        let metadata = MdState::taking_over(&plant);
         Driver {
             plant,
             right,
             channels,
-            metadata: MdState::new(),
+            metadata,
             queue: ListQueue::new(),
         }
     }
@@ -99,6 +110,8 @@ impl<D: PageDisk> Driver<D> {
     {
         moves_keep_facts();
         what_is_due();
+        steps_are_moves();
+        state_turns();
         self.plant.keeps();
         let turn = self
             .metadata

@@ -10,7 +10,6 @@ ghost use Rattle.channels.specs.RunEnds.{end_of, ended_row};
 ghost use Rattle.channels.specs.StepwiseRuns.{RunsStepwise};
 
 use crate::driver::Driver;
-use md_thread::take_over;
 use page_disk::PageDisk;
 use script_lang::Schedule;
 use std::alloc::Global;
@@ -28,11 +27,12 @@ pub enum RunEnd {
 
 /// Runs a store, of which nothing is left to repair, to its end: the steps of a schedule, and then rounds of channels 0
 /// to 15 and the metadata thread until all have ended. Rows may be at any stage, as others have left them that ran it
-/// before. `alloc` serves the jobs of commands alone.
+/// before: the metadata thread takes the store over with the command that slots are filled for, ends what is done for it
+/// with its first step, behind the job that runs, and serves it anew. `alloc` serves the jobs of commands alone.
 pub fn run_stepwise<D: PageDisk>(
     alloc: Global,
-    mut plant: Plant<D>,
-    mut right: MdRight,
+    plant: Plant<D>,
+    right: MdRight,
     schedule: &Schedule,
 ) -> (Plant<D>, MdRight, RunEnd)
     requires right { right ≡ plant.right }
@@ -49,7 +49,6 @@ pub fn run_stepwise<D: PageDisk>(
     ensures right { (result.1 ≡ right) × (result.0.right ≡ plant.right) }
 {
     state_turns();
-    take_over(&mut plant, &mut right);
     let mut driver = Driver::new(plant, right);
     driver.run(alloc, schedule);
     let (plant, right) = driver.into_parts();

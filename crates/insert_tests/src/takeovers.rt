@@ -11,7 +11,7 @@ use channels::run_stepwise;
 use md_queue::{Inbox, ListQueue, Outbox};
 use md_thread::{MdState, Turn};
 use page_disk::{MemDisk, PageDisk};
-use script_lang::{Grammar, Schedule, read_script};
+use script_lang::{Grammar, Schedule, parse_schedule, read_script};
 use std::alloc::Global;
 use std::process::Abort;
 use std::test::Fail;
@@ -39,6 +39,9 @@ const LEFT_OFF: [(u32, &str); 9] = [
     (37, "nothing"),
     (38, "nothing"),
 ];
+
+/// Schedules whose steps are the first of the run that goes on, before its rounds.
+const SCHEDULES: [&[u8]; 3] = [b"0", b"0*3,m*2,0", b"m*40"];
 
 /// What the fill's row waits for.
 fn filled<D: PageDisk>(plant: &Plant<D>) -> &'static str {
@@ -79,8 +82,13 @@ fn make_turns<D: PageDisk>(
 }
 
 /// What the fill's row waits for where another metadata thread takes over, behind the post of the script's first
-/// command and so many turns of the first thread; and the log of the run that goes on there.
-fn log_behind(rt: &impl Abort, alloc: Global, count: u32) -> Result<(&'static str, Vec<u8>), Fail> {
+/// command and so many turns of the first thread; and the log of the run that goes on there by a schedule.
+fn log_behind(
+    rt: &impl Abort,
+    alloc: Global,
+    count: u32,
+    schedule: &Schedule,
+) -> Result<(&'static str, Vec<u8>), Fail> {
     state_stops();
     state_turns();
     stores_are_accepted();
@@ -107,7 +115,7 @@ fn log_behind(rt: &impl Abort, alloc: Global, count: u32) -> Result<(&'static st
     }
     make_turns(alloc, &mut plant, &mut right, msg, count);
     let left_off = filled(&plant);
-    let (plant, right, _end) = run_stepwise(alloc, plant, right, &Schedule::new(alloc));
+    let (plant, right, _end) = run_stepwise(alloc, plant, right, schedule);
     let Parts {
         disk: _,
         sup: _,
@@ -123,13 +131,17 @@ fn log_behind(rt: &impl Abort, alloc: Global, count: u32) -> Result<(&'static st
 
 #[test]
 fn run_goes_on_where_another_one_left_off(rt: HostRuntime) -> Result<(), Fail> {
-    for (count, left_off) in &LEFT_OFF {
-        let (found, log) = log_behind(&rt, rt.alloc(), *count)?;
-        if found != *left_off || log.as_slice() != LOG {
-            return Err(Fail::new(format_args!(
-                "behind {count} turns: {found}, and then {:?}",
-                log.as_slice()
-            )));
+    let alloc = rt.alloc();
+    for text in SCHEDULES {
+        let schedule = parse_schedule(alloc, text)?;
+        for (count, left_off) in &LEFT_OFF {
+            let (found, log) = log_behind(&rt, alloc, *count, &schedule)?;
+            if found != *left_off || log.as_slice() != LOG {
+                return Err(Fail::new(format_args!(
+                    "behind {count} turns: {found}, and then {:?}",
+                    log.as_slice()
+                )));
+            }
         }
     }
     Ok(())

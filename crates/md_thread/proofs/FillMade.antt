@@ -5,7 +5,7 @@ use Rattle.volume_model.specs.declared.reply.Msg.{Msg}
 use Rattle.store_model.specs.Filling.{IsFilledFor}
 use Rattle.store_model.specs.Rows.{Row}
 use Rattle.run_work.specs.RunFacts.{is_filled_for}
-use Rattle.run_moves.specs.FillTurns.{FillTurn}
+use Rattle.run_moves.specs.FillTurns.{FillTurn, worked_for}
 use Rattle.running_store.specs.Requests.{IsPostedBy}
 use Rattle.running_store.specs.StoreView.{rows_of, state_of, StoreView}
 use Rattle.md_thread.specs.Holding.{IsKept, MetadataState}
@@ -32,7 +32,7 @@ module _ {D : Type 0} (d : Ghosts D) (p q : StoreView D) (s : MetadataState) (ke
   works : (channel : ℕ) → p.filling ≡ Some channel → channel ≡ msg.channel
   works channel is =
       let x = kept.works channel is in
-      let both : Some msg ≡ Some x.0 = sym fills ∙ x.1 in
+      let both : Some msg ≡ Some x.0 = sym (ap (λ o. worked_for o s.held) fills) ∙ x.1 in
       let same : msg ≡ x.0 = cc both in
       sym (ap (λ (m : Msg). m.channel) same ∙ x.2)
 

@@ -1,5 +1,6 @@
--- What a turn of the running job makes of the fill: it goes on, or its insert failed and its command is logged.
-use Rattle.std.proofs.Common.{◌≡◌, ◌≢◌, ◌⊎◌, ℕ, Some, None, refl, sym, ap, ◌∙◌, subst, inl, inr}
+-- What a turn of the running job makes of the command that the fill's row works for: it goes on, or the row's insert
+-- failed and the command is logged.
+use Rattle.std.proofs.Common.{◌≡◌, ◌≢◌, ◌⊎◌, ℕ, Option, Some, None, refl, sym, ap, ◌∙◌, subst, inl, inr}
 use Rattle.std.proofs.Common.{Bool, true, false, List, Result, Ok, Err}
 use Rattle.std.specs.Prelude.{IfErr, IfOk}
 use Rattle.std.specs.Result.{is_err}
@@ -17,21 +18,37 @@ use Rattle.store_model.specs.StoreState.{StoreState}
 use Rattle.store_model.specs.Turning.{stopped_now}
 use Rattle.store_model.proofs.FillKept.{with_command}
 use Rattle.store_model.proofs.RowsKept.{row_here}
-use Rattle.run_work.specs.RunFacts.{is_filled_for}
+use Rattle.run_work.specs.RunFacts.{is_filled_for, is_held}
 use Rattle.run_moves.specs.DriverSteps as turn
 use Rattle.run_moves.specs.DriverSteps.{JobTurn}
 use Rattle.run_moves.specs.FillTurns as fill
-use Rattle.run_moves.specs.FillTurns.{FailedFill}
+use Rattle.run_moves.specs.FillTurns.{FailedFill, held_beside, worked_for}
 use Rattle.metadata_turns.specs.JobTurns.{IsOfJob, TurnsJob}
 use Rattle.running_store.specs.Requests.{AsksNow, IsStale}
 use Rattle.running_store.specs.declared.requests.Request.{Request}
 use Rattle.running_store.specs.declared.requests.Stale.{Stale}
 use Rattle.running_store.specs.TurnMade.{TurnMade}
 use Rattle.running_store.specs.StoreView.{rows_of, state_of, StoreView}
-use Rattle.md_thread.specs.Holding.{IsKept, MetadataState}
+use Rattle.md_thread.specs.Holding.{IsHeldOn, IsKept, Keeps, let_go, MetadataState, still_held}
 use Rattle.md_thread.specs.Turns as made
 use Rattle.md_thread.specs.Turns.{JobMade}
 use Rattle.md_thread.proofs.RowsLeft.{job_leaves}
+
+-- it works for none where neither a fill goes on nor a message is held
+pub none_of_both : (fill held : Option Msg) → worked_for fill held ≡ None → (fill ≡ None) × (held ≡ None)
+none_of_both None held none = (refl, none)
+none_of_both (Some msg) held none = absurd (cc none)
+
+-- What is held behind the turn: as before, or none, where the command was logged.
+pub held_on : (rows : List Row) (own : MetadataState) (msg : Msg) → worked_for own.fill own.held ≡ Some msg
+    → (rows_of rows msg.channel).stage ≢ Posted msg.serial
+    → IsHeldOn rows own (held_beside own.fill own.held)
+held_on rows own msg worked stale = go own.fill refl
+  where
+    go : (o : Option Msg) → own.fill ≡ o → IsHeldOn rows own (held_beside own.fill own.held)
+    go None none = let_go msg none (sym (ap (λ o. worked_for o own.held) none) ∙ worked) stale
+        (ap (λ o. held_beside o own.held) none)
+    go (Some x) fills = still_held (ap (λ o. held_beside o own.held) fills)
 
 module _ {D : Type 0} (d : Ghosts D) (p q : StoreView D) (stands : FillStands (state_of d p)) (own : MetadataState)
     (kept : IsKept d p own) where
@@ -69,11 +86,19 @@ module _ {D : Type 0} (d : Ghosts D) (p q : StoreView D) (stands : FillStands (s
       ]
       by _ is m = absurd is
 
-  module _ (msg : Msg) (fills : own.fill ≡ Some msg) where
-    posted : (rows_of p.rows msg.channel).stage ≡ Posted msg.serial
-    posted = (kept.current msg (is_filled_for fills)).1
+  module _ (msg : Msg) (worked : worked_for own.fill own.held ≡ Some msg) where
+    -- that command's message is kept
+    keeps : Keeps own msg
+    keeps = go own.fill refl
+      where
+        go : (o : Option Msg) → own.fill ≡ o → Keeps own msg
+        go None none = is_held (sym (ap (λ o. worked_for o own.held) none) ∙ worked)
+        go (Some x) fills = is_filled_for (fills ∙ (sym (ap (λ o. worked_for o own.held) fills) ∙ worked))
 
-    -- the row of the fill's command is as it was
+    posted : (rows_of p.rows msg.channel).stage ≡ Posted msg.serial
+    posted = (kept.current msg keeps).1
+
+    -- its row is as it was
     stays : JobTurn d.tells s t → rows_of q.rows msg.channel ≡ rows_of p.rows msg.channel
     stays j = job_leaves s t msg.channel msg.serial posted d.tells j
 
@@ -85,7 +110,7 @@ module _ {D : Type 0} (d : Ghosts D) (p q : StoreView D) (stands : FillStands (s
         absurd (with_command s stands row _ x.rest (ap (λ (r : Rows). (r row).left) (sym rows) ∙ x.left) (sym is))
     told mid filling rows row is reply device (logs_filled x) =
         let held = kept.works x.posted.channel (sym filling ∙ x.works) in
-        let both : Some msg ≡ Some held.0 = sym fills ∙ held.1 in
+        let both : Some msg ≡ Some held.0 = sym worked ∙ held.1 in
         let same : msg ≡ held.0 = cc both in
         let here : msg.channel ≡ x.posted.channel = ap (λ (m : Msg). m.channel) same ∙ held.2 in
         ap (λ (v : StoreState). (v.rows msg.channel).stage) x.next
@@ -103,7 +128,7 @@ module _ {D : Type 0} (d : Ghosts D) (p q : StoreView D) (stands : FillStands (s
 
     -- the message is out of date, or still current
     pub made_stale : (rows_of q.rows msg.channel).stage ≢ Posted msg.serial → TurnsJob d p q
-        → JobMade d.tells s t own (record own { fill = None })
+        → JobMade d.tells s t own (record own { held = held_beside own.fill own.held; fill = None })
     made_stale stale turned = elim (turn_of turned) [
       | inl j ↦ absurd (stale (ap (λ (r : Row). r.stage) (stays j) ∙ posted))
       | inr f ↦ made.failed f refl
@@ -116,18 +141,22 @@ module _ {D : Type 0} (d : Ghosts D) (p q : StoreView D) (stands : FillStands (s
       | inr f ↦ absurd (failed_told f at)
     ]
 
-    pub asked_current : (rows_of q.rows msg.channel).stage ≡ Posted msg.serial → TurnsJob d p q
+    pub asked_current : own.fill ≡ Some msg → (rows_of q.rows msg.channel).stage ≡ Posted msg.serial → TurnsJob d p q
         → IsFilledFor (rows_of q.rows msg.channel)
-    asked_current at turned = elim (turn_of turned) [
+    asked_current fills at turned = elim (turn_of turned) [
       | inl j ↦ subst IsFilledFor (sym (stays j)) (kept.asked msg fills)
       | inr f ↦ absurd (failed_told f at)
     ]
 
-  -- without a fill
-  pub made_without : own.fill ≡ None → TurnsJob d p q → JobMade d.tells s t own own
+  -- without such a command
+  pub made_without : worked_for own.fill own.held ≡ None → TurnsJob d p q → JobMade d.tells s t own own
   made_without none turned = elim (turn_of turned) [
     | inl j ↦ made.goes_on j refl
-    | inr f ↦ made.failed f (ap (λ o. record own { fill = o }) none)
+    | inr f ↦
+        let both = none_of_both own.fill own.held none in
+        let beside : own.held ≡ held_beside own.fill own.held =
+        both.1 ∙ sym (ap (λ o. held_beside o own.held) both.0) in
+        made.failed f (λ i. record own { held = beside i; fill = both.0 i })
   ]
 
 -- what a request tells of a message's row

@@ -7,13 +7,14 @@ use Rattle.page_disk.specs.declared.disk.PageDisk.{Ghosts}
 use Rattle.volume_model.specs.declared.reply.Msg.{Msg}
 use Rattle.store_model.specs.Rows.{OpenClaim}
 use Rattle.store_model.specs.StoreState.{StoreState}
-use Rattle.running_store.specs.StoreView.{StoreView}
+use Rattle.running_store.specs.StoreView.{state_of, StoreView}
 use Rattle.run_work.specs.Reading.{has_any, is_in_use, is_there}
 use Rattle.run_work.specs.RunFacts.{in_queue, is_filled_for, is_held, is_waiting, IsOneOf, not_sent}
 use Rattle.run_work.specs.Steps.{holds_command}
 use Rattle.run_moves.specs.DrivenStore.{run_of}
+use Rattle.run_moves.specs.FillTurns.{HoldsFill, worked_for}
 use Rattle.run_moves.specs.Projection.{claim_in_run, stage_in_run}
-use Rattle.md_thread.specs.Holding.{driven_by, IsKept, Keeps, MetadataState}
+use Rattle.md_thread.specs.Holding.{driven_by, IsKept, Keeps, messages_by, MetadataState}
 use Rattle.md_thread.specs.Turns.{HasJoined}
 use Rattle.md_thread.proofs.StepsDue.{command_waits, held_alone, insert_held, none_held}
 
@@ -85,21 +86,33 @@ still_keeps s msg m held (is_waiting is) = elim (behind m msg s.waiting is) [
 ]
 still_keeps s msg m held (is_filled_for is) = is_filled_for is
 
+-- the command that the fill's row works for is that of the fill, where it works for none without a fill
+works_still : (p : StoreState) (s t : MetadataState) → t.fill ≡ s.fill → (s.fill ≡ None → p.filling ≡ None)
+    → HoldsFill p (messages_by s (λ k. None) []) → HoldsFill p (messages_by t (λ k. None) [])
+works_still p s t same free works channel is = go s.fill refl
+  where
+    go : (o : Option Msg) → s.fill ≡ o
+        → (message : Msg) × (worked_for t.fill t.held ≡ Some message) × (message.channel ≡ channel)
+    go None none = let bad : None ≡ Some channel = sym (free none) ∙ is in absurd (cc bad)
+    go (Some x) fills =
+        let y = works channel is in
+        (y.0, ap (λ o. worked_for o t.held) (same ∙ fills) ∙ sym (ap (λ o. worked_for o s.held) fills) ∙ y.1, y.2)
+
 pub kept_waiting : {D : Type 0} (d : Ghosts D) (p : StoreView D) (s : MetadataState) (msg : Msg) → s.held ≡ Some msg
-    → IsKept d p s → IsKept d p (waiting_too s msg)
-kept_waiting d p s msg held kept = record {
+    → (s.fill ≡ None → p.filling ≡ None) → IsKept d p s → IsKept d p (waiting_too s msg)
+kept_waiting d p s msg held free kept = record {
   current = λ m keeps. kept.current m (still_keeps s msg m held keeps);
   asked = kept.asked;
-  works = kept.works;
+  works = works_still (state_of d p) s (waiting_too s msg) refl free kept.works;
 }
 
 -- once a message is taken out the others are kept
-pub kept_without_held : {D : Type 0} (d : Ghosts D) (p : StoreView D) (s : MetadataState) → IsKept d p s
-    → IsKept d p (record s { held = None })
-kept_without_held d p s kept = record {
+pub kept_without_held : {D : Type 0} (d : Ghosts D) (p : StoreView D) (s : MetadataState)
+    → (s.fill ≡ None → p.filling ≡ None) → IsKept d p s → IsKept d p (record s { held = None })
+kept_without_held d p s free kept = record {
   current = λ m keeps. kept.current m (by m keeps);
   asked = kept.asked;
-  works = kept.works;
+  works = works_still (state_of d p) s (record s { held = None }) refl free kept.works;
 }
   where
     by : (m : Msg) → Keeps (record s { held = None }) m → Keeps s m

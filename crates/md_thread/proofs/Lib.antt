@@ -20,5 +20,3 @@ mod Dropped
 pub mod OneRow
 pub mod RowSteps
 mod Asking
-mod JobEnds
-mod TakenOver

@@ -1,5 +1,5 @@
 -- What the metadata thread keeps between its steps, and which step it makes.
-use Rattle.std.specs.Prelude.{◌≡◌, ℕ, ◌<◌, nat_lt, Bool, true, false, ◌&&◌, not, is_none, is_some, List, [], ◌∷◌, length}
+use Rattle.std.specs.Prelude.{◌≡◌, ◌≢◌, ℕ, ◌<◌, nat_lt, Bool, true, false, ◌&&◌, not, is_none, is_some, List, [], ◌∷◌, length}
 use Rattle.std.specs.Prelude.{Option, None, Some}
 use Rattle.volume_model.specs.declared.reply.Msg.{Msg}
 use Rattle.store_model.specs.Rows.{Ended, Posted, Row}
@@ -28,6 +28,10 @@ pub record MetadataState : Type 0 where
   pub found_none : Bool
   pub next : Next
 
+-- what it keeps before its first step, which is made on the store
+abbrev pub at_first : Option Msg → MetadataState
+at_first held = record { held = held; waiting = []; fill = None; found_none = false; next = on.Plant }
+
 -- ---- its messages
 
 -- it keeps the message: it holds it, or its command waits or is filled for
@@ -54,6 +58,12 @@ pub record IsKept {D : Type 0} (d : Ghosts D) (p : StoreView D) (s : MetadataSta
   pub current : AreCurrent p.rows s
   pub asked : (msg : Msg) → s.fill ≡ Some msg → IsFilledFor (rows_of p.rows msg.channel)
   pub works : HoldsFill (state_of d p) (messages_by s (λ k. None) [])
+
+-- What was held still is; or the fill's row worked for its command behind a takeover, and that one is logged.
+pub data IsHeldOn (rows : List Row) (s : MetadataState) (held : Option Msg) : Type 0 where
+  still_held : held ≡ s.held → IsHeldOn rows s held
+  let_go : (msg : Msg) → s.fill ≡ None → s.held ≡ Some msg → (rows_of rows msg.channel).stage ≢ Posted msg.serial
+      → held ≡ None → IsHeldOn rows s held
 
 -- ---- its step
 

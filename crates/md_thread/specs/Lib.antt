@@ -1,4 +1,3 @@
 pub mod Tasks
 pub mod Holding
 pub mod Turns
-pub mod TakingOver

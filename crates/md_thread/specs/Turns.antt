@@ -3,14 +3,15 @@ use Rattle.std.specs.Prelude.{◌≡◌, ℕ, List, [], None, Option, Some, Bool
 use Rattle.volume_model.specs.declared.reply.Msg.{Msg}
 use Rattle.store_model.specs.StoreState.{StoreState}
 use Rattle.run_moves.specs.DriverSteps.{driven_at_turn, JobTurn, MetadataActsOn, ServingTurn}
-use Rattle.run_moves.specs.FillTurns.{FailedFill, FillEnd, FillTurn}
+use Rattle.run_moves.specs.FillTurns.{FailedFill, FillEnd, FillTurn, held_beside}
 use Rattle.md_thread.specs.Holding.{driven_by, MetadataState}
 
 module _ (told : Bool) (p q : StoreState) where
-  -- the running job made its next turn, and the fill goes on; or its insert failed, and there is none any more
+  -- the running job made its next turn, and what the fill's row does goes on; or its insert failed, and the command that
+  -- it works for is logged
   pub data JobMade (s t : MetadataState) : Type 0 where
     goes_on : JobTurn told p q → t ≡ s → JobMade s t
-    failed : FailedFill p q → t ≡ record s { fill = None } → JobMade s t
+    failed : FailedFill p q → t ≡ record s { held = held_beside s.fill s.held; fill = None } → JobMade s t
 
   -- the fill of a message's command goes on, or there is none any more
   pub data FillMade (msg : Msg) (s t : MetadataState) : Type 0 where

@@ -1,5 +1,6 @@
 //! The steps of the metadata thread, and what it keeps between them.
 
+mod job_turns;
 mod turns;
 
 ghost use Rattle.std.specs.Prelude.{◌≡◌, ◌↔◌, None, false, IsFalse, IsSome, IsTrue};
@@ -8,7 +9,7 @@ ghost use Rattle.md_thread.specs.Holding.{IsNextAfter};
 ghost use Rattle.running_store.specs.StoreView.{rows_of};
 ghost use Rattle.store_model.specs.Rows.{Posted};
 
-use crate::ending::have_ended;
+use crate::ending::{have_ended, message_filled_for};
 use md_queue::{Inbox, MessageList};
 use page_disk::PageDisk;
 use std::alloc::Global;
@@ -75,8 +76,9 @@ impl MdState {
     ghost use Rattle.store_model.specs.Rows.{fill_row};
     ghost use Rattle.md_thread.specs.declared.state.Next.TheVariants as on;
     ghost use Rattle.md_thread.specs.declared.state.Turn.TheVariants.{Moved};
-    ghost use Rattle.md_thread.specs.Holding.{ComesNext, IsKept, LooksForMessage, looks_first, MakesStep};
-    ghost use Rattle.md_thread.specs.Holding.{MetadataState, without_next};
+    ghost use Rattle.md_thread.specs.Holding.{at_first, ComesNext, IsHeldOn, IsKept, LooksForMessage, looks_first};
+    ghost use Rattle.md_thread.specs.Holding.{MakesStep, MetadataState, without_next};
+    ghost use Rattle.run_moves.specs.DrivenStore.{message_filled_for};
     ghost use Rattle.md_thread.specs.Turns.{ServiceMade};
     ghost use Rattle.metadata_turns.specs.JobTurns.{TurnsJob};
     ghost use Rattle.running_store.specs.StoreView.{rows_of, state_of};
@@ -86,10 +88,24 @@ impl MdState {
 
     /// Nothing is held, and the first step is made on the store, where a job may run.
     pub fn new() -> MdState
-        ensures { result ≡ record { held = None; waiting = []; fill = None; found_none = false; next = on.Plant } }
+        ensures { result ≡ at_first None }
     {
         MdState {
             held: None,
+            waiting: MessageList::new(),
+            fill: None,
+            found_none: false,
+            next: Next::Plant,
+        }
+    }
+
+    /// That of a metadata thread that takes a store over from another one: it holds the message of the command that the
+    /// fill's row works for, if that works for one. Channels send the messages of all other rows that are posted.
+    pub fn taking_over<D: PageDisk>(plant: &Plant<D>) -> MdState
+        ensures { result ≡ at_first (message_filled_for (state_of D.PageDisk plant.now.at)) }
+    {
+        MdState {
+            held: message_filled_for(plant),
             waiting: MessageList::new(),
             fill: None,
             found_none: false,
@@ -156,9 +172,9 @@ impl MdState {
         ensures first { looks_first plant.old.at.job self.old ≡ true → self.old.found_none ≡ false → result ≡ Idle }
         ensures looked { self.new.found_none ≡ false }
         ensures next { IsNextAfter result plant.new.at.rows (looks_first plant.new.at.job self.new) self.new.next }
-        // A running job makes its next turn, and no message is looked at.
+        // A running job makes its next turn, and no message is served.
         ensures job { IsSome plant.old.at.job → (result ≡ Moved) × TurnsJob D.PageDisk plant.old.at plant.new.at
-            × (self.new.held ≡ self.old.held) × (self.new.waiting ≡ self.old.waiting) }
+            × IsHeldOn plant.new.at.rows self.old self.new.held × (self.new.waiting ≡ self.old.waiting) }
         // Where no job runs and no fill goes on, the message that comes next is served,
         ensures message { plant.old.at.job ≡ None → is_stage (rows_of plant.old.at.rows fill_row) fill_row ≡ Over
             → self.old.fill ≡ None → (msg : AMsg) → ComesNext self.old msg → msg.channel < 16

@@ -1,10 +1,8 @@
--- A driver's step is a step of the run; and a driver can start on a store.
+-- A driver's step is a step of the run.
 use Rattle.std.proofs.Common.{◌≡◌, ℕ, ◌<◌, Bool, true, false, List, Option, Some, None, refl, sym, ap, ◌∙◌}
 use Rattle.std.proofs.Common.{subst, inl, inr}
 use Rattle.std.specs.Prelude.{if◌then◌else◌, nat_lt}
 use Rattle.std.proofs.lemmas.Bool.{and_parts, ltb-true}
-use Rattle.std.specs.Option.{option_map}
-use Rattle.std.proofs.Math.Path.{fun_ext}
 use Rattle.super_block.specs.Numbers.{cluster_pages_of}
 use Rattle.super_block.specs.declared.page.Super.{Super}
 use Rattle.volume_model.specs.Volumes.{Volumes}
@@ -12,77 +10,31 @@ use Rattle.volume_model.specs.declared.command.Command.{Command}
 use Rattle.volume_model.specs.declared.reply.Msg.{Msg}
 use Rattle.store_model.specs.Filling.{FillStands}
 use Rattle.store_model.specs.RunInvariant.{RunInvariant}
-use Rattle.store_model.specs.Rows.{Claiming, Copying, Decided, Ended, Idle, InJob, Posted, Ready, Stage}
 use Rattle.store_model.specs.StoreState.{StoreState}
 use Rattle.run_work.specs.Following.{ActorInRun, ChannelActs, MetadataActs}
-use Rattle.run_work.specs.RunFacts.{at_start, is_filled_for, is_held, is_waiting, IsOneOf, IsOnTheWay, RunFacts}
-use Rattle.run_work.specs.RunFacts.{serial_posted}
+use Rattle.run_work.specs.RunFacts.{is_filled_for, is_held, is_waiting, IsOneOf, IsOnTheWay, RunFacts}
 use Rattle.run_work.specs.RunLaws.{DueLaws, FactLaws}
-use Rattle.run_work.specs.RunState.{AtInJob, JobInRun, RunSizes, RunState}
-use Rattle.run_work.specs.ServingMoves.{TakesOut, the_first, the_held, WaitsInJob}
+use Rattle.run_work.specs.RunState.{RunSizes, RunState}
+use Rattle.run_work.specs.ServingMoves.{TakesOut, the_filled, the_first, the_held, the_taken_over, WorksFor}
 use Rattle.run_work.specs.Steps.{at_once, at_turn, behind_fill, by_take, can_channel, CloseStep, due, due_in, FillStep}
 use Rattle.run_work.specs.Steps.{has_to_wait, JobStep, MessageStep, MetadataMove, MoveKind, queued_behind, StepOf}
 use Rattle.run_work.specs.Steps.{TakeStep}
-use Rattle.run_moves.specs.DrivenStore.{driven_at_start, DrivenStore, run_of, serial_in}
+use Rattle.run_moves.specs.DrivenStore.{DrivenStore, run_of}
 use Rattle.run_moves.specs.DriverLaws.{IsOfChannels}
 use Rattle.run_moves.specs.DriverSteps.{behind_others, by_closing, by_failed_fill, by_fill, by_job, by_message}
 use Rattle.run_moves.specs.DriverSteps.{by_taking, by_taking_up, driven_at_turn, DriverStep, fill_ends, fill_goes_on}
 use Rattle.run_moves.specs.DriverSteps.{FillActsOn, MetadataActsOn, taken_up}
-use Rattle.run_moves.specs.FillTurns.{FailedFill, HoldsFill, without_fill}
+use Rattle.run_moves.specs.FillTurns.{FailedFill, held_beside, HoldsFill, without_worked}
 use Rattle.run_moves.specs.PlainRows.{HasPlainRows}
-use Rattle.run_moves.specs.Projection.{job_in_run, run_state_of, RunMessages, stage_in_run}
+use Rattle.run_moves.specs.Projection.{run_state_of, RunMessages}
 use Rattle.run_moves.specs.ServingTurns.{IsMeasured}
 use Rattle.run_moves.specs.Sizes.{sizes_of}
 use Rattle.run_moves.proofs.ChannelSteps.{channel_moves}
-use Rattle.run_moves.proofs.FillHeld.{holds_at_turn, none_worked}
-use Rattle.run_moves.proofs.FillKept.{failed_for}
-use Rattle.run_moves.proofs.FillEnds.{ending_moves, failing_moves}
+use Rattle.run_moves.proofs.FillHeld.{holds_at_turn, none_works}
+use Rattle.run_moves.proofs.FillKept.{failed_for, none_holds}
+use Rattle.run_moves.proofs.FillEnds.{ending_moves, failing_moves, works_by}
 use Rattle.run_moves.proofs.FillMoves.{closing_moves, going_moves}
 use Rattle.run_moves.proofs.MetadataSteps.{job_moves, measured as is_measured, MovesIn, serving_moves}
-
--- ---- the start
-
-serial_seen : (stage : Stage) → serial_in stage ≡ serial_posted (stage_in_run stage)
-serial_seen Idle = refl
-serial_seen Claiming = refl
-serial_seen (Copying left) = refl
-serial_seen Ready = refl
-serial_seen (Posted serial) = refl
-serial_seen InJob = refl
-serial_seen (Decided outcome) = refl
-serial_seen Ended = refl
-
-in_job_seen : (stage : Stage) → stage_in_run stage ≡ AtInJob → stage ≡ InJob
-in_job_seen InJob is = refl
-in_job_seen Idle is = absurd (cc is)
-in_job_seen Claiming is = absurd (cc is)
-in_job_seen (Copying left) is = absurd (cc is)
-in_job_seen Ready is = absurd (cc is)
-in_job_seen (Posted serial) is = absurd (cc is)
-in_job_seen (Decided outcome) is = absurd (cc is)
-in_job_seen Ended is = absurd (cc is)
-
-module _ (p : StoreState) where
-  abbrev w : RunState
-  w = run_of (driven_at_start p)
-
-  -- a driver begins on a store as a run does
-  start_is : at_start w ≡ w
-  start_is = ap (λ unsent. record w { unsent = unsent }) (fun_ext (λ k.
-      ap (λ o. if nat_lt k 16 then o else None) (sym (serial_seen (p.rows k).stage))))
-
--- whatever stages the rows are at
-pub starts_on : FactLaws → (s : Super) (first : Volumes) (script : ℕ → List Command) (p : StoreState)
-    → RunInvariant s first script p → RunFacts (run_of (driven_at_start p))
-starts_on facts s first script p has =
-    let w = run_of (driven_at_start p) in
-    let frozen : (h : ℕ) → p.frozen h ≡ true → (job : JobInRun) × (w.job ≡ Some job) × (job.freeze ≡ Some h) =
-    λ h is. let x = has.guarded.frozen h is in (job_in_run x.0, ap (option_map job_in_run) x.1, x.2) in
-    let waits : (ch : ℕ) → (w.rows ch).stage ≡ AtInJob → WaitsInJob w ch =
-    λ ch at.
-    let x = has.shaped.in_job ch (in_job_seen (p.rows ch).stage at) in
-    (job_in_run x.0, ap (option_map job_in_run) x.1, x.2) in
-    subst RunFacts (start_is p) (facts.start w frozen waits)
 
 -- ---- the metadata thread
 
@@ -132,7 +84,14 @@ module _ (s : Super) (first : Volumes) (script : ℕ → List Command) (channels
   fill_moves d message fill below held idle (fill_goes_on t same) = subst (λ e. Moves d e FillStep) (sym same)
       (going_moves w.store v.store d message fill told measured t)
   fill_moves d message fill below held idle (fill_ends t same) = subst (λ e. Moves d e FillStep) (sym same)
-      (ending_moves w.store v.store d stands message fill below held idle told measured t)
+      (ending_moves w.store v.store d stands message d.held (the_filled fill refl) below held idle told fill refl
+      measured t)
+
+  -- the message of the command that the own row works for is on its way
+  worked_on_way : (message : Msg) (held : Option Msg) → WorksFor (run_of w) message held
+      → IsOnTheWay (run_of w) message
+  worked_on_way message held (the_filled fill same) = is_filled_for fill
+  worked_on_way message held (the_taken_over none was gone) = is_held was
 
   taken_on_way : (message : Msg) (held : Option Msg) (waiting : List Msg) → TakesOut (run_of w) message held waiting
       → IsOnTheWay (run_of w) message
@@ -152,11 +111,13 @@ module _ (s : Super) (first : Volumes) (script : ℕ → List Command) (channels
       (by_fill_of t))
     where
       -- the fill's row works for a command, since it is in the job
-      by_fill_of : FailedFill w.store v.store → Moves w.messages (without_fill w.messages) JobStep
+      by_fill_of : FailedFill w.store v.store → Moves w.messages (without_worked w.messages) JobStep
       by_fill_of t =
           let x = failed_for w.store v.store stands t in
           let m = holds x.0 x.1 in
-          failing_moves w.store v.store w.messages stands m.0 m.1 (low m.0 (is_filled_for m.1)) holds has.guarded t
+          let works = works_by w.store w.messages m.0 m.1 in
+          failing_moves w.store v.store w.messages stands m.0 (held_beside w.messages.fill w.messages.held) works
+          (low m.0 (worked_on_way m.0 (held_beside w.messages.fill w.messages.held) works)) holds has.guarded t
   metadata_acts (by_closing is t same) =
       let x = due.close (run_of w) is in
       once CloseStep is (subst (λ e. Moves w.messages e CloseStep) (sym same)
@@ -169,7 +130,8 @@ module _ (s : Super) (first : Volumes) (script : ℕ → List Command) (channels
       (low message (taken_on_way message held waiting takes)) held waiting takes t))
   metadata_acts (by_taking_up message held waiting is none takes acts) =
       let d = (taken_up w held waiting message).messages in
-      let x = fill_moves d message refl (low message (taken_on_way message held waiting takes)) (none_worked w.store w.messages d holds none)
+      let x = fill_moves d message refl (low message (taken_on_way message held waiting takes))
+      (none_holds w.store d (none_works w stands none (λ bad. cc (sym is ∙ bad)) (λ bad. cc (sym is ∙ bad))))
       (due.message (run_of w) message is).0 acts in
       behind_fill message (run_state_of w.store d) (record {
         none = none;
@@ -211,7 +173,7 @@ step_moves laws due s first script told MetadataActs w v some channels has later
       subst (λ x. MetadataMove (sizes_of s) x (run_of v)) (turn_is w)
           (subst (λ x. MetadataMove (sizes_of x) (run_of (driven_at_turn w)) (run_of v)) has.super
           (metadata_acts s first script channels told laws due (driven_at_turn w) v has later plain stands
-          (holds_at_turn w holds) (subst RunFacts (sym (turn_is w)) (laws.turn (run_of w) facts)) acts.1)),
+          (holds_at_turn w stands holds) (subst RunFacts (sym (turn_is w)) (laws.turn (run_of w) facts)) acts.1)),
     )
 step_moves laws due s first script told actor w v some channels has later plain stands holds facts (inr none) =
     inr (none.0, ap run_of none.1)

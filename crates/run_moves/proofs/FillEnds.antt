@@ -23,10 +23,11 @@ use Rattle.store_model.specs.StoreState.{ForInsert, JobState, live_of, shown, St
 use Rattle.store_model.specs.Turning.{stopped_now}
 use Rattle.run_work.specs.Reading.{logged_at, with_row_in_run, is_in_use}
 use Rattle.run_work.specs.RunState.{AtDecided, AtIdle, RowsInRun}
-use Rattle.run_work.specs.ServingMoves.{EndsFillIn, for_filled, in_fill, in_insert}
+use Rattle.run_work.specs.ServingMoves.{EndsFillIn, for_filled, in_fill, in_insert, the_filled, the_taken_over}
+use Rattle.run_work.specs.ServingMoves.{WorksFor}
 use Rattle.run_work.specs.Steps.{by_begin_job, by_log_fill, end_step, FillStep, JobStep, MoveKind}
 use Rattle.run_moves.specs.FillTurns as turn
-use Rattle.run_moves.specs.FillTurns.{FailedFill, FillEnd, HoldsFill, without_fill}
+use Rattle.run_moves.specs.FillTurns.{FailedFill, FillEnd, held_beside, HoldsFill, worked_for}
 use Rattle.run_moves.specs.Projection.{command_in_run, heads_found, job_in_run, row_in_run, rows_in_run, run_by}
 use Rattle.run_moves.specs.Projection.{run_state_of, RunMessages, stage_in_run}
 use Rattle.run_moves.specs.ServingTurns.{IsMeasured}
@@ -55,10 +56,27 @@ own_after InJob = inl refl
 own_after (Decided outcome) = inl refl
 own_after Ended = inl refl
 
-module _ (p q : StoreState) (d : RunMessages) (stands : FillStands p) (message : Msg) (fill : d.fill ≡ Some message)
-    (low : message.channel < 16) (holds : HoldsFill p d) where
+-- the message of the command that the own row works for, as the run has it
+pub worked_message : (p : StoreState) (d : RunMessages) (message : Msg) (held : Option Msg)
+    → WorksFor (run_state_of p d) message held → worked_for d.fill d.held ≡ Some message
+worked_message p d message held (the_filled fills same) = ap (λ o. worked_for o d.held) fills
+worked_message p d message held (the_taken_over none was gone) = ap (λ o. worked_for o d.held) none ∙ was
+
+-- and as the driver has it
+pub works_by : (p : StoreState) (d : RunMessages) (message : Msg) → worked_for d.fill d.held ≡ Some message
+    → WorksFor (run_state_of p d) message (held_beside d.fill d.held)
+works_by p d message is = go d.fill refl
+  where
+    go : (o : Option Msg) → d.fill ≡ o → WorksFor (run_state_of p d) message (held_beside d.fill d.held)
+    go None none = the_taken_over none (sym (ap (λ o. worked_for o d.held) none) ∙ is)
+        (ap (λ o. held_beside o d.held) none)
+    go (Some x) fills = the_filled (fills ∙ (sym (ap (λ o. worked_for o d.held) fills) ∙ is))
+        (ap (λ o. held_beside o d.held) fills)
+
+module _ (p q : StoreState) (d : RunMessages) (stands : FillStands p) (message : Msg) (held : Option Msg)
+    (works : WorksFor (run_state_of p d) message held) (low : message.channel < 16) (holds : HoldsFill p d) where
   abbrev e : RunMessages
-  e = without_fill d
+  e = record d { held = held; fill = None }
 
   -- it moves so, and there is no fill any more
   abbrev EndsIn : MoveKind → Type 0
@@ -103,7 +121,8 @@ module _ (p q : StoreState) (d : RunMessages) (stands : FillStands p) (message :
         command = command_in_run p.super command;
         commands = map (command_in_run p.super) rest;
         message = message;
-        fills = fill;
+        held = held;
+        works = works;
         channel = own;
         left = ap (map (command_in_run p.super)) left;
         serial = serial;
@@ -131,11 +150,11 @@ module _ (p q : StoreState) (d : RunMessages) (stands : FillStands p) (message :
     | inr ne ↦ sym (rw (ne_eqb k fill_row ne) refl)
   ])
 
-  -- what the fill's row works for is the fill's command
-  worked_for : (ch : ℕ) → p.filling ≡ Some ch → message.channel ≡ ch
-  worked_for ch works =
-      let x = holds ch works in
-      let both : Some message ≡ Some x.0 = sym fill ∙ x.1 in
+  -- what the fill's row works for is that command
+  is_worked_for : (ch : ℕ) → p.filling ≡ Some ch → message.channel ≡ ch
+  is_worked_for ch filling =
+      let x = holds ch filling in
+      let both : Some message ≡ Some x.0 = sym (worked_message p d message held works) ∙ x.1 in
       let same : message ≡ x.0 = cc both in
       ap (λ (m : Msg). m.channel) same ∙ x.2
 
@@ -148,9 +167,9 @@ module _ (p q : StoreState) (d : RunMessages) (stands : FillStands p) (message :
       → run_state_of q e
       ≡ run_by p.super image p.base p.generations p.live (rows_behind row stage ch rest) job frozen e
       → EndsIn (end_step ends)
-  given_up row ch is command rest serial posted works stage image job frozen may ends leaves =
+  given_up row ch is command rest serial posted filling stage image job frozen may ends leaves =
       logs_fill ch command rest serial (ap (λ (r : Row). r.left) posted) (ap (λ (r : Row). r.stage) posted)
-      (worked_for ch works) stage p.live image job frozen may ends
+      (is_worked_for ch filling) stage p.live image job frozen may ends
       (leaves ∙ ap (λ r. run_by p.super image p.base p.generations p.live (rows_behind r stage ch rest) job frozen e) is)
 
   none_left : (row : ℕ) → row ≡ fill_row → (p.rows row).left ≡ []
@@ -188,49 +207,51 @@ module _ (p q : StoreState) (d : RunMessages) (stands : FillStands p) (message :
         logs.posted.row logs.works (Decided Answered) p.device.reads p.job p.frozen (inr refl)
         (still p.frozen (λ h is. is)) (ap (λ v. run_state_of v e) logs.next)
 
-    pub ending_moves : (told : Bool) → (p.stopped ≡ None → IsMeasured p) → FillEnd told p q message.channel
-        → EndsIn FillStep
-    ending_moves told measured (turn.begins t is unused) =
+    pub ending_moves : (told : Bool) → d.fill ≡ Some message → held ≡ d.held → (p.stopped ≡ None → IsMeasured p)
+        → FillEnd told p q message.channel → EndsIn FillStep
+    ending_moves told fill same measured (turn.begins t is unused) =
         let x = begins_for p q d d.held d.waiting (measured t.runs) t None
         (for_filled message fill (sym is) (ap (λ (r : Row). is_in_use (stage_in_run r.stage)) unused) refl refl refl) in
-        record { move = by_begin_job t.posted.channel (subst (λ n. n < 16) (sym is) low) x.0; due = x.1 }
-    ending_moves told measured (turn.answers t is unused) =
+        subst (λ o. MovesIn (sizes_of p.super) (run_state_of p d) (run_state_of q (record d { held = o; fill = None }))
+        FillStep) (sym same)
+        (record { move = by_begin_job t.posted.channel (subst (λ n. n < 16) (sym is) low) x.0; due = x.1 })
+    ending_moves told fill same measured (turn.answers t is unused) =
         unused_ends t.posted.channel t.posted.command t.posted.rest t.posted.serial
         (live_of (change (fixed_of p.super) (shown p) t.posted.command t.reply)) unused
         (ap (λ (r : Row). r.left) t.posted.row) (ap (λ (r : Row). r.stage) t.posted.row) (sym is)
         (ap (λ v. run_state_of v e) t.next)
-    ending_moves told measured (turn.refuses t is unused) =
+    ending_moves told fill same measured (turn.refuses t is unused) =
         unused_ends t.posted.channel t.posted.command t.posted.rest t.posted.serial p.live unused
         (ap (λ (r : Row). r.left) t.posted.row) (ap (λ (r : Row). r.stage) t.posted.row) (sym is)
         (ap (λ v. run_state_of v e) t.next)
-    ending_moves told measured (turn.halts serial t posted is unused) =
+    ending_moves told fill same measured (turn.halts serial t posted is unused) =
         unused_ends t.channel t.command t.rest serial p.live unused
         (ap (λ (r : Row). r.left) t.row) (ap (λ (r : Row). r.stage) t.row ∙ posted) (sym is)
         (ap (λ v. run_state_of v e) t.next ∙ ap (λ x. run_by p.super p.device.reads p.base p.generations p.live
         (with_row p.rows t.channel (record { left = t.rest; stage = stage_after x; claim = None })) p.job p.frozen e)
         posted)
-    ending_moves told measured (turn.lacks_for_fill t is) =
+    ending_moves told fill same measured (turn.lacks_for_fill t is) =
         let posted = t.fill.posted in
         unused_ends posted.channel posted.command posted.rest posted.serial p.live t.fill.unused
         (ap (λ (r : Row). r.left) posted.row) (ap (λ (r : Row). r.stage) posted.row) (sym is)
         (ap (λ v. run_state_of v e) t.next)
-    ending_moves told measured (turn.halts_fill t is) =
+    ending_moves told fill same measured (turn.halts_fill t is) =
         logs_fill t.posted.channel t.posted.command t.posted.rest t.posted.serial
         (ap (λ (r : Row). r.left) t.posted.row) (ap (λ (r : Row). r.stage) t.posted.row) (sym is)
         (stage_after (p.rows fill_row).stage) p.live p.device.reads p.job p.frozen (own_after (p.rows fill_row).stage)
         (still p.frozen (λ h is. is)) (ap (λ v. run_state_of v e) t.next)
-    ending_moves told measured (turn.copy_not_read t is) =
+    ending_moves told fill same measured (turn.copy_not_read t is) =
         let logs = of_fill p q t.copying.row _ _ t.device t.logs (none_left t.copying.row is) in
         given_up t.copying.row logs.posted.channel is logs.posted.command logs.posted.rest logs.posted.serial
         logs.posted.row logs.works Idle t.device.reads p.job p.frozen (inl refl) (still p.frozen (λ h is. is))
         (ap (λ v. run_state_of v e) logs.next)
-    ending_moves told measured (turn.copy_fails t is) =
+    ending_moves told fill same measured (turn.copy_fails t is) =
         let logs = of_fill (stopped_now p) q t.copying.row _ _ t.device t.logs (none_left t.copying.row is) in
         given_up t.copying.row logs.posted.channel is logs.posted.command logs.posted.rest logs.posted.serial
         logs.posted.row logs.works Idle t.device.reads p.job (λ h. false) (inl refl)
         (still (λ h. false) (λ h bad. absurd (cc bad))) (ap (λ v. run_state_of v e) logs.next)
-    ending_moves told measured (turn.lacks_for_insert t is) = lacks_insert t is
-    ending_moves told measured (turn.lacks_memory_for_insert t is) = lacks_memory t is
+    ending_moves told fill same measured (turn.lacks_for_insert t is) = lacks_insert t is
+    ending_moves told fill same measured (turn.lacks_memory_for_insert t is) = lacks_memory t is
 
   -- ---- in the job of its insert
 
@@ -240,8 +261,8 @@ module _ (p q : StoreState) (d : RunMessages) (stands : FillStands p) (message :
       → (image : Image) (frozen : ℕ → Bool) → ((h : ℕ) → frozen h ≡ false)
       → run_state_of q e ≡ run_by p.super image p.base p.generations p.live
       (rows_behind row (Decided Answered) ch rest) None frozen e → EndsIn JobStep
-  failed_job job row ch runs serves is command rest serial posted works image frozen thaws leaves =
-      given_up row ch is command rest serial posted works (Decided Answered) image None frozen (inr refl)
+  failed_job job row ch runs serves is command rest serial posted filling image frozen thaws leaves =
+      given_up row ch is command rest serial posted filling (Decided Answered) image None frozen (inr refl)
       (in_insert (
         job_in_run job,
         ap (option_map job_in_run) runs,

@@ -7,14 +7,15 @@ use Rattle.store_model.specs.Cases.BreakDown.{BreaksDown}
 use Rattle.store_model.specs.Claiming.{logs_filled, logs_own, LogsWork}
 use Rattle.store_model.specs.Device.{Device}
 use Rattle.store_model.specs.Filling.{filling_behind, FillStands, StandsAt, unused_row}
-use Rattle.store_model.specs.Rows.{fill_row, InJob, Row, Stage}
+use Rattle.store_model.specs.Rows.{Claiming, Copying, Decided, Ended, fill_row, Idle, InJob, Posted, Ready, Row, Stage}
 use Rattle.store_model.specs.StoreState.{StoreState}
 use Rattle.store_model.specs.Turning.{stopped_now}
+use Rattle.run_work.specs.Reading.{is_in_use}
 use Rattle.run_moves.specs.DriverSteps.{ChannelTurn, JobTurn, PostingTurn, ServingTurn}
 use Rattle.run_moves.specs.DriverSteps as turn
 use Rattle.run_moves.specs.FillTurns as fills
-use Rattle.run_moves.specs.FillTurns.{FailedFill, FillEnd, FillTurn, HoldsFill, without_fill}
-use Rattle.run_moves.specs.Projection.{RunMessages}
+use Rattle.run_moves.specs.FillTurns.{FailedFill, FillEnd, FillTurn, HoldsFill, worked_for}
+use Rattle.run_moves.specs.Projection.{RunMessages, stage_in_run}
 use Rattle.run_moves.proofs.WorkLogged.{of_fill}
 
 -- for whom the fill's row works, behind a turn
@@ -155,13 +156,28 @@ module _ (p q : StoreState) (stands : FillStands p) where
   failed_none (fills.insert_breaks_down t is) = filling_then (of_fill (record p { job = None }) q
       t.inserting.row _ _ p.device t.logs (none_left t.inserting.row is)).next
 
+  -- a row that isn't in use works for none
+  pub unused_works : is_in_use (stage_in_run (p.rows fill_row).stage) ≡ false → p.filling ≡ None
+  unused_works unused = by p.filling (p.rows fill_row).stage stands.stage unused
+    where
+      by : (o : Option ℕ) (stage : Stage) → StandsAt o stage → is_in_use (stage_in_run stage) ≡ false → o ≡ None
+      by None stage at unused = refl
+      by (Some ch) Idle at unused = absurd at
+      by (Some ch) Claiming at unused = absurd at
+      by (Some ch) (Copying left) at unused = absurd (cc unused)
+      by (Some ch) Ready at unused = absurd (cc unused)
+      by (Some ch) (Posted serial) at unused = absurd (cc unused)
+      by (Some ch) InJob at unused = absurd (cc unused)
+      by (Some ch) (Decided outcome) at unused = absurd (cc unused)
+      by (Some ch) Ended at unused = absurd at
+
   -- while it goes on the driver holds it
   pub going_holds : (told : Bool) (d : RunMessages) (message : Msg) → d.fill ≡ Some message → HoldsFill p d
       → FillTurn told p q message.channel → HoldsFill q d
   going_holds told d message fill holds (fills.claims_fill t is) channel works =
       let both : Some t.fill.posted.channel ≡ Some channel = sym (filling_then t.next) ∙ works in
       let same : t.fill.posted.channel ≡ channel = cc both in
-      (message, fill, sym is ∙ same)
+      (message, ap (λ o. worked_for o d.held) fill, sym is ∙ same)
   going_holds told d message fill holds (fills.copies t is) channel works =
       holds channel (sym (filling_then t.next) ∙ works)
   going_holds told d message fill holds (fills.loses_copy t is) channel works =
@@ -179,6 +195,7 @@ module _ (p q : StoreState) (stands : FillStands p) where
 pub none_holds : (q : StoreState) (e : RunMessages) → q.filling ≡ None → HoldsFill q e
 none_holds q e none channel works = let bad = sym none ∙ works in absurd (cc bad)
 
--- and it is held as it was
-pub holds_on : (p q : StoreState) (d e : RunMessages) → WorksOn p q → e.fill ≡ d.fill → HoldsFill p d → HoldsFill q e
+-- and the driver has its command as before
+pub holds_on : (p q : StoreState) (d e : RunMessages) → WorksOn p q
+    → worked_for e.fill e.held ≡ worked_for d.fill d.held → HoldsFill p d → HoldsFill q e
 holds_on p q d e works same holds channel is = let x = holds channel (works channel is) in (x.0, same ∙ x.1, x.2)

@@ -25,3 +25,4 @@ pub mod FillEnds
 pub mod FillKept
 pub mod FillHeld
 pub mod DriverMoves
+pub mod DriverStarts

@@ -53,7 +53,7 @@ module _ (s : Super) (first : Volumes) (script : ℕ → List Command) (channels
   -- ---- whose rows these are
 
   -- a row with a command is a channel's
-  left_low : (row : ℕ) (command : CommandInRun) (commands : List CommandInRun)
+  pub left_low : (row : ℕ) (command : CommandInRun) (commands : List CommandInRun)
       → map (command_in_run p.super) (p.rows row).left ≡ command ∷ commands → row < 16
   left_low row command commands left = elim (cases_lt row 16) [
     | inl low ↦ low

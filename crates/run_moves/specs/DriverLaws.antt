@@ -12,7 +12,7 @@ use Rattle.run_work.specs.Following.{ActorInRun}
 use Rattle.run_work.specs.RunFacts.{RunFacts}
 use Rattle.run_work.specs.Steps.{can_channel, StepOf}
 use Rattle.run_moves.specs.DrivenStore.{driven_at_start, DrivenStore, run_of}
-use Rattle.run_moves.specs.DriverSteps.{ChannelTurn, DriverStep, PostingTurn}
+use Rattle.run_moves.specs.DriverSteps.{ChannelTurn, driven_at_turn, DriverStep, PostingTurn}
 use Rattle.run_moves.specs.FillTurns.{HoldsFill}
 use Rattle.run_moves.specs.PlainRows.{HasPlainRows}
 use Rattle.run_moves.specs.Projection.{RunMessages, run_state_of}
@@ -31,8 +31,10 @@ IsOfChannels script = (row : ℕ) → 16 ≤ row → script row ≡ []
 module _ (s : Super) (first : Volumes) (script : ℕ → List Command) where
   -- of a store with what every state of a run has
   pub record DriverLawsOf : Type 0 where
-    -- a driver can start on it, at whatever stages its rows are
-    pub start : (p : StoreState) → RunInvariant s first script p → RunFacts (run_of (driven_at_start p))
+    -- a driver can start on it, at whatever stages its rows are, and has the command that the fill's row works for
+    pub start : (p : StoreState) → IsOfChannels script → RunInvariant s first script p → FillStands p
+        → RunFacts (run_of (driven_at_start p))
+    pub start_fill : (p : StoreState) → FillStands p → HoldsFill p (driven_at_start p).messages
     -- where a channel makes a turn, it can move
     pub turn_can : (told : Bool) (p q : StoreState) (d : RunMessages) (channel : ℕ) → RunInvariant s first script p
         → channel < 16 → ChannelTurn told p q channel → can_channel (run_state_of p d) channel ≡ true
@@ -43,7 +45,9 @@ module _ (s : Super) (first : Volumes) (script : ℕ → List Command) where
         → RunInvariant s first script w.store → RunInvariant s first script v.store → HasPlainRows w.store
         → FillStands w.store → HoldsFill w.store w.messages → RunFacts (run_of w) → DriverStep told actor w v
         → StepOf (sizes_of s) actor (run_of w) (run_of v)
-    -- and leaves the driver with the fill of the command that the fill's row works for
+    -- and leaves the driver with the command that the fill's row works for, as does that a command comes to wait
+    pub turn_fill : (w : DrivenStore) → FillStands w.store → HoldsFill w.store w.messages
+        → HoldsFill w.store (driven_at_turn w).messages
     pub fill : (told : Bool) (actor : ActorInRun) (w v : DrivenStore) → FillStands w.store
         → HoldsFill w.store w.messages → DriverStep told actor w v → HoldsFill v.store v.messages
 

@@ -56,7 +56,7 @@ use Rattle.run_work.specs.Steps.{all_ended, can_move, CloseStep, due_in, FillSte
 use Rattle.run_work.specs.Steps.{TakeStep}
 use Rattle.run_moves.specs.ChannelTurns.{with_sent, with_unsent}
 use Rattle.run_moves.specs.DrivenStore.{DrivenStore, run_of}
-use Rattle.run_moves.specs.FillTurns.{FailedFill, FillEnd, FillTurn, with_fill, without_fill}
+use Rattle.run_moves.specs.FillTurns.{FailedFill, FillEnd, FillTurn, with_fill, without_fill, without_worked}
 use Rattle.run_moves.specs.Projection.{RunMessages, stage_in_run}
 use Rattle.run_moves.specs.ServingTurns.{with_taken}
 
@@ -163,7 +163,7 @@ module _ (told : Bool) where
   -- fill's first turn.
   pub data MetadataActsOn (w v : DrivenStore) : Type 0 where
     by_job : due_in (run_of w) ≡ JobStep → JobTurn w.store v.store → v.messages ≡ w.messages → MetadataActsOn w v
-    by_failed_fill : due_in (run_of w) ≡ JobStep → FailedFill w.store v.store → v.messages ≡ without_fill w.messages
+    by_failed_fill : due_in (run_of w) ≡ JobStep → FailedFill w.store v.store → v.messages ≡ without_worked w.messages
         → MetadataActsOn w v
     by_closing : due_in (run_of w) ≡ CloseStep → EndsFill w.store v.store → v.messages ≡ w.messages
         → MetadataActsOn w v

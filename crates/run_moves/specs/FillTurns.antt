@@ -1,5 +1,5 @@
 -- The turns of a fill: those on its own row by which it goes on, and those with which it ends.
-use Rattle.std.specs.Prelude.{◌≡◌, ℕ, None, Some, Bool}
+use Rattle.std.specs.Prelude.{◌≡◌, ℕ, Option, None, Some, Bool}
 use Rattle.volume_model.specs.declared.reply.Msg.{Msg}
 use Rattle.store_model.specs.Cases.Answer.{Answers}
 use Rattle.store_model.specs.Cases.Begin.{Begins}
@@ -65,7 +65,21 @@ with_fill d message = record d { fill = Some message }
 abbrev pub without_fill : RunMessages → RunMessages
 without_fill d = record d { fill = None }
 
--- The command that the fill's row works for is the one whose fill goes on.
+-- The message of the command that the fill's row works for, by the fill and what is held: that of the fill, or, where
+-- none goes on, the one held, since a metadata thread has just taken over from another.
+abbrev pub worked_for : Option Msg → Option Msg → Option Msg
+worked_for None held = held
+worked_for (Some message) held = Some message
+
+-- what is held once that command is logged
+abbrev pub held_beside : Option Msg → Option Msg → Option Msg
+held_beside None held = None
+held_beside (Some message) held = held
+
+abbrev pub without_worked : RunMessages → RunMessages
+without_worked d = record d { held = held_beside d.fill d.held; fill = None }
+
+-- The driver has the message of the command that the fill's row works for.
 abbrev pub HoldsFill : StoreState → RunMessages → Type 0
 HoldsFill p d = (channel : ℕ) → p.filling ≡ Some channel → (message : Msg)
-    × (d.fill ≡ Some message) × (message.channel ≡ channel)
+    × (worked_for d.fill d.held ≡ Some message) × (message.channel ≡ channel)

@@ -1,6 +1,8 @@
 -- A round lowers the work unless all have ended; so a run of rounds ends.
 use Rattle.std.proofs.Common.{if◌then◌else◌, Option, None, Bool, ◌≡◌, ◌⊎◌, inl, inr, ℕ, zero, suc, ◌+◌, ◌<◌, ◌≤◌, true}
-use Rattle.std.proofs.Common.{false, List, [], ◌∷◌, refl, sym, ◌∙◌, ap, subst, arith, nat_lt, Some}
+use Rattle.std.proofs.Common.{false, ◌&&◌, List, [], ◌∷◌, refl, sym, ◌∙◌, ap, subst, arith, nat_lt, Some}
+use Rattle.std.specs.Prelude.{not}
+use Rattle.std.proofs.lemmas.Bool.{eqb-true, lt-ltb}
 use Rattle.std.proofs.lemmas.Bool.Decides.{eqb_tells}
 use Rattle.volume_model.specs.declared.reply.Msg.{Msg}
 use Rattle.run_work.specs.RunState.{AtClaiming, AtCopying, AtDecided, AtEnded, AtIdle, AtInJob, AtPosted, AtReady}
@@ -9,8 +11,8 @@ use Rattle.run_work.specs.Work.{one_if, work}
 use Rattle.run_work.specs.ServingMoves.{WaitsInJob}
 use Rattle.run_work.specs.Following.{ActorInRun, ChannelActs, MetadataActs, Passes, Round, Rounds, Scheduled}
 use Rattle.run_work.specs.Steps.{all_ended, can_channel, can_metadata, can_move, RunFollows, StepOf}
-use Rattle.run_work.specs.RunFacts.{at_start, awaited, in_queue, is_filled_for, is_held, is_waiting, IsOnTheWay}
-use Rattle.run_work.specs.RunFacts.{not_sent, RunFacts, serial_posted}
+use Rattle.run_work.specs.RunFacts.{at_start, awaited, comes_from, in_queue, is_filled_for, is_held, is_waiting}
+use Rattle.run_work.specs.RunFacts.{IsOnTheWay, not_sent, RunFacts, serial_posted}
 use Rattle.run_work.specs.Reading.{is_there}
 use Rattle.run_work.proofs.Keeping.{step_keeps}
 use Rattle.run_work.proofs.Lowering.{channel_below, step_lowers}
@@ -138,6 +140,29 @@ awaited_at_start k AtInJob false is = refl
 awaited_at_start k AtDecided false is = refl
 awaited_at_start k AtEnded false is = refl
 
+-- one message is on its way of each channel that is posted: the one that is held, or the one that is to be sent
+counted_at_start : (k : ℕ) (s : StageInRun) (t c : Bool) → nat_lt k 16 ≡ t
+    → (c ≡ true → (n : ℕ) × (t ≡ true) × (s ≡ AtPosted n))
+    → one_if (is_there (if t && not c then serial_posted s else None)) + one_if c ≡ awaited k s
+counted_at_start k s true false is held = let one = awaited_at_start k s true is in omega (arith, one)
+counted_at_start k s false false is held = let one = awaited_at_start k s false is in omega (arith, one)
+counted_at_start k s true true is held =
+    sym (ap (awaited k) (held refl).2 ∙ ap one_if is)
+counted_at_start k s false true is held = absurd (cc (held refl).1)
+
+-- what is held is on its way for the channel that it comes from
+held_posted : (w : RunState) (held : Option Msg)
+    → ((m : Msg) → held ≡ Some m → (m.channel < 16) × ((w.rows m.channel).stage ≡ AtPosted m.serial))
+    → (k : ℕ) → comes_from k held ≡ true → (n : ℕ) × (nat_lt k 16 ≡ true) × ((w.rows k).stage ≡ AtPosted n)
+held_posted w None posted k from = absurd (cc from)
+held_posted w (Some m) posted k from =
+    let same : k ≡ m.channel = eqb-true k m.channel from in
+    let x = posted m refl in (
+      m.serial,
+      ap (λ j. nat_lt j 16) same ∙ lt-ltb m.channel 16 x.0,
+      ap (λ j. (w.rows j).stage) same ∙ x.1,
+    )
+
 serial_is : (s : StageInRun) (n : ℕ) → serial_posted s ≡ Some n → s ≡ AtPosted n
 serial_is (AtPosted x) n is = ap (λ o. AtPosted (or_zero o)) is
   where
@@ -152,24 +177,29 @@ serial_is AtInJob n is = absurd (cc is)
 serial_is AtDecided n is = absurd (cc is)
 serial_is AtEnded n is = absurd (cc is)
 
-current_at_start : (w : RunState) (m : Msg) → IsOnTheWay (at_start w) m → (w.rows m.channel).stage ≡ AtPosted m.serial
-current_at_start w m (not_sent is) = go (nat_lt m.channel 16) is
+current_at_start : (w : RunState) (held : Option Msg)
+    → ((m : Msg) → held ≡ Some m → (m.channel < 16) × ((w.rows m.channel).stage ≡ AtPosted m.serial))
+    → (m : Msg) → IsOnTheWay (at_start w held) m → (w.rows m.channel).stage ≡ AtPosted m.serial
+current_at_start w held posted m (not_sent is) = go (nat_lt m.channel 16 && not (comes_from m.channel held)) is
   where
     go : (t : Bool) → sent_at_start w m.channel t ≡ Some m.serial → (w.rows m.channel).stage ≡ AtPosted m.serial
     go true at = serial_is (w.rows m.channel).stage m.serial at
     go false at = absurd (cc at)
-current_at_start w m (in_queue none) = absurd none
-current_at_start w m (is_held is) = absurd (cc is)
-current_at_start w m (is_waiting none) = absurd none
-current_at_start w m (is_filled_for is) = absurd (cc is)
+current_at_start w held posted m (in_queue none) = absurd none
+current_at_start w held posted m (is_held is) = (posted m is).1
+current_at_start w held posted m (is_waiting none) = absurd none
+current_at_start w held posted m (is_filled_for is) = absurd (cc is)
 
--- two facts of a store are enough for a driver to start
-pub starts : (w : RunState)
+-- two facts of a store are enough for a driver to start, and one of what is held
+pub starts : (w : RunState) (held : Option Msg)
+    → ((m : Msg) → held ≡ Some m → (m.channel < 16) × ((w.rows m.channel).stage ≡ AtPosted m.serial))
     → ((h : ℕ) → w.frozen h ≡ true → (job : JobInRun) × (w.job ≡ Some job) × (job.freeze ≡ Some h))
-    → ((ch : ℕ) → (w.rows ch).stage ≡ AtInJob → WaitsInJob w ch) → RunFacts (at_start w)
-starts w frozen in_job = record {
+    → ((ch : ℕ) → (w.rows ch).stage ≡ AtInJob → WaitsInJob w ch) → RunFacts (at_start w held)
+starts w held posted frozen in_job = record {
   frozen = frozen;
   in_job = in_job;
-  counted = λ k. let one = awaited_at_start k (w.rows k).stage (nat_lt k 16) refl in omega (arith, one);
-  current = current_at_start w;
+  counted = λ k.
+      let one = counted_at_start k (w.rows k).stage (nat_lt k 16) (comes_from k held) refl (held_posted w held posted k)
+      in omega (arith, one);
+  current = current_at_start w held posted;
 }

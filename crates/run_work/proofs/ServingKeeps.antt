@@ -10,12 +10,12 @@ use Rattle.run_work.specs.Work.{one_if}
 use Rattle.run_work.specs.ChannelMoves.{moved_row}
 use Rattle.run_work.specs.ServingMoves.{BeginInsertMove, BeginJobMove, BeginsFor, CloseMove, for_filled, for_message}
 use Rattle.run_work.specs.ServingMoves.{in_fill, in_insert, LogFillMove, Serves, TakeMove, TakesOut, TakeUpMove}
-use Rattle.run_work.specs.ServingMoves.{the_first, the_held}
+use Rattle.run_work.specs.ServingMoves.{the_filled, the_first, the_held, the_taken_over, WorksFor}
 use Rattle.run_work.specs.RunFacts.{awaited, in_queue, is_filled_for, is_from, is_held, is_waiting, IsAmongThese}
 use Rattle.run_work.specs.RunFacts.{IsOneOf, IsOnTheWay, not_sent, occurs, on_the_way, RunFacts}
 use Rattle.run_work.proofs.Changing.{FrozenBy, IsCalm, itself, other, same_rows, unposts_row}
-use Rattle.run_work.proofs.Waited.{idle_thaws, none_left, only_row, others_wait, taken_out, ways_out, ways_served}
-use Rattle.run_work.proofs.Waited.{ways_unfilled}
+use Rattle.run_work.proofs.Waited.{idle_thaws, none_left, only_row, others_wait, others_worked, taken_out, ways_out}
+use Rattle.run_work.proofs.Waited.{ways_served, ways_unfilled, ways_worked}
 
 one_most : (t : Bool) → one_if t ≤ 1
 one_most true = omega arith
@@ -104,6 +104,22 @@ module _ (z : RunSizes) where
   not_fill : (k ch : ℕ) (x : Msg) → x.channel ≡ ch → k ≢ ch → one_if (k == x.channel) ≡ 0
   not_fill k ch x channel ne = other k x.channel (λ is. ne (is ∙ channel))
 
+  -- nor is another one of the command's that the own row works for
+  only_worked : (w : RunState) (ch serial : ℕ) (x : Msg) (held : Option Msg) → RunFacts w → WorksFor w x held
+      → x.channel ≡ ch → (w.rows ch).stage ≡ AtPosted serial
+      → one_if (is_there (w.unsent ch)) + occurs ch w.queue + is_from ch held + occurs ch w.waiting ≡ 0
+  only_worked w ch serial x held f (the_filled fills same) channel at =
+      let rest = only_fill w ch serial x f fills channel at in
+      let stays = ap (is_from ch) same in
+      omega (arith, rest, stays)
+  only_worked w ch serial x held f (the_taken_over none was gone) channel at =
+      let is = ap (is_from ch) was in
+      let one : one_if (ch == x.channel) ≡ 1 = ap (λ k. one_if (ch == k)) channel ∙ itself ch in
+      let left = ap (is_from ch) gone in
+      let all = f.counted ch ∙ ap (awaited ch) at in
+      let most = one_most (nat_lt ch 16) in
+      omega (arith, is, one, left, all, most)
+
   -- the job of a command begins
   pub begun_job : (w v : RunState) (ch : ℕ) → RunFacts w → BeginJobMove z w ch v → RunFacts v
   begun_job w v ch f c =
@@ -178,19 +194,18 @@ module _ (z : RunSizes) where
       ways m (is_waiting is) = ways_out w x c.held c.waiting c.takes m (is_waiting is)
       ways m (is_filled_for is) = subst (IsOnTheWay w) (ap (λ o. or_it o) is) (was c.takes)
 
-  -- a fill's command is logged
+  -- the command that slots are filled for is logged
   pub logged_fill : (w v : RunState) (ch : ℕ) → RunFacts w → LogFillMove z w ch v → RunFacts v
   logged_fill w v ch f c =
       let row : RowInRun = logged_at c.commands AtDecided in
       let over : RowInRun = logged_at [] c.own in
-      let mid : RunState = record (moved_row w ch row) { fill = None } in
-      let rest = only_fill w ch c.serial c.message f c.fills c.channel c.stage in
+      let mid : RunState = record (moved_row w ch row) { held = c.held; fill = None } in
+      let rest = only_worked w ch c.serial c.message c.held f c.works c.channel c.stage in
       let first : RunFacts mid = unposts_row w mid ch row refl f f.frozen (λ k ne s. s) (λ is. absurd (cc is))
       (λ k ne.
-      let fill = ap (is_from k) c.fills in
-      let no_match = not_fill k ch c.message c.channel ne in
-      omega (arith, fill, no_match)) (λ n is. absurd (cc is)) (omega (arith, rest))
-      (ways_unfilled w w.held w.waiting None refl) in
+      let others = others_worked w c.message c.held c.works k (λ is. ne (is ∙ c.channel)) in
+      omega (arith, others)) (λ n is. absurd (cc is)) (omega (arith, rest))
+      (ways_worked w c.message c.held c.works) in
       let own : IsCalm over.stage = elim c.own_is [
         | inl is ↦ (λ n at. absurd (cc (sym at ∙ is)), λ at. absurd (cc (sym at ∙ is)))
         | inr is ↦ (λ n at. absurd (cc (sym at ∙ is)), λ at. absurd (cc (sym at ∙ is)))

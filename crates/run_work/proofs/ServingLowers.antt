@@ -12,7 +12,8 @@ use Rattle.run_work.specs.Work.{own_work, replacement_work, replacements_in, row
 use Rattle.run_work.specs.Work.{try_work, work}
 use Rattle.run_work.specs.ServingMoves.{AnswerMove, BeginInsertMove, BeginJobMove, CloseMove, EndsFillIn, for_filled}
 use Rattle.run_work.specs.ServingMoves.{for_message, in_fill, in_insert, LogFillMove, LoseInsertMove, Serves, TakeMove}
-use Rattle.run_work.specs.ServingMoves.{TakesOut, TakeUpMove, the_first, the_held, the_message, the_own}
+use Rattle.run_work.specs.ServingMoves.{TakesOut, TakeUpMove, the_filled, the_first, the_held, the_message, the_own}
+use Rattle.run_work.specs.ServingMoves.{the_taken_over, WorksFor}
 use Rattle.run_work.proofs.Sums.{le_times, row_here, times_suc}
 use Rattle.run_work.proofs.RowWork.{any_row, one_row, work_of}
 
@@ -172,6 +173,11 @@ module _ (z : RunSizes) where
   job_least w job frozen (in_fill idle none fewer) = let is = ap (job_work z) none in omega (arith, is)
   job_least w job frozen (in_insert waits none thaws) = let is = ap (job_work z) none in omega (arith, is)
 
+  -- nor is more held
+  worked_least : (w : RunState) (x : Msg) (held : Option Msg) → WorksFor w x held → held_work z held ≤ held_work z w.held
+  worked_least w x held (the_filled fills same) = let is = ap (held_work z) same in omega (arith, is)
+  worked_least w x held (the_taken_over none was gone) = let is = ap (held_work z) gone in omega (arith, is)
+
   -- it pays for the ending of the own row too
   pub logs_fill : (w v : RunState) (ch : ℕ) → ch ≢ 16 → ch < z.rows → 16 < z.rows → LogFillMove z w ch v
       → base_work z v + (try_work z + 1) < base_work z w
@@ -183,8 +189,9 @@ module _ (z : RunSizes) where
       let second = one_row z w.blobs c.finds (with_row_in_run w.rows ch next) 16 over enough in
       let most = own_most w.blobs c.finds c.own c.own_is in
       let job = job_least w c.job c.frozen c.ends in
+      let held = worked_least w c.message c.held c.works in
       subst (λ x. base_work z x + (try_work z + 1) < base_work z w) (sym c.next)
-      (omega (arith, pays, first, second, most, job))
+      (omega (arith, pays, first, second, most, job, held))
 
   -- the own row waits again
   pub closes : (w v : RunState) → 16 < z.rows → CloseMove z w v → work z v < work z w

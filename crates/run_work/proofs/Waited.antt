@@ -6,7 +6,8 @@ use Rattle.volume_model.specs.declared.reply.Msg.{Msg}
 use Rattle.run_work.specs.RunState.{AtPosted, JobInRun, PhaseInRun, RunState}
 use Rattle.run_work.specs.Reading.{frozen_left, frozen_set, is_there, job_left}
 use Rattle.run_work.specs.Work.{one_if}
-use Rattle.run_work.specs.ServingMoves.{Serves, TakesOut, the_first, the_held, the_message, the_own, WaitsInJob}
+use Rattle.run_work.specs.ServingMoves.{Serves, TakesOut, the_filled, the_first, the_held, the_message, the_own}
+use Rattle.run_work.specs.ServingMoves.{the_taken_over, WaitsInJob, WorksFor}
 use Rattle.run_work.specs.RunFacts.{awaited, in_queue, is_filled_for, is_from, is_held, is_waiting, IsAmongThese}
 use Rattle.run_work.specs.RunFacts.{IsOneOf, IsOnTheWay, not_sent, occurs, on_the_way, RunFacts}
 use Rattle.run_work.proofs.Changing.{FrozenBy, itself, other}
@@ -97,6 +98,31 @@ ways_unfilled w held waiting fill none m (in_queue is) = in_queue is
 ways_unfilled w held waiting fill none m (is_held is) = is_held is
 ways_unfilled w held waiting fill none m (is_waiting is) = is_waiting is
 ways_unfilled w held waiting fill none m (is_filled_for is) = absurd (cc (sym none ∙ is))
+
+-- what is held or filled for of the other channels stays where the command that the own row works for is logged
+pub others_worked : (w : RunState) (x : Msg) (held : Option Msg) → WorksFor w x held → (k : ℕ) → k ≢ x.channel
+    → is_from k held ≡ is_from k w.held + is_from k w.fill
+others_worked w x held (the_filled fills same) k ne =
+    let a = ap (is_from k) same in
+    let b = ap (is_from k) fills in
+    let no_match = other k x.channel ne in
+    omega (arith, a, b, no_match)
+others_worked w x held (the_taken_over none was gone) k ne =
+    let a = ap (is_from k) gone in
+    let b = ap (is_from k) was in
+    let c = ap (is_from k) none in
+    let no_match = other k x.channel ne in
+    omega (arith, a, b, c, no_match)
+
+-- what is on its way behind that logging was before
+pub ways_worked : (w : RunState) (x : Msg) (held : Option Msg) → WorksFor w x held → (m : Msg)
+    → IsAmongThese w.unsent w.queue held w.waiting None m → IsOnTheWay w m
+ways_worked w x held works m (not_sent is) = not_sent is
+ways_worked w x held works m (in_queue is) = in_queue is
+ways_worked w x held works m (is_waiting is) = is_waiting is
+ways_worked w x held works m (is_filled_for is) = absurd (cc is)
+ways_worked w x held (the_filled fills same) m (is_held is) = is_held (sym same ∙ is)
+ways_worked w x held (the_taken_over none was gone) m (is_held is) = absurd (cc (sym gone ∙ is))
 
 -- ---- jobs
 

@@ -1,5 +1,6 @@
 -- What every state of a run has, from which it follows that some actor can move.
-use Rattle.std.specs.Prelude.{◌≡◌, ◌⊎◌, ℕ, ◌+◌, ◌==◌, if◌then◌else◌, nat_lt, Option, Some, None, true, List, [], ◌∷◌}
+use Rattle.std.specs.Prelude.{◌≡◌, ◌⊎◌, ℕ, ◌+◌, ◌==◌, ◌&&◌, not, if◌then◌else◌, nat_lt, Option, Some, None, Bool, true}
+use Rattle.std.specs.Prelude.{false, List, [], ◌∷◌}
 use Rattle.volume_model.specs.declared.reply.Msg.{Msg}
 use Rattle.run_work.specs.RunState.{AtInJob, AtPosted, JobInRun, RunState, StageInRun}
 use Rattle.run_work.specs.Reading.{is_there}
@@ -28,9 +29,12 @@ abbrev pub occurs : ℕ → List Msg → ℕ
 occurs k [] = 0
 occurs k (x ∷ l) = one_if (k == x.channel) + occurs k l
 
+abbrev pub comes_from : ℕ → Option Msg → Bool
+comes_from k None = false
+comes_from k (Some x) = k == x.channel
+
 abbrev pub is_from : ℕ → Option Msg → ℕ
-is_from k None = 0
-is_from k (Some x) = one_if (k == x.channel)
+is_from k message = one_if (comes_from k message)
 
 -- how many messages of a row are on their way
 abbrev pub on_the_way : RunState → ℕ → ℕ
@@ -60,13 +64,13 @@ abbrev pub serial_posted : StageInRun → Option ℕ
 serial_posted (AtPosted serial) = Some serial
 serial_posted _ = None
 
--- how a driver begins, at whatever stages the rows are: each posted row of a channel has its message still to send, and
--- nothing is queued, held or waits
-abbrev pub at_start : RunState → RunState
-at_start w = record w {
-  unsent = λ k. if nat_lt k 16 then serial_posted (w.rows k).stage else None;
+-- How a driver begins, at whatever stages the rows are: each posted row of a channel has its message still to send, but
+-- for one that the metadata thread holds, as it takes over from another; and nothing is queued or waits.
+abbrev pub at_start : RunState → Option Msg → RunState
+at_start w held = record w {
+  unsent = λ k. if nat_lt k 16 && not (comes_from k held) then serial_posted (w.rows k).stage else None;
   queue = [];
-  held = None;
+  held = held;
   waiting = [];
   fill = None;
 }

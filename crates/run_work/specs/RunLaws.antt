@@ -1,5 +1,5 @@
 -- The laws of runs: every move lowers the work, what every state has is kept, some actor can move, and rounds end.
-use Rattle.std.specs.Prelude.{◌≡◌, ◌⊎◌, ℕ, ◌+◌, ◌<◌, ◌≤◌, Some, None, true, false, List, ◌∷◌}
+use Rattle.std.specs.Prelude.{◌≡◌, ◌⊎◌, ℕ, ◌+◌, ◌<◌, ◌≤◌, Option, Some, None, true, false, List, ◌∷◌}
 use Rattle.volume_model.specs.declared.reply.Msg.{Msg}
 use Rattle.run_work.specs.RunState.{AtInJob, AtPosted, JobInRun, RunSizes, RunState}
 use Rattle.run_work.specs.Reading.{has_any, is_in_use}
@@ -24,11 +24,12 @@ pub record WorkLaws : Type 0 where
       → (work z v < work z w) ⊎ ((can_move w actor ≡ false) × (v ≡ w))
 
 pub record FactLaws : Type 0 where
-  -- A driver can start on a store at whatever stages its rows are, if a row in the job waits for it, and a frozen blob
-  -- is the job's.
-  pub start : (w : RunState)
+  -- A driver can start on a store at whatever stages its rows are, if a row in the job waits for it, a frozen blob is the
+  -- job's, and what is held is the message of a channel's row that is posted under its serial.
+  pub start : (w : RunState) (held : Option Msg)
+      → ((m : Msg) → held ≡ Some m → (m.channel < 16) × ((w.rows m.channel).stage ≡ AtPosted m.serial))
       → ((h : ℕ) → w.frozen h ≡ true → (job : JobInRun) × (w.job ≡ Some job) × (job.freeze ≡ Some h))
-      → ((ch : ℕ) → (w.rows ch).stage ≡ AtInJob → WaitsInJob w ch) → RunFacts (at_start w)
+      → ((ch : ℕ) → (w.rows ch).stage ≡ AtInJob → WaitsInJob w ch) → RunFacts (at_start w held)
   -- every move keeps the facts
   pub channel : (z : RunSizes) (w v : RunState) (ch : ℕ) → RunFacts w → ChannelMove z w ch v → RunFacts v
   pub metadata : (z : RunSizes) (w v : RunState) → RunFacts w → MetadataMove z w v → RunFacts v

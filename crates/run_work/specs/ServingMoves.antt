@@ -36,8 +36,14 @@ pub data BeginsFor (w : RunState) (ch : ℕ) (held : Option Msg) (waiting : List
       → is_in_use (w.rows 16).stage ≡ false → held ≡ w.held → waiting ≡ w.waiting
       → fill ≡ None → BeginsFor w ch held waiting fill
 
--- In which turn a fill's command is logged before its own job: in a turn of the fill, or in one of the job of its
--- insert, which ends then, with no blob frozen any more.
+-- The message of the command that the metadata thread's own row works for: that of the fill, or, where none goes on, the
+-- one that was held when a metadata thread took over from another. What is held behind its logging.
+pub data WorksFor (w : RunState) (message : Msg) (held : Option Msg) : Type 0 where
+  the_filled : w.fill ≡ Some message → held ≡ w.held → WorksFor w message held
+  the_taken_over : w.fill ≡ None → w.held ≡ Some message → held ≡ None → WorksFor w message held
+
+-- In which turn that command is logged before its own job: in a turn of the fill, or in one of the job of its insert,
+-- which ends then, with no blob frozen any more.
 pub data EndsFillIn (w : RunState) (job : Option JobInRun) (frozen : ℕ → Bool) : Type 0 where
   in_fill : w.job ≡ None → job ≡ None → ((h : ℕ) → frozen h ≡ true → w.frozen h ≡ true) → EndsFillIn w job frozen
   in_insert : WaitsInJob w 16 → job ≡ None → ((h : ℕ) → frozen h ≡ false) → EndsFillIn w job frozen
@@ -126,13 +132,15 @@ module _ (z : RunSizes) where
     pub takes : TakesOut w message held waiting
     pub next : v ≡ record w { held = held; waiting = waiting; fill = Some message }
 
-  -- A fill's command is logged before its own job begins, and its row decided. The metadata thread's own row gives its
-  -- claim back; it waits, or is decided too, where an insert of it failed. What references mean may change.
+  -- The command that slots are filled for is logged before its own job begins, and its row decided. The metadata
+  -- thread's own row gives its claim back; it waits, or is decided too, where an insert of it failed. What references
+  -- mean may change.
   pub record LogFillMove (w : RunState) (ch : ℕ) (v : RunState) : Type 0 where
     pub command : CommandInRun
     pub commands : List CommandInRun
     pub message : Msg
-    pub fills : w.fill ≡ Some message
+    pub held : Option Msg
+    pub works : WorksFor w message held
     pub channel : message.channel ≡ ch
     pub left : (w.rows ch).left ≡ command ∷ commands
     pub serial : ℕ
@@ -147,6 +155,7 @@ module _ (z : RunSizes) where
     pub next : v ≡ record w {
       finds = finds;
       rows = with_row_in_run (with_row_in_run w.rows ch (logged_at commands AtDecided)) 16 (logged_at [] own);
+      held = held;
       fill = None;
       job = job;
       frozen = frozen;

@@ -14,8 +14,9 @@ use volume_model::Msg;
 impl MdState {
     ghost use Rattle.std.specs.Prelude.{◌≡◌, ◌≢◌, ◌⊎◌, ◌<◌, List, [], ◌∷◌, None, Some, false, true, length, nat_lt};
     ghost use Rattle.std.specs.Prelude.{◌↔◌, IsFalse, IsSome, IsTrue};
-    ghost use Rattle.md_thread.specs.Holding.{ComesNext, IsKept, LooksForMessage, looks_first, MakesStep, without_next};
-    ghost use Rattle.md_thread.specs.Turns.{ActsNow, HasJoined, JobMade, ServiceMade};
+    ghost use Rattle.md_thread.specs.Holding.{ComesNext, IsHeldOn, IsKept, LooksForMessage, looks_first, MakesStep};
+    ghost use Rattle.md_thread.specs.Holding.{without_next};
+    ghost use Rattle.md_thread.specs.Turns.{ActsNow, HasJoined, ServiceMade};
     ghost use Rattle.md_thread.specs.declared.state.Turn.TheVariants.{Idle, Moved};
     ghost use Rattle.metadata_turns.specs.JobTurns.{TurnsJob};
     ghost use Rattle.running_store.specs.Requests.{IsPostedBy};
@@ -47,7 +48,7 @@ impl MdState {
         ensures first { looks_first plant.old.at.job self.old ≡ true → self.old.found_none ≡ false
             → result ≡ Idle }
         ensures job { IsSome plant.old.at.job → (result ≡ Moved) × TurnsJob D.PageDisk plant.old.at plant.new.at
-            × (self.new.held ≡ self.old.held) × (self.new.waiting ≡ self.old.waiting) }
+            × IsHeldOn plant.new.at.rows self.old self.new.held × (self.new.waiting ≡ self.old.waiting) }
         ensures message { plant.old.at.job ≡ None → is_stage (rows_of plant.old.at.rows fill_row) fill_row ≡ Over
             → self.old.fill ≡ None → (msg : AMsg) → ComesNext self.old msg → msg.channel < 16
             → (rows_of plant.old.at.rows msg.channel).stage ≡ Posted msg.serial
@@ -112,6 +113,8 @@ impl MdState {
         ensures opening { plant.new.opening ≡ plant.old.opening }
         ensures right { (right.new ≡ right.old) × (plant.new.right ≡ plant.old.right) }
     {
+        state_turns();
+        plant.keeps();
         self.let_wait(right, plant);
         match self.held.take() {
             Some(msg) => {
@@ -119,32 +122,6 @@ impl MdState {
                 Turn::Moved
             }
             None => self.turn_without_held(alloc, right, plant),
-        }
-    }
-
-    /// The running job makes its next turn. Where that was of the fill's insert, and it failed, there is no fill any
-    /// more.
-    fn job_turn<D: PageDisk>(&mut self, right: &mut MdRight, plant: &mut Plant<D>)
-        requires right { right.old ≡ plant.old.right }
-        requires runs { IsSome plant.old.at.job }
-        requires repaired { IsRepaired (state_of D.PageDisk plant.old.at) }
-        ensures turn { TurnsJob D.PageDisk plant.old.at plant.new.at × (self.new.held ≡ self.old.held)
-            × (self.new.waiting ≡ self.old.waiting) }
-        ensures made { IsKept D.PageDisk plant.old.at self.old
-            → JobMade D.tells (state_of D.PageDisk plant.old.at) (state_of D.PageDisk plant.new.at) self.old self.new }
-        ensures asked { IsKept D.PageDisk plant.old.at self.old → (msg : AMsg) → self.new.fill ≡ Some msg
-            → IsFilledFor (rows_of plant.new.at.rows msg.channel) }
-        ensures repaired { IsRepaired (state_of D.PageDisk plant.new.at) }
-        ensures opening { plant.new.opening ≡ plant.old.opening }
-        ensures right { (right.new ≡ right.old) × (plant.new.right ≡ plant.old.right) }
-    {
-        state_turns();
-        plant.keeps();
-        plant.job_turn(right);
-        if let Some(msg) = self.fill {
-            if plant.request(right, msg).is_err() {
-                self.fill = None;
-            }
         }
     }
 
@@ -163,6 +140,8 @@ impl MdState {
         ensures alone { self.old.fill ≡ None → self.old.waiting ≡ [] → self.new ≡ self.old }
         ensures fill { (self.new.fill ≡ self.old.fill) × (self.new.found_none ≡ self.old.found_none) }
     {
+        state_turns();
+        plant.keeps();
         let Some(msg) = self.held else {
             return;
         };

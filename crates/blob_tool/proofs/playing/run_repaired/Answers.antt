@@ -17,7 +17,7 @@ use Rattle.blob_tool.proofs.ClosedStore.{masks_fit}
 use Rattle.blob_tool.proofs.RunLasts.{lasting}
 use Rattle.blob_tool.proofs.ClosedSurvives.{at_opening, survives_to_its_end}
 use Rattle.blob_tool.proofs.RunSurvives.{load_laws}
-use Rattle.blob_tool.proofs.WholeRun.{follows_here, is_run}
+use Rattle.blob_tool.proofs.WholeRun.{is_run}
 use Rattle.running_store.specs.StoreView.{base_of, StoreView}
 use Rattle.store_core.specs.Opening.{AreRows}
 use Rattle.blob_tool.proofs.playing.run_repaired.Goals as goal
@@ -80,8 +80,7 @@ returns g c script rows made unmarked =
       last = store.at;
       run = is_run d script store kept rows_here c.run_stepwise-plant.ensures.ended c.args.plant.at made_here unmarked
           c.args.schedule.now
-          (follows_here d c.args.schedule.now c.args.plant.at store.at (made.rows 16 ∙ rows.fill)
-          c.run_stepwise-plant.ensures.follows) c.state_stops.ensures
+          c.run_stepwise-plant.ensures.follows c.state_stops.ensures
           c.run_stepwise-plant.ensures.no_job c.run_stepwise-plant.ensures.unused;
       masks = masks;
       claims = c.into_parts-disk.ensures.masks;

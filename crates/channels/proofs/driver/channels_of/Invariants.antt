@@ -3,4 +3,4 @@ use Rattle.channels.proofs.driver.channels_of.Given as goal
 
 -- the channels so far are at the stages of their rows
 abbrev pub invariant-loop-channel : goal.invariant-loop-channel
-invariant-loop-channel g l = StartsSoFar l.plant.at.rows l.channel l.channels
+invariant-loop-channel g l = StartsSoFar l.plant.at.filling l.plant.at.rows l.channel l.channels

@@ -16,8 +16,6 @@ pub returns-clause-follows : goal.returns-clause-follows
 returns-clause-follows g c =
     let d = g.D.PageDisk in
     record {
-      first = state_of d c.take_over.new.plant.at;
-      takes_over = c.take_over.ensures.takes_over;
       last = driven d c.run.new.self;
       is = ap (λ (p : WithOpening g.row.D.Denot). state_of d p.at) (sym c.into_parts-plant.ensures.0);
       follows = subst (λ (w : DrivenStore). StoreFollows d.tells (actors_in_run c.args.schedule.now) w

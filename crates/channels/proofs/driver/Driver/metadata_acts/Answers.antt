@@ -7,6 +7,7 @@ use Rattle.run_work.specs.Following.{MetadataActs}
 use Rattle.run_moves.specs.DriverSteps.{DriverStep}
 use Rattle.md_thread.specs.Holding.{IsKept, LooksForMessage, MakesStep}
 use Rattle.channels.specs.Driving.{driven, driven_of, unsent_of}
+use Rattle.channels.proofs.Keeping.{laws_on, stands}
 use Rattle.channels.proofs.MetadataActing.{acts_due, is_kept}
 use Rattle.channels.proofs.QueueLooked.{asked_then, fills_on, front_taken, kept_then, looked, moved_or_idle, no_message}
 use Rattle.channels.proofs.QueueLooked.{none_moved, rests_on}
@@ -106,9 +107,11 @@ returns-clause-step g c =
     let nothing = no_message u.held (λ some. let bad = sym c.if-holds.false ∙ c.holds.ensures.1 some in cc bad) in
     let empty = c.md_take.ensures.empty nothing in
     let unchanged = c.md_take.ensures.unchanged nothing in
+    let turned = (laws_on d c.steps_are_moves.ensures w.plant).turn_fill (driven d w)
+    (stands d c.state_turns.ensures w.plant c.keeps.ensures) is.works in
     let here = subst (λ (p : WithOpening g.row.D.Denot). IsKept d p.at u) (sym same)
     (kept_then d w is c.moves_keep_facts.ensures c.what_is_due.ensures t looks none asked u rest
-    c.md_take.ensures.state nothing empty unchanged) in
+    c.md_take.ensures.state nothing empty unchanged turned) in
     let after = c.md_turn.new.self in
     let last = c.md_turn.new.plant in
     elim (moved_or_idle c.md_turn.result) [
@@ -148,7 +151,9 @@ returns-clause-keeps g c =
     let nothing = no_message u.held (λ some. let bad = sym c.if-holds.false ∙ c.holds.ensures.1 some in cc bad) in
     let empty = c.md_take.ensures.empty nothing in
     let unchanged = c.md_take.ensures.unchanged nothing in
+    let turned = (laws_on d c.steps_are_moves.ensures w.plant).turn_fill (driven d w)
+    (stands d c.state_turns.ensures w.plant c.keeps.ensures) is.works in
     let here = subst (λ (p : WithOpening g.row.D.Denot). IsKept d p.at u) (sym same)
     (kept_then d w is c.moves_keep_facts.ensures c.what_is_due.ensures t looks none asked u rest
-    c.md_take.ensures.state nothing empty unchanged) in
+    c.md_take.ensures.state nothing empty unchanged turned) in
     record { looks = c.md_turn.ensures.looked; asked = c.md_turn.ensures.asked here }

@@ -8,11 +8,11 @@ returns-clause-starts g c =
       plant = c.args.plant;
       right = c.args.right;
       channels = c.channels_of-channels.result;
-      metadata = c.new.result;
-      queue = c.new-2.result;
+      metadata = c.taking_over-metadata.result;
+      queue = c.new.result;
     } in
-    starts_as g.D.PageDisk c.steps_are_moves.ensures w c.keeps.ensures c.channels_of-channels.ensures c.new-2.ensures
-    c.new.ensures
+    starts_as g.D.PageDisk c.steps_are_moves.ensures w c.keeps.ensures c.state_turns.ensures
+    c.channels_of-channels.ensures c.new.ensures c.taking_over-metadata.ensures
 
 pub returns-clause-driven : goal.returns-clause-driven
 returns-clause-driven g c =
@@ -20,9 +20,9 @@ returns-clause-driven g c =
       plant = c.args.plant;
       right = c.args.right;
       channels = c.channels_of-channels.result;
-      metadata = c.new.result;
-      queue = c.new-2.result;
+      metadata = c.taking_over-metadata.result;
+      queue = c.new.result;
     } in
-    starts_driven g.D.PageDisk c.steps_are_moves.ensures w c.keeps.ensures c.channels_of-channels.ensures
-    c.new-2.ensures c.new.ensures c.state_turns.ensures c.requires.right c.requires.seventeen
-    c.requires.unused c.requires.repaired
+    starts_driven g.D.PageDisk c.steps_are_moves.ensures w c.keeps.ensures c.state_turns.ensures
+    c.channels_of-channels.ensures c.new.ensures c.taking_over-metadata.ensures c.requires.right c.requires.seventeen
+    c.requires.repaired

@@ -7,6 +7,7 @@ use Rattle.md_thread.specs.contracts.state.MdState.{the_view}
 use Rattle.md_thread.specs.Holding.{IsKept, MetadataState}
 use Rattle.md_thread.specs.Turns.{HasJoined}
 use Rattle.md_thread.proofs.Joining.{joined_alone, joined_command, joined_insert, joined_none, kept_waiting, waiting_too}
+use Rattle.md_thread.proofs.StandsNow.{works_for_none}
 use Rattle.md_thread.proofs.StepsDue.{unused}
 use Rattle.md_thread.proofs.state.MdState.let_wait.Goals as goal
 
@@ -56,6 +57,8 @@ returns-clause-kept g c = λ kept.
     subst (λ (l : List Msg). IsKept g.D.PageDisk c.args.plant.now.at (record x { held = None; waiting = l }))
     (sym c.push.ensures)
     (kept_waiting g.D.PageDisk c.args.plant.now.at x c.in-Some.msg c.in-Some.is
+    (λ none. works_for_none g.D.PageDisk c.state_turns.ensures c.args.plant.now c.keeps.ensures
+    (c.requires.over (ap (λ (y : MetadataState). y.fill) (sym c.self.view_is) ∙ none)))
     (subst (IsKept g.D.PageDisk c.args.plant.now.at) (sym c.self.view_is) kept))
 
 pub returns-clause-alone : goal.returns-clause-alone

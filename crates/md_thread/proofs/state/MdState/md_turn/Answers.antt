@@ -1,7 +1,7 @@
 use Rattle.std.proofs.Common.{sym, ap, ◌∙◌, false, subst}
 use Rattle.running_store.specs.StoreView.{state_of}
 use Rattle.md_thread.specs.contracts.state.MdState.{the_view}
-use Rattle.md_thread.specs.Holding.{LooksForMessage, MakesStep, MetadataState}
+use Rattle.md_thread.specs.Holding.{IsHeldOn, LooksForMessage, MakesStep, MetadataState}
 use Rattle.md_thread.proofs.state.MdState.md_turn.Goals as goal
 
 pub returns-clause-step : goal.returns-clause-step
@@ -33,7 +33,8 @@ returns-clause-job g c = λ runs.
     let made = c.turn_due-turn.ensures.job runs in (
       made.0,
       made.1,
-      ap (λ (s : MetadataState). s.held) c.self.view_is ∙ made.2,
+      subst (λ (s : MetadataState). IsHeldOn c.turn_due-turn.new.plant.at.rows c.args.self.now s.held)
+          (sym c.self.view_is) made.2,
       ap (λ (s : MetadataState). s.waiting) c.self.view_is ∙ made.3,
     )
 

@@ -12,6 +12,7 @@ use Rattle.md_thread.specs.Turns.{ActsNow, ServiceMade}
 use Rattle.md_thread.specs.declared.state.Turn.TheVariants.{Idle, Moved}
 use Rattle.md_thread.proofs.Dropped.{first_away, held_away}
 use Rattle.md_thread.proofs.Joining.{kept_without_held}
+use Rattle.md_thread.proofs.StandsNow.{works_for_none}
 use Rattle.md_thread.proofs.StepsDue.{unused}
 use Rattle.md_thread.proofs.StepsMade.{by_held, by_joining, few_wait, first_held, looks}
 use Rattle.md_thread.proofs.state.MdState.serve_or_fill.Goals as goal
@@ -44,7 +45,10 @@ returns-in-Some-clause-asked g c = λ kept.
     let current = kept_then.current c.in-Some.msg (is_held held) in
     c.serve.ensures.asked current.0 current.1
     (subst (λ o. IsKept d p (record (the_view c.self.inside) { held = o })) (sym c.take.ensures.after)
-    (kept_without_held d p (the_view c.self.inside) (subst (IsKept d p) (sym c.self.view_is) kept_then)))
+    (kept_without_held d p (the_view c.self.inside)
+    (λ none. works_for_none d c.state_turns.ensures c.args.plant.now c.keeps.ensures
+    (c.requires.over (sym c.let_wait.ensures.fill.0 ∙ ap (λ (x : MetadataState). x.fill) (sym c.self.view_is) ∙ none)))
+    (subst (IsKept d p) (sym c.self.view_is) kept_then)))
 
 pub serve-requires-clause-unfilled : goal.serve-requires-clause-unfilled
 serve-requires-clause-unfilled g c = λ posted.
