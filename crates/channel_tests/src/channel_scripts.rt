@@ -1,11 +1,11 @@
 //! Random scripts on many channels.
 
-use random_worlds::{Ask, Draws, drawn, drawn_count, drawn_in_family, push_words};
+use random_worlds::{Ask, Draws, drawn, drawn_count, drawn_in_family, push_line};
 use std::alloc::Global;
 use std::test::Fail;
 
 /// What a command asks for. Its volume is told by a head, if there is one here, and else by its name.
-#[derive(Clone, Copy, Debug)]
+#[derive(Clone, Copy)]
 pub struct Request {
     pub ask: Ask,
     pub head: Option<u32>,
@@ -102,14 +102,7 @@ impl ChannelScript {
         count: u64,
     ) -> Result<(), Fail> {
         let Request { ask, head } = request;
-        let volume = match (head, ask.name()) {
-            (Some(head), _) => format!(in alloc; "@{head}")?,
-            (None, Some(name)) => format!(in alloc; "{}", char::from(name))?,
-            (None, None) => String::new(alloc),
-        };
-        self.text
-            .extend_from_slice(format!(in alloc; "{channel} ")?.as_bytes())?;
-        push_words(alloc, &mut self.text, &ask, volume.as_str(), count)?;
+        push_line(alloc, &mut self.text, channel, (&ask, head), count)?;
         let list = self
             .lists
             .get_mut(usize::from(channel))

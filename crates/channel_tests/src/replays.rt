@@ -9,7 +9,7 @@ use std::test::Fail;
 use volume_model::{Df, Entry, Reply};
 
 /// Where a store stopped: behind so many entries, and in what, unless that had its entry before.
-#[derive(Clone, Copy, Debug)]
+#[derive(Clone, Copy)]
 struct Stop {
     at: u32,
     met: Option<Ask>,
@@ -180,7 +180,11 @@ impl Replay {
         let mut wanted = Vec::new(alloc);
         render_entry(&entry, &mut wanted)?;
         if wanted.strip_suffix(b"\n") != Some(text) {
-            return Err(Fail::new(format_args!("{channel} {index} {ask:?}: {:?}", entry.reply)));
+            return Err(Fail::new(format_args!(
+                "{channel} {index} {}: {:?}",
+                ask.verb(),
+                entry.reply
+            )));
         }
         self.entries = self.entries.wrapping_add(1);
         Ok(())

@@ -3,7 +3,7 @@
 use blob_report::render_entry;
 use page_disk::MemDisk;
 use random_worlds::{
-    Ask, Draws, State, World, command_of, drawn, drawn_count, drawn_in_family, push_words,
+    Ask, Draws, State, World, command_of, drawn, drawn_count, drawn_in_family, push_line,
 };
 use std::alloc::Global;
 use std::test::Fail;
@@ -32,12 +32,7 @@ pub fn size_of(number: u64) -> (u32, u32) {
 /// A new store of 16 clusters and so many metadata pages, with room for a long script.
 pub fn new_store(alloc: Global, md_pages: u32) -> Result<MemDisk, Fail> {
     let line = format!(in alloc; "format store.img --cluster 16384 --md-pages {md_pages}")?;
-    let call = Call {
-        line: line.as_str(),
-        script: b"",
-        failing_reads: &[],
-        failing_writes: &[],
-    };
+    let call = Call::new(line.as_str(), b"");
     let Ran {
         status: _,
         out: _,
@@ -75,19 +70,13 @@ fn line_of(alloc: Global, world: &mut World, ask: &Ask, index: usize) -> Result<
     Ok(line)
 }
 
-/// The word by which the line tells its volume: by its name, or sometimes by its head.
-fn volume_word(alloc: Global, draws: &mut Draws, state: &State, ask: &Ask) -> Result<String, Fail> {
-    let Some(name) = ask.name() else {
-        return Ok(String::new(alloc));
-    };
+/// The head by which the line tells its volume, sometimes: else it tells it by its name.
+fn drawn_head(draws: &mut Draws, state: &State, ask: &Ask) -> Option<u32> {
+    let name = ask.name()?;
     let by_head = draws.is_zero(4) && !matches!(ask, Ask::Create { .. });
-    let head = match state.find(name) {
+    match state.find(name) {
         Some(volume) if by_head => volume.head(),
         _ => None,
-    };
-    match head {
-        Some(head) => Ok(format!(in alloc; "@{head}")?),
-        None => Ok(format!(in alloc; "{}", char::from(name))?),
     }
 }
 
@@ -99,10 +88,9 @@ fn push_ask(
     draws: &mut Draws,
     ask: &Ask,
 ) -> Result<(), Fail> {
-    let volume = volume_word(alloc, draws, &world.state, ask)?;
+    let head = drawn_head(draws, &world.state, ask);
     let count = drawn_count(draws, ask);
-    play.script.extend_from_slice(b"0 ")?;
-    push_words(alloc, &mut play.script, ask, volume.as_str(), count)?;
+    push_line(alloc, &mut play.script, 0, (ask, head), count)?;
     for at in 0..count {
         let line = line_of(alloc, world, &ask.nth(at), play.lines.len())?;
         play.lines.push(line)?;

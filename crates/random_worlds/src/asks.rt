@@ -1,14 +1,9 @@
-//! What the lines of a script ask for, as text, and as commands of the plain machine.
+//! What the lines of a script ask for.
 
-use crate::attributes::{Attribute, key_text, value_of};
-use lvol_store::check_name;
-use std::alloc::Global;
-use std::test::Fail;
-use test_lines::push_long;
-use volume_model::{Blobtext, Command, Name, PageWord, VolumeRef};
+use crate::attributes::Attribute;
 
 /// What one command asks for. A volume is told by the letter that is its name.
-#[derive(Clone, Copy, Debug)]
+#[derive(Clone, Copy)]
 pub enum Ask {
     Create { name: u8, slots: u64, thick: bool },
     Resize { name: u8, slots: u64 },
@@ -66,6 +61,32 @@ impl Ask {
         }
     }
 
+    /// The word of its verb.
+    pub fn verb(&self) -> &'static str {
+        match self {
+            Ask::Create { .. } => "create",
+            Ask::Resize { .. } => "resize",
+            Ask::Write { .. } => "write",
+            Ask::Read { .. } => "read",
+            Ask::Flush => "flush",
+            Ask::Set { .. } => "setx",
+            Ask::Put { .. } => "put",
+            Ask::Remove { .. } => "delx",
+            Ask::Get { .. } => "getx",
+            Ask::Sync { .. } => "sync",
+            Ask::Snapshot { .. } => "snapshot",
+            Ask::Clone { .. } => "clone",
+            Ask::Rename { .. } => "rename",
+            Ask::Delete { .. } => "delete",
+            Ask::Inflate { .. } => "inflate",
+            Ask::Decouple { .. } => "decouple",
+            Ask::ReadOnly { .. } => "readonly",
+            Ask::Info { .. } => "info",
+            Ask::List => "list",
+            Ask::Df => "df",
+        }
+    }
+
     /// Whether a new volume comes of it.
     pub fn makes(&self) -> bool {
         matches!(
@@ -98,176 +119,4 @@ impl Ask {
             other => other,
         }
     }
-}
-
-/// Appends the words behind the channel of the line that asks for this, a read or a write for so many pages, and ends
-/// the line; its volume is told by a word.
-pub fn push_words(
-    alloc: Global,
-    script: &mut Vec<u8>,
-    ask: &Ask,
-    volume: &str,
-    count: u64,
-) -> Result<(), Fail> {
-    let line = match ask {
-        Ask::Create { slots, thick, .. } => {
-            let form = if *thick { "thick" } else { "thin" };
-            format!(in alloc; "create {volume} {slots} {form}\n")?
-        }
-        Ask::Resize { slots, .. } => format!(in alloc; "resize {volume} {slots}\n")?,
-        Ask::Write { page, word, .. } => {
-            format!(in alloc; "write {volume} {page} {count} {word}\n")?
-        }
-        Ask::Read { page, .. } => format!(in alloc; "read {volume} {page} {count}\n")?,
-        Ask::Flush => format!(in alloc; "flush\n")?,
-        Ask::Set { attribute, .. } => return push_value(
-            alloc,
-            script,
-            ("setx", volume),
-            *attribute,
-        ),
-        Ask::Put { attribute, .. } => return push_value(alloc, script, ("put", volume), *attribute),
-        Ask::Remove { key, .. } => format!(in alloc; "delx {volume} {}\n", key_text(*key))?,
-        Ask::Get { key, .. } => format!(in alloc; "getx {volume} {}\n", key_text(*key))?,
-        Ask::Sync { .. } => format!(in alloc; "sync {volume}\n")?,
-        Ask::Delete { .. } => format!(in alloc; "delete {volume}\n")?,
-        Ask::Inflate { .. } => format!(in alloc; "inflate {volume}\n")?,
-        Ask::Decouple { .. } => format!(in alloc; "decouple {volume}\n")?,
-        Ask::ReadOnly { .. } => format!(in alloc; "readonly {volume}\n")?,
-        Ask::Snapshot { new, .. } => naming(alloc, "snapshot", volume, *new)?,
-        Ask::Clone { new, .. } => naming(alloc, "clone", volume, *new)?,
-        Ask::Rename { new, .. } => naming(alloc, "rename", volume, *new)?,
-        Ask::Info { .. } => format!(in alloc; "info {volume}\n")?,
-        Ask::List => format!(in alloc; "list\n")?,
-        Ask::Df => format!(in alloc; "df\n")?,
-    };
-    script.extend_from_slice(line.as_bytes())?;
-    Ok(())
-}
-
-/// The words of a verb that gives a name, which a letter tells.
-fn naming(alloc: Global, verb: &str, volume: &str, new: u8) -> Result<String, Fail> {
-    Ok(format!(in alloc; "{verb} {volume} {}\n", char::from(new))?)
-}
-
-/// Appends the words that set an attribute by this verb, of the volume that a word tells.
-fn push_value(
-    alloc: Global,
-    script: &mut Vec<u8>,
-    words: (&str, &str),
-    attribute: Attribute,
-) -> Result<(), Fail> {
-    let (verb, volume) = words;
-    let begin = format!(in alloc; "{verb} {volume} {} t:", key_text(attribute.key))?;
-    push_long(
-        script,
-        begin.as_bytes(),
-        (attribute.letter, attribute.length),
-    )
-}
-
-/// The name that a letter tells.
-fn name_of(letter: u8) -> Name {
-    match check_name(&[letter]) {
-        Ok(name) => name,
-        Err(_) => Name::new(b"z"),
-    }
-}
-
-fn volume_of(letter: u8) -> VolumeRef {
-    VolumeRef::Named(name_of(letter))
-}
-
-/// The command on an attribute; or a flush.
-fn command_on_key(alloc: Global, ask: &Ask) -> Result<Command, Fail> {
-    Ok(match ask {
-        Ask::Set { name, attribute } => Command::SetX {
-            volume: volume_of(*name),
-            key: Blobtext::new(alloc, key_text(attribute.key).as_bytes())?,
-            value: Blobtext::new(alloc, &value_of(alloc, *attribute)?)?,
-        },
-        Ask::Put { name, attribute } => Command::Put {
-            volume: volume_of(*name),
-            key: Blobtext::new(alloc, key_text(attribute.key).as_bytes())?,
-            value: Blobtext::new(alloc, &value_of(alloc, *attribute)?)?,
-        },
-        Ask::Remove { name, key } => Command::DelX {
-            volume: volume_of(*name),
-            key: Blobtext::new(alloc, key_text(*key).as_bytes())?,
-        },
-        Ask::Get { name, key } => Command::GetX {
-            volume: volume_of(*name),
-            key: Blobtext::new(alloc, key_text(*key).as_bytes())?,
-        },
-        _ => Command::Flush,
-    })
-}
-
-/// The command on a volume that gives a name, or that changes what it stands on or ends something of it; or a flush.
-fn command_on_family(ask: &Ask) -> Command {
-    match ask {
-        Ask::Snapshot { name, new } => Command::Snapshot {
-            volume: volume_of(*name),
-            name: name_of(*new),
-        },
-        Ask::Clone { name, new } => Command::Clone {
-            volume: volume_of(*name),
-            name: name_of(*new),
-        },
-        Ask::Rename { name, new } => Command::Rename {
-            volume: volume_of(*name),
-            name: name_of(*new),
-        },
-        Ask::Delete { name } => Command::Delete {
-            volume: volume_of(*name),
-        },
-        Ask::Inflate { name } => Command::Inflate {
-            volume: volume_of(*name),
-        },
-        Ask::Decouple { name } => Command::Decouple {
-            volume: volume_of(*name),
-        },
-        Ask::ReadOnly { name } => Command::ReadOnly {
-            volume: volume_of(*name),
-        },
-        _ => Command::Flush,
-    }
-}
-
-/// The command that asks for this.
-pub fn command_of(alloc: Global, ask: &Ask) -> Result<Command, Fail> {
-    Ok(match ask {
-        Ask::Create { name, slots, thick } => Command::Create {
-            name: name_of(*name),
-            slots: *slots,
-            thick: *thick,
-            uuid: None,
-        },
-        Ask::Resize { name, slots } => Command::Resize {
-            volume: volume_of(*name),
-            slots: *slots,
-        },
-        Ask::Write { name, page, word } => Command::Write {
-            volume: volume_of(*name),
-            page: *page,
-            word: PageWord::Fill(*word),
-        },
-        Ask::Read { name, page } => Command::Read {
-            volume: volume_of(*name),
-            page: *page,
-        },
-        Ask::Sync { name } => Command::Sync {
-            volume: volume_of(*name),
-        },
-        Ask::Info { name } => Command::Info {
-            volume: volume_of(*name),
-        },
-        Ask::List => Command::List,
-        Ask::Df => Command::Df,
-        Ask::Flush => Command::Flush,
-        Ask::Set { .. } | Ask::Put { .. } | Ask::Remove { .. } | Ask::Get { .. } => {
-            command_on_key(alloc, ask)?
-        }
-        _ => command_on_family(ask),
-    })
 }

@@ -4,7 +4,7 @@ use std::alloc::Global;
 use std::test::Fail;
 
 /// An attribute: its key, told by a letter, and a value of so many times one letter.
-#[derive(Clone, Copy, Debug, PartialEq, Eq)]
+#[derive(Clone, Copy, Debug)]
 pub struct Attribute {
     pub key: u8,
     pub letter: u8,

@@ -2,7 +2,7 @@
 
 use crate::asks::Ask;
 use crate::attributes::{set, without};
-use crate::states::{CLUSTER_PAGES, PageState, State, Volume};
+use crate::states::{CLUSTER_PAGES, PageState, State, Volume, named};
 use std::alloc::Global;
 use std::test::Fail;
 
@@ -37,6 +37,13 @@ fn new_volume(alloc: Global, name: u8, slots: u64, thick: bool, head: u32) -> Re
     })
 }
 
+/// Empties each slot of a map.
+fn empty(map: &mut [Option<u32>]) {
+    for slot in map.iter_mut() {
+        *slot = None;
+    }
+}
+
 /// Whether all pages outlast a crash from then on.
 fn settles(ask: &Ask) -> bool {
     !matches!(
@@ -53,6 +60,41 @@ fn settles(ask: &Ask) -> bool {
 }
 
 impl Volume {
+    /// A volume of another name that shows what this one does, without attributes, with a chain of one page.
+    fn bare_copy(&self, alloc: Global, name: u8, head: u32) -> Result<Volume, Fail> {
+        Ok(Volume {
+            name,
+            thick: self.thick,
+            read_only: self.read_only,
+            parent: self.parent,
+            live: Vec::new(alloc),
+            synced: Vec::new(alloc),
+            map: Vec::from_slice(alloc, &self.map)?,
+            chain: vec![in alloc; head]?,
+            pages: Vec::from_slice(alloc, &self.pages)?,
+        })
+    }
+
+    /// A snapshot, which has its clusters from then on, and by which it reads.
+    fn snapshot(&mut self, alloc: Global, name: u8, head: u32) -> Result<Volume, Fail> {
+        let mut made = self.bare_copy(alloc, name, head)?;
+        made.read_only = true;
+        self.thick = false;
+        self.parent = Some(head);
+        empty(&mut self.map);
+        Ok(made)
+    }
+
+    /// A clone, whose slots are empty.
+    fn clone(&self, alloc: Global, name: u8, head: u32) -> Result<Volume, Fail> {
+        let mut made = self.bare_copy(alloc, name, head)?;
+        made.thick = false;
+        made.read_only = false;
+        made.parent = self.head();
+        empty(&mut made.map);
+        Ok(made)
+    }
+
     /// Does what is asked for of it: its attributes and its pages change.
     fn change(&mut self, alloc: Global, ask: &Ask) -> Result<(), Fail> {
         match *ask {
@@ -87,54 +129,22 @@ impl Volume {
 }
 
 impl State {
-    /// Makes a volume that shows what another one does, without attributes: its clone, or its snapshot, by which the
-    /// other one reads from then on.
-    fn make_copy(&mut self, alloc: Global, ask: &Ask, name: u8, head: u32) -> Result<(), Fail> {
-        let of = self.find(name).ok_or("no volume")?;
-        let mut made = of.copy(alloc)?;
-        let was = of.head();
-        made.live.clear();
-        made.synced.clear();
-        made.map.clear();
-        made.chain = vec![in alloc; head]?;
-        if let Ask::Snapshot { new, .. } = *ask {
-            made.name = new;
-            made.read_only = true;
-            let of = self.find_mut(name).ok_or("no volume")?;
-            of.thick = false;
-            of.parent = Some(head);
-        } else if let Ask::Clone { new, .. } = *ask {
-            made.name = new;
-            made.thick = false;
-            made.read_only = false;
-            made.parent = was;
-        }
-        self.volumes.push(made)?;
-        Ok(())
-    }
-
     /// Gives a volume its parent's parent, if that has one.
     fn decouple(&mut self, name: u8) -> Result<(), Fail> {
-        let volume = self.find(name).ok_or("no volume")?;
+        let volume = named(&self.volumes, name)?;
         let above = match self.parent_of(volume) {
             Some(parent) => parent.parent,
             None => None,
         };
-        self.find_mut(name).ok_or("no volume")?.parent = above;
+        self.find_mut(name)?.parent = above;
         Ok(())
     }
 
     /// Deletes a volume, whose clone has its parent from then on.
-    fn delete(&mut self, alloc: Global, name: u8) -> Result<(), Fail> {
-        let gone = self.find(name).ok_or("no volume")?;
+    fn delete(&mut self, name: u8) -> Result<(), Fail> {
+        let gone = named(&self.volumes, name)?;
         let (head, parent) = (gone.head(), gone.parent);
-        let mut rest = Vec::new(alloc);
-        for volume in &self.volumes {
-            if volume.name != name {
-                rest.push(volume.copy(alloc)?)?;
-            }
-        }
-        self.volumes = rest;
+        self.volumes.retain(|volume| volume.name != name);
         for volume in self.volumes.iter_mut() {
             if volume.parent.is_some() && volume.parent == head {
                 volume.parent = parent;
@@ -143,22 +153,27 @@ impl State {
         Ok(())
     }
 
-    /// Does what is asked for. A new volume gets this head; its map is empty and its chain one page, and the maps and
-    /// chains of others stay.
+    /// Does what is asked for. A new volume gets this head, which is its chain; a snapshot gets the map of its volume,
+    /// and any other one an empty map. Other maps and chains stay.
     pub fn change(&mut self, alloc: Global, ask: &Ask, head: u32) -> Result<(), Fail> {
         match *ask {
             Ask::Create { name, slots, thick } => {
                 let made = new_volume(alloc, name, slots, thick, head)?;
                 self.volumes.push(made)?;
             }
-            Ask::Snapshot { name, .. } | Ask::Clone { name, .. } => {
-                self.make_copy(alloc, ask, name, head)?;
+            Ask::Snapshot { name, new } => {
+                let made = self.find_mut(name)?.snapshot(alloc, new, head)?;
+                self.volumes.push(made)?;
             }
-            Ask::Delete { name } => self.delete(alloc, name)?,
+            Ask::Clone { name, new } => {
+                let made = named(&self.volumes, name)?.clone(alloc, new, head)?;
+                self.volumes.push(made)?;
+            }
+            Ask::Delete { name } => self.delete(name)?,
             Ask::Decouple { name } => self.decouple(name)?,
             _ => {
                 if let Some(name) = ask.name() {
-                    self.find_mut(name).ok_or("no volume")?.change(alloc, ask)?;
+                    self.find_mut(name)?.change(alloc, ask)?;
                 }
             }
         }

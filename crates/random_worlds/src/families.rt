@@ -1,107 +1,72 @@
-//! What snapshots, clones and deletes take of what is clear, and what they give back.
+//! What snapshots, clones and deletes take of what is clear, and what they give back. Each gives what is too little;
+//! the state is of no use then.
 
 use crate::asks::Ask;
-use crate::attributes::Attribute;
-use crate::space::{Outcome, SNAP, SNAPRM, SNAPTMP, chain_length, internal_of, taken_pages};
-use crate::states::{State, Volume, clear_count, give_back};
+use crate::chains::{Lack, SNAP, SNAPRM, SNAPTMP, internal_of, runs_in, tail_length};
+use crate::marks::{clear_count, give_back, give_back_all, take};
+use crate::space::make;
+use crate::states::{State, Volume, named};
 use std::alloc::Global;
 use std::test::Fail;
-use volume_model::Reply;
 
-/// How many pages stand behind the head of a chain with these attributes, internal ones of these sizes, and this map.
-fn behind(attributes: &[Attribute], internal: &[usize], map: &[Option<u32>]) -> usize {
-    chain_length(attributes, internal, map).saturating_sub(1)
-}
-
-/// Empty slots, so many.
-fn empty_slots(alloc: Global, count: usize) -> Result<Vec<Option<u32>>, Fail> {
-    let mut slots = Vec::new(alloc);
-    for _ in 0..count {
-        slots.push(None)?;
-    }
-    Ok(slots)
-}
-
-/// A chain of a head and the places behind it.
-fn chain_of(alloc: Global, head: u32, places: &[u32]) -> Result<Vec<u32>, Fail> {
-    let mut chain = vec![in alloc; head]?;
-    chain.extend_from_slice(places)?;
-    Ok(chain)
-}
-
-/// Gives back metadata pages.
-fn give_back_pages(state: &mut State, places: &[u32]) {
-    for place in places {
-        give_back(&mut state.used_pages, *place);
-    }
-}
-
-/// Gives a volume another chain and another map.
-fn lay(state: &mut State, name: u8, chain: Vec<u32>, map: Vec<Option<u32>>) -> Result<(), Fail> {
-    let volume = state.find_mut(name).ok_or("no volume")?;
-    volume.chain = chain;
-    volume.map = map;
-    Ok(())
-}
-
-/// How many pages a snapshot takes behind heads: for the new volume's first chain, for its second, which has the map,
-/// for the chain of the volume without its clusters, and for the new one's last.
-fn snapshot_needs(volume: &Volume, empty: &[Option<u32>]) -> [usize; 4] {
+/// How many pages a snapshot takes beside its head: for chains that don't stay, the new volume's first one and its
+/// second, which has the map; for the chain of the volume without its clusters; and for the new one's last.
+fn snapshot_needs(volume: &Volume) -> [usize; 3] {
     let filled: &[usize] = if volume.parent.is_some() {
         &[SNAPTMP, SNAP]
     } else {
         &[SNAPTMP]
     };
+    let runs = runs_in(&volume.map);
+    let empty = volume.map.len().min(1);
+    let passing = tail_length(&[], &[SNAPTMP], empty);
     [
-        behind(&[], &[SNAPTMP], empty),
-        behind(&[], filled, &volume.map),
-        behind(&volume.synced, &[SNAP], empty),
-        behind(&[], internal_of(volume), &volume.map),
+        passing.saturating_add(tail_length(&[], filled, runs)),
+        tail_length(&volume.synced, &[SNAP], empty),
+        tail_length(&[], internal_of(volume), runs),
     ]
 }
 
 /// A snapshot: all its pages are taken at once, and those of the chains that don't stay are clear behind it.
-pub fn snapshot(alloc: Global, next: State, ask: &Ask, name: u8, new: u8) -> Result<Outcome, Fail> {
-    let mut next = next;
-    let volume = next.find(name).ok_or("no volume")?;
-    let old = Vec::from_slice(alloc, &volume.chain)?;
-    let map = Vec::from_slice(alloc, &volume.map)?;
-    let empty = empty_slots(alloc, map.len())?;
-    let [first, second, third, last] = snapshot_needs(volume, &empty);
-    let needs = [first, second, third, last]
-        .iter()
-        .fold(1usize, |sum, count| sum.saturating_add(*count));
-    if clear_count(&next.used_pages) < needs {
-        return Ok(Outcome::Lacks(Reply::NoPage));
+pub fn snapshot(
+    alloc: Global,
+    next: &mut State,
+    ask: &Ask,
+    name: u8,
+    new: u8,
+) -> Result<Option<Lack>, Fail> {
+    let [passing, emptied, made] = snapshot_needs(named(&next.volumes, name)?);
+    let needs = passing.saturating_add(emptied).saturating_add(made);
+    if clear_count(&next.used_pages) <= needs {
+        return Ok(Some(Lack::Pages));
     }
-    let head = *taken_pages(alloc, &mut next, 1)?.first().ok_or("no head")?;
-    let begun = taken_pages(alloc, &mut next, first)?;
-    let filled = taken_pages(alloc, &mut next, second)?;
-    let emptied = taken_pages(alloc, &mut next, third)?;
-    let made = taken_pages(alloc, &mut next, last)?;
-    give_back_pages(&mut next, &begun);
-    give_back_pages(&mut next, &filled);
-    give_back_pages(&mut next, old.get(1..).ok_or("no chain")?);
-    next.change(alloc, ask, head)?;
-    let of = *old.first().ok_or("no head")?;
-    lay(&mut next, name, chain_of(alloc, of, &emptied)?, empty)?;
-    lay(&mut next, new, chain_of(alloc, head, &made)?, map)?;
-    Ok(Outcome::Next(next))
+    let taken = take(alloc, &mut next.used_pages, needs.saturating_add(1))?;
+    let (head, rest) = taken.split_first().ok_or("no head")?;
+    let (passing, staying) = rest.split_at_checked(passing).ok_or("no chain")?;
+    let (emptied, made) = staying.split_at_checked(emptied).ok_or("no chain")?;
+    give_back_all(&mut next.used_pages, passing);
+    next.clear_tail(name)?;
+    next.change(alloc, ask, *head)?;
+    next.set_tail(name, emptied)?;
+    next.set_tail(new, made)?;
+    Ok(None)
 }
 
 /// A clone.
-pub fn clone(alloc: Global, next: State, ask: &Ask, name: u8, new: u8) -> Result<Outcome, Fail> {
-    let mut next = next;
-    let volume = next.find(name).ok_or("no volume")?;
-    let empty = empty_slots(alloc, volume.map.len())?;
-    let needs = chain_length(&[], &[SNAP], &empty);
-    if clear_count(&next.used_pages) < needs {
-        return Ok(Outcome::Lacks(Reply::NoPage));
+pub fn clone(
+    alloc: Global,
+    next: &mut State,
+    ask: &Ask,
+    name: u8,
+    new: u8,
+) -> Result<Option<Lack>, Fail> {
+    let slots = named(&next.volumes, name)?.map.len();
+    let tail = tail_length(&[], &[SNAP], slots.min(1));
+    if clear_count(&next.used_pages) <= tail {
+        return Ok(Some(Lack::Pages));
     }
-    let chain = taken_pages(alloc, &mut next, needs)?;
-    next.change(alloc, ask, *chain.first().ok_or("no head")?)?;
-    lay(&mut next, new, chain, empty)?;
-    Ok(Outcome::Next(next))
+    make(alloc, next, ask, new, tail)?;
+    Ok(None)
 }
 
 /// The map of a clone that takes over from its parent: its empty slots have the parent's clusters.
@@ -121,63 +86,88 @@ fn heir_map(
     Ok(slots)
 }
 
-/// Gives back the clusters of a map that another map doesn't have.
-fn give_back_clusters(state: &mut State, map: &[Option<u32>], heir: &[Option<u32>]) {
+/// Clears the clusters of a map that another map doesn't have.
+fn give_back_clusters(clusters: &mut [bool], map: &[Option<u32>], heir: &[Option<u32>]) {
     for slot in map {
         if let Some(cluster) = slot {
             if !heir.contains(slot) {
-                give_back(&mut state.used_clusters, *cluster);
+                give_back(clusters, *cluster);
             }
         }
     }
 }
 
+/// Clears the whole chain of a volume, and its clusters, without those of an heir's map.
+fn erase(next: &mut State, name: u8, heir: &[Option<u32>]) -> Result<(), Fail> {
+    let gone = named(&next.volumes, name)?;
+    give_back_all(&mut next.used_pages, &gone.chain);
+    give_back_clusters(&mut next.used_clusters, &gone.map, heir);
+    Ok(())
+}
+
 /// A delete: a volume without clones is erased, and else its one clone takes over from it first.
-pub fn delete(alloc: Global, next: State, ask: &Ask, name: u8) -> Result<Outcome, Fail> {
-    let volume = next.find(name).ok_or("no volume")?;
-    match next.first_clone(volume) {
-        Some(clone) => {
-            let clone = clone.name;
-            hand_over(alloc, next, ask, name, clone)
+pub fn delete(alloc: Global, next: &mut State, ask: &Ask, name: u8) -> Result<Option<Lack>, Fail> {
+    let gone = named(&next.volumes, name)?;
+    let clone = match next.first_clone(gone) {
+        Some(clone) => clone.name,
+        None => {
+            erase(next, name, &[])?;
+            next.change(alloc, ask, 0)?;
+            return Ok(None);
         }
-        None => erase(alloc, next, ask, name),
-    }
+    };
+    hand_over(alloc, next, ask, name, clone)
 }
 
-/// A delete of a volume without clones.
-fn erase(alloc: Global, next: State, ask: &Ask, name: u8) -> Result<Outcome, Fail> {
-    let mut next = next;
-    let gone = next.find(name).ok_or("no volume")?.copy(alloc)?;
-    give_back_pages(&mut next, &gone.chain);
-    give_back_clusters(&mut next, &gone.map, &[]);
-    next.change(alloc, ask, 0)?;
-    Ok(Outcome::Next(next))
-}
-
-/// A delete of a volume with one clone. The pages of both new chains are taken at once.
-fn hand_over(alloc: Global, next: State, ask: &Ask, name: u8, clone: u8) -> Result<Outcome, Fail> {
-    let mut next = next;
-    let gone = next.find(name).ok_or("no volume")?.copy(alloc)?;
-    let heir = next.find(clone).ok_or("no clone")?.copy(alloc)?;
-    let map = heir_map(alloc, &heir.map, &gone.map)?;
+/// How many pages a delete takes behind heads: for the last chain of the volume that goes, and for the new one of its
+/// clone with this map.
+fn delete_needs(gone: &Volume, heir: &Volume, map: &[Option<u32>]) -> (usize, usize) {
     let marked: &[usize] = if gone.parent.is_some() {
         &[SNAP, SNAPRM]
     } else {
         &[SNAPRM]
     };
-    let going = behind(&gone.synced, marked, &gone.map);
-    let taking = behind(&heir.synced, internal_of(&gone), &map);
-    if clear_count(&next.used_pages) < going.saturating_add(taking) {
-        return Ok(Outcome::Lacks(Reply::NoPage));
+    (
+        tail_length(&gone.synced, marked, runs_in(&gone.map)),
+        tail_length(&heir.synced, internal_of(gone), runs_in(map)),
+    )
+}
+
+/// A delete of a volume with one clone. The pages of both new chains are taken at once.
+fn hand_over(
+    alloc: Global,
+    next: &mut State,
+    ask: &Ask,
+    name: u8,
+    clone: u8,
+) -> Result<Option<Lack>, Fail> {
+    let gone = named(&next.volumes, name)?;
+    let heir = named(&next.volumes, clone)?;
+    let map = heir_map(alloc, &heir.map, &gone.map)?;
+    let (going, staying) = delete_needs(gone, heir, &map);
+    let needs = going.saturating_add(staying);
+    if clear_count(&next.used_pages) < needs {
+        return Ok(Some(Lack::Pages));
     }
-    let marked = taken_pages(alloc, &mut next, going)?;
-    let taken = taken_pages(alloc, &mut next, taking)?;
-    give_back_pages(&mut next, &marked);
-    give_back_pages(&mut next, &gone.chain);
-    give_back_pages(&mut next, heir.chain.get(1..).ok_or("no chain")?);
-    give_back_clusters(&mut next, &gone.map, &map);
+    erase_for(alloc, next, (name, clone), &map, (going, needs))?;
     next.change(alloc, ask, 0)?;
-    let head = heir.head().ok_or("no head")?;
-    lay(&mut next, clone, chain_of(alloc, head, &taken)?, map)?;
-    Ok(Outcome::Next(next))
+    next.find_mut(clone)?.map = map;
+    Ok(None)
+}
+
+/// Erases a volume for its clone, an heir with this map: takes so many pages, of which the first ones, so many, don't
+/// stay, and the others are the new tail of the clone's chain.
+fn erase_for(
+    alloc: Global,
+    next: &mut State,
+    (name, clone): (u8, u8),
+    map: &[Option<u32>],
+    (going, needs): (usize, usize),
+) -> Result<(), Fail> {
+    let taken = take(alloc, &mut next.used_pages, needs)?;
+    let (marked, tail) = taken.split_at_checked(going).ok_or("no chain")?;
+    give_back_all(&mut next.used_pages, marked);
+    erase(next, name, map)?;
+    next.clear_tail(clone)?;
+    next.set_tail(clone, tail)
 }

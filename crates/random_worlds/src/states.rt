@@ -1,12 +1,13 @@
 //! What plain volumes hold, and which metadata pages and clusters they take.
 
 use crate::attributes::Attribute;
+use crate::marks::{clear_count, first_set, give_back_all};
 use std::alloc::Global;
 use std::test::Fail;
 use volume_model::Df;
 
 /// A page: the word that fills it, and whether it outlasts a crash.
-#[derive(Clone, Copy, Debug)]
+#[derive(Clone, Copy)]
 pub struct PageState {
     pub word: u64,
     pub is_settled: bool,
@@ -41,40 +42,6 @@ pub const CLUSTER_PAGES: usize = 4;
 /// How many clusters the stores have.
 const CLUSTERS: u32 = 16;
 
-/// As many marks as there are places, of which the first ones are set.
-fn first_set(alloc: Global, places: u32, set: u32) -> Result<Vec<bool>, Fail> {
-    let mut marks = Vec::new(alloc);
-    for place in 0..places {
-        marks.push(place < set)?;
-    }
-    Ok(marks)
-}
-
-/// How many of the marks are not set.
-pub fn clear_count(marks: &[bool]) -> usize {
-    marks.iter().filter(|is_set| !**is_set).count()
-}
-
-/// Sets the first mark that is not set, and gives its place.
-pub fn take_least(marks: &mut [bool]) -> Result<u32, Fail> {
-    let mut at = 0u32;
-    for mark in marks.iter_mut() {
-        if !*mark {
-            *mark = true;
-            return Ok(at);
-        }
-        at = at.wrapping_add(1);
-    }
-    Err(Fail::new("no mark is clear"))
-}
-
-/// Clears the mark of a place.
-pub fn give_back(marks: &mut [bool], place: u32) {
-    if let Some(mark) = marks.get_mut(place as usize) {
-        *mark = false;
-    }
-}
-
 impl Volume {
     pub fn copy(&self, alloc: Global) -> Result<Volume, Fail> {
         Ok(Volume {
@@ -99,6 +66,21 @@ impl Volume {
     pub fn slots(&self) -> usize {
         self.pages.len() / CLUSTER_PAGES
     }
+
+    /// Whether it has another one for its parent.
+    fn is_clone_of(&self, other: &Volume) -> bool {
+        self.parent.is_some() && self.parent == other.head()
+    }
+}
+
+/// The volume of a name, or a failure.
+pub fn named(volumes: &[Volume], name: u8) -> Result<&Volume, Fail> {
+    for volume in volumes {
+        if volume.name == name {
+            return Ok(volume);
+        }
+    }
+    Err(Fail::new("no volume"))
 }
 
 impl State {
@@ -128,37 +110,48 @@ impl State {
         self.volumes.iter().find(|volume| volume.name == name)
     }
 
-    /// The volume of a name, to be changed.
-    pub fn find_mut(&mut self, name: u8) -> Option<&mut Volume> {
-        self.volumes.iter_mut().find(|volume| volume.name == name)
+    /// The volume of a name, to be changed, or a failure.
+    pub fn find_mut(&mut self, name: u8) -> Result<&mut Volume, Fail> {
+        let found = self.volumes.iter_mut().find(|volume| volume.name == name);
+        Ok(found.ok_or("no volume")?)
+    }
+
+    /// The volume at a head.
+    fn at(&self, head: u32) -> Option<&Volume> {
+        self.volumes
+            .iter()
+            .find(|volume| volume.head() == Some(head))
     }
 
     /// The parent of a volume, if it has one.
     pub fn parent_of(&self, volume: &Volume) -> Option<&Volume> {
-        let head = volume.parent?;
-        self.volumes.iter().find(|other| other.head() == Some(head))
+        self.at(volume.parent?)
     }
 
     /// How many volumes have this one for their parent.
     pub fn clone_count(&self, volume: &Volume) -> usize {
-        self.volumes
-            .iter()
-            .filter(|other| other.parent.is_some() && other.parent == volume.head())
-            .count()
+        let mut count = 0usize;
+        for other in &self.volumes {
+            if other.is_clone_of(volume) {
+                count = count.wrapping_add(1);
+            }
+        }
+        count
     }
 
     /// The first volume that has this one for its parent.
     pub fn first_clone(&self, volume: &Volume) -> Option<&Volume> {
-        self.volumes.iter().find(|other| other.parent.is_some() && other.parent == volume.head())
+        for other in &self.volumes {
+            if other.is_clone_of(volume) {
+                return Some(other);
+            }
+        }
+        None
     }
 
     /// The letter of the volume at a head; another letter where there is none.
     pub fn name_at(&self, head: u32) -> u8 {
-        match self
-            .volumes
-            .iter()
-            .find(|volume| volume.head() == Some(head))
-        {
+        match self.at(head) {
             Some(volume) => volume.name,
             None => b'z',
         }
@@ -166,11 +159,39 @@ impl State {
 
     /// Whether a new volume may have this head: there is such a metadata page, and no volume is at it.
     pub fn is_free_head(&self, head: u32) -> bool {
-        (head as usize) < self.used_pages.len()
-            && self
-                .volumes
-                .iter()
-                .all(|volume| volume.head() != Some(head))
+        (head as usize) < self.used_pages.len() && self.at(head).is_none()
+    }
+
+    /// Whether the parent of a volume, if it has one, holds a cluster in this slot.
+    pub fn is_held_above(&self, volume: &Volume, slot: usize) -> bool {
+        match self.parent_of(volume) {
+            Some(parent) => matches!(parent.map.get(slot), Some(Some(_))),
+            None => false,
+        }
+    }
+
+    /// Clears the pages of a volume's chain behind its head.
+    pub fn clear_tail(&mut self, name: u8) -> Result<(), Fail> {
+        let volume = named(&self.volumes, name)?;
+        if let Some((_, tail)) = volume.chain.split_first() {
+            give_back_all(&mut self.used_pages, tail);
+        }
+        Ok(())
+    }
+
+    /// Gives a volume's chain these places behind its head.
+    pub fn set_tail(&mut self, name: u8, tail: &[u32]) -> Result<(), Fail> {
+        let volume = self.find_mut(name)?;
+        volume.chain.truncate(1);
+        volume.chain.extend_from_slice(tail)?;
+        Ok(())
+    }
+
+    /// Puts a cluster into a slot of a volume, or empties it.
+    pub fn set_slot(&mut self, name: u8, slot: usize, cluster: Option<u32>) -> Result<(), Fail> {
+        let volume = self.find_mut(name)?;
+        *volume.map.get_mut(slot).ok_or("no slot")? = cluster;
+        Ok(())
     }
 
     /// Each page outlasts a crash from now on.

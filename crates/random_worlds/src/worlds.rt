@@ -1,9 +1,11 @@
 //! The plain machine, and beside it what is clear.
 
-use crate::asks::{Ask, command_of};
+use crate::asks::Ask;
 use crate::causes::is_done;
-use crate::space::{Outcome, outcome_of};
-use crate::states::{State, Volume};
+use crate::chains::Lack;
+use crate::commands::command_of;
+use crate::space::apply;
+use crate::states::{State, Volume, named};
 use script_lang::number_below;
 use std::alloc::Global;
 use std::test::Fail;
@@ -25,32 +27,43 @@ impl World {
         })
     }
 
+    /// The plain machine's reply to what is asked for.
+    fn apply(&mut self, alloc: Global, ask: &Ask) -> Result<Reply, Fail> {
+        let command = command_of(alloc, ask)?;
+        Ok(self.machine.apply(alloc, &command))
+    }
+
     /// Does what is asked for, and gives the reply. A new volume has the least clear metadata page as its head.
     pub fn step(&mut self, alloc: Global, ask: &Ask) -> Result<Reply, Fail> {
-        let outcome = outcome_of(alloc, &self.state, ask)?;
-        let outcome = match outcome {
-            Outcome::Lacks(reply) => return Ok(reply),
-            Outcome::Fills(state, reply) => {
-                self.state = state;
-                return Ok(reply);
-            }
-            other => other,
-        };
-        let reply = self.machine.apply(alloc, &command_of(alloc, ask)?);
-        match (outcome, reply) {
-            (Outcome::Next(state), Reply::Made(_)) => {
-                self.state = state;
-                Ok(Reply::Made(self.last_head()?))
-            }
-            (Outcome::Next(state), Reply::Ok) => {
-                self.state = state;
-                Ok(Reply::Ok)
-            }
-            (Outcome::Same, Reply::Df(_)) => Ok(Reply::Df(self.state.df())),
-            (Outcome::Same, Reply::Ok | Reply::Made(_)) | (Outcome::Next(_), _) => {
-                Err(Fail::new(format_args!("the machine does otherwise with {ask:?}")))
-            }
-            (_, reply) => self.told(alloc, ask, reply),
+        if !is_done(&self.state, ask) {
+            return self.refused(alloc, ask);
+        }
+        let mut next = self.state.copy(alloc)?;
+        let lack = apply(alloc, &mut next, ask)?;
+        if lack.is_none() || matches!(ask, Ask::Inflate { .. } | Ask::Decouple { .. }) {
+            self.state = next;
+        }
+        match lack {
+            Some(lack) => Ok(lack.reply()),
+            None => self.done(alloc, ask),
+        }
+    }
+
+    /// The reply to what plain volumes do, after which the state is as it is now.
+    fn done(&mut self, alloc: Global, ask: &Ask) -> Result<Reply, Fail> {
+        match self.apply(alloc, ask)? {
+            Reply::Made(_) => Ok(Reply::Made(self.last_head()?)),
+            Reply::Ok => Ok(Reply::Ok),
+            _ => Err(does_otherwise(ask)),
+        }
+    }
+
+    /// The reply to what plain volumes refuse, or only tell.
+    fn refused(&mut self, alloc: Global, ask: &Ask) -> Result<Reply, Fail> {
+        match self.apply(alloc, ask)? {
+            Reply::Df(_) => Ok(Reply::Df(self.state.df())),
+            Reply::Ok | Reply::Made(_) => Err(does_otherwise(ask)),
+            reply => self.told(alloc, ask, reply),
         }
     }
 
@@ -68,12 +81,9 @@ impl World {
 
     /// What the machine tells of a volume, with the heads of it and of its parent.
     fn info_told(&mut self, alloc: Global, name: u8) -> Result<Info, Fail> {
-        let volume = self.state.find(name).ok_or("no volume")?;
+        let volume = named(&self.state.volumes, name)?;
         let (head, parent) = (volume.head().ok_or("no head")?, volume.parent);
-        let reply = self
-            .machine
-            .apply(alloc, &command_of(alloc, &Ask::Info { name })?);
-        let Reply::Info(mut info) = reply else {
+        let Reply::Info(mut info) = self.apply(alloc, &Ask::Info { name })? else {
             return Err(Fail::new("the machine tells nothing of a volume"));
         };
         if info.parent.is_some() != parent.is_some() {
@@ -110,10 +120,10 @@ impl World {
     /// free.
     pub fn follow(&mut self, alloc: Global, ask: &Ask, told: &[u8]) -> Result<Reply, Fail> {
         match lack_told(ask, told) {
-            Some(lack) if is_done(&self.state, ask) => return Ok(lack),
+            Some(lack) if is_done(&self.state, ask) => return Ok(lack.reply()),
             _ => {}
         }
-        match self.machine.apply(alloc, &command_of(alloc, ask)?) {
+        match self.apply(alloc, ask)? {
             Reply::Ok => {
                 self.state.change(alloc, ask, 0)?;
                 Ok(Reply::Ok)
@@ -177,6 +187,10 @@ impl World {
     }
 }
 
+fn does_otherwise(ask: &Ask) -> Fail {
+    Fail::new(format_args!("the machine does otherwise with {}", ask.verb()))
+}
+
 /// Whether a reply is a page that is filled with a word.
 fn is_filled_with(reply: &Reply, word: u64) -> bool {
     match reply {
@@ -210,7 +224,7 @@ fn number_told(digits: &[u8]) -> Result<u32, Fail> {
 }
 
 /// The lack that a line tells, if what is asked for may meet it.
-fn lack_told(ask: &Ask, told: &[u8]) -> Option<Reply> {
+fn lack_told(ask: &Ask, told: &[u8]) -> Option<Lack> {
     let takes_clusters = matches!(
         ask,
         Ask::Create { .. }
@@ -230,8 +244,8 @@ fn lack_told(ask: &Ask, told: &[u8]) -> Option<Reply> {
                 | Ask::ReadOnly { .. }
         );
     match told {
-        b"full" if takes_clusters => Some(Reply::Full),
-        b"no page" if takes_pages => Some(Reply::NoPage),
+        b"full" if takes_clusters => Some(Lack::Clusters),
+        b"no page" if takes_pages => Some(Lack::Pages),
         _ => None,
     }
 }

@@ -1,12 +1,36 @@
-//! Commands and the replies that are wanted, as rows of a table.
+//! Commands that rows of a table tell.
 
 use std::alloc::Global;
 use std::test::Fail;
-use volume_model::{Blobtext, Command, Name, PageWord, VolumeRef};
+use volume_model::{Blobtext, Command, Memory, Name, PageWord, VolumeRef};
+
+/// What a row does.
+pub(crate) enum Verb {
+    Create,
+    Write,
+    Read,
+    Flush,
+    SetX,
+    DelX,
+    GetX,
+    Put,
+    Sync,
+    Resize,
+    Snapshot,
+    Clone,
+    Inflate,
+    Decouple,
+    Delete,
+    Rename,
+    ReadOnly,
+    Info,
+    List,
+    Df,
+}
 
 /// A verb, its volume, a number, a text, and the reply that is wanted. The number is a page, a number of slots or the
 /// length of a value of so many letters `a`; the text is a name or a key.
-pub(crate) type Row = (&'static str, &'static str, u64, &'static str, &'static str);
+pub(crate) type Row = (Verb, &'static str, u64, &'static str, &'static str);
 
 fn name(text: &str) -> Name {
     match text {
@@ -20,8 +44,8 @@ fn name(text: &str) -> Name {
     }
 }
 
-/// The volume that a text names, by its head or its name.
-pub(crate) fn volume(text: &str) -> VolumeRef {
+/// The volume that a row means, by its head or by its name.
+fn volume(text: &str) -> VolumeRef {
     match text {
         "@0" => VolumeRef::Head(0),
         "@1" => VolumeRef::Head(1),
@@ -32,76 +56,83 @@ pub(crate) fn volume(text: &str) -> VolumeRef {
     }
 }
 
-fn letters(alloc: Global, count: u64) -> Result<Blobtext, Fail> {
+fn letters(alloc: Global, count: u64) -> Result<Blobtext, Memory> {
     let mut text = Vec::new(alloc);
     for _ in 0..count {
         text.push(b'a')?;
     }
-    Ok(Blobtext::new(alloc, text.as_slice())?)
+    Blobtext::new(alloc, &text)
 }
 
-/// The commands on attributes, or a flush.
-fn on_xattrs(alloc: Global, row: &Row) -> Result<Command, Fail> {
-    let volume = volume(row.1);
-    let key = Blobtext::new(alloc, row.3.as_bytes())?;
+fn on_value(alloc: Global, row: &Row) -> Result<Command, Memory> {
     let value = letters(alloc, row.2)?;
+    let key = Blobtext::new(alloc, row.3.as_bytes())?;
+    let volume = volume(row.1);
     Ok(match row.0 {
-        "setx" => Command::SetX { volume, key, value },
-        "put" => Command::Put { volume, key, value },
-        "delx" => Command::DelX { volume, key },
-        "getx" => Command::GetX { volume, key },
-        _ => Command::Flush,
+        Verb::Put => Command::Put { volume, key, value },
+        _ => Command::SetX { volume, key, value },
     })
 }
 
-fn on_pages(row: &Row) -> Command {
+fn on_key(alloc: Global, row: &Row) -> Result<Command, Memory> {
+    let key = Blobtext::new(alloc, row.3.as_bytes())?;
+    let volume = volume(row.1);
+    Ok(match row.0 {
+        Verb::DelX => Command::DelX { volume, key },
+        _ => Command::GetX { volume, key },
+    })
+}
+
+fn on_volume(row: &Row) -> Command {
     let volume = volume(row.1);
     match row.0 {
-        "write" => Command::Write {
+        Verb::Write => Command::Write {
             volume,
             page: row.2,
             word: PageWord::Fill(7),
         },
-        "read" => Command::Read {
+        Verb::Read => Command::Read {
             volume,
             page: row.2,
         },
-        "resize" => Command::Resize {
+        Verb::Resize => Command::Resize {
             volume,
             slots: row.2,
         },
-        "sync" => Command::Sync { volume },
-        "inflate" => Command::Inflate { volume },
-        "decouple" => Command::Decouple { volume },
-        "delete" => Command::Delete { volume },
-        "readonly" => Command::ReadOnly { volume },
-        "info" => Command::Info { volume },
-        "list" => Command::List,
-        _ => Command::Df,
+        Verb::Sync => Command::Sync { volume },
+        Verb::Inflate => Command::Inflate { volume },
+        Verb::Decouple => Command::Decouple { volume },
+        Verb::Delete => Command::Delete { volume },
+        Verb::ReadOnly => Command::ReadOnly { volume },
+        _ => Command::Info { volume },
     }
 }
 
-fn on_names(row: &Row) -> Command {
+fn on_name(row: &Row) -> Command {
     let name = name(row.3);
     let volume = volume(row.1);
     match row.0 {
-        "create" => Command::Create {
-            name,
-            slots: row.2,
-            thick: false,
-            uuid: Some([0x11; 16]),
-        },
-        "snapshot" => Command::Snapshot { volume, name },
-        "clone" => Command::Clone { volume, name },
+        Verb::Snapshot => Command::Snapshot { volume, name },
+        Verb::Clone => Command::Clone { volume, name },
         _ => Command::Rename { volume, name },
     }
 }
 
 /// The command of a row.
 pub(crate) fn command(alloc: Global, row: &Row) -> Result<Command, Fail> {
-    match row.0 {
-        "create" | "snapshot" | "clone" | "rename" => Ok(on_names(row)),
-        "setx" | "put" | "delx" | "getx" | "flush" => on_xattrs(alloc, row),
-        _ => Ok(on_pages(row)),
-    }
+    Ok(match row.0 {
+        Verb::Create => Command::Create {
+            name: name(row.3),
+            slots: row.2,
+            thick: false,
+            uuid: Some([0x11; 16]),
+        },
+        Verb::Snapshot | Verb::Clone | Verb::Rename => on_name(row),
+        Verb::SetX | Verb::Put => on_value(alloc, row)?,
+        Verb::DelX | Verb::GetX => on_key(alloc, row)?,
+        Verb::Flush => Command::Flush,
+        Verb::List => Command::List,
+        Verb::Df => Command::Df,
+        _ => on_volume(row),
+    })
 }

@@ -1,30 +1,57 @@
 //! What wants memory gets it, and vectors from outside.
 
+use std::alloc::Global;
 use std::boxed::Box;
+use std::process::Abort;
 use std::test::Fail;
 use volume_model::{
-    Command, Df, Msg, Name, PageWord, Pair, RunList, Script, SlotRun, TryCopy, Xattr, XattrList,
-    uuid_for,
+    Command, Df, Memory, Msg, Name, PageWord, Pair, RunList, Script, SlotRun, TryCopy, Xattr,
+    XattrList, uuid_for,
 };
 
+const RUN: SlotRun = SlotRun {
+    cluster: 5,
+    length: 3,
+};
+
+fn one_run(alloc: Global) -> Result<RunList, Memory> {
+    let mut list = RunList::new(alloc);
+    list.push(RUN)?;
+    Ok(list)
+}
+
 #[test]
-fn lists_and_scripts_find_memory(rt: HostRuntime) -> Result<(), Fail> {
-    let run = SlotRun {
-        cluster: 5,
-        length: 3,
-    };
-    let mut list = RunList::new(rt.alloc());
-    list.push(run)?;
-    assert_eq!(rt; list.try_copy(rt.alloc())?.pop(), Some(run));
+fn lists_find_memory_for_their_copies(rt: HostRuntime) -> Result<(), Fail> {
+    let mut copy = one_run(rt.alloc())?.try_copy(rt.alloc())?;
+    assert!(rt; copy.pop() == Some(RUN));
+    Ok(())
+}
+
+#[test]
+fn lists_give_up_what_they_hold(rt: HostRuntime) -> Result<(), Fail> {
+    let mut list = one_run(rt.alloc())?;
     let mut taken = RunList::from_vec(list.take_all(rt.alloc()));
-    assert_eq!(rt;
-        (list.len(), taken.get(0).copied(), taken.pop()),
-        (0, Some(run), Some(run))
-    );
+    assert!(rt; list.len() == 0 && taken.get(0).copied() == Some(RUN));
+    assert!(rt; taken.pop() == Some(RUN));
+    Ok(())
+}
+
+#[test]
+fn scripts_find_memory(rt: HostRuntime) -> Result<(), Fail> {
     let mut script = Script::new(rt.alloc());
     script.push(3, Command::Flush)?;
-    assert_eq!(rt; (script.channels(), script.commands(3).len()), (4, 1));
-    assert_eq!(rt; script.take(rt.alloc(), 3).len(), 1);
+    assert!(rt; script.channels() == 4 && script.commands(3).len() == 1);
+    assert!(rt; script.take(rt.alloc(), 3).len() == 1);
+    Ok(())
+}
+
+/// Expects that the copy of a value is the value.
+fn expect_copy<T: TryCopy + PartialEq + Drop>(
+    rt: &impl Abort,
+    alloc: Global,
+    value: &T,
+) -> Result<(), Fail> {
+    assert!(rt; value.try_copy(alloc)? == *value);
     Ok(())
 }
 
@@ -36,32 +63,41 @@ fn plain_values_find_memory_for_their_copies(rt: HostRuntime) -> Result<(), Fail
         free_pages: 3,
         pages: 4,
     };
-    let pair = Pair { page: 7, count: 2 };
     let msg = Msg {
         channel: 3,
         serial: 8,
     };
-    assert_eq!(rt; 7u32.try_copy(rt.alloc())?, 7);
-    assert_eq!(rt; pair.try_copy(rt.alloc())?, pair);
-    assert_eq!(rt; df.try_copy(rt.alloc())?, df);
-    assert_eq!(rt; msg.try_copy(rt.alloc())?, msg);
+    expect_copy(&rt, rt.alloc(), &7u32)?;
+    expect_copy(&rt, rt.alloc(), &Pair { page: 7, count: 2 })?;
+    expect_copy(&rt, rt.alloc(), &df)?;
+    expect_copy(&rt, rt.alloc(), &msg)
+}
+
+#[test]
+fn names_find_memory_for_their_copies(rt: HostRuntime) -> Result<(), Fail> {
     let name = Name::new(b"vol-1").try_copy(rt.alloc())?;
-    assert_eq!(rt; name.bytes(), b"vol-1".as_slice());
+    assert!(rt; name.bytes() == b"vol-1".as_slice());
     Ok(())
+}
+
+fn two_attributes(alloc: Global) -> Result<XattrList, Memory> {
+    let xattr = Xattr::new(alloc, b"a\0b", b"1")?;
+    let mut list = XattrList::new(alloc);
+    list.push(xattr.try_copy(alloc)?)?;
+    list.with_value(alloc, b"k", b"22\0z")
 }
 
 #[test]
 fn attributes_find_memory(rt: HostRuntime) -> Result<(), Fail> {
-    let xattr = Xattr::new(rt.alloc(), b"a\0b", b"1")?;
-    let mut list = XattrList::new(rt.alloc());
-    list.push(xattr.try_copy(rt.alloc())?)?;
-    let more = list.with_value(rt.alloc(), b"k", b"22\0z")?;
-    assert_eq!(rt;
-        (more.told(b"a\0b"), more.told(b"k")),
-        (b"1".as_slice(), b"22".as_slice())
-    );
-    let fewer = more.without(rt.alloc(), b"a\0b")?;
-    assert_eq!(rt; (fewer.len(), fewer.value_of(b"a\0b").is_none()), (1, true));
+    let list = two_attributes(rt.alloc())?;
+    assert!(rt; list.told(b"a\0b") == b"1".as_slice() && list.told(b"k") == b"22".as_slice());
+    Ok(())
+}
+
+#[test]
+fn attributes_without_one_find_memory(rt: HostRuntime) -> Result<(), Fail> {
+    let fewer = two_attributes(rt.alloc())?.without(rt.alloc(), b"a\0b")?;
+    assert!(rt; fewer.len() == 1 && fewer.value_of(b"a\0b").is_none());
     Ok(())
 }
 

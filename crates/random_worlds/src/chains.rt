@@ -1,0 +1,107 @@
+//! How many metadata pages the chains of volumes take.
+
+use crate::attributes::Attribute;
+use crate::marks::{clear_count, take};
+use crate::states::{State, Volume, named};
+use std::alloc::Global;
+use std::test::Fail;
+use volume_model::Reply;
+
+/// What is too little.
+#[derive(Drop)]
+pub enum Lack {
+    /// No cluster is clear, or too few are.
+    Clusters,
+    /// Too few metadata pages are clear.
+    Pages,
+}
+
+impl Lack {
+    /// The reply that tells it.
+    pub fn reply(self) -> Reply {
+        match self {
+            Lack::Clusters => Reply::Full,
+            Lack::Pages => Reply::NoPage,
+        }
+    }
+}
+
+/// The bytes of descriptors in a metadata page, those of the flags, and the uuid's.
+const BODY: usize = 4072;
+
+const FLAGS: usize = 29;
+
+const UUID: usize = 50;
+
+/// What the attribute `name` takes of a page, where the name is one letter.
+const NAME: usize = 15;
+
+/// What internal attributes take: SNAP, SNAPRM and SNAPTMP.
+pub const SNAP: usize = 21;
+
+pub const SNAPRM: usize = 23;
+
+pub const SNAPTMP: usize = 24;
+
+/// How many runs a map is.
+pub fn runs_in(map: &[Option<u32>]) -> usize {
+    let mut runs = 0usize;
+    let mut next = None;
+    for slot in map {
+        if next != Some(*slot) {
+            runs = runs.wrapping_add(1);
+        }
+        next = Some(match slot {
+            Some(cluster) => Some(cluster.wrapping_add(1)),
+            None => None,
+        });
+    }
+    runs
+}
+
+/// How many pages a chain has behind its head: the head begins with the flags, each attribute goes to a new page where
+/// it doesn't fit, as each internal one does behind them, of these sizes, and so many runs go on in new pages as long
+/// as some are left.
+pub fn tail_length(attributes: &[Attribute], internal: &[usize], runs: usize) -> usize {
+    let mut pages = 0usize;
+    let mut left = BODY - FLAGS - NAME - UUID;
+    let sizes = attributes
+        .iter()
+        .map(|attribute| attribute.length.saturating_add(10));
+    for size in sizes.chain(internal.iter().copied()) {
+        if size > left {
+            pages = pages.wrapping_add(1);
+            left = BODY;
+        }
+        left = left.saturating_sub(size);
+    }
+    let has_room = left >= 13 && runs <= left.saturating_sub(5) / 8;
+    if runs == 0 || has_room {
+        pages
+    } else {
+        pages.wrapping_add(1)
+    }
+}
+
+/// The sizes of a volume's internal attributes: it has one where it has a parent.
+pub fn internal_of(volume: &Volume) -> &'static [usize] {
+    if volume.parent.is_some() {
+        &[SNAP]
+    } else {
+        &[]
+    }
+}
+
+/// Gives a volume the chain that its attributes and its map take: the pages behind the head are fresh, and the old ones
+/// are clear then. Nothing changes where too few are clear.
+pub fn replace_chain(alloc: Global, next: &mut State, name: u8) -> Result<Option<Lack>, Fail> {
+    let volume = named(&next.volumes, name)?;
+    let fresh = tail_length(&volume.synced, internal_of(volume), runs_in(&volume.map));
+    if clear_count(&next.used_pages) < fresh {
+        return Ok(Some(Lack::Pages));
+    }
+    let tail = take(alloc, &mut next.used_pages, fresh)?;
+    next.clear_tail(name)?;
+    next.set_tail(name, &tail)?;
+    Ok(None)
+}
