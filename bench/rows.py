@@ -50,6 +50,7 @@ class Measured:
 
     memory: int = 0
     calls: Optional[Calls] = None
+    load_reads: int = 0
     program_seconds: list = dataclasses.field(default_factory=list)
     replay_seconds: list = dataclasses.field(default_factory=list)
     qcow2_seconds: list = dataclasses.field(default_factory=list)
@@ -103,6 +104,9 @@ class Row:
         if bench.strace:
             self.measured.calls = bench.calls(words, self.image(), self.script, workload.status)
             self.calls.write_text(self.measured.calls.text(), encoding="ascii")
+        if bench.strace and workload.counts_load:
+            listing = [bench.program, "list", self.base]
+            self.measured.load_reads = bench.calls(listing, self.base, os.devnull).count("r")
         if self.has_qcow2:
             self.commands.write_text(workload.qcow2.commands, encoding="ascii")
             workload.qcow2.try_out(bench.path("work.qcow2"), self.commands)

@@ -6,7 +6,7 @@ import string
 from typing import Callable, Optional
 
 import images
-from claims import of_qcow2, of_replay, of_row, times_memory
+from claims import of_qcow2, of_replay, of_row, reads_of, sums_of, times_memory
 from qcow2 import Qcow2, commands_of
 
 KIB, MIB, GIB = 1 << 10, 1 << 20, 1 << 30
@@ -27,6 +27,7 @@ class Workload:
     status: int = 0
     answers: Callable = lambda output: True
     changes: bool = True
+    counts_load: bool = False
     qcow2: Optional[Qcow2] = None
 
     def words(self, program, image):
@@ -75,6 +76,50 @@ def random_writes(cluster, flush_each):
     )
 
 
+def snapshot_writes():
+    """Pages written to a thin volume of 1 GiB, with a snapshot behind each two hundred: the script, and the pages."""
+    draw = random.Random(3)
+    pages = [draw.randrange(GIB // PAGE) for _ in range(2000)]
+    lines = []
+    for number, page in enumerate(pages, 1):
+        lines.append(f"0 write v {page} 1 {number}\n")
+        if number % 200 == 0:
+            lines.append(f"0 snapshot v s{number // 200}\n")
+    return "".join(lines), pages
+
+
+def snapshots():
+    """The volume is written and snapshotted in one run."""
+    script, pages = snapshot_writes()
+
+    def is_answer(output):
+        return output.count(b"\n") == len(pages) + 10 and all(b" ok" in line for line in output.splitlines())
+
+    return Workload(
+        "2,000 pages written, a snapshot every 200",
+        store(GIB + 64 * MIB, 64 * KIB, 1024, f"0 create v {GIB // (64 * KIB)} thin\n"),
+        (of_replay(1.1),),
+        script=script,
+        answers=is_answer,
+    )
+
+
+def parents_read(volumes):
+    """Each page of it is read, through up to ten parents, in a store with so many other volumes."""
+    script, pages = snapshot_writes()
+    others = "".join(f"0 create {name} 0 thin\n" for name in itertools.islice(short_names(3), volumes))
+    create = f"0 create v {GIB // (64 * KIB)} thin\n"
+    return Workload(
+        f"2,000 pages read through ten parents, {volumes:,} other volumes",
+        store(GIB + 64 * MIB, 64 * KIB, 2048, create + others + script),
+        (of_replay(1.1), reads_of(len(pages))),
+        script="".join(f"0 read v {page} 1\n" for page in pages),
+        answers=lambda output: output.count(b" page fill ") == len(pages),
+        changes=False,
+        counts_load=True,
+    )
+
+
 def attributes(volumes, claims=()):
     """Attributes that are set in memory: on each volume the same sixty keys, again and again where it is one of few."""
     names = list(itertools.islice(short_names(2), volumes))
@@ -105,13 +150,23 @@ def long_script(name, last, claims=(), status=0):
     )
 
 
-def loaded():
-    """A store that is loaded and listed, with many metadata pages and few in use."""
+def loaded(by_masks):
+    """A store that is loaded and listed, with many metadata pages and few in use: by its masks, or, where their first
+    page is lost, by a scan."""
     md_pages, blobs = 262144, 10
     script = "".join(f"0 create v{number} 4 thin\n" for number in range(blobs))
+    make_store = store(md_pages * PAGE + 64 * MIB, MIB, md_pages, script)
+
+    def make(bench, image):
+        make_store(bench, image)
+        if not by_masks:
+            with open(image, "r+b") as file:
+                file.seek(PAGE)
+                file.write(bytes(PAGE))
+
     return Workload(
-        "load of 262,144 metadata pages, ten blobs",
-        store(md_pages * PAGE + 64 * MIB, MIB, md_pages, script),
+        f"load of 262,144 metadata pages, ten blobs, by {'masks' if by_masks else 'a scan'}",
+        make,
         (of_replay(1.1),),
         verb="list",
         answers=lambda output: output.startswith(b"store ") and output.count(b"\n") == 1 + blobs,
@@ -168,6 +223,7 @@ def summed_pages():
     return Workload(
         "65,536 pages read and summed",
         make,
+        (sums_of(size, 2.5),),
         script="".join(f"0 read v {page} {at_once}\n" for page in range(0, pages, at_once)),
         answers=lambda output: output.count(b" page crc ") == pages,
     )
@@ -177,18 +233,22 @@ def all_workloads():
     """The rows, in the table's order. A row that is compared with another names it."""
     few = attributes(10)
     run = long_script("65,536 lines, 1 MiB of text, run", "0 write v 0 1 7\n")
-    below = of_row(0.2, run.name, "of its run", below=True)
+    below = of_row(0.2, run.name, "of its run", "below")
     return [
         random_writes(64 * KIB, False),
         random_writes(64 * KIB, True),
         random_writes(MIB, False),
         random_writes(MIB, True),
+        snapshots(),
+        parents_read(0),
+        parents_read(500),
         few,
         attributes(1000, (of_row(1.5, few.name, "of ten volumes"),)),
         run,
         long_script("65,536 lines, 1 MiB of text, read alone", "0 write v 0 1 x\n", (below,), status=2),
         formatted(),
-        loaded(),
+        loaded(True),
+        loaded(False),
         large_maps(),
         summed_pages(),
     ]
