@@ -97,7 +97,7 @@ byte_steps-more (suc n) r = byte_steps-more n (eight_steps r)
 look : ℕ → ℕ → ℕ
 look behind n = get_or (get_or TABLES behind []) n 0
 
--- the tables up to this one: the first has the eight steps of each byte, and each other those of what the one before has
+-- the tables up to this one: the first has the eight steps of each byte, each other those of what the one before has
 agrees : ℕ → Bool
 agrees zero = agrees_below (λ n. n) (get_or TABLES 0 []) 256
 agrees (suc k) = agrees_below (look k) (get_or TABLES (suc k) []) 256 && agrees k

@@ -119,8 +119,7 @@ look_up_word m z few small =
     let e1 = look (m + 1) (m + 2) (z / 65536) (omega arith) (omega arith) in
     let one : suc m ≡ m + 1 = omega arith in
     let e0 =
-    table_holds m (z / 16777216) (omega arith) (omega arith)
-    ∙ ap (λ k. byte_steps k (z / 16777216)) one in
+    table_holds m (z / 16777216) (omega arith) (omega arith) ∙ ap (λ k. byte_steps k (z / 16777216)) one in
     let a3 = byte_steps (m + 4) (z % 256) in
     let a2 = bit_xor a3 (byte_steps (m + 3) (z / 256 % 256)) in
     ap₂ bit_xor (ap₂ bit_xor (ap₂ bit_xor e3 e2) e1) e0
@@ -159,7 +158,7 @@ number_of-four xs long =
     put : (i : ℕ) {a b : List ℕ} → a ≡ b → get_or xs i 0 ∷ a ≡ get_or xs i 0 ∷ b
     put i is = ap (λ (l : List ℕ). get_or xs i 0 ∷ l) is
 
--- a word is that number
+-- and as a word of 32 bits
 number_of-word : (xs : List ℕ) → length xs ≡ 4 → number_of xs ≡ from_le_bytes w32 xs
 unfolding number_of
 number_of-word xs long = number_of-four xs long ∙ omega arith
@@ -183,6 +182,7 @@ chunk n (suc k) (suc i) xs d lt =
     further : (i n : ℕ) → n + i * n ≡ suc i * n
     further i n = grind arith
 
+-- the first of some bytes are bytes
 small_take : (n : ℕ) (xs : List ℕ) → ((i : ℕ) → get_or xs i 0 < 256) → (i : ℕ) → get_or (take n xs) i 0 < 256
 small_take zero xs small i = omega arith
 small_take (suc n) [] small i = small i
@@ -201,7 +201,8 @@ remainder_of-sixteen r bytes long small =
     let first = bit_xor r (word 0) in
     let after_1 : remainder_of r (take 4 bytes) ≡ byte_steps 4 first = spelt r 0 (omega arith) in
     let after_2 : remainder_of r (take 8 bytes) ≡ bit_xor (byte_steps 4 (word 4)) (byte_steps 8 first) =
-    next 4 (byte_steps 4 first) (omega arith) after_1 ∙ ap (bit_xor (byte_steps 4 (word 4))) (byte_steps-after 4 4 first) in
+    next 4 (byte_steps 4 first) (omega arith) after_1
+    ∙ ap (bit_xor (byte_steps 4 (word 4))) (byte_steps-after 4 4 first) in
     let after_3 : remainder_of r (take 12 bytes)
     ≡ bit_xor (byte_steps 4 (word 8)) (bit_xor (byte_steps 8 (word 4)) (byte_steps 12 first)) =
     next 8 (bit_xor (byte_steps 4 (word 4)) (byte_steps 8 first)) (omega arith) after_2
@@ -215,7 +216,8 @@ remainder_of-sixteen r bytes long small =
     ∙ ap₂ bit_xor (byte_steps-after 4 4 (word 8)) (byte_steps-add 4 (byte_steps 8 (word 4)) (byte_steps 12 first)
     ∙ ap₂ bit_xor (byte_steps-after 4 8 (word 4)) (byte_steps-after 4 12 first))) in
     xor_assoc (bit_xor (byte_steps 4 (word 12)) (byte_steps 8 (word 8))) (byte_steps 12 (word 4)) (byte_steps 16 first)
-    ∙ xor_assoc (byte_steps 4 (word 12)) (byte_steps 8 (word 8)) (bit_xor (byte_steps 12 (word 4)) (byte_steps 16 first))
+    ∙ xor_assoc (byte_steps 4 (word 12)) (byte_steps 8 (word 8))
+    (bit_xor (byte_steps 12 (word 4)) (byte_steps 16 first))
     ∙ sym after_4 ∙ ap (remainder_of r) (take_all 16 bytes (omega arith))
   where
     word : ℕ → ℕ
@@ -227,7 +229,9 @@ remainder_of-sixteen r bytes long small =
         length-take-le 4 (drop at bytes) (omega arith)
 
     small_at : (at i : ℕ) → get_or (take 4 (drop at bytes)) i 0 < 256
-    small_at at = small_take 4 (drop at bytes) (λ i. (let is = get_or-drop at bytes i 0 in let s = small (at + i) in omega arith))
+    small_at at =
+        small_take 4 (drop at bytes)
+        (λ i. (let is = get_or-drop at bytes i 0 in let fits = small (at + i) in omega arith))
 
     spelt : (r at : ℕ) → at + 4 ≤ 16 → remainder_of r (take 4 (drop at bytes)) ≡ byte_steps 4 (bit_xor r (word at))
     spelt r at le =

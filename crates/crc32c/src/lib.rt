@@ -40,8 +40,8 @@ fn divide_byte(remainder: u32, byte: u8) -> u32
     TABLES[0][low as usize] ^ (remainder >> 8)
 }
 
-/// The remainder after sixteen bytes more. The word that waits for the remainder comes last, so that the looks of the
-/// others are done meanwhile.
+/// The remainder after sixteen bytes more. The word to which the last remainder is added comes last, since the others
+/// can be looked up before that is known.
 #[inline]
 fn divide_sixteen(remainder: u32, bytes: &[u8; 16]) -> u32
     ensures { result ≡ remainder_of remainder bytes.now }
@@ -53,7 +53,7 @@ fn divide_sixteen(remainder: u32, bytes: &[u8; 16]) -> u32
         ^ divide_word(remainder ^ u32::from_le_bytes(words[0]), 12)
 }
 
-/// What the four bytes of a word leave with so many bytes behind them: each table has it for one byte.
+/// The remainder after the four bytes of a word and so many zero bytes behind them.
 #[inline]
 fn divide_word(word: u32, behind: usize) -> u32
     requires { behind ≤ 12 }

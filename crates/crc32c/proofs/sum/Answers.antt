@@ -30,7 +30,8 @@ returns c =
     let bytes = c.args.bytes.now in
     let chunks = c.as_chunks.ensures in
     let end = length bytes / 16 * 16 in
-    let all : i * 16 ≡ end = omega (arith, c.loop-sixteen-test.false, c.loop-sixteen.auto.sixteen-index-end, chunks.front_len) in
+    let all : i * 16 ≡ end =
+    omega (arith, c.loop-sixteen-test.false, c.loop-sixteen.auto.sixteen-index-end, chunks.front_len) in
     ap (λ r. bit_xor r 0xFFFFFFFF)
     (c.divide_bytes.ensures
     ∙ ap₂ remainder_of (c.loop-sixteen.invariant ∙ ap (λ n. remainder_of 0xFFFFFFFF (take n bytes)) all) chunks.back

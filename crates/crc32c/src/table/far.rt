@@ -1,6 +1,6 @@
-// The remainder after a byte and eight to fifteen zero bytes, for each byte.
+// The tables for eight to fifteen bytes behind.
 
-/// What a byte leaves with eight bytes behind it.
+/// The remainder after each byte and eight zero bytes behind it.
 pub const BEFORE_8: [u32; 256] = [
     0x00000000, 0xF43ED648, 0xED91DA61, 0x19AF0C29, 0xDECFC233, 0x2AF1147B, 0x335E1852, 0xC760CE1A,
     0xB873F297, 0x4C4D24DF, 0x55E228F6, 0xA1DCFEBE, 0x66BC30A4, 0x9282E6EC, 0x8B2DEAC5, 0x7F133C8D,
@@ -36,7 +36,7 @@ pub const BEFORE_8: [u32; 256] = [
     0x50C57A90, 0xA4FBACD8, 0xBD54A0F1, 0x496A76B9, 0x8E0AB8A3, 0x7A346EEB, 0x639B62C2, 0x97A5B48A,
 ];
 
-/// What a byte leaves with nine bytes behind it.
+/// The remainder after each byte and nine zero bytes behind it.
 pub const BEFORE_9: [u32; 256] = [
     0x00000000, 0xCB567BA5, 0x934081BB, 0x5816FA1E, 0x236D7587, 0xE83B0E22, 0xB02DF43C, 0x7B7B8F99,
     0x46DAEB0E, 0x8D8C90AB, 0xD59A6AB5, 0x1ECC1110, 0x65B79E89, 0xAEE1E52C, 0xF6F71F32, 0x3DA16497,
@@ -72,7 +72,7 @@ pub const BEFORE_9: [u32; 256] = [
     0x92F8396D, 0x59AE42C8, 0x01B8B8D6, 0xCAEEC373, 0xB1954CEA, 0x7AC3374F, 0x22D5CD51, 0xE983B6F4,
 ];
 
-/// What a byte leaves with ten bytes behind it.
+/// The remainder after each byte and ten zero bytes behind it.
 pub const BEFORE_10: [u32; 256] = [
     0x00000000, 0x9771F7C1, 0x2B0F9973, 0xBC7E6EB2, 0x561F32E6, 0xC16EC527, 0x7D10AB95, 0xEA615C54,
     0xAC3E65CC, 0x3B4F920D, 0x8731FCBF, 0x10400B7E, 0xFA21572A, 0x6D50A0EB, 0xD12ECE59, 0x465F3998,
@@ -108,7 +108,7 @@ pub const BEFORE_10: [u32; 256] = [
     0xDE7C2788, 0x490DD049, 0xF573BEFB, 0x6202493A, 0x8863156E, 0x1F12E2AF, 0xA36C8C1D, 0x341D7BDC,
 ];
 
-/// What a byte leaves with eleven bytes behind it.
+/// The remainder after each byte and eleven zero bytes behind it.
 pub const BEFORE_11: [u32; 256] = [
     0x00000000, 0x3171D430, 0x62E3A860, 0x53927C50, 0xC5C750C0, 0xF4B684F0, 0xA724F8A0, 0x96552C90,
     0x8E62D771, 0xBF130341, 0xEC817F11, 0xDDF0AB21, 0x4BA587B1, 0x7AD45381, 0x29462FD1, 0x1837FBE1,
@@ -144,7 +144,7 @@ pub const BEFORE_11: [u32; 256] = [
     0x08F11F90, 0x3980CBA0, 0x6A12B7F0, 0x5B6363C0, 0xCD364F50, 0xFC479B60, 0xAFD5E730, 0x9EA43300,
 ];
 
-/// What a byte leaves with twelve bytes behind it.
+/// The remainder after each byte and twelve zero bytes behind it.
 pub const BEFORE_12: [u32; 256] = [
     0x00000000, 0x30D23865, 0x61A470CA, 0x517648AF, 0xC348E194, 0xF39AD9F1, 0xA2EC915E, 0x923EA93B,
     0x837DB5D9, 0xB3AF8DBC, 0xE2D9C513, 0xD20BFD76, 0x4035544D, 0x70E76C28, 0x21912487, 0x11431CE2,
@@ -180,7 +180,7 @@ pub const BEFORE_12: [u32; 256] = [
     0x92A00D08, 0xA272356D, 0xF3047DC2, 0xC3D645A7, 0x51E8EC9C, 0x613AD4F9, 0x304C9C56, 0x009EA433,
 ];
 
-/// What a byte leaves with thirteen bytes behind it.
+/// The remainder after each byte and thirteen zero bytes behind it.
 pub const BEFORE_13: [u32; 256] = [
     0x00000000, 0x54075546, 0xA80EAA8C, 0xFC09FFCA, 0x55F123E9, 0x01F676AF, 0xFDFF8965, 0xA9F8DC23,
     0xABE247D2, 0xFFE51294, 0x03ECED5E, 0x57EBB818, 0xFE13643B, 0xAA14317D, 0x561DCEB7, 0x021A9BF1,
@@ -216,7 +216,7 @@ pub const BEFORE_13: [u32; 256] = [
     0x8A4BF8C2, 0xDE4CAD84, 0x2245524E, 0x76420708, 0xDFBADB2B, 0x8BBD8E6D, 0x77B471A7, 0x23B324E1,
 ];
 
-/// What a byte leaves with fourteen bytes behind it.
+/// The remainder after each byte and fourteen zero bytes behind it.
 pub const BEFORE_14: [u32; 256] = [
     0x00000000, 0x678EFD01, 0xCF1DFA02, 0xA8930703, 0x9BD782F5, 0xFC597FF4, 0x54CA78F7, 0x334485F6,
     0x3243731B, 0x55CD8E1A, 0xFD5E8919, 0x9AD07418, 0xA994F1EE, 0xCE1A0CEF, 0x66890BEC, 0x0107F6ED,
@@ -252,7 +252,7 @@ pub const BEFORE_14: [u32; 256] = [
     0x223C1DCB, 0x45B2E0CA, 0xED21E7C9, 0x8AAF1AC8, 0xB9EB9F3E, 0xDE65623F, 0x76F6653C, 0x1178983D,
 ];
 
-/// What a byte leaves with fifteen bytes behind it.
+/// The remainder after each byte and fifteen zero bytes behind it.
 pub const BEFORE_15: [u32; 256] = [
     0x00000000, 0xF20C0DFE, 0xE1F46D0D, 0x13F860F3, 0xC604ACEB, 0x3408A115, 0x27F0C1E6, 0xD5FCCC18,
     0x89E52F27, 0x7BE922D9, 0x6811422A, 0x9A1D4FD4, 0x4FE183CC, 0xBDED8E32, 0xAE15EEC1, 0x5C19E33F,
