@@ -76,6 +76,9 @@ both : (a b : Bool) → (a && b) ≡ true → (a ≡ true) × (b ≡ true)
 both true b h = (refl, h)
 both false b h = absurd cc
 
+last_or_below : (k n : ℕ) → n < suc k → (n ≡ k) ⊎ (n < k)
+last_or_below k n lt = grind arith
+
 below : (f : ℕ → ℕ) (table : List ℕ) (k n : ℕ) → n < k → agrees_below f table k ≡ true
     → get_or table n 0 ≡ eight_steps (f n)
 unfolding agrees_below
@@ -84,93 +87,46 @@ below f table (suc k) n lt is =
     let parts = both (get_or table k 0 == eight_steps (f k)) (agrees_below f table k) is in
     ⊎_elim (λ (e : n ≡ k). ap (λ m. get_or table m 0) e ∙ eqb-true (get_or table k 0) (eight_steps (f k)) parts.0
     ∙ ap (λ m. eight_steps (f m)) (sym e)) (λ (l : n < k). below f table k n l parts.1) (last_or_below k n lt)
-  where
-    last_or_below : (k n : ℕ) → n < suc k → (n ≡ k) ⊎ (n < k)
-    last_or_below k n lt = grind arith
-
--- a table, and a number looked up in it
-table : ℕ → List ℕ
-table k = get_or TABLES k []
-
-look : ℕ → ℕ → ℕ
-look k n = get_or (get_or TABLES k []) n 0
-
-agrees_first : agrees_below (λ n. n) (table 0) 256 ≡ true
-unfolding agrees_below table eight_steps divide_bit
-agrees_first = refl
 
 byte_steps-more : (n r : ℕ) → eight_steps (byte_steps n r) ≡ byte_steps (suc n) r
 unfolding byte_steps
 byte_steps-more zero r = refl
 byte_steps-more (suc n) r = byte_steps-more n (eight_steps r)
 
-agrees_1 : agrees_below (look 0) (table 1) 256 ≡ true
-unfolding agrees_below table look eight_steps divide_bit
-agrees_1 = refl
+-- a number looked up in the table of so many bytes behind
+look : ℕ → ℕ → ℕ
+look behind n = get_or (get_or TABLES behind []) n 0
 
-agrees_2 : agrees_below (look 1) (table 2) 256 ≡ true
-unfolding agrees_below table look eight_steps divide_bit
-agrees_2 = refl
+-- the tables up to this one: the first has the eight steps of each byte, each other those of what the one before has
+agrees : ℕ → Bool
+agrees zero = agrees_below (λ n. n) (get_or TABLES 0 []) 256
+agrees (suc k) = agrees_below (look k) (get_or TABLES (suc k) []) 256 && agrees k
 
-agrees_3 : agrees_below (look 2) (table 3) 256 ≡ true
-unfolding agrees_below table look eight_steps divide_bit
-agrees_3 = refl
+all_agree : agrees 15 ≡ true
+unfolding agrees agrees_below look eight_steps divide_bit
+all_agree = refl
 
-agrees_4 : agrees_below (look 3) (table 4) 256 ≡ true
-unfolding agrees_below table look eight_steps divide_bit
-agrees_4 = refl
+agrees_to : (k j : ℕ) → j < suc k → agrees k ≡ true → agrees j ≡ true
+unfolding agrees
+agrees_to zero j lt is = let first : j ≡ 0 = omega arith in ap agrees first ∙ is
+agrees_to (suc k) j lt is = ⊎_elim (λ (e : j ≡ suc k). ap agrees e ∙ is)
+    (λ (l : j < suc k).
+    agrees_to k j l (both (agrees_below (look k) (get_or TABLES (suc k) []) 256) (agrees k) is).1)
+    (last_or_below (suc k) j lt)
 
-agrees_5 : agrees_below (look 4) (table 5) 256 ≡ true
-unfolding agrees_below table look eight_steps divide_bit
-agrees_5 = refl
+holds : (behind n : ℕ) → n < 256 → agrees behind ≡ true → look behind n ≡ byte_steps (suc behind) n
+unfolding agrees look byte_steps
+holds zero n small is = below (λ m. m) (get_or TABLES 0 []) 256 n small is
+holds (suc k) n small is =
+    let parts = both (agrees_below (look k) (get_or TABLES (suc k) []) 256) (agrees k) is in
+    below (look k) (get_or TABLES (suc k) []) 256 n small parts.0 ∙ ap eight_steps (holds k n small parts.1)
+    ∙ byte_steps-more (suc k) n
 
-agrees_6 : agrees_below (look 5) (table 6) 256 ≡ true
-unfolding agrees_below table look eight_steps divide_bit
-agrees_6 = refl
-
-agrees_7 : agrees_below (look 6) (table 7) 256 ≡ true
-unfolding agrees_below table look eight_steps divide_bit
-agrees_7 = refl
-
--- table 0 holds what a byte leaves after its own eight steps
-pub table_0 : (n : ℕ) → n < 256 → get_or (get_or TABLES 0 []) n 0 ≡ byte_steps 1 n
-unfolding table byte_steps
-table_0 n h = below (λ m. m) (table 0) 256 n h agrees_first
-
--- table 1 holds what a byte leaves after those of one byte behind it
-pub table_1 : (n : ℕ) → n < 256 → get_or (get_or TABLES 1 []) n 0 ≡ byte_steps 2 n
-unfolding table look
-table_1 n h = below (look 0) (table 1) 256 n h agrees_1 ∙ ap eight_steps (table_0 n h) ∙ byte_steps-more 1 n
-
--- table 2 holds what a byte leaves after those of two bytes behind it
-pub table_2 : (n : ℕ) → n < 256 → get_or (get_or TABLES 2 []) n 0 ≡ byte_steps 3 n
-unfolding table look
-table_2 n h = below (look 1) (table 2) 256 n h agrees_2 ∙ ap eight_steps (table_1 n h) ∙ byte_steps-more 2 n
-
--- table 3 holds what a byte leaves after those of three bytes behind it
-pub table_3 : (n : ℕ) → n < 256 → get_or (get_or TABLES 3 []) n 0 ≡ byte_steps 4 n
-unfolding table look
-table_3 n h = below (look 2) (table 3) 256 n h agrees_3 ∙ ap eight_steps (table_2 n h) ∙ byte_steps-more 3 n
-
--- table 4 holds what a byte leaves after those of four bytes behind it
-pub table_4 : (n : ℕ) → n < 256 → get_or (get_or TABLES 4 []) n 0 ≡ byte_steps 5 n
-unfolding table look
-table_4 n h = below (look 3) (table 4) 256 n h agrees_4 ∙ ap eight_steps (table_3 n h) ∙ byte_steps-more 4 n
-
--- table 5 holds what a byte leaves after those of five bytes behind it
-pub table_5 : (n : ℕ) → n < 256 → get_or (get_or TABLES 5 []) n 0 ≡ byte_steps 6 n
-unfolding table look
-table_5 n h = below (look 4) (table 5) 256 n h agrees_5 ∙ ap eight_steps (table_4 n h) ∙ byte_steps-more 5 n
-
--- table 6 holds what a byte leaves after those of six bytes behind it
-pub table_6 : (n : ℕ) → n < 256 → get_or (get_or TABLES 6 []) n 0 ≡ byte_steps 7 n
-unfolding table look
-table_6 n h = below (look 5) (table 6) 256 n h agrees_6 ∙ ap eight_steps (table_5 n h) ∙ byte_steps-more 6 n
-
--- table 7 holds what a byte leaves after those of seven bytes behind it
-pub table_7 : (n : ℕ) → n < 256 → get_or (get_or TABLES 7 []) n 0 ≡ byte_steps 8 n
-unfolding table look
-table_7 n h = below (look 6) (table 7) 256 n h agrees_7 ∙ ap eight_steps (table_6 n h) ∙ byte_steps-more 7 n
+-- each table has what a byte leaves with so many bytes behind it
+pub table_holds : (behind n : ℕ) → behind < 16 → n < 256
+    → get_or (get_or TABLES behind []) n 0 ≡ byte_steps (suc behind) n
+unfolding look
+table_holds behind n lt small = holds behind n small (agrees_to 15 behind lt all_agree)
 
 -- a number is its lowest byte beside the rest
 pub whole : (n : ℕ) → n ≡ bit_xor (256 * (n / 256)) (n % 256)
@@ -188,7 +144,7 @@ look_up r b small =
     let low : bit_and x 255 ≡ x % 256 = and_mask x 8 in
     let split : x ≡ bit_xor (256 * (x / 256)) (x % 256) = whole x in
     ap₂ (λ l h. bit_xor (get_or (get_or TABLES 0 []) l 0) h) low (sym high)
-    ∙ ap (λ t. bit_xor t (x / 256)) (table_0 (x % 256) (omega arith))
+    ∙ ap (λ t. bit_xor t (x / 256)) (table_holds 0 (x % 256) (omega arith) (omega arith))
     ∙ xor_comm (eight_steps (x % 256)) (x / 256)
     ∙ sym (eight_above (x / 256) (x % 256))
     ∙ ap eight_steps (sym split)

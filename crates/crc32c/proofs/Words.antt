@@ -1,16 +1,17 @@
--- The remainder after eight bytes is that of one number of eight bytes.
-use Rattle.std.proofs.Common.{◌≡◌, ℕ, zero, suc, ◌+◌, ◌*◌, ◌/◌, ◌%◌, ◌^◌, ◌<◌, List, [], ◌∷◌, ◌++◌, length, get_or}
-use Rattle.std.proofs.Common.{take, drop, take-add, refl, sym, ◌∙◌, ap, arith, ◌⊎◌, ⊎_elim}
+-- The remainder after a word is that of the number that its bytes spell, and sixteen bytes are four words.
+use Rattle.std.proofs.Common.{◌≡◌, ℕ, zero, suc, ◌+◌, ◌*◌, ◌/◌, ◌%◌, ◌^◌, ◌<◌, ◌≤◌, List, [], ◌∷◌, ◌++◌, length}
+use Rattle.std.proofs.Common.{get_or, take, drop, drop-drop, take-add, refl, sym, ◌∙◌, ap, arith, ◌⊎◌, ⊎_elim}
 use Rattle.std.specs.Prelude.{◌==◌}
-use Rattle.std.proofs.lemmas.List.{drop_more, drop_all}
+use Rattle.std.specs.Int.{from_le_bytes, w32}
+use Rattle.std.specs.Simd.{first_chunks}
+use Rattle.std.proofs.lemmas.List.{drop_more, drop_all, get_or-drop, length-drop, length-take-le, take_all}
 use mathlib.Core.Path.{ap₂}
 use Rattle.std.proofs.Math.Nat.{mul_comm}
 use lib.Bits.{bit_xor, bit_and, xor_assoc, xor_comm, xor_self, xor_zero_r, xor_zero_l, xor_shifted, xor_mod, xor_shr}
 use lib.Bits.{and_mask}
-use Rattle.crc32c.specs.Crc.{byte_steps, divisor, divide_bit, eight_steps, after_byte, number_of, remainder_of}
+use Rattle.crc32c.specs.Crc.{byte_steps, divisor, divide_bit, eight_steps, after_byte, remainder_of}
 use Rattle.crc32c.specs.declared.table.TheConstants.{TABLES}
-use Rattle.crc32c.proofs.Division.{taken, divide_bit_is, eight_above, whole, table_0, table_1, table_2, table_3}
-use Rattle.crc32c.proofs.Division.{table_4, table_5, table_6, table_7}
+use Rattle.crc32c.proofs.Division.{taken, divide_bit_is, eight_above, whole, table_holds}
 
 -- where two numbers are added, so are their remainders
 taken-add : (p q h k : ℕ) → p < 2 → q < 2
@@ -66,11 +67,24 @@ byte_steps-split n r =
     ∙ byte_steps-add n (r / 256) (eight_steps (r % 256))
     ∙ xor_comm (byte_steps n (r / 256)) (byte_steps n (eight_steps (r % 256)))
 
+-- one run of steps after another
+byte_steps-after : (a b r : ℕ) → byte_steps a (byte_steps b r) ≡ byte_steps (b + a) r
+unfolding byte_steps
+byte_steps-after a zero r = let none : a ≡ 0 + a = omega arith in ap (λ n. byte_steps n r) none
+byte_steps-after a (suc b) r =
+    let one : suc (b + a) ≡ suc b + a = omega arith in
+    byte_steps-after a b (eight_steps r) ∙ ap (λ n. byte_steps n r) one
+
+-- the number that these bytes spell, the lowest first
+number_of : List ℕ → ℕ
+number_of [] = 0
+number_of (byte ∷ bytes) = byte + 256 * number_of bytes
+
 number_more : (b rest : ℕ) → b < 256 → b + 256 * rest ≡ bit_xor (256 * rest) b
 number_more b rest small = sym (ap (λ m. bit_xor m b) (mul_comm 256 rest) ∙ xor_shifted rest 8 b small ∙ omega arith)
 
 -- bytes leave what the number that they spell leaves
-pub remainder_of-number : (r : ℕ) (bytes : List ℕ) → ((i : ℕ) → get_or bytes i 0 < 256)
+remainder_of-number : (r : ℕ) (bytes : List ℕ) → ((i : ℕ) → get_or bytes i 0 < 256)
     → remainder_of r bytes ≡ byte_steps (length bytes) (bit_xor r (number_of bytes))
 unfolding remainder_of byte_steps number_of after_byte
 remainder_of-number r [] small = sym (xor_zero_r r)
@@ -91,74 +105,52 @@ unfolding remainder_of
 remainder_of-append r [] ys = refl
 remainder_of-append r (x ∷ xs) ys = remainder_of-append (after_byte r x) xs ys
 
--- the looks into the eight tables, one for each byte of the number
-pub look_up_eight : (z : ℕ) → z < 2 ^ 64 →
-    bit_xor (bit_xor (bit_xor (bit_xor (bit_xor (bit_xor (bit_xor
-    (get_or (get_or TABLES 7 []) (bit_and z 255) 0)
-    (get_or (get_or TABLES 6 []) (bit_and (z / 256) 255) 0))
-    (get_or (get_or TABLES 5 []) (bit_and (z / 65536) 255) 0))
-    (get_or (get_or TABLES 4 []) (bit_and (z / 16777216) 255) 0))
-    (get_or (get_or TABLES 3 []) (bit_and (z / 4294967296) 255) 0))
-    (get_or (get_or TABLES 2 []) (bit_and (z / 1099511627776) 255) 0))
-    (get_or (get_or TABLES 1 []) (bit_and (z / 281474976710656) 255) 0))
-    (get_or (get_or TABLES 0 []) (z / 72057594037927936) 0)
-    ≡ byte_steps 8 z
-look_up_eight z small =
-    let e7 = ap (λ n. get_or (get_or TABLES 7 []) n 0) (and_mask z 8) ∙ table_7 (z % 256) (omega arith) in
-    let e6 = ap (λ n. get_or (get_or TABLES 6 []) n 0) (and_mask (z / 256) 8) ∙ table_6 (z / 256 % 256) (omega arith) in
-    let e5 =
-    ap (λ n. get_or (get_or TABLES 5 []) n 0) (and_mask (z / 65536) 8) ∙ table_5 (z / 65536 % 256) (omega arith) in
-    let e4 =
-    ap (λ n. get_or (get_or TABLES 4 []) n 0) (and_mask (z / 16777216) 8)
-    ∙ table_4 (z / 16777216 % 256) (omega arith) in
-    let e3 =
-    ap (λ n. get_or (get_or TABLES 3 []) n 0) (and_mask (z / 4294967296) 8)
-    ∙ table_3 (z / 4294967296 % 256) (omega arith) in
-    let e2 =
-    ap (λ n. get_or (get_or TABLES 2 []) n 0) (and_mask (z / 1099511627776) 8)
-    ∙ table_2 (z / 1099511627776 % 256) (omega arith) in
-    let e1 =
-    ap (λ n. get_or (get_or TABLES 1 []) n 0) (and_mask (z / 281474976710656) 8)
-    ∙ table_1 (z / 281474976710656 % 256) (omega arith) in
-    let e0 = table_0 (z / 72057594037927936) (omega arith) in
-    let a8 = byte_steps 8 (z % 256) in
-    let a7 = bit_xor a8 (byte_steps 7 (z / 256 % 256)) in
-    let a6 = bit_xor a7 (byte_steps 6 (z / 65536 % 256)) in
-    let a5 = bit_xor a6 (byte_steps 5 (z / 16777216 % 256)) in
-    let a4 = bit_xor a5 (byte_steps 4 (z / 4294967296 % 256)) in
-    let a3 = bit_xor a4 (byte_steps 3 (z / 1099511627776 % 256)) in
-    let a2 = bit_xor a3 (byte_steps 2 (z / 281474976710656 % 256)) in
-    ap₂ bit_xor
-    (ap₂ bit_xor (ap₂ bit_xor (ap₂ bit_xor (ap₂ bit_xor (ap₂ bit_xor (ap₂ bit_xor e7 e6) e5) e4) e3) e2) e1) e0
-    ∙ sym (first 7 z (z / 256) refl
-    ∙ next a8 6 (z / 256) (z / 65536) (omega arith)
-    ∙ next a7 5 (z / 65536) (z / 16777216) (omega arith)
-    ∙ next a6 4 (z / 16777216) (z / 4294967296) (omega arith)
-    ∙ next a5 3 (z / 4294967296) (z / 1099511627776) (omega arith)
-    ∙ next a4 2 (z / 1099511627776) (z / 281474976710656) (omega arith)
-    ∙ next a3 1 (z / 281474976710656) (z / 72057594037927936) (omega arith))
+-- the looks into the four tables of a word with so many bytes behind it, one for each byte of the word
+pub look_up_word : (m z : ℕ) → m ≤ 12 → z < 2 ^ 32 →
+    bit_xor (bit_xor (bit_xor
+    (get_or (get_or TABLES (m + 3) []) (bit_and z 255) 0)
+    (get_or (get_or TABLES (m + 2) []) (bit_and (z / 256) 255) 0))
+    (get_or (get_or TABLES (m + 1) []) (bit_and (z / 65536) 255) 0))
+    (get_or (get_or TABLES m []) (z / 16777216) 0)
+    ≡ byte_steps (m + 4) z
+look_up_word m z few small =
+    let e3 = look (m + 3) (m + 4) z (omega arith) (omega arith) in
+    let e2 = look (m + 2) (m + 3) (z / 256) (omega arith) (omega arith) in
+    let e1 = look (m + 1) (m + 2) (z / 65536) (omega arith) (omega arith) in
+    let one : suc m ≡ m + 1 = omega arith in
+    let e0 =
+    table_holds m (z / 16777216) (omega arith) (omega arith) ∙ ap (λ k. byte_steps k (z / 16777216)) one in
+    let a3 = byte_steps (m + 4) (z % 256) in
+    let a2 = bit_xor a3 (byte_steps (m + 3) (z / 256 % 256)) in
+    ap₂ bit_xor (ap₂ bit_xor (ap₂ bit_xor e3 e2) e1) e0
+    ∙ sym (first (m + 4) (m + 3) z (z / 256) (omega arith) refl
+    ∙ next a3 (m + 3) (m + 2) (z / 256) (z / 65536) (omega arith) (omega arith)
+    ∙ next a2 (m + 2) (m + 1) (z / 65536) (z / 16777216) (omega arith) (omega arith))
   where
+    look : (k j n : ℕ) → k < 16 → j ≡ suc k → get_or (get_or TABLES k []) (bit_and n 255) 0 ≡ byte_steps j (n % 256)
+    look k j n lt is =
+        ap (λ i. get_or (get_or TABLES k []) i 0) (and_mask n 8) ∙ table_holds k (n % 256) lt (omega arith)
+        ∙ ap (λ s. byte_steps s (n % 256)) (sym is)
+
     -- one byte less is left
-    first : (n x y : ℕ) → y ≡ x / 256 → byte_steps (suc n) x ≡ bit_xor (byte_steps (suc n) (x % 256)) (byte_steps n y)
-    first n x y is = byte_steps-split n x ∙ ap (λ m. bit_xor (byte_steps (suc n) (x % 256)) (byte_steps n m)) (sym is)
+    first : (j n x y : ℕ) → j ≡ suc n → y ≡ x / 256 → byte_steps j x ≡ bit_xor (byte_steps j (x % 256)) (byte_steps n y)
+    first j n x y more is =
+        ap (λ s. byte_steps s x) more ∙ byte_steps-split n x
+        ∙ ap₂ (λ s m. bit_xor (byte_steps s (x % 256)) (byte_steps n m)) (sym more) (sym is)
 
-    next : (a n x y : ℕ) → y ≡ x / 256
-        → bit_xor a (byte_steps (suc n) x) ≡ bit_xor (bit_xor a (byte_steps (suc n) (x % 256))) (byte_steps n y)
-    next a n x y is =
-        ap (bit_xor a) (first n x y is) ∙ sym (xor_assoc a (byte_steps (suc n) (x % 256)) (byte_steps n y))
+    next : (a j n x y : ℕ) → j ≡ suc n → y ≡ x / 256
+        → bit_xor a (byte_steps j x) ≡ bit_xor (bit_xor a (byte_steps j (x % 256))) (byte_steps n y)
+    next a j n x y more is =
+        ap (bit_xor a) (first j n x y more is) ∙ sym (xor_assoc a (byte_steps j (x % 256)) (byte_steps n y))
 
--- the number of eight bytes, byte by byte
-pub number_of-eight : (xs : List ℕ) → length xs ≡ 8
-    → number_of xs ≡ number_of
-    (get_or xs 0 0 ∷ get_or xs 1 0 ∷ get_or xs 2 0 ∷ get_or xs 3 0
-    ∷ get_or xs 4 0 ∷ get_or xs 5 0 ∷ get_or xs 6 0 ∷ get_or xs 7 0 ∷ [])
-number_of-eight xs long =
+-- the number of four bytes, byte by byte
+number_of-four : (xs : List ℕ) → length xs ≡ 4
+    → number_of xs ≡ number_of (get_or xs 0 0 ∷ get_or xs 1 0 ∷ get_or xs 2 0 ∷ get_or xs 3 0 ∷ [])
+number_of-four xs long =
     ap number_of
     (item 0 (omega arith)
     ∙ put 0 (item 1 (omega arith)
-    ∙ put 1 (item 2 (omega arith)
-    ∙ put 2 (item 3 (omega arith) ∙ put 3 (item 4 (omega arith) ∙ put 4 (item 5 (omega arith)
-    ∙ put 5 (item 6 (omega arith) ∙ put 6 (item 7 (omega arith) ∙ put 7 (drop_all 8 xs (omega arith))))))))))
+    ∙ put 1 (item 2 (omega arith) ∙ put 2 (item 3 (omega arith) ∙ put 3 (drop_all 4 xs (omega arith))))))
   where
     item : (i : ℕ) → i < length xs → drop i xs ≡ get_or xs i 0 ∷ drop (i + 1) xs
     item i lt = drop_more xs i 0 lt
@@ -166,9 +158,90 @@ number_of-eight xs long =
     put : (i : ℕ) {a b : List ℕ} → a ≡ b → get_or xs i 0 ∷ a ≡ get_or xs i 0 ∷ b
     put i is = ap (λ (l : List ℕ). get_or xs i 0 ∷ l) is
 
+-- and as a word of 32 bits
+number_of-word : (xs : List ℕ) → length xs ≡ 4 → number_of xs ≡ from_le_bytes w32 xs
+unfolding number_of
+number_of-word xs long = number_of-four xs long ∙ omega arith
+
 -- the rest of a list of bytes, behind the first of them
 pub remainder_of-parts : (r at n : ℕ) (bytes : List ℕ)
     → remainder_of (remainder_of r (take at bytes)) (take n (drop at bytes)) ≡ remainder_of r (take (at + n) bytes)
 remainder_of-parts r at n bytes =
     sym (remainder_of-append r (take at bytes) (take n (drop at bytes)))
     ∙ ap (remainder_of r) (sym (take-add at n bytes))
+
+-- a chunk by its place
+pub chunk : {X : Type 0} (n k i : ℕ) (xs : List X) (d : List X) → i < k
+    → get_or (first_chunks n k xs) i d ≡ take n (drop (i * n) xs)
+chunk n zero i xs d lt = absurd (omega arith)
+chunk n (suc k) zero xs d lt = let start : 0 ≡ 0 * n = grind arith in ap (λ at. take n (drop at xs)) start
+chunk n (suc k) (suc i) xs d lt =
+    chunk n k i (drop n xs) d (omega arith) ∙ ap (take n) (drop-drop (i * n) n xs)
+    ∙ ap (λ at. take n (drop at xs)) (further i n)
+  where
+    further : (i n : ℕ) → n + i * n ≡ suc i * n
+    further i n = grind arith
+
+-- the first of some bytes are bytes
+small_take : (n : ℕ) (xs : List ℕ) → ((i : ℕ) → get_or xs i 0 < 256) → (i : ℕ) → get_or (take n xs) i 0 < 256
+small_take zero xs small i = omega arith
+small_take (suc n) [] small i = small i
+small_take (suc n) (x ∷ xs) small zero = small 0
+small_take (suc n) (x ∷ xs) small (suc i) = small_take n xs (λ j. small (suc j)) i
+
+-- sixteen bytes leave what their words leave with the words behind them, the remainder added to the first
+pub remainder_of-sixteen : (r : ℕ) (bytes : List ℕ) → length bytes ≡ 16 → ((i : ℕ) → get_or bytes i 0 < 256) →
+    bit_xor (bit_xor (bit_xor
+    (byte_steps 4 (from_le_bytes w32 (take 4 (drop 12 bytes))))
+    (byte_steps 8 (from_le_bytes w32 (take 4 (drop 8 bytes)))))
+    (byte_steps 12 (from_le_bytes w32 (take 4 (drop 4 bytes)))))
+    (byte_steps 16 (bit_xor r (from_le_bytes w32 (take 4 bytes))))
+    ≡ remainder_of r bytes
+remainder_of-sixteen r bytes long small =
+    let first = bit_xor r (word 0) in
+    let after_1 : remainder_of r (take 4 bytes) ≡ byte_steps 4 first = spelt r 0 (omega arith) in
+    let after_2 : remainder_of r (take 8 bytes) ≡ bit_xor (byte_steps 4 (word 4)) (byte_steps 8 first) =
+    next 4 (byte_steps 4 first) (omega arith) after_1
+    ∙ ap (bit_xor (byte_steps 4 (word 4))) (byte_steps-after 4 4 first) in
+    let after_3 : remainder_of r (take 12 bytes)
+    ≡ bit_xor (byte_steps 4 (word 8)) (bit_xor (byte_steps 8 (word 4)) (byte_steps 12 first)) =
+    next 8 (bit_xor (byte_steps 4 (word 4)) (byte_steps 8 first)) (omega arith) after_2
+    ∙ ap (bit_xor (byte_steps 4 (word 8))) (byte_steps-add 4 (byte_steps 4 (word 4)) (byte_steps 8 first)
+    ∙ ap₂ bit_xor (byte_steps-after 4 4 (word 4)) (byte_steps-after 4 8 first)) in
+    let rest = bit_xor (byte_steps 8 (word 4)) (byte_steps 12 first) in
+    let after_4 : remainder_of r (take 16 bytes) ≡ bit_xor (byte_steps 4 (word 12))
+    (bit_xor (byte_steps 8 (word 8)) (bit_xor (byte_steps 12 (word 4)) (byte_steps 16 first))) =
+    next 12 (bit_xor (byte_steps 4 (word 8)) rest) (omega arith) after_3
+    ∙ ap (bit_xor (byte_steps 4 (word 12))) (byte_steps-add 4 (byte_steps 4 (word 8)) rest
+    ∙ ap₂ bit_xor (byte_steps-after 4 4 (word 8)) (byte_steps-add 4 (byte_steps 8 (word 4)) (byte_steps 12 first)
+    ∙ ap₂ bit_xor (byte_steps-after 4 8 (word 4)) (byte_steps-after 4 12 first))) in
+    xor_assoc (bit_xor (byte_steps 4 (word 12)) (byte_steps 8 (word 8))) (byte_steps 12 (word 4)) (byte_steps 16 first)
+    ∙ xor_assoc (byte_steps 4 (word 12)) (byte_steps 8 (word 8))
+    (bit_xor (byte_steps 12 (word 4)) (byte_steps 16 first))
+    ∙ sym after_4 ∙ ap (remainder_of r) (take_all 16 bytes (omega arith))
+  where
+    word : ℕ → ℕ
+    word at = from_le_bytes w32 (take 4 (drop at bytes))
+
+    four : (at : ℕ) → at + 4 ≤ 16 → length (take 4 (drop at bytes)) ≡ 4
+    four at le =
+        let left = length-drop at bytes in
+        length-take-le 4 (drop at bytes) (omega arith)
+
+    small_at : (at i : ℕ) → get_or (take 4 (drop at bytes)) i 0 < 256
+    small_at at =
+        small_take 4 (drop at bytes)
+        (λ i. (let is = get_or-drop at bytes i 0 in let fits = small (at + i) in omega arith))
+
+    spelt : (r at : ℕ) → at + 4 ≤ 16 → remainder_of r (take 4 (drop at bytes)) ≡ byte_steps 4 (bit_xor r (word at))
+    spelt r at le =
+        remainder_of-number r (take 4 (drop at bytes)) (small_at at)
+        ∙ ap₂ (λ n w. byte_steps n (bit_xor r w)) (four at le) (number_of-word (take 4 (drop at bytes)) (four at le))
+
+    -- one word more, where this is the remainder before it
+    next : (at before : ℕ) → at + 4 ≤ 16 → remainder_of r (take at bytes) ≡ before
+        → remainder_of r (take (at + 4) bytes) ≡ bit_xor (byte_steps 4 (word at)) (byte_steps 4 before)
+    next at before le is =
+        sym (remainder_of-parts r at 4 bytes) ∙ spelt (remainder_of r (take at bytes)) at le
+        ∙ ap (byte_steps 4) (ap (λ b. bit_xor b (word at)) is ∙ xor_comm before (word at))
+        ∙ byte_steps-add 4 (word at) before

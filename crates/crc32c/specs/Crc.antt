@@ -1,5 +1,5 @@
 -- CRC-32C, bit by bit, as the remainder of a division of polynomials over two elements.
-use Rattle.std.specs.Prelude.{ℕ, zero, suc, Bool, ◌+◌, ◌*◌, ◌/◌, ◌%◌, ◌==◌, if◌then◌else◌, List, [], ◌∷◌, take, drop}
+use Rattle.std.specs.Prelude.{ℕ, zero, suc, Bool, ◌/◌, ◌%◌, ◌==◌, if◌then◌else◌, List, [], ◌∷◌, take, drop}
 use Rattle.std.specs.Prelude.{bit_xor}
 use Rattle.std.specs.Int.{from_le_bytes, w32}
 
@@ -28,11 +28,6 @@ remainder_of remainder (byte ∷ bytes) = remainder_of (after_byte remainder byt
 unfoldable pub byte_steps : ℕ → ℕ → ℕ
 byte_steps zero r = r
 byte_steps (suc n) r = byte_steps n (eight_steps r)
-
--- the number that these bytes spell, the lowest first
-unfoldable pub number_of : List ℕ → ℕ
-number_of [] = 0
-number_of (byte ∷ bytes) = byte + 256 * number_of bytes
 
 -- the checksum of these bytes
 unfoldable pub crc32c_of : List ℕ → ℕ

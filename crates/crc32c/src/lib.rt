@@ -1,8 +1,8 @@
 //! CRC-32C, the Castagnoli checksum, and the test of a page that carries its own.
 #![tactic(auto)]
 
-ghost use Rattle.std.specs.Prelude.{◌≡◌, ◌%◌, false, length, replicate};
-ghost use Rattle.crc32c.specs.Crc.{after_byte, byte_steps, crc32c_of, is_sound, number_of, remainder_of};
+ghost use Rattle.std.specs.Prelude.{◌≡◌, ◌+◌, ◌≤◌, false, replicate};
+ghost use Rattle.crc32c.specs.Crc.{after_byte, byte_steps, crc32c_of, is_sound, remainder_of};
 
 mod table;
 
@@ -12,23 +12,12 @@ use table::TABLES;
 pub fn sum(bytes: &[u8]) -> u32
     ensures { result ≡ crc32c_of bytes.now }
 {
-    let eights = bytes.len() / 8 * 8;
-    let remainder = divide_eights(0xFFFF_FFFF, &bytes[..eights]);
-    divide_bytes(remainder, &bytes[eights..]) ^ 0xFFFF_FFFF
-}
-
-/// The remainder after these bytes, eight at a time.
-fn divide_eights(first: u32, bytes: &[u8]) -> u32
-    requires { length bytes.now % 8 ≡ 0 }
-    ensures { result ≡ remainder_of first bytes.now }
-{
-    let mut remainder = first;
-    let mut at = 0;
-    while at < bytes.len() {
-        remainder = divide_eight(remainder, &bytes[at..at + 8]);
-        at += 8;
+    let (sixteens, rest) = bytes.as_chunks::<16>();
+    let mut remainder = 0xFFFF_FFFF;
+    for sixteen in sixteens {
+        remainder = divide_sixteen(remainder, sixteen);
     }
-    remainder
+    divide_bytes(remainder, rest) ^ 0xFFFF_FFFF
 }
 
 /// The remainder after these bytes, one at a time.
@@ -51,39 +40,29 @@ fn divide_byte(remainder: u32, byte: u8) -> u32
     TABLES[0][low as usize] ^ (remainder >> 8)
 }
 
-/// The remainder after eight bytes more.
+/// The remainder after sixteen bytes more. The word to which the last remainder is added comes last, since the others
+/// can be looked up before that is known.
 #[inline]
-fn divide_eight(remainder: u32, bytes: &[u8]) -> u32
-    requires { length bytes.now ≡ 8 }
+fn divide_sixteen(remainder: u32, bytes: &[u8; 16]) -> u32
     ensures { result ≡ remainder_of remainder bytes.now }
 {
-    divide_word(remainder as u64 ^ word(bytes))
+    let (words, _) = bytes.as_chunks::<4>();
+    divide_word(u32::from_le_bytes(words[3]), 0)
+        ^ divide_word(u32::from_le_bytes(words[2]), 4)
+        ^ divide_word(u32::from_le_bytes(words[1]), 8)
+        ^ divide_word(remainder ^ u32::from_le_bytes(words[0]), 12)
 }
 
-/// The number that eight bytes spell, the lowest first.
+/// The remainder after the four bytes of a word and so many zero bytes behind them.
 #[inline]
-fn word(bytes: &[u8]) -> u64
-    requires { length bytes.now ≡ 8 }
-    ensures { result ≡ number_of bytes.now }
+fn divide_word(word: u32, behind: usize) -> u32
+    requires { behind ≤ 12 }
+    ensures { result ≡ byte_steps (behind + 4) word }
 {
-    u64::from_le_bytes([
-        bytes[0], bytes[1], bytes[2], bytes[3], bytes[4], bytes[5], bytes[6], bytes[7],
-    ])
-}
-
-/// The remainder after the steps of eight bytes: each table has what a byte leaves after those behind it.
-#[inline]
-fn divide_word(word: u64) -> u32
-    ensures { result ≡ byte_steps 8 word }
-{
-    TABLES[7][(word & 0xFF) as usize]
-        ^ TABLES[6][(word >> 8 & 0xFF) as usize]
-        ^ TABLES[5][(word >> 16 & 0xFF) as usize]
-        ^ TABLES[4][(word >> 24 & 0xFF) as usize]
-        ^ TABLES[3][(word >> 32 & 0xFF) as usize]
-        ^ TABLES[2][(word >> 40 & 0xFF) as usize]
-        ^ TABLES[1][(word >> 48 & 0xFF) as usize]
-        ^ TABLES[0][(word >> 56) as usize]
+    TABLES[behind + 3][(word & 0xFF) as usize]
+        ^ TABLES[behind + 2][(word >> 8 & 0xFF) as usize]
+        ^ TABLES[behind + 1][(word >> 16 & 0xFF) as usize]
+        ^ TABLES[behind][(word >> 24) as usize]
 }
 
 /// Whether a page of 4096 bytes is sound: its last four bytes, little endian, are the sum of the 4092 before them.
