@@ -1,5 +1,5 @@
 -- Runs of slots: what they spell, and which are the longest.
-use Rattle.std.specs.Prelude.{◌≡◌, ℕ, ◌+◌, ◌<◌, ◌≤◌, ◌^◌, Bool, false, ◌==◌, if◌then◌else◌, List, [], ◌∷◌, ◌++◌, Option}
+use Rattle.std.specs.Prelude.{◌≡◌, ℕ, ◌+◌, ◌<◌, ◌≤◌, ◌^◌, Bool, false, ◌==◌, if◌then◌else◌, List, [], ◌∷◌, Option}
 use Rattle.std.specs.Prelude.{Some, None, nat_lt, ◌-◌, sum_by}
 use Rattle.std.specs.List.{flat_map}
 use Rattle.volume_model.specs.declared.lists.SlotRun.{SlotRun}
@@ -28,18 +28,6 @@ abbrev pub IsLongest : List SlotRun → Type 0
 IsLongest [] = Unit {0}
 IsLongest (r ∷ []) = 0 < r.length
 IsLongest (r ∷ s ∷ rs) = (0 < r.length) × (goes_on r s.cluster ≡ false) × IsLongest (s ∷ rs)
-
--- the last run is still open: it is no run where its length is 0
-abbrev pub with_open : List SlotRun → SlotRun → List SlotRun
-with_open runs r = if r.length == 0 then runs else runs ++ r ∷ []
-
--- the run with one slot more
-abbrev pub longer : SlotRun → SlotRun
-longer r = record r { length = r.length + 1 }
-
--- the run of one slot
-abbrev pub one_slot : ℕ → SlotRun
-one_slot c = record { cluster = c; length = 1 }
 
 -- how many slots runs have together
 abbrev pub slots_of_all : List SlotRun → ℕ

@@ -1,11 +1,10 @@
 //! The runs of a map, and the map of runs.
 
-ghost use Rattle.std.specs.Prelude.{◌≡◌, ◌≢◌, ◌++◌, ◌∷◌, [], ◌+◌, ◌<◌, ◌≤◌, ◌^◌, ◌==◌, ◌&&◌, not, length};
-ghost use Rattle.std.specs.Prelude.{if◌then◌else◌, IfOk, OnErr, OnOk, sum_by, unwrap_or, IfSome, take, false, IsTrue};
-ghost use Rattle.std.specs.Prelude.{◌-◌, IfErr};
+ghost use Rattle.std.specs.Prelude.{◌≡◌, ◌≢◌, ◌+◌, ◌-◌, ◌<◌, ◌≤◌, ◌^◌, length, take, get_or, Some, None, unwrap_or};
+ghost use Rattle.std.specs.Prelude.{false, IfOk, IfErr, OnOk};
 ghost use Rattle.std.specs.List.{All};
-ghost use Rattle.descriptors.specs.Slots.{IsSlot};
-ghost use Rattle.descriptors.specs.Runs.{slots_in, IsLongest, goes_on, with_open, longer, one_slot, slots_of_run};
+ghost use Rattle.descriptors.specs.Slots.{IsSlot, run_slots};
+ghost use Rattle.descriptors.specs.Runs.{slots_in, IsLongest, goes_on, slots_of_run};
 ghost use Rattle.descriptors.specs.Runs.{slots_of_all, at_most, Reaches, IsTooLarge};
 
 use crate::slot_map::SlotMap;
@@ -14,40 +13,61 @@ use std::alloc::Global;
 use thiserror::Error;
 use volume_model::{RunList, SlotRun};
 
-/// Whether a slot with this cluster, or an empty one at 0, goes on with the run.
-fn continues(run: SlotRun, cluster: u32) -> bool
-    ensures { result ≡ goes_on run cluster }
+/// How many slots at the front are empty.
+fn empty_front(slots: &[Option<u32>]) -> usize
+    ensures within { result ≤ length slots.now }
+    ensures empty { take result slots.now ≡ run_slots None result }
+    ensures ends { result < length slots.now → get_or slots.now result None ≢ None }
 {
-    if run.cluster == 0 {
-        cluster == 0
-    } else {
-        u64::from(cluster) == u64::from(run.cluster) + u64::from(run.length)
+    for count in 0..slots.len() {
+        if slots[count].is_some() {
+            return count;
+        }
+    }
+    slots.len()
+}
+
+/// How many slots at the front hold consecutive clusters from this one on.
+fn filled_front(slots: &[Option<u32>], cluster: u32) -> usize
+    requires { length slots.now ≤ 2 ^ 20 }
+    ensures within { result ≤ length slots.now }
+    ensures consecutive { take result slots.now ≡ run_slots (Some cluster) result }
+    ensures ends { result < length slots.now → get_or slots.now result None ≢ Some (cluster + result) }
+{
+    for count in 0..slots.len() {
+        let next = u64::from(cluster) + count as u64;
+        match slots[count] {
+            Some(held) if u64::from(held) == next => {}
+            _ => return count,
+        }
+    }
+    slots.len()
+}
+
+/// The longest run at the front.
+fn front_run(slots: &[Option<u32>]) -> SlotRun
+    requires few { length slots.now ≤ 2 ^ 20 }
+    requires filled { All IsSlot slots.now }
+    requires some { 0 < length slots.now }
+    ensures within { (0 < result.length) × (result.length ≤ length slots.now) }
+    ensures first { result.cluster ≡ unwrap_or (get_or slots.now 0 None) 0 }
+    ensures slots { slots_of_run result ≡ take result.length slots.now }
+    ensures ends { result.length < length slots.now
+        → goes_on result (unwrap_or (get_or slots.now result.length None) 0) ≡ false }
+{
+    match slots[0] {
+        None => SlotRun {
+            cluster: 0,
+            length: empty_front(slots) as u32,
+        },
+        Some(cluster) => SlotRun {
+            cluster,
+            length: filled_front(slots, cluster) as u32,
+        },
     }
 }
 
-/// The run that is open after one more slot, where `run` was; a run that ends goes to the others.
-fn add_slot(runs: &mut RunList, run: SlotRun, cluster: u32) -> Result<SlotRun, Memory>
-    requires { run.length < 2 ^ 31 }
-    ensures goes_on { IfOk result (λ next. 0 < run.length → IsTrue (goes_on run cluster)
-        → (next ≡ longer run) × (runs.new ≡ runs.old)) }
-    ensures begins { IfOk result (λ next. 0 < run.length → goes_on run cluster ≡ false
-        → (next ≡ one_slot cluster) × (runs.new ≡ runs.old ++ run ∷ [])) }
-    ensures first { IfOk result (λ next. run.length ≡ 0 → (next ≡ one_slot cluster) × (runs.new ≡ runs.old)) }
-{
-    if run.length == 0 {
-        return Ok(SlotRun { cluster, length: 1 });
-    }
-    if continues(run, cluster) {
-        return Ok(SlotRun {
-            cluster: run.cluster,
-            length: run.length + 1,
-        });
-    }
-    runs.push(run)?;
-    Ok(SlotRun { cluster, length: 1 })
-}
-
-/// The runs, one turn a slot; the last run is open until the end.
+/// The runs, one turn a run.
 fn runs_of_slots(alloc: Global, slots: &[Option<u32>]) -> Result<RunList, Memory>
     requires few { length slots.now ≤ 2 ^ 20 }
     requires filled { All IsSlot slots.now }
@@ -55,15 +75,11 @@ fn runs_of_slots(alloc: Global, slots: &[Option<u32>]) -> Result<RunList, Memory
     ensures longest { IfOk result (λ runs. IsLongest runs) }
 {
     let mut runs = RunList::new(alloc);
-    let mut run = SlotRun {
-        cluster: 0,
-        length: 0,
-    };
-    for slot in slots {
-        run = add_slot(&mut runs, run, slot.unwrap_or(0))?;
-    }
-    if run.length > 0 {
+    let mut done = 0;
+    while done < slots.len() {
+        let run = front_run(&slots[done..]);
         runs.push(run)?;
+        done += run.length as usize;
     }
     Ok(runs)
 }
