@@ -8,6 +8,7 @@ pub mod SlotSums
 pub mod EntriesInOrder
 pub mod MapOfEntries
 pub mod NextHead
+pub mod HeadsThere
 pub mod PlacesRead
 pub mod MarksLifted
 pub mod Fates

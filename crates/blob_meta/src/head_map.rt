@@ -1,6 +1,6 @@
 //! Finite maps from the heads of blobs.
 
-ghost use Rattle.std.specs.Prelude.{◌≡◌, ◌+◌, ◌<◌, OnOk, OnErr, IfOk, IfSome, IfNone, None, option_copied};
+ghost use Rattle.std.specs.Prelude.{◌≡◌, ◌+◌, ◌<◌, ◌≤◌, ℕ, OnOk, OnErr, IfOk, IfSome, IfNone, None, option_copied};
 ghost use Rattle.std.specs.FinMap as map;
 ghost use Rattle.blob_meta.specs.Heads.{IsNextFrom, HasNoKeyFrom};
 
@@ -129,6 +129,17 @@ impl<V: Drop> HeadMap<V> {
                 None => None,
             },
         }
+    }
+
+    /// The least head of the map from a place on that is below an end; `None` exactly where there is none. A walk over
+    /// the heads asks for it, and not at each place: places are many, and few of them are heads.
+    pub fn next_below(&self, from: u32, end: u32) -> Option<u32>
+        ensures some { IfSome result (λ next. IsNextFrom self.now from next) }
+        ensures below { IfSome result (λ next. next < end) }
+        ensures none { IfNone result ((head : ℕ) → from ≤ head → head < end → map.get self.now head ≡ None) }
+    {
+        let head = self.next_from(from)?;
+        if head < end { Some(head) } else { None }
     }
 }
 

@@ -1,11 +1,17 @@
 -- The text of a store, put together line by line.
 use Rattle.std.proofs.Common.{◌≡◌, ℕ, ◌+◌, zero, suc, List, [], ◌++◌, sym, ap, ◌∙◌, decimal, append_assoc, arith}
+use Rattle.std.proofs.Common.{None, inl, inr, refl}
 use Rattle.std.specs.Prelude.{codes}
 use Rattle.std.specs.List.{flat_map, range_with_len}
+use Rattle.std.specs.FinMap as map
+use Rattle.std.proofs.lemmas.Bool.{cases_Bool}
 use Rattle.std.proofs.lemmas.List.{append-nil}
+use Rattle.super_block.specs.declared.page.Super.{Super}
+use Rattle.volume_model.specs.Volumes.{is_given_head}
 use Rattle.volume_model.specs.declared.reply.Df.{Df}
 use Rattle.blob_report.specs.Pieces.{shown_bytes}
-use Rattle.blob_report.specs.StoreText.{line_of}
+use Rattle.blob_meta.specs.Parents.{head_of_id}
+use Rattle.blob_report.specs.StoreText.{line_of, Metas, volume_text}
 
 regroup : (a b c d e f g h i j k l m n o : List ℕ)
     → a ++ (b ++ (c ++ (d ++ (e ++ (f ++ (g ++ (h ++ (i ++ (j ++ (k ++ (l ++ (m ++ (n ++ (o ++ [])))))))))))))) ≡ a ++ b
@@ -55,3 +61,18 @@ one_more f head before first between now is more =
     more ∙ ap (λ text. text ++ f head) is ∙ append_assoc before (first ++ lines) (f head)
     ∙ ap (λ text. before ++ text) (append_assoc first lines (f head))
     ∙ ap (λ text. before ++ (first ++ text)) (sym (one_line_more f head))
+
+-- behind a place that has no line
+pub no_line_more : (f : ℕ → List ℕ) (head : ℕ) (before first now : List ℕ) → f head ≡ []
+    → now ≡ before ++ (first ++ flat_map f (range_with_len 0 head))
+    → now ≡ before ++ (first ++ flat_map f (range_with_len 0 (head + 1)))
+no_line_more f head before first now none is =
+    one_more f head before first now now is (sym (append-nil now) ∙ ap (λ text. now ++ text) (sym none))
+
+-- where no blob is there is no line
+pub no_blob_line : (sup : Super) (metas : Metas) (head : ℕ) → map.get metas head ≡ None
+    → volume_text sup metas head ≡ []
+no_blob_line sup metas head none = elim (cases_Bool (is_given_head head (head_of_id sup.super_blob))) [
+  | inl is ↦ rw is refl
+  | inr not ↦ rw (not, none) refl
+]

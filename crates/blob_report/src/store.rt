@@ -151,8 +151,11 @@ fn push_text(sup: &Super, metas: &Metas, masks: &Masks, into: &mut Vec<u8>) -> R
 {
     push_store(sup, masks, into)?;
     push_super_line(sup, metas, into)?;
-    for head in 0..sup.md_len {
+    let end = sup.md_len;
+    let mut from = 0;
+    while let Some(head) = metas.next_below(from, end) {
         push_volume_line(sup, metas, head, into)?;
+        from = head + 1;
     }
     Ok(())
 }

@@ -117,10 +117,13 @@ fn listed(
     ensures { IfOk result (λ infos. infos ≡ said.listed metas.now live.now sup.now) }
 {
     let mut infos = InfoList::new(alloc);
-    for head in 0..sup.md_len {
+    let end = sup.md_len;
+    let mut from = 0;
+    while let Some(head) = metas.next_below(from, end) {
         if let Some(info) = listed_at(alloc, metas, sup, live, head)? {
             infos.push(info)?;
         }
+        from = head + 1;
     }
     Ok(infos)
 }

@@ -137,10 +137,12 @@ pub(crate) fn live_at_start(
     ensures { IfOk result (IsLiveAtStart metas.now) }
 {
     let mut live = HeadMap::new(alloc);
-    for head in 0..md_len {
+    let mut from = 0;
+    while let Some(head) = metas.next_below(from, md_len) {
         if let Some(meta) = metas.get(head) {
             live.insert(head, meta.xattrs.try_copy(alloc)?)?;
         }
+        from = head + 1;
     }
     Ok(live)
 }

@@ -23,6 +23,9 @@ module _ (metas : Metas) (chains : Chains) where
   pub chains_there : (md_len : ℕ) → AreChains md_len chains → AreChains md_len (chains_of metas chains)
   chains_there md_len are h ps is = are h ps (chain_there h ps is)
 
+  pub no_chain_there : (h : ℕ) → metas h ≡ None → chains_of metas chains h ≡ None
+  no_chain_there h none = ap (option_and_then (λ _. chains h)) none
+
   -- a place in two of them is in two of all
   pub in_two_there : (head place : ℕ) → IsInTwo (chains_of metas chains) head place → IsInTwo chains head place
   in_two_there head place x = record {

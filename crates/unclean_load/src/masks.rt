@@ -67,10 +67,12 @@ pub fn used_pages(
         (λ e. IsPageFault (IsInTwo (chains_of (map.get metas.now) (map.get chains.now))) e) }
 {
     let mut bits = Bits::new(alloc, md_len)?;
-    for head in 0..md_len {
+    let mut from = 0;
+    while let Some(head) = metas.next_below(from, md_len) {
         if let Some(pages) = chain_of(metas, chains, head) {
             mark_pages(&mut bits, head, pages)?;
         }
+        from = head + 1;
     }
     Ok(bits)
 }
@@ -82,10 +84,10 @@ pub fn used_heads(alloc: Global, metas: &Metas, md_len: u32) -> Result<Bits, Mem
         (λ bits. (head : ℕ) → head < md_len → (is_in bits head ≡ true) ↔ IsSome (map.get metas.now head)) }
 {
     let mut bits = Bits::new(alloc, md_len)?;
-    for head in 0..md_len {
-        if metas.get(head).is_some() {
-            bits.set(head);
-        }
+    let mut from = 0;
+    while let Some(head) = metas.next_below(from, md_len) {
+        bits.set(head);
+        from = head + 1;
     }
     Ok(bits)
 }

@@ -113,13 +113,15 @@ pub fn check_parents(alloc: Global, metas: &Metas, md_len: u32) -> Result<(), Lo
     ensures fault { IfErr result (λ e. IsParentFault (map.get metas.now) e) }
 {
     let mut walks = Walks::new(alloc, md_len)?;
-    for head in 0..md_len {
+    let mut from = 0;
+    while let Some(head) = metas.next_below(from, md_len) {
         if let Some(meta) = metas.get(head) {
             check_parent(metas, head, meta)?;
             if walks.comes_back(metas, head) {
                 return Err(LoadFault::ParentLoop { blob: head });
             }
         }
+        from = head + 1;
     }
     Ok(())
 }

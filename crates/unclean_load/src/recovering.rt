@@ -45,12 +45,14 @@ fn marked_of(alloc: Global, metas: &Metas, md_len: u32) -> Result<Metas, Memory>
     ensures { IfOk result (λ m. (head : ℕ) → map.get m head ≡ marked_said (map.get metas.now) head) }
 {
     let mut marked = Metas::new(alloc);
-    for head in 0..md_len {
+    let mut from = 0;
+    while let Some(head) = metas.next_below(from, md_len) {
         if let Some(meta) = metas.get(head) {
             if mark_of(meta).is_some() {
                 marked.insert(head, meta.try_copy(alloc)?)?;
             }
         }
+        from = head + 1;
     }
     Ok(marked)
 }

@@ -86,10 +86,12 @@ pub fn claims_of(alloc: Global, sup: &Super, metas: &Metas) -> Result<Claims, Me
 {
     regions_are_placed();
     let mut claims = Claims::new(alloc, sup.fixed_clusters(), sup.clusters())?;
-    for head in 0..sup.md_len {
+    let mut from = 0;
+    while let Some(head) = metas.next_below(from, sup.md_len) {
         if let Some(meta) = metas.get(head) {
             claims.add(&meta.map);
         }
+        from = head + 1;
     }
     Ok(claims)
 }
@@ -116,13 +118,15 @@ fn holder(metas: &Metas, md_len: u32, cluster: u32, n: u32) -> u32
     ensures { IsHolder md_len (map.get metas.now) cluster n result }
 {
     let mut found = 0;
-    for head in 0..md_len {
+    let mut from = 0;
+    while let Some(head) = metas.next_below(from, md_len) {
         if let Some(meta) = metas.get(head) {
             found += copies_in(&meta.map, cluster);
             if found >= n {
                 return head;
             }
         }
+        from = head + 1;
     }
     unreachable!()
 }

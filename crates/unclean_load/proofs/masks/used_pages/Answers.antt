@@ -1,40 +1,54 @@
-use Rattle.std.proofs.Common.{rules, ◌≡◌, ◌≤◌, ℕ, Bool, true, List, Some, None, sym, ap, subst, ◌∙◌, arith}
+use Rattle.std.proofs.Common.{rules, ◌≡◌, ◌+◌, ℕ, Bool, true, List, Some, None, sym, ap, subst, ◌∙◌, arith}
 use Rattle.std.specs.Prelude.{option_copied}
+use Rattle.std.specs.Ordering.{nat_cmp}
 use Rattle.std.specs.FinMap as map
 use Rattle.bit_array.specs.Bits.{is_in}
 use Rattle.md_chain.specs.Chain.{is_among}
 use Rattle.md_chain.specs.declared.fault.ChainFault.{ChainFault}
 use Rattle.md_chain.specs.declared.fault.ChainFault.TheVariants as chain
+use Rattle.blob_meta.specs.declared.meta.Meta.{Meta}
 use Rattle.running_store.specs.Recovered.{chains_of}
 use Rattle.store_model.specs.Maps.{Chains}
 use Rattle.unclean_load.specs.declared.fault.LoadFault.{LoadFault}
 use Rattle.unclean_load.specs.declared.fault.LoadFault.TheVariants as fault
 use Rattle.unclean_load.specs.Claiming.{IsInTwo, IsTwice, IsPageFault}
-use Rattle.unclean_load.proofs.ChainsOf.{chains_there}
+use Rattle.unclean_load.proofs.ChainsOf.{chains_there, no_chain_there}
+use Rattle.blob_meta.proofs.HeadsThere.{up_to_end, up_to_next}
 use Rattle.unclean_load.proofs.Marks.{Marked, marked_none, marked_same, marked_more, in_two, all_used, all_apart}
 use Rattle.unclean_load.proofs.masks.used_pages.Goals as goal
-use Rattle.unclean_load.proofs.masks.used_pages.Goals.{in-Some+in_ok-mark_pages, in_default}
+use Rattle.unclean_load.proofs.masks.used_pages.Goals.{in-Some-chain_of+in_ok-mark_pages, in_default-chain_of}
+
+module _ (metas : map.FinMap nat_cmp Meta) (links : Chains) (md_len : ℕ) (bits : List Bool) where
+  -- the marks are those of the blobs below a place
+  abbrev AreMarked : ℕ → Type 0
+  AreMarked end = Marked md_len (chains_of (map.get metas) links) bits end
+
+  marked_on : (h : ℕ) → map.get metas h ≡ None → AreMarked h → AreMarked (h + 1)
+  marked_on h none x =
+      marked_same md_len (chains_of (map.get metas) links) bits h x (no_chain_there (map.get metas) links h none)
 
 pub loop-head-init : goal.loop-head-init
-loop-head-init c =
-    marked_none c.args.md_len (chains_of (map.get c.args.metas.now) (map.get c.args.chains.now)) c.in_ok-bits.bits
-    c.in_ok-bits.ensures
+loop-head-init c = (
+  omega arith,
+  marked_none c.args.md_len (chains_of (map.get c.args.metas.now) (map.get c.args.chains.now)) c.in_ok-bits.bits
+      c.in_ok-bits.ensures,
+)
 
 pub mark_pages-requires-clause-low : goal.mark_pages-requires-clause-low
 mark_pages-requires-clause-low c =
-    let there : chains_of (map.get c.args.metas.now) (map.get c.args.chains.now) c.loop-head.head
-    ≡ Some c.in-Some.pages.now =
-    sym c.chain_of.ensures ∙ ap option_copied c.in-Some.is in
+    let there : chains_of (map.get c.args.metas.now) (map.get c.args.chains.now) c.in-Some.head
+    ≡ Some c.in-Some-chain_of.pages.now =
+    sym c.chain_of.ensures ∙ ap option_copied c.in-Some-chain_of.is in
     let x =
     (chains_there (map.get c.args.metas.now) (map.get c.args.chains.now) c.args.md_len c.requires _ _ there).1 in
-    let count = c.loop-head.invariant.count in
+    let count = c.loop-head.invariant.1.count in
     λ place among. let y = x.low place among in omega (arith, y, count)
 
 pub mark_pages-requires-clause-differ : goal.mark_pages-requires-clause-differ
 mark_pages-requires-clause-differ c =
-    let there : chains_of (map.get c.args.metas.now) (map.get c.args.chains.now) c.loop-head.head
-    ≡ Some c.in-Some.pages.now =
-    sym c.chain_of.ensures ∙ ap option_copied c.in-Some.is in
+    let there : chains_of (map.get c.args.metas.now) (map.get c.args.chains.now) c.in-Some.head
+    ≡ Some c.in-Some-chain_of.pages.now =
+    sym c.chain_of.ensures ∙ ap option_copied c.in-Some-chain_of.is in
     (chains_there (map.get c.args.metas.now) (map.get c.args.chains.now) c.args.md_len c.requires _ _ there).1.differ
 
 twice : (chains : Chains) (head h : ℕ) (why : ChainFault) (pages : List ℕ) (bits : List Bool)
@@ -70,49 +84,63 @@ page_fault chains head pages bits two (fault.NoRoom blob has wants) x = absurd x
 
 pub returns-in_err-mark_pages-clause-fault : goal.returns-in_err-mark_pages-clause-fault
 returns-in_err-mark_pages-clause-fault c =
-    let chains = chains_of (map.get c.args.metas.now) (map.get c.args.chains.now) in
-    let there : chains c.loop-head.head ≡ Some c.in-Some.pages.now =
-    sym c.chain_of.ensures ∙ ap option_copied c.in-Some.is in
+    let links = map.get c.args.chains.now in
+    let chains = chains_of (map.get c.args.metas.now) links in
+    let n = c.args.md_len in
+    let bits = c.loop-head.bits in
+    let head = c.in-Some.head in
+    let there : chains head ≡ Some c.in-Some-chain_of.pages.now =
+    sym c.chain_of.ensures ∙ ap option_copied c.in-Some-chain_of.is in
+    let here : Marked n chains bits head =
+    up_to_next c.args.metas.now (AreMarked c.args.metas.now links n bits) (marked_on c.args.metas.now links n bits)
+    c.loop-head.from head c.in-Some.ensures.some c.loop-head.invariant.1 in
     let why = c.in_err-mark_pages.field-0.0 in
     let x : IsPageFault (IsInTwo chains) why =
-    page_fault chains c.loop-head.head c.in-Some.pages.now c.loop-head.bits
-    (in_two c.args.md_len chains c.loop-head.bits c.loop-head.head c.loop-head.invariant c.in-Some.pages.now there) why
-    c.in_err-mark_pages.ensures.fault in
+    page_fault chains head c.in-Some-chain_of.pages.now bits
+    (in_two n chains bits head here c.in-Some-chain_of.pages.now there) why c.in_err-mark_pages.ensures.fault in
     search rules
 
 pub loop-head-preserved : goal.loop-head-preserved
 loop-head-preserved c =
-    let chains = chains_of (map.get c.args.metas.now) (map.get c.args.chains.now) in
+    let links = map.get c.args.chains.now in
+    let chains = chains_of (map.get c.args.metas.now) links in
+    let n = c.args.md_len in
+    let bits = c.loop-head.bits in
+    let head = c.in-Some.head in
+    let low = c.in-Some.ensures.below in
+    let here : Marked n chains bits head =
+    up_to_next c.args.metas.now (AreMarked c.args.metas.now links n bits) (marked_on c.args.metas.now links n bits)
+    c.loop-head.from head c.in-Some.ensures.some c.loop-head.invariant.1 in
     elim c.match-chain_of.branch [
-      | in-Some+in_ok-mark_pages w ↦
-          let there : chains c.loop-head.head ≡ Some w.in-Some.pages.now =
-          sym c.chain_of.ensures ∙ ap option_copied w.in-Some.is in
+      | in-Some-chain_of+in_ok-mark_pages w ↦
+          let pages = w.in-Some-chain_of.pages.now in
+          let there : chains head ≡ Some pages = sym c.chain_of.ensures ∙ ap option_copied w.in-Some-chain_of.is in
           let e = w.in_ok-mark_pages.ensures in
-          rw w.bits-is
-          (marked_more c.args.md_len chains c.loop-head.bits c.loop-head.head c.loop-head.invariant w.in-Some.pages.now
-          there w.mark_pages.new.bits e.count e.added e.new)
-      | in_default w ↦
-          let none : chains c.loop-head.head ≡ None = sym c.chain_of.ensures ∙ ap option_copied w.in_default.is in
-          rw w.bits-is (marked_same c.args.md_len chains c.loop-head.bits c.loop-head.head c.loop-head.invariant none)
+          rw w.bits-is (
+            omega (arith, low),
+            marked_more n chains bits head here pages there w.mark_pages.new.bits e.count e.added e.new,
+          )
+      | in_default-chain_of w ↦
+          let none : chains head ≡ None = sym c.chain_of.ensures ∙ ap option_copied w.in_default-chain_of.is in
+          rw w.bits-is (omega (arith, low), marked_same n chains bits head here none)
     ]
-
-ended : (n m : ℕ) → n ≤ m → m ≤ n → n ≡ m
-ended n m a b = omega (arith, a, b)
 
 pub returns-clause-used : goal.returns-clause-used
 returns-clause-used c =
-    let chains = chains_of (map.get c.args.metas.now) (map.get c.args.chains.now) in
+    let links = map.get c.args.chains.now in
     let n = c.args.md_len in
-    all_used n chains c.loop-head.bits
-    (subst (λ (k : ℕ). Marked n chains c.loop-head.bits k)
-    (ended _ _ c.loop-head.auto.head-end c.loop-head-test.false) c.loop-head.invariant)
-    (chains_there (map.get c.args.metas.now) (map.get c.args.chains.now) n c.requires)
+    let bits = c.loop-head.bits in
+    all_used n (chains_of (map.get c.args.metas.now) links) bits
+    (up_to_end c.args.metas.now (AreMarked c.args.metas.now links n bits) (marked_on c.args.metas.now links n bits)
+    c.loop-head.from n c.loop-head.invariant.0 c.in_default.ensures.none c.loop-head.invariant.1)
+    (chains_there (map.get c.args.metas.now) links n c.requires)
 
 pub returns-clause-apart : goal.returns-clause-apart
 returns-clause-apart c =
-    let chains = chains_of (map.get c.args.metas.now) (map.get c.args.chains.now) in
+    let links = map.get c.args.chains.now in
     let n = c.args.md_len in
-    all_apart n chains c.loop-head.bits
-    (subst (λ (k : ℕ). Marked n chains c.loop-head.bits k)
-    (ended _ _ c.loop-head.auto.head-end c.loop-head-test.false) c.loop-head.invariant)
-    (chains_there (map.get c.args.metas.now) (map.get c.args.chains.now) n c.requires)
+    let bits = c.loop-head.bits in
+    all_apart n (chains_of (map.get c.args.metas.now) links) bits
+    (up_to_end c.args.metas.now (AreMarked c.args.metas.now links n bits) (marked_on c.args.metas.now links n bits)
+    c.loop-head.from n c.loop-head.invariant.0 c.in_default.ensures.none c.loop-head.invariant.1)
+    (chains_there (map.get c.args.metas.now) links n c.requires)
