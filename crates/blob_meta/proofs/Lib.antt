@@ -9,6 +9,8 @@ pub mod EntriesInOrder
 pub mod MapOfEntries
 pub mod NextHead
 pub mod HeadsThere
+pub mod NameSums
+pub mod NamedHeads
 pub mod PlacesRead
 pub mod MarksLifted
 pub mod Fates

@@ -2,27 +2,30 @@
 
 ghost use Rattle.std.specs.Prelude.{◌≡◌, ◌+◌, ◌<◌, ◌≤◌, ℕ, OnOk, OnErr, IfOk, IfSome, IfNone, None, option_copied};
 ghost use Rattle.std.specs.FinMap as map;
-ghost use Rattle.blob_meta.specs.Heads.{IsNextFrom, HasNoKeyFrom};
+ghost use Rattle.blob_meta.specs.Heads.{IsNextFrom, HasNoKeyFrom, IsNextNamed, HasNoNameFrom};
 
-use crate::entries::{insert_entry, place_of};
+use crate::entries::{insert_entry, move_all, named_from, place_of, start_of};
 use crate::meta::Meta;
+use crate::naming::HasName;
 use out_of_memory::Memory;
 use std::alloc::Global;
 use std::marker::Model;
 use volume_model::PlaceList;
 
-/// A finite map from heads, which are places of metadata pages. Contracts see it as that. Only `insert` of a new head
-/// and `room` take memory.
+/// A finite map from heads, which are places of metadata pages, to values that may have names. Contracts see it as that
+/// map. Only `insert` of a new head and `room` take memory.
 #[derive(Drop)]
-pub struct HeadMap<V> {
+pub struct HeadMap<V: HasName> {
     entries: Vec<(u32, V)>,
+    // The checksum of the name of each entry's value, in the order of the entries.
+    sums: Vec<u32>,
 }
 
-impl<V> Model for HeadMap<V> {
+impl<V: HasName> Model for HeadMap<V> {
     ghost use Rattle.std.specs.Ordering.{nat_cmp};
     ghost use Rattle.std.specs.FinMap as map;
     ghost use Rattle.std.specs.Coded.{coded_ℕ};
-    ghost use Rattle.blob_meta.specs.Heads.{IsInOrder};
+    ghost use Rattle.blob_meta.specs.Heads.{AreKept};
 
     ghost Value = { map.FinMap nat_cmp V };
 
@@ -30,7 +33,7 @@ impl<V> Model for HeadMap<V> {
 
     ghost view = { λ a. map.from_sorted a.entries.items };
 
-    ghost invariant = { λ a. IsInOrder a.entries.items };
+    ghost invariant = { λ a. AreKept V.name_of a.entries.items a.sums.items };
 }
 
 /// Memory for a map from heads; contracts see for how many heads. It is taken while want of memory can still be
@@ -38,11 +41,13 @@ impl<V> Model for HeadMap<V> {
 #[derive(Drop)]
 pub struct Room<V> {
     entries: Vec<(u32, V)>,
+    sums: Vec<u32>,
 }
 
 impl<V> Model for Room<V> {
-    ghost use Rattle.std.specs.Prelude.{◌≡◌, ℕ, [], vec_capacity};
+    ghost use Rattle.std.specs.Prelude.{ℕ, vec_capacity};
     ghost use Rattle.std.specs.Coded.{coded_ℕ};
+    ghost use Rattle.blob_meta.specs.Heads.{IsRoom};
 
     ghost Value = { ℕ };
 
@@ -50,16 +55,17 @@ impl<V> Model for Room<V> {
 
     ghost view = { λ a. vec_capacity a.entries };
 
-    ghost invariant = { λ a. a.entries.items ≡ [] };
+    ghost invariant = { λ a. IsRoom a.entries.items a.sums.items (vec_capacity a.entries) (vec_capacity a.sums) };
 }
 
-impl<V: Drop> HeadMap<V> {
+impl<V: HasName + Drop> HeadMap<V> {
     /// The map that has no head.
     pub fn new(alloc: Global) -> HeadMap<V>
         ensures { result ≡ map.empty }
     {
         HeadMap {
             entries: Vec::new(alloc),
+            sums: Vec::new(alloc),
         }
     }
 
@@ -80,7 +86,7 @@ impl<V: Drop> HeadMap<V> {
         ensures absent { OnErr result (map.get self.old head ≡ None) }
         ensures memory { OnErr result (self.new ≡ self.old) }
     {
-        insert_entry(&mut self.entries, head, value)
+        insert_entry(&mut self.entries, &mut self.sums, head, value)
     }
 
     /// Room for one head more than the map has.
@@ -89,6 +95,7 @@ impl<V: Drop> HeadMap<V> {
     {
         Ok(Room {
             entries: Vec::with_capacity(alloc, self.entries.len() + 1)?,
+            sums: Vec::with_capacity(alloc, self.sums.len() + 1)?,
         })
     }
 
@@ -97,13 +104,17 @@ impl<V: Drop> HeadMap<V> {
         requires { map.len self.old < room }
         ensures { self.new ≡ map.insert self.old head value }
     {
-        let mut entries = room.entries;
-        if entries.append(&mut self.entries).is_err()
-            || insert_entry(&mut entries, head, value).is_err()
-        {
+        let Room {
+            mut entries,
+            mut sums,
+        } = room;
+        move_all(&mut self.entries, &mut entries);
+        move_all(&mut self.sums, &mut sums);
+        if insert_entry(&mut entries, &mut sums, head, value).is_err() {
             unreachable!()
         }
         self.entries = entries;
+        self.sums = sums;
     }
 
     /// Takes the head out, and gives what it had; `None` exactly where the map didn't have it.
@@ -112,7 +123,10 @@ impl<V: Drop> HeadMap<V> {
         ensures removed { self.new ≡ map.remove self.old head }
     {
         match place_of(&self.entries, head) {
-            Ok(place) => Some(self.entries.remove(place).1),
+            Ok(place) => {
+                self.sums.remove(place);
+                Some(self.entries.remove(place).1)
+            }
             Err(_) => None,
         }
     }
@@ -140,6 +154,18 @@ impl<V: Drop> HeadMap<V> {
     {
         let head = self.next_from(from)?;
         if head < end { Some(head) } else { None }
+    }
+
+    /// The least head, from `head` on, whose value has the name; `None` exactly where there is none.
+    pub(crate) fn next_named(&self, name: &[u8], head: u32) -> Option<u32>
+        ensures some { IfSome result (λ next. IsNextNamed V.name_of name.now self.now head next) }
+        ensures none { IfNone result (HasNoNameFrom V.name_of name.now self.now head) }
+    {
+        let first = start_of(&self.entries, head);
+        match named_from(&self.entries, &self.sums, first, name) {
+            Some(place) => Some(self.entries[place].0),
+            None => None,
+        }
     }
 }
 

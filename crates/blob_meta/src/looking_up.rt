@@ -2,41 +2,22 @@
 
 ghost use Rattle.std.specs.Prelude.{◌≡◌, ◌<◌, ◌^◌, ℕ, false, IfSome, IfNone};
 ghost use Rattle.volume_model.specs.declared.command.VolumeRef.TheVariants.{Named};
-ghost use Rattle.blob_meta.specs.Find.{is_called as called, is_meant, IsLeast};
+ghost use Rattle.blob_meta.specs.Find.{is_meant, IsLeast};
 ghost use Rattle.blob_meta.specs.ShownBy.{IsHeadMeant, IsTakenIn};
 
 use crate::head_map::Metas;
-use crate::meta::Meta;
 use super_block::Super;
 use volume_model::{Name, VolumeRef};
 
-fn is_called(meta: &Meta, name: &[u8]) -> bool
-    ensures { result ≡ called name.now meta.now }
-{
-    meta.xattrs.told(b"name") == name
-}
-
-/// Whether a head is that of a blob of this name, other than the super blob.
-fn is_named(metas: &Metas, sup: &Super, name: &Name, head: u32) -> bool
-    ensures { result ≡ is_meant sup.now.super_blob metas.now (Named name.now) head }
-{
-    if sup.super_blob == (1 << 32) + u64::from(head) {
-        return false;
-    }
-    match metas.get(head) {
-        Some(meta) => is_called(meta, name.bytes()),
-        None => false,
-    }
-}
-
+/// The least head of a blob of this name, other than the super blob.
 fn find_named(metas: &Metas, sup: &Super, name: &Name) -> Option<u32>
     ensures some { IfSome result (λ head. IsLeast (is_meant sup.now.super_blob metas.now (Named name.now)) head) }
     ensures none { IfNone result ((head : ℕ) → head < 2 ^ 32
         → is_meant sup.now.super_blob metas.now (Named name.now) head ≡ false) }
 {
     let mut from = 0;
-    while let Some(head) = metas.next_from(from) {
-        if is_named(metas, sup, name, head) {
+    while let Some(head) = metas.next_named(name.bytes(), from) {
+        if sup.super_blob != (1 << 32) + u64::from(head) {
             return Some(head);
         }
         if head == u32::MAX {

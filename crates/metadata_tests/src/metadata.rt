@@ -1,7 +1,9 @@
 //! Each fault of metadata, and each public call once.
 
+ghost use Rattle.std.specs.Prelude.{[]};
+
 use crate::fixtures::{attribute, expect_text, internal_attribute, small, text_of};
-use blob_meta::{Flags, HeadMap, Job, Meta, Metas, find, from_items, to_items};
+use blob_meta::{Flags, HasName, HeadMap, Job, Meta, Metas, find, from_items, to_items};
 use descriptors::{Item, ItemList, SlotMap};
 use std::alloc::Global;
 use std::test::Fail;
@@ -209,24 +211,58 @@ fn blobs_are_found(rt: HostRuntime) -> Result<(), Fail> {
     Ok(())
 }
 
+#[test]
+fn a_blob_of_another_name_is_found_by_that(rt: HostRuntime) -> Result<(), Fail> {
+    let alloc = rt.alloc();
+    let mut metas = three_blobs(alloc)?;
+    metas.insert(6, named(alloc, 6, b"b")?)?;
+    let sup = small((1 << 32) + 2)?;
+    assert_eq!(rt;
+        find(&metas, &sup, &VolumeRef::Named(Name::new(b"a"))),
+        Some(9)
+    );
+    assert_eq!(rt;
+        find(&metas, &sup, &VolumeRef::Named(Name::new(b"b"))),
+        Some(6)
+    );
+    Ok(())
+}
+
+/// A value that has no name.
+#[derive(Clone, Copy, Debug, PartialEq, Eq)]
+struct Number(u64);
+
+impl HasName for Number {
+    ghost name_of = { λ _. [] };
+
+    fn name(&self) -> &[u8] {
+        &[]
+    }
+}
+
 /// The map in which heads are given these values, one after another.
-fn filled(alloc: Global, values: &[(u32, u64)]) -> Result<HeadMap<u64>, Memory> {
+fn filled(alloc: Global, values: &[(u32, u64)]) -> Result<HeadMap<Number>, Memory> {
     let mut map = HeadMap::new(alloc);
     for (head, value) in values {
-        map.insert(*head, *value)?;
+        map.insert(*head, Number(*value))?;
     }
     Ok(map)
+}
+
+/// What a map has at a head.
+fn number_at(map: &HeadMap<Number>, head: u32) -> Option<u64> {
+    map.get(head).map(|number| number.0)
 }
 
 #[test]
 fn a_map_from_heads_keeps_what_it_is_given(rt: HostRuntime) -> Result<(), Fail> {
     let mut map = filled(rt.alloc(), &[(7, 1), (3, 2), (7, 3)])?;
-    assert_eq!(rt; (map.get(7).copied(), map.get(4).copied()), (Some(3), None));
+    assert_eq!(rt; (number_at(&map, 7), number_at(&map, 4)), (Some(3), None));
     assert_eq!(rt;
         (map.next_from(3), map.next_from(4), map.next_from(8)),
         (Some(3), Some(7), None)
     );
-    assert_eq!(rt; (map.remove(3), map.remove(3)), (Some(2), None));
+    assert_eq!(rt; (map.remove(3), map.remove(3)), (Some(Number(2)), None));
     assert_eq!(rt; map.next_from(0), Some(7));
     Ok(())
 }
@@ -236,14 +272,10 @@ fn a_map_from_heads_moves_into_its_room(rt: HostRuntime) -> Result<(), Fail> {
     let mut map = filled(rt.alloc(), &[(7, 1), (3, 2)])?;
     for (head, value) in [(5, 3), (7, 4)] {
         let room = map.room(rt.alloc())?;
-        map.insert_in(room, head, value);
+        map.insert_in(room, head, Number(value));
     }
     assert_eq!(rt;
-        (
-            map.get(3).copied(),
-            map.get(5).copied(),
-            map.get(7).copied()
-        ),
+        (number_at(&map, 3), number_at(&map, 5), number_at(&map, 7)),
         (Some(2), Some(3), Some(4))
     );
     assert_eq!(rt; (map.next_from(4), map.next_from(6)), (Some(5), Some(7)));

@@ -14,7 +14,7 @@ ghost use Rattle.running_store.specs.Running.{adopted, forgotten};
 ghost use Rattle.running_store.specs.declared.replacements.Change.TheVariants.{Erases};
 
 use bit_array::Bits;
-use blob_meta::{HeadMap, Meta, Metas, Room, mark_of};
+use blob_meta::{HasName, HeadMap, Meta, Metas, Room, mark_of};
 use io_freeze::Guards;
 use running_store::{
     Commit, Effects, EntryChange, Erasure, Planned, Rooms, Running, clear_places, put,
@@ -132,7 +132,7 @@ fn conclude<D>(running: &mut Running<D>, commit: Option<Commit>, makes: bool, he
 }
 
 /// Makes a change of a map, if there is one.
-fn change<V: Drop>(entries: &mut HeadMap<V>, change: Option<EntryChange<V>>)
+fn change<V: HasName + Drop>(entries: &mut HeadMap<V>, change: Option<EntryChange<V>>)
     requires { IfSome change (HasPlaceFor entries.old) }
     ensures { entries.new ≡ with_changes entries.old change }
 {

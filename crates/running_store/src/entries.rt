@@ -4,7 +4,7 @@ ghost use Rattle.std.specs.Prelude.{◌≡◌, not, is_some, IfOk};
 ghost use Rattle.std.specs.FinMap as map;
 ghost use Rattle.running_store.specs.Places.{HasPlace};
 
-use blob_meta::{HeadMap, Room};
+use blob_meta::{HasName, HeadMap, Room};
 use out_of_memory::Memory;
 use std::alloc::Global;
 
@@ -27,7 +27,7 @@ impl<V: Drop> Drop for EntryChange<V> {
     }
 }
 
-impl<V: Drop> EntryChange<V> {
+impl<V: HasName + Drop> EntryChange<V> {
     ghost use Rattle.running_store.specs.Places.{with_change, HasPlaceFor};
 
     /// Makes the change.
@@ -46,7 +46,7 @@ impl<V: Drop> EntryChange<V> {
 }
 
 /// Gives a head this value, and takes no memory: the map has the head, or moves into this room.
-pub fn put<V: Drop>(entries: &mut HeadMap<V>, room: Option<Room<V>>, head: u32, value: V)
+pub fn put<V: HasName + Drop>(entries: &mut HeadMap<V>, room: Option<Room<V>>, head: u32, value: V)
     requires { HasPlace entries.old head room }
     ensures { entries.new ≡ map.insert entries.old head value }
 {
@@ -60,7 +60,7 @@ pub fn put<V: Drop>(entries: &mut HeadMap<V>, room: Option<Room<V>>, head: u32, 
 }
 
 /// Room for a head, where the map doesn't have it.
-pub fn place<V: Drop>(
+pub fn place<V: HasName + Drop>(
     alloc: Global,
     entries: &HeadMap<V>,
     head: u32,

@@ -10,13 +10,13 @@ returns-in-Ok g c =
     let at = rw c.deref.ensures.value at c.in-Ok.ensures in
     let read = c.index.result.now in
     ap (λ e. Some e.1) c.index.ensures
-    ∙ sym (get-entries es c.args.head c.self.invariant
-    ∙ find-at es c.args.head c.in-Ok.place read c.self.invariant at.within at.place)
+    ∙ sym (get-entries es c.args.head c.self.invariant.in_order
+    ∙ find-at es c.args.head c.in-Ok.place read c.self.invariant.in_order at.within at.place)
     ∙ ap (λ m. map.get m c.args.head) c.self.view_is
 
 pub returns-in-Err : goal.returns-in-Err
 returns-in-Err g c =
     let es = c.self.inside.entries.items in
     let gap = rw c.deref.ensures.value at c.in-Err.ensures in
-    sym (get-entries es c.args.head c.self.invariant ∙ find-gap es c.args.head c.in-Err.field-0 gap.place)
+    sym (get-entries es c.args.head c.self.invariant.in_order ∙ find-gap es c.args.head c.in-Err.field-0 gap.place)
     ∙ ap (λ m. map.get m c.args.head) c.self.view_is

@@ -7,5 +7,5 @@ pub returns : goal.returns
 returns g c =
     c.in_ok-with_capacity.ensures.exact
     ∙ ap (λ (n : ℕ). n + 1)
-    (c.len.ensures ∙ c.self.inside.entries.ok.0 ∙ sym (len-entries c.self.inside.entries.items c.self.invariant)
-    ∙ ap map.len c.self.view_is)
+    (c.len.ensures ∙ c.self.inside.entries.ok.0
+    ∙ sym (len-entries c.self.inside.entries.items c.self.invariant.in_order) ∙ ap map.len c.self.view_is)
