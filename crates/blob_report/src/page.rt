@@ -9,7 +9,6 @@ use crate::pieces::Piece::{Hex, Words};
 use crate::pieces::push_pieces;
 use crc32c::sum;
 use out_of_memory::Memory;
-use volume_model::{PageWord, page_of};
 
 /// The little-endian word of a page's first eight bytes.
 fn first_word(page: &[u8; 4096]) -> u64
@@ -20,11 +19,13 @@ fn first_word(page: &[u8; 4096]) -> u64
     ])
 }
 
-/// Whether a page is 512 copies of a word.
-fn is_filled(page: &[u8; 4096], word: u64) -> bool
-    ensures { result ≡ bytes_eq page.now (fill_page word) }
+/// Whether a page is its first word again and again: each byte is the one eight places before it.
+fn repeats_word(page: &[u8; 4096]) -> bool
+    ensures { result ≡ bytes_eq page.now (fill_page (word_said page.now)) }
 {
-    *page == page_of(&PageWord::Fill(word))
+    let (_, behind) = page.split_at(8);
+    let (before, _) = page.split_at(4088);
+    behind == before
 }
 
 /// Appends the word that a page is filled with, if it is one word repeated, and else the checksum of its bytes. After
@@ -33,8 +34,8 @@ pub fn push_page(page: &[u8; 4096], into: &mut Vec<u8>) -> Result<(), Memory>
     ensures ok { OnOk result (into.new.items ≡ into.old.items ++ page_text page.now) }
     ensures memory { OnErr result (into.new.items ≡ into.old.items) }
 {
-    let word = first_word(page);
-    if is_filled(page, word) {
+    if repeats_word(page) {
+        let word = first_word(page);
         return push_pieces(&[Words(b"page fill "), Hex(&word.to_be_bytes())], into);
     }
     push_pieces(&[Words(b"page crc "), Hex(&sum(page).to_be_bytes())], into)
